@@ -1,0 +1,11 @@
+-- What a refusal tells of a text: its number, and where in the text it stands.
+use Rattle.std.specs.Prelude.{ℕ}
+
+-- byte offsets from 0, the end not included
+pub record Span : Type 0 where
+  pub start : ℕ
+  pub end : ℕ
+
+pub record Fault : Type 0 where
+  pub code : ℕ
+  pub span : Span

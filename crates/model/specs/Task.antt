@@ -1,0 +1,68 @@
+-- A planning task: what a domain and a problem say once their names are resolved to numbers.
+-- Objects, predicates, schemas and variables are numbered from 0, in the order of their declarations.
+use Rattle.std.specs.Prelude.{ℕ, List}
+
+-- the bytes of a name, in lower case (PDDL 1.2 manual, "Syntax": names are not case-sensitive)
+abbrev pub Name : Type 0
+Name = List ℕ
+
+-- a predicate and the number of its arguments (PDDL 1.2 manual, "Predicates")
+pub record Predicate : Type 0 where
+  pub name : Name
+  pub arity : ℕ
+
+-- a ground atom: a predicate of some objects
+pub record Atom : Type 0 where
+  pub predicate : ℕ
+  pub objects : List ℕ
+
+-- an argument of an atom in an action or a goal: a parameter of the action, or an object
+pub data Term : Type 0 where
+  variable : ℕ → Term
+  object : ℕ → Term
+
+-- a predicate of some terms: an atom once the parameters have objects
+pub record LiftedAtom : Type 0 where
+  pub predicate : ℕ
+  pub terms : List Term
+
+-- a goal description (PDDL 1.2 manual, "Goal descriptions"): an atom, or the conjunction of some
+mutual
+  pub data Formula : Type 0 where
+    atom : LiftedAtom → Formula
+    and : Formulas → Formula
+
+  pub data Formulas : Type 0 where
+    no_formula : Formulas
+    more_formulas : Formula → Formulas → Formulas
+
+-- an effect (PDDL 1.2 manual, "Effects"): an atom becomes true, an atom becomes false, or several effects together
+mutual
+  pub data Effect : Type 0 where
+    add : LiftedAtom → Effect
+    delete : LiftedAtom → Effect
+    both : Effects → Effect
+
+  pub data Effects : Type 0 where
+    no_effect : Effects
+    more_effects : Effect → Effects → Effects
+
+-- an action schema (PDDL 1.2 manual, "Actions")
+pub record Schema : Type 0 where
+  pub name : Name
+  pub parameters : ℕ
+  pub precondition : Formula
+  pub effect : Effect
+
+pub record Task : Type 0 where
+  pub objects : List Name
+  pub predicates : List Predicate
+  pub schemas : List Schema
+  -- the atoms that stand in `:init`
+  pub init : List Atom
+  pub goal : Formula
+
+-- an action: a schema with an object for each of its parameters
+pub record Instance : Type 0 where
+  pub schema : ℕ
+  pub objects : List ℕ

@@ -1,0 +1,69 @@
+-- The trees of a domain file and of a problem file: what stands in them, name by name, before names are resolved.
+use Rattle.std.specs.Prelude.{ℕ, ◌+◌, List, length}
+use Rattle.model.specs.Fault.{Span}
+
+-- a name or a variable as it stands in its file, and the offset of its first byte
+pub record Name : Type 0 where
+  pub text : List ℕ
+  pub start : ℕ
+
+abbrev pub span_of : Name → Span
+span_of name = record { start = name.start; end = name.start + length name.text }
+
+pub data Term : Type 0 where
+  variable : Name → Term
+  object : Name → Term
+
+-- a predicate of some terms
+pub record Atom : Type 0 where
+  pub predicate : Name
+  pub terms : List Term
+
+-- PDDL 1.2 manual, "Goal descriptions"
+mutual
+  pub data Formula : Type 0 where
+    atom : Atom → Formula
+    and : Formulas → Formula
+
+  pub data Formulas : Type 0 where
+    no_formula : Formulas
+    more_formulas : Formula → Formulas → Formulas
+
+-- PDDL 1.2 manual, "Effects"
+mutual
+  pub data Effect : Type 0 where
+    add : Atom → Effect
+    delete : Atom → Effect
+    both : Effects → Effect
+
+  pub data Effects : Type 0 where
+    no_effect : Effects
+    more_effects : Effect → Effects → Effects
+
+-- a predicate's declaration
+pub record Predicate : Type 0 where
+  pub name : Name
+  pub parameters : List Name
+
+pub record Action : Type 0 where
+  pub name : Name
+  pub parameters : List Name
+  pub precondition : Formula
+  pub effect : Effect
+
+pub record Domain : Type 0 where
+  pub name : Name
+  pub predicates : List Predicate
+  pub actions : List Action
+
+-- an atom of objects, as in `:init`
+pub record Fact : Type 0 where
+  pub predicate : Name
+  pub objects : List Name
+
+pub record Problem : Type 0 where
+  pub name : Name
+  pub domain : Name
+  pub objects : List Name
+  pub init : List Fact
+  pub goal : Formula

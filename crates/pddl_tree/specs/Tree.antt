@@ -1,0 +1,75 @@
+-- The code's trees, in the model's terms.
+use Rattle.std.specs.Prelude.{ℕ, List, [], ◌∷◌, map}
+use Rattle.pddl_tree.specs.declared.tree.Name.{Name}
+use Rattle.pddl_tree.specs.declared.tree.Term.{Term}
+use Rattle.pddl_tree.specs.declared.tree.Term.TheVariants.{Variable, Object}
+use Rattle.pddl_tree.specs.declared.tree.Atom.{Atom}
+use Rattle.pddl_tree.specs.declared.tree.Predicate.{Predicate}
+use Rattle.pddl_tree.specs.declared.tree.Action.{Action}
+use Rattle.pddl_tree.specs.declared.tree.Domain.{Domain}
+use Rattle.pddl_tree.specs.declared.tree.Fact.{Fact}
+use Rattle.pddl_tree.specs.declared.tree.Problem.{Problem}
+use Rattle.pddl_tree.specs.declared.tree.Formula.{Formula, And', Row_of-Formula, end_of-Formula, more_of-Formula}
+use Rattle.pddl_tree.specs.declared.tree.Formula as formula
+use Rattle.pddl_tree.specs.declared.tree.Effect.{Effect, Row_of-Effect, end_of-Effect, more_of-Effect}
+use Rattle.pddl_tree.specs.declared.tree.Effect as effect
+use Rattle.model.specs.Trees as tree
+
+abbrev pub name_of : Name → tree.Name
+name_of n = record { text = n.text.now; start = n.span.start }
+
+abbrev pub term_of : Term → tree.Term
+term_of (Variable n) = tree.variable (name_of n)
+term_of (Object n) = tree.object (name_of n)
+
+abbrev pub atom_of : Atom → tree.Atom
+atom_of a = record { predicate = name_of a.predicate; terms = map term_of a.terms.items }
+
+abbrev mutual
+  pub formula_of : Formula → tree.Formula
+  formula_of (formula.Atom a) = tree.atom (atom_of a)
+  formula_of (formula.And' shape parts) = tree.and (formulas_of parts)
+
+  pub formulas_of : {m : _} → Row_of-Formula m → tree.Formulas
+  formulas_of end_of-Formula = tree.no_formula
+  formulas_of (more_of-Formula first rest) = tree.more_formulas (formula_of first) (formulas_of rest)
+
+abbrev mutual
+  pub effect_of : Effect → tree.Effect
+  effect_of (effect.Add a) = tree.add (atom_of a)
+  effect_of (effect.Delete a) = tree.delete (atom_of a)
+  effect_of (effect.And' shape parts) = tree.both (effects_of parts)
+
+  pub effects_of : {m : _} → Row_of-Effect m → tree.Effects
+  effects_of end_of-Effect = tree.no_effect
+  effects_of (more_of-Effect first rest) = tree.more_effects (effect_of first) (effects_of rest)
+
+abbrev pub predicate_of : Predicate → tree.Predicate
+predicate_of p = record { name = name_of p.name; parameters = map name_of p.parameters.items }
+
+abbrev pub action_of : Action → tree.Action
+action_of a = record {
+  name = name_of a.name;
+  parameters = map name_of a.parameters.items;
+  precondition = formula_of a.precondition;
+  effect = effect_of a.effect;
+}
+
+abbrev pub domain_of : Domain → tree.Domain
+domain_of d = record {
+  name = name_of d.name;
+  predicates = map predicate_of d.predicates.items;
+  actions = map action_of d.actions.items;
+}
+
+abbrev pub fact_of : Fact → tree.Fact
+fact_of f = record { predicate = name_of f.predicate; objects = map name_of f.objects.items }
+
+abbrev pub problem_of : Problem → tree.Problem
+problem_of p = record {
+  name = name_of p.name;
+  domain = name_of p.domain;
+  objects = map name_of p.objects.items;
+  init = map fact_of p.init.items;
+  goal = formula_of p.goal;
+}

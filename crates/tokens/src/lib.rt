@@ -1,0 +1,10 @@
+//! Words of a PDDL text, with their places, and the faults that the readers of texts tell.
+#![tactic(auto)]
+
+mod fault;
+mod scanner;
+mod word;
+
+pub use fault::{Code, Fault, NoMemory, Span};
+pub use scanner::scan;
+pub use word::{Kind, Word};

@@ -1,0 +1,19 @@
+-- States, instances and plans of the code, in the model's terms.
+use Rattle.std.specs.Prelude.{List, map}
+use Rattle.std.specs.FinSet.{from_list}
+use Rattle.validator.specs.declared.formulas.State.{State}
+use Rattle.validator.specs.declared.formulas.Instance.{Instance}
+use Rattle.validator.specs.declared.formulas.Plan.{Plan}
+use Rattle.validator.specs.TaskParts.{atom_of, object_of}
+use Rattle.model.specs.Task as task
+use Rattle.model.specs.Meaning as meaning
+
+abbrev pub state_of : State → meaning.State
+state_of s = from_list (map atom_of s.atoms.keys)
+
+abbrev pub instance_of : Instance → task.Instance
+instance_of i = record { schema = i.schema.0; objects = map object_of i.objects.items }
+
+-- the plan's instances, in order
+abbrev pub plan_of : Plan → List task.Instance
+plan_of p = map instance_of p.steps.items

@@ -1,0 +1,4 @@
+pub mod TaskParts
+pub mod Typing
+pub mod Formulas
+pub mod Verdict

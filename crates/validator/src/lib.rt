@@ -1,0 +1,8 @@
+//! Plans against the meaning of their task: names resolved, truth and change, and the verdict.
+#![tactic(auto)]
+
+pub mod formulas;
+pub mod typing;
+mod verdict;
+
+pub use verdict::{Verdict, validate};

