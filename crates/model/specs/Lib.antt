@@ -6,3 +6,5 @@ pub mod Task
 pub mod WellTyped
 pub mod Runs
 pub mod Meaning
+pub mod Claims
+pub mod Certificates

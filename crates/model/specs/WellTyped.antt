@@ -1,6 +1,6 @@
 -- Which resolved formulas, effects, atoms and tasks are well-typed: each number names something, each predicate
 -- has as many arguments as its declaration says, and the limits of the language profile are kept.
-use Rattle.std.specs.Prelude.{ℕ, Bool, true, false, ◌&&◌, ◌==◌, nat_lt, nat_le, List, [], length, slice_get, Option, None, Some}
+use Rattle.std.specs.Prelude.{ℕ, Bool, true, false, ◌&&◌, ◌==◌, nat_lt, nat_le, length, slice_get, Option, None, Some}
 use Rattle.std.specs.List.{list_all}
 use Rattle.model.specs.Task.{Predicate, Atom, LiftedAtom, Term, variable, object, Formula, Formulas, atom, and, no_formula, more_formulas, Effect, Effects, add, delete, both, no_effect, more_effects, Schema, Task}
 

@@ -1,0 +1,55 @@
+-- Certificates, and when one is closed for a task.
+use Rattle.std.specs.Prelude.{◌≢◌, ℕ, Bool, false, not, ◌&&◌, ◌||◌, ◌==◌, IsTrue, List, ◌++◌, map, filter, All, AllPairs, slice_get, Option}
+use Rattle.std.specs.List.{list_any, filter_map}
+use Rattle.std.specs.FinSet.{from_list}
+use Rattle.model.specs.Task.{Atom, Effect, Effects, add, delete, both, no_effect, more_effects, Schema, Task}
+use Rattle.model.specs.WellTyped.{is_atom}
+use Rattle.model.specs.Meaning.{State, system_of}
+use Rattle.model.specs.Claims.{Claim, Line, IsClosed}
+
+-- A line that lists a state: its cost, what it is cut with if it is a cut, and the atoms by their numbers, which are
+-- the places, from 0, of the certificate's atoms.
+pub record StateLine : Type 0 where
+  pub cost : ℕ
+  pub cut : Option ℕ
+  pub atoms : List ℕ
+
+pub record Certificate : Type 0 where
+  pub claim : Claim
+  pub atoms : List Atom
+  pub lines : List StateLine
+
+-- the effect has a literal of this predicate
+abbrev mutual
+  pub touches : ℕ → Effect → Bool
+  touches predicate (add a) = a.predicate == predicate
+  touches predicate (delete a) = a.predicate == predicate
+  touches predicate (both parts) = any_touches predicate parts
+
+  pub any_touches : ℕ → Effects → Bool
+  any_touches predicate no_effect = false
+  any_touches predicate (more_effects first rest) = touches predicate first || any_touches predicate rest
+
+-- a predicate is fluent where some action adds or deletes an atom of it, and else static
+abbrev pub is_fluent : Task → ℕ → Bool
+is_fluent task predicate = list_any (λ (s : Schema). touches predicate s.effect) task.schemas
+
+-- the atoms of static predicates that are true at the start, and so in every reachable state
+abbrev pub static_atoms : Task → List Atom
+static_atoms task = filter (λ (a : Atom). not (is_fluent task a.predicate)) task.init
+
+-- the state that a line lists: its atoms with the initial static ones
+abbrev pub state_of_line : Task → Certificate → StateLine → State
+state_of_line task certificate line = from_list (filter_map (slice_get certificate.atoms) line.atoms ++ static_atoms task)
+
+-- the certificate's listing
+abbrev pub lines_of : Task → Certificate → List (Line State)
+lines_of task certificate =
+    map (λ (l : StateLine). record { state = state_of_line task certificate l; cost = l.cost; cut = l.cut }) certificate.lines
+
+-- The certificate is closed for the task, with the value 0 in every state.
+pub record IsClosedFor (task : Task) (certificate : Certificate) : Type 0 where
+  pub atoms_are_fluent : All (λ (a : Atom). IsTrue (is_atom task a && is_fluent task a.predicate)) certificate.atoms
+  pub atoms_are_distinct : AllPairs (λ (a b : Atom). a ≢ b) certificate.atoms
+  pub states_are_distinct : AllPairs (λ (k l : Line State). k.state ≢ l.state) (lines_of task certificate)
+  pub listing_is_closed : IsClosed (system_of task) (λ _. 0) certificate.claim (lines_of task certificate)
