@@ -1,1 +1,3 @@
+pub mod ListLemmas
 pub mod ClaimsLemmas
+pub mod InstancesLemmas

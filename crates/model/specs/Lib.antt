@@ -6,5 +6,6 @@ pub mod Task
 pub mod WellTyped
 pub mod Runs
 pub mod Meaning
+pub mod Instances
 pub mod Claims
 pub mod Certificates

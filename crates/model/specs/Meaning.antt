@@ -79,23 +79,23 @@ fits task schema objects =
     (length objects == schema.parameters) && list_all (λ number. nat_lt number (length task.objects)) objects
 
 -- an instance of one of the task's schemas (PDDL 1.2 manual, "Actions")
+abbrev pub is_instance_of : Task → Option Schema → List ℕ → Bool
+is_instance_of task None objects = false
+is_instance_of task (Some schema) objects = fits task schema objects
+
 abbrev pub is_instance : Task → Instance → Bool
 is_instance task i = is_instance_of task (slice_get task.schemas i.schema) i.objects
-  where
-  is_instance_of : Task → Option Schema → List ℕ → Bool
-  is_instance_of task None objects = false
-  is_instance_of task (Some schema) objects = fits task schema objects
 
 -- The state that an action leads to: it is applicable where it is an instance of a schema of the task and the
 -- schema's precondition holds.
+abbrev pub step_of : Task → State → Option Schema → List ℕ → Option State
+step_of task state None objects = None
+step_of task state (Some schema) objects =
+    if fits task schema objects && holds schema.precondition objects state then Some (after_changes state (changes_of schema.effect objects))
+    else None
+
 abbrev pub step : Task → State → Instance → Option State
 step task state i = step_of task state (slice_get task.schemas i.schema) i.objects
-  where
-  step_of : Task → State → Option Schema → List ℕ → Option State
-  step_of task state None objects = None
-  step_of task state (Some schema) objects =
-      if fits task schema objects && holds schema.precondition objects state then Some (after_changes state (changes_of schema.effect objects))
-      else None
 
 -- the goal has no parameters
 abbrev pub meets_goal : Task → State → Bool

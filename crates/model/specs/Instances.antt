@@ -1,0 +1,29 @@
+-- All instances of a task's schemas, in order, and those that are applicable in a state.
+use Rattle.std.specs.Prelude.{ℕ, suc, zero, ◌+◌, List, [], ◌∷◌, ◌++◌, map, length}
+use Rattle.std.specs.List.{flat_map, filter_map, range_with_len}
+use Rattle.std.specs.Option.{option_map}
+use Rattle.model.specs.Task.{Schema, Task, Instance}
+use Rattle.model.specs.Meaning.{State, step}
+
+-- every list of this many numbers, each below n, in the order of their numbers compared from the left
+abbrev pub tuples : ℕ → ℕ → List (List ℕ)
+tuples n zero = [] ∷ []
+tuples n (suc count) = flat_map (λ first. map (λ rest. first ∷ rest) (tuples n count)) (range_with_len 0 n)
+
+-- the instances of the schema of this number
+abbrev pub instances_of_schema : Task → ℕ → Schema → List Instance
+instances_of_schema task number schema =
+    map (λ (objects : List ℕ). record { schema = number; objects = objects }) (tuples (length task.objects) schema.parameters)
+
+abbrev pub instances_from : Task → ℕ → List Schema → List Instance
+instances_from task number [] = []
+instances_from task number (schema ∷ rest) = instances_of_schema task number schema ++ instances_from task (number + 1) rest
+
+-- Every instance of the task: schema by schema in the domain's order, and within a schema by the lists of object
+-- numbers, compared from the left.
+abbrev pub all_instances : Task → List Instance
+all_instances task = instances_from task 0 task.schemas
+
+-- the instances that are applicable in the state, in order, each with the state that it leads to
+abbrev pub successors_of : Task → State → List (Instance × State)
+successors_of task state = filter_map (λ (i : Instance). option_map (λ (next : State). (i, next)) (step task state i)) (all_instances task)
