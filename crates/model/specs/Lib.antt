@@ -4,5 +4,6 @@ pub mod Words
 pub mod Trees
 pub mod Task
 pub mod WellTyped
+pub mod Typing
 pub mod Runs
 pub mod Meaning
