@@ -4,6 +4,7 @@ pub mod Words
 pub mod Trees
 pub mod Task
 pub mod WellTyped
+pub mod Typing
 pub mod Runs
 pub mod Meaning
 pub mod Instances

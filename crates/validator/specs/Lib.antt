@@ -1,4 +1,5 @@
 pub mod TaskParts
 pub mod Typing
+pub mod TypingWalk
 pub mod Formulas
 pub mod Verdict

@@ -2,6 +2,8 @@
 use Rattle.std.specs.Prelude.{ℕ, List, map}
 use Rattle.std.specs.Global.{Vec}
 use Rattle.validator.specs.declared.typing.ObjectId.{ObjectId}
+use Rattle.validator.specs.declared.typing.PredicateId.{PredicateId}
+use Rattle.validator.specs.declared.typing.SchemaId.{SchemaId}
 use Rattle.validator.specs.declared.typing.Atom.{Atom}
 use Rattle.validator.specs.declared.typing.Term.{Term}
 use Rattle.validator.specs.declared.typing.Term.TheVariants.{Variable, Object}
@@ -16,6 +18,12 @@ use Rattle.model.specs.Task as task
 
 abbrev pub object_of : ObjectId → ℕ
 object_of o = o.0
+
+abbrev pub predicate_id_of : PredicateId → ℕ
+predicate_id_of p = p.0
+
+abbrev pub schema_id_of : SchemaId → ℕ
+schema_id_of s = s.0
 
 abbrev pub atom_of : Atom → task.Atom
 atom_of a = record { predicate = a.predicate.0; objects = map object_of a.objects.items }

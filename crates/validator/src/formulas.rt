@@ -1,12 +1,10 @@
 //! Truth, change and instances, over states that are sets of atoms.
+pub use crate::typing::Atom;
+use crate::typing::{Formula, MAX_VARIABLES, ObjectId, SchemaId, Task};
 use arrayvec::ArrayVec;
 use std::alloc::Global;
 use std::collections::BTreeSet;
 use tokens::NoMemory;
-
-pub use crate::typing::Atom;
-
-use crate::typing::{Formula, MAX_VARIABLES, ObjectId, SchemaId, Task};
 
 /// The most instances that a plan may have.
 pub const MAX_STEPS: usize = 16_777_216;
@@ -41,6 +39,11 @@ pub fn holds(_task: &Task, _formula: &Formula, _binding: &Binding, _state: &Stat
 }
 
 /// The state that the instance leads to.
-pub fn apply(_alloc: Global, _task: &Task, _instance: &Instance, _state: &State) -> Result<Option<State>, NoMemory> {
+pub fn apply(
+    _alloc: Global,
+    _task: &Task,
+    _instance: &Instance,
+    _state: &State,
+) -> Result<Option<State>, NoMemory> {
     Err(NoMemory)
 }

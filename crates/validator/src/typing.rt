@@ -1,21 +1,31 @@
 //! Names become numbers: a well-typed pair of a domain and a problem is a task, and of any other pair the
 //! first fault is told.
-ghost use Rattle.std.specs.Prelude.{IsTrue};
+ghost use Rattle.std.specs.Prelude.{IsTrue, ◌≤◌, length};
 ghost use Rattle.validator.specs.TaskParts.{task_of_parts};
 ghost use Rattle.model.specs.WellTyped.{is_task};
 
+mod phases;
+mod scope;
+#[cfg(test)]
+mod tests;
+mod walk;
+
+use crate::typing::scope::Scope;
 use arrayvec::ArrayVec;
 use indexmap::{IndexMap, IndexSet};
 use pddl_tree::{Domain, Problem};
-use std::alloc::Global;
+use std::alloc::{AllocError, AllocFailed, Global};
 use thiserror::Error;
-use tokens::{Code, Span};
+use tokens::{Code, NoMemory, Span};
 
 /// The most arguments that a predicate may have.
 pub const MAX_ARGUMENTS: usize = 8;
 
 /// The most variables that may be in scope at once.
 pub const MAX_VARIABLES: usize = 16;
+
+/// The most objects that a task may have.
+pub const MAX_OBJECTS: usize = 65_535;
 
 /// An object: its place, from 0, among the problem's objects.
 #[derive(Clone, Copy, Debug, Default, PartialEq, Eq, PartialOrd, Ord, Hash)]
@@ -106,6 +116,7 @@ pub struct Task {
     schemas: IndexMap<Vec<u8>, Schema>,
     init: Vec<Atom>,
     goal: Formula,
+    ghost few_objects: { length objects.keys ≤ 65535 },
     ghost well_typed: { IsTrue (is_task (task_of_parts objects.keys predicates.entries schemas.entries init.items goal)) },
 }
 
@@ -136,19 +147,70 @@ pub enum TaskFault {
     NoMemory,
 }
 
-impl Task {
-    ghost use Rattle.std.specs.Prelude.{◌≡◌, length, map, slice_get};
-    ghost use Rattle.std.specs.Option.{option_map};
-    ghost use Rattle.validator.specs.Typing.{task_of};
-    ghost use Rattle.validator.specs.TaskParts.{atom_of, formula_of, shape_of, shape_of_schema};
+impl From<NoMemory> for TaskFault {
+    ghost use Rattle.std.specs.Prelude.{◌≡◌};
+    ghost use Rattle.validator.specs.declared.typing.TaskFault.TheVariants.{NoMemory};
 
-    /// The task of a domain and a problem.
-    pub fn new(
-        _alloc: Global,
-        _domain: Domain<'_>,
-        _problem: Problem<'_>,
-    ) -> Result<Task, TaskFault> {
-        Err(TaskFault::NoMemory)
+    ghost from_gives = { λ _ e. e ≡ NoMemory };
+
+    fn from(_error: NoMemory) -> TaskFault {
+        TaskFault::NoMemory
+    }
+}
+
+impl From<AllocError> for TaskFault {
+    ghost use Rattle.std.specs.Prelude.{◌≡◌};
+    ghost use Rattle.validator.specs.declared.typing.TaskFault.TheVariants.{NoMemory};
+
+    ghost from_gives = { λ _ e. e ≡ NoMemory };
+
+    fn from(_error: AllocError) -> TaskFault {
+        TaskFault::NoMemory
+    }
+}
+
+impl<T: Drop> From<AllocFailed<T>> for TaskFault {
+    ghost use Rattle.std.specs.Prelude.{◌≡◌};
+    ghost use Rattle.validator.specs.declared.typing.TaskFault.TheVariants.{NoMemory};
+
+    ghost from_gives = { λ _ e. e ≡ NoMemory };
+
+    fn from(_error: AllocFailed<T>) -> TaskFault {
+        TaskFault::NoMemory
+    }
+}
+
+impl Task {
+    ghost use Rattle.std.specs.Prelude.{◌≡◌, length, map, position, slice_get};
+    ghost use Rattle.std.specs.Option.{option_copied, option_map};
+    ghost use Rattle.validator.specs.Typing.{task_of};
+    ghost use Rattle.validator.specs.TaskParts.{atom_of, formula_of, object_of, predicate_id_of, schema_id_of, shape_of, shape_of_schema};
+    ghost use Rattle.model.specs.Typing.{is_same};
+
+    /// The task of a domain and a problem: each name becomes its number.
+    ///
+    /// # Errors
+    /// The least fault of the pair, where it has one; [`TaskFault::NoMemory`] where memory is refused.
+    pub fn new(alloc: Global, domain: Domain<'_>, problem: Problem<'_>) -> Result<Task, TaskFault> {
+        phases::domain_name(alloc, &domain, &problem)?;
+        let objects = phases::objects(alloc, &problem)?;
+        let predicates = phases::predicates(alloc, &domain)?;
+        let schemas = phases::schemas(alloc, &predicates, &domain)?;
+        let scope = Scope {
+            file: TaskFile::Problem,
+            predicates: &predicates,
+            variables: &IndexSet::new(alloc),
+            objects: &objects,
+        };
+        let init = phases::init(alloc, &scope, &problem)?;
+        let goal = phases::goal(alloc, &scope, &problem)?;
+        Ok(Task {
+            objects,
+            predicates,
+            schemas,
+            init,
+            goal,
+        })
     }
 
     /// The initial state's atoms, as they stand in the problem: one may stand there twice.
@@ -184,5 +246,58 @@ impl Task {
         ensures { option_map (λ s. shape_of s.now) result ≡ option_map shape_of_schema (slice_get (task_of self.now).schemas id.0) }
     {
         self.schemas.get_index(id.0).map(|entry| entry.1)
+    }
+
+    /// How many predicates there are.
+    pub fn predicate_count(&self) -> usize
+        ensures { result ≡ length (task_of self.now).predicates }
+    {
+        self.predicates.len()
+    }
+
+    /// The object of this name, which is given in lower case.
+    pub fn object_named(&self, folded: &[u8]) -> Option<ObjectId>
+        ensures { option_map object_of result ≡ position (is_same folded.now) (task_of self.now).objects }
+    {
+        let number = self.objects.get_index_of(folded)?;
+        Some(ObjectId(number as u32))
+    }
+
+    /// The predicate of this name, which is given in lower case.
+    pub fn predicate_named(&self, folded: &[u8]) -> Option<PredicateId>
+        ensures { option_map predicate_id_of result ≡ position (is_same folded.now) (map (λ p. p.name) (task_of self.now).predicates) }
+    {
+        self.predicates.get_index_of(folded).map(PredicateId)
+    }
+
+    /// The schema of this name, which is given in lower case.
+    pub fn schema_named(&self, folded: &[u8]) -> Option<SchemaId>
+        ensures { option_map schema_id_of result ≡ position (is_same folded.now) (map (λ s. s.name) (task_of self.now).schemas) }
+    {
+        self.schemas.get_index_of(folded).map(SchemaId)
+    }
+
+    /// The object's name, in lower case, and `None` where the number is beyond the last.
+    pub fn object_name(&self, id: ObjectId) -> Option<&[u8]>
+        ensures { option_copied result ≡ slice_get (task_of self.now).objects id.0 }
+    {
+        let name = self.objects.get_index(id.0 as usize)?;
+        Some(name.as_slice())
+    }
+
+    /// The predicate's name, in lower case, and `None` where the number is beyond the last.
+    pub fn predicate_name(&self, id: PredicateId) -> Option<&[u8]>
+        ensures { option_copied result ≡ option_map (λ p. p.name) (slice_get (task_of self.now).predicates id.0) }
+    {
+        let (name, _) = self.predicates.get_index(id.0)?;
+        Some(name.as_slice())
+    }
+
+    /// The schema's name, in lower case, and `None` where the number is beyond the last.
+    pub fn schema_name(&self, id: SchemaId) -> Option<&[u8]>
+        ensures { option_copied result ≡ option_map (λ s. s.name) (slice_get (task_of self.now).schemas id.0) }
+    {
+        let (name, _) = self.schemas.get_index(id.0)?;
+        Some(name.as_slice())
     }
 }

@@ -1,9 +1,8 @@
 //! What is said of a plan.
-use std::alloc::Global;
-use tokens::NoMemory;
-
 use crate::formulas::Plan;
 use crate::typing::Task;
+use std::alloc::Global;
+use tokens::NoMemory;
 
 /// What is said of a plan.
 #[derive(Clone, Copy, Debug, PartialEq, Eq)]

@@ -1,0 +1,36 @@
+-- What the walks over the trees find, in the model's terms.
+use Rattle.std.specs.Prelude.{◌≡◌, ℕ, ◌+◌, ◌-◌, ◌^◌, min, List, [], ◌∷◌, length, map, take, fold, Option, None, Some, if◌then◌else◌, slice_get}
+use Rattle.std.specs.Option.{option_map}
+use Rattle.std.specs.Borrow.{Bor}
+use Rattle.std.specs.Global.{Vec}
+use Rattle.tokens.specs.Fault.{number_of}
+use Rattle.validator.specs.declared.typing.TaskFault.{TaskFault}
+use Rattle.validator.specs.declared.typing.TaskFault.TheVariants.{At, NoMemory}
+use Rattle.validator.specs.declared.typing.walk.Refusal.{Refusal}
+use Rattle.validator.specs.declared.typing.walk.Walk.{Walk}
+use Rattle.validator.specs.Typing.{file_of, Tells}
+use Rattle.model.specs.Typing as typing
+
+abbrev pub refusal_of : Refusal → typing.TypingFault
+refusal_of r = record {
+  file = file_of r.file;
+  fault = record { code = number_of r.code; span = record { start = r.start; end = r.start + r.length } };
+}
+
+abbrev pub least_of : Walk → Option typing.TypingFault
+least_of w = option_map refusal_of w.least
+
+-- the least of what was found before and of this fault
+abbrev pub earlier : Option typing.TypingFault → typing.TypingFault → Option typing.TypingFault
+earlier None f = Some f
+earlier (Some least) f = if typing.is_before f least then Some f else Some least
+
+-- the least of what was found before and of these faults
+abbrev pub found : Option typing.TypingFault → List typing.TypingFault → Option typing.TypingFault
+found before faults = fold earlier before faults
+
+-- the fault is told that was found; want of memory says nothing of it
+abbrev pub TellsFound : Option typing.TypingFault → TaskFault → Type 0
+TellsFound least NoMemory = Unit {0}
+TellsFound None (At file code span) = ⊥
+TellsFound (Some f) (At file code span) = Tells (At file code span) f

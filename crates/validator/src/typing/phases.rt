@@ -1,0 +1,173 @@
+//! The phases of typing, in the order in which their faults are told.
+ghost use Rattle.std.specs.Prelude.{◌≡◌, List, map, IfOk, IfErr, OnOk};
+
+use crate::typing::scope::Scope;
+use crate::typing::walk::{Walk, lower_case};
+use crate::typing::{
+    Atom, Formula, MAX_ARGUMENTS, MAX_OBJECTS, MAX_VARIABLES, Predicate, Schema, TaskFault,
+    TaskFile,
+};
+use indexmap::{IndexMap, IndexSet};
+use pddl_tree::{Action, Domain, Fact, Name, Predicate as Declaration, Problem};
+use std::alloc::Global;
+use tokens::{Code, NoMemory};
+
+/// The problem is for this domain.
+pub(crate) fn domain_name(
+    alloc: Global,
+    domain: &Domain<'_>,
+    problem: &Problem<'_>,
+) -> Result<(), TaskFault> {
+    let mut walk = Walk::new(alloc);
+    let wanted = lower_case(alloc, &domain.name)?;
+    walk.fold(&problem.domain)?;
+    if walk.folded.as_slice() != wanted.as_slice() {
+        walk.refuse(TaskFile::Problem, Code::DomainMismatch, &problem.domain);
+    }
+    walk.finish()
+}
+
+/// Declares a name. One that is declared before is refused.
+fn declare(
+    alloc: Global,
+    walk: &mut Walk,
+    file: TaskFile,
+    names: &mut IndexSet<Vec<u8>>,
+    name: &Name<'_>,
+) -> Result<(), NoMemory> {
+    if !names.insert(lower_case(alloc, name)?)? {
+        walk.refuse(file, Code::Duplicate, name);
+    }
+    Ok(())
+}
+
+/// The names that a list declares.
+fn declared(
+    alloc: Global,
+    walk: &mut Walk,
+    file: TaskFile,
+    names: &[Name<'_>],
+) -> Result<IndexSet<Vec<u8>>, NoMemory> {
+    let mut declared = IndexSet::new(alloc);
+    for name in names {
+        declare(alloc, walk, file, &mut declared, name)?;
+    }
+    Ok(declared)
+}
+
+/// The name after this many is one too many.
+fn limit(walk: &mut Walk, file: TaskFile, names: &[Name<'_>], most: usize) {
+    if let Some(name) = names.get(most) {
+        walk.refuse(file, Code::TooMany, name);
+    }
+}
+
+/// The problem's objects.
+pub(crate) fn objects(
+    alloc: Global,
+    problem: &Problem<'_>,
+) -> Result<IndexSet<Vec<u8>>, TaskFault> {
+    let mut walk = Walk::new(alloc);
+    let objects = declared(alloc, &mut walk, TaskFile::Problem, &problem.objects)?;
+    limit(&mut walk, TaskFile::Problem, &problem.objects, MAX_OBJECTS);
+    walk.finish()?;
+    Ok(objects)
+}
+
+/// The domain's predicates.
+pub(crate) fn predicates(
+    alloc: Global,
+    domain: &Domain<'_>,
+) -> Result<IndexMap<Vec<u8>, Predicate>, TaskFault> {
+    let mut walk = Walk::new(alloc);
+    let mut predicates = IndexMap::new(alloc);
+    for declaration in &domain.predicates {
+        let arity = declaration.parameters.len();
+        let before = predicates.insert(lower_case(alloc, &declaration.name)?, Predicate { arity })?;
+        if before.is_some() {
+            walk.refuse(TaskFile::Domain, Code::Duplicate, &declaration.name);
+        }
+    }
+    for declaration in &domain.predicates {
+        limit(
+            &mut walk,
+            TaskFile::Domain,
+            &declaration.parameters,
+            MAX_ARGUMENTS,
+        );
+    }
+    walk.finish()?;
+    Ok(predicates)
+}
+
+/// What an action declares.
+fn schema(
+    alloc: Global,
+    walk: &mut Walk,
+    predicates: &IndexMap<Vec<u8>, Predicate>,
+    action: &Action<'_>,
+) -> Result<Schema, NoMemory> {
+    let variables = declared(alloc, walk, TaskFile::Domain, &action.parameters)?;
+    limit(walk, TaskFile::Domain, &action.parameters, MAX_VARIABLES);
+    let objects = IndexSet::new(alloc);
+    let scope = Scope {
+        file: TaskFile::Domain,
+        predicates,
+        variables: &variables,
+        objects: &objects,
+    };
+    let precondition = scope.formula(alloc, walk, &action.precondition)?;
+    let effect = scope.effect(alloc, walk, &action.effect)?;
+    Ok(Schema {
+        parameters: action.parameters.len(),
+        precondition,
+        effect,
+    })
+}
+
+/// The domain's actions.
+pub(crate) fn schemas(
+    alloc: Global,
+    predicates: &IndexMap<Vec<u8>, Predicate>,
+    domain: &Domain<'_>,
+) -> Result<IndexMap<Vec<u8>, Schema>, TaskFault> {
+    let mut walk = Walk::new(alloc);
+    let mut names = IndexSet::new(alloc);
+    for action in &domain.actions {
+        declare(alloc, &mut walk, TaskFile::Domain, &mut names, &action.name)?;
+    }
+    let mut schemas = IndexMap::new(alloc);
+    for action in &domain.actions {
+        let schema = schema(alloc, &mut walk, predicates, action)?;
+        schemas.insert(lower_case(alloc, &action.name)?, schema)?;
+    }
+    walk.finish()?;
+    Ok(schemas)
+}
+
+/// The atoms of the initial state, as they stand.
+pub(crate) fn init(
+    alloc: Global,
+    scope: &Scope<'_>,
+    problem: &Problem<'_>,
+) -> Result<Vec<Atom>, TaskFault> {
+    let mut walk = Walk::new(alloc);
+    let mut init = Vec::with_capacity(alloc, problem.init.len())?;
+    for fact in &problem.init {
+        init.push(scope.atom(&mut walk, fact)?)?;
+    }
+    walk.finish()?;
+    Ok(init)
+}
+
+/// The goal.
+pub(crate) fn goal(
+    alloc: Global,
+    scope: &Scope<'_>,
+    problem: &Problem<'_>,
+) -> Result<Formula, TaskFault> {
+    let mut walk = Walk::new(alloc);
+    let goal = scope.formula(alloc, &mut walk, &problem.goal)?;
+    walk.finish()?;
+    Ok(goal)
+}

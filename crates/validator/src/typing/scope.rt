@@ -1,0 +1,152 @@
+//! Names of formulas, effects and atoms become numbers.
+ghost use Rattle.std.specs.Prelude.{◌≡◌, ◌≤◌, ℕ, List, length, map, take, IfOk, OnOk};
+
+use crate::typing::walk::Walk;
+use crate::typing::{
+    Atom, Effect, Formula, LiftedAtom, MAX_ARGUMENTS, ObjectId, Predicate, PredicateId, TaskFile,
+    Term, VariableId,
+};
+use arrayvec::ArrayVec;
+use indexmap::{IndexMap, IndexSet};
+use pddl_tree as tree;
+use pddl_tree::Name;
+use std::alloc::Global;
+use tokens::{Code, NoMemory};
+
+/// What may be named where a formula, an effect or an atom of a file stands.
+///
+/// A name that is not known gets the number after the last: the fault is told, and no task is made of it.
+#[derive(Drop)]
+pub(crate) struct Scope<'s> {
+    pub(crate) file: TaskFile,
+    pub(crate) predicates: &'s IndexMap<Vec<u8>, Predicate>,
+    pub(crate) variables: &'s IndexSet<Vec<u8>>,
+    pub(crate) objects: &'s IndexSet<Vec<u8>>,
+    ghost few: { length objects.now.keys ≤ 65535 },
+}
+
+impl Scope<'_> {
+    /// The predicate of this name, which stands with this count of terms.
+    fn predicate(
+        &self,
+        walk: &mut Walk,
+        name: &Name<'_>,
+        count: usize,
+    ) -> Result<PredicateId, NoMemory> {
+        walk.fold(name)?;
+        match self.predicates.get_full(walk.folded.as_slice()) {
+            Some((number, _, predicate)) => {
+                if predicate.arity != count {
+                    walk.refuse(self.file, Code::WrongArity, name);
+                }
+                Ok(PredicateId(number))
+            }
+            None => {
+                walk.refuse(self.file, Code::UnknownName, name);
+                Ok(PredicateId(self.predicates.len()))
+            }
+        }
+    }
+
+    /// The number of a name among these.
+    fn number(
+        &self,
+        walk: &mut Walk,
+        names: &IndexSet<Vec<u8>>,
+        name: &Name<'_>,
+    ) -> Result<usize, NoMemory> {
+        walk.fold(name)?;
+        match names.get_index_of(walk.folded.as_slice()) {
+            Some(number) => Ok(number),
+            None => {
+                walk.refuse(self.file, Code::UnknownName, name);
+                Ok(names.len())
+            }
+        }
+    }
+
+    /// The object of this name.
+    fn object(&self, walk: &mut Walk, name: &Name<'_>) -> Result<ObjectId, NoMemory> {
+        let number = self.number(walk, self.objects, name)?;
+        Ok(ObjectId(number as u32))
+    }
+
+    /// The variable or the object that stands in an atom.
+    fn term(&self, walk: &mut Walk, term: &tree::Term<'_>) -> Result<Term, NoMemory> {
+        match term {
+            tree::Term::Variable(name) => {
+                let number = self.number(walk, self.variables, name)?;
+                Ok(Term::Variable(VariableId(number)))
+            }
+            tree::Term::Object(name) => Ok(Term::Object(self.object(walk, name)?)),
+        }
+    }
+
+    /// An atom of an action or a goal.
+    fn lifted_atom(
+        &self,
+        alloc: Global,
+        walk: &mut Walk,
+        atom: &tree::Atom<'_>,
+    ) -> Result<LiftedAtom, NoMemory> {
+        let predicate = self.predicate(walk, &atom.predicate, atom.terms.len())?;
+        let mut terms = Vec::with_capacity(alloc, atom.terms.len())?;
+        for term in &atom.terms {
+            terms.push(self.term(walk, term)?)?;
+        }
+        Ok(LiftedAtom { predicate, terms })
+    }
+
+    /// A precondition or a goal.
+    pub(crate) fn formula(
+        &self,
+        alloc: Global,
+        walk: &mut Walk,
+        formula: &tree::Formula<'_>,
+    ) -> Result<Formula, NoMemory> {
+        match formula {
+            tree::Formula::Atom(atom) => Ok(Formula::Atom(self.lifted_atom(alloc, walk, atom)?)),
+            tree::Formula::And(parts) => {
+                let mut resolved = Vec::with_capacity(alloc, parts.len())?;
+                for part in parts {
+                    resolved.push(self.formula(alloc, walk, part)?)?;
+                }
+                Ok(Formula::And(resolved))
+            }
+        }
+    }
+
+    /// An effect.
+    pub(crate) fn effect(
+        &self,
+        alloc: Global,
+        walk: &mut Walk,
+        effect: &tree::Effect<'_>,
+    ) -> Result<Effect, NoMemory> {
+        match effect {
+            tree::Effect::Add(atom) => Ok(Effect::Add(self.lifted_atom(alloc, walk, atom)?)),
+            tree::Effect::Delete(atom) => Ok(Effect::Delete(self.lifted_atom(alloc, walk, atom)?)),
+            tree::Effect::And(parts) => {
+                let mut resolved = Vec::with_capacity(alloc, parts.len())?;
+                for part in parts {
+                    resolved.push(self.effect(alloc, walk, part)?)?;
+                }
+                Ok(Effect::And(resolved))
+            }
+        }
+    }
+
+    /// An atom of the initial state. Of more objects than a predicate may have, the first are kept: the count is
+    /// a fault of the atom then.
+    pub(crate) fn atom(&self, walk: &mut Walk, fact: &tree::Fact<'_>) -> Result<Atom, NoMemory> {
+        let predicate = self.predicate(walk, &fact.predicate, fact.objects.len())?;
+        let mut objects = ArrayVec::new();
+        for name in &fact.objects {
+            let object = self.object(walk, name)?;
+            if objects.len() < MAX_ARGUMENTS {
+                objects.push(object);
+            }
+        }
+        Ok(Atom { predicate, objects })
+    }
+}
