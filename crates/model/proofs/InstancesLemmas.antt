@@ -2,13 +2,23 @@
 use Rattle.std.proofs.Common.{◌≡◌, ℕ, zero, suc, ◌+◌, ◌<◌, inl, inr, Bool, true, false, ◌&&◌, List, [], ◌∷◌, length, map, Option, None, Some, refl, sym, ap, subst, arith}
 use Rattle.std.specs.Prelude.{Contains, ◌==◌, nat_lt, slice_get, if◌then◌else◌}
 use Rattle.std.specs.List.{range_with_len, list_all}
-use Rattle.std.specs.Option.{option_map}
+use Rattle.std.specs.Option.{option_map, option_map_or, option_and_then}
 use Rattle.std.proofs.lemmas.Bool.{and_parts, and_from, eqb-true, eq-eqb, ltb-true, lt-ltb}
 use Rattle.std.proofs.lemmas.List.Elements.{Contains-append_left, Contains-append_right, Contains-append_cases}
 use Rattle.model.specs.Task.{Schema, Task, Instance}
-use Rattle.model.specs.Meaning.{State, step, holds, step_of, is_instance, is_instance_of, fits}
+use Rattle.model.specs.Meaning.{State, holds, step, is_instance, fits, after_changes, changes_of}
 use Rattle.model.specs.Instances.{tuples, instances_of_schema, instances_from, all_instances, successors_of}
 use Rattle.model.proofs.ListLemmas.{Contains-here, Contains-cases, Contains-none, Contains-map, map-Contains, Contains-flat_map, flat_map-Contains, Contains-filter_map, filter_map-Contains, Contains-range, range-Contains}
+
+abbrev is_instance_of : Task → Option Schema → List ℕ → Bool
+is_instance_of task found objects = option_map_or (λ schema. fits task schema objects) found false
+
+abbrev step_of : Task → State → Option Schema → List ℕ → Option State
+step_of task state found objects =
+    option_and_then (λ schema.
+      if fits task schema objects && holds schema.precondition objects state then Some (after_changes state (changes_of schema.effect objects))
+      else None)
+    found
 
 abbrev AllBelow : ℕ → List ℕ → Bool
 AllBelow n objects = list_all (λ number. nat_lt number n) objects

@@ -1,3 +1,4 @@
+pub mod Atoms
 pub mod ListLemmas
 pub mod ClaimsLemmas
 pub mod InstancesLemmas

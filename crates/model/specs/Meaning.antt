@@ -3,6 +3,7 @@
 -- PDDL 1.2 manual for actions with parameters and conjunctions.
 use Rattle.std.specs.Prelude.{ℕ, Bool, true, false, ◌&&◌, ◌==◌, nat_lt, List, [], ◌∷◌, ◌++◌, length, map, slice_get, slice_index, if◌then◌else◌, Option, None, Some}
 use Rattle.std.specs.List.{list_all}
+use Rattle.std.specs.Option.{option_map_or, option_and_then}
 use Rattle.std.specs.Cmp.Lexicographic.{slice_cmp}
 use Rattle.std.specs.Ordering.{nat_cmp}
 use Rattle.std.specs.declared.cmp.Ordering.{Ordering}
@@ -79,23 +80,17 @@ fits task schema objects =
     (length objects == schema.parameters) && list_all (λ number. nat_lt number (length task.objects)) objects
 
 -- an instance of one of the task's schemas (PDDL 1.2 manual, "Actions")
-abbrev pub is_instance_of : Task → Option Schema → List ℕ → Bool
-is_instance_of task None objects = false
-is_instance_of task (Some schema) objects = fits task schema objects
-
 abbrev pub is_instance : Task → Instance → Bool
-is_instance task i = is_instance_of task (slice_get task.schemas i.schema) i.objects
+is_instance task i = option_map_or (λ schema. fits task schema i.objects) (slice_get task.schemas i.schema) false
 
 -- The state that an action leads to: it is applicable where it is an instance of a schema of the task and the
 -- schema's precondition holds.
-abbrev pub step_of : Task → State → Option Schema → List ℕ → Option State
-step_of task state None objects = None
-step_of task state (Some schema) objects =
-    if fits task schema objects && holds schema.precondition objects state then Some (after_changes state (changes_of schema.effect objects))
-    else None
-
 abbrev pub step : Task → State → Instance → Option State
-step task state i = step_of task state (slice_get task.schemas i.schema) i.objects
+step task state i =
+    option_and_then (λ schema.
+      if fits task schema i.objects && holds schema.precondition i.objects state then Some (after_changes state (changes_of schema.effect i.objects))
+      else None)
+    (slice_get task.schemas i.schema)
 
 -- the goal has no parameters
 abbrev pub meets_goal : Task → State → Bool

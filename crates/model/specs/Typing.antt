@@ -1,7 +1,7 @@
 -- Which faults a domain and a problem have, when they are well-typed, and which task they are then.
 -- The rules are those of the PDDL 1.2 manual for declarations and uses ("Predicates", "Actions", "Problems"), with
 -- the limits of the language profile.
-use Rattle.std.specs.Prelude.{◌≡◌, ℕ, Bool, true, false, ◌==◌, List, [], ◌∷◌, ◌++◌, length, map, fold, take, drop, slice_get, if◌then◌else◌, Option, None, Some, All, Contains}
+use Rattle.std.specs.Prelude.{◌≡◌, ℕ, Bool, false, ◌==◌, List, [], ◌∷◌, ◌++◌, length, map, fold, take, drop, slice_get, if◌then◌else◌, Option, None, Some, All, Contains}
 use Rattle.std.specs.Char.{to_ascii_lowercase}
 use Rattle.std.specs.Cmp.Lexicographic.{slice_cmp, pointwise}
 use Rattle.std.specs.List.{flat_map, list_any, position_or_len}

@@ -1,9 +1,9 @@
 -- States, instances and plans of the code, in the model's terms.
-use Rattle.std.specs.Prelude.{List, map}
+use Rattle.std.specs.Prelude.{ℕ, Bool, true, nat_lt, List, map}
 use Rattle.std.specs.FinSet.{from_list}
-use Rattle.validator.specs.declared.formulas.State.{State}
-use Rattle.validator.specs.declared.formulas.Instance.{Instance}
-use Rattle.validator.specs.declared.formulas.Plan.{Plan}
+use Rattle.validator.specs.declared.formulas.state.State.{State}
+use Rattle.validator.specs.declared.formulas.instance.Instance.{Instance}
+use Rattle.validator.specs.declared.formulas.plan.Plan.{Plan}
 use Rattle.validator.specs.TaskParts.{atom_of, object_of}
 use Rattle.model.specs.Task as task
 use Rattle.model.specs.Meaning as meaning
@@ -17,3 +17,8 @@ instance_of i = record { schema = i.schema.0; objects = map object_of i.objects.
 -- the plan's instances, in order
 abbrev pub plan_of : Plan → List task.Instance
 plan_of p = map instance_of p.steps.items
+
+-- a term that is a parameter is one of the first so many
+abbrev pub is_bound : ℕ → task.Term → Bool
+is_bound scope (task.variable parameter) = nat_lt parameter scope
+is_bound scope (task.object number) = true

@@ -1,8 +1,17 @@
 //! What is said of a plan.
-use crate::formulas::Plan;
-use crate::typing::Task;
+ghost use Rattle.std.specs.Prelude.{IsTrue, IfOk};
+ghost use Rattle.std.specs.List.{list_all};
+ghost use Rattle.validator.specs.Typing.{task_of};
+ghost use Rattle.validator.specs.Formulas.{plan_of};
+ghost use Rattle.validator.specs.Verdict.{verdict_of};
+ghost use Rattle.model.specs.Runs.{IsVerdict};
+ghost use Rattle.model.specs.Meaning.{is_instance, system_of};
+
 use std::alloc::Global;
 use tokens::NoMemory;
+
+use crate::formulas::{Plan, State, apply, meets_goal};
+use crate::typing::Task;
 
 /// What is said of a plan.
 #[derive(Clone, Copy, Debug, PartialEq, Eq)]
@@ -21,7 +30,25 @@ pub enum Verdict {
     GoalMissed,
 }
 
-/// What is true of the plan.
-pub fn validate(_alloc: Global, _task: &Task, _plan: &Plan) -> Result<Verdict, NoMemory> {
-    Err(NoMemory)
+/// What is true of the plan, each instance of which is one of the task's.
+pub fn validate(alloc: Global, task: &Task, plan: &Plan) -> Result<Verdict, NoMemory>
+    requires { IsTrue (list_all (is_instance (task_of task.now)) (plan_of plan.now)) }
+    ensures { IfOk result (λ v. IsVerdict (system_of (task_of task.now)) (plan_of plan.now) (verdict_of v)) }
+{
+    let mut state = State::initial(alloc, task)?;
+    let mut step = 0;
+    for instance in plan.steps() {
+        step += 1;
+        match apply(alloc, task, instance, &state)? {
+            Some(next) => state = next,
+            None => return Ok(Verdict::NotApplicable { step }),
+        }
+    }
+    if meets_goal(task, &state) {
+        Ok(Verdict::Valid {
+            cost: plan.steps().len() as u64,
+        })
+    } else {
+        Ok(Verdict::GoalMissed)
+    }
 }

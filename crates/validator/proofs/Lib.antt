@@ -1,0 +1,4 @@
+pub mod FormulasStates
+pub mod FormulasTrees
+pub mod FormulasTasks
+pub mod FormulasChanges

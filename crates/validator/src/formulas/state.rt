@@ -1,0 +1,67 @@
+//! States: which atoms are true.
+ghost use Rattle.std.specs.Prelude.{◌≡◌};
+
+use std::alloc::Global;
+use std::collections::BTreeSet;
+use tokens::NoMemory;
+
+use crate::typing::{Atom, Task};
+
+/// A state: the set of the atoms that are true.
+#[derive(Drop)]
+pub struct State {
+    atoms: BTreeSet<Atom>,
+}
+
+impl State {
+    ghost use Rattle.std.specs.Prelude.{IfOk, OnOk};
+    ghost use Rattle.std.specs.FinSet.{contains, insert, remove};
+    ghost use Rattle.validator.specs.TaskParts.{atom_of};
+    ghost use Rattle.validator.specs.Typing.{task_of};
+    ghost use Rattle.validator.specs.Formulas.{state_of};
+    ghost use Rattle.model.specs.Meaning.{initial_state};
+
+    /// The initial state: the set of the atoms in `:init`.
+    pub fn initial(alloc: Global, task: &Task) -> Result<State, NoMemory>
+        ensures { IfOk result (λ s. state_of s ≡ initial_state (task_of task.now)) }
+    {
+        let mut state = State {
+            atoms: BTreeSet::new(alloc),
+        };
+        for atom in task.init() {
+            state.insert(atom.clone()?)?;
+        }
+        Ok(state)
+    }
+
+    /// Whether the atom is true.
+    pub fn contains(&self, atom: &Atom) -> bool
+        ensures { result ≡ contains (state_of self.now) (atom_of atom.now) }
+    {
+        self.atoms.contains(atom)
+    }
+
+    /// Makes the atom true.
+    pub(super) fn insert(&mut self, atom: Atom) -> Result<(), NoMemory>
+        ensures { OnOk result (state_of self.new ≡ insert (state_of self.old) (atom_of atom)) }
+    {
+        self.atoms.insert(atom)?;
+        Ok(())
+    }
+
+    /// Makes the atom false.
+    pub(super) fn remove(&mut self, atom: &Atom)
+        ensures { state_of self.new ≡ remove (state_of self.old) (atom_of atom.now) }
+    {
+        self.atoms.remove(atom);
+    }
+
+    /// A second state with the same atoms.
+    pub(super) fn try_clone(&self) -> Result<State, NoMemory>
+        ensures { IfOk result (λ s. state_of s ≡ state_of self.now) }
+    {
+        Ok(State {
+            atoms: self.atoms.clone()?,
+        })
+    }
+}
