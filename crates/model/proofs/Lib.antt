@@ -1,0 +1,4 @@
+pub mod GrammarMachine
+pub mod GrammarRuns
+pub mod GrammarMeaning
+pub mod GrammarStops
