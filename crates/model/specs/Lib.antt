@@ -2,6 +2,8 @@
 pub mod Fault
 pub mod Words
 pub mod Trees
+pub mod GrammarWords
+pub mod Grammar
 pub mod Task
 pub mod WellTyped
 pub mod Typing

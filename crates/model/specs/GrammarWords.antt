@@ -1,0 +1,117 @@
+-- What a word is to the grammar of domain and problem files: its letters folded to lower case, a name is one that
+-- the grammar knows or any other, and so is a keyword.
+use Rattle.std.specs.Prelude.{ℕ, Bool, List, [], ◌∷◌, map, codes, if◌then◌else◌}
+use Rattle.std.specs.List.{list_any}
+use Rattle.std.specs.Str.{bytes_eq, str_to_ascii_lowercase}
+use Rattle.model.specs.Words.{Word, Kind}
+use Rattle.model.specs.Words as words
+use Rattle.model.specs.Trees.{Name}
+
+-- a name that may be a predicate's
+pub data FreeName : Type 0 where
+  define : FreeName
+  domain : FreeName
+  problem : FreeName
+  ordinary : FreeName
+
+-- a name that heads a formula or an effect of PDDL, and so is no predicate's
+pub data ReservedName : Type 0 where
+  and : ReservedName
+  not : ReservedName
+  -- of a form of PDDL that the language profile leaves out
+  left_out_name : ReservedName
+  other_reserved : ReservedName
+
+pub data Label : Type 0 where
+  free : FreeName → Label
+  reserved : ReservedName → Label
+
+pub data Keyword : Type 0 where
+  domain_keyword : Keyword
+  requirements : Keyword
+  predicates : Keyword
+  action : Keyword
+  objects : Keyword
+  init : Keyword
+  goal : Keyword
+  parameters : Keyword
+  precondition : Keyword
+  effect : Keyword
+  -- a key of `:requirements`
+  requirement_key : Keyword
+  -- of a section or part of PDDL that the language profile leaves out
+  left_out_keyword : Keyword
+  unknown_keyword : Keyword
+
+pub data Token : Type 0 where
+  opens : Token
+  closes : Token
+  name : Label → Name → Token
+  variable : Name → Token
+  keyword : Keyword → Token
+  -- a number, `-` or `=`
+  other : Token
+
+abbrev pub name_from : Word → Name
+name_from w = record { text = w.text; start = w.start }
+
+-- the text is one of these
+abbrev pub is_among : List ℕ → List (List ℕ) → Bool
+is_among text list = list_any (bytes_eq text) list
+
+abbrev pub left_out_names : List (List ℕ)
+left_out_names = codes "preference" ∷ codes "assign" ∷ codes "decrease" ∷ codes "scale-up" ∷ codes "scale-down" ∷ []
+
+abbrev pub other_reserved_names : List (List ℕ)
+other_reserved_names = codes "or" ∷ codes "imply" ∷ codes "exists" ∷ codes "forall" ∷ codes "when" ∷ codes "increase" ∷ codes "either" ∷ codes "total-cost" ∷ []
+
+abbrev pub requirement_keys : List (List ℕ)
+requirement_keys = codes ":strips" ∷ codes ":typing" ∷ codes ":equality" ∷ codes ":negative-preconditions" ∷ codes ":disjunctive-preconditions" ∷ codes ":existential-preconditions" ∷ codes ":universal-preconditions" ∷ codes ":quantified-preconditions" ∷ codes ":conditional-effects" ∷ codes ":adl" ∷ codes ":action-costs" ∷ codes ":fluents" ∷ codes ":numeric-fluents" ∷ []
+
+abbrev pub left_out_keywords : List (List ℕ)
+left_out_keywords = codes ":durative-action" ∷ codes ":derived" ∷ codes ":constraints" ∷ codes ":axiom" ∷ codes ":safety" ∷ codes ":timeless" ∷ codes ":extends" ∷ codes ":situation" ∷ codes ":length" ∷ codes ":vars" ∷ codes ":duration" ∷ codes ":condition" ∷ codes ":expansion" ∷ codes ":method" ∷ []
+
+-- what a name is, folded
+abbrev pub label_of : List ℕ → Label
+label_of text =
+    if bytes_eq text (codes "and") then reserved and
+    else (if bytes_eq text (codes "not") then reserved not
+    else (if bytes_eq text (codes "define") then free define
+    else (if bytes_eq text (codes "domain") then free domain
+    else (if bytes_eq text (codes "problem") then free problem
+    else (if is_among text left_out_names then reserved left_out_name
+    else (if is_among text other_reserved_names then reserved other_reserved
+    else free ordinary))))))
+
+-- what a keyword is, folded
+abbrev pub keyword_of : List ℕ → Keyword
+keyword_of text =
+    if bytes_eq text (codes ":action") then action
+    else (if bytes_eq text (codes ":parameters") then parameters
+    else (if bytes_eq text (codes ":precondition") then precondition
+    else (if bytes_eq text (codes ":effect") then effect
+    else (if bytes_eq text (codes ":requirements") then requirements
+    else (if bytes_eq text (codes ":predicates") then predicates
+    else (if bytes_eq text (codes ":domain") then domain_keyword
+    else (if bytes_eq text (codes ":objects") then objects
+    else (if bytes_eq text (codes ":init") then init
+    else (if bytes_eq text (codes ":goal") then goal
+    else other_keyword_of text)))))))))
+  where
+  other_keyword_of : List ℕ → Keyword
+  other_keyword_of text =
+      if is_among text requirement_keys then requirement_key
+      else (if is_among text left_out_keywords then left_out_keyword else unknown_keyword)
+
+abbrev pub token_from : Kind → List ℕ → Name → Token
+token_from words.name text n = name (label_of text) n
+token_from words.variable text n = variable n
+token_from words.keyword text n = keyword (keyword_of text)
+token_from words.number text n = other
+token_from words.dash text n = other
+token_from words.equals text n = other
+token_from words.opens text n = opens
+token_from words.closes text n = closes
+
+abbrev pub token_of : Word → Token
+token_of w = token_from w.kind (str_to_ascii_lowercase w.text) (name_from w)
