@@ -2,3 +2,4 @@ pub mod FormulasStates
 pub mod FormulasTrees
 pub mod FormulasTasks
 pub mod FormulasChanges
+pub mod FormulasInstances

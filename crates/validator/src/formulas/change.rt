@@ -20,7 +20,7 @@ use crate::typing::{Effect, Task};
 /// The state that the instance, which is one of the task's, leads to, and `None` where it is not applicable.
 /// An atom that is both deleted and added is true afterwards.
 pub fn apply(
-    alloc: Global,
+    _alloc: Global,
     task: &Task,
     instance: &Instance,
     state: &State,
