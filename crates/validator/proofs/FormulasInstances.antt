@@ -30,7 +30,7 @@ module _ (t : task.Task) (schema : ℕ) (shape : Shape) (is : Some shape ≡ opt
       → list_all (λ o. is_object t o.0) objects ≡ is_instance t (record { schema = schema; objects = map object_of objects })
   instance_by_objects objects count =
       let counted : (length (map object_of objects) == it.0.parameters) ≡ true =
-        eq-eqb (length (map object_of objects)) it.0.parameters (length-map objects object_of ∙ count ∙ ap (λ (s : Shape). s.0) it.2) in
+      eq-eqb (length (map object_of objects)) it.0.parameters (length-map objects object_of ∙ count ∙ ap (λ (s : Shape). s.0) it.2) in
       sym (ap (λ o. option_map_or (λ s. fits t s (map object_of objects)) o false) it.1 ∙ ap (λ b. b && list_all (is_object t) (map object_of objects)) counted ∙ passes_map (is_object t) object_of objects)
 
   module _ (given : List ObjectId) (instance : IsTrue (is_instance t (record { schema = schema; objects = map object_of given }))) where
@@ -62,7 +62,7 @@ module _ (t : task.Task) (schema : ℕ) (shape : Shape) (is : Some shape ≡ opt
         ≡ (if holds shape.1 objects s then Some (after_changes s (changes_of shape.2 objects)) else None)
     step_by_precondition s =
         ap (option_and_then (λ found.
-          if fits t found objects && holds found.precondition objects s then Some (after_changes s (changes_of found.effect objects))
-          else None)) it.1
+        if fits t found objects && holds found.precondition objects s then Some (after_changes s (changes_of found.effect objects))
+        else None)) it.1
         ∙ ap (λ b. cond (b && holds it.0.precondition objects s) (Some (after_changes s (changes_of it.0.effect objects))) None) fitting
         ∙ sym (ap (λ (found : Shape). cond (holds found.1 objects s) (Some (after_changes s (changes_of found.2 objects))) None) it.2)

@@ -80,17 +80,21 @@ cond_false false x = refl
 pub inserted : (old new : BTreeSet Atom) (k : Atom) → ((q : Atom) → sorted.contains code_cmp new q ≡ cond (is_at (code_cmp k) q) true (sorted.contains code_cmp old q)) → set_of new.keys ≡ insert (set_of old.keys) (atom_of k)
 inserted old new k updates =
     from_same_atoms new.keys _ (λ q.
-      updates q ∙ cond_true (is_at (code_cmp k) q) (sorted.contains code_cmp old q) ∙ (λ i. tie_alike k q i || contains_alike old.keys q i)
-      ∙ sym (contains-insert atoms_total (set_of old.keys) (atom_of k) (atom_of q)))
+    updates q ∙ cond_true (is_at (code_cmp k) q) (sorted.contains code_cmp old q) ∙ (λ i. tie_alike k q i || contains_alike old.keys q i)
+    ∙ sym (contains-insert atoms_total (set_of old.keys) (atom_of k) (atom_of q)))
 
 -- `remove` of the code's set
 pub removed : (old new : BTreeSet Atom) (k : Atom) → ((q : Atom) → sorted.contains code_cmp new q ≡ cond (is_at (code_cmp k) q) false (sorted.contains code_cmp old q)) → set_of new.keys ≡ remove (set_of old.keys) (atom_of k)
 removed old new k updates =
     from_same_atoms new.keys _ (λ q.
-      updates q ∙ cond_false (is_at (code_cmp k) q) (sorted.contains code_cmp old q) ∙ (λ i. not (tie_alike k q i) && contains_alike old.keys q i)
-      ∙ sym (contains-remove atoms_total (set_of old.keys) (atom_of k) (atom_of q)))
+    updates q ∙ cond_false (is_at (code_cmp k) q) (sorted.contains code_cmp old q) ∙ (λ i. not (tie_alike k q i) && contains_alike old.keys q i)
+    ∙ sym (contains-remove atoms_total (set_of old.keys) (atom_of k) (atom_of q)))
 
 -- ---- the initial state
+
+-- a copy of an atom
+pub copied : (listed copy : Atom) → copy.predicate ≡ listed.predicate → copy.objects.items ≡ listed.objects.items → atom_of copy ≡ atom_of listed
+copied listed copy predicate objects = λ i. record { predicate = (predicate i).0; objects = map object_of (objects i) }
 
 -- one more atom of a list
 pub initial_more : (before after : State) (atoms : List Atom) (i : ℕ) (listed copy : Atom) → i < length atoms → listed ≡ get_or atoms i listed → atom_of copy ≡ atom_of listed

@@ -3,3 +3,4 @@ pub mod FormulasTrees
 pub mod FormulasTasks
 pub mod FormulasChanges
 pub mod FormulasInstances
+pub mod VerdictRuns
