@@ -1,6 +1,6 @@
 -- The code's ordered set of atoms and the model's set: both order atoms alike, so what one of them has the other has.
-use Rattle.std.specs.Prelude.{◌≡◌, ℕ, Bool, true, false, cond, not, ◌&&◌, ◌||◌, List, [], ◌∷◌, map, refl}
-use Rattle.std.proofs.Common.{sym, ◌∙◌, ap, subst}
+use Rattle.std.specs.Prelude.{◌≡◌, ℕ, ◌+◌, ◌<◌, ◌≤◌, Bool, true, false, cond, not, ◌&&◌, ◌||◌, List, [], ◌∷◌, ◌++◌, length, map, take, refl}
+use Rattle.std.proofs.Common.{sym, ◌∙◌, ap, subst, get_or}
 use Rattle.std.specs.declared.cmp.Ordering.{Ordering}
 use Rattle.std.specs.Ordering.{ordering_then, nat_cmp, eq_by_cmp, is_eq}
 use Rattle.std.specs.Cmp.{eq_by_cmp_equiv}
@@ -9,7 +9,8 @@ use Rattle.std.specs.BTreeMap.{is_at}
 use Rattle.std.specs.BTreeSet as sorted
 use Rattle.std.specs.BTreeSet.{BTreeSet}
 use Rattle.std.specs.List.{list_any}
-use Rattle.std.specs.FinSet.{contains, insert, remove, from_list, contains-from_list, contains-insert, contains-remove}
+use Rattle.std.proofs.lemmas.List.{take_all, take_more, map-append}
+use Rattle.std.specs.FinSet.{contains, from_list_push, insert, remove, from_list, contains-from_list, contains-insert, contains-remove}
 use Rattle.validator.specs.declared.typing.Atom.{Atom}
 use Rattle.validator.specs.declared.typing.ObjectId.{ObjectId}
 use Rattle.validator.specs.contracts.typing.AtomOrd.TheImpl as atom_ord
@@ -17,7 +18,7 @@ use Rattle.validator.specs.contracts.typing.ObjectIdOrd.TheImpl as object_ord
 use Rattle.validator.specs.TaskParts.{atom_of, object_of}
 use Rattle.model.specs.Task as task
 use Rattle.model.specs.Meaning.{State, atom_cmp}
-use Rattle.model.proofs.Atoms.{atoms_total, same_state}
+use Rattle.model.proofs.Atoms.{atoms_total, atoms_apart, same_state}
 
 -- the order of the code's atoms
 abbrev pub code_cmp : Atom → Atom → Ordering
@@ -79,12 +80,29 @@ cond_false false x = refl
 pub inserted : (old new : BTreeSet Atom) (k : Atom) → ((q : Atom) → sorted.contains code_cmp new q ≡ cond (is_at (code_cmp k) q) true (sorted.contains code_cmp old q)) → set_of new.keys ≡ insert (set_of old.keys) (atom_of k)
 inserted old new k updates =
     from_same_atoms new.keys _ (λ q.
-      updates q ∙ cond_true (is_at (code_cmp k) q) (sorted.contains code_cmp old q) ∙ (λ i. tie_alike k q i || contains_alike old.keys q i)
-      ∙ sym (contains-insert atoms_total (set_of old.keys) (atom_of k) (atom_of q)))
+    updates q ∙ cond_true (is_at (code_cmp k) q) (sorted.contains code_cmp old q) ∙ (λ i. tie_alike k q i || contains_alike old.keys q i)
+    ∙ sym (contains-insert atoms_total (set_of old.keys) (atom_of k) (atom_of q)))
 
 -- `remove` of the code's set
 pub removed : (old new : BTreeSet Atom) (k : Atom) → ((q : Atom) → sorted.contains code_cmp new q ≡ cond (is_at (code_cmp k) q) false (sorted.contains code_cmp old q)) → set_of new.keys ≡ remove (set_of old.keys) (atom_of k)
 removed old new k updates =
     from_same_atoms new.keys _ (λ q.
-      updates q ∙ cond_false (is_at (code_cmp k) q) (sorted.contains code_cmp old q) ∙ (λ i. not (tie_alike k q i) && contains_alike old.keys q i)
-      ∙ sym (contains-remove atoms_total (set_of old.keys) (atom_of k) (atom_of q)))
+    updates q ∙ cond_false (is_at (code_cmp k) q) (sorted.contains code_cmp old q) ∙ (λ i. not (tie_alike k q i) && contains_alike old.keys q i)
+    ∙ sym (contains-remove atoms_total (set_of old.keys) (atom_of k) (atom_of q)))
+
+-- ---- the initial state
+
+-- a copy of an atom
+pub copied : (listed copy : Atom) → copy.predicate ≡ listed.predicate → copy.objects.items ≡ listed.objects.items → atom_of copy ≡ atom_of listed
+copied listed copy predicate objects = λ i. record { predicate = (predicate i).0; objects = map object_of (objects i) }
+
+-- one more atom of a list
+pub initial_more : (before after : State) (atoms : List Atom) (i : ℕ) (listed copy : Atom) → i < length atoms → listed ≡ get_or atoms i listed → atom_of copy ≡ atom_of listed
+    → before ≡ set_of (take i atoms) → after ≡ insert before (atom_of copy) → after ≡ set_of (take (i + 1) atoms)
+initial_more before after atoms i listed copy lt at same so here =
+    here ∙ (λ j. insert (so j) (same j)) ∙ sym (from_list_push atoms_total atoms_apart (map atom_of (take i atoms)) (atom_of listed))
+    ∙ ap from_list (sym (ap (map atom_of) (take_more atoms i listed lt ∙ ap (λ y. take i atoms ++ y ∷ []) (sym at)) ∙ map-append atom_of (take i atoms) (listed ∷ [])))
+
+-- all atoms of the list
+pub initial_whole : (state : State) (atoms : List Atom) (i : ℕ) → length atoms ≤ i → state ≡ set_of (take i atoms) → state ≡ set_of atoms
+initial_whole state atoms i past so = so ∙ ap set_of (take_all i atoms past)

@@ -4,6 +4,7 @@ use Rattle.std.proofs.Common.{zero, suc, sym, ◌∙◌, ap, subst, get_or, arit
 use Rattle.std.specs.Cmp.{first_so, second_so}
 use Rattle.std.specs.List.{list_all}
 use Rattle.std.proofs.lemmas.Bool.Decides.{nat_tests}
+use Rattle.std.proofs.lemmas.Option.{none-some, same_Some}
 use Rattle.std.proofs.lemmas.List.{take_all, take_more, map-append}
 use Rattle.std.proofs.lemmas.List.Folds.{list_all_more, list_all_at}
 use Rattle.std.proofs.Math.ListN.{length-map}
@@ -112,3 +113,9 @@ lifted_few t scope a well typed =
 pub terms_few : (t : task.Task) (scope : ℕ) (a : LiftedAtom) → IsTrue (is_task t) → IsTrue (is_lifted_atom t scope (lifted_atom_of a)) → length a.terms.items ≤ max_arguments
 terms_few t scope a well typed =
     subst (λ n. n ≤ max_arguments) (length-map a.terms.items term_of) (lifted_few t scope (lifted_atom_of a) well typed)
+
+-- an element that a look-up found
+pub passes_got : {X : Type 0} (p : X → Bool) (xs : List X) (k : ℕ) (x : X) → slice_get xs k ≡ Some x → list_all p xs ≡ true → p x ≡ true
+passes_got p [] k x got all = absurd (none-some x got)
+passes_got p (y ∷ xs) zero x got all = ap p (sym (same_Some y x got)) ∙ first_so (p y) (list_all p xs) all
+passes_got p (y ∷ xs) (suc k) x got all = passes_got p xs k x got (second_so (p y) (list_all p xs) all)

@@ -7,11 +7,10 @@ ghost use Rattle.validator.specs.Verdict.{verdict_of};
 ghost use Rattle.model.specs.Runs.{IsVerdict};
 ghost use Rattle.model.specs.Meaning.{is_instance, system_of};
 
-use std::alloc::Global;
-use tokens::NoMemory;
-
 use crate::formulas::{Plan, State, apply, meets_goal};
 use crate::typing::Task;
+use std::alloc::Global;
+use tokens::NoMemory;
 
 /// What is said of a plan.
 #[derive(Clone, Copy, Debug, PartialEq, Eq)]
@@ -36,12 +35,10 @@ pub fn validate(alloc: Global, task: &Task, plan: &Plan) -> Result<Verdict, NoMe
     ensures { IfOk result (λ v. IsVerdict (system_of (task_of task.now)) (plan_of plan.now) (verdict_of v)) }
 {
     let mut state = State::initial(alloc, task)?;
-    let mut step = 0;
-    for instance in plan.steps() {
-        step += 1;
+    for (index, instance) in plan.steps().iter().enumerate() {
         match apply(alloc, task, instance, &state)? {
             Some(next) => state = next,
-            None => return Ok(Verdict::NotApplicable { step }),
+            None => return Ok(Verdict::NotApplicable { step: index + 1 }),
         }
     }
     if meets_goal(task, &state) {

@@ -9,18 +9,17 @@ ghost use Rattle.model.specs.WellTyped.{is_effect};
 ghost use Rattle.model.specs.Meaning as meaning;
 ghost use Rattle.model.specs.Meaning.{is_instance, step, changes_of, added_by, deleted_by};
 
-use std::alloc::Global;
-use tokens::NoMemory;
-
 use crate::formulas::instance::{Binding, Instance};
 use crate::formulas::state::State;
 use crate::formulas::truth::{ground_atom, holds};
 use crate::typing::{Effect, Task};
+use std::alloc::Global;
+use tokens::NoMemory;
 
 /// The state that the instance, which is one of the task's, leads to, and `None` where it is not applicable.
 /// An atom that is both deleted and added is true afterwards.
 pub fn apply(
-    alloc: Global,
+    _alloc: Global,
     task: &Task,
     instance: &Instance,
     state: &State,

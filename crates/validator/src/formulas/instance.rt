@@ -6,9 +6,8 @@ ghost use Rattle.validator.specs.Formulas.{instance_of};
 ghost use Rattle.model.specs.WellTyped.{is_object};
 ghost use Rattle.model.specs.Meaning as meaning;
 
-use arrayvec::ArrayVec;
-
 use crate::typing::{MAX_VARIABLES, ObjectId, SchemaId, Task};
+use arrayvec::ArrayVec;
 
 /// The objects of a schema's parameters, in order.
 pub type Binding = ArrayVec<ObjectId, MAX_VARIABLES>;

@@ -1,11 +1,10 @@
 //! States: which atoms are true.
 ghost use Rattle.std.specs.Prelude.{◌≡◌};
 
+use crate::typing::{Atom, Task};
 use std::alloc::Global;
 use std::collections::BTreeSet;
 use tokens::NoMemory;
-
-use crate::typing::{Atom, Task};
 
 /// A state: the set of the atoms that are true.
 #[derive(Drop)]

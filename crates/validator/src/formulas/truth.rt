@@ -7,11 +7,10 @@ ghost use Rattle.validator.specs.Formulas.{is_bound, state_of};
 ghost use Rattle.model.specs.WellTyped.{is_formula};
 ghost use Rattle.model.specs.Meaning as meaning;
 
-use arrayvec::ArrayVec;
-
 use crate::formulas::instance::Binding;
 use crate::formulas::state::State;
 use crate::typing::{Atom, Formula, LiftedAtom, MAX_ARGUMENTS, ObjectId, Task, Term};
+use arrayvec::ArrayVec;
 
 /// Whether the formula holds in the state, where the parameters have these objects. The formula is well-typed
 /// where there are this many parameters.

@@ -28,17 +28,17 @@ loop-part-init t c = sym (union-none (state_of c.args.state.now))
 pub add_atoms-requires : goal.add_atoms-requires
 add_atoms-requires t c =
     let task = task_of c.args.task.now in
-    let scope = length c.args.binding.now.items in
-    ( search (rules, the_lemmas)
-    , passes_at (λ part. is_effect task scope (effect_of part)) c.deref-part-items.result.now c.loop-part.part-index c.part-item.result c.loop-part-test.true c.part-item.is
-        (typed_by_effects task scope c.args.effect.now c.in-And.parts c.deref-part-items.result.now c.in-And.is c.deref-part-items.ensures.value c.requires)
+    let scope = length c.args.binding.now.items in (
+      search (rules, the_lemmas),
+      passes_at (λ part. is_effect task scope (effect_of part)) c.deref-part-items.result.now c.loop-part.part-index c.part-item.result c.loop-part-test.true c.part-item.is
+          (typed_by_effects task scope c.args.effect.now c.in-And.parts c.deref-part-items.result.now c.in-And.is c.deref-part-items.ensures.value c.requires),
     )
 
 pub loop-part-preserved : goal.loop-part-preserved
 loop-part-preserved t c =
     let binding = map object_of c.args.binding.now.items in
     with_more (λ part. changes_of (effect_of part) binding) (state_of c.args.state.now) c.deref-part-items.result.now c.loop-part.part-index c.part-item.result
-      (state_of c.loop-part.state) (state_of c.add_atoms.new.state) c.loop-part-test.true c.part-item.is c.loop-part.invariant c.in_ok-add_atoms-in-And.ensures
+    (state_of c.loop-part.state) (state_of c.add_atoms.new.state) c.loop-part-test.true c.part-item.is c.loop-part.invariant c.in_ok-add_atoms-in-And.ensures
 
 pub returns-in_ok-insert-in-Add : goal.returns-in_ok-insert-in-Add
 returns-in_ok-insert-in-Add t c =

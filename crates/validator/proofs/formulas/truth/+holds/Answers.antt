@@ -22,10 +22,10 @@ ground_atom-requires t c =
 pub holds-requires : goal.holds-requires
 holds-requires t c =
     let task = task_of c.args.task.now in
-    let scope = length c.args.binding.now.items in
-    ( search (rules, the_lemmas)
-    , passes_at (λ part. is_formula task scope (formula_of part)) c.deref-part-items.result.now c.loop-part.part-index c.part-item.result c.loop-part-test.true c.part-item.is
-        (typed_by_parts task scope c.args.formula.now c.in-And.parts c.deref-part-items.result.now c.in-And.is c.deref-part-items.ensures.value c.requires)
+    let scope = length c.args.binding.now.items in (
+      search (rules, the_lemmas),
+      passes_at (λ part. is_formula task scope (formula_of part)) c.deref-part-items.result.now c.loop-part.part-index c.part-item.result c.loop-part-test.true c.part-item.is
+          (typed_by_parts task scope c.args.formula.now c.in-And.parts c.deref-part-items.result.now c.in-And.is c.deref-part-items.ensures.value c.requires),
     )
 
 pub returns-then-not-holds : goal.returns-then-not-holds
@@ -33,7 +33,7 @@ returns-then-not-holds t c =
     let binding = map object_of c.args.binding.now.items in
     let state = state_of c.args.state.now in
     passes_not (λ part. meaning.holds (formula_of part) binding state) c.deref-part-items.result.now c.loop-part.part-index c.part-item.result c.loop-part-test.true c.part-item.is
-      (sym c.holds.ensures ∙ c.if-not-holds.true)
+    (sym c.holds.ensures ∙ c.if-not-holds.true)
     ∙ sym (holds_by_parts binding state c.args.formula.now c.in-And.parts c.deref-part-items.result.now c.in-And.is c.deref-part-items.ensures.value)
 
 pub loop-part-preserved : goal.loop-part-preserved
@@ -41,7 +41,7 @@ loop-part-preserved t c =
     let binding = map object_of c.args.binding.now.items in
     let state = state_of c.args.state.now in
     passes_more (λ part. meaning.holds (formula_of part) binding state) c.deref-part-items.result.now c.loop-part.part-index c.part-item.result c.loop-part-test.true c.part-item.is
-      c.loop-part.invariant (sym c.holds.ensures ∙ c.if-not-holds.false)
+    c.loop-part.invariant (sym c.holds.ensures ∙ c.if-not-holds.false)
 
 pub returns-after-loop-part : goal.returns-after-loop-part
 returns-after-loop-part t c =

@@ -1,19 +1,18 @@
-use Rattle.std.proofs.Common.{rules, ◌≡◌, IfOk, OnOk, ℕ, ◌+◌, ◌-◌, ◌*◌, ◌<◌, ◌≤◌, length, ◌/◌, ◌%◌, Bool, true, false, nat_eq, nat_lt, List, [], ◌∷◌, ◌++◌, slice_index_or, slice_set, bit_and, bit_or, Fits, w8, w32, w64, Bor, MutBor}
-use Rattle.std.specs.FinSet.{contains, insert, remove}
-use Rattle.validator.specs.TaskParts.{atom_of}
-use Rattle.validator.specs.Typing.{task_of}
+use Rattle.std.proofs.Common.{◌∙◌, ap}
+use Rattle.std.specs.List.{each_same}
+use Rattle.std.specs.FinSet.{from_list}
 use Rattle.validator.specs.Formulas.{state_of}
-use Rattle.model.specs.Meaning.{initial_state}
+use Rattle.validator.proofs.FormulasStates.{set_of, copied, initial_more, initial_whole}
 use Rattle.validator.proofs.formulas.state.State.initial.Goals as goal
 
--- src/formulas/state.rt:31:9
 pub loop-atom-init : goal.loop-atom-init
-loop-atom-init c = ?
+loop-atom-init c = ap set_of c.new.ensures.empty
 
--- src/formulas/state.rt:31:9
 pub loop-atom-preserved : goal.loop-atom-preserved
-loop-atom-preserved c = ?
+loop-atom-preserved c =
+    let same = copied c.atom-item.result c.in_ok-clone.field-0 c.in_ok-clone.ensures.cases.0 (each_same c.atom-item.result.objects.items c.in_ok-clone.field-0.objects.items c.in_ok-clone.ensures.cases.1) in
+    initial_more (state_of c.loop-atom.state) (state_of c.insert.new.self) c.init-atom-items.result.now c.loop-atom.atom-index c.atom-item.result c.in_ok-clone.field-0
+    c.loop-atom-test.true c.atom-item.is same c.loop-atom.invariant c.in_ok-insert.ensures
 
--- src/formulas/state.rt:25:5
 pub returns : goal.returns
-returns c = ?
+returns c = initial_whole (state_of c.loop-atom.state) c.init-atom-items.result.now c.loop-atom.atom-index c.loop-atom-test.false c.loop-atom.invariant ∙ ap from_list c.init-atom-items.ensures

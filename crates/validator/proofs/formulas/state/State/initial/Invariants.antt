@@ -1,10 +1,9 @@
-use Rattle.std.proofs.Common.{◌≡◌, IfOk, OnOk, ℕ, ◌+◌, ◌-◌, ◌*◌, ◌<◌, ◌≤◌, length}
-use Rattle.std.specs.FinSet.{contains, insert, remove}
+use Rattle.std.proofs.Common.{◌≡◌, map, take}
+use Rattle.std.specs.FinSet.{from_list}
 use Rattle.validator.specs.TaskParts.{atom_of}
-use Rattle.validator.specs.Typing.{task_of}
 use Rattle.validator.specs.Formulas.{state_of}
-use Rattle.model.specs.Meaning.{initial_state}
 use Rattle.validator.proofs.formulas.state.State.initial.Given as goal
 
+-- the state has the atoms so far
 abbrev pub invariant-loop-atom : goal.invariant-loop-atom
-invariant-loop-atom l = ?
+invariant-loop-atom l = state_of l.state ≡ from_list (map atom_of (take l.atom-index l.atom-items))

@@ -1,0 +1,22 @@
+use Rattle.std.proofs.Common.{subst, map}
+use Rattle.std.proofs.Math.ListN.{length-map}
+use Rattle.validator.specs.TaskParts.{object_of, shape_of, formula_of, effect_of}
+use Rattle.validator.specs.Typing.{task_of}
+use Rattle.model.specs.WellTyped.{is_formula, is_effect}
+use Rattle.validator.proofs.FormulasInstances.{precondition_typed, effect_typed, step_by_precondition}
+use Rattle.validator.proofs.formulas.change.apply.Goals as goal
+
+pub holds-requires : goal.holds-requires
+holds-requires c =
+    precondition_typed (task_of c.args.task.now) c.args.instance.now.schema.0 (shape_of c.in-Some.schema.now) c.in-Some.ensures
+    c.args.instance.now.objects.items c.requires c.args.task.now.well_typed
+
+pub delete_atoms-requires : goal.delete_atoms-requires
+delete_atoms-requires c =
+    effect_typed (task_of c.args.task.now) c.args.instance.now.schema.0 (shape_of c.in-Some.schema.now) c.in-Some.ensures
+    c.args.instance.now.objects.items c.requires c.args.task.now.well_typed
+
+pub add_atoms-requires : goal.add_atoms-requires
+add_atoms-requires c =
+    effect_typed (task_of c.args.task.now) c.args.instance.now.schema.0 (shape_of c.in-Some.schema.now) c.in-Some.ensures
+    c.args.instance.now.objects.items c.requires c.args.task.now.well_typed

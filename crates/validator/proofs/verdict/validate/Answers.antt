@@ -1,0 +1,54 @@
+use Rattle.std.proofs.Common.{◌∙◌, ap, sym, length, subst, ◌≤◌, Some, None}
+use Rattle.std.specs.Option.{option_map}
+use Rattle.std.proofs.Math.ListN.{length-map}
+use Rattle.validator.specs.Typing.{task_of}
+use Rattle.validator.specs.Formulas.{state_of, instance_of, plan_of}
+use Rattle.model.specs.Meaning.{is_instance, system_of}
+use Rattle.validator.proofs.FormulasTasks.{passes_got}
+use Rattle.validator.proofs.VerdictRuns.{stands, run_more, run_whole, stops, cost-length}
+use Rattle.validator.proofs.verdict.validate.Goals as goal
+
+pub loop-index-init : goal.loop-index-init
+loop-index-init c = ap Some (sym c.in_ok-state.ensures)
+
+pub apply-requires : goal.apply-requires
+apply-requires c =
+    passes_got (is_instance (task_of c.args.task.now)) (plan_of c.args.plan.now) c.loop-index.index (instance_of c.instance-item.result)
+    (stands c.steps-instance-items.result.now (plan_of c.args.plan.now) c.loop-index.index c.instance-item.result c.steps-instance-items.ensures.steps c.loop-index-test.true c.instance-item.is)
+    c.requires
+
+pub loop-index-preserved : goal.loop-index-preserved
+loop-index-preserved c =
+    let system = system_of (task_of c.args.task.now) in
+    run_more system (plan_of c.args.plan.now) c.loop-index.index (instance_of c.instance-item.result)
+    (stands c.steps-instance-items.result.now (plan_of c.args.plan.now) c.loop-index.index c.instance-item.result c.steps-instance-items.ensures.steps c.loop-index-test.true c.instance-item.is)
+    system.initial (state_of c.loop-index.state) (state_of c.in-Some.next) c.loop-index.invariant (sym c.in_ok-next.ensures ∙ ap (option_map state_of) c.in-Some.is)
+
+pub returns-in-None : goal.returns-in-None
+returns-in-None c =
+    stops (system_of (task_of c.args.task.now)) (plan_of c.args.plan.now) c.loop-index.index (instance_of c.instance-item.result)
+    (stands c.steps-instance-items.result.now (plan_of c.args.plan.now) c.loop-index.index c.instance-item.result c.steps-instance-items.ensures.steps c.loop-index-test.true c.instance-item.is)
+    (state_of c.loop-index.state) c.loop-index.invariant (sym c.in_ok-next.ensures ∙ ap (option_map state_of) c.in-None.is)
+
+pub returns-then-meets_goal : goal.returns-then-meets_goal
+returns-then-meets_goal c =
+    let system = system_of (task_of c.args.task.now) in
+    let plan = plan_of c.args.plan.now in
+    let past = subst (λ n. n ≤ c.loop-index.index) (sym (length-map c.steps-instance-items.result.now instance_of) ∙ ap length c.steps-instance-items.ensures.steps) c.loop-index-test.false in (
+      (
+        state_of c.loop-index.state,
+        run_whole system plan c.loop-index.index system.initial (state_of c.loop-index.state) past c.loop-index.invariant,
+        sym c.meets_goal.ensures ∙ c.if-meets_goal.true,
+      ),
+      sym (length-map c.steps.result.now instance_of) ∙ ap length c.steps.ensures.steps ∙ sym (cost-length (task_of c.args.task.now) plan),
+    )
+
+pub returns : goal.returns
+returns c =
+    let system = system_of (task_of c.args.task.now) in
+    let plan = plan_of c.args.plan.now in
+    let past = subst (λ n. n ≤ c.loop-index.index) (sym (length-map c.steps-instance-items.result.now instance_of) ∙ ap length c.steps-instance-items.ensures.steps) c.loop-index-test.false in (
+      state_of c.loop-index.state,
+      run_whole system plan c.loop-index.index system.initial (state_of c.loop-index.state) past c.loop-index.invariant,
+      sym c.meets_goal.ensures ∙ c.if-meets_goal.false,
+    )
