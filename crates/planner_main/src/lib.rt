@@ -1,0 +1,13 @@
+//! From files to answers: the validator over the bytes of three files, and the whole program over any files.
+#![tactic(auto)]
+
+pub mod certificate;
+pub mod files;
+mod report;
+mod program;
+pub mod plan_file;
+mod verdict;
+
+pub use files::Files;
+pub use program::run;
+pub use verdict::{File, FileFault, validate_files};
