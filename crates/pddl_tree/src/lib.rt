@@ -1,7 +1,15 @@
 //! The trees of a domain file and of a problem file, read from their words.
 #![tactic(auto)]
 
+mod action;
+mod domain_file;
+mod effects;
+mod formulas;
+mod lists;
+mod problem_file;
 mod reader;
+mod refusal;
+mod symbol;
 mod tree;
 
 pub use reader::{domain, problem};

@@ -1,0 +1,8 @@
+use Rattle.std.proofs.Common.{◌-◌, ◌≤◌, length}
+use Rattle.pddl_tree.proofs.domain_file.domain_sections.Given as goal
+
+abbrev pub invariant-sections : goal.invariant-sections
+invariant-sections l = l.at ≤ l.next
+
+abbrev pub decreases-sections : goal.decreases-sections
+decreases-sections l = length l.words - l.next

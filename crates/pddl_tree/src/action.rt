@@ -1,0 +1,175 @@
+//! Actions, from the word after `:action` on.
+ghost use Rattle.std.specs.Prelude.{◌<◌, ◌≤◌, IfOk, OnSome, length};
+
+use crate::effects::effect;
+use crate::formulas::formula;
+use crate::lists::variables;
+use crate::refusal::{Refusal, refused, refused_keyword};
+use crate::symbol::{Symbol, is_close, is_open, name_at, symbol_at};
+use crate::tree::{Action, Effect, Formula, Name};
+use std::alloc::Global;
+use tokens::{Code, Word};
+
+/// A part of an action.
+#[derive(Clone, Copy, Debug, PartialEq, Eq)]
+enum Part {
+    Parameters,
+    Precondition,
+    Effect,
+}
+
+/// The parts of an action that were read so far.
+#[derive(Drop)]
+struct Parts<'a> {
+    parameters: Option<Vec<Name<'a>>>,
+    precondition: Option<Formula<'a>>,
+    effect: Option<Effect<'a>>,
+}
+
+impl Parts<'_> {
+    /// Whether this part was read.
+    fn has(&self, part: Part) -> bool {
+        match part {
+            Part::Parameters => self.parameters.is_some(),
+            Part::Precondition => self.precondition.is_some(),
+            Part::Effect => self.effect.is_some(),
+        }
+    }
+}
+
+/// The part whose keyword stands at an index.
+fn part_at(words: &[Word], at: usize) -> Option<Part>
+    ensures { OnSome result (at < length words.now) }
+{
+    match symbol_at(words, at) {
+        Symbol::Parameters => Some(Part::Parameters),
+        Symbol::Precondition => Some(Part::Precondition),
+        Symbol::Effect => Some(Part::Effect),
+        _ => None,
+    }
+}
+
+/// An action whose `:action` was read, and the index after its `)`.
+pub(crate) fn action<'a>(
+    alloc: Global,
+    words: &[Word<'a>],
+    at: usize,
+) -> Result<(Action<'a>, usize), Refusal>
+    ensures { IfOk result (λ r. at < r.1) }
+{
+    let Some(name) = name_at(words, at) else {
+        return Err(refused_in_action(words, at, false));
+    };
+    let (parts, next) = read_parts(alloc, words, at + 1)?;
+    let Parts {
+        parameters,
+        precondition,
+        effect,
+    } = parts;
+    let Some(parameters) = parameters else {
+        return Err(Refusal::At {
+            code: Code::MissingSection,
+            at: next,
+        });
+    };
+    let action = Action {
+        name,
+        parameters,
+        precondition: precondition.unwrap_or(Formula::And(Vec::new(alloc))),
+        effect: effect.unwrap_or(Effect::And(Vec::new(alloc))),
+    };
+    Ok((action, next + 1))
+}
+
+/// Parts of an action, each at most once, and the index of the `)` after them.
+fn read_parts<'a>(
+    alloc: Global,
+    words: &[Word<'a>],
+    at: usize,
+) -> Result<(Parts<'a>, usize), Refusal>
+    ensures after { IfOk result (λ r. at ≤ r.1) }
+    ensures within { IfOk result (λ r. r.1 < length words.now) }
+{
+    let mut parts = Parts {
+        parameters: None,
+        precondition: None,
+        effect: None,
+    };
+    let mut next = at;
+    'parts: while let Some(part) = part_at(words, next) {
+        if parts.has(part) {
+            return Err(Refusal::At {
+                code: Code::RepeatedSection,
+                at: next,
+            });
+        }
+        let (more, after) = value(alloc, words, next + 1, part, parts)?;
+        parts = more;
+        next = after;
+    }
+    if is_close(words, next) {
+        Ok((parts, next))
+    } else {
+        Err(refused_keyword(words, next))
+    }
+}
+
+/// The value of a part whose keyword was read: the parts with it, and the index after it.
+fn value<'a>(
+    alloc: Global,
+    words: &[Word<'a>],
+    at: usize,
+    part: Part,
+    mut parts: Parts<'a>,
+) -> Result<(Parts<'a>, usize), Refusal>
+    ensures { IfOk result (λ r. at < r.1) }
+{
+    if !is_open(words, at) {
+        return Err(refused_value(words, at, part, &parts));
+    }
+    match part {
+        Part::Parameters => {
+            let (parameters, next) = variables(alloc, words, at + 1)?;
+            parts.parameters = Some(parameters);
+            Ok((parts, next))
+        }
+        Part::Precondition => {
+            let (precondition, next) = formula(alloc, words, at + 1)?;
+            parts.precondition = Some(precondition);
+            Ok((parts, next))
+        }
+        Part::Effect => {
+            let (effect, next) = effect(alloc, words, at + 1)?;
+            parts.effect = Some(effect);
+            Ok((parts, next))
+        }
+    }
+}
+
+/// The refusal of a word in the list of an action: `)` where the parameters are missing, or any other.
+fn refused_in_action(words: &[Word], at: usize, has_parameters: bool) -> Refusal {
+    if !has_parameters && is_close(words, at) {
+        return Refusal::At {
+            code: Code::MissingSection,
+            at,
+        };
+    }
+    refused(words, at)
+}
+
+/// The refusal of a word where the value of a part is wanted: the keyword of a part that was read, or any other.
+fn refused_value(words: &[Word], at: usize, part: Part, parts: &Parts) -> Refusal {
+    if let Some(again) = part_at(words, at) {
+        if again == part || parts.has(again) {
+            return Refusal::At {
+                code: Code::RepeatedSection,
+                at,
+            };
+        }
+    }
+    refused_in_action(
+        words,
+        at,
+        part == Part::Parameters || parts.has(Part::Parameters),
+    )
+}

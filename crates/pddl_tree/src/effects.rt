@@ -1,0 +1,76 @@
+//! Effects, from the word after their parenthesis on.
+ghost use Rattle.std.specs.Prelude.{◌<◌, IfOk};
+
+use crate::lists::terms;
+use crate::refusal::{Refusal, refused};
+use crate::symbol::{Head, head_at, is_close, is_open};
+use crate::tree::{Atom, Effect};
+use std::alloc::Global;
+use tokens::Word;
+
+/// An effect whose `(` was read, and the index after its `)`.
+#[cycle(effect)]
+pub(crate) fn effect<'a>(
+    alloc: Global,
+    words: &[Word<'a>],
+    at: usize,
+) -> Result<(Effect<'a>, usize), Refusal>
+    ensures { IfOk result (λ r. at < r.1) }
+{
+    match head_at(words, at) {
+        Head::And => {
+            let (parts, next) = effects(alloc, words, at + 1)?;
+            Ok((Effect::And(parts), next))
+        }
+        Head::Not => {
+            let (atom, next) = deleted(alloc, words, at + 1)?;
+            Ok((Effect::Delete(atom), next))
+        }
+        Head::Predicate(predicate) => {
+            let (terms, next) = terms(alloc, words, at + 1)?;
+            Ok((Effect::Add(Atom { predicate, terms }), next))
+        }
+        Head::Other => Err(refused(words, at)),
+    }
+}
+
+/// Effects, and `)`: the effects, and the index after the parenthesis.
+#[cycle(effect)]
+fn effects<'a>(
+    alloc: Global,
+    words: &[Word<'a>],
+    at: usize,
+) -> Result<(Vec<Effect<'a>>, usize), Refusal>
+    ensures { IfOk result (λ r. at < r.1) }
+{
+    let mut parts = Vec::new(alloc);
+    let mut next = at;
+    'parts: while is_open(words, next) {
+        let (part, after) = effect(alloc, words, next + 1)?;
+        parts.push(part)?;
+        next = after;
+    }
+    if is_close(words, next) {
+        Ok((parts, next + 1))
+    } else {
+        Err(refused(words, next))
+    }
+}
+
+/// The atom of a `(not ..)`, and the `)` of the `not`.
+fn deleted<'a>(alloc: Global, words: &[Word<'a>], at: usize) -> Result<(Atom<'a>, usize), Refusal>
+    ensures { IfOk result (λ r. at < r.1) }
+{
+    if !is_open(words, at) {
+        return Err(refused(words, at));
+    }
+    let Head::Predicate(predicate) = head_at(words, at + 1) else {
+        return Err(refused(words, at + 1));
+    };
+    let (terms, next) = terms(alloc, words, at + 2)?;
+    if is_close(words, next) {
+        Ok((Atom { predicate, terms }, next + 1))
+    } else {
+        Err(refused(words, next))
+    }
+}

@@ -1,0 +1,54 @@
+//! Formulas, from the word after their parenthesis on.
+ghost use Rattle.std.specs.Prelude.{◌<◌, IfOk};
+
+use crate::lists::terms;
+use crate::refusal::{Refusal, refused};
+use crate::symbol::{Head, head_at, is_close, is_open};
+use crate::tree::{Atom, Formula};
+use std::alloc::Global;
+use tokens::Word;
+
+/// A formula whose `(` was read, and the index after its `)`.
+#[cycle(formula)]
+pub(crate) fn formula<'a>(
+    alloc: Global,
+    words: &[Word<'a>],
+    at: usize,
+) -> Result<(Formula<'a>, usize), Refusal>
+    ensures { IfOk result (λ r. at < r.1) }
+{
+    match head_at(words, at) {
+        Head::And => {
+            let (parts, next) = conjuncts(alloc, words, at + 1)?;
+            Ok((Formula::And(parts), next))
+        }
+        Head::Predicate(predicate) => {
+            let (terms, next) = terms(alloc, words, at + 1)?;
+            Ok((Formula::Atom(Atom { predicate, terms }), next))
+        }
+        _ => Err(refused(words, at)),
+    }
+}
+
+/// Formulas, and `)`: the formulas, and the index after the parenthesis.
+#[cycle(formula)]
+fn conjuncts<'a>(
+    alloc: Global,
+    words: &[Word<'a>],
+    at: usize,
+) -> Result<(Vec<Formula<'a>>, usize), Refusal>
+    ensures { IfOk result (λ r. at < r.1) }
+{
+    let mut parts = Vec::new(alloc);
+    let mut next = at;
+    'parts: while is_open(words, next) {
+        let (part, after) = formula(alloc, words, next + 1)?;
+        parts.push(part)?;
+        next = after;
+    }
+    if is_close(words, next) {
+        Ok((parts, next + 1))
+    } else {
+        Err(refused(words, next))
+    }
+}

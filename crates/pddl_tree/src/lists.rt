@@ -1,0 +1,71 @@
+//! Lists of names, of variables and of terms, up to the parenthesis that closes them.
+ghost use Rattle.std.specs.Prelude.{◌<◌, IfOk};
+
+use crate::refusal::{Refusal, refused};
+use crate::symbol::{is_close, name_at, term_at, variable_at};
+use crate::tree::{Name, Term};
+use std::alloc::Global;
+use tokens::Word;
+
+/// Names, and `)`: the names, and the index after the parenthesis.
+pub(crate) fn names<'a>(
+    alloc: Global,
+    words: &[Word<'a>],
+    at: usize,
+) -> Result<(Vec<Name<'a>>, usize), Refusal>
+    ensures { IfOk result (λ r. at < r.1) }
+{
+    let mut names = Vec::new(alloc);
+    let mut next = at;
+    'names: while let Some(name) = name_at(words, next) {
+        names.push(name)?;
+        next += 1;
+    }
+    if is_close(words, next) {
+        Ok((names, next + 1))
+    } else {
+        Err(refused(words, next))
+    }
+}
+
+/// Variables, and `)`: the variables, and the index after the parenthesis.
+pub(crate) fn variables<'a>(
+    alloc: Global,
+    words: &[Word<'a>],
+    at: usize,
+) -> Result<(Vec<Name<'a>>, usize), Refusal>
+    ensures { IfOk result (λ r. at < r.1) }
+{
+    let mut variables = Vec::new(alloc);
+    let mut next = at;
+    'variables: while let Some(variable) = variable_at(words, next) {
+        variables.push(variable)?;
+        next += 1;
+    }
+    if is_close(words, next) {
+        Ok((variables, next + 1))
+    } else {
+        Err(refused(words, next))
+    }
+}
+
+/// Terms, and `)`: the terms, and the index after the parenthesis.
+pub(crate) fn terms<'a>(
+    alloc: Global,
+    words: &[Word<'a>],
+    at: usize,
+) -> Result<(Vec<Term<'a>>, usize), Refusal>
+    ensures { IfOk result (λ r. at < r.1) }
+{
+    let mut terms = Vec::new(alloc);
+    let mut next = at;
+    'terms: while let Some(term) = term_at(words, next) {
+        terms.push(term)?;
+        next += 1;
+    }
+    if is_close(words, next) {
+        Ok((terms, next + 1))
+    } else {
+        Err(refused(words, next))
+    }
+}
