@@ -33,3 +33,12 @@ pub record IsReading (limit : ℕ) (before after : Option (List ℕ)) (bytes : L
   pub consumed : Consumes before after bytes
   pub within : length bytes ≤ limit
   pub whole : length bytes < limit → IsAtEnd after
+
+-- One read into some room gave this many bytes, which stand at the end of what was read before.
+pub record ReadsSome (room count : ℕ) (before after : Option (List ℕ)) (old new : List ℕ) : Type 0 where
+  pub bytes : List ℕ
+  pub appended : new ≡ old ++ bytes
+  pub consumed : Consumes before after bytes
+  pub counted : length bytes ≡ count
+  pub within : count ≤ room
+  pub ended : count ≡ 0 → 0 < room → IsAtEnd after

@@ -1,6 +1,6 @@
 //! The program.
-ghost use Rattle.std.specs.Prelude.{◌≡◌, IfOk, vec_len};
-ghost use Rattle.planner_main.specs.Devices.{CountsDevice, IsReading};
+ghost use Rattle.std.specs.Prelude.{◌≡◌, IfOk, length, vec_len};
+ghost use Rattle.planner_main.specs.Devices.{CountsDevice, IsReading, ReadsSome};
 
 use std::alloc::{AllocError, Global};
 
@@ -81,13 +81,22 @@ fn read_text<S: Source>(alloc: Global, source: &mut S) -> Result<Vec<u8>, WriteF
     let mut piece = buffer(alloc, PIECE)?;
     'reads: while text.len() < MAX_READ {
         let room = PIECE.min(MAX_READ - text.len());
-        let count = source.read(&mut piece[..room])?;
+        let count = read_some(source, &mut piece[..room], &mut text)?;
         if count == 0 {
             break;
         }
-        text.extend_from_slice(&piece[..count])?;
     }
     Ok(text)
+}
+
+/// Reads once, to the end of the text, and tells how many bytes came.
+fn read_some<S: Source>(source: &mut S, room: &mut [u8], text: &mut Vec<u8>) -> Result<usize, WriteFault>
+    ensures ok { IfOk result (λ count. ReadsSome (length room.old) count (S.remaining source.old) (S.remaining source.new) text.old.items text.new.items) }
+    ensures failures { CountsDevice (S.failures source.old) (S.failures source.new) result }
+{
+    let count = source.read(room)?;
+    text.extend_from_slice(&room[..count])?;
+    Ok(count)
 }
 
 /// Room for bytes that are read.
