@@ -1,2 +1,4 @@
 pub mod Fault
+pub mod Form
 pub mod Word
+pub mod Scanner

@@ -2,6 +2,8 @@
 #![tactic(auto)]
 
 mod fault;
+mod form;
+mod run;
 mod scanner;
 mod word;
 

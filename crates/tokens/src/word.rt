@@ -1,7 +1,5 @@
 //! A word of a text.
 ghost use Rattle.std.specs.Prelude.{◌≡◌, ◌+◌, ◌<◌, ◌^◌, length};
-ghost use Rattle.tokens.specs.Word.{word_of, kind_of};
-ghost use Rattle.model.specs.Words.{end_of};
 
 use crate::fault::Span;
 
@@ -32,10 +30,13 @@ pub struct Word<'a> {
     pub(crate) kind: Kind,
     pub(crate) text: &'a [u8],
     pub(crate) start: usize,
-    pub(crate) end: usize,
+    ghost in_range: { start + length text.now < 2 ^ 64 },
 }
 
 impl<'a> Word<'a> {
+    ghost use Rattle.tokens.specs.Word.{word_of, kind_of};
+    ghost use Rattle.model.specs.Words.{end_of};
+
     /// What the word is, by its form.
     pub fn kind(&self) -> Kind
         ensures { kind_of result ≡ (word_of self.now).kind }
@@ -53,10 +54,11 @@ impl<'a> Word<'a> {
     /// Where the word stands in its text.
     pub fn span(&self) -> Span
         ensures start { result.start ≡ (word_of self.now).start }
+        ensures end { result.end ≡ end_of (word_of self.now) }
     {
         Span {
             start: self.start,
-            end: self.end,
+            end: self.start + self.text.len(),
         }
     }
 }

@@ -1,0 +1,37 @@
+-- What the scanner tells of one part, from what stands before it: how many lists are open, and whether the first has
+-- closed.
+use Rattle.std.specs.Prelude.{◌≡◌, ℕ, ◌+◌, ◌-◌, ◌<◌, Bool, true, false, ◌||◌, ◌==◌, nat_lt, if◌then◌else◌, List, length, Option, None, Some}
+use Rattle.model.specs.Fault as told
+use Rattle.model.specs.Words.{Form, blank, comment, opening, closing, run, stray, Kind, Word, kind_of_run, kind_by, longest_run, deepest}
+
+-- 6 where the first list has closed
+abbrev pub fault_of_word : Bool → Option ℕ
+fault_of_word has_closed = if has_closed then Some 6 else None
+
+abbrev pub fault_of_run : Bool → Option Kind → ℕ → Option ℕ
+fault_of_run has_closed None size = Some 2
+fault_of_run has_closed (Some kind) size = if nat_lt longest_run size then Some 5 else fault_of_word has_closed
+
+-- the number of a part's fault, the lowest if it has several
+abbrev pub fault_by : ℕ → Bool → Form → List ℕ → Option ℕ
+fault_by open_lists has_closed blank text = None
+fault_by open_lists has_closed comment text = None
+fault_by open_lists has_closed stray text = Some 1
+fault_by open_lists has_closed opening text = if open_lists == deepest then Some 4 else fault_of_word has_closed
+fault_by open_lists has_closed closing text = if open_lists == 0 then Some 3 else fault_of_word has_closed
+fault_by open_lists has_closed run text = fault_of_run has_closed (kind_of_run text) (length text)
+
+-- whether the first list has closed after a part of this form
+abbrev pub closed_with : ℕ → Bool → Form → Bool
+closed_with open_lists has_closed closing = has_closed || open_lists == 1
+closed_with open_lists has_closed _ = has_closed
+
+-- the word that begins at `start`, if there is one
+abbrev pub word_at : ℕ → List ℕ → Option Kind → Option Word
+word_at start text None = None
+word_at start text (Some kind) = Some (record { kind = kind; text = text; start = start })
+
+-- the fault of a part of so many bytes that begins at `start`, if it has one
+abbrev pub fault_at : ℕ → ℕ → Option ℕ → Option told.Fault
+fault_at start size None = None
+fault_at start size (Some code) = Some (record { code = code; span = record { start = start; end = start + size } })

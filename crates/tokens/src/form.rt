@@ -1,0 +1,63 @@
+//! What a text is cut into: parts, each a byte and the bytes that go on with it.
+ghost use Rattle.std.specs.Prelude.{◌≡◌, ◌+◌, ◌<◌, ◌≤◌, length, drop};
+ghost use Rattle.std.specs.List.{prefix_len};
+ghost use Rattle.tokens.specs.Form.{view};
+ghost use Rattle.model.specs.Words.{form_of, goes_on};
+
+/// What a part of a text is, by its first byte.
+#[derive(Clone, Copy, Debug, PartialEq, Eq)]
+pub(crate) enum Form {
+    /// A space, a tab, a line feed or a carriage return.
+    Blank,
+    /// `;` and what follows it on its line.
+    Comment,
+    /// `(`
+    Opening,
+    /// `)`
+    Closing,
+    /// A longest stretch of printable bytes other than `(`, `)` and `;`.
+    Run,
+    /// A byte that stands for nothing outside comments.
+    Stray,
+}
+
+impl Form {
+    /// What begins with this byte.
+    pub(crate) fn of(byte: u8) -> Form
+        ensures { view result ≡ form_of byte }
+    {
+        match byte {
+            b' ' | b'\t' | b'\n' | b'\r' => Form::Blank,
+            b';' => Form::Comment,
+            b'(' => Form::Opening,
+            b')' => Form::Closing,
+            b'!'..=b'~' => Form::Run,
+            _ => Form::Stray,
+        }
+    }
+
+    /// Whether this byte goes on with a part of this form.
+    fn goes_on(self, byte: u8) -> bool
+        ensures { result ≡ goes_on (view self) byte }
+    {
+        match self {
+            Form::Comment => byte != b'\n',
+            Form::Run => Form::of(byte) == Form::Run,
+            _ => false,
+        }
+    }
+}
+
+/// Where the part of this form that begins at `start` ends: the offset after its last byte.
+pub(crate) fn part_end(text: &[u8], start: usize, form: Form) -> usize
+    requires { start < length text.now }
+    ensures after_start { start < result }
+    ensures within { result ≤ length text.now }
+    ensures longest { result ≡ start + 1 + prefix_len (goes_on (view form)) (drop (start + 1) text.now) }
+{
+    let mut end = start + 1;
+    while end < text.len() && form.goes_on(text[end]) {
+        end += 1;
+    }
+    end
+}
