@@ -1,0 +1,14 @@
+use Rattle.std.proofs.Common.{◌≡◌, ◌++◌, ◌∙◌, take, sym, ap, subst, arith}
+use Rattle.std.specs.Io.KnownBytes.{Consumes}
+use Rattle.std.proofs.KnownBytes.{Consumes-trans}
+use Rattle.planner_main.proofs.program.read_text.Goals as goal
+
+pub reads-preserved : goal.reads-preserved
+reads-preserved g c =
+    let some = c.in_ok-count.ensures in
+    record {
+      consumed = subst (Consumes _ _) (sym some.ok.appended) (Consumes-trans _ _ _ _ _ c.reads.invariant.consumed some.ok.consumed);
+      failures = some.failures ∙ c.reads.invariant.failures;
+      within = ?;
+      room = c.reads.invariant.room;
+    }

@@ -1,0 +1,40 @@
+//! Files by name: those of the machine, and a table of them in memory.
+ghost use Rattle.std.specs.Prelude.{◌≡◌, ℕ, List, Option, None, IfOk};
+ghost use Rattle.planner_main.specs.Devices.{CountsDevice, IsKept};
+
+mod system;
+mod table;
+
+pub use system::SystemFiles;
+pub use table::Table;
+
+use crate::certificate::{Sink, Source, WriteFault};
+
+/// Files by name. A name that cannot be opened, created or closed is a failure.
+pub trait Files {
+    /// A file that is open for reading.
+    type Input: Source + Drop;
+
+    /// A file that is open for writing.
+    type Output: Sink + Drop;
+
+    /// How often a call has failed. At 18446744073709551615 the count stays.
+    ghost failures: { Self → ℕ };
+
+    /// The bytes of the file of a name, where they are known.
+    ghost contents: { Self → List ℕ → Option (List ℕ) } = { λ _ _. None };
+
+    /// Opens the file of this name for reading, from its first byte on.
+    fn open(&mut self, name: &str) -> Result<Self::Input, WriteFault>
+        ensures failures { CountsDevice (failures self.old) (failures self.new) result }
+        ensures bytes { IfOk result (λ input. IsKept (contents self.old name.now) (Self.Input.remaining input)) }
+        ensures kept { (other : List ℕ) → contents self.new other ≡ contents self.old other };
+
+    /// Makes an empty file of this name, in place of one that is there, and opens it for writing.
+    fn create(&mut self, name: &str) -> Result<Self::Output, WriteFault>
+        ensures failures { CountsDevice (failures self.old) (failures self.new) result };
+
+    /// Ends the writing of a file: only then is it sure to hold what was written.
+    fn close(&mut self, output: Self::Output) -> Result<(), WriteFault>
+        ensures failures { CountsDevice (failures self.old) (failures self.new) result };
+}

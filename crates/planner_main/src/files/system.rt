@@ -1,0 +1,64 @@
+//! The machine's files.
+ghost use Rattle.std.specs.Prelude.{◌≡◌};
+ghost use Rattle.planner_main.specs.Devices.{CountsDevice};
+
+use std::fs;
+use std::io;
+use std::io::Write;
+use std::rt;
+
+use super::Files;
+use crate::certificate::{Device, WriteFault};
+
+/// The files that a runtime reaches, with a count of the failures.
+#[derive(Drop)]
+pub struct SystemFiles<'a, R> {
+    runtime: &'a R,
+    failures: u64,
+}
+
+impl<'a, R> SystemFiles<'a, R> {
+    /// The runtime's files; no call has failed yet.
+    pub fn new(runtime: &'a R) -> SystemFiles<'a, R> {
+        SystemFiles {
+            runtime,
+            failures: 0,
+        }
+    }
+
+    /// What a call of the system gave, its failure counted.
+    fn counted<T: Drop>(&mut self, outcome: io::Result<T>) -> Result<T, WriteFault>
+        ensures { CountsDevice self.old.failures self.new.failures result }
+    {
+        match outcome {
+            Ok(value) => Ok(value),
+            Err(_) => {
+                self.failures = self.failures.saturating_add(1);
+                Err(WriteFault::Device)
+            }
+        }
+    }
+}
+
+impl<R: rt::Files> Files for SystemFiles<'_, R> {
+    type Input = Device<R::File>;
+
+    type Output = Device<R::File>;
+
+    ghost failures = { λ files. files.failures };
+
+    fn open(&mut self, name: &str) -> Result<Device<R::File>, WriteFault> {
+        let opened = fs::open(self.runtime, name);
+        Ok(Device::new(self.counted(opened)?))
+    }
+
+    fn create(&mut self, name: &str) -> Result<Device<R::File>, WriteFault> {
+        let created = fs::create(self.runtime, name);
+        Ok(Device::new(self.counted(created)?))
+    }
+
+    fn close(&mut self, output: Device<R::File>) -> Result<(), WriteFault> {
+        let flushed = output.into_inner().flush();
+        self.counted(flushed)
+    }
+}

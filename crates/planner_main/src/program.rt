@@ -1,0 +1,107 @@
+//! The program.
+ghost use Rattle.std.specs.Prelude.{◌≡◌, IfOk, length, vec_len};
+ghost use Rattle.planner_main.specs.Devices.{CountsDevice, IsReading, ReadsSome};
+
+use std::alloc::{AllocError, Global};
+
+use crate::certificate::{Sink, Source, WriteFault, write_all};
+use crate::files::Files;
+use crate::report::{Failure, answer, tell, tell_usage};
+use crate::verdict::validate_files;
+
+/// The most bytes that are read of a file: one more than a text may have.
+const MAX_READ: usize = 16_777_217;
+
+/// How many bytes are asked for at a read.
+const PIECE: usize = 65_536;
+
+/// The whole program: what the words ask for, with its answer on the standard output and its faults on the standard
+/// error, and the status that it ends with.
+///
+/// `validate DOMAIN PROBLEM PLAN` says whether the plan solves the task. Of a file at most 16,777,217 bytes are read
+/// and taken for its whole text, and all files are read before any fault of their texts is told.
+///
+/// | What comes | Standard output | Standard error | Status |
+/// |---|---|---|---|
+/// | the plan solves the task | `valid cost N` | | 0 |
+/// | it does not | `not applicable step N` or `goal missed` | | 12 |
+/// | other words | | how the program is used | 2 |
+/// | a file's text is refused | | `fault CODE Name in FILE at S..E` | 20 |
+/// | a file, or the standard output, fails | | `fault 61 Device` | 21 |
+/// | memory is refused | | `fault 60 NoMemory` | 22 |
+pub fn run<F: Files, O: Sink, E: Sink>(
+    alloc: Global,
+    words: &[&str],
+    files: &mut F,
+    out: &mut O,
+    err: &mut E,
+) -> u8 {
+    let outcome = match words {
+        [command, domain, problem, plan] if *command == "validate" => {
+            run_validate(alloc, domain, problem, plan, files, out)
+        }
+        _ => return tell_usage(err),
+    };
+    match outcome {
+        Ok(status) => status,
+        Err(failure) => tell(alloc, failure, err),
+    }
+}
+
+/// Says whether the plan solves the task: the status.
+fn run_validate<F: Files, O: Sink>(
+    alloc: Global,
+    domain: &str,
+    problem: &str,
+    plan: &str,
+    files: &mut F,
+    out: &mut O,
+) -> Result<u8, Failure> {
+    let domain = read_file(alloc, files, domain)?;
+    let problem = read_file(alloc, files, problem)?;
+    let plan = read_file(alloc, files, plan)?;
+    let verdict = validate_files(alloc, &domain, &problem, &plan)?;
+    let (line, status) = answer(alloc, verdict)?;
+    write_all(out, line.as_bytes())?;
+    Ok(status)
+}
+
+/// The first 16,777,217 bytes of a file, or all that it has.
+fn read_file<F: Files>(alloc: Global, files: &mut F, name: &str) -> Result<Vec<u8>, WriteFault> {
+    let mut input = files.open(name)?;
+    read_text(alloc, &mut input)
+}
+
+/// The first 16,777,217 bytes of a source, or all that it has.
+fn read_text<S: Source>(alloc: Global, source: &mut S) -> Result<Vec<u8>, WriteFault>
+    ensures ok { IfOk result (λ text. IsReading MAX_READ (S.remaining source.old) (S.remaining source.new) text.items) }
+    ensures failures { CountsDevice (S.failures source.old) (S.failures source.new) result }
+{
+    let mut text = Vec::new(alloc);
+    let mut piece = buffer(alloc, PIECE)?;
+    'reads: while text.len() < MAX_READ {
+        let room = PIECE.min(MAX_READ - text.len());
+        let count = read_some(source, &mut piece[..room], &mut text)?;
+        if count == 0 {
+            break;
+        }
+    }
+    Ok(text)
+}
+
+/// Reads once, to the end of the text, and tells how many bytes came.
+fn read_some<S: Source>(source: &mut S, room: &mut [u8], text: &mut Vec<u8>) -> Result<usize, WriteFault>
+    ensures ok { IfOk result (λ count. ReadsSome (length room.old) count (S.remaining source.old) (S.remaining source.new) text.old.items text.new.items) }
+    ensures failures { CountsDevice (S.failures source.old) (S.failures source.new) result }
+{
+    let count = source.read(room)?;
+    text.extend_from_slice(&room[..count])?;
+    Ok(count)
+}
+
+/// Room for bytes that are read.
+fn buffer(alloc: Global, length: usize) -> Result<Vec<u8>, AllocError>
+    ensures { IfOk result (λ room. vec_len room ≡ length) }
+{
+    vec![in alloc; 0u8; length]
+}

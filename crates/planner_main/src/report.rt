@@ -1,0 +1,100 @@
+//! What the program says: the lines of its two streams, and the statuses beside them.
+use std::alloc::{AllocError, AllocFailed, Global};
+use tokens::NoMemory;
+use validator::Verdict;
+
+use crate::certificate::{Sink, WriteFault, write_all};
+use crate::verdict::FileFault;
+
+/// The plan solves the task.
+pub(crate) const YES: u8 = 0;
+
+/// The words are no command.
+pub(crate) const WRONG_WORDS: u8 = 2;
+
+/// The plan does not solve the task.
+pub(crate) const NO: u8 = 12;
+
+/// A file's text is refused.
+pub(crate) const REFUSED: u8 = 20;
+
+/// A file or the standard output could not be opened, read or written.
+pub(crate) const DEVICE: u8 = 21;
+
+/// Memory was refused.
+pub(crate) const NO_MEMORY: u8 = 22;
+
+const USAGE: &str = "usage: optplan validate DOMAIN PROBLEM PLAN\n";
+
+/// Why the program has no answer.
+#[derive(Clone, Copy)]
+pub(crate) enum Failure {
+    /// A file's text is refused, or memory was.
+    Text(FileFault),
+    /// A device failed, or memory was refused.
+    Device(WriteFault),
+}
+
+impl From<FileFault> for Failure {
+    fn from(fault: FileFault) -> Failure {
+        Failure::Text(fault)
+    }
+}
+
+impl From<WriteFault> for Failure {
+    fn from(fault: WriteFault) -> Failure {
+        Failure::Device(fault)
+    }
+}
+
+impl From<AllocError> for Failure {
+    fn from(_error: AllocError) -> Failure {
+        Failure::Device(WriteFault::NoMemory)
+    }
+}
+
+/// The line of a verdict, and its status.
+pub(crate) fn answer(alloc: Global, verdict: Verdict) -> Result<(String, u8), AllocError> {
+    match verdict {
+        Verdict::Valid { cost } => Ok((format!(in alloc; "valid cost {cost}\n")?, YES)),
+        Verdict::NotApplicable { step } => {
+            Ok((format!(in alloc; "not applicable step {step}\n")?, NO))
+        }
+        Verdict::GoalMissed => Ok((String::from_str(alloc, "goal missed\n")?, NO)),
+    }
+}
+
+/// Tells a failure on standard error, and answers its status. That the telling fails changes no status.
+pub(crate) fn tell<E: Sink>(alloc: Global, failure: Failure, err: &mut E) -> u8 {
+    match failure {
+        Failure::Text(FileFault::At { file, code, span }) => {
+            let number = code.number();
+            let (start, end) = (span.start, span.end);
+            match format!(in alloc; "fault {number} {code} in {file} at {start}..{end}\n") {
+                Ok(line) => {
+                    let _ = write_all(err, line.as_bytes());
+                    REFUSED
+                }
+                Err(AllocError) => tell_no_memory(err),
+            }
+        }
+        Failure::Device(WriteFault::Device) => {
+            let _ = write_all(err, b"fault 61 Device\n");
+            DEVICE
+        }
+        Failure::Text(FileFault::NoMemory) | Failure::Device(WriteFault::NoMemory) => {
+            tell_no_memory(err)
+        }
+    }
+}
+
+fn tell_no_memory<E: Sink>(err: &mut E) -> u8 {
+    let _ = write_all(err, b"fault 60 NoMemory\n");
+    NO_MEMORY
+}
+
+/// Tells how the program is used.
+pub(crate) fn tell_usage<E: Sink>(err: &mut E) -> u8 {
+    let _ = write_all(err, USAGE.as_bytes());
+    WRONG_WORDS
+}
