@@ -4,3 +4,4 @@ pub mod FormulasTasks
 pub mod FormulasChanges
 pub mod FormulasInstances
 pub mod VerdictRuns
+pub mod VerdictLaws

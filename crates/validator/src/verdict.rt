@@ -3,7 +3,7 @@ ghost use Rattle.std.specs.Prelude.{IsTrue, IfOk};
 ghost use Rattle.std.specs.List.{list_all};
 ghost use Rattle.validator.specs.Typing.{task_of};
 ghost use Rattle.validator.specs.Formulas.{plan_of};
-ghost use Rattle.validator.specs.Verdict.{verdict_of};
+ghost use Rattle.validator.specs.Verdict.{verdict_of, ExactlyOneVerdict};
 ghost use Rattle.model.specs.Runs.{IsVerdict};
 ghost use Rattle.model.specs.Meaning.{is_instance, system_of};
 
@@ -48,4 +48,10 @@ pub fn validate(alloc: Global, task: &Task, plan: &Plan) -> Result<Verdict, NoMe
     } else {
         Ok(Verdict::GoalMissed)
     }
+}
+
+/// Says that of each plan of each task exactly one verdict is true, so that `validate` has no choice.
+pub fn exactly_one_verdict_is_true()
+    ensures { ExactlyOneVerdict }
+{
 }
