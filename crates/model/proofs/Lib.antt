@@ -6,3 +6,5 @@ pub mod GrammarMachine
 pub mod GrammarRuns
 pub mod GrammarMeaning
 pub mod GrammarStops
+
+pub mod StaticLemmas

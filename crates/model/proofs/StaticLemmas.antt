@@ -1,0 +1,160 @@
+-- An atom of a static predicate is true in a state that an action leads to exactly where it was true before.
+use Rattle.std.proofs.Common.{◌≡◌, ℕ, zero, suc, Bool, true, false, ◌&&◌, ◌||◌, not, List, [], ◌∷◌, ◌++◌, Option, None, Some, refl, sym, ap, ◌∙◌}
+use Rattle.std.specs.Prelude.{◌==◌, slice_get, if◌then◌else◌, filter}
+use Rattle.std.specs.Option.{option_and_then}
+use Rattle.std.specs.List.{list_any}
+use Rattle.std.specs.Ordering.{eq_by_cmp}
+use Rattle.std.specs.Cmp.{Equal-is}
+use Rattle.std.specs.FinSet.{contains, from_list, difference, contains-from_list, contains-union, contains-difference}
+use Rattle.std.proofs.lemmas.Bool.{or_parts, or_from, eq-eqb, false_from_ne_true}
+use Rattle.std.proofs.lemmas.List.Folds.{list_any-append}
+use Rattle.model.specs.Task.{Atom, LiftedAtom, Effect, Effects, add, delete, both, no_effect, more_effects, Schema, Task, Instance}
+use Rattle.model.specs.Meaning.{State, atom_cmp, ground_atom, changes_of, changes_of_all, added_by, deleted_by, after_changes, step, holds, fits, system_of, initial_state}
+use Rattle.model.specs.Runs.{run, IsReachable}
+use Rattle.model.specs.Certificates.{touches, any_touches, is_fluent, static_atoms}
+use Rattle.model.proofs.Atoms.{atoms_total, atoms_apart, same_state, added_by-append, deleted_by-append}
+
+abbrev stands_in : List Atom → Atom → Bool
+stands_in atoms q = list_any (eq_by_cmp atom_cmp q) atoms
+
+-- a ground atom of another predicate is another atom
+other_atom : (q : Atom) (a : LiftedAtom) (b : List ℕ) → (a.predicate == q.predicate) ≡ false → eq_by_cmp atom_cmp q (ground_atom b a) ≡ false
+other_atom q a b apart =
+    false_from_ne_true (eq_by_cmp atom_cmp q (ground_atom b a)) (λ same. other same)
+  where
+  other : eq_by_cmp atom_cmp q (ground_atom b a) ≡ true → ⊥
+  other same =
+      let is : q ≡ ground_atom b a = atoms_apart q (ground_atom b a) ((Equal-is (atom_cmp q (ground_atom b a))).0 same) in
+      let named : (a.predicate == q.predicate) ≡ true = eq-eqb a.predicate q.predicate (ap (λ (x : Atom). x.predicate) (sym is)) in
+      absurd (cc)
+
+abbrev mutual
+  untouched_added : (q : Atom) (e : Effect) (b : List ℕ) → touches q.predicate e ≡ false → stands_in (added_by (changes_of e b)) q ≡ false
+  untouched_added q (add a) b apart = or_from (eq_by_cmp atom_cmp q (ground_atom b a)) false (other_atom q a b apart) refl
+  untouched_added q (delete a) b apart = refl
+  untouched_added q (both parts) b apart = all_untouched_added q parts b apart
+
+  all_untouched_added : (q : Atom) (es : Effects) (b : List ℕ) → any_touches q.predicate es ≡ false → stands_in (added_by (changes_of_all es b)) q ≡ false
+  all_untouched_added q no_effect b apart = refl
+  all_untouched_added q (more_effects first rest) b apart =
+      let parts = or_parts (touches q.predicate first) (any_touches q.predicate rest) apart in
+      ap (λ atoms. stands_in atoms q) (added_by-append (changes_of first b) (changes_of_all rest b))
+      ∙ list_any-append (eq_by_cmp atom_cmp q) (added_by (changes_of first b)) (added_by (changes_of_all rest b))
+      ∙ or_from (stands_in (added_by (changes_of first b)) q) (stands_in (added_by (changes_of_all rest b)) q) (untouched_added q first b parts.0) (all_untouched_added q rest b parts.1)
+
+abbrev mutual
+  untouched_deleted : (q : Atom) (e : Effect) (b : List ℕ) → touches q.predicate e ≡ false → stands_in (deleted_by (changes_of e b)) q ≡ false
+  untouched_deleted q (add a) b apart = refl
+  untouched_deleted q (delete a) b apart = or_from (eq_by_cmp atom_cmp q (ground_atom b a)) false (other_atom q a b apart) refl
+  untouched_deleted q (both parts) b apart = all_untouched_deleted q parts b apart
+
+  all_untouched_deleted : (q : Atom) (es : Effects) (b : List ℕ) → any_touches q.predicate es ≡ false → stands_in (deleted_by (changes_of_all es b)) q ≡ false
+  all_untouched_deleted q no_effect b apart = refl
+  all_untouched_deleted q (more_effects first rest) b apart =
+      let parts = or_parts (touches q.predicate first) (any_touches q.predicate rest) apart in
+      ap (λ atoms. stands_in atoms q) (deleted_by-append (changes_of first b) (changes_of_all rest b))
+      ∙ list_any-append (eq_by_cmp atom_cmp q) (deleted_by (changes_of first b)) (deleted_by (changes_of_all rest b))
+      ∙ or_from (stands_in (deleted_by (changes_of first b)) q) (stands_in (deleted_by (changes_of_all rest b)) q) (untouched_deleted q first b parts.0) (all_untouched_deleted q rest b parts.1)
+
+and_or_nothing : (x : Bool) → ((x && not false) || false) ≡ x
+and_or_nothing true = refl
+and_or_nothing false = refl
+
+kept : (x y z : Bool) → y ≡ false → z ≡ false → ((x && not y) || z) ≡ x
+kept x y z ey ez = ap (λ v. (x && not v) || z) ey ∙ ap (λ v. (x && not false) || v) ez ∙ and_or_nothing x
+
+-- the changes of an effect that does not touch the atom's predicate leave the atom as it is
+contains-after : (s : State) (q : Atom) (e : Effect) (b : List ℕ) → touches q.predicate e ≡ false → contains (after_changes s (changes_of e b)) q ≡ contains s q
+contains-after s q e b apart =
+    let gone : State = from_list (deleted_by (changes_of e b)) in
+    let new : State = from_list (added_by (changes_of e b)) in
+    contains-union atoms_total (difference s gone) new q
+    ∙ ap (λ v. v || contains new q) (contains-difference atoms_total s gone q)
+    ∙ kept (contains s q) (contains gone q) (contains new q)
+        (contains-from_list atoms_total (deleted_by (changes_of e b)) q ∙ untouched_deleted q e b apart)
+        (contains-from_list atoms_total (added_by (changes_of e b)) q ∙ untouched_added q e b apart)
+
+none_of_all : {X : Type 0} (p : X → Bool) (xs : List X) (k : ℕ) (x : X) → list_any p xs ≡ false → slice_get xs k ≡ Some x → p x ≡ false
+none_of_all p [] k x none at = absurd (cc)
+none_of_all p (first ∷ xs) zero x none at =
+    let same : first ≡ x = cc in ap p (sym same) ∙ (or_parts (p first) (list_any p xs) none).0
+none_of_all p (first ∷ xs) (suc k) x none at = none_of_all p xs k x (or_parts (p first) (list_any p xs) none).1 at
+
+given : {X : Type 0} (a b : Bool) (x y : X) → (if a && b then Some x else None) ≡ Some y → x ≡ y
+given true true x y is = cc
+given true false x y is = absurd (cc)
+given false b x y is = absurd (cc)
+
+pub contains-step : (task : Task) (s next : State) (i : Instance) (q : Atom) → is_fluent task q.predicate ≡ false → step task s i ≡ Some next → contains next q ≡ contains s q
+contains-step task s next i q static leads =
+    elim (slice_get task.schemas i.schema) as (λ o. slice_get task.schemas i.schema ≡ o → option_and_then (next_by) o ≡ Some next → contains next q ≡ contains s q) [
+      | None ↦ λ _ none. absurd (cc)
+      | Some schema ↦ λ at some.
+          let is : after_changes s (changes_of schema.effect i.objects) ≡ next = given (fits task schema i.objects) (holds schema.precondition i.objects s) _ next some in
+          ap (λ (t : State). contains t q) (sym is)
+          ∙ contains-after s q schema.effect i.objects (none_of_all (λ (x : Schema). touches q.predicate x.effect) task.schemas i.schema schema static at)
+    ] refl leads
+  where
+  next_by : Schema → Option State
+  next_by schema = if fits task schema i.objects && holds schema.precondition i.objects s then Some (after_changes s (changes_of schema.effect i.objects)) else None
+
+contains-run : (task : Task) (q : Atom) → is_fluent task q.predicate ≡ false → (actions : List Instance) (s end : State) → run (system_of task) s actions ≡ Some end → contains end q ≡ contains s q
+contains-run task q static [] s end runs = let same : s ≡ end = cc in ap (λ (t : State). contains t q) (sym same)
+contains-run task q static (a ∷ actions) s end runs =
+    elim (step task s a) as (λ o. step task s a ≡ o → option_and_then (λ next. run (system_of task) next actions) o ≡ Some end → contains end q ≡ contains s q) [
+      | None ↦ λ _ none. absurd (cc)
+      | Some next ↦ λ leads on. contains-run task q static actions next end on ∙ contains-step task s next a q static leads
+    ] refl runs
+
+-- so the static atoms of a reachable state are the initial ones
+pub contains-reachable : (task : Task) (s : State) (q : Atom) → is_fluent task q.predicate ≡ false → IsReachable (system_of task) s → contains s q ≡ contains (initial_state task) q
+contains-reachable task s q static reached = contains-run task q static reached.0 (initial_state task) s reached.1
+
+and_false : (x : Bool) → (x && false) ≡ false
+and_false true = refl
+and_false false = refl
+
+or_false : (x : Bool) → (x || false) ≡ x
+or_false true = refl
+or_false false = refl
+
+-- ---- a reachable state is its fluent atoms with the initial static ones
+
+eq_same : (q a : Atom) → eq_by_cmp atom_cmp q a ≡ true → q ≡ a
+eq_same q a same = atoms_apart q a ((Equal-is (atom_cmp q a)).0 same)
+
+stands_in-filter : (p : Atom → Bool) (atoms : List Atom) (q : Atom) → stands_in (filter p atoms) q ≡ (p q && stands_in atoms q)
+stands_in-filter p [] q = sym (and_false (p q))
+stands_in-filter p (a ∷ atoms) q =
+    elim (p a) as (λ t. p a ≡ t → stands_in (if t then a ∷ filter p atoms else filter p atoms) q ≡ (p q && (eq_by_cmp atom_cmp q a || stands_in atoms q))) [
+      | true ↦ λ passes. ap (λ v. eq_by_cmp atom_cmp q a || v) (stands_in-filter p atoms q) ∙ first_passes (eq_by_cmp atom_cmp q a) (p q) (stands_in atoms q) (λ same. ap p (eq_same q a same) ∙ passes)
+      | false ↦ λ fails. stands_in-filter p atoms q ∙ first_fails (eq_by_cmp atom_cmp q a) (p q) (stands_in atoms q) (λ same. ap p (eq_same q a same) ∙ fails)
+    ] refl
+  where
+  first_passes : (e t r : Bool) → (e ≡ true → t ≡ true) → (e || (t && r)) ≡ (t && (e || r))
+  first_passes true t r known = sym (ap (λ v. v && true) (known refl))
+  first_passes false t r known = refl
+  first_fails : (e t r : Bool) → (e ≡ true → t ≡ false) → (t && r) ≡ (t && (e || r))
+  first_fails true t r known = ap (λ v. v && r) (known refl) ∙ sym (ap (λ v. v && true) (known refl))
+  first_fails false t r known = refl
+
+-- these are the atoms of fluent predicates that are true in the state
+pub record AreFluentAtoms (task : Task) (s : State) (atoms : List Atom) : Type 0 where
+  pub same : (q : Atom) → is_fluent task q.predicate ≡ true → contains s q ≡ list_any (eq_by_cmp atom_cmp q) atoms
+  pub none_static : (q : Atom) → is_fluent task q.predicate ≡ false → list_any (eq_by_cmp atom_cmp q) atoms ≡ false
+
+pub state_of_fluent : (task : Task) (s : State) (atoms : List Atom) → IsReachable (system_of task) s → AreFluentAtoms task s atoms
+  → from_list (atoms ++ static_atoms task) ≡ s
+state_of_fluent task s atoms reached fluent = same_state (from_list (atoms ++ static_atoms task)) s each
+  where
+  static_there : (q : Atom) → stands_in (static_atoms task) q ≡ (not (is_fluent task q.predicate) && stands_in task.init q)
+  static_there q = stands_in-filter (λ (a : Atom). not (is_fluent task a.predicate)) task.init q
+  each : (q : Atom) → contains (from_list {R = atom_cmp} (atoms ++ static_atoms task)) q ≡ contains s q
+  each q =
+      contains-from_list atoms_total (atoms ++ static_atoms task) q
+      ∙ list_any-append (eq_by_cmp atom_cmp q) atoms (static_atoms task)
+      ∙ ap (λ v. stands_in atoms q || v) (static_there q)
+      ∙ elim (is_fluent task q.predicate) as (λ f. is_fluent task q.predicate ≡ f → (stands_in atoms q || (not f && stands_in task.init q)) ≡ contains s q) [
+          | true ↦ λ is. or_false (stands_in atoms q) ∙ sym (fluent.same q is)
+          | false ↦ λ is. ap (λ v. v || stands_in task.init q) (fluent.none_static q is) ∙ sym (contains-from_list atoms_total task.init q) ∙ sym (contains-reachable task s q is reached)
+        ] refl
