@@ -2,7 +2,7 @@
 -- lexical rules of the PDDL 1.2 manual (1998, sections 2 and 3) that this repository reads: names, variables and
 -- keywords are ASCII and at most 255 bytes long, numbers are digits, and a comment runs from `;` to the end of its line.
 use Rattle.std.specs.Prelude.{◌≡◌, ℕ, zero, suc, ◌+◌, ◌-◌, ◌<◌, ◌≤◌, ◌⊎◌, Bool, true, false, ◌&&◌, ◌||◌, not, ◌==◌, nat_le, if◌then◌else◌, List, [], ◌∷◌, ◌++◌, length, map, fold, sum_by, Option, None, Some, ⊤}
-use Rattle.std.specs.List.{list_all, AllPass}
+use Rattle.std.specs.List.{list_all}
 use Rattle.std.specs.Char.{is_ascii_alphabetic, is_ascii_digit}
 use Rattle.model.specs.Fault.{Fault}
 
@@ -91,7 +91,7 @@ EndsBefore f (byte ∷ _) = goes_on f byte ≡ false
 abbrev pub AreParts : List ℕ → List Part → Type 0
 AreParts text [] = text ≡ []
 AreParts text (part ∷ parts) =
-    (rest : List ℕ) × (text ≡ bytes part ++ rest) × AllPass (goes_on (form part)) part.others
+    (rest : List ℕ) × (text ≡ bytes part ++ rest) × (list_all (goes_on (form part)) part.others ≡ true)
     × EndsBefore (form part) rest × AreParts rest parts
 
 -- Words
@@ -152,7 +152,7 @@ pub record IsWordAt (start : ℕ) (part : Part) (word : Word) : Type 0 where
   pub kind : kind_of_part part ≡ Some word.kind
   pub text : word.text ≡ bytes part
   pub start_at : word.start ≡ start
-  pub short : size part ≤ longest_run
+  pub short : form part ≡ run → size part ≤ longest_run
 
 -- from the offset `start` on, the parts are gaps and these words, in their order
 abbrev pub AreGapsAndWords : ℕ → List Part → List Word → Type 0
@@ -183,6 +183,10 @@ pub record ReadsAs (text : List ℕ) (words : List Word) : Type 0 where
   pub cut : AreParts text parts
   pub in_turn : AreGapsAndWords 0 parts words
   pub nested : AreNested 0 (kinds_of words)
+
+-- the text reads as some words
+abbrev pub Reads : List ℕ → Type 0
+Reads text = (words : List Word) × ReadsAs text words
 
 -- Faults: what keeps a text from reading as words, with the number that is told of it
 
@@ -245,5 +249,5 @@ ComesNoLater a b =
 pub data IsTold (text : List ℕ) (fault : Fault) : Type 0 where
   text_too_long : longest_text < length text → fault.code ≡ 5 → fault.span.start ≡ longest_text
     → fault.span.end ≡ length text → IsTold text fault
-  first : length text ≤ longest_text → IsFault text fault
+  comes_first : length text ≤ longest_text → IsFault text fault
     → ((other : Fault) → IsFault text other → ComesNoLater fault other) → IsTold text fault

@@ -1,1 +1,6 @@
 pub mod Nesting
+pub mod Cut
+pub mod Reading
+pub mod Faults
+pub mod Words
+pub mod Steps

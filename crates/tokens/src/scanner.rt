@@ -1,7 +1,9 @@
 //! From a text to its words.
-ghost use Rattle.std.specs.Prelude.{◌≡◌, ◌+◌, ◌<◌, ◌≤◌, ◌^◌, false, length, IfOk, IfErr, Some, None};
+ghost use Rattle.std.specs.Prelude.{◌≡◌, ◌+◌, ◌<◌, ◌≤◌, ◌^◌, false, length, map, IfOk, IfErr, IfSome, Some, None};
 ghost use Rattle.std.specs.Option.{option_map};
 ghost use Rattle.tokens.specs.Fault.{number_of, told_by};
+ghost use Rattle.tokens.specs.Word.{word_of};
+ghost use Rattle.model.specs.Words.{ReadsAs, Reads, IsTold};
 
 use std::alloc::Global;
 
@@ -37,7 +39,13 @@ const DEEPEST: usize = 64;
 /// - `Trailing`: a word after the parenthesis that closed the first list.
 ///
 /// `NoMemory` is answered only where memory that was asked for was refused.
-pub fn scan(alloc: Global, text: &[u8]) -> Result<Vec<Word<'_>>, Fault> {
+pub fn scan(alloc: Global, text: &[u8]) -> Result<Vec<Word<'_>>, Fault>
+    ensures words { IfOk result (λ words. ReadsAs text.now (map word_of words.items)) }
+    ensures refused { IfErr result (λ fault. IfSome (told_by fault) (IsTold text.now)) }
+
+    // A text that reads as words is never refused: the only error is want of memory.
+    ensures taken { Reads text.now → IfErr result (λ fault. told_by fault ≡ None) }
+{
     if text.len() > LONGEST_TEXT {
         return Err(refusal(Code::TooLong, LONGEST_TEXT, text.len()));
     }

@@ -24,7 +24,7 @@ fn words_of_a_small_file(rt: HostRuntime) -> Result<(), Fail> {
     assert_eq!(
         rt;
         out.as_str(),
-        "Open 0..1 Name 1..7 Variable 8..10 Keyword 11..15 Equals 24..25 Dash 26..27 Number 28..31 Close 31..32 "
+        "Open 0..1 Name 1..7 Variable 8..10 Keyword 11..15 Equals 23..24 Dash 25..26 Number 27..30 Close 30..31 "
     );
     Ok(())
 }
