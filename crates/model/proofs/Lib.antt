@@ -1,1 +1,3 @@
 pub mod Atoms
+pub mod Steps
+pub mod ExampleProofs
