@@ -8,3 +8,5 @@ pub mod GrammarMeaning
 pub mod GrammarStops
 
 pub mod StaticLemmas
+pub mod Steps
+pub mod ExampleProofs

@@ -12,3 +12,4 @@ pub mod Meaning
 pub mod Instances
 pub mod Claims
 pub mod Certificates
+pub mod Examples

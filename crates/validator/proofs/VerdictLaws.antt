@@ -23,13 +23,16 @@ module _ {S A : Type 0} (t : System S A) where
         | None ↦ λ e. inr (0, record { before = s; next = a; runs = refl; stands_there = refl; blocked = e })
         | Some n ↦ λ e. elim (runs_or_halts n rest) [
           | inl w ↦ inl (w.0, ap (option_and_then (λ m. run t m rest)) e ∙ w.1)
-          | inr w ↦ inr (suc w.0, record {
-            before = w.1.before;
-            next = w.1.next;
-            runs = ap (option_and_then (λ m. run t m (take w.0 rest))) e ∙ w.1.runs;
-            stands_there = w.1.stands_there;
-            blocked = w.1.blocked;
-          })
+          | inr w ↦ inr (
+            suc w.0,
+            record {
+              before = w.1.before;
+              next = w.1.next;
+              runs = ap (option_and_then (λ m. run t m (take w.0 rest))) e ∙ w.1.runs;
+              stands_there = w.1.stands_there;
+              blocked = w.1.blocked;
+            },
+          )
         ]
       ] refl
 
@@ -73,7 +76,6 @@ module _ {S A : Type 0} (t : System S A) where
 
   halts_of : (plan : List A) (n : ℕ) → StopsAt t plan n → Halts t.initial plan (n - 1)
   halts_of plan n h = record { before = h.before; next = h.next; runs = h.runs; stands_there = h.stands_there; blocked = h.is_not_applicable }
-
 
   -- a list that runs, to this state: the goal alone decides
   of_run : (plan : List A) (last : S) → run t t.initial plan ≡ Some last → (v : Verdict) × IsVerdict t plan v × ((w : Verdict) → IsVerdict t plan w → w ≡ v)

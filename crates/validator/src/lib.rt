@@ -5,4 +5,4 @@ pub mod formulas;
 pub mod typing;
 mod verdict;
 
-pub use verdict::{Verdict, exactly_one_verdict_is_true, validate};
+pub use verdict::{Verdict, exactly_one_verdict_is_true, validate, worked_examples_are_true};

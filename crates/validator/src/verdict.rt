@@ -6,6 +6,7 @@ ghost use Rattle.validator.specs.Formulas.{plan_of};
 ghost use Rattle.validator.specs.Verdict.{verdict_of, ExactlyOneVerdict};
 ghost use Rattle.model.specs.Runs.{IsVerdict};
 ghost use Rattle.model.specs.Meaning.{is_instance, system_of};
+ghost use Rattle.model.specs.Examples.{WorkedExamples};
 
 use crate::formulas::{Plan, State, apply, meets_goal};
 use crate::typing::Task;
@@ -53,5 +54,10 @@ pub fn validate(alloc: Global, task: &Task, plan: &Plan) -> Result<Verdict, NoMe
 /// Says that of each plan of each task exactly one verdict is true, so that `validate` has no choice.
 pub fn exactly_one_verdict_is_true()
     ensures { ExactlyOneVerdict }
-{
-}
+{}
+
+/// Says that the definitions mean what they are to mean on small tasks, each chosen so that a wrong reading of
+/// states, effects, instances, runs or verdicts says otherwise.
+pub fn worked_examples_are_true()
+    ensures { WorkedExamples }
+{}
