@@ -1,0 +1,4 @@
+pub mod TypingLeast
+pub mod TypingLists
+pub mod TypingTables
+pub mod TypingFound
