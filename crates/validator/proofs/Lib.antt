@@ -2,3 +2,4 @@ pub mod TypingLeast
 pub mod TypingLists
 pub mod TypingTables
 pub mod TypingFound
+pub mod TypingTrees

@@ -46,9 +46,9 @@ module _ {X : Type 0} (before : X → X → Bool)
   irreflexive : (x : X) → before x x ≡ false
   irreflexive x = by (before x x) refl
     where
-    by : (b : Bool) → before x x ≡ b → before x x ≡ false
-    by true e = asym x x e
-    by false e = e
+      by : (b : Bool) → before x x ≡ b → before x x ≡ false
+      by true e = asym x x e
+      by false e = e
 
   pub least_after : (g : X) (xs : List X) (f : X) → fold earlier_by (Some g) xs ≡ Some f → IsLeastAfter g xs f
   least_after g [] f e =
@@ -60,33 +60,33 @@ module _ {X : Type 0} (before : X → X → Bool)
       }
   least_after g (x ∷ xs) f e = by (before x g) refl e (least_after x xs f) (least_after g xs f)
     where
-    by : (b : Bool) → before x g ≡ b → fold earlier_by (if b then Some x else Some g) xs ≡ Some f
-        → (fold earlier_by (Some x) xs ≡ Some f → IsLeastAfter x xs f)
-        → (fold earlier_by (Some g) xs ≡ Some f → IsLeastAfter g xs f) → IsLeastAfter g (x ∷ xs) f
-    by true is h taken kept =
-        let rest = taken h in
-        record {
-          among = elim rest.among [ inl s ↦ inr (subst (Contains (x ∷ xs)) (sym s) (contains_head x xs)) | inr c ↦ inr (contains_tail x f xs c) ];
-          upto_first = trans f x g rest.upto_first (asym x g is);
-          upto_all = all_cons (λ y. before y f ≡ false) x xs rest.upto_first rest.upto_all;
-        }
-    by false is h taken kept =
-        let rest = kept h in
-        record {
-          among = elim rest.among [ inl s ↦ inl s | inr c ↦ inr (contains_tail x f xs c) ];
-          upto_first = rest.upto_first;
-          upto_all = all_cons (λ y. before y f ≡ false) x xs (trans f g x rest.upto_first is) rest.upto_all;
-        }
+      by : (b : Bool) → before x g ≡ b → fold earlier_by (if b then Some x else Some g) xs ≡ Some f
+          → (fold earlier_by (Some x) xs ≡ Some f → IsLeastAfter x xs f)
+          → (fold earlier_by (Some g) xs ≡ Some f → IsLeastAfter g xs f) → IsLeastAfter g (x ∷ xs) f
+      by true is h taken kept =
+          let rest = taken h in
+          record {
+            among = elim rest.among [ inl s ↦ inr (subst (Contains (x ∷ xs)) (sym s) (contains_head x xs)) | inr c ↦ inr (contains_tail x f xs c) ];
+            upto_first = trans f x g rest.upto_first (asym x g is);
+            upto_all = all_cons (λ y. before y f ≡ false) x xs rest.upto_first rest.upto_all;
+          }
+      by false is h taken kept =
+          let rest = kept h in
+          record {
+            among = elim rest.among [ inl s ↦ inl s | inr c ↦ inr (contains_tail x f xs c) ];
+            upto_first = rest.upto_first;
+            upto_all = all_cons (λ y. before y f ≡ false) x xs (trans f g x rest.upto_first is) rest.upto_all;
+          }
 
   -- once something is found, something is
   pub stays_found : (g : X) (xs : List X) → fold earlier_by (Some g) xs ≡ None → ⊥
   stays_found g [] e = cc
   stays_found g (x ∷ xs) e = by (before x g) e (stays_found x xs) (stays_found g xs)
     where
-    by : (b : Bool) → fold earlier_by (if b then Some x else Some g) xs ≡ None
-        → (fold earlier_by (Some x) xs ≡ None → ⊥) → (fold earlier_by (Some g) xs ≡ None → ⊥) → ⊥
-    by true h taken kept = taken h
-    by false h taken kept = kept h
+      by : (b : Bool) → fold earlier_by (if b then Some x else Some g) xs ≡ None
+          → (fold earlier_by (Some x) xs ≡ None → ⊥) → (fold earlier_by (Some g) xs ≡ None → ⊥) → ⊥
+      by true h taken kept = taken h
+      by false h taken kept = kept h
 
 is_before-asym : (f g : TypingFault) → is_before f g ≡ true → is_before g f ≡ false
 is_before-asym f g h =

@@ -16,29 +16,29 @@ pub list_any-position : {X : Type 0} (p : X → Bool) (xs : List X) → list_any
 list_any-position p [] = refl
 list_any-position p (x ∷ xs) = by (p x) (list_any-position p xs)
   where
-  by : (b : Bool) → list_any p xs ≡ nat_lt (position_or_len p xs) (length xs) → (b || list_any p xs) ≡ nat_lt (cond (not b) (1 + position_or_len p xs) 0) (length (x ∷ xs))
-  by true e = grind (arith, nat_tests)
-  by false e = e ∙ (grind (arith, nat_tests))
+    by : (b : Bool) → list_any p xs ≡ nat_lt (position_or_len p xs) (length xs) → (b || list_any p xs) ≡ nat_lt (cond (not b) (1 + position_or_len p xs) 0) (length (x ∷ xs))
+    by true e = grind (arith, nat_tests)
+    by false e = e ∙ (grind (arith, nat_tests))
 
 pub position_or_len-le : {X : Type 0} (p : X → Bool) (xs : List X) → position_or_len p xs ≤ length xs
 position_or_len-le p [] = omega arith
 position_or_len-le p (x ∷ xs) = by (p x) (position_or_len-le p xs)
   where
-  by : (b : Bool) → position_or_len p xs ≤ length xs → cond (not b) (1 + position_or_len p xs) 0 ≤ length (x ∷ xs)
-  by true e = omega arith
-  by false e = omega arith
+    by : (b : Bool) → position_or_len p xs ≤ length xs → cond (not b) (1 + position_or_len p xs) 0 ≤ length (x ∷ xs)
+    by true e = omega arith
+    by false e = omega arith
 
 -- what a search for a place says
 pub position-found : {X : Type 0} (p : X → Bool) (xs : List X) (i : ℕ) → Some i ≡ position p xs → (i ≡ position_or_len p xs) × (list_any p xs ≡ true)
 position-found p xs i e = by (nat_lt (position_or_len p xs) (length xs)) e (list_any-position p xs)
   where
-  by : (b : Bool) → Some i ≡ cond b (Some (position_or_len p xs)) None → list_any p xs ≡ b → (i ≡ position_or_len p xs) × (list_any p xs ≡ true)
-  by true e is = (cc, is)
-  by false e is = absurd (cc)
+    by : (b : Bool) → Some i ≡ cond b (Some (position_or_len p xs)) None → list_any p xs ≡ b → (i ≡ position_or_len p xs) × (list_any p xs ≡ true)
+    by true e is = (cc, is)
+    by false e is = absurd (cc)
 
 pub position-missing : {X : Type 0} (p : X → Bool) (xs : List X) → None ≡ position p xs → (length xs ≡ position_or_len p xs) × (list_any p xs ≡ false)
 position-missing p xs e = by (nat_lt (position_or_len p xs) (length xs)) refl e (list_any-position p xs)
   where
-  by : (b : Bool) → nat_lt (position_or_len p xs) (length xs) ≡ b → None ≡ cond b (Some (position_or_len p xs)) None → list_any p xs ≡ b → (length xs ≡ position_or_len p xs) × (list_any p xs ≡ false)
-  by true t e is = absurd (cc)
-  by false t e is = (let low = position_or_len-le p xs in grind (arith, nat_tests), is)
+    by : (b : Bool) → nat_lt (position_or_len p xs) (length xs) ≡ b → None ≡ cond b (Some (position_or_len p xs)) None → list_any p xs ≡ b → (length xs ≡ position_or_len p xs) × (list_any p xs ≡ false)
+    by true t e is = absurd (cc)
+    by false t e is = (let low = position_or_len-le p xs in grind (arith, nat_tests), is)

@@ -39,12 +39,12 @@ pub names_in-insert_key : (name : tree.Name) (key : Vec ℕ) → key.items ≡ f
     → names_in (insert_key (λ x y. pointwise nat_eq x.items y.items) keys key) ≡ with_name (names_in keys) name
 names_in-insert_key name key is keys = by (list_any (key_is key.items) keys) (list_any-map (is_same key.items) (λ k. k.items) keys)
   where
-  by : (b : Bool) → list_any (is_same key.items) (names_in keys) ≡ b
-      → names_in (if b then keys else keys ++ key ∷ []) ≡ with_name (names_in keys) name
-  by true e = sym (ap (λ c. if c then names_in keys else names_in keys ++ folded name ∷ []) (ap (λ r. list_any (is_same r) (names_in keys)) (sym is) ∙ e))
-  by false e =
-      map-append (λ (k : Vec ℕ). k.items) keys (key ∷ []) ∙ ap (λ r. names_in keys ++ r ∷ []) is
-      ∙ sym (ap (λ c. if c then names_in keys else names_in keys ++ folded name ∷ []) (ap (λ r. list_any (is_same r) (names_in keys)) (sym is) ∙ e))
+    by : (b : Bool) → list_any (is_same key.items) (names_in keys) ≡ b
+        → names_in (if b then keys else keys ++ key ∷ []) ≡ with_name (names_in keys) name
+    by true e = sym (ap (λ c. if c then names_in keys else names_in keys ++ folded name ∷ []) (ap (λ r. list_any (is_same r) (names_in keys)) (sym is) ∙ e))
+    by false e =
+        map-append (λ (k : Vec ℕ). k.items) keys (key ∷ []) ∙ ap (λ r. names_in keys ++ r ∷ []) is
+        ∙ sym (ap (λ c. if c then names_in keys else names_in keys ++ folded name ∷ []) (ap (λ r. list_any (is_same r) (names_in keys)) (sym is) ∙ e))
 
 pub number_in-le : (keys : List (Vec ℕ)) (name : tree.Name) → number_in (names_in keys) name ≤ length keys
 number_in-le keys name = omega (arith, position_or_len-le (is_same (folded name)) (names_in keys), length-map keys (λ (k : Vec ℕ). k.items))
@@ -66,17 +66,21 @@ module _ {P : Type 0} (shown : Vec ℕ × P → task.Predicate) (named : (e : Ve
       → (i ≡ number_in (names_of (map shown entries)) name)
       × (predicate_faults file (map shown entries) name count ≡ (if count == (shown (k, v)).arity then [] else refused file 18 (name ∷ [])))
   found_predicate i k v e at =
-      let place = (position-found (key_is q) (keys_of entries) i e).0 ∙ number_of_key in
-      (place, ap (λ n. faults_against file (slice_get (map shown entries) n) name count) (sym place)
-      ∙ ap (λ o. faults_against file o name count) (slice_get-map shown entries i ∙ ap (option_map shown) at))
+      let place = (position-found (key_is q) (keys_of entries) i e).0 ∙ number_of_key in (
+        place,
+        ap (λ n. faults_against file (slice_get (map shown entries) n) name count) (sym place)
+            ∙ ap (λ o. faults_against file o name count) (slice_get-map shown entries i ∙ ap (option_map shown) at),
+      )
 
   pub missing_predicate : None ≡ position (key_is q) (keys_of entries)
       → (length entries ≡ number_in (names_of (map shown entries)) name)
       × (predicate_faults file (map shown entries) name count ≡ refused file 17 (name ∷ []))
   missing_predicate e =
-      let place = sym (length-map entries (λ (x : Vec ℕ × P). x.0)) ∙ (position-missing (key_is q) (keys_of entries) e).0 ∙ number_of_key in
-      (place, ap (λ n. faults_against file (slice_get (map shown entries) n) name count) (sym place)
-      ∙ ap (λ o. faults_against file o name count) (slice_get_past (map shown entries) (length entries) (omega (arith, length-map entries shown))))
+      let place = sym (length-map entries (λ (x : Vec ℕ × P). x.0)) ∙ (position-missing (key_is q) (keys_of entries) e).0 ∙ number_of_key in (
+        place,
+        ap (λ n. faults_against file (slice_get (map shown entries) n) name count) (sym place)
+            ∙ ap (λ o. faults_against file o name count) (slice_get_past (map shown entries) (length entries) (omega (arith, length-map entries shown))),
+      )
 
 -- whether a count is that of a declaration
 pub other_count : (arity count : ℕ) → (arity ≡ count → ⊥) → (count == arity) ≡ false

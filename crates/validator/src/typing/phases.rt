@@ -107,14 +107,14 @@ pub(crate) fn predicates(
 {
     let mut walk = Walk::new(alloc);
     let mut predicates = IndexMap::new(alloc);
-    for declaration in &domain.predicates {
+    'table: for declaration in &domain.predicates {
         let arity = declaration.parameters.len();
         let before = predicates.insert(lower_case(alloc, &declaration.name)?, Predicate { arity })?;
         if before.is_some() {
             walk.refuse(TaskFile::Domain, Code::Duplicate, &declaration.name);
         }
     }
-    for declaration in &domain.predicates {
+    'limits: for declaration in &domain.predicates {
         limit(
             &mut walk,
             TaskFile::Domain,
@@ -167,11 +167,11 @@ pub(crate) fn schemas(
 {
     let mut walk = Walk::new(alloc);
     let mut names = IndexSet::new(alloc);
-    for action in &domain.actions {
+    'names: for action in &domain.actions {
         declare(alloc, &mut walk, TaskFile::Domain, &mut names, &action.name)?;
     }
     let mut schemas = IndexMap::new(alloc);
-    for action in &domain.actions {
+    'table: for action in &domain.actions {
         let schema = schema(alloc, &mut walk, predicates, action)?;
         schemas.insert(lower_case(alloc, &action.name)?, schema)?;
     }

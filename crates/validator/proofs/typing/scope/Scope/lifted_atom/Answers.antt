@@ -11,7 +11,7 @@ use Rattle.validator.proofs.typing.scope.Scope.lifted_atom.Goals as goal
 pub returns-clause-value : goal.returns-clause-value
 returns-clause-value c =
     let terms = map_taken (term_in (known_of c.args.self.now)) read.term_of c.deref-term-items.result.now c.args.atom.now.terms.items c.loop-term.term-index _
-        c.loop-term.invariant.terms c.loop-term-test.false c.deref-term-items.ensures.value in
+    c.loop-term.invariant.terms c.loop-term-test.false c.deref-term-items.ensures.value in
     λ i. record { predicate = c.in_ok-predicate.ensures.value i; terms = terms i }
 
 pub returns-clause-finds : goal.returns-clause-finds
