@@ -99,38 +99,33 @@ atom_in known f = record {
 abbrev pub predicate_of : tree.Predicate → task.Predicate
 predicate_of p = record { name = folded p.name; arity = length p.parameters }
 
+abbrev pub predicates_of : Domain → List task.Predicate
+predicates_of d = map predicate_of d.predicates
+
 -- in an action: the domain's predicates and the action's parameters; no object, as a domain declares none
-abbrev pub known_in_action : Domain → tree.Action → Known
-known_in_action d a = record {
-  predicates = map predicate_of d.predicates;
-  variables = declared a.parameters;
-  objects = [];
-}
+abbrev pub known_in_action : List task.Predicate → tree.Action → Known
+known_in_action predicates a = record { predicates = predicates; variables = declared a.parameters; objects = [] }
 
 -- in the initial state and the goal: the domain's predicates and the problem's objects
-abbrev pub known_in_problem : Domain → Problem → Known
-known_in_problem d p = record {
-  predicates = map predicate_of d.predicates;
-  variables = [];
-  objects = map folded p.objects;
-}
+abbrev pub known_in_problem : List task.Predicate → Problem → Known
+known_in_problem predicates p = record { predicates = predicates; variables = []; objects = map folded p.objects }
 
-abbrev pub schema_in : Domain → tree.Action → task.Schema
-schema_in d a = record {
+abbrev pub schema_in : List task.Predicate → tree.Action → task.Schema
+schema_in predicates a = record {
   name = folded a.name;
   parameters = length a.parameters;
-  precondition = formula_in (known_in_action d a) a.precondition;
-  effect = effect_in (known_in_action d a) a.effect;
+  precondition = formula_in (known_in_action predicates a) a.precondition;
+  effect = effect_in (known_in_action predicates a) a.effect;
 }
 
 -- the task, where the pair is well-typed: each name is its number
 abbrev pub task_of_trees : Domain → Problem → task.Task
 task_of_trees d p = record {
   objects = map folded p.objects;
-  predicates = map predicate_of d.predicates;
-  schemas = map (schema_in d) d.actions;
-  init = map (atom_in (known_in_problem d p)) p.init;
-  goal = formula_in (known_in_problem d p) p.goal;
+  predicates = predicates_of d;
+  schemas = map (schema_in (predicates_of d)) d.actions;
+  init = map (atom_in (known_in_problem (predicates_of d) p)) p.init;
+  goal = formula_in (known_in_problem (predicates_of d) p) p.goal;
 }
 
 -- ---- faults
@@ -210,28 +205,36 @@ declaration_faults d =
     ++ flat_map (λ (q : tree.Predicate). refused in_domain 25 (one_after 8 q.parameters)) d.predicates
 
 -- 16: a parameter declared before. 25: the 17th parameter. And the faults of the precondition and of the effect
-abbrev pub schema_faults : Domain → tree.Action → List TypingFault
-schema_faults d a =
+abbrev pub schema_faults : List task.Predicate → tree.Action → List TypingFault
+schema_faults predicates a =
     refused in_domain 16 (repeated a.parameters)
     ++ refused in_domain 25 (one_after 16 a.parameters)
-    ++ formula_faults in_domain (known_in_action d a) a.precondition
-    ++ effect_faults in_domain (known_in_action d a) a.effect
+    ++ formula_faults in_domain (known_in_action predicates a) a.precondition
+    ++ effect_faults in_domain (known_in_action predicates a) a.effect
 
 -- 16: an action declared before. And the faults of each action
-abbrev pub action_faults : Domain → List TypingFault
-action_faults d =
-    refused in_domain 16 (repeated (map (λ (a : tree.Action). a.name) d.actions)) ++ flat_map (schema_faults d) d.actions
+abbrev pub action_faults : List task.Predicate → Domain → List TypingFault
+action_faults predicates d =
+    refused in_domain 16 (repeated (map (λ (a : tree.Action). a.name) d.actions))
+    ++ flat_map (schema_faults predicates) d.actions
 
-abbrev pub init_faults : Domain → Problem → List TypingFault
-init_faults d p = flat_map (fact_faults in_problem (known_in_problem d p)) p.init
+abbrev pub init_faults : List task.Predicate → Problem → List TypingFault
+init_faults predicates p = flat_map (fact_faults in_problem (known_in_problem predicates p)) p.init
 
-abbrev pub goal_faults : Domain → Problem → List TypingFault
-goal_faults d p = formula_faults in_problem (known_in_problem d p) p.goal
+abbrev pub goal_faults : List task.Predicate → Problem → List TypingFault
+goal_faults predicates p = formula_faults in_problem (known_in_problem predicates p) p.goal
 
--- the faults of each phase, phase by phase
+-- The faults of each phase, phase by phase: the names of the domain, the objects, the predicates, the actions, the
+-- initial state and the goal.
 abbrev pub phases : Domain → Problem → List (List TypingFault)
 phases d p =
-    domain_name_faults d p ∷ object_faults p ∷ declaration_faults d ∷ action_faults d ∷ init_faults d p ∷ goal_faults d p ∷ []
+    domain_name_faults d p
+    ∷ object_faults p
+    ∷ declaration_faults d
+    ∷ action_faults (predicates_of d) d
+    ∷ init_faults (predicates_of d) p
+    ∷ goal_faults (predicates_of d) p
+    ∷ []
 
 -- the first of the lists that is not empty
 abbrev pub first_filled : List (List TypingFault) → List TypingFault

@@ -5,3 +5,8 @@ pub mod FormulasChanges
 pub mod FormulasInstances
 pub mod VerdictRuns
 pub mod VerdictLaws
+pub mod TypingLeast
+pub mod TypingLists
+pub mod TypingTables
+pub mod TypingFound
+pub mod TypingTrees

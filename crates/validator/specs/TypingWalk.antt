@@ -34,3 +34,7 @@ abbrev pub TellsFound : Option typing.TypingFault → TaskFault → Type 0
 TellsFound least NoMemory = Unit {0}
 TellsFound None (At file code span) = ⊥
 TellsFound (Some f) (At file code span) = Tells (At file code span) f
+
+-- the walk went on to have found these faults too
+abbrev pub Finds : Walk → Walk → List typing.TypingFault → Type 0
+Finds old new faults = least_of new ≡ found (least_of old) faults

@@ -181,11 +181,12 @@ impl<T: Drop> From<AllocFailed<T>> for TaskFault {
 }
 
 impl Task {
-    ghost use Rattle.std.specs.Prelude.{◌≡◌, length, map, position, slice_get};
+    ghost use Rattle.std.specs.Prelude.{◌≡◌, length, map, position, slice_get, IfErr, IfOk, OnOk};
     ghost use Rattle.std.specs.Option.{option_copied, option_map};
-    ghost use Rattle.validator.specs.Typing.{task_of};
+    ghost use Rattle.validator.specs.Typing.{task_of, TellsLeastFault};
+    ghost use Rattle.pddl_tree.specs.Tree.{domain_of, problem_of};
     ghost use Rattle.validator.specs.TaskParts.{atom_of, formula_of, object_of, predicate_id_of, schema_id_of, shape_of, shape_of_schema};
-    ghost use Rattle.model.specs.Typing.{is_same};
+    ghost use Rattle.model.specs.Typing.{is_same, task_of_trees, IsWellTyped};
 
     /// The task of a domain and a problem: each name becomes its number.
     ///

@@ -1,5 +1,5 @@
 //! Names of formulas, effects and atoms become numbers.
-ghost use Rattle.std.specs.Prelude.{◌≡◌, ◌≤◌, ℕ, List, length, map, take, IfOk, OnOk};
+ghost use Rattle.std.specs.Prelude.{◌≤◌, length};
 
 use crate::typing::walk::Walk;
 use crate::typing::{
@@ -26,13 +26,24 @@ pub(crate) struct Scope<'s> {
 }
 
 impl Scope<'_> {
+    ghost use Rattle.std.specs.Prelude.{◌≡◌, IfOk, OnOk};
+    ghost use Rattle.validator.specs.Typing.{file_of};
+    ghost use Rattle.validator.specs.TypingScope.{known_of, names_in, narrow_atom_in};
+    ghost use Rattle.validator.specs.TypingWalk.{Finds};
+    ghost use Rattle.validator.specs.TaskParts as parts;
+    ghost use Rattle.pddl_tree.specs.Tree as read;
+    ghost use Rattle.model.specs.Typing.{atom_faults, effect_faults, effect_in, fact_faults, formula_faults, formula_in, lifted_atom_in, names_of, number_in, predicate_faults, term_faults, term_in, unknown_faults};
+
     /// The predicate of this name, which stands with this count of terms.
     fn predicate(
         &self,
         walk: &mut Walk,
         name: &Name<'_>,
         count: usize,
-    ) -> Result<PredicateId, NoMemory> {
+    ) -> Result<PredicateId, NoMemory>
+        ensures value { IfOk result (λ p. p.0 ≡ number_in (names_of (known_of self.now).predicates) (read.name_of name.now)) }
+        ensures finds { OnOk result (Finds walk.old walk.new (predicate_faults (file_of self.now.file) (known_of self.now).predicates (read.name_of name.now) count)) }
+    {
         walk.fold(name)?;
         match self.predicates.get_full(walk.folded.as_slice()) {
             Some((number, _, predicate)) => {
@@ -54,7 +65,10 @@ impl Scope<'_> {
         walk: &mut Walk,
         names: &IndexSet<Vec<u8>>,
         name: &Name<'_>,
-    ) -> Result<usize, NoMemory> {
+    ) -> Result<usize, NoMemory>
+        ensures value { IfOk result (λ n. n ≡ number_in (names_in names.now.keys) (read.name_of name.now)) }
+        ensures finds { OnOk result (Finds walk.old walk.new (unknown_faults (file_of self.now.file) (names_in names.now.keys) (read.name_of name.now))) }
+    {
         walk.fold(name)?;
         match names.get_index_of(walk.folded.as_slice()) {
             Some(number) => Ok(number),
@@ -66,13 +80,19 @@ impl Scope<'_> {
     }
 
     /// The object of this name.
-    fn object(&self, walk: &mut Walk, name: &Name<'_>) -> Result<ObjectId, NoMemory> {
+    fn object(&self, walk: &mut Walk, name: &Name<'_>) -> Result<ObjectId, NoMemory>
+        ensures value { IfOk result (λ o. o.0 ≡ number_in (known_of self.now).objects (read.name_of name.now)) }
+        ensures finds { OnOk result (Finds walk.old walk.new (unknown_faults (file_of self.now.file) (known_of self.now).objects (read.name_of name.now))) }
+    {
         let number = self.number(walk, self.objects, name)?;
         Ok(ObjectId(number as u32))
     }
 
     /// The variable or the object that stands in an atom.
-    fn term(&self, walk: &mut Walk, term: &tree::Term<'_>) -> Result<Term, NoMemory> {
+    fn term(&self, walk: &mut Walk, term: &tree::Term<'_>) -> Result<Term, NoMemory>
+        ensures value { IfOk result (λ t. parts.term_of t ≡ term_in (known_of self.now) (read.term_of term.now)) }
+        ensures finds { OnOk result (Finds walk.old walk.new (term_faults (file_of self.now.file) (known_of self.now) (read.term_of term.now))) }
+    {
         match term {
             tree::Term::Variable(name) => {
                 let number = self.number(walk, self.variables, name)?;
@@ -88,7 +108,10 @@ impl Scope<'_> {
         alloc: Global,
         walk: &mut Walk,
         atom: &tree::Atom<'_>,
-    ) -> Result<LiftedAtom, NoMemory> {
+    ) -> Result<LiftedAtom, NoMemory>
+        ensures value { IfOk result (λ a. parts.lifted_atom_of a ≡ lifted_atom_in (known_of self.now) (read.atom_of atom.now)) }
+        ensures finds { OnOk result (Finds walk.old walk.new (atom_faults (file_of self.now.file) (known_of self.now) (read.atom_of atom.now))) }
+    {
         let predicate = self.predicate(walk, &atom.predicate, atom.terms.len())?;
         let mut terms = Vec::with_capacity(alloc, atom.terms.len())?;
         for term in &atom.terms {
@@ -103,7 +126,10 @@ impl Scope<'_> {
         alloc: Global,
         walk: &mut Walk,
         formula: &tree::Formula<'_>,
-    ) -> Result<Formula, NoMemory> {
+    ) -> Result<Formula, NoMemory>
+        ensures value { IfOk result (λ f. parts.formula_of f ≡ formula_in (known_of self.now) (read.formula_of formula.now)) }
+        ensures finds { OnOk result (Finds walk.old walk.new (formula_faults (file_of self.now.file) (known_of self.now) (read.formula_of formula.now))) }
+    {
         match formula {
             tree::Formula::Atom(atom) => Ok(Formula::Atom(self.lifted_atom(alloc, walk, atom)?)),
             tree::Formula::And(parts) => {
@@ -122,7 +148,10 @@ impl Scope<'_> {
         alloc: Global,
         walk: &mut Walk,
         effect: &tree::Effect<'_>,
-    ) -> Result<Effect, NoMemory> {
+    ) -> Result<Effect, NoMemory>
+        ensures value { IfOk result (λ e. parts.effect_of e ≡ effect_in (known_of self.now) (read.effect_of effect.now)) }
+        ensures finds { OnOk result (Finds walk.old walk.new (effect_faults (file_of self.now.file) (known_of self.now) (read.effect_of effect.now))) }
+    {
         match effect {
             tree::Effect::Add(atom) => Ok(Effect::Add(self.lifted_atom(alloc, walk, atom)?)),
             tree::Effect::Delete(atom) => Ok(Effect::Delete(self.lifted_atom(alloc, walk, atom)?)),
@@ -138,7 +167,10 @@ impl Scope<'_> {
 
     /// An atom of the initial state. Of more objects than a predicate may have, the first are kept: the count is
     /// a fault of the atom then.
-    pub(crate) fn atom(&self, walk: &mut Walk, fact: &tree::Fact<'_>) -> Result<Atom, NoMemory> {
+    pub(crate) fn atom(&self, walk: &mut Walk, fact: &tree::Fact<'_>) -> Result<Atom, NoMemory>
+        ensures value { IfOk result (λ a. parts.atom_of a ≡ narrow_atom_in (known_of self.now) (read.fact_of fact.now)) }
+        ensures finds { OnOk result (Finds walk.old walk.new (fact_faults (file_of self.now.file) (known_of self.now) (read.fact_of fact.now))) }
+    {
         let predicate = self.predicate(walk, &fact.predicate, fact.objects.len())?;
         let mut objects = ArrayVec::new();
         for name in &fact.objects {

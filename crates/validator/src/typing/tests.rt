@@ -28,8 +28,14 @@ fn names_become_numbers(rt: HostRuntime) -> Result<(), Fail> {
     let domain = Domain {
         name: word("Go", 16),
         predicates: vec![in alloc;
-            tree::Predicate { name: word("p", 35), parameters: vec![in alloc; word("?x", 37)]? },
-            tree::Predicate { name: word("Q", 40), parameters: vec![in alloc]? },
+            tree::Predicate {
+                name: word("p", 35),
+                parameters: vec![in alloc; word("?x", 37)]?
+            },
+            tree::Predicate {
+                name: word("Q", 40),
+                parameters: vec![in alloc]?
+            },
         ]?,
         actions: vec![in alloc;
             Action {
@@ -50,7 +56,10 @@ fn names_become_numbers(rt: HostRuntime) -> Result<(), Fail> {
         domain: word("gO", 30),
         objects: vec![in alloc; word("one", 40), word("Two", 44)]?,
         init: vec![in alloc;
-            Fact { predicate: word("p", 50), objects: vec![in alloc; word("TWO", 52)]? },
+            Fact {
+                predicate: word("p", 50),
+                objects: vec![in alloc; word("TWO", 52)]?
+            },
         ]?,
         goal: tree::Formula::Atom(tree::Atom {
             predicate: word("p", 60),
@@ -65,9 +74,18 @@ fn names_become_numbers(rt: HostRuntime) -> Result<(), Fail> {
     assert_eq!(rt; task.object_named(b"three"), None);
     assert_eq!(rt; task.predicate_named(b"q"), Some(PredicateId(1)));
     assert_eq!(rt; task.schema_named(b"go"), Some(SchemaId(0)));
-    assert!(rt; task.object_name(ObjectId(1)).is_some_and(|name| name == b"two".as_slice()));
-    assert!(rt; task.predicate_name(PredicateId(1)).is_some_and(|name| name == b"q".as_slice()));
-    assert!(rt; task.schema_name(SchemaId(0)).is_some_and(|name| name == b"go".as_slice()));
+    assert!(rt;
+        task.object_name(ObjectId(1))
+            .is_some_and(|name| name == b"two".as_slice())
+    );
+    assert!(rt;
+        task.predicate_name(PredicateId(1))
+            .is_some_and(|name| name == b"q".as_slice())
+    );
+    assert!(rt;
+        task.schema_name(SchemaId(0))
+            .is_some_and(|name| name == b"go".as_slice())
+    );
     assert_eq!(rt; task.init().len(), 1);
     Ok(())
 }

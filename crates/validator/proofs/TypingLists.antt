@@ -1,0 +1,44 @@
+-- Places and members of lists that other lists give.
+use Rattle.std.proofs.Common.{◌≡◌, ℕ, ◌+◌, ◌≤◌, ◌<◌, Bool, true, false, not, cond, ◌||◌, List, [], ◌∷◌, map, length, refl, ap, sym, ◌∙◌, arith, nat_lt, Option, None, Some, zero, suc}
+use Rattle.std.specs.List.{list_any, position, position_or_len}
+use Rattle.std.proofs.lemmas.Bool.Decides.{nat_tests}
+
+pub position_or_len-map : {X Y : Type 0} (p : Y → Bool) (f : X → Y) (xs : List X) → position_or_len p (map f xs) ≡ position_or_len (λ x. p (f x)) xs
+position_or_len-map p f [] = refl
+position_or_len-map p f (x ∷ xs) = ap (λ n. cond (not (p (f x))) (1 + n) 0) (position_or_len-map p f xs)
+
+pub list_any-map : {X Y : Type 0} (p : Y → Bool) (f : X → Y) (xs : List X) → list_any p (map f xs) ≡ list_any (λ x. p (f x)) xs
+list_any-map p f [] = refl
+list_any-map p f (x ∷ xs) = ap (λ b. p (f x) || b) (list_any-map p f xs)
+
+-- some element passes where the first that does stands within the list
+pub list_any-position : {X : Type 0} (p : X → Bool) (xs : List X) → list_any p xs ≡ nat_lt (position_or_len p xs) (length xs)
+list_any-position p [] = refl
+list_any-position p (x ∷ xs) = by (p x) (list_any-position p xs)
+  where
+    by : (b : Bool) → list_any p xs ≡ nat_lt (position_or_len p xs) (length xs) → (b || list_any p xs) ≡ nat_lt (cond (not b) (1 + position_or_len p xs) 0) (length (x ∷ xs))
+    by true e = grind (arith, nat_tests)
+    by false e = e ∙ (grind (arith, nat_tests))
+
+pub position_or_len-le : {X : Type 0} (p : X → Bool) (xs : List X) → position_or_len p xs ≤ length xs
+position_or_len-le p [] = omega arith
+position_or_len-le p (x ∷ xs) = by (p x) (position_or_len-le p xs)
+  where
+    by : (b : Bool) → position_or_len p xs ≤ length xs → cond (not b) (1 + position_or_len p xs) 0 ≤ length (x ∷ xs)
+    by true e = omega arith
+    by false e = omega arith
+
+-- what a search for a place says
+pub position-found : {X : Type 0} (p : X → Bool) (xs : List X) (i : ℕ) → Some i ≡ position p xs → (i ≡ position_or_len p xs) × (list_any p xs ≡ true)
+position-found p xs i e = by (nat_lt (position_or_len p xs) (length xs)) e (list_any-position p xs)
+  where
+    by : (b : Bool) → Some i ≡ cond b (Some (position_or_len p xs)) None → list_any p xs ≡ b → (i ≡ position_or_len p xs) × (list_any p xs ≡ true)
+    by true e is = (cc, is)
+    by false e is = absurd (cc)
+
+pub position-missing : {X : Type 0} (p : X → Bool) (xs : List X) → None ≡ position p xs → (length xs ≡ position_or_len p xs) × (list_any p xs ≡ false)
+position-missing p xs e = by (nat_lt (position_or_len p xs) (length xs)) refl e (list_any-position p xs)
+  where
+    by : (b : Bool) → nat_lt (position_or_len p xs) (length xs) ≡ b → None ≡ cond b (Some (position_or_len p xs)) None → list_any p xs ≡ b → (length xs ≡ position_or_len p xs) × (list_any p xs ≡ false)
+    by true t e is = absurd (cc)
+    by false t e is = (let low = position_or_len-le p xs in grind (arith, nat_tests), is)

@@ -1,0 +1,16 @@
+use Rattle.std.proofs.Common.{◌≡◌, [], ◌++◌, map, fold, take, drop, None}
+use Rattle.std.specs.List.{flat_map}
+use Rattle.validator.specs.Typing.{file_of}
+use Rattle.validator.specs.TypingScope.{known_of, names_in, narrow_atom_in}
+use Rattle.validator.specs.TypingWalk.{found, least_of}
+use Rattle.validator.specs.TaskParts as parts
+use Rattle.pddl_tree.specs.Tree as read
+use Rattle.model.specs.Typing as typing
+use Rattle.validator.proofs.typing.phases.declared.Given as goal
+
+abbrev pub invariant-loop-name : goal.invariant-loop-name
+invariant-loop-name l = record {
+  names : fold typing.with_name (names_in l.declared.keys) (map read.name_of (drop l.name-index l.names)) ≡ fold typing.with_name [] (map read.name_of l.names);
+  finds : found (least_of l.walk) (typing.refused (file_of l.file) 16 (typing.repeated_after (names_in l.declared.keys) (map read.name_of (drop l.name-index l.names))))
+      ≡ found (least_of l.initial.walk) (typing.refused (file_of l.file) 16 (typing.repeated_after [] (map read.name_of l.names)));
+}

@@ -1,0 +1,16 @@
+use Rattle.std.proofs.Common.{◌≡◌, [], ◌++◌, map, fold, take, drop, None}
+use Rattle.std.specs.List.{flat_map}
+use Rattle.validator.specs.Typing.{file_of}
+use Rattle.validator.specs.TypingScope.{known_of, names_in, narrow_atom_in}
+use Rattle.validator.specs.TypingWalk.{found, least_of}
+use Rattle.validator.specs.TaskParts as parts
+use Rattle.pddl_tree.specs.Tree as read
+use Rattle.model.specs.Typing as typing
+use Rattle.validator.proofs.typing.phases.init.Given as goal
+
+abbrev pub invariant-loop-fact : goal.invariant-loop-fact
+invariant-loop-fact l = record {
+  atoms : map parts.atom_of l.init.items ≡ map (λ f. narrow_atom_in (known_of l.scope) (read.fact_of f)) (take l.fact-index l.fact-items);
+  finds : found (least_of l.walk) (flat_map (λ f. typing.fact_faults (file_of l.scope.file) (known_of l.scope) (read.fact_of f)) (drop l.fact-index l.fact-items))
+      ≡ found None (flat_map (λ f. typing.fact_faults (file_of l.scope.file) (known_of l.scope) (read.fact_of f)) l.fact-items);
+}

@@ -1,0 +1,15 @@
+use Rattle.validator.specs.Typing.{file_of}
+use Rattle.validator.specs.TypingScope.{known_of}
+use Rattle.validator.specs.TypingWalk.{least_of}
+use Rattle.validator.proofs.TypingTrees.{effect_by_parts, effect_faults_by_parts}
+use Rattle.validator.proofs.typing.scope.Scope.+effect.Goals as goal
+
+pub returns-after-loop-part-clause-value : goal.returns-after-loop-part-clause-value
+returns-after-loop-part-clause-value t c =
+    effect_by_parts (known_of c.args.self.now) c.args.effect.now c.in-And.parts c.deref-part-items.result.now c.loop-part.part-index c.loop-part.resolved
+    c.in-And.is c.deref-part-items.ensures.value c.loop-part.invariant.resolved c.loop-part-test.false
+
+pub returns-after-loop-part-clause-finds : goal.returns-after-loop-part-clause-finds
+returns-after-loop-part-clause-finds t c =
+    effect_faults_by_parts (file_of c.args.self.now.file) (known_of c.args.self.now) c.args.effect.now c.in-And.parts c.deref-part-items.result.now c.loop-part.part-index (least_of c.loop-part.walk) (least_of c.args.walk.now)
+    c.in-And.is c.deref-part-items.ensures.value c.loop-part.invariant.finds c.loop-part-test.false
