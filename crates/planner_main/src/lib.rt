@@ -3,9 +3,9 @@
 
 pub mod certificate;
 pub mod files;
-mod report;
-mod program;
 pub mod plan_file;
+mod program;
+mod report;
 mod verdict;
 
 pub use files::Files;
