@@ -1,4 +1,4 @@
-//! The program `optplan`.
+//! The program `optplan`: `planner_main` over the machine's files and streams.
 #![tactic(auto)]
 
 use planner_main::certificate::Device;
@@ -9,7 +9,14 @@ use std::io;
 use std::process::ExitCode;
 
 fn main(rt: HostRuntime) -> io::Result<ExitCode> {
-    let mut words = Vec::new(rt.alloc());
-    for argument in env::args(&rt)?.skip(1) { words.push(argument)?; }
-    Ok(ExitCode::from(0))
+    let arguments: Vec<String> = env::args(&rt)?.skip(1).collect(rt.alloc())?;
+    let words: Vec<&str> = arguments
+        .iter()
+        .map(|word| word.as_str())
+        .collect(rt.alloc())?;
+    let mut files = SystemFiles::new(&rt);
+    let mut out = Device::new(rt.stdout());
+    let mut err = Device::new(rt.stderr());
+    let status = run(rt.alloc(), &words, &mut files, &mut out, &mut err);
+    Ok(ExitCode::from(status))
 }

@@ -8,9 +8,8 @@ mod memory;
 mod system;
 
 pub use memory::{FailsAt, InPieces, Memory};
-pub use system::Device;
-
 use std::alloc::{AllocError, AllocFailed};
+pub use system::Device;
 use thiserror::Error;
 
 /// The device failed in this call.

@@ -5,10 +5,9 @@ ghost use Rattle.planner_main.specs.Devices.{CountsDevice, IsKept};
 mod system;
 mod table;
 
+use crate::certificate::{Sink, Source, WriteFault};
 pub use system::SystemFiles;
 pub use table::Table;
-
-use crate::certificate::{Sink, Source, WriteFault};
 
 /// Files by name. A name that cannot be opened, created or closed is a failure.
 pub trait Files {

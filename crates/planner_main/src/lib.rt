@@ -1,4 +1,4 @@
-//! From files to answers: the planner, the validator and the checker of certificates as one program.
+//! From files to answers: the validator over the bytes of three files, and the whole program over any files.
 #![tactic(auto)]
 
 pub mod certificate;
@@ -6,7 +6,6 @@ pub mod files;
 pub mod plan_file;
 mod program;
 mod report;
-pub mod transitions;
 mod verdict;
 
 pub use files::Files;

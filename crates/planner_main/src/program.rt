@@ -1,13 +1,12 @@
 //! The program.
-ghost use Rattle.std.specs.Prelude.{◌≡◌, IfOk, length, vec_len};
+ghost use Rattle.std.specs.Prelude.{◌≡◌, ◌+◌, IfOk, length, vec_len};
 ghost use Rattle.planner_main.specs.Devices.{CountsDevice, IsReading, ReadsSome};
-
-use std::alloc::{AllocError, Global};
 
 use crate::certificate::{Sink, Source, WriteFault, write_all};
 use crate::files::Files;
 use crate::report::{Failure, answer, tell, tell_usage};
 use crate::verdict::validate_files;
+use std::alloc::{AllocError, Global};
 
 /// The most bytes that are read of a file: one more than a text may have.
 const MAX_READ: usize = 16_777_217;
@@ -90,8 +89,13 @@ fn read_text<S: Source>(alloc: Global, source: &mut S) -> Result<Vec<u8>, WriteF
 }
 
 /// Reads once, to the end of the text, and tells how many bytes came.
-fn read_some<S: Source>(source: &mut S, room: &mut [u8], text: &mut Vec<u8>) -> Result<usize, WriteFault>
+fn read_some<S: Source>(
+    source: &mut S,
+    room: &mut [u8],
+    text: &mut Vec<u8>,
+) -> Result<usize, WriteFault>
     ensures ok { IfOk result (λ count. ReadsSome (length room.old) count (S.remaining source.old) (S.remaining source.new) text.old.items text.new.items) }
+    ensures len { IfOk result (λ count. vec_len text.new ≡ vec_len text.old + count) }
     ensures failures { CountsDevice (S.failures source.old) (S.failures source.new) result }
 {
     let count = source.read(room)?;
@@ -105,3 +109,6 @@ fn buffer(alloc: Global, length: usize) -> Result<Vec<u8>, AllocError>
 {
     vec![in alloc; 0u8; length]
 }
+
+#[cfg(test)]
+mod tests;

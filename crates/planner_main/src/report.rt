@@ -1,10 +1,9 @@
 //! What the program says: the lines of its two streams, and the statuses beside them.
+use crate::certificate::{Sink, WriteFault, write_all};
+use crate::verdict::FileFault;
 use std::alloc::{AllocError, AllocFailed, Global};
 use tokens::NoMemory;
 use validator::Verdict;
-
-use crate::certificate::{Sink, WriteFault, write_all};
-use crate::verdict::FileFault;
 
 /// The plan solves the task.
 pub(crate) const YES: u8 = 0;

@@ -1,12 +1,11 @@
 //! From the bytes of three files to the verdict.
+use crate::plan_file::read_plan;
 use std::alloc::Global;
 use std::fmt;
 use thiserror::Error;
 use tokens::{Code, Fault, NoMemory, Span, scan};
 use validator::typing::{Task, TaskFault, TaskFile};
 use validator::{Verdict, validate};
-
-use crate::plan_file::read_plan;
 
 /// One of the three files.
 #[derive(Clone, Copy, Debug, PartialEq, Eq)]
@@ -83,7 +82,12 @@ impl From<NoMemory> for FileFault {
 ///
 /// The domain is scanned and read, then the problem, then both are typed together, then the plan is read; the first
 /// fault ends the call.
-pub fn validate_files(alloc: Global, domain: &[u8], problem: &[u8], plan: &[u8]) -> Result<Verdict, FileFault> {
+pub fn validate_files(
+    alloc: Global,
+    domain: &[u8],
+    problem: &[u8],
+    plan: &[u8],
+) -> Result<Verdict, FileFault> {
     let task = read_task(alloc, domain, problem)?;
     let plan = read_plan(alloc, &task, plan).map_err(|fault| FileFault::of(File::Plan, fault))?;
     Ok(validate(alloc, &task, &plan)?)
@@ -92,7 +96,10 @@ pub fn validate_files(alloc: Global, domain: &[u8], problem: &[u8], plan: &[u8])
 /// The task of a domain file and a problem file.
 fn read_task(alloc: Global, domain: &[u8], problem: &[u8]) -> Result<Task, FileFault> {
     let domain = read_domain(alloc, domain).map_err(|fault| FileFault::of(File::Domain, fault))?;
-    let problem = read_problem(alloc, problem).map_err(|fault| FileFault::of(File::Problem, fault))?;
+    let problem = read_problem(alloc, problem).map_err(|fault| FileFault::of(
+        File::Problem,
+        fault,
+    ))?;
     Ok(Task::new(alloc, domain, problem)?)
 }
 

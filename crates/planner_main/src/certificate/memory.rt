@@ -2,9 +2,8 @@
 ghost use Rattle.std.specs.Prelude.{◌≡◌, ◌<◌, ◌≤◌, drop, vec_len, Some};
 ghost use Rattle.planner_main.specs.Devices.{one_more};
 
-use std::alloc::Global;
-
 use super::{DeviceFault, Sink, Source, WriteFault};
+use std::alloc::Global;
 
 /// A device over bytes in memory: reads give what is left of them, and writes go to their end. It never fails.
 #[derive(Drop)]

@@ -2,9 +2,8 @@
 ghost use Rattle.std.specs.Prelude.{◌≡◌};
 ghost use Rattle.planner_main.specs.Devices.{one_more};
 
-use std::io::{Read, Write};
-
 use super::{DeviceFault, Sink, Source, WriteFault};
+use std::io::{Read, Write};
 
 /// A reader or a writer of the standard library, with a count of its failures.
 #[derive(Drop)]

@@ -2,13 +2,10 @@
 ghost use Rattle.std.specs.Prelude.{◌≡◌};
 ghost use Rattle.planner_main.specs.Devices.{CountsDevice};
 
-use std::fs;
-use std::io;
-use std::io::Write;
-use std::rt;
-
 use super::Files;
 use crate::certificate::{Device, WriteFault};
+use std::io::Write;
+use std::{fs, io, rt};
 
 /// The files that a runtime reaches, with a count of the failures.
 #[derive(Drop)]

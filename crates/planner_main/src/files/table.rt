@@ -2,11 +2,10 @@
 ghost use Rattle.std.specs.Prelude.{◌≡◌};
 ghost use Rattle.planner_main.specs.Devices.{one_more};
 
-use std::alloc::Global;
-use tokens::NoMemory;
-
 use super::Files;
 use crate::certificate::{FailsAt, Memory, Sink, WriteFault};
+use std::alloc::Global;
+use tokens::NoMemory;
 
 #[derive(Drop)]
 struct Entry {
@@ -49,7 +48,12 @@ impl Table {
     }
 
     /// Puts a file into the table whose device fails once, at the read after so many.
-    pub fn put_failing(&mut self, name: &str, bytes: &[u8], reads_before: u64) -> Result<(), NoMemory> {
+    pub fn put_failing(
+        &mut self,
+        name: &str,
+        bytes: &[u8],
+        reads_before: u64,
+    ) -> Result<(), NoMemory> {
         let name = String::from_str(self.alloc, name)?;
         let bytes = Vec::from_slice(self.alloc, bytes)?;
         self.insert(name, bytes, Some(reads_before))
@@ -65,7 +69,12 @@ impl Table {
         None
     }
 
-    fn insert(&mut self, name: String, bytes: Vec<u8>, reads_before: Option<u64>) -> Result<(), NoMemory>
+    fn insert(
+        &mut self,
+        name: String,
+        bytes: Vec<u8>,
+        reads_before: Option<u64>,
+    ) -> Result<(), NoMemory>
         ensures { self.new.failures ≡ self.old.failures }
     {
         let entry = Entry {
@@ -73,7 +82,10 @@ impl Table {
             bytes,
             reads_before,
         };
-        let place = self.entries.iter().position(|old| old.name.as_str() == entry.name.as_str());
+        let place = self
+            .entries
+            .iter()
+            .position(|old| old.name.as_str() == entry.name.as_str());
         match place {
             Some(i) => self.entries[i] = entry,
             None => self.entries.push(entry)?,
@@ -92,7 +104,9 @@ impl Files for Table {
     fn open(&mut self, name: &str) -> Result<FailsAt<Memory>, WriteFault> {
         for entry in &self.entries {
             if entry.name.as_str() == name {
-                let bytes = Vec::from_slice(self.alloc, entry.bytes.as_slice()).map_err(|_| WriteFault::NoMemory)?;
+                let bytes = Vec::from_slice(self.alloc, entry.bytes.as_slice()).map_err(
+                    |_| WriteFault::NoMemory,
+                )?;
                 return Ok(FailsAt::new(Memory::new(bytes), entry.reads_before));
             }
         }

@@ -1,14 +1,17 @@
 //! The instances that the steps of a plan text name.
+use super::text::Step;
 use pddl_tree::Name;
 use std::alloc::Global;
 use tokens::{Code, Fault, NoMemory};
 use validator::formulas::{Binding, Instance};
 use validator::typing::{ObjectId, SchemaId, Task};
 
-use super::text::Step;
-
 /// The instances of these steps, in order.
-pub(super) fn instances_of(alloc: Global, task: &Task, steps: &[Step<'_>]) -> Result<Vec<Instance>, Fault> {
+pub(super) fn instances_of(
+    alloc: Global,
+    task: &Task,
+    steps: &[Step<'_>],
+) -> Result<Vec<Instance>, Fault> {
     let mut instances = Vec::new(alloc);
     for step in steps {
         instances.push(instance_of(alloc, task, step)?)?;

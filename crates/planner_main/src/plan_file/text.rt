@@ -18,8 +18,7 @@ pub(super) struct Step<'a> {
 }
 
 /// The steps of a whole text.
-pub(super) fn steps_of<'a>(alloc: Global, text: &'a [u8]) -> Result<Vec<Step<'a>>, Fault>
-{
+pub(super) fn steps_of<'a>(alloc: Global, text: &'a [u8]) -> Result<Vec<Step<'a>>, Fault> {
     if text.len() > MAX_TEXT {
         return Err(refused(MAX_TEXT, text.len()));
     }
@@ -138,7 +137,8 @@ fn is_name(run: &[u8]) -> bool
     ensures { IsTrue result → 0 < length run.now }
 {
     match run.split_first() {
-        Some((first, rest)) => first.is_ascii_alphabetic() && rest.iter().all(|byte| is_name_byte(*byte)),
+        Some((first, rest)) => first.is_ascii_alphabetic()
+            && rest.iter().all(|byte| is_name_byte(*byte)),
         None => false,
     }
 }

@@ -10,9 +10,11 @@ writes-preserved g c =
     let count = c.in_ok-count.count in
     let write = c.in_ok-count.ensures in
     record {
-      taken = (done ++ take count rest,
+      taken = (
+        done ++ take count rest,
         split ∙ ap (λ l. done ++ l) (sym (take-append-drop count rest)) ∙ sym (append_assoc done (take count rest) (drop count rest))
-        ∙ ap (λ l. (done ++ take count rest) ++ l) (sym (take_rest rest count)),
-        Appends-trans _ _ _ _ _ appended write.bytes);
+            ∙ ap (λ l. (done ++ take count rest) ++ l) (sym (take_rest rest count)),
+        Appends-trans _ _ _ _ _ appended write.bytes,
+      );
       failures = write.failures ∙ c.writes.invariant.failures;
     }

@@ -1,4 +1,4 @@
-use Rattle.std.proofs.Common.{sym}
+use Rattle.std.proofs.Common.{sym, arith}
 use Rattle.planner_main.proofs.program.read_some.Goals as goal
 
 pub returns-clause-ok : goal.returns-clause-ok
@@ -9,6 +9,6 @@ returns-clause-ok g c =
       appended = c.in_ok-extend_from_slice.ensures.items;
       consumed = read.bytes.0;
       counted = sym read.bound.1;
-      within = ?;
-      ended = ?;
+      within = omega (arith, read.bound.0, c.read.auto.into);
+      ended = λ none some. read.bytes.1 none (omega (arith, some, c.read.auto.into));
     }

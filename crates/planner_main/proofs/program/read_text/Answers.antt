@@ -1,4 +1,4 @@
-use Rattle.std.proofs.Common.{◌≡◌, ◌++◌, ◌∙◌, take, sym, ap, subst, arith}
+use Rattle.std.proofs.Common.{◌≡◌, ◌++◌, ◌∙◌, take, sym, ap, subst, arith, length, ◌≤◌, length-take}
 use Rattle.std.specs.Io.KnownBytes.{Consumes}
 use Rattle.std.proofs.KnownBytes.{Consumes-trans}
 use Rattle.planner_main.proofs.program.read_text.Goals as goal
@@ -9,6 +9,8 @@ reads-preserved g c =
     record {
       consumed = subst (Consumes _ _) (sym some.ok.appended) (Consumes-trans _ _ _ _ _ c.reads.invariant.consumed some.ok.consumed);
       failures = some.failures ∙ c.reads.invariant.failures;
-      within = ?;
+      within =
+          let fits : c.in_ok-count.count ≤ length (take c.min-room.result c.deref_mut.result.now) = some.ok.within in
+          omega (arith, some.len, fits, c.min-room.ensures, length-take c.min-room.result c.deref_mut.result.now);
       room = c.reads.invariant.room;
     }

@@ -23,6 +23,7 @@ returns-clause-bytes c =
     let rest = ap (λ l. take (length l - next) (drop next l)) c.as_slice.ensures.value ∙ take_rest bytes next in
     let same : c.copy_from_slice.new.self ≡ take count (drop next bytes) = c.copy_from_slice.ensures.after ∙ ap (take count) rest in
     let fewer : count ≡ min (length (drop next bytes)) (length c.args.into.now) = c.min-count.ensures ∙ ap (λ l. min (length l) (length c.args.into.now)) rest in
-    let long : length c.copy_from_slice.new.self ≡ count = c.copy_from_slice.ensures.len ∙ length-take-le count c.args.into.now (omega arith) in
-    (moves_front bytes c.args.into.now c.copy_from_slice.new.self next count same long,
-      λ none room. at_end bytes c.args.into.now c.copy_from_slice.new.self next count fewer long none room)
+    let long : length c.copy_from_slice.new.self ≡ count = c.copy_from_slice.ensures.len ∙ length-take-le count c.args.into.now (omega arith) in (
+      moves_front bytes c.args.into.now c.copy_from_slice.new.self next count same long,
+      λ none room. at_end bytes c.args.into.now c.copy_from_slice.new.self next count fewer long none room,
+    )

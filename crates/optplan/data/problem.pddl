@@ -1,0 +1,5 @@
+; One step reaches the goal.
+(define (problem g)
+  (:domain go)
+  (:init (p))
+  (:goal (and (p) (q))))
