@@ -90,16 +90,16 @@ told_fault n c run text code e = by_kind (kind_of_run text) refl e
         (λ (l : length text ≤ 255). word_number n c run text code tt (sym (cond-false (ltb 255 (length text)) (Some 5) (fault_of_word c) (le-ltb 255 (length text) l)) ∙ g)) (cases_lt 255 (length text))
 
 -- a fault of the parts from `start` on
-abbrev HereAt : ℕ → ℕ → Bool → Form → List ℕ → told.Fault → Type 0
+abbrev pub HereAt : ℕ → ℕ → Bool → Form → List ℕ → told.Fault → Type 0
 HereAt start n c f text fault = AtFault n c f text fault.code × (fault.span.start ≡ start) × (fault.span.end ≡ start + length text)
 
-abbrev FaultIn : ℕ → ℕ → Bool → List Part → told.Fault → Type 0
+abbrev pub FaultIn : ℕ → ℕ → Bool → List Part → told.Fault → Type 0
 FaultIn start n c [] fault = (0 < n) × (fault.code ≡ 3) × (fault.span.start ≡ start) × (fault.span.end ≡ start)
 FaultIn start n c (part ∷ parts) fault =
     HereAt start n c (form part) (bytes part) fault
     ⊎ FaultIn (start + size part) (open_with n (form part)) (closed_with n c (form part)) parts fault
 
-later : (start n : ℕ) (c : Bool) (parts : List Part) (fault : told.Fault) → FaultIn start n c parts fault → start ≤ fault.span.start
+pub later : (start n : ℕ) (c : Bool) (parts : List Part) (fault : told.Fault) → FaultIn start n c parts fault → start ≤ fault.span.start
 later start n c [] fault h = omega arith
 later start n c (part ∷ parts) fault (inl h) = omega arith
 later start n c (part ∷ parts) fault (inr h) = omega (arith, later (start + size part) (open_with n (form part)) (closed_with n c (form part)) parts fault h)
