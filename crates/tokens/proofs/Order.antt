@@ -23,7 +23,7 @@ module _ (text : List ℕ) where
       record {
         bytes_are = ap (take (size part)) text_is ∙ take_at (bytes part) rest (size part) refl;
         parts_are = subst (λ left. AreParts left parts) (sym (sym (drop-drop (size part) start text) ∙ ap (drop (size part)) text_is ∙ drop_at (bytes part) rest (size part) refl)) more;
-        within = omega (arith, sizes, dropped, joined)
+        within = omega (arith, sizes, dropped, joined);
       }
 
   in_order : (low start : ℕ) (parts : List Part) (words : List Word) → low ≤ start → start ≤ length text → AreParts (drop start text) parts → AreGapsAndWords start parts words → AreInOrder low text words
@@ -39,10 +39,12 @@ module _ (text : List ℕ) where
       let here = h.0 in
       let long : length word.text ≡ size part = ap length here.text in
       let end_is : end_of word ≡ start + size part = omega (arith, here.start_at, long) in
-      let span : end_of word - word.start ≡ size part = omega (arith, here.start_at, long) in
-      (omega (arith, here.start_at), omega (arith, long),
-       ap (λ n. take n (drop word.start text)) span ∙ ap (λ s. take (size part) (drop s text)) here.start_at ∙ next.bytes_are ∙ sym here.text,
-       in_order (end_of word) (start + size part) parts words (omega (arith, end_is)) next.within next.parts_are h.1)
+      let span : end_of word - word.start ≡ size part = omega (arith, here.start_at, long) in (
+        omega (arith, here.start_at),
+        omega (arith, long),
+        ap (λ n. take n (drop word.start text)) span ∙ ap (λ s. take (size part) (drop s text)) here.start_at ∙ next.bytes_are ∙ sym here.text,
+        in_order (end_of word) (start + size part) parts words (omega (arith, end_is)) next.within next.parts_are h.1,
+      )
 
 pub words_in_order : (text : List ℕ) (words : List Word) → ReadsAs text words → AreInOrder 0 text words
 words_in_order text words h = in_order text 0 0 h.parts words (omega arith) (omega arith) h.cut h.in_turn

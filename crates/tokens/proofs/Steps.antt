@@ -33,12 +33,12 @@ module _ (text : List ℕ) (start end n : ℕ) (c : Bool) (f : Form) (inside : s
       → more ≡ words ++ option_to_list (word_at start (take (end - start) (drop start text)) (kind_by f (take (end - start) (drop start text))))
       → Scanned text end (open_with n f) (closed_with n c f) more
   scanned_more words more s sound more_is = record {
-      faults = sym (fault_step text (take (end - start) (drop start text)) start end n c f part_here f_is refl sound) ∙ s.faults;
-      words = ap (λ ws. ws ++ words_from end (cut (drop end text))) more_is
+    faults = sym (fault_step text (take (end - start) (drop start text)) start end n c f part_here f_is refl sound) ∙ s.faults;
+    words = ap (λ ws. ws ++ words_from end (cut (drop end text))) more_is
         ∙ append_assoc words _ (words_from end (cut (drop end text)))
         ∙ ap (λ ws. words ++ ws) (sym (words_step text (take (end - start) (drop start text)) start end n c f part_here f_is refl))
-        ∙ s.words
-    }
+        ∙ s.words;
+  }
 
 -- a fault that is found
 module _ (text : List ℕ) (start n : ℕ) (c : Bool) (short : length text ≤ longest_text)

@@ -8,13 +8,14 @@ ghost use Rattle.model.specs.Words.{ReadsAs, IsTold, AreInOrder};
 pub fn one_reading()
     ensures one { (text : List ℕ) (words others : List model.Word)
         → ReadsAs text words → ReadsAs text others → words ≡ others }
-    ensures in_order { (text : List ℕ) (words : List model.Word) → ReadsAs text words → AreInOrder 0 text words }
-{
-}
+    ensures in_order { (text : List ℕ) (words : List model.Word)
+        → ReadsAs text words → AreInOrder 0 text words }
+{}
 
 /// Of a text at most one fault is told, and none of a text that reads as words.
 pub fn one_fault()
-    ensures one { (text : List ℕ) (fault other : Fault) → IsTold text fault → IsTold text other → fault ≡ other }
-    ensures none { (text : List ℕ) (words : List model.Word) (fault : Fault) → ReadsAs text words → IsTold text fault → ⊥ }
-{
-}
+    ensures one { (text : List ℕ) (fault other : Fault)
+        → IsTold text fault → IsTold text other → fault ≡ other }
+    ensures none { (text : List ℕ) (words : List model.Word) (fault : Fault)
+        → ReadsAs text words → IsTold text fault → ⊥ }
+{}
