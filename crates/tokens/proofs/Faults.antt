@@ -1,14 +1,14 @@
 -- The first fault that the scanner finds is a fault of the text, and none comes before it.
-use Rattle.std.proofs.Common.{◌≡◌, ℕ, zero, suc, ◌+◌, ◌-◌, ◌<◌, ◌≤◌, ◌⊎◌, Bool, true, false, cond, ◌||◌, List, [], ◌∷◌, ◌++◌, length, Option, Some, None, sym, refl, ap, ◌∙◌, subst, nat_lt, eqb, ltb, inl, inr, ⊎_elim, append_assoc, arith, rules}
-use Rattle.std.specs.List.{fold, sum_by}
-use Rattle.std.proofs.lemmas.Bool.{cases_eq, eq-eqb, ne_eqb, lt-ltb, le-ltb, ltb-true, ltb-false, cases_lt, cases_Bool, or_cases, or_right, or_left, false≢true, cases_cond, cond-true, cond-false, eqb-true}
-use Rattle.std.proofs.lemmas.List.Sums.{sum_by-cons, sum_by-append, sum_by_push, fold_push, fold-append}
+use Rattle.std.proofs.Common.{◌≡◌, ℕ, ◌+◌, ◌<◌, ◌≤◌, ◌⊎◌, Bool, true, false, List, [], ◌∷◌, ◌++◌, length, Option, Some, None, sym, refl, ap, ◌∙◌, subst, eqb, ltb, inl, inr, ⊎_elim, append_assoc, arith}
+use Rattle.std.specs.List.{fold}
+use Rattle.std.proofs.lemmas.Bool.{cases_eq, eq-eqb, ne_eqb, lt-ltb, le-ltb, cases_lt, or_cases, or_right, false≢true, cond-true, cond-false, eqb-true}
+use Rattle.std.proofs.lemmas.List.Sums.{sum_by-cons, sum_by_push, fold_push}
 use Rattle.std.proofs.lemmas.List.{append-nil, length-append}
 use Rattle.model.specs.Fault as told
 use Rattle.model.specs.Words.{Form, blank, comment, opening, closing, run, stray, Part, form, bytes, size, kind_by, kind_of_run, open_with, open_after, size_of_all, HasClosedAList, IsWord, AreParts, IsAtFault, bad_byte, bad_word, unbalanced, too_deep, too_long, trailing, IsFault, at_part, open_at_end, ComesNoLater, IsTold, comes_first, longest_text}
 use Rattle.tokens.specs.Scanner.{fault_by, fault_of_run, fault_of_word, fault_at, closed_with}
 use Rattle.tokens.proofs.Cut.{cut, cut_unique, cut_parts}
-use Rattle.tokens.proofs.Reading.{or_else, first_fault, fault_of_end}
+use Rattle.tokens.proofs.Reading.{or_else, first_fault}
 
 -- a part at fault, by how many lists are open before it and whether the first has closed
 pub data AtFault (n : ℕ) (c : Bool) (f : Form) (text : List ℕ) : ℕ → Type 0 where

@@ -1,9 +1,8 @@
 -- The laws of reading words.
-use Rattle.std.proofs.Common.{◌≡◌, ℕ, suc, ◌+◌, ◌-◌, ◌<◌, ◌≤◌, ◌⊎◌, Bool, false, List, [], ◌∷◌, ◌++◌, length, take, drop, Some, None, sym, refl, ap, ◌∙◌, subst, inl, inr, arith, rules}
-use Rattle.std.specs.Prelude.{slice_range}
+use Rattle.std.proofs.Common.{◌≡◌, ℕ, ◌+◌, ◌-◌, ◌≤◌, Bool, false, List, [], ◌∷◌, length, take, drop, sym, refl, ap, ◌∙◌, subst, inl, inr, arith}
 use Rattle.std.proofs.lemmas.List.{drop-drop, drop_at, take_at, length-drop, length-append}
 use Rattle.model.specs.Fault as told
-use Rattle.model.specs.Words.{Part, form, bytes, size, Word, end_of, AreParts, IsWordAt, AreGapsAndWords, AreInOrder, ReadsAs, open_with, longest_text, IsTold, text_too_long, comes_first, ComesNoLater}
+use Rattle.model.specs.Words.{Part, form, bytes, size, Word, end_of, AreParts, AreGapsAndWords, AreInOrder, ReadsAs, open_with, IsTold, text_too_long, comes_first, ComesNoLater}
 use Rattle.tokens.specs.Scanner.{closed_with}
 use Rattle.tokens.proofs.Cut.{cut}
 use Rattle.tokens.proofs.Faults.{FaultIn, later, fault_met, none_found}

@@ -1,8 +1,8 @@
 -- What the scanner reads of a list of parts, from what stands before them, and its steps.
-use Rattle.std.proofs.Common.{◌≡◌, ℕ, suc, ◌+◌, ◌-◌, ◌<◌, ◌≤◌, Bool, true, false, cond, List, [], ◌∷◌, ◌++◌, length, get_or, take, drop, Option, Some, None, sym, refl, ap, ◌∙◌, subst, nat_lt, arith, rules}
+use Rattle.std.proofs.Common.{◌≡◌, ℕ, ◌+◌, ◌-◌, Bool, cond, List, [], ◌∷◌, ◌++◌, length, get_or, take, drop, Option, Some, None, sym, ap, ◌∙◌, nat_lt}
 use Rattle.std.specs.Option.{option_to_list}
 use Rattle.model.specs.Fault as told
-use Rattle.model.specs.Words.{Form, form_of, Part, form, bytes, size, Kind, Word, kind_by, kind_of_part, open_with}
+use Rattle.model.specs.Words.{Form, form_of, Part, form, bytes, size, Word, kind_by, kind_of_part, open_with}
 use Rattle.tokens.specs.Scanner.{fault_by, fault_at, word_at, closed_with}
 use Rattle.tokens.proofs.Cut.{cut, PartBetween}
 

@@ -1,9 +1,9 @@
 -- A text reads as the words that the scanner reads, and as no others, exactly where the scanner finds no fault.
-use Rattle.std.proofs.Common.{◌≡◌, ℕ, zero, suc, ◌+◌, ◌-◌, ◌<◌, ◌≤◌, ◌⊎◌, Bool, true, false, cond, ◌||◌, List, [], ◌∷◌, ◌++◌, length, map, Option, Some, None, sym, refl, ap, ◌∙◌, subst, nat_lt, eqb, ltb, inl, inr, ⊎_elim, arith, rules}
+use Rattle.std.proofs.Common.{◌≡◌, ℕ, zero, suc, ◌+◌, ◌-◌, ◌<◌, ◌≤◌, ◌⊎◌, Bool, true, false, cond, List, [], ◌∷◌, ◌++◌, length, Option, Some, None, sym, refl, ap, ◌∙◌, subst, eqb, ltb, inl, inr, ⊎_elim, arith}
 use Rattle.std.specs.Option.{option_to_list}
 use Rattle.std.proofs.lemmas.Bool.{cases_eq, eq-eqb, ne_eqb, lt-ltb, le-ltb, cases_lt, cases_Bool, cond-true, cond-false}
 use Rattle.model.specs.Fault as told
-use Rattle.model.specs.Words.{Form, blank, comment, opening, closing, run, stray, Part, form, bytes, size, Kind, name, variable, keyword, number, dash, equals, opens, closes, Word, kind_by, kind_of_part, kind_of_run, is_name, is_marked_name, is_number, is_only, open_with, longest_text, IsGap, IsWordAt, AreParts, AreGapsAndWords, AreNested, kinds_of, ReadsAs}
+use Rattle.model.specs.Words.{Form, blank, comment, opening, closing, run, stray, Part, form, bytes, size, Kind, name, variable, keyword, number, dash, equals, opens, closes, Word, kind_by, kind_of_part, kind_of_run, is_name, is_marked_name, is_number, is_only, open_with, longest_text, IsGap, IsWordAt, AreGapsAndWords, AreNested, kinds_of, ReadsAs}
 use Rattle.tokens.specs.Scanner.{fault_by, fault_of_run, fault_of_word, fault_at, word_at, closed_with}
 use Rattle.tokens.proofs.Cut.{cut, cut_unique, cut_parts}
 use Rattle.tokens.proofs.Reading.{or_else, first_fault, fault_of_end, words_from}

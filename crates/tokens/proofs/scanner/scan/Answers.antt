@@ -1,12 +1,10 @@
-use Rattle.std.proofs.Common.{arith, rules, subst, ap, sym, refl, ◌∙◌, ◌≤◌, ◌≡◌, ◌++◌, ◌-◌, map, take, drop}
+use Rattle.std.proofs.Common.{arith, rules, ◌≡◌, ◌++◌, ◌-◌, map, take, drop}
 use Rattle.std.specs.Option.{option_to_list}
 use Rattle.std.proofs.lemmas.Result.{err_from_is_err_and}
-use Rattle.std.proofs.lemmas.List.{map-append, append-nil}
 use Rattle.model.specs.Words.{kind_by}
 use Rattle.tokens.proofs.Nesting.{may_open, may_close, stays_shallow}
-use Rattle.tokens.proofs.Steps.{Scanned, kept_some, kept_none, fault_here, scanned_more, told_here, none_if_read, fault_at_end, read_all}
+use Rattle.tokens.proofs.Steps.{kept_some, kept_none, fault_here, scanned_more, told_here, none_if_read, fault_at_end, read_all}
 use Rattle.tokens.specs.Form.{view}
-use Rattle.tokens.specs.Fault.{told_by}
 use Rattle.tokens.specs.Word.{word_of}
 use Rattle.tokens.specs.Scanner.{word_at}
 use Rattle.tokens.proofs.scanner.scan.Goals as goal
