@@ -1,7 +1,8 @@
--- What it means that a text reads as words, and where a text that does not is at fault. This is the profile of the
--- lexical rules of the PDDL 1.2 manual (1998, sections 2 and 3) that this repository reads: names, variables and
--- keywords are ASCII and at most 255 bytes long, numbers are digits, and a comment runs from `;` to the end of its line.
-use Rattle.std.specs.Prelude.{◌≡◌, ℕ, zero, suc, ◌+◌, ◌-◌, ◌<◌, ◌≤◌, ◌⊎◌, Bool, true, false, ◌&&◌, ◌||◌, not, ◌==◌, nat_le, if◌then◌else◌, List, [], ◌∷◌, ◌++◌, length, map, fold, sum_by, Option, None, Some, ⊤}
+-- What it means that a text reads as words, and which fault is told of a text that does not. This is the part of the
+-- PDDL 1.2 manual (1998; "Syntactic Notation" for comments, "Domains" for names) that is read here: bytes for characters,
+-- names of ASCII letters, numbers of digits alone, and limits on the length of a text, the length of a run and the depth
+-- of its lists.
+use Rattle.std.specs.Prelude.{◌≡◌, ℕ, zero, suc, ◌+◌, ◌-◌, ◌<◌, ◌≤◌, ◌⊎◌, Bool, true, false, ◌&&◌, ◌||◌, not, ◌==◌, nat_le, if◌then◌else◌, List, [], ◌∷◌, ◌++◌, length, slice_range, map, fold, sum_by, Option, None, Some, ⊤}
 use Rattle.std.specs.List.{list_all}
 use Rattle.std.specs.Char.{is_ascii_alphabetic, is_ascii_digit}
 use Rattle.model.specs.Fault.{Fault}
@@ -187,6 +188,13 @@ pub record ReadsAs (text : List ℕ) (words : List Word) : Type 0 where
 -- the text reads as some words
 abbrev pub Reads : List ℕ → Type 0
 Reads text = (words : List Word) × ReadsAs text words
+
+-- from the offset `low` on, the words follow one another in the text, each the slice of its span
+abbrev pub AreInOrder : ℕ → List ℕ → List Word → Type 0
+AreInOrder low text [] = low ≤ length text
+AreInOrder low text (word ∷ words) =
+    (low ≤ word.start) × (0 < length word.text) × (slice_range text word.start (end_of word) ≡ word.text)
+    × AreInOrder (end_of word) text words
 
 -- Faults: what keeps a text from reading as words, with the number that is told of it
 

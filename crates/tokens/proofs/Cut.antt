@@ -1,11 +1,10 @@
 -- A text is cut into parts in one way: `cut` is that way.
-use Rattle.std.proofs.Common.{◌≡◌, ℕ, suc, ◌+◌, ◌-◌, ◌<◌, ◌≤◌, Bool, true, false, cond, List, [], ◌∷◌, ◌++◌, length, get_or, take, drop, sym, refl, ap, ◌∙◌, subst, append_assoc, add-one, one-add, arith, rules}
+use Rattle.std.proofs.Common.{◌≡◌, ℕ, suc, ◌+◌, ◌-◌, ◌<◌, Bool, true, false, cond, List, [], ◌∷◌, ◌++◌, length, get_or, take, drop, sym, refl, ap, ◌∙◌, subst, append_assoc, one-add, arith}
 use Rattle.std.specs.List.{list_all, prefix_len}
-use Rattle.std.proofs.lemmas.List.{append-nil, drop_more, drop-drop, length-drop}
+use Rattle.std.proofs.lemmas.List.{append-nil, drop_more, drop-drop}
 use Rattle.std.proofs.lemmas.Bool.{and_parts, and_from}
-use Rattle.std.proofs.lemmas.List.Sums.{prefix_len-le-length}
 use Rattle.std.proofs.lemmas.List.Folds.{length-prefix_len}
-use Rattle.model.specs.Words.{Form, form_of, goes_on, Part, form, bytes, size, EndsBefore, AreParts}
+use Rattle.model.specs.Words.{form_of, goes_on, Part, form, bytes, size, EndsBefore, AreParts}
 
 -- a part of one byte
 abbrev pub alone : ℕ → Part
@@ -38,6 +37,7 @@ going_is part (byte ∷ rest) = by_test (goes_on (form part) byte) (going_is (wi
   where
     n : ℕ
     n = prefix_len (goes_on (form part)) rest
+
     by_test : (t : Bool) → going (with_more part (byte ∷ [])) rest ≡ with_more (with_more part (byte ∷ [])) (take n rest) ∷ cut (drop n rest) → cond t (going (with_more part (byte ∷ [])) rest) (part ∷ going (alone byte) rest) ≡ with_more part (take (cond t (1 + n) 0) (byte ∷ rest)) ∷ cut (drop (cond t (1 + n) 0) (byte ∷ rest))
     by_test true inner = rw one-add (inner ∙ ap (λ p. p ∷ cut (drop n rest)) (with_both part (byte ∷ []) (take n rest)))
     by_test false inner = ap (λ p. p ∷ cut (byte ∷ rest)) (sym (with_none part))
@@ -90,18 +90,21 @@ pub record PartBetween (text : List ℕ) (start end : ℕ) : Type 0 where
 
 pub part_between : (text : List ℕ) (start end : ℕ) → start < length text → end ≡ start + 1 + prefix_len (goes_on (form_of (get_or text start 0))) (drop (start + 1) text) → PartBetween text start end
 part_between text start end inside end_is = record {
-    part = whole;
-    first = refl;
-    cut_is = ap cut (drop_more text start 0 inside) ∙ going_is (alone byte) rest ∙ ap (λ ps. whole ∷ cut ps) (drop-drop n (start + 1) text ∙ ap (λ k. drop k text) (sym end_is));
-    bytes_are = sym (ap (λ k. take k (drop start text)) (let e : end - start ≡ suc n = omega arith in e) ∙ ap (take (suc n)) (drop_more text start 0 inside));
-    size_is = omega (arith, length-prefix_len (goes_on (form_of byte)) rest)
-  }
+  part = whole;
+  first = refl;
+  cut_is = ap cut (drop_more text start 0 inside) ∙ going_is (alone byte) rest ∙ ap (λ ps. whole ∷ cut ps) (drop-drop n (start + 1) text ∙ ap (λ k. drop k text) (sym end_is));
+  bytes_are = sym (ap (λ k. take k (drop start text)) (let e : end - start ≡ suc n = omega arith in e) ∙ ap (take (suc n)) (drop_more text start 0 inside));
+  size_is = omega (arith, length-prefix_len (goes_on (form_of byte)) rest);
+}
   where
     byte : ℕ
     byte = get_or text start 0
+
     rest : List ℕ
     rest = drop (start + 1) text
+
     n : ℕ
     n = prefix_len (goes_on (form_of byte)) rest
+
     whole : Part
     whole = with_more (alone byte) (take n rest)

@@ -1,14 +1,14 @@
 -- The first fault that the scanner finds is a fault of the text, and none comes before it.
-use Rattle.std.proofs.Common.{◌≡◌, ℕ, zero, suc, ◌+◌, ◌-◌, ◌<◌, ◌≤◌, ◌⊎◌, Bool, true, false, cond, ◌||◌, List, [], ◌∷◌, ◌++◌, length, Option, Some, None, sym, refl, ap, ◌∙◌, subst, nat_lt, eqb, ltb, inl, inr, ⊎_elim, append_assoc, arith, rules}
-use Rattle.std.specs.List.{fold, sum_by}
-use Rattle.std.proofs.lemmas.Bool.{cases_eq, eq-eqb, ne_eqb, lt-ltb, le-ltb, ltb-true, ltb-false, cases_lt, cases_Bool, or_cases, or_right, or_left, false≢true, cases_cond, cond-true, cond-false, eqb-true}
-use Rattle.std.proofs.lemmas.List.Sums.{sum_by-cons, sum_by-append, sum_by_push, fold_push, fold-append}
+use Rattle.std.proofs.Common.{◌≡◌, ℕ, ◌+◌, ◌<◌, ◌≤◌, ◌⊎◌, Bool, true, false, List, [], ◌∷◌, ◌++◌, length, Option, Some, None, sym, refl, ap, ◌∙◌, subst, eqb, ltb, inl, inr, ⊎_elim, append_assoc, arith}
+use Rattle.std.specs.List.{fold}
+use Rattle.std.proofs.lemmas.Bool.{cases_eq, eq-eqb, ne_eqb, lt-ltb, le-ltb, cases_lt, or_cases, or_right, false≢true, cond-true, cond-false, eqb-true}
+use Rattle.std.proofs.lemmas.List.Sums.{sum_by-cons, sum_by_push, fold_push}
 use Rattle.std.proofs.lemmas.List.{append-nil, length-append}
 use Rattle.model.specs.Fault as told
 use Rattle.model.specs.Words.{Form, blank, comment, opening, closing, run, stray, Part, form, bytes, size, kind_by, kind_of_run, open_with, open_after, size_of_all, HasClosedAList, IsWord, AreParts, IsAtFault, bad_byte, bad_word, unbalanced, too_deep, too_long, trailing, IsFault, at_part, open_at_end, ComesNoLater, IsTold, comes_first, longest_text}
 use Rattle.tokens.specs.Scanner.{fault_by, fault_of_run, fault_of_word, fault_at, closed_with}
 use Rattle.tokens.proofs.Cut.{cut, cut_unique, cut_parts}
-use Rattle.tokens.proofs.Reading.{or_else, first_fault, fault_of_end}
+use Rattle.tokens.proofs.Reading.{or_else, first_fault}
 
 -- a part at fault, by how many lists are open before it and whether the first has closed
 pub data AtFault (n : ℕ) (c : Bool) (f : Form) (text : List ℕ) : ℕ → Type 0 where
@@ -44,7 +44,6 @@ word_told n c run text w e = by_kind (kind_of_run text)
     by_kind (Some k) = ⊎_elim
         (λ (h : 255 < length text). (5, cond-true (ltb 255 (length text)) (Some 5) (fault_of_word c) (lt-ltb 255 (length text) h), omega arith))
         (λ (h : length text ≤ 255). (6, cond-false (ltb 255 (length text)) (Some 5) (fault_of_word c) (le-ltb 255 (length text) h) ∙ ap fault_of_word e, omega arith)) (cases_lt 255 (length text))
-
 word_told n c blank text w e = absurd w
 word_told n c comment text w e = absurd w
 word_told n c stray text w e = absurd w
@@ -90,16 +89,16 @@ told_fault n c run text code e = by_kind (kind_of_run text) refl e
         (λ (l : length text ≤ 255). word_number n c run text code tt (sym (cond-false (ltb 255 (length text)) (Some 5) (fault_of_word c) (le-ltb 255 (length text) l)) ∙ g)) (cases_lt 255 (length text))
 
 -- a fault of the parts from `start` on
-abbrev HereAt : ℕ → ℕ → Bool → Form → List ℕ → told.Fault → Type 0
+abbrev pub HereAt : ℕ → ℕ → Bool → Form → List ℕ → told.Fault → Type 0
 HereAt start n c f text fault = AtFault n c f text fault.code × (fault.span.start ≡ start) × (fault.span.end ≡ start + length text)
 
-abbrev FaultIn : ℕ → ℕ → Bool → List Part → told.Fault → Type 0
+abbrev pub FaultIn : ℕ → ℕ → Bool → List Part → told.Fault → Type 0
 FaultIn start n c [] fault = (0 < n) × (fault.code ≡ 3) × (fault.span.start ≡ start) × (fault.span.end ≡ start)
 FaultIn start n c (part ∷ parts) fault =
     HereAt start n c (form part) (bytes part) fault
     ⊎ FaultIn (start + size part) (open_with n (form part)) (closed_with n c (form part)) parts fault
 
-later : (start n : ℕ) (c : Bool) (parts : List Part) (fault : told.Fault) → FaultIn start n c parts fault → start ≤ fault.span.start
+pub later : (start n : ℕ) (c : Bool) (parts : List Part) (fault : told.Fault) → FaultIn start n c parts fault → start ≤ fault.span.start
 later start n c [] fault h = omega arith
 later start n c (part ∷ parts) fault (inl h) = omega arith
 later start n c (part ∷ parts) fault (inr h) = omega (arith, later (start + size part) (open_with n (form part)) (closed_with n c (form part)) parts fault h)
@@ -113,6 +112,7 @@ none_found start n c (part ∷ parts) fault none h = by_number (fault_by n c (fo
   where
     rest : Option told.Fault
     rest = first_fault (start + size part) (open_with n (form part)) (closed_with n c (form part)) parts
+
     by_number : (o : Option ℕ) → fault_by n c (form part) (bytes part) ≡ o → or_else (fault_at start (size part) o) rest ≡ None → FaultIn start n c (part ∷ parts) fault → (rest ≡ None → FaultIn (start + size part) (open_with n (form part)) (closed_with n c (form part)) parts fault → ⊥) → ⊥
     by_number (Some k) e none h inner = cc
     by_number None e none (inr h) inner = inner none h
@@ -125,18 +125,19 @@ none_found start n c (part ∷ parts) fault none h = by_number (fault_by n c (fo
 pub found : (start n : ℕ) (c : Bool) (parts : List Part) (fault : told.Fault) → first_fault start n c parts ≡ Some fault → FaultIn start n c parts fault
 found start n c [] fault is = ⊎_elim
     (λ (h : 0 < n).
-        let g : told.Fault = record { code = 3; span = record { start = start; end = start } } in
-        let same : Some g ≡ Some fault = sym (cond-true (ltb 0 n) (Some g) None (lt-ltb 0 n h)) ∙ is in
-        let e : g ≡ fault = cc in
-        (h, sym (ap (λ (x : told.Fault). x.code) e), sym (ap (λ (x : told.Fault). x.span.start) e), sym (ap (λ (x : told.Fault). x.span.end) e)))
+    let g : told.Fault = record { code = 3; span = record { start = start; end = start } } in
+    let same : Some g ≡ Some fault = sym (cond-true (ltb 0 n) (Some g) None (lt-ltb 0 n h)) ∙ is in
+    let e : g ≡ fault = cc in
+    (h, sym (ap (λ (x : told.Fault). x.code) e), sym (ap (λ (x : told.Fault). x.span.start) e), sym (ap (λ (x : told.Fault). x.span.end) e)))
     (λ (h : n ≤ 0).
-        let g : told.Fault = record { code = 3; span = record { start = start; end = start } } in
-        let impossible : None ≡ Some fault = sym (cond-false (ltb 0 n) (Some g) None (le-ltb 0 n h)) ∙ is in
-        absurd (cc)) (cases_lt 0 n)
+    let g : told.Fault = record { code = 3; span = record { start = start; end = start } } in
+    let impossible : None ≡ Some fault = sym (cond-false (ltb 0 n) (Some g) None (le-ltb 0 n h)) ∙ is in
+    absurd (cc)) (cases_lt 0 n)
 found start n c (part ∷ parts) fault is = by_number (fault_by n c (form part) (bytes part)) refl is (found (start + size part) (open_with n (form part)) (closed_with n c (form part)) parts fault)
   where
     rest : Option told.Fault
     rest = first_fault (start + size part) (open_with n (form part)) (closed_with n c (form part)) parts
+
     by_number : (o : Option ℕ) → fault_by n c (form part) (bytes part) ≡ o → or_else (fault_at start (size part) o) rest ≡ Some fault → (rest ≡ Some fault → FaultIn (start + size part) (open_with n (form part)) (closed_with n c (form part)) parts fault) → FaultIn start n c (part ∷ parts) fault
     by_number None e is inner = inr (inner is)
     by_number (Some k) e is inner =
@@ -153,6 +154,7 @@ found_first start n c (part ∷ parts) fault other is h = by_number (fault_by n 
   where
     rest : Option told.Fault
     rest = first_fault (start + size part) (open_with n (form part)) (closed_with n c (form part)) parts
+
     by_number : (o : Option ℕ) → fault_by n c (form part) (bytes part) ≡ o → or_else (fault_at start (size part) o) rest ≡ Some fault → FaultIn start n c (part ∷ parts) other → (rest ≡ Some fault → FaultIn (start + size part) (open_with n (form part)) (closed_with n c (form part)) parts other → ComesNoLater fault other) → ComesNoLater fault other
     by_number None e is (inr h) inner = inner is h
     by_number None e is (inl h) inner =
@@ -237,11 +239,11 @@ size_is text (part ∷ parts) (rest, e, _, _, more) =
 pub fault_met : (text : List ℕ) (fault : told.Fault) → IsFault text fault → FaultIn 0 0 false (cut text) fault
 fault_met text fault (at_part before after part parts wrong start end) =
     subst (λ ps. FaultIn 0 0 false ps fault) (cut_unique text (before ++ part ∷ after) parts)
-        (into 0 0 false before after part fault (by_state before part fault.code wrong, omega (arith, start), omega (arith, end)))
+    (into 0 0 false before after part fault (by_state before part fault.code wrong, omega (arith, start), omega (arith, end)))
 fault_met text fault (open_at_end parts are left code start end) =
     let sizes = size_is text parts are in
     subst (λ ps. FaultIn 0 0 false ps fault) (cut_unique text parts are)
-        (into_end 0 0 false parts fault left code (omega (arith, start, sizes)) (omega (arith, end, sizes)))
+    (into_end 0 0 false parts fault left code (omega (arith, start, sizes)) (omega (arith, end, sizes)))
 
 -- what stands before a part, as the scanner knows it
 record Stands (before : List Part) (start n : ℕ) (c : Bool) : Type 0 where
@@ -256,6 +258,7 @@ closed_so_far before part n c open_is closed h = by_form (form part) refl h
     same e =
         let known = closed e in
         (known.0, known.1 ++ part ∷ [], known.2, ap (λ ps. ps ++ part ∷ []) known.3 ∙ append_assoc known.0 (known.2 ∷ known.1) (part ∷ []), known.4, known.5)
+
     by_form : (f : Form) → form part ≡ f → closed_with n c f ≡ true → HasClosedAList (before ++ part ∷ [])
     by_form blank e h = same h
     by_form comment e h = same h
@@ -266,10 +269,10 @@ closed_so_far before part n c open_is closed h = by_form (form part) refl h
 
 next : (before : List Part) (part : Part) (start n : ℕ) (c : Bool) → Stands before start n c → Stands (before ++ part ∷ []) (start + size part) (open_with n (form part)) (closed_with n c (form part))
 next before part start n c s = record {
-    at_start = ap (λ k. k + size part) s.at_start ∙ sym (sum_by_push size before part);
-    open_lists = ap (λ k. open_with k (form part)) s.open_lists ∙ sym (fold_push (λ k (p : Part). open_with k (form p)) 0 before part);
-    has_closed = closed_so_far before part n c s.open_lists s.has_closed
-  }
+  at_start = ap (λ k. k + size part) s.at_start ∙ sym (sum_by_push size before part);
+  open_lists = ap (λ k. open_with k (form part)) s.open_lists ∙ sym (fold_push (λ k (p : Part). open_with k (form p)) 0 before part);
+  has_closed = closed_so_far before part n c s.open_lists s.has_closed;
+}
 
 by_parts : (before : List Part) (part : Part) (start n : ℕ) (c : Bool) (code : ℕ) → Stands before start n c → AtFault n c (form part) (bytes part) code → IsAtFault before part code
 by_parts before part start n c code s (byte' e) = bad_byte e
@@ -288,7 +291,7 @@ out_of text before (part ∷ parts) start n c fault are s (inl h) =
     at_part before parts part are (by_parts before part start n c fault.code s h.0) (h.1 ∙ s.at_start) (h.2 ∙ ap (λ k. k + size part) s.at_start)
 out_of text before (part ∷ parts) start n c fault are s (inr h) =
     out_of text (before ++ part ∷ []) parts (start + size part) (open_with n (form part)) (closed_with n c (form part)) fault
-        (subst (AreParts text) (sym (append_assoc before (part ∷ []) parts)) are) (next before part start n c s) h
+    (subst (AreParts text) (sym (append_assoc before (part ∷ []) parts)) are) (next before part start n c s) h
 
 -- each fault that the scanner meets is one of the text
 pub met_fault : (text : List ℕ) (fault : told.Fault) → FaultIn 0 0 false (cut text) fault → IsFault text fault
@@ -298,4 +301,4 @@ met_fault text fault h = out_of text [] (cut text) 0 0 false fault (cut_parts te
 pub first_is_told : (text : List ℕ) (fault : told.Fault) → length text ≤ longest_text → first_fault 0 0 false (cut text) ≡ Some fault → IsTold text fault
 first_is_told text fault short is =
     comes_first short (met_fault text fault (found 0 0 false (cut text) fault is))
-        (λ other h. found_first 0 0 false (cut text) fault other is (fault_met text other h))
+    (λ other h. found_first 0 0 false (cut text) fault other is (fault_met text other h))

@@ -4,3 +4,4 @@ pub mod Reading
 pub mod Faults
 pub mod Words
 pub mod Steps
+pub mod Order

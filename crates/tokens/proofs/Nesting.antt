@@ -1,8 +1,7 @@
 -- What a part that is at no fault says of the lists that are open.
-use Rattle.std.proofs.Common.{◌≡◌, ℕ, ◌<◌, ◌≤◌, Bool, List, Option, Some, None, sym, refl, ap, ◌∙◌, subst, ⊎_elim, arith, rules, eqb}
+use Rattle.std.proofs.Common.{◌≡◌, ℕ, ◌<◌, ◌≤◌, Bool, List, None, subst, ⊎_elim, arith}
 use Rattle.std.proofs.lemmas.Bool.{cases_eq, eq-eqb}
-use Rattle.std.proofs.lemmas.Bool.Decides.{nat_tests}
-use Rattle.tokens.specs.Scanner.{fault_by, fault_of_word}
+use Rattle.tokens.specs.Scanner.{fault_by}
 use Rattle.model.specs.Words.{Form, blank, comment, opening, closing, run, stray, open_with}
 
 opens_below : (n : ℕ) (c : Bool) (text : List ℕ) → fault_by n c opening text ≡ None → n ≤ 64 → n < 64

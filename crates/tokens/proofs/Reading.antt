@@ -1,8 +1,8 @@
 -- What the scanner reads of a list of parts, from what stands before them, and its steps.
-use Rattle.std.proofs.Common.{◌≡◌, ℕ, suc, ◌+◌, ◌-◌, ◌<◌, ◌≤◌, Bool, true, false, cond, List, [], ◌∷◌, ◌++◌, length, get_or, take, drop, Option, Some, None, sym, refl, ap, ◌∙◌, subst, nat_lt, arith, rules}
+use Rattle.std.proofs.Common.{◌≡◌, ℕ, ◌+◌, ◌-◌, Bool, cond, List, [], ◌∷◌, ◌++◌, length, get_or, take, drop, Option, Some, None, sym, ap, ◌∙◌, nat_lt}
 use Rattle.std.specs.Option.{option_to_list}
 use Rattle.model.specs.Fault as told
-use Rattle.model.specs.Words.{Form, form_of, Part, form, bytes, size, Kind, Word, kind_by, kind_of_part, open_with}
+use Rattle.model.specs.Words.{Form, form_of, Part, form, bytes, size, Word, kind_by, kind_of_part, open_with}
 use Rattle.tokens.specs.Scanner.{fault_by, fault_at, word_at, closed_with}
 use Rattle.tokens.proofs.Cut.{cut, PartBetween}
 
@@ -20,7 +20,7 @@ abbrev pub first_fault : ℕ → ℕ → Bool → List Part → Option told.Faul
 first_fault start open_lists has_closed [] = fault_of_end start open_lists
 first_fault start open_lists has_closed (part ∷ parts) =
     or_else (fault_at start (size part) (fault_by open_lists has_closed (form part) (bytes part)))
-        (first_fault (start + size part) (open_with open_lists (form part)) (closed_with open_lists has_closed (form part)) parts)
+    (first_fault (start + size part) (open_with open_lists (form part)) (closed_with open_lists has_closed (form part)) parts)
 
 -- the words among the parts from `start` on
 abbrev pub words_from : ℕ → List Part → List Word
@@ -48,7 +48,7 @@ module _ (text slice : List ℕ) (start end n : ℕ) (c : Bool) (f : Form) (betw
   fault_told g is =
       ap (first_fault start n c) between.cut_is
       ∙ ap (λ o. or_else o (first_fault (start + size between.part) (open_with n (form between.part)) (closed_with n c (form between.part)) (cut (drop end text))))
-          (ap (λ g. fault_at start (size between.part) (fault_by n c g (bytes between.part))) same_form ∙ ap (λ b. fault_at start (length b) (fault_by n c f b)) same_bytes ∙ sym is)
+      (ap (λ g. fault_at start (size between.part) (fault_by n c g (bytes between.part))) same_form ∙ ap (λ b. fault_at start (length b) (fault_by n c f b)) same_bytes ∙ sym is)
 
   pub words_step : words_from start (cut (drop start text)) ≡ option_to_list (word_at start slice (kind_by f slice)) ++ words_from end (cut (drop end text))
   words_step =

@@ -1,11 +1,11 @@
 -- The steps and exits of the scanner's loop.
-use Rattle.std.proofs.Common.{◌≡◌, ℕ, suc, ◌+◌, ◌-◌, ◌<◌, ◌≤◌, Bool, true, false, cond, List, [], ◌∷◌, ◌++◌, length, map, get_or, take, drop, Option, Some, None, IfSome, sym, refl, ap, ◌∙◌, subst, ltb, append_assoc, arith, rules}
+use Rattle.std.proofs.Common.{◌≡◌, ℕ, ◌+◌, ◌-◌, ◌<◌, ◌≤◌, Bool, false, List, [], ◌∷◌, ◌++◌, length, map, get_or, take, drop, Option, Some, None, IfSome, sym, refl, ap, ◌∙◌, subst, ltb, append_assoc, arith}
 use Rattle.std.specs.Option.{option_to_list, option_map}
 use Rattle.std.specs.List.{prefix_len}
 use Rattle.std.proofs.lemmas.List.{append-nil, drop_all, map-append}
-use Rattle.std.proofs.lemmas.Bool.{cond-true, cond-false, lt-ltb, le-ltb}
+use Rattle.std.proofs.lemmas.Bool.{cond-true, lt-ltb}
 use Rattle.model.specs.Fault as told
-use Rattle.model.specs.Words.{Form, form_of, goes_on, Part, Word, kind_by, open_with, longest_text, IsTold, Reads, ReadsAs}
+use Rattle.model.specs.Words.{Form, form_of, goes_on, Word, kind_by, open_with, longest_text, IsTold, Reads, ReadsAs}
 use Rattle.tokens.specs.Scanner.{fault_by, fault_at, word_at, closed_with}
 use Rattle.tokens.proofs.Cut.{cut, PartBetween, part_between}
 use Rattle.tokens.proofs.Reading.{first_fault, fault_of_end, words_from, fault_step, fault_told, words_step}
@@ -33,12 +33,12 @@ module _ (text : List ℕ) (start end n : ℕ) (c : Bool) (f : Form) (inside : s
       → more ≡ words ++ option_to_list (word_at start (take (end - start) (drop start text)) (kind_by f (take (end - start) (drop start text))))
       → Scanned text end (open_with n f) (closed_with n c f) more
   scanned_more words more s sound more_is = record {
-      faults = sym (fault_step text (take (end - start) (drop start text)) start end n c f part_here f_is refl sound) ∙ s.faults;
-      words = ap (λ ws. ws ++ words_from end (cut (drop end text))) more_is
+    faults = sym (fault_step text (take (end - start) (drop start text)) start end n c f part_here f_is refl sound) ∙ s.faults;
+    words = ap (λ ws. ws ++ words_from end (cut (drop end text))) more_is
         ∙ append_assoc words _ (words_from end (cut (drop end text)))
         ∙ ap (λ ws. words ++ ws) (sym (words_step text (take (end - start) (drop start text)) start end n c f part_here f_is refl))
-        ∙ s.words
-    }
+        ∙ s.words;
+  }
 
 -- a fault that is found
 module _ (text : List ℕ) (start n : ℕ) (c : Bool) (short : length text ≤ longest_text)

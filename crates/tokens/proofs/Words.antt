@@ -1,9 +1,9 @@
 -- A text reads as the words that the scanner reads, and as no others, exactly where the scanner finds no fault.
-use Rattle.std.proofs.Common.{◌≡◌, ℕ, zero, suc, ◌+◌, ◌-◌, ◌<◌, ◌≤◌, ◌⊎◌, Bool, true, false, cond, ◌||◌, List, [], ◌∷◌, ◌++◌, length, map, Option, Some, None, sym, refl, ap, ◌∙◌, subst, nat_lt, eqb, ltb, inl, inr, ⊎_elim, arith, rules}
+use Rattle.std.proofs.Common.{◌≡◌, ℕ, zero, suc, ◌+◌, ◌-◌, ◌<◌, ◌≤◌, ◌⊎◌, Bool, true, false, cond, List, [], ◌∷◌, ◌++◌, length, Option, Some, None, sym, refl, ap, ◌∙◌, subst, eqb, ltb, inl, inr, ⊎_elim, arith}
 use Rattle.std.specs.Option.{option_to_list}
 use Rattle.std.proofs.lemmas.Bool.{cases_eq, eq-eqb, ne_eqb, lt-ltb, le-ltb, cases_lt, cases_Bool, cond-true, cond-false}
 use Rattle.model.specs.Fault as told
-use Rattle.model.specs.Words.{Form, blank, comment, opening, closing, run, stray, Part, form, bytes, size, Kind, name, variable, keyword, number, dash, equals, opens, closes, Word, kind_by, kind_of_part, kind_of_run, is_name, is_marked_name, is_number, is_only, open_with, longest_text, IsGap, IsWordAt, AreParts, AreGapsAndWords, AreNested, kinds_of, ReadsAs}
+use Rattle.model.specs.Words.{Form, blank, comment, opening, closing, run, stray, Part, form, bytes, size, Kind, name, variable, keyword, number, dash, equals, opens, closes, Word, kind_by, kind_of_part, kind_of_run, is_name, is_marked_name, is_number, is_only, open_with, longest_text, IsGap, IsWordAt, AreGapsAndWords, AreNested, kinds_of, ReadsAs}
 use Rattle.tokens.specs.Scanner.{fault_by, fault_of_run, fault_of_word, fault_at, word_at, closed_with}
 use Rattle.tokens.proofs.Cut.{cut, cut_unique, cut_parts}
 use Rattle.tokens.proofs.Reading.{or_else, first_fault, fault_of_end, words_from}
@@ -102,9 +102,13 @@ sound_part n c run text e = by_kind (kind_of_run text) refl e
   where
     by_kind : (k : Option Kind) → kind_of_run text ≡ k → fault_of_run c k (length text) ≡ None → IsSound run text
     by_kind None h g = absurd (cc)
-    by_kind (Some k) h g = inr (k, h, λ _. ⊎_elim
-        (λ (l : 255 < length text). absurd (let e = cond-true (ltb 255 (length text)) (Some 5) (fault_of_word c) (lt-ltb 255 (length text) l) in cc))
-        (λ (l : length text ≤ 255). l) (cases_lt 255 (length text)))
+    by_kind (Some k) h g = inr (
+      k,
+      h,
+      λ _. ⊎_elim
+          (λ (l : 255 < length text). absurd (let e = cond-true (ltb 255 (length text)) (Some 5) (fault_of_word c) (lt-ltb 255 (length text) l) in cc))
+          (λ (l : length text ≤ 255). l) (cases_lt 255 (length text)),
+    )
 
 -- no fault: none at this part, and none later
 no_fault : (o : Option ℕ) (start size : ℕ) (rest : Option told.Fault) → or_else (fault_at start size o) rest ≡ None → (o ≡ None) × (rest ≡ None)
@@ -156,7 +160,7 @@ nothing_follows start n (part ∷ parts) e =
     let none = no_fault (fault_by n true (form part) (bytes part)) start (size part) _ e in
     ap (λ o. option_to_list (word_at start (bytes part) o) ++ words_from (start + size part) parts) (closed_part n (form part) (bytes part) none.0)
     ∙ nothing_follows (start + size part) (open_with n (form part)) parts
-        (ap (λ c. first_fault (start + size part) (open_with n (form part)) c parts) (sym (closed_stays n (form part))) ∙ none.1)
+    (ap (λ c. first_fault (start + size part) (open_with n (form part)) c parts) (sym (closed_stays n (form part))) ∙ none.1)
 
 -- a part at no fault leaves the lists well nested
 nested_part : (n : ℕ) (f : Form) (text : List ℕ) (start : ℕ) (words : List Word) → n ≤ 64 → fault_by n false f text ≡ None
@@ -188,18 +192,18 @@ nested start n c (part ∷ parts) is_open shallow e =
     let e' = subst (λ b. first_fault start n b (part ∷ parts) ≡ None) is_open e in
     let none = no_fault (fault_by n false (form part) (bytes part)) start (size part) _ e' in
     nested_part n (form part) (bytes part) start (words_from (start + size part) parts) shallow none.0
-        (λ still less. nested (start + size part) (open_with n (form part)) (closed_with n false (form part)) parts still less none.1)
-        (λ over. nothing_follows (start + size part) (open_with n (form part)) parts (subst (λ b. first_fault (start + size part) (open_with n (form part)) b parts ≡ None) over none.1))
+    (λ still less. nested (start + size part) (open_with n (form part)) (closed_with n false (form part)) parts still less none.1)
+    (λ over. nothing_follows (start + size part) (open_with n (form part)) parts (subst (λ b. first_fault (start + size part) (open_with n (form part)) b parts ≡ None) over none.1))
 
 -- what the scanner reads without a fault, the text reads as
 pub reads_as : (text : List ℕ) → length text ≤ longest_text → first_fault 0 0 false (cut text) ≡ None → ReadsAs text (words_from 0 (cut text))
 reads_as text short e = record {
-    short = short;
-    parts = cut text;
-    cut = cut_parts text;
-    in_turn = gaps_and_words 0 0 false (cut text) e;
-    nested = nested 0 0 false (cut text) refl (omega arith) e
-  }
+  short = short;
+  parts = cut text;
+  cut = cut_parts text;
+  in_turn = gaps_and_words 0 0 false (cut text) e;
+  nested = nested 0 0 false (cut text) refl (omega arith) e;
+}
 
 -- Where a text reads as words, the scanner finds no fault.
 passes : (start n m : ℕ) (c d : Bool) (f : Form) (text : List ℕ) (parts : List Part) → fault_by n c f text ≡ None → open_with n f ≡ m → closed_with n c f ≡ d → first_fault (start + length text) m d parts ≡ None

@@ -1,8 +1,8 @@
 -- What the scanner tells of one part, from what stands before it: how many lists are open, and whether the first has
 -- closed.
-use Rattle.std.specs.Prelude.{◌≡◌, ℕ, ◌+◌, ◌-◌, ◌<◌, Bool, true, false, ◌||◌, ◌==◌, nat_lt, if◌then◌else◌, List, length, Option, None, Some}
+use Rattle.std.specs.Prelude.{ℕ, ◌+◌, Bool, ◌||◌, ◌==◌, nat_lt, if◌then◌else◌, List, length, Option, None, Some}
 use Rattle.model.specs.Fault as told
-use Rattle.model.specs.Words.{Form, blank, comment, opening, closing, run, stray, Kind, Word, kind_of_run, kind_by, longest_run, deepest}
+use Rattle.model.specs.Words.{Form, blank, comment, opening, closing, run, stray, Kind, Word, kind_of_run, longest_run, deepest}
 
 -- 6 where the first list has closed
 abbrev pub fault_of_word : Bool → Option ℕ

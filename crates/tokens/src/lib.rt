@@ -3,10 +3,12 @@
 
 mod fault;
 mod form;
+mod laws;
 mod run;
 mod scanner;
 mod word;
 
 pub use fault::{Code, Fault, NoMemory, Span};
+pub use laws::{one_fault, one_reading};
 pub use scanner::scan;
 pub use word::{Kind, Word};

@@ -5,12 +5,11 @@ ghost use Rattle.tokens.specs.Fault.{number_of, told_by};
 ghost use Rattle.tokens.specs.Word.{word_of};
 ghost use Rattle.model.specs.Words.{ReadsAs, Reads, IsTold};
 
-use std::alloc::Global;
-
 use crate::fault::{Code, Fault, Span};
 use crate::form::{Form, part_end};
 use crate::run::kind_of_run;
 use crate::word::{Kind, Word};
+use std::alloc::Global;
 
 /// How many bytes a text may have.
 const LONGEST_TEXT: usize = 16_777_216;
@@ -71,7 +70,8 @@ pub fn scan(alloc: Global, text: &[u8]) -> Result<Vec<Word<'_>>, Fault>
 }
 
 fn refusal(code: Code, start: usize, end: usize) -> Fault
-    ensures { told_by result ≡ Some (record { code = number_of code; span = record { start = start; end = end } }) }
+    ensures { told_by result
+        ≡ Some (record { code = number_of code; span = record { start = start; end = end } }) }
 {
     Fault::At {
         code,
@@ -108,7 +108,8 @@ impl Nesting {
 
     /// The kind of the word that a part is, where it is one, or what the part is refused for.
     fn word_kind(self, form: Form, part: &[u8]) -> Result<Option<Kind>, Code>
-        ensures sound { IfOk result (λ kind. fault_by self.open_lists self.has_closed (view form) part.now ≡ None) }
+        ensures sound { IfOk result (λ kind.
+            fault_by self.open_lists self.has_closed (view form) part.now ≡ None) }
         ensures kind { IfOk result (λ kind. option_map kind_of kind ≡ kind_by (view form) part.now) }
         ensures refused { IfErr result (λ code.
             fault_by self.open_lists self.has_closed (view form) part.now ≡ Some (number_of code)) }
@@ -128,16 +129,23 @@ impl Nesting {
                 kind
             }
         };
-        if self.has_closed { Err(Code::Trailing) } else { Ok(Some(kind)) }
+        if self.has_closed {
+            Err(Code::Trailing)
+        } else {
+            Ok(Some(kind))
+        }
     }
 
     /// The word that a part is, where it is one.
     fn word<'a>(self, start: usize, form: Form, part: &'a [u8]) -> Result<Option<Word<'a>>, Fault>
         requires { start + length part.now < 2 ^ 64 }
-        ensures sound { IfOk result (λ word. fault_by self.open_lists self.has_closed (view form) part.now ≡ None) }
-        ensures word { IfOk result (λ word. option_map word_of word ≡ word_at start part.now (kind_by (view form) part.now)) }
+        ensures sound { IfOk result (λ word.
+            fault_by self.open_lists self.has_closed (view form) part.now ≡ None) }
+        ensures word { IfOk result (λ word.
+            option_map word_of word ≡ word_at start part.now (kind_by (view form) part.now)) }
         ensures refused { IfErr result (λ fault.
-            told_by fault ≡ fault_at start (length part.now) (fault_by self.open_lists self.has_closed (view form) part.now)) }
+            told_by fault ≡ fault_at start (length part.now)
+            (fault_by self.open_lists self.has_closed (view form) part.now)) }
     {
         match self.word_kind(form, part) {
             Ok(Some(kind)) => Ok(Some(Word {
@@ -155,7 +163,8 @@ impl Nesting {
         requires opens { view form ≡ opening → self.open_lists < 64 }
         requires closes { view form ≡ closing → 0 < self.open_lists }
         ensures open_lists { result.open_lists ≡ open_with self.open_lists (view form) }
-        ensures has_closed { result.has_closed ≡ closed_with self.open_lists self.has_closed (view form) }
+        ensures has_closed { result.has_closed
+            ≡ closed_with self.open_lists self.has_closed (view form) }
     {
         match form {
             Form::Opening => Nesting {

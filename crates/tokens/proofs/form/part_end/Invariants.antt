@@ -9,7 +9,7 @@ invariant-loop-end l = record {
   above : l.start < l.end;
   within : l.end ≤ length l.text;
   counted : l.end + prefix_len (goes_on (view l.form)) (drop l.end l.text)
-    ≡ l.start + 1 + prefix_len (goes_on (view l.form)) (drop (l.start + 1) l.text)
+      ≡ l.start + 1 + prefix_len (goes_on (view l.form)) (drop (l.start + 1) l.text);
 }
 
 abbrev pub decreases-loop-end : goal.decreases-loop-end
