@@ -1,5 +1,5 @@
 -- What a walk over the parts of an effect leaves of a state, part by part.
-use Rattle.std.specs.Prelude.{◌≡◌, ℕ, ◌+◌, ◌<◌, ◌≤◌, List, [], ◌∷◌, ◌++◌, length, take, refl}
+use Rattle.std.specs.Prelude.{◌≡◌, ℕ, ◌+◌, ◌<◌, ◌≤◌, List, [], ◌∷◌, ◌++◌, length, take}
 use Rattle.std.proofs.Common.{sym, ◌∙◌, ap, get_or}
 use Rattle.std.specs.List.{flat_map}
 use Rattle.std.specs.FinSet.{from_list, union, difference}
@@ -7,7 +7,7 @@ use Rattle.std.proofs.lemmas.List.{take_all, take_more}
 use Rattle.std.proofs.Common.{append-nil}
 use Rattle.std.proofs.lemmas.Grind.{flat_map-append}
 use Rattle.model.specs.Meaning.{State, Change, added_by, deleted_by}
-use Rattle.model.proofs.Atoms.{difference-none, difference-append, union-none, union-append, added_by-append, deleted_by-append}
+use Rattle.model.proofs.Atoms.{difference-append, union-append, added_by-append, deleted_by-append}
 
 abbrev pub without : State → List Change → State
 without s changes = difference s (from_list (deleted_by changes))

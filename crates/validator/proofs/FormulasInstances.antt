@@ -1,5 +1,5 @@
 -- What it means that an instance is the task's, and where it leads.
-use Rattle.std.specs.Prelude.{◌≡◌, ℕ, Bool, true, false, ◌&&◌, ◌==◌, List, length, map, slice_get, IsTrue, Option, None, Some, if◌then◌else◌, cond, refl}
+use Rattle.std.specs.Prelude.{◌≡◌, ℕ, true, false, ◌&&◌, ◌==◌, List, length, map, slice_get, IsTrue, Option, None, Some, if◌then◌else◌, cond, refl}
 use Rattle.std.proofs.Common.{sym, ◌∙◌, ap, subst, eq-eqb}
 use Rattle.std.specs.Cmp.{first_so, second_so, unsigned_Decides}
 use Rattle.std.specs.List.{list_all}

@@ -1,5 +1,5 @@
 -- What a well-typed task says of its parts, and lists of which each element passes a test.
-use Rattle.std.specs.Prelude.{◌≡◌, ℕ, ◌+◌, ◌≤◌, ◌<◌, Bool, true, false, ◌&&◌, nat_le, nat_lt, ◌==◌, List, [], ◌∷◌, ◌++◌, length, map, take, slice_get, slice_index, IsTrue, Option, None, Some, refl}
+use Rattle.std.specs.Prelude.{◌≡◌, ℕ, ◌+◌, ◌≤◌, ◌<◌, Bool, true, false, ◌&&◌, nat_le, ◌==◌, List, [], ◌∷◌, ◌++◌, length, map, take, slice_get, IsTrue, Some, refl}
 use Rattle.std.proofs.Common.{zero, suc, sym, ◌∙◌, ap, subst, get_or, arith, true≢false}
 use Rattle.std.specs.Cmp.{first_so, second_so}
 use Rattle.std.specs.List.{list_all}
@@ -14,7 +14,7 @@ use Rattle.validator.specs.declared.typing.LiftedAtom.{LiftedAtom}
 use Rattle.validator.specs.TaskParts.{object_of, term_of, lifted_atom_of}
 use Rattle.validator.specs.Formulas.{is_bound}
 use Rattle.model.specs.Task as task
-use Rattle.model.specs.WellTyped.{is_task, is_schema, is_object, is_term, is_lifted_atom, has_arity, is_formula, is_effect, max_arguments}
+use Rattle.model.specs.WellTyped.{is_task, is_term, is_lifted_atom, has_arity, max_arguments}
 use Rattle.model.specs.Meaning as meaning
 
 -- ---- tests of a list, element by element

@@ -1,5 +1,5 @@
 -- The parts of a conjunction as a list: what formulas and effects mean, part by part.
-use Rattle.std.specs.Prelude.{◌≡◌, ℕ, Bool, true, ◌&&◌, List, [], ◌∷◌, ◌++◌, IsTrue, refl}
+use Rattle.std.specs.Prelude.{◌≡◌, ℕ, true, ◌&&◌, List, [], ◌∷◌, ◌++◌, IsTrue, refl}
 use Rattle.std.proofs.Common.{sym, ◌∙◌, ap}
 use Rattle.std.specs.Global.{Vec}
 use Rattle.std.specs.List.{list_all, flat_map}
@@ -11,7 +11,7 @@ use Rattle.validator.specs.declared.typing.Effect as effect
 use Rattle.validator.specs.TaskParts.{formula_of, formulas_of, effect_of, effects_of}
 use Rattle.model.specs.Task as task
 use Rattle.model.specs.WellTyped.{is_formula, are_formulas, is_effect, are_effects}
-use Rattle.model.specs.Meaning.{State, holds, all_hold, Change, changes_of, changes_of_all}
+use Rattle.model.specs.Meaning.{State, holds, all_hold, changes_of, changes_of_all}
 
 -- ---- formulas
 

@@ -1,6 +1,6 @@
 -- Of each list of actions exactly one verdict is true.
-use Rattle.std.specs.Prelude.{◌≡◌, ℕ, ◌+◌, ◌-◌, ◌≤◌, Bool, true, false, IsTrue, List, [], ◌∷◌, take, slice_get, Option, None, Some, ◌⊎◌, refl}
-use Rattle.std.proofs.Common.{sym, ◌∙◌, ap, subst, inl, inr, zero, suc, arith, true≢false}
+use Rattle.std.specs.Prelude.{◌≡◌, ℕ, ◌+◌, ◌-◌, true, false, IsTrue, List, [], ◌∷◌, take, slice_get, None, Some, ◌⊎◌, refl}
+use Rattle.std.proofs.Common.{sym, ◌∙◌, ap, inl, inr, zero, suc, arith, true≢false}
 use Rattle.std.specs.Option.{option_and_then}
 use Rattle.std.proofs.lemmas.Option.{none-some, same_Some}
 use Rattle.model.specs.Runs.{System, run, StopsAt, Verdict, valid, not_applicable, goal_missed, IsVerdict, cost_of_all}

@@ -1,4 +1,4 @@
-use Rattle.std.proofs.Common.{◌∙◌, ap, sym, length, subst, ◌≤◌, Some, None}
+use Rattle.std.proofs.Common.{◌∙◌, ap, sym, length, subst, ◌≤◌, Some}
 use Rattle.std.specs.Option.{option_map}
 use Rattle.std.proofs.Math.ListN.{length-map}
 use Rattle.validator.specs.Typing.{task_of}

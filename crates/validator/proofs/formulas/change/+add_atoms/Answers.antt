@@ -3,7 +3,7 @@ use Rattle.validator.specs.declared.typing.Effect.{the_lemmas}
 use Rattle.validator.specs.Typing.{task_of}
 use Rattle.validator.specs.Formulas.{state_of}
 use Rattle.validator.specs.TaskParts.{object_of, effect_of, lifted_atom_of}
-use Rattle.model.specs.Meaning.{State, ground_atom, changes_of}
+use Rattle.model.specs.Meaning.{ground_atom, changes_of}
 use Rattle.std.specs.FinSet.{insert}
 use Rattle.model.specs.WellTyped.{is_effect}
 use Rattle.model.proofs.Atoms.{union-none, union-one}

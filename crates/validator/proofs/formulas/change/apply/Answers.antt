@@ -1,9 +1,6 @@
-use Rattle.std.proofs.Common.{subst, map}
-use Rattle.std.proofs.Math.ListN.{length-map}
-use Rattle.validator.specs.TaskParts.{object_of, shape_of, formula_of, effect_of}
+use Rattle.validator.specs.TaskParts.{shape_of}
 use Rattle.validator.specs.Typing.{task_of}
-use Rattle.model.specs.WellTyped.{is_formula, is_effect}
-use Rattle.validator.proofs.FormulasInstances.{precondition_typed, effect_typed, step_by_precondition}
+use Rattle.validator.proofs.FormulasInstances.{precondition_typed, effect_typed}
 use Rattle.validator.proofs.formulas.change.apply.Goals as goal
 
 pub holds-requires : goal.holds-requires
