@@ -3,3 +3,5 @@ pub mod TypingLists
 pub mod TypingTables
 pub mod TypingFound
 pub mod TypingTrees
+pub mod TypingTells
+pub mod TypingWellTyped
