@@ -5,3 +5,4 @@ pub mod TypingFound
 pub mod TypingTrees
 pub mod TypingTells
 pub mod TypingWellTyped
+pub mod TypingTask

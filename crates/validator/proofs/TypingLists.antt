@@ -1,6 +1,6 @@
 -- Places and members of lists that other lists give.
 use Rattle.std.proofs.Common.{◌≡◌, ℕ, ◌+◌, ◌≤◌, ◌<◌, Bool, true, false, not, cond, ◌||◌, List, [], ◌∷◌, map, length, refl, ap, sym, ◌∙◌, arith, nat_lt, Option, None, Some, zero, suc, take, drop, get_or, ◌++◌}
-use Rattle.std.proofs.lemmas.List.{length-map}
+use Rattle.std.proofs.lemmas.List.{length-map, map_push, map_more}
 use Rattle.std.specs.List.{list_any, position, position_or_len}
 use Rattle.std.proofs.lemmas.Bool.Decides.{nat_tests}
 
@@ -69,3 +69,16 @@ pub take-full : {X : Type 0} (n : ℕ) (xs : List X) (x : X) → n ≤ length (t
 take-full zero xs x h = refl
 take-full (suc n) [] x h = absurd (omega (arith, h))
 take-full (suc n) (y ∷ ys) x h = ap (λ zs. y ∷ zs) (take-full n ys x (omega (arith, h)))
+
+-- a list of the first few, as its source grows by one
+pub kept_push : {X O N : Type 0} (F : X → N) (view : O → N) (n : ℕ) (xs : List X) (i : ℕ) (d : X) → i < length xs → (items : List O) (o : O) → view o ≡ F (get_or xs i d)
+    → map view items ≡ take n (map F (take i xs)) → length items < n → map view (items ++ o ∷ []) ≡ take n (map F (take (i + 1) xs))
+kept_push F view n xs i d l items o same kept low =
+    map_push view items o ∙ ap (λ r. map view items ++ r ∷ []) same ∙ ap (λ zs. zs ++ F (get_or xs i d) ∷ []) kept
+    ∙ sym (take-push n (map F (take i xs)) (F (get_or xs i d)) (omega (arith, ap length kept, length-map items view))) ∙ ap (take n) (sym (map_more F xs i d l))
+
+pub kept_full : {X O N : Type 0} (F : X → N) (view : O → N) (n : ℕ) (xs : List X) (i : ℕ) → i < length xs → (items : List O)
+    → map view items ≡ take n (map F (take i xs)) → n ≤ length items → map view items ≡ take n (map F (take (i + 1) xs))
+kept_full F view n [] i l items kept high = absurd (omega (arith, l))
+kept_full F view n (y ∷ ys) i l items kept high =
+    kept ∙ sym (take-full n (map F (take i (y ∷ ys))) (F (get_or (y ∷ ys) i y)) (omega (arith, ap length kept, length-map items view))) ∙ ap (take n) (sym (map_more F (y ∷ ys) i y l))

@@ -68,7 +68,7 @@ known_number file names name most low e = by (is_known names name) (list_any-pos
     by true t f = grind (arith, nat_tests)
     by false t f = absurd (cc)
 
-declared_arity : (file : File) (predicates : List task.Predicate) (name : tree.Name) (count : ℕ) → predicate_faults file predicates name count ≡ []
+pub declared_arity : (file : File) (predicates : List task.Predicate) (name : tree.Name) (count : ℕ) → predicate_faults file predicates name count ≡ []
     → is_of_arity (slice_get predicates (number_in (names_of predicates) name)) count ≡ true
 declared_arity file predicates name count e = by (slice_get predicates (number_in (names_of predicates) name)) e
   where
@@ -141,7 +141,7 @@ module _ (t : task.Task) (scope : ℕ) (file : File) (known : Known) (fits : Fit
 
 -- ---- declarations
 
-arities_fit : (qs : List tree.Predicate) → flat_map (λ (q : tree.Predicate). refused in_domain 25 (one_after 8 q.parameters)) qs ≡ []
+pub arities_fit : (qs : List tree.Predicate) → flat_map (λ (q : tree.Predicate). refused in_domain 25 (one_after 8 q.parameters)) qs ≡ []
     → list_all (λ (p : task.Predicate). nat_le p.arity 8) (map predicate_of qs) ≡ true
 arities_fit [] e = refl
 arities_fit (q ∷ qs) e =

@@ -31,7 +31,7 @@ returns-in_err-finish-clause-err c =
     c.in_ok-schemas.ensures.finds ∙ ap (λ o. found o (inner xs)) (c.in_ok-declare_actions.ensures ∙ ap (λ o. found o (twice xs)) c.new-walk.ensures)
     ∙ sym (finding.found-append None (twice xs) (inner xs)) ∙ ap (λ ys. found None (twice ys ++ inner ys)) c.as_slice-actions.ensures.value
     ∙ ap (found None) (same c.args.domain.now.actions.items) in
-    telling.passed_on (TellsLeastOf (typing.action_faults (map parts.predicate_of c.args.predicates.now.entries) (read.domain_of c.args.domain.now))) c.from_residual-in_err-finish.result c.in_err-finish.field-0 c.from_residual-in_err-finish.ensures.1 (telling.tells (typing.action_faults (map parts.predicate_of c.args.predicates.now.entries) (read.domain_of c.args.domain.now)) _ total c.in_err-finish.field-0 c.in_err-finish.ensures.some)
+    telling.passed_on (TellsLeastOf (typing.action_faults (map parts.predicate_of c.args.predicates.now.entries) (read.domain_of c.args.domain.now))) c.from_residual-in_err-finish.result c.in_err-finish.field-0.0 c.from_residual-in_err-finish.ensures.1 (telling.tells (typing.action_faults (map parts.predicate_of c.args.predicates.now.entries) (read.domain_of c.args.domain.now)) _ total c.in_err-finish.field-0.0 c.in_err-finish.ensures.some)
 
 pub returns-clause-ok : goal.returns-clause-ok
 returns-clause-ok c =

@@ -13,6 +13,8 @@ use Rattle.validator.proofs.TypingLeast as least
 use Rattle.validator.proofs.TypingTells as telling
 use Rattle.validator.proofs.TypingWellTyped as typed
 use Rattle.std.proofs.lemmas.List.{length-map}
+use Rattle.pddl_tree.specs.declared.tree.Name.{Name}
+use Rattle.validator.proofs.typing.scope.Scope.atom.Goals.{then-len-lt-MAX_ARGUMENTS, else-len-lt-MAX_ARGUMENTS}
 use Rattle.validator.proofs.typing.scope.Scope.atom.Goals as goal
 
 pub returns-clause-value : goal.returns-clause-value
@@ -31,4 +33,17 @@ returns-clause-finds c =
     (c.in_ok-predicate.ensures.finds ∙ ap (λ n. found before (typing.predicate_faults file known.predicates name n)) count)
 
 pub loop-name-preserved : goal.loop-name-preserved
-loop-name-preserved c = ?
+loop-name-preserved c =
+    let xs = c.deref-name-items.result.now in let i = c.loop-name.name-index in
+    let number = λ (n : Name). typing.number_in (known_of c.args.self.now).objects (read.name_of n) in
+    let faults = λ (n : Name). typing.unknown_faults (file_of c.args.self.now.file) (known_of c.args.self.now).objects (read.name_of n) in
+    record {
+      objects = elim c.if-len-lt-MAX_ARGUMENTS.branch [
+        | then-len-lt-MAX_ARGUMENTS w ↦ ap (λ v. map parts.object_of v.items) w.objects-is ∙ ap (map parts.object_of) w.push.ensures.items
+            ∙ lists.kept_push number parts.object_of 8 xs i _ c.loop-name-test.true c.loop-name.objects.items c.in_ok-object.object c.in_ok-object.ensures.value c.loop-name.invariant.objects (omega (arith, w.if-len-lt-MAX_ARGUMENTS.true, c.len-in-loop-name.ensures.value))
+        | else-len-lt-MAX_ARGUMENTS w ↦ ap (λ v. map parts.object_of v.items) w.objects-is
+            ∙ lists.kept_full number parts.object_of 8 xs i c.loop-name-test.true c.loop-name.objects.items c.loop-name.invariant.objects (omega (arith, w.if-len-lt-MAX_ARGUMENTS.false, c.len-in-loop-name.ensures.value))
+      ];
+      finds = ap (λ o. found o (flat_map faults (drop (i + 1) xs))) c.in_ok-object.ensures.finds
+          ∙ sym (finding.found_more faults (least_of c.loop-name.walk) xs i _ c.loop-name-test.true) ∙ c.loop-name.invariant.finds;
+    }
