@@ -15,13 +15,13 @@ max_variables = 16
 abbrev pub is_object : Task → ℕ → Bool
 is_object task number = nat_lt number (length task.objects)
 
+abbrev pub is_of_arity : Option Predicate → ℕ → Bool
+is_of_arity None count = false
+is_of_arity (Some p) count = count == p.arity
+
 -- the number names a predicate that has this count of arguments
 abbrev pub has_arity : Task → ℕ → ℕ → Bool
 has_arity task predicate count = is_of_arity (slice_get task.predicates predicate) count
-  where
-  is_of_arity : Option Predicate → ℕ → Bool
-  is_of_arity None count = false
-  is_of_arity (Some p) count = count == p.arity
 
 -- where this many parameters are in scope
 abbrev pub is_term : Task → ℕ → Term → Bool

@@ -9,7 +9,7 @@ use Rattle.model.specs.Trees.{Name}
 use Rattle.model.specs.Typing.{File, TypingFault, refused, repeated_after, with_name, is_known}
 use Rattle.validator.specs.TypingWalk.{found, earlier}
 
-map-map : {X Y Z : Type 0} (F : Y → Z) (g : X → Y) (xs : List X) → map F (map g xs) ≡ map (λ x. F (g x)) xs
+pub map-map : {X Y Z : Type 0} (F : Y → Z) (g : X → Y) (xs : List X) → map F (map g xs) ≡ map (λ x. F (g x)) xs
 map-map F g [] = refl
 map-map F g (x ∷ xs) = ap (λ ys. F (g x) ∷ ys) (map-map F g xs)
 

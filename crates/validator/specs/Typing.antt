@@ -9,7 +9,7 @@ use Rattle.validator.specs.declared.typing.TaskFault.TheVariants.{At, NoMemory}
 use Rattle.validator.specs.TaskParts.{task_of_parts}
 use Rattle.model.specs.Task as task
 use Rattle.model.specs.Trees as tree
-use Rattle.model.specs.Typing.{File, in_domain, in_problem, TypingFault, IsLeastFault, IsLeastOf}
+use Rattle.model.specs.Typing.{File, in_domain, in_problem, TypingFault, IsLeastOf, faults_of}
 
 abbrev pub task_of : Task → task.Task
 task_of t = task_of_parts t.objects.keys t.predicates.entries t.schemas.entries t.init.items t.goal
@@ -33,5 +33,4 @@ TellsLeastOf faults (At file code span) = (f : TypingFault) × IsLeastOf faults 
 
 -- the least fault of the pair is told; want of memory says nothing of the pair
 abbrev pub TellsLeastFault : tree.Domain → tree.Problem → TaskFault → Type 0
-TellsLeastFault d p NoMemory = Unit {0}
-TellsLeastFault d p (At file code span) = (f : TypingFault) × IsLeastFault d p f × Tells (At file code span) f
+TellsLeastFault d p = TellsLeastOf (faults_of d p)

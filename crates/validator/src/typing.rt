@@ -268,14 +268,16 @@ impl Task {
     pub fn predicate_named(&self, folded: &[u8]) -> Option<PredicateId>
         ensures { option_map predicate_id_of result ≡ position (is_same folded.now) (map (λ p. p.name) (task_of self.now).predicates) }
     {
-        self.predicates.get_index_of(folded).map(PredicateId)
+        let number = self.predicates.get_index_of(folded)?;
+        Some(PredicateId(number))
     }
 
     /// The schema of this name, which is given in lower case.
     pub fn schema_named(&self, folded: &[u8]) -> Option<SchemaId>
         ensures { option_map schema_id_of result ≡ position (is_same folded.now) (map (λ s. s.name) (task_of self.now).schemas) }
     {
-        self.schemas.get_index_of(folded).map(SchemaId)
+        let number = self.schemas.get_index_of(folded)?;
+        Some(SchemaId(number))
     }
 
     /// The object's name, in lower case, and `None` where the number is beyond the last.

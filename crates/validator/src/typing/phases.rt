@@ -1,5 +1,5 @@
 //! The phases of typing, in the order in which their faults are told.
-ghost use Rattle.std.specs.Prelude.{◌≡◌, ◌≤◌, [], ◌∷◌, if◌then◌else◌, length, map, IfErr, IfOk, OnOk};
+ghost use Rattle.std.specs.Prelude.{◌≡◌, ◌≤◌, [], ◌∷◌, ◌++◌, false, if◌then◌else◌, length, map, IfErr, IfOk, OnOk};
 ghost use Rattle.validator.specs.TaskParts as parts;
 ghost use Rattle.validator.specs.Typing.{file_of, TellsLeastOf};
 ghost use Rattle.validator.specs.TypingScope.{known_of, names_in, narrow_atom_in};
@@ -19,6 +19,23 @@ use pddl_tree::{Action, Domain, Fact, Name, Predicate as Declaration, Problem};
 use std::alloc::Global;
 use tokens::{Code, NoMemory};
 
+/// The name of the domain that the problem is for is this one. Another is refused.
+fn compare(
+    alloc: Global,
+    walk: &mut Walk,
+    domain: &Name<'_>,
+    wanted: &Name<'_>,
+) -> Result<(), NoMemory>
+    ensures { OnOk result (Finds walk.old walk.new (if typing.is_same (typing.folded (read.name_of wanted.now)) (typing.folded (read.name_of domain.now)) then [] else typing.refused typing.in_problem 21 (read.name_of wanted.now ∷ []))) }
+{
+    let name = lower_case(alloc, domain)?;
+    let same = lower_case(alloc, wanted)? == name;
+    if !same {
+        walk.refuse(TaskFile::Problem, Code::DomainMismatch, wanted);
+    }
+    Ok(())
+}
+
 /// The problem is for this domain.
 pub(crate) fn domain_name(
     alloc: Global,
@@ -29,11 +46,7 @@ pub(crate) fn domain_name(
     ensures err { IfErr result (TellsLeastOf (typing.domain_name_faults (read.domain_of domain.now) (read.problem_of problem.now))) }
 {
     let mut walk = Walk::new(alloc);
-    let wanted = lower_case(alloc, &domain.name)?;
-    walk.fold(&problem.domain)?;
-    if walk.folded.as_slice() != wanted.as_slice() {
-        walk.refuse(TaskFile::Problem, Code::DomainMismatch, &problem.domain);
-    }
+    compare(alloc, &mut walk, &domain.name, &problem.domain)?;
     walk.finish()
 }
 
@@ -89,10 +102,68 @@ pub(crate) fn objects(alloc: Global, problem: &Problem<'_>) -> Result<IndexSet<V
     ensures err { IfErr result (TellsLeastOf (typing.object_faults (read.problem_of problem.now))) }
 {
     let mut walk = Walk::new(alloc);
-    let objects = declared(alloc, &mut walk, TaskFile::Problem, &problem.objects)?;
-    limit(&mut walk, TaskFile::Problem, &problem.objects, MAX_OBJECTS);
+    let names = problem.objects.as_slice();
+    let objects = declared(alloc, &mut walk, TaskFile::Problem, names)?;
+    limit(&mut walk, TaskFile::Problem, names, MAX_OBJECTS);
     walk.finish()?;
     Ok(objects)
+}
+
+/// Declares a predicate. One that is declared before is refused.
+fn declare_predicate(
+    alloc: Global,
+    walk: &mut Walk,
+    predicates: &mut IndexMap<Vec<u8>, Predicate>,
+    declaration: &Declaration<'_>,
+) -> Result<(), NoMemory>
+    ensures names { OnOk result (typing.names_of (map parts.predicate_of predicates.new.entries)
+        ≡ typing.with_name (typing.names_of (map parts.predicate_of predicates.old.entries)) (read.name_of declaration.now.name)) }
+    ensures added { OnOk result (typing.is_known (typing.names_of (map parts.predicate_of predicates.old.entries)) (read.name_of declaration.now.name) ≡ false
+        → map parts.predicate_of predicates.new.entries
+        ≡ map parts.predicate_of predicates.old.entries ++ typing.predicate_of (read.predicate_of declaration.now) ∷ []) }
+    ensures finds { OnOk result (Finds walk.old walk.new (typing.refused typing.in_domain 16
+        (if typing.is_known (typing.names_of (map parts.predicate_of predicates.old.entries)) (read.name_of declaration.now.name) then read.name_of declaration.now.name ∷ [] else []))) }
+{
+    let arity = declaration.parameters.len();
+    let key = lower_case(alloc, &declaration.name)?;
+    let before = predicates.insert(key, Predicate { arity })?;
+    let again = before.is_some();
+    if again {
+        walk.refuse(TaskFile::Domain, Code::Duplicate, &declaration.name);
+    }
+    Ok(())
+}
+
+/// The predicates that a list declares.
+fn declared_predicates(
+    alloc: Global,
+    walk: &mut Walk,
+    declarations: &[Declaration<'_>],
+) -> Result<IndexMap<Vec<u8>, Predicate>, NoMemory>
+    ensures table { IfOk result (λ m. typing.repeated (map (λ q. read.name_of q.name) declarations.now) ≡ []
+        → map parts.predicate_of m.entries ≡ map (λ q. typing.predicate_of (read.predicate_of q)) declarations.now) }
+    ensures finds { OnOk result (Finds walk.old walk.new (typing.refused typing.in_domain 16 (typing.repeated (map (λ q. read.name_of q.name) declarations.now)))) }
+{
+    let mut predicates = IndexMap::new(alloc);
+    for declaration in declarations {
+        declare_predicate(alloc, walk, &mut predicates, declaration)?;
+    }
+    Ok(predicates)
+}
+
+/// The arguments that are too many.
+fn limit_arguments(walk: &mut Walk, declarations: &[Declaration<'_>])
+    ensures { Finds walk.old walk.new
+        (flat_map (λ q. typing.refused typing.in_domain 25 (typing.one_after 8 (map read.name_of q.parameters.items))) declarations.now) }
+{
+    for declaration in declarations {
+        limit(
+            walk,
+            TaskFile::Domain,
+            declaration.parameters.as_slice(),
+            MAX_ARGUMENTS,
+        );
+    }
 }
 
 /// The domain's predicates.
@@ -106,22 +177,9 @@ pub(crate) fn predicates(
     ensures err { IfErr result (TellsLeastOf (typing.declaration_faults (read.domain_of domain.now))) }
 {
     let mut walk = Walk::new(alloc);
-    let mut predicates = IndexMap::new(alloc);
-    'table: for declaration in &domain.predicates {
-        let arity = declaration.parameters.len();
-        let before = predicates.insert(lower_case(alloc, &declaration.name)?, Predicate { arity })?;
-        if before.is_some() {
-            walk.refuse(TaskFile::Domain, Code::Duplicate, &declaration.name);
-        }
-    }
-    'limits: for declaration in &domain.predicates {
-        limit(
-            &mut walk,
-            TaskFile::Domain,
-            &declaration.parameters,
-            MAX_ARGUMENTS,
-        );
-    }
+    let declarations = domain.predicates.as_slice();
+    let predicates = declared_predicates(alloc, &mut walk, declarations)?;
+    limit_arguments(&mut walk, declarations);
     walk.finish()?;
     Ok(predicates)
 }
@@ -136,8 +194,9 @@ fn schema(
     ensures shape { IfOk result (λ s. parts.shape_of s ≡ parts.shape_of_schema (typing.schema_in (map parts.predicate_of predicates.now.entries) (read.action_of action.now))) }
     ensures finds { OnOk result (Finds walk.old walk.new (typing.schema_faults (map parts.predicate_of predicates.now.entries) (read.action_of action.now))) }
 {
-    let variables = declared(alloc, walk, TaskFile::Domain, &action.parameters)?;
-    limit(walk, TaskFile::Domain, &action.parameters, MAX_VARIABLES);
+    let names = action.parameters.as_slice();
+    let variables = declared(alloc, walk, TaskFile::Domain, names)?;
+    limit(walk, TaskFile::Domain, names, MAX_VARIABLES);
     let objects = IndexSet::new(alloc);
     let scope = Scope {
         file: TaskFile::Domain,
@@ -154,6 +213,37 @@ fn schema(
     })
 }
 
+/// The actions that are declared before are refused.
+fn declare_actions(alloc: Global, walk: &mut Walk, actions: &[Action<'_>]) -> Result<(), NoMemory>
+    ensures { OnOk result (Finds walk.old walk.new (typing.refused typing.in_domain 16 (typing.repeated (map (λ a. read.name_of a.name) actions.now)))) }
+{
+    let mut names = IndexSet::new(alloc);
+    for action in actions {
+        declare(alloc, walk, TaskFile::Domain, &mut names, &action.name)?;
+    }
+    Ok(())
+}
+
+/// The schemas of a list of actions.
+fn schema_table(
+    alloc: Global,
+    walk: &mut Walk,
+    predicates: &IndexMap<Vec<u8>, Predicate>,
+    actions: &[Action<'_>],
+) -> Result<IndexMap<Vec<u8>, Schema>, NoMemory>
+    ensures table { IfOk result (λ m. typing.repeated (map (λ a. read.name_of a.name) actions.now) ≡ []
+        → map parts.schema_of m.entries ≡ map (λ a. typing.schema_in (map parts.predicate_of predicates.now.entries) (read.action_of a)) actions.now) }
+    ensures finds { OnOk result (Finds walk.old walk.new (flat_map (λ a. typing.schema_faults (map parts.predicate_of predicates.now.entries) (read.action_of a)) actions.now)) }
+{
+    let mut schemas = IndexMap::new(alloc);
+    for action in actions {
+        let schema = schema(alloc, walk, predicates, action)?;
+        let key = lower_case(alloc, &action.name)?;
+        schemas.insert(key, schema)?;
+    }
+    Ok(schemas)
+}
+
 /// The domain's actions.
 pub(crate) fn schemas(
     alloc: Global,
@@ -166,20 +256,31 @@ pub(crate) fn schemas(
     ensures err { IfErr result (TellsLeastOf (typing.action_faults (map parts.predicate_of predicates.now.entries) (read.domain_of domain.now))) }
 {
     let mut walk = Walk::new(alloc);
-    let mut names = IndexSet::new(alloc);
-    'names: for action in &domain.actions {
-        declare(alloc, &mut walk, TaskFile::Domain, &mut names, &action.name)?;
-    }
-    let mut schemas = IndexMap::new(alloc);
-    'table: for action in &domain.actions {
-        let schema = schema(alloc, &mut walk, predicates, action)?;
-        schemas.insert(lower_case(alloc, &action.name)?, schema)?;
-    }
+    let actions = domain.actions.as_slice();
+    declare_actions(alloc, &mut walk, actions)?;
+    let schemas = schema_table(alloc, &mut walk, predicates, actions)?;
     walk.finish()?;
     Ok(schemas)
 }
 
-/// The atoms of the initial state, as they stand.
+/// The atoms of a list, as they stand.
+fn atoms(
+    alloc: Global,
+    walk: &mut Walk,
+    scope: &Scope<'_>,
+    facts: &[Fact<'_>],
+) -> Result<Vec<Atom>, NoMemory>
+    ensures value { IfOk result (λ v. map parts.atom_of v.items ≡ map (λ f. narrow_atom_in (known_of scope.now) (read.fact_of f)) facts.now) }
+    ensures finds { OnOk result (Finds walk.old walk.new (flat_map (λ f. typing.fact_faults (file_of scope.now.file) (known_of scope.now) (read.fact_of f)) facts.now)) }
+{
+    let mut atoms = Vec::with_capacity(alloc, facts.len())?;
+    for fact in facts {
+        atoms.push(scope.atom(walk, fact)?)?;
+    }
+    Ok(atoms)
+}
+
+/// The atoms of the initial state.
 pub(crate) fn init(
     alloc: Global,
     scope: &Scope<'_>,
@@ -191,10 +292,8 @@ pub(crate) fn init(
     ensures err { IfErr result (TellsLeastOf (flat_map (typing.fact_faults (file_of scope.now.file) (known_of scope.now)) (read.problem_of problem.now).init)) }
 {
     let mut walk = Walk::new(alloc);
-    let mut init = Vec::with_capacity(alloc, problem.init.len())?;
-    for fact in &problem.init {
-        init.push(scope.atom(&mut walk, fact)?)?;
-    }
+    let facts = problem.init.as_slice();
+    let init = atoms(alloc, &mut walk, scope, facts)?;
     walk.finish()?;
     Ok(init)
 }

@@ -6,11 +6,11 @@ use Rattle.validator.specs.TypingWalk.{found, least_of}
 use Rattle.validator.specs.TaskParts as parts
 use Rattle.pddl_tree.specs.Tree as read
 use Rattle.model.specs.Typing as typing
-use Rattle.validator.proofs.typing.phases.init.Given as goal
+use Rattle.validator.proofs.typing.phases.atoms.Given as goal
 
 abbrev pub invariant-loop-fact : goal.invariant-loop-fact
 invariant-loop-fact l = record {
-  atoms : map parts.atom_of l.init.items ≡ map (λ f. narrow_atom_in (known_of l.scope) (read.fact_of f)) (take l.fact-index l.fact-items);
-  finds : found (least_of l.walk) (flat_map (λ f. typing.fact_faults (file_of l.scope.file) (known_of l.scope) (read.fact_of f)) (drop l.fact-index l.fact-items))
-      ≡ found None (flat_map (λ f. typing.fact_faults (file_of l.scope.file) (known_of l.scope) (read.fact_of f)) l.fact-items);
+  atoms : map parts.atom_of l.atoms.items ≡ map (λ f. narrow_atom_in (known_of l.scope) (read.fact_of f)) (take l.fact-index l.facts);
+  finds : found (least_of l.walk) (flat_map (λ f. typing.fact_faults (file_of l.scope.file) (known_of l.scope) (read.fact_of f)) (drop l.fact-index l.facts))
+      ≡ found (least_of l.initial.walk) (flat_map (λ f. typing.fact_faults (file_of l.scope.file) (known_of l.scope) (read.fact_of f)) l.facts);
 }

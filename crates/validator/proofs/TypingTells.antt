@@ -1,0 +1,36 @@
+-- From what a walk found to what is told.
+use Rattle.std.proofs.Common.{◌≡◌, ℕ, ◌<◌, List, [], ◌∷◌, Option, None, Some, refl, sym, ap, subst, arith, Contains, Result, Ok, Err, ◌∙◌, OnOk, IfErr, IsErrAnd, length}
+use Rattle.validator.specs.declared.typing.TaskFault.{TaskFault}
+use Rattle.validator.specs.declared.typing.TaskFault.TheVariants.{At, NoMemory}
+use Rattle.validator.specs.Typing.{TellsLeastOf}
+use Rattle.validator.specs.TypingWalk.{found, TellsFound}
+use Rattle.model.specs.Typing.{TypingFault, IsLeastOf, first_filled}
+use Rattle.validator.proofs.TypingLeast.{found-Some, found-None}
+
+-- the least fault is told, where what was found is
+pub tells : (faults : List TypingFault) (least : Option TypingFault) → least ≡ found None faults → (e : TaskFault) → TellsFound least e → TellsLeastOf faults e
+tells faults least is NoMemory h = tt
+tells faults None is (At file code span) h = absurd h
+tells faults (Some f) is (At file code span) h = (f, found-Some faults f (sym is), h)
+
+pub tells_result : {A : Type 0} (faults : List TypingFault) (least : Option TypingFault) → least ≡ found None faults → (r : Result A TaskFault) → IfErr r (TellsFound least) → IfErr r (TellsLeastOf faults)
+tells_result faults least is (Ok x) h = tt
+tells_result faults least is (Err e) h = tells faults least is e h
+
+-- an error that is passed on
+pub passed_on : {A : Type 0} (Q : TaskFault → Type 0) (r : Result A TaskFault) (e : TaskFault) → IsErrAnd r (λ y. y ≡ e) → Q e → IfErr r Q
+passed_on Q (Ok x) e h q = tt
+passed_on Q (Err y) e h q = subst Q (sym h) q
+
+-- the first list with a fault is the one that is told of
+pub tells_here : (faults : List TypingFault) (later : List (List TypingFault)) (e : TaskFault) → TellsLeastOf faults e → TellsLeastOf (first_filled (faults ∷ later)) e
+tells_here [] later NoMemory h = tt
+tells_here [] later (At file code span) h = absurd (omega (arith, h.1.is_fault.1))
+tells_here (f ∷ more) later e h = h
+
+pub tells_later : (faults : List TypingFault) (later : List (List TypingFault)) → faults ≡ [] → (e : TaskFault) → TellsLeastOf (first_filled later) e → TellsLeastOf (first_filled (faults ∷ later)) e
+tells_later faults later none e h = subst (λ fs. TellsLeastOf (first_filled (fs ∷ later)) e) (sym none) h
+
+pub none_result : {A : Type 0} (faults : List TypingFault) (least : Option TypingFault) → least ≡ found None faults → (r : Result A TaskFault) → OnOk r (least ≡ None) → OnOk r (faults ≡ [])
+none_result faults least is (Ok x) h = found-None faults (sym is ∙ h)
+none_result faults least is (Err e) h = tt

@@ -1,0 +1,14 @@
+use Rattle.std.proofs.Common.{◌≡◌, [], ◌++◌, map, fold, take, drop, None}
+use Rattle.std.specs.List.{flat_map}
+use Rattle.validator.specs.Typing.{file_of}
+use Rattle.validator.specs.TypingScope.{known_of, names_in, narrow_atom_in}
+use Rattle.validator.specs.TypingWalk.{found, least_of}
+use Rattle.validator.specs.TaskParts as parts
+use Rattle.pddl_tree.specs.Tree as read
+use Rattle.model.specs.Typing as typing
+use Rattle.validator.proofs.typing.phases.declare_actions.Given as goal
+
+abbrev pub invariant-loop-action : goal.invariant-loop-action
+invariant-loop-action l =
+    found (least_of l.walk) (typing.refused typing.in_domain 16 (typing.repeated_after (names_in l.names.keys) (map (λ a. read.name_of a.name) (drop l.action-index l.actions))))
+    ≡ found (least_of l.initial.walk) (typing.refused typing.in_domain 16 (typing.repeated_after [] (map (λ a. read.name_of a.name) l.actions)))

@@ -1,0 +1,28 @@
+use Rattle.std.proofs.Common.{◌≡◌, ℕ, ◌+◌, ◌∙◌, Bool, true, false, List, [], ◌∷◌, ◌++◌, map, length, take, drop, get_or, Option, None, Some, refl, ap, sym, subst, arith, rules, if◌then◌else◌}
+use Rattle.std.specs.List.{flat_map}
+use Rattle.validator.specs.Typing.{file_of, TellsLeastOf}
+use Rattle.validator.specs.TypingScope.{known_of, names_in, narrow_atom_in}
+use Rattle.validator.specs.TypingWalk.{found, least_of, refusal_of}
+use Rattle.validator.specs.TaskParts as parts
+use Rattle.pddl_tree.specs.Tree as read
+use Rattle.model.specs.Typing as typing
+use Rattle.validator.proofs.TypingLists as lists
+use Rattle.validator.proofs.TypingTables as tables
+use Rattle.validator.proofs.TypingFound as finding
+use Rattle.validator.proofs.TypingLeast as least
+use Rattle.validator.proofs.TypingTells as telling
+use Rattle.validator.proofs.TypingWellTyped as typed
+use Rattle.std.proofs.lemmas.List.{length-map}
+use Rattle.validator.proofs.typing.phases.goal.Goals as goal
+
+pub returns-in_err-finish-clause-err : goal.returns-in_err-finish-clause-err
+returns-in_err-finish-clause-err c =
+    let total : least_of c.formula.new.walk ≡ found None (typing.formula_faults (file_of c.args.scope.now.file) (known_of c.args.scope.now) (read.formula_of c.args.problem.now.goal)) =
+    c.in_ok-goal.ensures.finds ∙ ap (λ o. found o (typing.formula_faults (file_of c.args.scope.now.file) (known_of c.args.scope.now) (read.formula_of c.args.problem.now.goal))) c.new-walk.ensures in
+    telling.passed_on (TellsLeastOf (typing.formula_faults (file_of c.args.scope.now.file) (known_of c.args.scope.now) (read.formula_of c.args.problem.now.goal))) c.from_residual-in_err-finish.result c.in_err-finish.field-0.0 c.from_residual-in_err-finish.ensures.1 (telling.tells (typing.formula_faults (file_of c.args.scope.now.file) (known_of c.args.scope.now) (read.formula_of c.args.problem.now.goal)) _ total c.in_err-finish.field-0.0 c.in_err-finish.ensures.some)
+
+pub returns-clause-ok : goal.returns-clause-ok
+returns-clause-ok c =
+    let total : least_of c.formula.new.walk ≡ found None (typing.formula_faults (file_of c.args.scope.now.file) (known_of c.args.scope.now) (read.formula_of c.args.problem.now.goal)) =
+    c.in_ok-goal.ensures.finds ∙ ap (λ o. found o (typing.formula_faults (file_of c.args.scope.now.file) (known_of c.args.scope.now) (read.formula_of c.args.problem.now.goal))) c.new-walk.ensures in
+    (least.found-None (typing.formula_faults (file_of c.args.scope.now.file) (known_of c.args.scope.now) (read.formula_of c.args.problem.now.goal)) (sym total ∙ c.in_ok-finish.ensures.none), c.in_ok-goal.ensures.value)

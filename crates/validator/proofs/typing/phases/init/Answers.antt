@@ -1,0 +1,43 @@
+use Rattle.std.proofs.Common.{◌≡◌, ℕ, ◌+◌, ◌∙◌, Bool, true, false, List, [], ◌∷◌, ◌++◌, map, length, take, drop, get_or, Option, None, Some, refl, ap, sym, subst, arith, rules, if◌then◌else◌}
+use Rattle.std.specs.List.{flat_map}
+use Rattle.validator.specs.Typing.{file_of, TellsLeastOf}
+use Rattle.validator.specs.TypingScope.{known_of, names_in, narrow_atom_in}
+use Rattle.validator.specs.TypingWalk.{found, least_of, refusal_of}
+use Rattle.validator.specs.TaskParts as parts
+use Rattle.pddl_tree.specs.Tree as read
+use Rattle.model.specs.Typing as typing
+use Rattle.validator.proofs.TypingLists as lists
+use Rattle.validator.proofs.TypingTables as tables
+use Rattle.validator.proofs.TypingFound as finding
+use Rattle.validator.proofs.TypingLeast as least
+use Rattle.validator.proofs.TypingTells as telling
+use Rattle.validator.proofs.TypingWellTyped as typed
+use Rattle.std.proofs.lemmas.List.{length-map}
+use Rattle.pddl_tree.specs.declared.tree.Predicate.{Predicate}
+use Rattle.pddl_tree.specs.declared.tree.Action.{Action}
+use Rattle.std.proofs.lemmas.List.Folds.{flat_map-map}
+use Rattle.validator.proofs.typing.phases.init.Goals as goal
+
+pub returns-in_err-finish-clause-err : goal.returns-in_err-finish-clause-err
+returns-in_err-finish-clause-err c =
+    let xs = c.as_slice-facts.result.now in
+    let faults = typing.fact_faults (file_of c.args.scope.now.file) (known_of c.args.scope.now) in
+    let ys = c.args.problem.now.init.items in
+    let total : least_of c.atoms.new.walk ≡ found None (flat_map faults (map read.fact_of ys)) =
+    c.in_ok-init.ensures.finds ∙ ap (λ o. found o (flat_map (λ f. faults (read.fact_of f)) xs)) c.new-walk.ensures
+    ∙ ap (λ zs. found None (flat_map (λ f. faults (read.fact_of f)) zs)) c.as_slice-facts.ensures.value ∙ ap (found None) (sym (flat_map-map faults read.fact_of ys)) in
+    telling.passed_on (TellsLeastOf (flat_map (typing.fact_faults (file_of c.args.scope.now.file) (known_of c.args.scope.now)) (map read.fact_of c.args.problem.now.init.items))) c.from_residual-in_err-finish.result c.in_err-finish.field-0.0 c.from_residual-in_err-finish.ensures.1 (telling.tells (flat_map (typing.fact_faults (file_of c.args.scope.now.file) (known_of c.args.scope.now)) (map read.fact_of c.args.problem.now.init.items)) _ total c.in_err-finish.field-0.0 c.in_err-finish.ensures.some)
+
+pub returns-clause-ok : goal.returns-clause-ok
+returns-clause-ok c =
+    let xs = c.as_slice-facts.result.now in
+    let faults = typing.fact_faults (file_of c.args.scope.now.file) (known_of c.args.scope.now) in
+    let ys = c.args.problem.now.init.items in
+    let total : least_of c.atoms.new.walk ≡ found None (flat_map faults (map read.fact_of ys)) =
+    c.in_ok-init.ensures.finds ∙ ap (λ o. found o (flat_map (λ f. faults (read.fact_of f)) xs)) c.new-walk.ensures
+    ∙ ap (λ zs. found None (flat_map (λ f. faults (read.fact_of f)) zs)) c.as_slice-facts.ensures.value ∙ ap (found None) (sym (flat_map-map faults read.fact_of ys)) in
+    let empty = least.found-None (flat_map (typing.fact_faults (file_of c.args.scope.now.file) (known_of c.args.scope.now)) (map read.fact_of c.args.problem.now.init.items)) (sym total ∙ c.in_ok-finish.ensures.none) in (
+      empty,
+      c.in_ok-init.ensures.value ∙ ap (map (λ f. narrow_atom_in (known_of c.args.scope.now) (read.fact_of f))) c.as_slice-facts.ensures.value
+          ∙ sym (finding.map-map (narrow_atom_in (known_of c.args.scope.now)) read.fact_of ys),
+    )

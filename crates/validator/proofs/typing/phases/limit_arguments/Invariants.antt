@@ -1,0 +1,14 @@
+use Rattle.std.proofs.Common.{◌≡◌, [], ◌++◌, map, fold, take, drop, None}
+use Rattle.std.specs.List.{flat_map}
+use Rattle.validator.specs.Typing.{file_of}
+use Rattle.validator.specs.TypingScope.{known_of, names_in, narrow_atom_in}
+use Rattle.validator.specs.TypingWalk.{found, least_of}
+use Rattle.validator.specs.TaskParts as parts
+use Rattle.pddl_tree.specs.Tree as read
+use Rattle.model.specs.Typing as typing
+use Rattle.validator.proofs.typing.phases.limit_arguments.Given as goal
+
+abbrev pub invariant-loop-declaration : goal.invariant-loop-declaration
+invariant-loop-declaration l =
+    found (least_of l.walk) (flat_map (λ q. typing.refused typing.in_domain 25 (typing.one_after 8 (map read.name_of q.parameters.items))) (drop l.declaration-index l.declarations))
+    ≡ found (least_of l.initial.walk) (flat_map (λ q. typing.refused typing.in_domain 25 (typing.one_after 8 (map read.name_of q.parameters.items))) l.declarations)
