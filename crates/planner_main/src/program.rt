@@ -1,5 +1,6 @@
 //! The program.
-ghost use Rattle.std.specs.Prelude.{◌≡◌, ◌+◌, IfOk, length, vec_len};
+ghost use Rattle.std.specs.Prelude.{◌≡◌, ◌+◌, ◌⊎◌, IfOk, IsTrue, length, vec_len};
+ghost use Rattle.planner_main.specs.Report.{TellsVerdict, is_failure};
 ghost use Rattle.planner_main.specs.Devices.{CountsDevice, IsReading, ReadsSome};
 
 use crate::certificate::{Sink, Source, WriteFault, write_all};
@@ -34,7 +35,10 @@ pub fn run<F: Files, O: Sink, E: Sink>(
     files: &mut F,
     out: &mut O,
     err: &mut E,
-) -> u8 {
+) -> u8
+    // There is a verdict, and its line is all that stands on the standard output, or the status says why not.
+    ensures status { IsTrue (is_failure result) ⊎ TellsVerdict (O.taken out.old) (O.taken out.new) result }
+{
     let outcome = match words {
         [command, domain, problem, plan] if *command == "validate" => {
             run_validate(alloc, domain, problem, plan, files, out)
@@ -55,7 +59,9 @@ fn run_validate<F: Files, O: Sink>(
     plan: &str,
     files: &mut F,
     out: &mut O,
-) -> Result<u8, Failure> {
+) -> Result<u8, Failure>
+    ensures { IfOk result (λ status. TellsVerdict (O.taken out.old) (O.taken out.new) status) }
+{
     let domain = read_file(alloc, files, domain)?;
     let problem = read_file(alloc, files, problem)?;
     let plan = read_file(alloc, files, plan)?;
