@@ -6,3 +6,4 @@ pub mod Task
 pub mod WellTyped
 pub mod Runs
 pub mod Meaning
+pub mod PlanText

@@ -1,5 +1,5 @@
 //! The program.
-ghost use Rattle.std.specs.Prelude.{◌≡◌, ◌+◌, ◌⊎◌, IfOk, IsTrue, length, vec_len};
+ghost use Rattle.std.specs.Prelude.{◌≡◌, ℕ, ◌+◌, ◌⊎◌, IfOk, IfSome, IsTrue, List, length, take, vec_len};
 ghost use Rattle.planner_main.specs.Report.{TellsVerdict, is_failure};
 ghost use Rattle.planner_main.specs.Devices.{CountsDevice, IsReading, ReadsSome};
 
@@ -72,7 +72,10 @@ fn run_validate<F: Files, O: Sink>(
 }
 
 /// The first 16,777,217 bytes of a file, or all that it has.
-fn read_file<F: Files>(alloc: Global, files: &mut F, name: &str) -> Result<Vec<u8>, WriteFault> {
+fn read_file<F: Files>(alloc: Global, files: &mut F, name: &str) -> Result<Vec<u8>, WriteFault>
+    ensures bytes { IfOk result (λ text. IfSome (F.contents files.old name.now) (λ bytes. text.items ≡ take MAX_READ bytes)) }
+    ensures kept { (other : List ℕ) → F.contents files.new other ≡ F.contents files.old other }
+{
     let mut input = files.open(name)?;
     read_text(alloc, &mut input)
 }

@@ -6,8 +6,7 @@ ghost use Rattle.planner_main.specs.Report.{is_failure, line_of, status_of};
 
 use crate::certificate::{Sink, WriteFault, write_all};
 use crate::verdict::FileFault;
-use std::alloc::{AllocError, AllocFailed, Global};
-use tokens::NoMemory;
+use std::alloc::{AllocError, Global};
 use validator::Verdict;
 
 /// The plan solves the task.
