@@ -13,3 +13,4 @@ pub mod Instances
 pub mod Claims
 pub mod Certificates
 pub mod Examples
+pub mod PlanText

@@ -1,5 +1,6 @@
 //! The program.
-ghost use Rattle.std.specs.Prelude.{◌≡◌, ◌+◌, IfOk, length, vec_len};
+ghost use Rattle.std.specs.Prelude.{◌≡◌, ℕ, ◌+◌, ◌⊎◌, IfOk, IfSome, IsTrue, List, length, take, vec_len};
+ghost use Rattle.planner_main.specs.Report.{TellsVerdict, is_failure};
 ghost use Rattle.planner_main.specs.Devices.{CountsDevice, IsReading, ReadsSome};
 
 use crate::certificate::{Sink, Source, WriteFault, write_all};
@@ -34,7 +35,10 @@ pub fn run<F: Files, O: Sink, E: Sink>(
     files: &mut F,
     out: &mut O,
     err: &mut E,
-) -> u8 {
+) -> u8
+    // There is a verdict, and its line is all that stands on the standard output, or the status says why not.
+    ensures status { IsTrue (is_failure result) ⊎ TellsVerdict (O.taken out.old) (O.taken out.new) result }
+{
     let outcome = match words {
         [command, domain, problem, plan] if *command == "validate" => {
             run_validate(alloc, domain, problem, plan, files, out)
@@ -55,7 +59,9 @@ fn run_validate<F: Files, O: Sink>(
     plan: &str,
     files: &mut F,
     out: &mut O,
-) -> Result<u8, Failure> {
+) -> Result<u8, Failure>
+    ensures { IfOk result (λ status. TellsVerdict (O.taken out.old) (O.taken out.new) status) }
+{
     let domain = read_file(alloc, files, domain)?;
     let problem = read_file(alloc, files, problem)?;
     let plan = read_file(alloc, files, plan)?;
@@ -66,7 +72,10 @@ fn run_validate<F: Files, O: Sink>(
 }
 
 /// The first 16,777,217 bytes of a file, or all that it has.
-fn read_file<F: Files>(alloc: Global, files: &mut F, name: &str) -> Result<Vec<u8>, WriteFault> {
+fn read_file<F: Files>(alloc: Global, files: &mut F, name: &str) -> Result<Vec<u8>, WriteFault>
+    ensures bytes { IfOk result (λ text. IfSome (F.contents files.old name.now) (λ bytes. text.items ≡ take MAX_READ bytes)) }
+    ensures kept { (other : List ℕ) → F.contents files.new other ≡ F.contents files.old other }
+{
     let mut input = files.open(name)?;
     read_text(alloc, &mut input)
 }

@@ -1,8 +1,12 @@
 //! What the program says: the lines of its two streams, and the statuses beside them.
+ghost use Rattle.std.specs.Prelude.{◌≡◌, IfOk, IsTrue};
+ghost use Rattle.std.specs.String.{string_bytes};
+ghost use Rattle.validator.specs.Verdict.{verdict_of};
+ghost use Rattle.planner_main.specs.Report.{is_failure, line_of, status_of};
+
 use crate::certificate::{Sink, WriteFault, write_all};
 use crate::verdict::FileFault;
-use std::alloc::{AllocError, AllocFailed, Global};
-use tokens::NoMemory;
+use std::alloc::{AllocError, Global};
 use validator::Verdict;
 
 /// The plan solves the task.
@@ -53,7 +57,10 @@ impl From<AllocError> for Failure {
 }
 
 /// The line of a verdict, and its status.
-pub(crate) fn answer(alloc: Global, verdict: Verdict) -> Result<(String, u8), AllocError> {
+pub(crate) fn answer(alloc: Global, verdict: Verdict) -> Result<(String, u8), AllocError>
+    ensures line { IfOk result (λ told. string_bytes told.0 ≡ line_of (verdict_of verdict)) }
+    ensures status { IfOk result (λ told. told.1 ≡ status_of (verdict_of verdict)) }
+{
     match verdict {
         Verdict::Valid { cost } => Ok((format!(in alloc; "valid cost {cost}\n")?, YES)),
         Verdict::NotApplicable { step } => {
@@ -64,7 +71,9 @@ pub(crate) fn answer(alloc: Global, verdict: Verdict) -> Result<(String, u8), Al
 }
 
 /// Tells a failure on standard error, and answers its status. That the telling fails changes no status.
-pub(crate) fn tell<E: Sink>(alloc: Global, failure: Failure, err: &mut E) -> u8 {
+pub(crate) fn tell<E: Sink>(alloc: Global, failure: Failure, err: &mut E) -> u8
+    ensures { IsTrue (is_failure result) }
+{
     match failure {
         Failure::Text(FileFault::At { file, code, span }) => {
             let number = code.number();
@@ -87,13 +96,17 @@ pub(crate) fn tell<E: Sink>(alloc: Global, failure: Failure, err: &mut E) -> u8 
     }
 }
 
-fn tell_no_memory<E: Sink>(err: &mut E) -> u8 {
+fn tell_no_memory<E: Sink>(err: &mut E) -> u8
+    ensures { result ≡ NO_MEMORY }
+{
     let _ = write_all(err, b"fault 60 NoMemory\n");
     NO_MEMORY
 }
 
 /// Tells how the program is used.
-pub(crate) fn tell_usage<E: Sink>(err: &mut E) -> u8 {
+pub(crate) fn tell_usage<E: Sink>(err: &mut E) -> u8
+    ensures { result ≡ WRONG_WORDS }
+{
     let _ = write_all(err, USAGE.as_bytes());
     WRONG_WORDS
 }

@@ -1,0 +1,144 @@
+-- What it means that a text is a plan, a list of actions of a task, and where a text that is none is at fault. Plan texts
+-- are this repository's profile of what planners write and validators read: steps `(action object ..)`, each the name of
+-- an action (PDDL 1.2 manual, "Actions") and of an object for each of its parameters, with blanks and comments as in a
+-- domain file. Runs may have any length, and case does not matter.
+use Rattle.std.specs.Prelude.{◌≡◌, ◌≢◌, ℕ, ◌+◌, ◌<◌, ◌≤◌, Bool, true, false, IsTrue, if◌then◌else◌, List, [], ◌∷◌, ◌++◌, length, map, slice_get, Some, ⊤}
+use Rattle.std.specs.Char.{to_ascii_lowercase}
+use Rattle.model.specs.Fault.{Span, Fault}
+use Rattle.model.specs.Words.{Form, blank, comment, opening, closing, Part, form, bytes, size, AreParts, is_name, longest_text}
+use Rattle.model.specs.Trees.{Name, span_of}
+use Rattle.model.specs.Task.{Task, Schema, Instance}
+use Rattle.model.specs.Meaning.{is_instance}
+
+-- a parenthesis, a run or a stray byte of a text, and the offset of its first byte
+pub record Placed : Type 0 where
+  pub start : ℕ
+  pub part : Part
+
+-- a blank or a comment
+abbrev pub is_gap : Form → Bool
+is_gap blank = true
+is_gap comment = true
+is_gap _ = false
+
+-- the parts that are no gaps, in order, where the first part begins at this offset
+abbrev pub placed_from : ℕ → List Part → List Placed
+placed_from start [] = []
+placed_from start (part ∷ parts) =
+    if is_gap (form part) then placed_from (start + size part) parts
+    else (record { start = start; part = part } ∷ placed_from (start + size part) parts)
+
+-- The form of a plan text
+
+-- a step as it stands: the names of its action and of its objects
+pub record Step : Type 0 where
+  pub action : Name
+  pub objects : List Name
+
+-- it is this name
+pub record IsName (word : Placed) (name : Name) : Type 0 where
+  pub well_formed : IsTrue (is_name (bytes word.part))
+  pub text : name.text ≡ bytes word.part
+  pub start : name.start ≡ word.start
+
+-- they are these names, one for one
+abbrev pub AreNames : List Placed → List Name → Type 0
+AreNames [] [] = ⊤
+AreNames [] (name ∷ names) = ⊥
+AreNames (word ∷ words) [] = ⊥
+AreNames (word ∷ words) (name ∷ names) = IsName word name × AreNames words names
+
+-- a step is `(`, the name of an action, the names of its objects, and `)`
+pub record IsStep (words : List Placed) (step : Step) : Type 0 where
+  pub first : Placed
+  pub names : List Placed
+  pub last : Placed
+  pub in_order : words ≡ first ∷ names ++ last ∷ []
+  pub opens : form first.part ≡ opening
+  pub closes : form last.part ≡ closing
+  pub named : AreNames names (step.action ∷ step.objects)
+
+-- they are these steps, one after another, and nothing else
+abbrev pub AreSteps : List Placed → List Step → Type 0
+AreSteps words [] = words ≡ []
+AreSteps words (step ∷ steps) = (these rest : List Placed) × (words ≡ these ++ rest) × IsStep these step × AreSteps rest steps
+
+-- the text is gaps and these steps
+pub record HasSteps (text : List ℕ) (steps : List Step) : Type 0 where
+  pub short : length text ≤ longest_text
+  pub parts : List Part
+  pub cut : AreParts text parts
+  pub steps_of_parts : AreSteps (placed_from 0 parts) steps
+
+-- The actions that a plan text names
+
+-- the number is that of a declared name that is the same but for case
+abbrev pub IsNumberOf : List (List ℕ) → Name → ℕ → Type 0
+IsNumberOf declared name number = slice_get declared number ≡ Some (map to_ascii_lowercase name.text)
+
+abbrev pub IsDeclared : List (List ℕ) → Name → Type 0
+IsDeclared declared name = (number : ℕ) × IsNumberOf declared name number
+
+abbrev pub AreNumbersOf : List (List ℕ) → List Name → List ℕ → Type 0
+AreNumbersOf declared [] [] = ⊤
+AreNumbersOf declared [] (number ∷ numbers) = ⊥
+AreNumbersOf declared (name ∷ names) [] = ⊥
+AreNumbersOf declared (name ∷ names) (number ∷ numbers) = IsNumberOf declared name number × AreNumbersOf declared names numbers
+
+abbrev pub schema_names : Task → List (List ℕ)
+schema_names task = map (λ (s : Schema). s.name) task.schemas
+
+-- the step names this instance of the task
+pub record Means (task : Task) (step : Step) (i : Instance) : Type 0 where
+  pub action : IsNumberOf (schema_names task) step.action i.schema
+  pub objects : AreNumbersOf task.objects step.objects i.objects
+  pub fits : IsTrue (is_instance task i)
+
+abbrev pub AllMean : Task → List Step → List Instance → Type 0
+AllMean task [] [] = ⊤
+AllMean task [] (i ∷ plan) = ⊥
+AllMean task (step ∷ steps) [] = ⊥
+AllMean task (step ∷ steps) (i ∷ plan) = Means task step i × AllMean task steps plan
+
+-- the text is this plan for the task
+abbrev pub IsPlanText : Task → List ℕ → List Instance → Type 0
+IsPlanText task text plan = (steps : List Step) × HasSteps text steps × AllMean task steps plan
+
+-- Faults
+
+-- a list of steps may begin so
+abbrev pub BeginsSteps : List Placed → Type 0
+BeginsSteps words = (more : List Placed) × (steps : List Step) × AreSteps (words ++ more) steps
+
+-- the form of the text is at fault, and this span is told
+pub data IsFormFault (text : List ℕ) (span : Span) : Type 0 where
+  -- a text that is too long, at what is over
+  too_long : longest_text < length text → span.start ≡ longest_text → span.end ≡ length text → IsFormFault text span
+  -- the first parenthesis, run or stray byte with which no plan text begins
+  refused : length text ≤ longest_text → (parts : List Part) → AreParts text parts → (before after : List Placed) → (word : Placed)
+      → placed_from 0 parts ≡ before ++ word ∷ after → BeginsSteps before → (BeginsSteps (before ++ word ∷ []) → ⊥)
+      → span.start ≡ word.start → span.end ≡ word.start + size word.part → IsFormFault text span
+  -- a step that is open at the end, at the end
+  open_at_end : length text ≤ longest_text → (parts : List Part) → AreParts text parts → BeginsSteps (placed_from 0 parts)
+      → ((steps : List Step) → AreSteps (placed_from 0 parts) steps → ⊥)
+      → span.start ≡ length text → span.end ≡ length text → IsFormFault text span
+
+-- the step is at fault
+pub data IsStepFault (task : Task) (step : Step) (fault : Fault) : Type 0 where
+  unknown_action : (IsDeclared (schema_names task) step.action → ⊥) → fault.code ≡ 32 → fault.span ≡ span_of step.action
+      → IsStepFault task step fault
+  wrong_count : (number : ℕ) → (schema : Schema) → IsNumberOf (schema_names task) step.action number
+      → slice_get task.schemas number ≡ Some schema → length step.objects ≢ schema.parameters
+      → fault.code ≡ 33 → fault.span ≡ span_of step.action → IsStepFault task step fault
+  -- the first object that is not declared
+  unknown_object : (number : ℕ) → (schema : Schema) → IsNumberOf (schema_names task) step.action number
+      → slice_get task.schemas number ≡ Some schema → length step.objects ≡ schema.parameters
+      → (before after : List Name) → (name : Name) → (numbers : List ℕ) → step.objects ≡ before ++ name ∷ after
+      → AreNumbersOf task.objects before numbers → (IsDeclared task.objects name → ⊥)
+      → fault.code ≡ 34 → fault.span ≡ span_of name → IsStepFault task step fault
+
+-- the fault that is told of the text: its form before all else, and then the first step at fault
+pub data IsPlanFault (task : Task) (text : List ℕ) (fault : Fault) : Type 0 where
+  of_form : IsFormFault text fault.span → fault.code ≡ 30 → IsPlanFault task text fault
+  of_step : (steps before after : List Step) → (step : Step) → (plan : List Instance) → HasSteps text steps
+      → steps ≡ before ++ step ∷ after → AllMean task before plan → IsStepFault task step fault → IsPlanFault task text fault
