@@ -4,7 +4,7 @@
 use Rattle.std.specs.Prelude.{ℕ, Bool, true, false, List, [], ◌∷◌, ◌++◌, Option, None, Some, unwrap_or, cond, ◌||◌, is_some}
 use Rattle.model.specs.Trees.{Name, Term, Atom, Formula, Formulas, Effect, Effects, Predicate, Action, Domain, Fact, Problem}
 use Rattle.model.specs.Trees as tree
-use Rattle.model.specs.GrammarWords.{Token, opens, closes, name, variable, keyword, other, Label, free, reserved, FreeName, define, domain, problem, ordinary, ReservedName, and, not, left_out_name, other_reserved, Keyword, domain_keyword, requirements, predicates, action, objects, init, goal, parameters, precondition, effect, requirement_key, left_out_keyword, unknown_keyword}
+use Rattle.model.specs.GrammarWords.{Token, opens, closes, name, variable, keyword, other, free, reserved, define, domain, problem, and, not, left_out_name, other_reserved, Keyword, domain_keyword, requirements, predicates, action, objects, init, goal, parameters, precondition, effect, requirement_key, left_out_keyword}
 use Rattle.model.specs.Grammar.{Parts, parts, no_parts, action_from, DomainSections, domain_sections, no_domain_sections, ProblemSections, problem_sections, no_problem_sections}
 
 pub data File : Type 0 where

@@ -1,12 +1,11 @@
 -- Where the machine stops: at the words that it is given, or at words after some of them, and alike on every list that
 -- begins so.
-use Rattle.std.proofs.Common.{◌≡◌, ℕ, suc, ◌+◌, ◌<◌, ◌≤◌, List, [], ◌∷◌, ◌++◌, length, refl, sym, ◌∙◌, ap, subst, arith, length-append}
+use Rattle.std.proofs.Common.{◌≡◌, ℕ, suc, ◌+◌, ◌≤◌, List, [], ◌∷◌, ◌++◌, length, ap, subst, arith, length-append}
 use Rattle.model.specs.Trees.{Domain, Problem}
 use Rattle.model.specs.GrammarWords.{Token}
 use Rattle.model.specs.Grammar.{IsDomain, IsProblem}
-use Rattle.model.proofs.GrammarMachine.{State, Step, go, refuse, step, Outcome, finished, stopped, follow, run, at_end, wants_nothing, File, domain_file, problem_file, Tree, domain_tree, problem_tree, start}
+use Rattle.model.proofs.GrammarMachine.{State, Step, go, refuse, step, Outcome, finished, stopped, follow, run, at_end, wants_nothing, domain_file, problem_file, start}
 use Rattle.model.proofs.GrammarRuns.{domain_run, problem_run}
-use Rattle.model.proofs.GrammarMeaning.{IsFile}
 
 -- the words left of what stopped
 abbrev LeftWithin : Outcome → List Token → Type 0

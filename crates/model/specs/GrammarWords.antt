@@ -1,6 +1,6 @@
 -- What a word is to the grammar of domain and problem files: its letters folded to lower case, a name is one that
 -- the grammar knows or any other, and so is a keyword.
-use Rattle.std.specs.Prelude.{ℕ, Bool, List, [], ◌∷◌, map, codes, if◌then◌else◌}
+use Rattle.std.specs.Prelude.{ℕ, Bool, List, [], ◌∷◌, codes, if◌then◌else◌}
 use Rattle.std.specs.List.{list_any}
 use Rattle.std.specs.Str.{bytes_eq, str_to_ascii_lowercase}
 use Rattle.model.specs.Words.{Word, Kind}

@@ -44,8 +44,7 @@ pub fn problem<'a>(alloc: Global, words: &[Word<'a>]) -> Result<Problem<'a>, Fau
 pub fn one_reading()
     ensures domain { EachIsOneDomain }
     ensures problem { EachIsOneProblem }
-{
-}
+{}
 
 /// What a refusal tells of the file.
 fn fault(words: &[Word], refusal: Refusal) -> Fault {
