@@ -1,6 +1,6 @@
 -- What the machine finishes with is a tree of the words by the grammar.
 use Rattle.std.proofs.Common.{◌≡◌, ℕ, Bool, true, false, cond, List, [], ◌∷◌, ◌++◌, Option, None, Some, unwrap_or, refl, sym, ◌∙◌, ap, subst}
-use Rattle.model.specs.Trees.{Name, Term, Atom, Formula, Formulas, Effect, Effects, Predicate, Action, Domain, Fact, Problem}
+use Rattle.model.specs.Trees.{Name, Term, Formula, Formulas, Effect, Effects, Predicate, Action, Fact}
 use Rattle.model.specs.Trees as tree
 use Rattle.model.specs.GrammarWords.{Token, opens, closes, name, variable, keyword, Label, free, reserved, FreeName, define, domain, problem, and, not, domain_keyword, requirements, predicates, action, objects, init, goal, parameters, precondition, effect, requirement_key}
 use Rattle.model.specs.Grammar.{AreNames, no_name, more_names, AreVariables, no_variable, more_variables, AreTerms, no_term, object_first, variable_first, IsFormula, atom, conjunction, AreFormulas, no_formula, more_formulas, IsEffect, add, delete, both, AreEffects, no_effect, more_effects, Parts, parts, no_parts, IsPart, parameter_list, condition, change, AreParts, no_part, more_parts, IsAction, whole_action, action_from, ArePredicates, no_predicate, more_predicates, AreKeys, no_key, more_keys, domain_sections, no_domain_sections, domain_requirements, declared_predicates, one_action, AreDomainSections, no_domain_section, more_domain_sections, IsDomain, whole_domain, AreFacts, no_fact, more_facts, ProblemSections, problem_sections, no_problem_sections, domain_name, problem_requirements, object_list, initial_facts, goal_formula, AreProblemSections, no_problem_section, more_problem_sections, IsProblem, whole_problem}

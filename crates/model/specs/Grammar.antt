@@ -1,7 +1,7 @@
 -- The grammar of domain and problem files, by cases: a relation for each nonterminal between words, the tree that
 -- the first of them are, and the words left after it (PDDL 1.2 manual, appendix: BNF; the language profile "STRIPS
 -- without types"). A rule is a production: its result is the production's left side, its premises the right side.
-use Rattle.std.specs.Prelude.{Bool, true, false, List, [], ◌∷◌, ◌++◌, Option, None, Some, unwrap_or}
+use Rattle.std.specs.Prelude.{◌≡◌, Bool, true, false, List, [], ◌∷◌, ◌++◌, Option, None, Some, unwrap_or}
 use Rattle.model.specs.Trees.{Name, Term, Formula, Formulas, Effect, Effects, Predicate, Action, Domain, Fact, Problem}
 use Rattle.model.specs.Trees as tree
 use Rattle.model.specs.GrammarWords.{Token, opens, closes, name, variable, keyword, Label, free, reserved, define, domain, problem, FreeName, and, not, domain_keyword, requirements, predicates, action, objects, init, goal, parameters, precondition, effect, requirement_key}
@@ -133,3 +133,10 @@ pub data AreProblemSections : List Token → ProblemSections → ProblemSections
 -- `:objects` required
 pub data IsProblem : List Token → Problem → Type 0 where
   whole_problem : {m k n d : Name} {label : Label} {w : List Token} {q : Bool} {o : Option (List Name)} {fs : List Fact} {f : Formula} → AreProblemSections w no_problem_sections (problem_sections (Some d) q o (Some fs) (Some f)) (closes ∷ []) → IsProblem (opens ∷ name (free define) m ∷ opens ∷ name (free problem) k ∷ name label n ∷ closes ∷ w) (record { name = n; domain = d; objects = unwrap_or o []; init = fs; goal = f })
+
+-- a list of words is a domain, or a problem, in at most one way
+abbrev pub EachIsOneDomain : Type 0
+EachIsOneDomain = (w : List Token) (d e : Domain) → IsDomain w d → IsDomain w e → d ≡ e
+
+abbrev pub EachIsOneProblem : Type 0
+EachIsOneProblem = (w : List Token) (p q : Problem) → IsProblem w p → IsProblem w q → p ≡ q

@@ -10,7 +10,9 @@ mod problem_file;
 mod reader;
 mod refusal;
 mod symbol;
+#[cfg(test)]
+mod tests;
 mod tree;
 
-pub use reader::{domain, problem};
+pub use reader::{domain, one_reading, problem};
 pub use tree::{Action, Atom, Domain, Effect, Fact, Formula, Name, Predicate, Problem, Term};

@@ -41,6 +41,15 @@ impl ProblemSections<'_> {
             Section::Goal => self.goal.is_some(),
         }
     }
+
+    /// Whether every section was read, so that no list can follow.
+    fn is_full(&self) -> bool {
+        self.domain.is_some()
+            && self.requirements
+            && self.objects.is_some()
+            && self.init.is_some()
+            && self.goal.is_some()
+    }
 }
 
 /// The section whose keyword stands at an index.
@@ -72,6 +81,9 @@ pub(crate) fn problem_sections<'a>(
     };
     let mut next = at;
     'sections: while is_open(words, next) {
+        if sections.is_full() {
+            return Err(refused(words, next));
+        }
         let Some(section) = section_at(words, next + 1) else {
             return Err(refused_keyword(words, next + 1));
         };

@@ -1,4 +1,6 @@
 //! From words to trees.
+ghost use Rattle.model.specs.Grammar.{EachIsOneDomain, EachIsOneProblem};
+
 use crate::domain_file::{DomainSections, domain_sections};
 use crate::problem_file::{ProblemSections, problem_sections};
 use crate::refusal::{Refusal, refused};
@@ -7,7 +9,20 @@ use crate::tree::{Domain, Name, Problem};
 use std::alloc::Global;
 use tokens::{Code, Fault, Span, Word};
 
-/// The domain that the words are.
+/// The domain that the words are: the whole file, in the words of its text.
+///
+/// Refusals tell the first word such that the words up to and including it begin no domain, and its span; where the
+/// words run out, `BadForm` at the end of the last word, or at `0..0` where there is none:
+///
+/// - `RepeatedSection`: the keyword of a section or of a part of an action that stands a second time in its list.
+/// - `LeftOut`: the keyword of a section or part that the language profile leaves out, where one is wanted, or the name
+///   of a form that it leaves out, as `preference`.
+/// - `UnknownSection`: any other keyword where that of a section or part is wanted.
+/// - `UnknownRequirement`: a keyword in `:requirements` that is no key.
+/// - `MissingSection`: the `)` of the file without `:predicates`, or of an action without `:parameters`.
+/// - `BadForm`: any other word.
+///
+/// `NoMemory` says nothing about the words.
 pub fn domain<'a>(alloc: Global, words: &[Word<'a>]) -> Result<Domain<'a>, Fault> {
     match domain_file(alloc, words) {
         Ok(domain) => Ok(domain),
@@ -15,13 +30,21 @@ pub fn domain<'a>(alloc: Global, words: &[Word<'a>]) -> Result<Domain<'a>, Fault
     }
 }
 
-/// The problem that the words are.
+/// The problem that the words are: the whole file, in the words of its text.
+///
+/// Refusals are those of [`domain`]; `MissingSection` is told at the `)` of a file without `:domain`, `:init` or `:goal`.
 pub fn problem<'a>(alloc: Global, words: &[Word<'a>]) -> Result<Problem<'a>, Fault> {
     match problem_file(alloc, words) {
         Ok(problem) => Ok(problem),
         Err(refusal) => Err(fault(words, refusal)),
     }
 }
+
+/// A law of the grammar: a list of words has at most one tree as a domain, and at most one as a problem.
+pub fn one_reading()
+    ensures domain { EachIsOneDomain }
+    ensures problem { EachIsOneProblem }
+{}
 
 /// What a refusal tells of the file.
 fn fault(words: &[Word], refusal: Refusal) -> Fault {
