@@ -6,7 +6,6 @@ pub mod GrammarMachine
 pub mod GrammarRuns
 pub mod GrammarMeaning
 pub mod GrammarStops
-
 pub mod StaticLemmas
 pub mod Steps
 pub mod ExampleProofs
