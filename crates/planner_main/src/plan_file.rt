@@ -19,6 +19,5 @@ use validator::typing::Task;
 pub fn read_plan(alloc: Global, task: &Task, text: &[u8]) -> Result<Plan, Fault> {
     let steps = text::steps_of(alloc, text)?;
     let instances = steps::instances_of(alloc, task, &steps)?;
-    let _ = instances;
-    Err(Fault::NoMemory)
+    Plan::new(instances).ok_or(Fault::NoMemory)
 }

@@ -42,14 +42,12 @@ fn instance_of(alloc: Global, task: &Task, step: &Step<'_>) -> Result<Instance, 
 
 fn schema_named(alloc: Global, task: &Task, name: &Name<'_>) -> Result<Option<SchemaId>, NoMemory> {
     let folded = name.text.to_ascii_lowercase(alloc)?;
-    let _ = (task, folded);
-    Ok(None)
+    Ok(task.schema_named(folded.as_slice()))
 }
 
 fn object_named(alloc: Global, task: &Task, name: &Name<'_>) -> Result<Option<ObjectId>, NoMemory> {
     let folded = name.text.to_ascii_lowercase(alloc)?;
-    let _ = (task, folded);
-    Ok(None)
+    Ok(task.object_named(folded.as_slice()))
 }
 
 fn refused(code: Code, name: &Name<'_>) -> Fault {
