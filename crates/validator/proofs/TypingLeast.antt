@@ -1,14 +1,12 @@
 -- What is found by taking the earlier of two faults, one after another, is the least of all.
-use Rattle.std.proofs.Common.{◌≡◌, ℕ, Bool, true, false, cond, List, [], ◌∷◌, fold, Option, None, Some, All, Contains, ◌⊎◌, inl, inr, refl, sym, ap, subst, ◌∙◌, arith, rules, true≢false, if◌then◌else◌, Contains, All, get_or, length, ◌<◌, suc, zero}
-use Rattle.std.proofs.lemmas.List.Elements.{Contains-push, Contains-append_right}
+use Rattle.std.proofs.Common.{◌≡◌, Bool, true, false, List, [], ◌∷◌, fold, Option, None, Some, All, Contains, ◌⊎◌, inl, inr, refl, sym, ap, subst, ◌∙◌, arith, true≢false, if◌then◌else◌, Contains, All, suc, zero}
 use Rattle.std.specs.Cmp.Lexicographic.{slice_cmp}
 use Rattle.std.specs.Ordering.{nat_cmp, is_lt, is_gt, ordering_reverse}
 use Rattle.std.specs.declared.cmp.Ordering.{Ordering}
 use Rattle.std.specs.declared.cmp.Ordering.TheVariants.{Less, Equal, Greater}
-use Rattle.std.specs.Cmp.{IsTotalOrder}
 use Rattle.std.proofs.lemmas.Cmp.{nat_list_cmp_total, upto}
 use Rattle.model.specs.Typing.{TypingFault, is_before, key_of, IsLeastOf}
-use Rattle.validator.specs.TypingWalk.{found, earlier}
+use Rattle.validator.specs.TypingWalk.{found}
 
 is_lt-reverse : (o : Ordering) → is_lt (ordering_reverse o) ≡ is_gt o
 is_lt-reverse Less = refl

@@ -1,5 +1,5 @@
 -- What a look-up in a table of names says of the names.
-use Rattle.std.proofs.Common.{◌==◌, ◌≤◌, arith, slice_get, ◌≡◌, ℕ, ◌+◌, Bool, true, false, cond, List, [], ◌∷◌, ◌++◌, map, length, refl, ap, sym, subst, ◌∙◌, Option, None, Some, if◌then◌else◌, nat_eq, not, is_some, fold, ◌||◌, true≢false, drop, get_or, ◌<◌}
+use Rattle.std.proofs.Common.{◌==◌, ◌≤◌, arith, slice_get, ◌≡◌, ℕ, ◌+◌, Bool, true, false, cond, List, [], ◌∷◌, ◌++◌, map, length, refl, ap, sym, subst, ◌∙◌, None, Some, if◌then◌else◌, nat_eq, not, is_some, ◌||◌, true≢false, drop, get_or, ◌<◌}
 use Rattle.std.proofs.lemmas.Bool.Decides.{nat_tests}
 use Rattle.std.specs.Option.{option_map}
 use Rattle.std.specs.Global.{Vec}
@@ -12,7 +12,7 @@ use Rattle.indexmap.specs.IndexSet.{insert_key}
 use Rattle.indexmap.specs.IndexMap.{insert_entry}
 use Rattle.model.specs.Task as task
 use Rattle.model.specs.Trees as tree
-use Rattle.model.specs.Typing.{File, TypingFault, folded, is_same, is_known, number_in, with_name, names_of, refused, unknown_faults, faults_against, predicate_faults, repeated_after}
+use Rattle.model.specs.Typing.{File, folded, is_same, is_known, number_in, with_name, names_of, refused, unknown_faults, faults_against, predicate_faults, repeated_after}
 use Rattle.validator.specs.TypingScope.{names_in}
 use Rattle.validator.proofs.TypingLists.{position_or_len-map, position_or_len-le, list_any-map, position-found, position-missing}
 

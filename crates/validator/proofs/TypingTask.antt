@@ -1,11 +1,11 @@
 -- The parts that the phases make are the task of the trees, where no phase has a fault.
-use Rattle.std.proofs.Common.{◌≡◌, ℕ, ◌≤◌, ◌==◌, Bool, true, false, ◌&&◌, List, [], ◌∷◌, map, length, take, slice_get, Option, None, Some, refl, ap, sym, subst, ◌∙◌, arith, zero, suc, nat_le, true≢false}
+use Rattle.std.proofs.Common.{◌≡◌, ℕ, ◌≤◌, true, List, [], ◌∷◌, map, length, slice_get, refl, ap, sym, ◌∙◌, arith, zero, suc, nat_le, true≢false}
 use Rattle.std.specs.List.{flat_map, list_all}
 use Rattle.std.proofs.lemmas.Bool.Decides.{nat_tests}
 use Rattle.std.proofs.lemmas.List.{length-map, take_all}
 use Rattle.model.specs.Task as task
 use Rattle.model.specs.Trees as tree
-use Rattle.model.specs.Typing.{File, in_domain, in_problem, Known, folded, number_in, names_of, one_after, refused, repeated, unknown_faults, predicate_faults, fact_faults, formula_faults, domain_name_faults, object_faults, declaration_faults, action_faults, faults_of, atom_in, formula_in, schema_in, predicate_of, predicates_of, known_in_problem, task_of_trees, first_filled, phases, IsWellTyped}
+use Rattle.model.specs.Typing.{File, in_domain, in_problem, Known, folded, number_in, names_of, one_after, refused, repeated, unknown_faults, predicate_faults, fact_faults, formula_faults, domain_name_faults, object_faults, declaration_faults, action_faults, atom_in, formula_in, schema_in, predicates_of, known_in_problem, task_of_trees, first_filled, IsWellTyped}
 use Rattle.model.specs.WellTyped.{is_of_arity, is_task}
 use Rattle.validator.specs.TypingScope.{narrow_atom_in}
 use Rattle.validator.proofs.TypingWellTyped.{nil_left, nil_right, declared_arity, arities_fit, is_task-task_of_trees}

@@ -1,10 +1,10 @@
 -- From what a walk found to what is told.
-use Rattle.std.proofs.Common.{◌≡◌, ℕ, ◌<◌, List, [], ◌∷◌, Option, None, Some, refl, sym, ap, subst, arith, Contains, Result, Ok, Err, ◌∙◌, OnOk, IfErr, IsErrAnd, length}
+use Rattle.std.proofs.Common.{◌≡◌, List, [], ◌∷◌, Option, None, Some, sym, subst, arith, Result, Ok, Err, ◌∙◌, OnOk, IfErr, IsErrAnd}
 use Rattle.validator.specs.declared.typing.TaskFault.{TaskFault}
 use Rattle.validator.specs.declared.typing.TaskFault.TheVariants.{At, NoMemory}
 use Rattle.validator.specs.Typing.{TellsLeastOf}
 use Rattle.validator.specs.TypingWalk.{found, TellsFound}
-use Rattle.model.specs.Typing.{TypingFault, IsLeastOf, first_filled}
+use Rattle.model.specs.Typing.{TypingFault, first_filled}
 use Rattle.validator.proofs.TypingLeast.{found-Some, found-None}
 
 -- the least fault is told, where what was found is

@@ -1,11 +1,11 @@
 -- The task of a pair of trees without faults is well-typed.
-use Rattle.std.proofs.Common.{◌≡◌, ℕ, ◌+◌, ◌≤◌, ◌<◌, ◌==◌, Bool, true, false, ◌&&◌, List, [], ◌∷◌, ◌++◌, map, length, take, drop, fold, slice_get, refl, ap, sym, subst, ◌∙◌, Option, None, Some, if◌then◌else◌, true≢false, arith, zero, suc, nat_lt, nat_le, IsTrue}
-use Rattle.std.specs.List.{flat_map, list_all, list_any, position_or_len}
+use Rattle.std.proofs.Common.{◌≡◌, ℕ, ◌≤◌, ◌==◌, Bool, true, false, ◌&&◌, List, [], ◌∷◌, ◌++◌, map, length, fold, slice_get, refl, ap, sym, subst, ◌∙◌, Option, None, Some, if◌then◌else◌, arith, zero, suc, nat_lt, nat_le}
+use Rattle.std.specs.List.{flat_map, list_all}
 use Rattle.std.proofs.lemmas.Bool.Decides.{nat_tests}
 use Rattle.std.proofs.lemmas.List.{length-map, append_assoc, append-nil}
 use Rattle.model.specs.Task as task
 use Rattle.model.specs.Trees as tree
-use Rattle.model.specs.Typing.{File, in_domain, in_problem, TypingFault, Known, folded, is_same, is_known, number_in, names_of, with_name, declared, repeated_after, repeated, one_after, refused, unknown_faults, faults_against, predicate_faults, term_faults, atom_faults, formula_faults, formulas_faults, effect_faults, effects_faults, fact_faults, schema_faults, action_faults, declaration_faults, init_faults, goal_faults, term_in, lifted_atom_in, formula_in, formulas_in, effect_in, effects_in, atom_in, predicate_of, predicates_of, schema_in, known_in_action, known_in_problem, task_of_trees}
+use Rattle.model.specs.Typing.{File, in_domain, in_problem, Known, folded, is_same, is_known, number_in, names_of, with_name, declared, repeated_after, repeated, one_after, refused, unknown_faults, faults_against, predicate_faults, term_faults, atom_faults, formula_faults, formulas_faults, effect_faults, effects_faults, fact_faults, schema_faults, action_faults, declaration_faults, init_faults, goal_faults, term_in, lifted_atom_in, formula_in, formulas_in, effect_in, effects_in, atom_in, predicate_of, predicates_of, schema_in, known_in_action, known_in_problem, task_of_trees}
 use Rattle.model.specs.WellTyped.{is_of_arity, has_arity, is_object, is_term, is_lifted_atom, is_atom, is_formula, are_formulas, is_effect, are_effects, is_schema, is_task}
 use Rattle.validator.proofs.TypingLists.{list_any-position}
 

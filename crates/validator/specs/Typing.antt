@@ -1,5 +1,5 @@
 -- The code's task and the faults that it tells, in the model's terms.
-use Rattle.std.specs.Prelude.{◌≡◌, ℕ, ◌-◌, ◌^◌, min, List}
+use Rattle.std.specs.Prelude.{◌≡◌, ◌-◌, ◌^◌, min, List}
 use Rattle.tokens.specs.Fault.{number_of}
 use Rattle.validator.specs.declared.typing.Task.{Task}
 use Rattle.validator.specs.declared.typing.TaskFile.{TaskFile}

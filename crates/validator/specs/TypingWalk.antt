@@ -1,8 +1,6 @@
 -- What the walks over the trees find, in the model's terms.
-use Rattle.std.specs.Prelude.{◌≡◌, ℕ, ◌+◌, ◌-◌, ◌^◌, min, List, [], ◌∷◌, length, map, take, fold, Option, None, Some, if◌then◌else◌, slice_get}
+use Rattle.std.specs.Prelude.{◌≡◌, ◌+◌, List, fold, Option, None, Some, if◌then◌else◌}
 use Rattle.std.specs.Option.{option_map}
-use Rattle.std.specs.Borrow.{Bor}
-use Rattle.std.specs.Global.{Vec}
 use Rattle.tokens.specs.Fault.{number_of}
 use Rattle.validator.specs.declared.typing.TaskFault.{TaskFault}
 use Rattle.validator.specs.declared.typing.TaskFault.TheVariants.{At, NoMemory}

@@ -1,16 +1,12 @@
-use Rattle.std.proofs.Common.{◌≡◌, ℕ, ◌+◌, ◌∙◌, Bool, true, false, List, [], ◌∷◌, ◌++◌, map, length, take, drop, get_or, Option, None, Some, refl, ap, sym, subst, arith, rules, if◌then◌else◌, is_some}
-use Rattle.std.specs.List.{flat_map}
-use Rattle.validator.specs.Typing.{file_of, TellsLeastOf}
-use Rattle.validator.specs.TypingScope.{known_of, names_in, narrow_atom_in}
-use Rattle.validator.specs.TypingWalk.{found, least_of, refusal_of}
+use Rattle.std.proofs.Common.{◌≡◌, ◌+◌, ◌∙◌, ◌∷◌, map, drop, ap, sym}
+use Rattle.validator.specs.TypingWalk.{found, least_of}
 use Rattle.validator.specs.TaskParts as parts
 use Rattle.pddl_tree.specs.Tree as read
 use Rattle.model.specs.Typing as typing
 use Rattle.model.specs.Task as task
-use Rattle.validator.proofs.TypingLists as lists
 use Rattle.validator.proofs.TypingTables as tables
 use Rattle.validator.proofs.TypingFound as finding
-use Rattle.std.proofs.lemmas.List.{length-map, drop_more}
+use Rattle.std.proofs.lemmas.List.{drop_more}
 use Rattle.pddl_tree.specs.declared.tree.Predicate.{Predicate}
 use Rattle.validator.proofs.typing.phases.declared_predicates.Goals as goal
 

@@ -1,7 +1,4 @@
-use Rattle.std.proofs.Common.{◌≡◌, [], ◌++◌, map, fold, take, drop, None}
-use Rattle.std.specs.List.{flat_map}
-use Rattle.validator.specs.Typing.{file_of}
-use Rattle.validator.specs.TypingScope.{known_of, names_in, narrow_atom_in}
+use Rattle.std.proofs.Common.{◌≡◌, [], ◌++◌, map, drop}
 use Rattle.validator.specs.TypingWalk.{found, least_of}
 use Rattle.validator.specs.TaskParts as parts
 use Rattle.pddl_tree.specs.Tree as read

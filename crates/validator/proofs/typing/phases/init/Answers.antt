@@ -1,20 +1,13 @@
-use Rattle.std.proofs.Common.{◌≡◌, ℕ, ◌+◌, ◌∙◌, Bool, true, false, List, [], ◌∷◌, ◌++◌, map, length, take, drop, get_or, Option, None, Some, refl, ap, sym, subst, arith, rules, if◌then◌else◌}
+use Rattle.std.proofs.Common.{◌≡◌, ◌∙◌, map, None, ap, sym}
 use Rattle.std.specs.List.{flat_map}
 use Rattle.validator.specs.Typing.{file_of, TellsLeastOf}
-use Rattle.validator.specs.TypingScope.{known_of, names_in, narrow_atom_in}
-use Rattle.validator.specs.TypingWalk.{found, least_of, refusal_of}
-use Rattle.validator.specs.TaskParts as parts
+use Rattle.validator.specs.TypingScope.{known_of, narrow_atom_in}
+use Rattle.validator.specs.TypingWalk.{found, least_of}
 use Rattle.pddl_tree.specs.Tree as read
 use Rattle.model.specs.Typing as typing
-use Rattle.validator.proofs.TypingLists as lists
-use Rattle.validator.proofs.TypingTables as tables
 use Rattle.validator.proofs.TypingFound as finding
 use Rattle.validator.proofs.TypingLeast as least
 use Rattle.validator.proofs.TypingTells as telling
-use Rattle.validator.proofs.TypingWellTyped as typed
-use Rattle.std.proofs.lemmas.List.{length-map}
-use Rattle.pddl_tree.specs.declared.tree.Predicate.{Predicate}
-use Rattle.pddl_tree.specs.declared.tree.Action.{Action}
 use Rattle.std.proofs.lemmas.List.Folds.{flat_map-map}
 use Rattle.validator.proofs.typing.phases.init.Goals as goal
 

@@ -1,13 +1,8 @@
-use Rattle.std.proofs.Common.{◌≡◌, ℕ, ◌+◌, ◌∙◌, Bool, true, false, List, [], ◌∷◌, ◌++◌, map, length, take, drop, get_or, Option, None, Some, refl, ap, sym, subst, arith, rules, if◌then◌else◌}
-use Rattle.std.specs.List.{flat_map}
-use Rattle.validator.specs.Typing.{file_of, TellsLeastOf}
-use Rattle.validator.specs.TypingScope.{known_of, names_in, narrow_atom_in}
-use Rattle.validator.specs.TypingWalk.{found, least_of, refusal_of}
-use Rattle.validator.specs.TaskParts as parts
+use Rattle.std.proofs.Common.{◌≡◌, ◌∙◌, List, ◌++◌, map, length, None, ap, sym, arith}
+use Rattle.validator.specs.Typing.{TellsLeastOf}
+use Rattle.validator.specs.TypingWalk.{found, least_of}
 use Rattle.pddl_tree.specs.Tree as read
 use Rattle.model.specs.Typing as typing
-use Rattle.validator.proofs.TypingLists as lists
-use Rattle.validator.proofs.TypingTables as tables
 use Rattle.validator.proofs.TypingFound as finding
 use Rattle.validator.proofs.TypingLeast as least
 use Rattle.validator.proofs.TypingTells as telling

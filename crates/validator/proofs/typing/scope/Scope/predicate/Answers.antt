@@ -1,4 +1,4 @@
-use Rattle.std.proofs.Common.{◌≡◌, ℕ, ◌==◌, ◌∙◌, ap, sym, refl, [], ◌∷◌, if◌then◌else◌, List, false, true, Bool}
+use Rattle.std.proofs.Common.{◌∙◌, ap, sym, refl, [], ◌∷◌, if◌then◌else◌, List, Bool}
 use Rattle.std.specs.Option.{option_map}
 use Rattle.pddl_tree.specs.Tree.{name_of}
 use Rattle.model.specs.Typing.{refused, TypingFault}
