@@ -1,4 +1,10 @@
 //! Plan texts: a list of steps `(action object ..)`.
+ghost use Rattle.std.specs.Prelude.{IsTrue, IfOk};
+ghost use Rattle.std.specs.List.{list_all};
+ghost use Rattle.validator.specs.Typing.{task_of};
+ghost use Rattle.validator.specs.Formulas.{plan_of};
+ghost use Rattle.model.specs.Meaning.{is_instance};
+
 mod steps;
 mod text;
 
@@ -16,8 +22,13 @@ use validator::typing::Task;
 /// that ends in a step is refused at its end, and one over 16,777,216 bytes at what is over. Then the steps are
 /// taken in order: 32 at an action that is not declared, 33 at the action where the count of objects is not that of
 /// its parameters, 34 at the first object that is not declared.
-pub fn read_plan(alloc: Global, task: &Task, text: &[u8]) -> Result<Plan, Fault> {
+pub fn read_plan(alloc: Global, task: &Task, text: &[u8]) -> Result<Plan, Fault>
+    ensures { IfOk result (λ plan. IsTrue (list_all (is_instance (task_of task.now)) (plan_of plan))) }
+{
     let steps = text::steps_of(alloc, text)?;
     let instances = steps::instances_of(alloc, task, &steps)?;
-    Plan::new(instances).ok_or(Fault::NoMemory)
+    match Plan::new(instances) {
+        Some(plan) => Ok(plan),
+        None => Err(Fault::NoMemory),
+    }
 }

@@ -1,4 +1,11 @@
 //! The instances that the steps of a plan text name.
+ghost use Rattle.std.specs.Prelude.{◌≡◌, IsTrue, IfOk, IfSome, length, map};
+ghost use Rattle.std.specs.List.{list_all};
+ghost use Rattle.validator.specs.Typing.{task_of};
+ghost use Rattle.validator.specs.Formulas as view;
+ghost use Rattle.model.specs.Meaning.{is_instance};
+ghost use Rattle.model.specs.WellTyped.{is_object};
+
 use super::text::Step;
 use pddl_tree::Name;
 use std::alloc::Global;
@@ -11,33 +18,50 @@ pub(super) fn instances_of(
     alloc: Global,
     task: &Task,
     steps: &[Step<'_>],
-) -> Result<Vec<Instance>, Fault> {
+) -> Result<Vec<Instance>, Fault>
+    ensures { IfOk result (λ found. IsTrue (list_all (is_instance (task_of task.now)) (map view.instance_of found.items))) }
+{
     let mut instances = Vec::new(alloc);
     for step in steps {
-        instances.push(instance_of(alloc, task, step)?)?;
+        let instance = instance_of(alloc, task, step)?;
+        instances.push(instance)?;
     }
     Ok(instances)
 }
 
 /// The instance of a step.
-fn instance_of(alloc: Global, task: &Task, step: &Step<'_>) -> Result<Instance, Fault> {
+fn instance_of(alloc: Global, task: &Task, step: &Step<'_>) -> Result<Instance, Fault>
+    ensures { IfOk result (λ i. IsTrue (is_instance (task_of task.now) (view.instance_of i))) }
+{
     let Some(schema) = schema_named(alloc, task, &step.action)? else {
         return Err(refused(Code::UnknownAction, &step.action));
     };
-    let parameters = task.schema(schema).map_or(0, |schema| schema.parameters);
-    if step.objects.len() != parameters {
+    let Some(declared) = task.schema(schema) else {
+        return Err(refused(Code::UnknownAction, &step.action));
+    };
+    if step.objects.len() != declared.parameters {
         return Err(refused(Code::StepArity, &step.action));
     }
+    let objects = objects_of(alloc, task, step)?;
+    Ok(Instance { schema, objects })
+}
+
+/// The objects of a step, in order.
+fn objects_of(alloc: Global, task: &Task, step: &Step<'_>) -> Result<Binding, Fault>
+    ensures objects { IfOk result (λ found. IsTrue (list_all (λ o. is_object (task_of task.now) o.0) found.items)) }
+    ensures count { IfOk result (λ found. length found.items ≡ length step.now.objects.items) }
+{
     let mut objects = Binding::new();
     for name in &step.objects {
         let Some(object) = object_named(alloc, task, name)? else {
             return Err(refused(Code::StepType, name));
         };
-        if objects.try_push(object).is_err() {
-            return Err(refused(Code::StepArity, &step.action));
+        match objects.try_push(object) {
+            Ok(()) => {}
+            Err(_) => return Err(refused(Code::StepArity, &step.action)),
         }
     }
-    Ok(Instance { schema, objects })
+    Ok(objects)
 }
 
 fn schema_named(alloc: Global, task: &Task, name: &Name<'_>) -> Result<Option<SchemaId>, NoMemory> {
@@ -45,9 +69,14 @@ fn schema_named(alloc: Global, task: &Task, name: &Name<'_>) -> Result<Option<Sc
     Ok(task.schema_named(folded.as_slice()))
 }
 
-fn object_named(alloc: Global, task: &Task, name: &Name<'_>) -> Result<Option<ObjectId>, NoMemory> {
+fn object_named(alloc: Global, task: &Task, name: &Name<'_>) -> Result<Option<ObjectId>, NoMemory>
+    ensures { IfOk result (λ found. IfSome found (λ o. IsTrue (is_object (task_of task.now) o.0))) }
+{
     let folded = name.text.to_ascii_lowercase(alloc)?;
-    Ok(task.object_named(folded.as_slice()))
+    match task.object_named(folded.as_slice()) {
+        Some(object) => Ok(Some(object)),
+        None => Ok(None),
+    }
 }
 
 fn refused(code: Code, name: &Name<'_>) -> Fault {
