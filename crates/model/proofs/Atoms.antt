@@ -93,8 +93,8 @@ difference-one s a = same_state _ _ (λ q. has-difference s (a ∷ []) q ∙ and
 pub difference-append : (s : State) (xs ys : List Atom) → difference s (set_of (xs ++ ys)) ≡ difference (difference s (set_of xs)) (set_of ys)
 difference-append s xs ys =
     same_state _ _ (λ q.
-      has-difference s (xs ++ ys) q ∙ ap (λ b. has s q && not b) (stands_in-append xs ys q) ∙ sym (and_twice (has s q) (stands_in xs q) (stands_in ys q))
-      ∙ sym (has-difference (difference s (set_of xs)) ys q ∙ ap (λ b. b && not (stands_in ys q)) (has-difference s xs q)))
+    has-difference s (xs ++ ys) q ∙ ap (λ b. has s q && not b) (stands_in-append xs ys q) ∙ sym (and_twice (has s q) (stands_in xs q) (stands_in ys q))
+    ∙ sym (has-difference (difference s (set_of xs)) ys q ∙ ap (λ b. b && not (stands_in ys q)) (has-difference s xs q)))
 
 pub union-none : (s : State) → union s (set_of []) ≡ s
 unfolding stands_in
@@ -107,8 +107,8 @@ union-one s a = same_state _ _ (λ q. has-union s (a ∷ []) q ∙ or_swap (has 
 pub union-append : (s : State) (xs ys : List Atom) → union s (set_of (xs ++ ys)) ≡ union (union s (set_of xs)) (set_of ys)
 union-append s xs ys =
     same_state _ _ (λ q.
-      has-union s (xs ++ ys) q ∙ ap (λ b. has s q || b) (stands_in-append xs ys q) ∙ sym (or_twice (has s q) (stands_in xs q) (stands_in ys q))
-      ∙ sym (has-union (union s (set_of xs)) ys q ∙ ap (λ b. b || stands_in ys q) (has-union s xs q)))
+    has-union s (xs ++ ys) q ∙ ap (λ b. has s q || b) (stands_in-append xs ys q) ∙ sym (or_twice (has s q) (stands_in xs q) (stands_in ys q))
+    ∙ sym (has-union (union s (set_of xs)) ys q ∙ ap (λ b. b || stands_in ys q) (has-union s xs q)))
 
 -- ---- the changes of one effect after another
 

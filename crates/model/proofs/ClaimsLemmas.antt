@@ -12,22 +12,21 @@ Allows-≤ none m n allowed le = allowed
 
 module _ {S A : Type 0} (t : System S A) (value : S → ℕ) (claim : Claim) (lines : List (Line S))
     (lower : IsLowerBound t value) (closed : IsClosed t value claim lines) where
-
   at_cut : (plan : List A) (line : Line S) (end : S) (rest : ℕ) → Contains lines line → line.cut ≡ Some rest → run t line.state plan ≡ Some end
-    → IsTrue (t.meets_goal end) → Allows claim (line.cost + cost_of_all t plan)
+      → IsTrue (t.meets_goal end) → Allows claim (line.cost + cost_of_all t plan)
   at_cut plan line end rest listed cut runs goal =
       let allowed = closed.cuts_allowed line rest listed cut in
       Allows-≤ claim (line.cost + rest) (line.cost + cost_of_all t plan) allowed.1 (omega (arith, allowed.0, lower line.state end plan runs goal))
 
   at_open_goal : (line : Line S) (end : S) → Contains lines line → line.cut ≡ None → run t line.state [] ≡ Some end → IsTrue (t.meets_goal end)
-    → Allows claim (line.cost + cost_of_all t [])
+      → Allows claim (line.cost + cost_of_all t [])
   at_open_goal line end listed is_open runs goal =
       let same : end ≡ line.state = cc in
       Allows-≤ claim line.cost (line.cost + cost_of_all t []) (closed.open_goals_allowed line listed is_open (subst (λ (s : S). IsTrue (t.meets_goal s)) same goal)) (omega arith)
 
   -- a list that runs from a listed state to a goal state costs what the claim allows, from that line's cost on
   from_line : (plan : List A) (line : Line S) (end : S) → Contains lines line → run t line.state plan ≡ Some end → IsTrue (t.meets_goal end)
-    → Allows claim (line.cost + cost_of_all t plan)
+      → Allows claim (line.cost + cost_of_all t plan)
   from_line [] line end listed runs goal =
       elim line.cut as (λ c. line.cut ≡ c → Allows claim (line.cost + cost_of_all t [])) [
         | None ↦ λ is_open. at_open_goal line end listed is_open runs goal
@@ -41,16 +40,16 @@ module _ {S A : Type 0} (t : System S A) (value : S → ℕ) (claim : Claim) (li
               | Some next ↦ λ leads runs_on.
                   let there = closed.successors_listed line a next listed is_open leads in
                   Allows-≤ claim (there.0.cost + cost_of_all t plan) (line.cost + cost_of_all t (a ∷ plan))
-                    (from_line plan there.0 end there.1 (subst (λ (s : S). run t s plan ≡ Some end) (sym there.2) runs_on) goal)
-                    (omega (arith, there.3, sum_by-cons t.cost a plan))
+                  (from_line plan there.0 end there.1 (subst (λ (s : S). run t s plan ≡ Some end) (sym there.2) runs_on) goal)
+                  (omega (arith, there.3, sum_by-cons t.cost a plan))
             ] refl runs
         | Some rest ↦ λ cut. at_cut (a ∷ plan) line end rest listed cut runs goal
       ] refl
 
 pub claim-of_closed : {S A : Type 0} (t : System S A) (value : S → ℕ) (claim : Claim) (lines : List (Line S))
-  → IsLowerBound t value → IsClosed t value claim lines → ClaimHolds t claim
+    → IsLowerBound t value → IsClosed t value claim lines → ClaimHolds t claim
 claim-of_closed t value claim lines lower closed plan solves =
     let there = closed.initial_listed in
     Allows-≤ claim (there.0.cost + cost_of_all t plan) (cost_of_all t plan)
-      (from_line t value claim lines lower closed plan there.0 solves.0 there.1 (subst (λ s. run t s plan ≡ Some solves.0) (sym there.2) solves.1) solves.2)
-      (omega (arith, there.3))
+    (from_line t value claim lines lower closed plan there.0 solves.0 there.1 (subst (λ s. run t s plan ≡ Some solves.0) (sym there.2) solves.1) solves.2)
+    (omega (arith, there.3))

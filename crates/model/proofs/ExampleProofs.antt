@@ -1,9 +1,9 @@
 -- The worked examples are true.
-use Rattle.std.specs.Prelude.{◌≡◌, ℕ, ◌+◌, Bool, true, false, ◌&&◌, cond, List, [], ◌∷◌, Option, Some, None, refl}
+use Rattle.std.specs.Prelude.{◌≡◌, ℕ, ◌+◌, true, ◌&&◌, cond, List, [], ◌∷◌, Some, None, refl}
 use Rattle.std.proofs.Common.{◌∙◌, ap, arith}
 use Rattle.std.specs.Option.{option_and_then}
 use Rattle.std.specs.FinSet.{contains, len, from_list, len-insert, len-empty, contains-from_list}
-use Rattle.model.specs.Task.{Atom, Task, Instance}
+use Rattle.model.specs.Task.{Atom}
 use Rattle.model.specs.Runs.{System, run}
 use Rattle.model.specs.Meaning.{State, atom_cmp, step, changes_of, after_changes, system_of, Change}
 use Rattle.model.specs.Examples.{go, go_task, tie, tie_task, move, walk_to, a_to_a, a_to_b, b_to_c, instance, ground, WorkedExamples}
@@ -84,37 +84,41 @@ stays_at_b place =
 
 pub worked_examples : WorkedExamples
 worked_examples = record {
-  add_wins_over_delete =
-    ( ( state_after go_task.init once
-      , one (system_of go_task) (state_after go_task.init []) (state_after go_task.init once) (instance 0 []) (go_leads (state_after go_task.init []))
-      , λ i. contains-state_after go_task.init once (ground 0 []) i && (contains-state_after go_task.init once (ground 1 []) i && true)
-      )
-    , refl
-    );
-  add_wins_over_another_literal =
-    ( ( state_after start at_a
-      , one (system_of (walk_to 0)) (state_after start []) (state_after start at_a) a_to_a (moves_a_to_a 0)
-      , contains-state_after start at_a (ground 0 (0 ∷ []))
-      )
-    , refl
-    );
-  each_instance_costs =
-    ( ( state_after go_task.init twice
-      , two (system_of go_task) (state_after go_task.init []) (state_after go_task.init once) (state_after go_task.init twice) (instance 0 []) (instance 0 [])
-          (go_leads (state_after go_task.init [])) (go_leads (state_after go_task.init once))
-      , λ i. contains-state_after go_task.init twice (ground 0 []) i && (contains-state_after go_task.init twice (ground 1 []) i && true)
-      )
-    , refl
-    );
+  add_wins_over_delete = (
+    (
+      state_after go_task.init once,
+      one (system_of go_task) (state_after go_task.init []) (state_after go_task.init once) (instance 0 []) (go_leads (state_after go_task.init [])),
+      λ i. contains-state_after go_task.init once (ground 0 []) i && (contains-state_after go_task.init once (ground 1 []) i && true),
+    ),
+    refl,
+  );
+  add_wins_over_another_literal = (
+    (
+      state_after start at_a,
+      one (system_of (walk_to 0)) (state_after start []) (state_after start at_a) a_to_a (moves_a_to_a 0),
+      contains-state_after start at_a (ground 0 (0 ∷ [])),
+    ),
+    refl,
+  );
+  each_instance_costs = (
+    (
+      state_after go_task.init twice,
+      two (system_of go_task) (state_after go_task.init []) (state_after go_task.init once) (state_after go_task.init twice) (instance 0 []) (instance 0 [])
+          (go_leads (state_after go_task.init [])) (go_leads (state_after go_task.init once)),
+      λ i. contains-state_after go_task.init twice (ground 0 []) i && (contains-state_after go_task.init twice (ground 1 []) i && true),
+    ),
+    refl,
+  );
   one_object_for_two_parameters =
-    let after = changes_of tie.effect (0 ∷ 0 ∷ []) ∷ [] in
-    ( ( state_after tie_task.init after
-      , one (system_of tie_task) (state_after tie_task.init []) (state_after tie_task.init after) (instance 0 (0 ∷ 0 ∷ []))
-          (leads tie_task (state_after tie_task.init []) (instance 0 (0 ∷ 0 ∷ [])) tie refl refl (contains-state_after tie_task.init [] (ground 0 (0 ∷ 0 ∷ []))))
-      , contains-state_after tie_task.init after (ground 1 [])
-      )
-    , refl
-    );
+      let after = changes_of tie.effect (0 ∷ 0 ∷ []) ∷ [] in (
+        (
+          state_after tie_task.init after,
+          one (system_of tie_task) (state_after tie_task.init []) (state_after tie_task.init after) (instance 0 (0 ∷ 0 ∷ []))
+              (leads tie_task (state_after tie_task.init []) (instance 0 (0 ∷ 0 ∷ [])) tie refl refl (contains-state_after tie_task.init [] (ground 0 (0 ∷ 0 ∷ [])))),
+          contains-state_after tie_task.init after (ground 1 []),
+        ),
+        refl,
+      );
   one_object_is_an_instance = refl;
   too_few_objects = refl;
   unknown_object = refl;
@@ -137,21 +141,22 @@ worked_examples = record {
     is_not_applicable = stays_at_b 1;
   };
   empty_plan_solves = ((state_after start [], refl, contains-state_after start [] (ground 0 (0 ∷ []))), refl);
-  empty_plan_misses =
-    ( state_after go_task.init []
-    , refl
-    , λ i. contains-state_after go_task.init [] (ground 0 []) i && (contains-state_after go_task.init [] (ground 1 []) i && true)
-    );
-  goal_left_behind =
-    ( state_after start at_c
-    , two (system_of (walk_to 1)) (state_after start []) (state_after start at_b) (state_after start at_c) a_to_b b_to_c (moves_a_to_b 1) (moves_b_to_c 1)
-    , contains-state_after start at_c (ground 0 (1 ∷ []))
-    );
-  two_steps =
-    ( ( state_after start at_c
-      , two (system_of (walk_to 2)) (state_after start []) (state_after start at_b) (state_after start at_c) a_to_b b_to_c (moves_a_to_b 2) (moves_b_to_c 2)
-      , contains-state_after start at_c (ground 0 (2 ∷ []))
-      )
-    , refl
-    );
+  empty_plan_misses = (
+    state_after go_task.init [],
+    refl,
+    λ i. contains-state_after go_task.init [] (ground 0 []) i && (contains-state_after go_task.init [] (ground 1 []) i && true),
+  );
+  goal_left_behind = (
+    state_after start at_c,
+    two (system_of (walk_to 1)) (state_after start []) (state_after start at_b) (state_after start at_c) a_to_b b_to_c (moves_a_to_b 1) (moves_b_to_c 1),
+    contains-state_after start at_c (ground 0 (1 ∷ [])),
+  );
+  two_steps = (
+    (
+      state_after start at_c,
+      two (system_of (walk_to 2)) (state_after start []) (state_after start at_b) (state_after start at_c) a_to_b b_to_c (moves_a_to_b 2) (moves_b_to_c 2),
+      contains-state_after start at_c (ground 0 (2 ∷ [])),
+    ),
+    refl,
+  );
 }

@@ -24,24 +24,24 @@ left_within : (w : List Token) (s : State) → LeftWithin (run w s) w
 left_within [] s = ended s
 left_within (t ∷ w) s = by_step (left_within w) (step s t)
   where
-  by_step : ((u : State) → LeftWithin (run w u) w) → (x : Step) → LeftWithin (follow x (run w) (t ∷ w)) (t ∷ w)
-  by_step within (go u) = left_more (run w u) t w (within u)
-  by_step within (refuse code) = omega arith
+    by_step : ((u : State) → LeftWithin (run w u) w) → (x : Step) → LeftWithin (follow x (run w) (t ∷ w)) (t ∷ w)
+    by_step within (go u) = left_more (run w u) t w (within u)
+    by_step within (refuse code) = omega arith
 
 -- what stops at a word stops at it whatever follows
 pub alike : (before : List Token) (t : Token) (after : List Token) (s : State) (code : ℕ) → run (before ++ t ∷ after) s ≡ stopped code (t ∷ after) → (other : List Token) → run (before ++ t ∷ other) s ≡ stopped code (t ∷ other)
 alike [] t after s code e other = by_step (step s t) e
   where
-  by_step : (x : Step) → follow x (run after) (t ∷ after) ≡ stopped code (t ∷ after) → follow x (run other) (t ∷ other) ≡ stopped code (t ∷ other)
-  by_step (go u) h = absurd (let l = subst (λ o. LeftWithin o after) h (left_within after u) in omega arith)
-  by_step (refuse c) h = let same : c ≡ code = cc in ap (λ x. stopped x (t ∷ other)) same
+    by_step : (x : Step) → follow x (run after) (t ∷ after) ≡ stopped code (t ∷ after) → follow x (run other) (t ∷ other) ≡ stopped code (t ∷ other)
+    by_step (go u) h = absurd (let l = subst (λ o. LeftWithin o after) h (left_within after u) in omega arith)
+    by_step (refuse c) h = let same : c ≡ code = cc in ap (λ x. stopped x (t ∷ other)) same
 alike (b ∷ before) t after s code e other = by_step (λ u h. alike before t after u code h other) (step s b) e
   where
-  by_step : ((u : State) → run (before ++ t ∷ after) u ≡ stopped code (t ∷ after) → run (before ++ t ∷ other) u ≡ stopped code (t ∷ other)) → (x : Step) → follow x (run (before ++ t ∷ after)) (b ∷ before ++ t ∷ after) ≡ stopped code (t ∷ after) → follow x (run (before ++ t ∷ other)) (b ∷ before ++ t ∷ other) ≡ stopped code (t ∷ other)
-  by_step again (go u) h = again u h
-  by_step again (refuse c) h =
-      let same : b ∷ (before ++ t ∷ after) ≡ t ∷ after = cc in
-      let l : suc (length before + suc (length after)) ≡ suc (length after) = simp length-append at (ap length same) in absurd (omega arith)
+    by_step : ((u : State) → run (before ++ t ∷ after) u ≡ stopped code (t ∷ after) → run (before ++ t ∷ other) u ≡ stopped code (t ∷ other)) → (x : Step) → follow x (run (before ++ t ∷ after)) (b ∷ before ++ t ∷ after) ≡ stopped code (t ∷ after) → follow x (run (before ++ t ∷ other)) (b ∷ before ++ t ∷ other) ≡ stopped code (t ∷ other)
+    by_step again (go u) h = again u h
+    by_step again (refuse c) h =
+        let same : b ∷ (before ++ t ∷ after) ≡ t ∷ after = cc in
+        let l : suc (length before + suc (length after)) ≡ suc (length after) = simp length-append at (ap length same) in absurd (omega arith)
 
 -- no file begins with words that the machine stops at
 pub dead_domain : (before : List Token) (t : Token) (after : List Token) (code : ℕ) → run (before ++ t ∷ after) (start domain_file) ≡ stopped code (t ∷ after) → (other : List Token) (d : Domain) → IsDomain (before ++ t ∷ other) d → ⊥

@@ -22,11 +22,11 @@ other_atom : (q : Atom) (a : LiftedAtom) (b : List ℕ) → (a.predicate == q.pr
 other_atom q a b apart =
     false_from_ne_true (eq_by_cmp atom_cmp q (ground_atom b a)) (λ same. other same)
   where
-  other : eq_by_cmp atom_cmp q (ground_atom b a) ≡ true → ⊥
-  other same =
-      let is : q ≡ ground_atom b a = atoms_apart q (ground_atom b a) ((Equal-is (atom_cmp q (ground_atom b a))).0 same) in
-      let named : (a.predicate == q.predicate) ≡ true = eq-eqb a.predicate q.predicate (ap (λ (x : Atom). x.predicate) (sym is)) in
-      absurd (cc)
+    other : eq_by_cmp atom_cmp q (ground_atom b a) ≡ true → ⊥
+    other same =
+        let is : q ≡ ground_atom b a = atoms_apart q (ground_atom b a) ((Equal-is (atom_cmp q (ground_atom b a))).0 same) in
+        let named : (a.predicate == q.predicate) ≡ true = eq-eqb a.predicate q.predicate (ap (λ (x : Atom). x.predicate) (sym is)) in
+        absurd (cc)
 
 abbrev mutual
   untouched_added : (q : Atom) (e : Effect) (b : List ℕ) → touches q.predicate e ≡ false → stands_in (added_by (changes_of e b)) q ≡ false
@@ -71,8 +71,8 @@ contains-after s q e b apart =
     contains-union atoms_total (difference s gone) new q
     ∙ ap (λ v. v || contains new q) (contains-difference atoms_total s gone q)
     ∙ kept (contains s q) (contains gone q) (contains new q)
-        (contains-from_list atoms_total (deleted_by (changes_of e b)) q ∙ untouched_deleted q e b apart)
-        (contains-from_list atoms_total (added_by (changes_of e b)) q ∙ untouched_added q e b apart)
+    (contains-from_list atoms_total (deleted_by (changes_of e b)) q ∙ untouched_deleted q e b apart)
+    (contains-from_list atoms_total (added_by (changes_of e b)) q ∙ untouched_added q e b apart)
 
 none_of_all : {X : Type 0} (p : X → Bool) (xs : List X) (k : ℕ) (x : X) → list_any p xs ≡ false → slice_get xs k ≡ Some x → p x ≡ false
 none_of_all p [] k x none at = absurd (cc)
@@ -95,8 +95,8 @@ contains-step task s next i q static leads =
           ∙ contains-after s q schema.effect i.objects (none_of_all (λ (x : Schema). touches q.predicate x.effect) task.schemas i.schema schema static at)
     ] refl leads
   where
-  next_by : Schema → Option State
-  next_by schema = if fits task schema i.objects && holds schema.precondition i.objects s then Some (after_changes s (changes_of schema.effect i.objects)) else None
+    next_by : Schema → Option State
+    next_by schema = if fits task schema i.objects && holds schema.precondition i.objects s then Some (after_changes s (changes_of schema.effect i.objects)) else None
 
 contains-run : (task : Task) (q : Atom) → is_fluent task q.predicate ≡ false → (actions : List Instance) (s end : State) → run (system_of task) s actions ≡ Some end → contains end q ≡ contains s q
 contains-run task q static [] s end runs = let same : s ≡ end = cc in ap (λ (t : State). contains t q) (sym same)
@@ -131,12 +131,13 @@ stands_in-filter p (a ∷ atoms) q =
       | false ↦ λ fails. stands_in-filter p atoms q ∙ first_fails (eq_by_cmp atom_cmp q a) (p q) (stands_in atoms q) (λ same. ap p (eq_same q a same) ∙ fails)
     ] refl
   where
-  first_passes : (e t r : Bool) → (e ≡ true → t ≡ true) → (e || (t && r)) ≡ (t && (e || r))
-  first_passes true t r known = sym (ap (λ v. v && true) (known refl))
-  first_passes false t r known = refl
-  first_fails : (e t r : Bool) → (e ≡ true → t ≡ false) → (t && r) ≡ (t && (e || r))
-  first_fails true t r known = ap (λ v. v && r) (known refl) ∙ sym (ap (λ v. v && true) (known refl))
-  first_fails false t r known = refl
+    first_passes : (e t r : Bool) → (e ≡ true → t ≡ true) → (e || (t && r)) ≡ (t && (e || r))
+    first_passes true t r known = sym (ap (λ v. v && true) (known refl))
+    first_passes false t r known = refl
+
+    first_fails : (e t r : Bool) → (e ≡ true → t ≡ false) → (t && r) ≡ (t && (e || r))
+    first_fails true t r known = ap (λ v. v && r) (known refl) ∙ sym (ap (λ v. v && true) (known refl))
+    first_fails false t r known = refl
 
 -- these are the atoms of fluent predicates that are true in the state
 pub record AreFluentAtoms (task : Task) (s : State) (atoms : List Atom) : Type 0 where
@@ -144,17 +145,18 @@ pub record AreFluentAtoms (task : Task) (s : State) (atoms : List Atom) : Type 0
   pub none_static : (q : Atom) → is_fluent task q.predicate ≡ false → list_any (eq_by_cmp atom_cmp q) atoms ≡ false
 
 pub state_of_fluent : (task : Task) (s : State) (atoms : List Atom) → IsReachable (system_of task) s → AreFluentAtoms task s atoms
-  → from_list (atoms ++ static_atoms task) ≡ s
+    → from_list (atoms ++ static_atoms task) ≡ s
 state_of_fluent task s atoms reached fluent = same_state (from_list (atoms ++ static_atoms task)) s each
   where
-  static_there : (q : Atom) → stands_in (static_atoms task) q ≡ (not (is_fluent task q.predicate) && stands_in task.init q)
-  static_there q = stands_in-filter (λ (a : Atom). not (is_fluent task a.predicate)) task.init q
-  each : (q : Atom) → contains (from_list {R = atom_cmp} (atoms ++ static_atoms task)) q ≡ contains s q
-  each q =
-      contains-from_list atoms_total (atoms ++ static_atoms task) q
-      ∙ list_any-append (eq_by_cmp atom_cmp q) atoms (static_atoms task)
-      ∙ ap (λ v. stands_in atoms q || v) (static_there q)
-      ∙ elim (is_fluent task q.predicate) as (λ f. is_fluent task q.predicate ≡ f → (stands_in atoms q || (not f && stands_in task.init q)) ≡ contains s q) [
+    static_there : (q : Atom) → stands_in (static_atoms task) q ≡ (not (is_fluent task q.predicate) && stands_in task.init q)
+    static_there q = stands_in-filter (λ (a : Atom). not (is_fluent task a.predicate)) task.init q
+
+    each : (q : Atom) → contains (from_list {R = atom_cmp} (atoms ++ static_atoms task)) q ≡ contains s q
+    each q =
+        contains-from_list atoms_total (atoms ++ static_atoms task) q
+        ∙ list_any-append (eq_by_cmp atom_cmp q) atoms (static_atoms task)
+        ∙ ap (λ v. stands_in atoms q || v) (static_there q)
+        ∙ elim (is_fluent task q.predicate) as (λ f. is_fluent task q.predicate ≡ f → (stands_in atoms q || (not f && stands_in task.init q)) ≡ contains s q) [
           | true ↦ λ is. or_false (stands_in atoms q) ∙ sym (fluent.same q is)
           | false ↦ λ is. ap (λ v. v || stands_in task.init q) (fluent.none_static q is) ∙ sym (contains-from_list atoms_total task.init q) ∙ sym (contains-reachable task s q is reached)
         ] refl

@@ -1,10 +1,10 @@
 -- Where an action leads, and what is true after some changes: in a form that computes on a written task.
-use Rattle.std.specs.Prelude.{◌≡◌, ℕ, Bool, true, false, not, cond, ◌&&◌, ◌||◌, List, [], ◌∷◌, slice_get, Option, None, Some}
-use Rattle.std.proofs.Common.{sym, ◌∙◌, ap}
+use Rattle.std.specs.Prelude.{◌≡◌, Bool, true, false, not, cond, ◌&&◌, ◌||◌, List, [], ◌∷◌, slice_get, None, Some}
+use Rattle.std.proofs.Common.{◌∙◌, ap}
 use Rattle.std.specs.List.{list_any}
 use Rattle.std.specs.Option.{option_and_then}
 use Rattle.std.specs.Ordering.{eq_by_cmp}
-use Rattle.std.specs.FinSet.{contains, from_list, difference, union, contains-from_list, contains-difference, contains-union}
+use Rattle.std.specs.FinSet.{contains, from_list, difference, contains-from_list, contains-difference, contains-union}
 use Rattle.model.specs.Task.{Atom, Schema, Task, Instance}
 use Rattle.model.specs.Meaning.{State, atom_cmp, Change, added_by, deleted_by, after_changes, fits, holds, changes_of, step}
 use Rattle.model.proofs.Atoms.{atoms_total}
@@ -28,9 +28,9 @@ contains-state_after init (changes ∷ earlier) q =
     let before = state_after init earlier in
     contains-union atoms_total (difference before (from_list (deleted_by changes))) (from_list (added_by changes)) q
     ∙ (λ i.
-      (contains-difference atoms_total before (from_list (deleted_by changes)) q
-      ∙ (λ j. contains-state_after init earlier q j && not (contains-from_list atoms_total (deleted_by changes) q j))) i
-      || contains-from_list atoms_total (added_by changes) q i)
+    (contains-difference atoms_total before (from_list (deleted_by changes)) q
+    ∙ (λ j. contains-state_after init earlier q j && not (contains-from_list atoms_total (deleted_by changes) q j))) i
+    || contains-from_list atoms_total (added_by changes) q i)
 
 module _ (t : Task) (s : State) (a : Instance) (schema : Schema) (is : slice_get t.schemas a.schema ≡ Some schema) (fit : fits t schema a.objects ≡ true) where
   step_of_schema : step t s a ≡ cond (holds schema.precondition a.objects s) (Some (after_changes s (changes_of schema.effect a.objects))) None

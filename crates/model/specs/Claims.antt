@@ -38,6 +38,6 @@ IsLowerBound {S} {A} t value =
 pub record IsClosed {S A : Type 0} (t : System S A) (value : S → ℕ) (claim : Claim) (lines : List (Line S)) : Type 0 where
   pub initial_listed : IsListedWithin lines t.initial 0
   pub successors_listed : (line : Line S) (a : A) (next : S) → Contains lines line → line.cut ≡ None → t.step line.state a ≡ Some next
-    → IsListedWithin lines next (line.cost + t.cost a)
+      → IsListedWithin lines next (line.cost + t.cost a)
   pub open_goals_allowed : (line : Line S) → Contains lines line → line.cut ≡ None → IsTrue (t.meets_goal line.state) → Allows claim line.cost
   pub cuts_allowed : (line : Line S) (rest : ℕ) → Contains lines line → line.cut ≡ Some rest → (rest ≤ value line.state) × Allows claim (line.cost + rest)

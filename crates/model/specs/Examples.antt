@@ -1,5 +1,5 @@
 -- Worked examples: what the definitions say of small tasks, each chosen so that a wrong reading says otherwise.
-use Rattle.std.specs.Prelude.{◌≡◌, ℕ, Bool, true, false, List, [], ◌∷◌, codes}
+use Rattle.std.specs.Prelude.{◌≡◌, ℕ, true, false, List, [], ◌∷◌, codes}
 use Rattle.std.specs.FinSet.{len}
 use Rattle.model.specs.Task.{Atom, LiftedAtom, Term, variable, object, Formula, Formulas, atom, and, no_formula, more_formulas, Effect, Effects, add, delete, both, no_effect, more_effects, Schema, Task, Instance}
 use Rattle.model.specs.Runs.{IsVerdict, valid, not_applicable, goal_missed}

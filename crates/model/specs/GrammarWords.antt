@@ -98,10 +98,10 @@ keyword_of text =
     else (if bytes_eq text (codes ":goal") then goal
     else other_keyword_of text)))))))))
   where
-  other_keyword_of : List ℕ → Keyword
-  other_keyword_of text =
-      if is_among text requirement_keys then requirement_key
-      else (if is_among text left_out_keywords then left_out_keyword else unknown_keyword)
+    other_keyword_of : List ℕ → Keyword
+    other_keyword_of text =
+        if is_among text requirement_keys then requirement_key
+        else (if is_among text left_out_keywords then left_out_keyword else unknown_keyword)
 
 abbrev pub token_from : Kind → List ℕ → Name → Token
 token_from words.name text n = name (label_of text) n

@@ -88,8 +88,8 @@ is_instance task i = option_map_or (λ schema. fits task schema i.objects) (slic
 abbrev pub step : Task → State → Instance → Option State
 step task state i =
     option_and_then (λ schema.
-      if fits task schema i.objects && holds schema.precondition i.objects state then Some (after_changes state (changes_of schema.effect i.objects))
-      else None)
+    if fits task schema i.objects && holds schema.precondition i.objects state then Some (after_changes state (changes_of schema.effect i.objects))
+    else None)
     (slice_get task.schemas i.schema)
 
 -- the goal has no parameters

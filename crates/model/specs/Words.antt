@@ -243,10 +243,10 @@ size_of_all parts = sum_by size parts
 pub data IsFault (text : List ℕ) (fault : Fault) : Type 0 where
   -- a part is at fault, and the span is the part's
   at_part : (before after : List Part) (part : Part) → AreParts text (before ++ part ∷ after) → IsAtFault before part fault.code
-    → fault.span.start ≡ size_of_all before → fault.span.end ≡ size_of_all before + size part → IsFault text fault
+      → fault.span.start ≡ size_of_all before → fault.span.end ≡ size_of_all before + size part → IsFault text fault
   -- a list is open at the end, and the span is the end's
   open_at_end : (parts : List Part) → AreParts text parts → 0 < open_after parts → fault.code ≡ 3
-    → fault.span.start ≡ length text → fault.span.end ≡ length text → IsFault text fault
+      → fault.span.start ≡ length text → fault.span.end ≡ length text → IsFault text fault
 
 -- by the least start, and at equal starts by the lower number
 abbrev pub ComesNoLater : Fault → Fault → Type 0
@@ -256,6 +256,6 @@ ComesNoLater a b =
 -- the fault that is told of the text: its length before all others, and then the first
 pub data IsTold (text : List ℕ) (fault : Fault) : Type 0 where
   text_too_long : longest_text < length text → fault.code ≡ 5 → fault.span.start ≡ longest_text
-    → fault.span.end ≡ length text → IsTold text fault
+      → fault.span.end ≡ length text → IsTold text fault
   comes_first : length text ≤ longest_text → IsFault text fault
-    → ((other : Fault) → IsFault text other → ComesNoLater fault other) → IsTold text fault
+      → ((other : Fault) → IsFault text other → ComesNoLater fault other) → IsTold text fault

@@ -4,9 +4,8 @@
 use planner_main::certificate::Device;
 use planner_main::files::SystemFiles;
 use planner_main::run;
-use std::env;
-use std::io;
 use std::process::ExitCode;
+use std::{env, io};
 
 fn main(rt: HostRuntime) -> io::Result<ExitCode> {
     let arguments: Vec<String> = env::args(&rt)?.skip(1).collect(rt.alloc())?;
