@@ -1,0 +1,4 @@
+pub mod Search
+pub mod SearchNodes
+pub mod SearchProgress
+pub mod SearchStore
