@@ -9,6 +9,8 @@ use tokens::NoMemory;
 
 mod progress;
 mod store;
+#[cfg(test)]
+mod tests;
 
 pub use progress::{FoundStates, Reached};
 pub use store::{StateId, StateStore};
