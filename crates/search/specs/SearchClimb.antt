@@ -8,5 +8,5 @@ climb top goal = record {
   initial = 0;
   step = λ s a. if (a == 1 || a == 2) && nat_le (s + a) top then Some (s + a) else None;
   cost = λ a. if a == 1 then 1 else 5;
-  meets_goal = λ s. s == goal
+  meets_goal = λ s. s == goal;
 }

@@ -1,12 +1,11 @@
 ghost use Rattle.std.specs.Prelude.{ℕ, ◌≤◌};
 ghost use Rattle.search.specs.SearchClimb.{climb};
 
+use crate::search::{MAX_STATES, Outcome, StateId, StateStore, best_first};
+use crate::transitions::{Successor, TransitionSystem};
 use std::alloc::Global;
 use std::test::Fail;
 use tokens::NoMemory;
-
-use crate::search::{MAX_STATES, Outcome, StateId, StateStore, best_first};
-use crate::transitions::{Successor, TransitionSystem};
 
 /// Numbers from 0 to the top; an action adds 1, at cost 1, or 2, at cost 5.
 #[derive(Drop)]
@@ -17,23 +16,24 @@ struct Climb {
 
 impl TransitionSystem for Climb {
     type State = u32;
+
     type Action = u32;
 
     ghost Abstract = { ℕ };
+
     ghost Label = { ℕ };
+
     ghost view = { λ s. s };
+
     ghost label = { λ a. a };
+
     ghost means = { λ c. climb c.top c.goal };
 
     fn initial(&self, _alloc: Global) -> Result<u32, NoMemory> {
         Ok(0)
     }
 
-    fn successors(
-        &self,
-        alloc: Global,
-        state: &u32,
-    ) -> Result<Vec<Successor<u32, u32>>, NoMemory> {
+    fn successors(&self, alloc: Global, state: &u32) -> Result<Vec<Successor<u32, u32>>, NoMemory> {
         let mut found = Vec::new(alloc);
         if *state >= self.top {
             return Ok(found);
@@ -113,7 +113,11 @@ fn search(
 #[test]
 fn finds_the_cheapest_plan(rt: HostRuntime) -> Result<(), Fail> {
     match search(rt.alloc(), 9, 3, 100)? {
-        Outcome::Found { steps, cost, states } => {
+        Outcome::Found {
+            steps,
+            cost,
+            states,
+        } => {
             assert_eq!(rt; steps.as_slice(), [1, 1, 1].as_slice());
             assert_eq!(rt; cost, 3);
             assert_eq!(rt; states.store.list.as_slice(), [0, 1, 2, 3, 4].as_slice());
