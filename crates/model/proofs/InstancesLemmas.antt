@@ -6,19 +6,17 @@ use Rattle.std.specs.Option.{option_map, option_map_or, option_and_then}
 use Rattle.std.proofs.lemmas.Bool.{and_parts, and_from, eqb-true, eq-eqb, ltb-true, lt-ltb}
 use Rattle.std.proofs.lemmas.List.Elements.{Contains-append_left, Contains-append_right, Contains-append_cases}
 use Rattle.model.specs.Task.{Schema, Task, Instance}
-use Rattle.model.specs.Meaning.{State, holds, step, is_instance, fits, after_changes, changes_of}
-use Rattle.model.specs.Instances.{tuples, instances_of_schema, instances_from, all_instances, successors_of}
+use Rattle.model.specs.Runs.{AreSuccessors}
+use Rattle.model.specs.Meaning.{State, step, holds, after_changes, changes_of, is_instance, fits, system_of}
+use Rattle.model.specs.Instances.{tuples, instances_of_schema, instances_from, all_instances, leading_to, successors_of}
 use Rattle.model.proofs.ListLemmas.{Contains-here, Contains-cases, Contains-none, Contains-map, map-Contains, Contains-flat_map, flat_map-Contains, Contains-filter_map, filter_map-Contains, Contains-range, range-Contains}
 
 abbrev is_instance_of : Task → Option Schema → List ℕ → Bool
-is_instance_of task found objects = option_map_or (λ schema. fits task schema objects) found false
+is_instance_of task schema objects = option_map_or (λ s. fits task s objects) schema false
 
 abbrev step_of : Task → State → Option Schema → List ℕ → Option State
-step_of task state found objects =
-    option_and_then (λ schema.
-      if fits task schema objects && holds schema.precondition objects state then Some (after_changes state (changes_of schema.effect objects))
-      else None)
-    found
+step_of task state schema objects =
+    option_and_then (λ s. if fits task s objects && holds s.precondition objects state then Some (after_changes state (changes_of s.effect objects)) else None) schema
 
 abbrev AllBelow : ℕ → List ℕ → Bool
 AllBelow n objects = list_all (λ number. nat_lt number n) objects
@@ -31,8 +29,8 @@ Contains-tuples n (suc count) (o ∷ objects) is below =
     let parts = and_parts (nat_lt o n) (AllBelow n objects) below in
     let o_below : o < n = ltb-true o n parts.0 in
     Contains-flat_map (λ first. map (λ rest. first ∷ rest) (tuples n count)) (range_with_len 0 n) o (o ∷ objects)
-      (Contains-range 0 n o (omega arith) (omega arith))
-      (Contains-map (λ rest. o ∷ rest) (tuples n count) objects (Contains-tuples n count objects (omega arith) parts.1))
+    (Contains-range 0 n o (omega arith) (omega arith))
+    (Contains-map (λ rest. o ∷ rest) (tuples n count) objects (Contains-tuples n count objects (omega arith) parts.1))
 
 pub tuples-Contains : (n count : ℕ) (objects : List ℕ) → Contains (tuples n count) objects → (length objects ≡ count) × (AllBelow n objects ≡ true)
 tuples-Contains n zero objects at =
@@ -46,32 +44,32 @@ tuples-Contains n (suc count) objects at =
     let in_range = range-Contains 0 n first.0 first.1 in
     let known = tuples-Contains n count rest.0 rest.1 in
     subst (λ os. (length os ≡ suc count) × (AllBelow n os ≡ true)) rest.2
-      (omega (arith, known.0), and_from (nat_lt first.0 n) (AllBelow n rest.0) (lt-ltb first.0 n (omega (arith, in_range.1))) known.1)
+    (omega (arith, known.0), and_from (nat_lt first.0 n) (AllBelow n rest.0) (lt-ltb first.0 n (omega (arith, in_range.1))) known.1)
 
 abbrev instance_at : ℕ → List ℕ → Instance
 instance_at number objects = record { schema = number; objects = objects }
 
 Contains-instances_of_schema : (task : Task) (number : ℕ) (schema : Schema) (objects : List ℕ) → fits task schema objects ≡ true
-  → Contains (instances_of_schema task number schema) (instance_at number objects)
+    → Contains (instances_of_schema task number schema) (instance_at number objects)
 Contains-instances_of_schema task number schema objects fit =
     let parts = and_parts (length objects == schema.parameters) (AllBelow (length task.objects) objects) fit in
     Contains-map (instance_at number) (tuples (length task.objects) schema.parameters) objects
-      (Contains-tuples (length task.objects) schema.parameters objects (eqb-true (length objects) schema.parameters parts.0) parts.1)
+    (Contains-tuples (length task.objects) schema.parameters objects (eqb-true (length objects) schema.parameters parts.0) parts.1)
 
 -- an object for each parameter of the schema at this place makes an instance of the list
 Contains-instances_from : (task : Task) (number place n : ℕ) (schemas : List Schema) (schema : Schema) (objects : List ℕ)
-  → n ≡ number + place → slice_get schemas place ≡ Some schema → fits task schema objects ≡ true
-  → Contains (instances_from task number schemas) (instance_at n objects)
+    → n ≡ number + place → slice_get schemas place ≡ Some schema → fits task schema objects ≡ true
+    → Contains (instances_from task number schemas) (instance_at n objects)
 Contains-instances_from task number place n [] schema objects is at fit = absurd (cc)
 Contains-instances_from task number zero n (first ∷ schemas) schema objects is at fit =
     let same : schema ≡ first = cc in
     let here : n ≡ number = omega arith in
     Contains-append_left (instances_of_schema task number first) (instances_from task (number + 1) schemas) (instance_at n objects)
-      (subst (λ k. Contains (instances_of_schema task number first) (instance_at k objects)) (sym here)
-        (Contains-instances_of_schema task number first objects (subst (λ s. fits task s objects ≡ true) same fit)))
+    (subst (λ k. Contains (instances_of_schema task number first) (instance_at k objects)) (sym here)
+    (Contains-instances_of_schema task number first objects (subst (λ s. fits task s objects ≡ true) same fit)))
 Contains-instances_from task number (suc place) n (first ∷ schemas) schema objects is at fit =
     Contains-append_right (instances_of_schema task number first) (instances_from task (number + 1) schemas) (instance_at n objects)
-      (Contains-instances_from task (number + 1) place n schemas schema objects (omega arith) at fit)
+    (Contains-instances_from task (number + 1) place n schemas schema objects (omega arith) at fit)
 
 pub Contains-all_instances : (task : Task) (i : Instance) → is_instance task i ≡ true → Contains (all_instances task) i
 Contains-all_instances task i is =
@@ -81,15 +79,15 @@ Contains-all_instances task i is =
     ] refl is
 
 instances_of_schema-Contains : (task : Task) (number : ℕ) (schema : Schema) (i : Instance) → Contains (instances_of_schema task number schema) i
-  → (i.schema ≡ number) × (fits task schema i.objects ≡ true)
+    → (i.schema ≡ number) × (fits task schema i.objects ≡ true)
 instances_of_schema-Contains task number schema i at =
     let there = map-Contains (instance_at number) (tuples (length task.objects) schema.parameters) i at in
     let known = tuples-Contains (length task.objects) schema.parameters there.0 there.1 in
     subst (λ j. (j.schema ≡ number) × (fits task schema j.objects ≡ true)) there.2
-      (refl, and_from (length there.0 == schema.parameters) (AllBelow (length task.objects) there.0) (eq-eqb (length there.0) schema.parameters known.0) known.1)
+    (refl, and_from (length there.0 == schema.parameters) (AllBelow (length task.objects) there.0) (eq-eqb (length there.0) schema.parameters known.0) known.1)
 
 instances_from-Contains : (task : Task) (number : ℕ) (schemas : List Schema) (i : Instance) → Contains (instances_from task number schemas) i
-  → (place : ℕ) × (i.schema ≡ number + place) × (is_instance_of task (slice_get schemas place) i.objects ≡ true)
+    → (place : ℕ) × (i.schema ≡ number + place) × (is_instance_of task (slice_get schemas place) i.objects ≡ true)
 instances_from-Contains task number [] i at = absurd (Contains-none i at)
 instances_from-Contains task number (first ∷ schemas) i at =
     elim (Contains-append_cases (instances_of_schema task number first) (instances_from task (number + 1) schemas) i at) [
@@ -123,20 +121,23 @@ pair_of_option_map {X} {Y} j i (Some z) y is =
     let same : left ≡ right = cc in
     (ap (λ (p : X × Y). p.0) same, ap (λ (p : X × Y). Some p.1) same)
 
-abbrev leading_to : Task → State → Instance → Option (Instance × State)
-leading_to task state i = option_map (λ (next : State). (i, next)) (step task state i)
-
 -- what a step leads to is among the successors
 pub Contains-successors : (task : Task) (state : State) (i : Instance) (next : State) → step task state i ≡ Some next
-  → Contains (successors_of task state) (i, next)
+    → Contains (successors_of task state) (i, next)
 Contains-successors task state i next leads =
     Contains-filter_map (leading_to task state) (all_instances task) i (i, next)
-      (Contains-all_instances task i (is_instance-of_step task state i next leads))
-      (ap (option_map (λ (next : State). (i, next))) leads)
+    (Contains-all_instances task i (is_instance-of_step task state i next leads))
+    (ap (option_map (λ (next : State). (i, next))) leads)
 
 pub successors-Contains : (task : Task) (state : State) (i : Instance) (next : State) → Contains (successors_of task state) (i, next)
-  → step task state i ≡ Some next
+    → step task state i ≡ Some next
 successors-Contains task state i next at =
     let known = filter_map-Contains (leading_to task state) (all_instances task) (i, next) at in
     let here = pair_of_option_map known.0 i (step task state known.0) next known.2 in
     subst (λ j. step task state j ≡ Some next) here.0 here.1
+
+pub successors-AreSuccessors : (task : Task) (state : State) (found : List (Instance × State)) → found ≡ successors_of task state → AreSuccessors (system_of task) state found
+successors-AreSuccessors task state found is = record {
+  sound = λ i next at. successors-Contains task state i next (subst (λ l. Contains {X = Instance × State} l (i, next)) is at);
+  complete = λ i next leads. subst (λ l. Contains {X = Instance × State} l (i, next)) (sym is) (Contains-successors task state i next leads);
+}
