@@ -6,12 +6,13 @@ use Rattle.std.specs.Option.{option_map, option_map_or, option_and_then}
 use Rattle.std.proofs.lemmas.Bool.{and_parts, and_from, eqb-true, eq-eqb, ltb-true, lt-ltb}
 use Rattle.std.proofs.lemmas.List.Elements.{Contains-append_left, Contains-append_right, Contains-append_cases}
 use Rattle.model.specs.Task.{Schema, Task, Instance}
-use Rattle.model.specs.Meaning.{State, holds, step, is_instance, fits, after_changes, changes_of}
-use Rattle.model.specs.Instances.{tuples, instances_of_schema, instances_from, all_instances, successors_of}
+use Rattle.model.specs.Runs.{AreSuccessors}
+use Rattle.model.specs.Meaning.{State, step, holds, after_changes, changes_of, is_instance, fits, system_of}
+use Rattle.model.specs.Instances.{tuples, instances_of_schema, instances_from, all_instances, leading_to, successors_of}
 use Rattle.model.proofs.ListLemmas.{Contains-here, Contains-cases, Contains-none, Contains-map, map-Contains, Contains-flat_map, flat_map-Contains, Contains-filter_map, filter_map-Contains, Contains-range, range-Contains}
 
 abbrev is_instance_of : Task → Option Schema → List ℕ → Bool
-is_instance_of task found objects = option_map_or (λ schema. fits task schema objects) found false
+is_instance_of task schema objects = option_map_or (λ s. fits task s objects) schema false
 
 abbrev step_of : Task → State → Option Schema → List ℕ → Option State
 step_of task state found objects =
@@ -123,9 +124,6 @@ pair_of_option_map {X} {Y} j i (Some z) y is =
     let same : left ≡ right = cc in
     (ap (λ (p : X × Y). p.0) same, ap (λ (p : X × Y). Some p.1) same)
 
-abbrev leading_to : Task → State → Instance → Option (Instance × State)
-leading_to task state i = option_map (λ (next : State). (i, next)) (step task state i)
-
 -- what a step leads to is among the successors
 pub Contains-successors : (task : Task) (state : State) (i : Instance) (next : State) → step task state i ≡ Some next
     → Contains (successors_of task state) (i, next)
@@ -140,3 +138,9 @@ successors-Contains task state i next at =
     let known = filter_map-Contains (leading_to task state) (all_instances task) (i, next) at in
     let here = pair_of_option_map known.0 i (step task state known.0) next known.2 in
     subst (λ j. step task state j ≡ Some next) here.0 here.1
+
+pub successors-AreSuccessors : (task : Task) (state : State) (found : List (Instance × State)) → found ≡ successors_of task state → AreSuccessors (system_of task) state found
+successors-AreSuccessors task state found is = record {
+  sound = λ i next at. successors-Contains task state i next (subst (λ l. Contains {X = Instance × State} l (i, next)) is at);
+  complete = λ i next leads. subst (λ l. Contains {X = Instance × State} l (i, next)) (sym is) (Contains-successors task state i next leads);
+}

@@ -1,11 +1,12 @@
 -- Certificates, and when one is closed for a task.
-use Rattle.std.specs.Prelude.{◌≢◌, ℕ, Bool, false, not, ◌&&◌, ◌||◌, ◌==◌, IsTrue, List, ◌++◌, map, filter, All, AllPairs, slice_get, Option}
-use Rattle.std.specs.List.{list_any, filter_map}
+use Rattle.std.specs.Prelude.{◌≢◌, ℕ, ◌+◌, Bool, true, false, not, ◌&&◌, ◌||◌, ◌==◌, nat_lt, nat_le, IsTrue, List, [], ◌∷◌, ◌++◌, map, filter, length, All, AllPairs, slice_get, Option}
+use Rattle.std.specs.Option.{option_map_or}
+use Rattle.std.specs.List.{list_all, list_any, filter_map}
 use Rattle.std.specs.FinSet.{from_list}
 use Rattle.model.specs.Task.{Atom, Effect, Effects, add, delete, both, no_effect, more_effects, Schema, Task}
 use Rattle.model.specs.WellTyped.{is_atom}
 use Rattle.model.specs.Meaning.{State, system_of}
-use Rattle.model.specs.Claims.{Claim, Line, IsClosed}
+use Rattle.model.specs.Claims.{Claim, bound, none, Line, IsClosed}
 
 -- A line that lists a state: its cost, what it is cut with if it is a cut, and the atoms by their numbers, which are
 -- the places, from 0, of the certificate's atoms.
@@ -18,6 +19,27 @@ pub record Certificate : Type 0 where
   pub claim : Claim
   pub atoms : List Atom
   pub lines : List StateLine
+
+-- a number that a certificate's text may have: below 2 to the power 60
+abbrev pub is_number : ℕ → Bool
+is_number n = nat_lt n 1152921504606846976
+
+abbrev pub is_claim : Claim → Bool
+is_claim (bound least) = is_number least
+is_claim none = true
+
+-- the numbers are strictly rising, from the least one that is allowed, and name atoms
+abbrev pub rise : ℕ → ℕ → List ℕ → Bool
+rise atom_count least [] = true
+rise atom_count least (n ∷ rest) = nat_le least n && nat_lt n atom_count && rise atom_count (n + 1) rest
+
+abbrev pub is_state_line : ℕ → StateLine → Bool
+is_state_line atom_count line = is_number line.cost && option_map_or is_number line.cut true && rise atom_count 0 line.atoms
+
+-- the certificate keeps the limits of a certificate's text, and lists each state by its atoms in their order
+abbrev pub keeps_limits : Certificate → Bool
+keeps_limits c =
+    is_claim c.claim && nat_le (length c.atoms) 1048576 && nat_le (length c.lines) 16777216 && list_all (is_state_line (length c.atoms)) c.lines
 
 -- the effect has a literal of this predicate
 abbrev mutual

@@ -1,5 +1,5 @@
 -- All instances of a task's schemas, in order, and those that are applicable in a state.
-use Rattle.std.specs.Prelude.{ℕ, suc, zero, ◌+◌, List, [], ◌∷◌, ◌++◌, map, length}
+use Rattle.std.specs.Prelude.{ℕ, suc, zero, ◌+◌, List, [], ◌∷◌, ◌++◌, map, length, Option}
 use Rattle.std.specs.List.{flat_map, filter_map, range_with_len}
 use Rattle.std.specs.Option.{option_map}
 use Rattle.model.specs.Task.{Schema, Task, Instance}
@@ -24,6 +24,10 @@ instances_from task number (schema ∷ rest) = instances_of_schema task number s
 abbrev pub all_instances : Task → List Instance
 all_instances task = instances_from task 0 task.schemas
 
+-- the instance with the state that it leads to, where it is applicable
+abbrev pub leading_to : Task → State → Instance → Option (Instance × State)
+leading_to task state i = option_map (λ (next : State). (i, next)) (step task state i)
+
 -- the instances that are applicable in the state, in order, each with the state that it leads to
 abbrev pub successors_of : Task → State → List (Instance × State)
-successors_of task state = filter_map (λ (i : Instance). option_map (λ (next : State). (i, next)) (step task state i)) (all_instances task)
+successors_of task state = filter_map (leading_to task state) (all_instances task)

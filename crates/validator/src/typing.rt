@@ -249,6 +249,13 @@ impl Task {
         self.schemas.get_index(id.0).map(|entry| entry.1)
     }
 
+    /// The predicate of this number, and `None` where the number is beyond the last.
+    pub fn predicate(&self, id: PredicateId) -> Option<&Predicate>
+        ensures { option_map (λ p. p.now.arity) result ≡ option_map (λ p. p.arity) (slice_get (task_of self.now).predicates id.0) }
+    {
+        self.predicates.get_index(id.0).map(|entry| entry.1)
+    }
+
     /// How many predicates there are.
     pub fn predicate_count(&self) -> usize
         ensures { result ≡ length (task_of self.now).predicates }

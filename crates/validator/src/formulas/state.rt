@@ -7,18 +7,27 @@ use std::collections::BTreeSet;
 use tokens::NoMemory;
 
 /// A state: the set of the atoms that are true.
-#[derive(Drop)]
+#[derive(PartialEq, Eq, Hash, Drop)]
 pub struct State {
     atoms: BTreeSet<Atom>,
 }
 
 impl State {
     ghost use Rattle.std.specs.Prelude.{IfOk, OnOk};
-    ghost use Rattle.std.specs.FinSet.{contains, insert, remove};
+    ghost use Rattle.std.specs.FinSet.{empty, contains, insert, remove};
     ghost use Rattle.validator.specs.TaskParts.{atom_of};
     ghost use Rattle.validator.specs.Typing.{task_of};
     ghost use Rattle.validator.specs.Formulas.{state_of};
     ghost use Rattle.model.specs.Meaning.{initial_state};
+
+    /// The state in which no atom is true.
+    pub fn new(alloc: Global) -> State
+        ensures { state_of result ≡ empty }
+    {
+        State {
+            atoms: BTreeSet::new(alloc),
+        }
+    }
 
     /// The initial state: the set of the atoms in `:init`.
     pub fn initial(alloc: Global, task: &Task) -> Result<State, NoMemory>
@@ -41,7 +50,7 @@ impl State {
     }
 
     /// Makes the atom true.
-    pub(super) fn insert(&mut self, atom: Atom) -> Result<(), NoMemory>
+    pub fn insert(&mut self, atom: Atom) -> Result<(), NoMemory>
         ensures { OnOk result (state_of self.new ≡ insert (state_of self.old) (atom_of atom)) }
     {
         self.atoms.insert(atom)?;
@@ -56,7 +65,7 @@ impl State {
     }
 
     /// A second state with the same atoms.
-    pub(super) fn try_clone(&self) -> Result<State, NoMemory>
+    pub fn try_clone(&self) -> Result<State, NoMemory>
         ensures { IfOk result (λ s. state_of s ≡ state_of self.now) }
     {
         Ok(State {

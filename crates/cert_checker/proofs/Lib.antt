@@ -1,0 +1,4 @@
+pub mod TaskSystemLemmas
+pub mod CertCheckerLemmas
+pub mod StoreLemmas
+pub mod FluentsLemmas

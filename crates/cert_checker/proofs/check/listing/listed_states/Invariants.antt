@@ -1,0 +1,12 @@
+use Rattle.std.proofs.Common.{◌≡◌, map, take}
+use Rattle.validator.specs.Typing.{task_of}
+use Rattle.cert_checker.specs.CertificateParts.{line_of}
+use Rattle.cert_checker.specs.Certificate.{certificate_of}
+use Rattle.cert_checker.specs.PlainStore.{states_of}
+use Rattle.model.specs.Certificates.{state_of_line}
+use Rattle.cert_checker.proofs.check.listing.listed_states.Given as goal
+
+-- the store has the states of the lines so far
+abbrev pub invariant-loop-place : goal.invariant-loop-place
+invariant-loop-place l =
+    states_of l.states ≡ map (λ line. state_of_line (task_of l.task) (certificate_of l.cert) (line_of line)) (take l.place l.line-items)

@@ -1,0 +1,31 @@
+use Rattle.std.proofs.Common.{◌<◌, length, ap, arith}
+use Rattle.std.proofs.lemmas.List.{length-map}
+use Rattle.validator.specs.Typing.{task_of}
+use Rattle.cert_checker.specs.CertificateParts.{line_of}
+use Rattle.cert_checker.specs.Certificate.{certificate_of}
+use Rattle.cert_checker.specs.PlainStore.{states_of}
+use Rattle.cert_checker.proofs.CertCheckerLemmas.{got, small_cost, line_open_if_ok, line_cut_if_ok}
+use Rattle.cert_checker.proofs.check.steps.check_line.Goals as goal
+
+pub check_open-requires-clause-small : goal.check_open-requires-clause-small
+check_open-requires-clause-small c =
+    let lines = c.lines.result.now in
+    let line = c.index-lines-place.result in
+    let within : c.args.place < length lines = omega (arith, c.requires.within, ap length c.lines.ensures.lines, length-map lines line_of) in
+    small_cost (length (certificate_of c.args.cert.now).atoms) lines c.args.place line (got lines c.args.place line within c.index-lines-place.is) c.lines.ensures.within_limits
+
+pub returns-in-None : goal.returns-in-None
+returns-in-None c =
+    let lines = c.lines.result.now in
+    let line = c.index-lines-place.result in
+    let within : c.args.place < length lines = omega (arith, c.requires.within, ap length c.lines.ensures.lines, length-map lines line_of) in
+    line_open_if_ok (task_of c.args.task.now) (certificate_of c.args.cert.now) (states_of c.args.states.now) lines c.args.place line c.check_open.result
+    c.requires.lists c.lines.ensures.lines (got lines c.args.place line within c.index-lines-place.is) c.in-None.is c.check_open.ensures
+
+pub returns-in-Some : goal.returns-in-Some
+returns-in-Some c =
+    let lines = c.lines.result.now in
+    let line = c.index-lines-place.result in
+    let within : c.args.place < length lines = omega (arith, c.requires.within, ap length c.lines.ensures.lines, length-map lines line_of) in
+    line_cut_if_ok (task_of c.args.task.now) (certificate_of c.args.cert.now) lines c.args.place line c.in-Some.rest c.check_cut.result
+    c.lines.ensures.lines (got lines c.args.place line within c.index-lines-place.is) c.in-Some.is c.check_cut.ensures

@@ -1,0 +1,15 @@
+use Rattle.std.proofs.Common.{◌≡◌, ℕ, ◌<◌, Some}
+use Rattle.std.specs.Prelude.{slice_get}
+use Rattle.validator.specs.Typing.{task_of}
+use Rattle.cert_checker.specs.Certificate.{certificate_of}
+use Rattle.cert_checker.specs.CheckedLines.{IsLineClosed}
+use Rattle.model.specs.Meaning.{State, system_of}
+use Rattle.model.specs.Claims.{Line}
+use Rattle.model.specs.Certificates.{lines_of}
+use Rattle.cert_checker.proofs.check.steps.check_lines.Given as goal
+
+-- the lines so far are closed
+abbrev pub invariant-loop-place : goal.invariant-loop-place
+invariant-loop-place l =
+    (k : ℕ) (line : Line State) → k < l.place → slice_get (lines_of (task_of l.task) (certificate_of l.cert)) k ≡ Some line
+    → IsLineClosed (system_of (task_of l.task)) (certificate_of l.cert).claim (lines_of (task_of l.task) (certificate_of l.cert)) line

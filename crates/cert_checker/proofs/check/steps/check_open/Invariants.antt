@@ -1,0 +1,12 @@
+use Rattle.std.proofs.Common.{◌+◌, map, take}
+use Rattle.validator.specs.Typing.{task_of}
+use Rattle.cert_checker.specs.Certificate.{certificate_of}
+use Rattle.cert_checker.specs.TaskSystem.{successor_of}
+use Rattle.model.specs.Certificates.{lines_of}
+use Rattle.cert_checker.proofs.CertCheckerLemmas.{AllListed}
+use Rattle.cert_checker.proofs.check.steps.check_open.Given as goal
+
+-- the successors so far are listed, at no more than one more than the open state
+abbrev pub invariant-loop-successor : goal.invariant-loop-successor
+invariant-loop-successor l =
+    AllListed (lines_of (task_of l.task) (certificate_of l.cert)) (l.cost + 1) (map successor_of (take l.successor-index l.successor-items))

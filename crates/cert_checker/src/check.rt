@@ -1,0 +1,139 @@
+//! The checker of certificates: it accepts exactly where the certificate is closed for the task, and then its claim is
+//! true of every plan.
+ghost use Rattle.std.specs.Prelude.{◌<◌, length, IsTrue, IfOk};
+ghost use Rattle.std.specs.List.{list_all};
+ghost use Rattle.std.specs.Option.{ForSome, option_map};
+ghost use Rattle.validator.specs.Typing.{task_of};
+ghost use Rattle.validator.specs.Formulas.{plan_of};
+ghost use Rattle.model.specs.Meaning.{is_instance};
+ghost use Rattle.cert_checker.specs.Certificate.{certificate_of};
+ghost use Rattle.cert_checker.specs.CertChecker.{IsShown};
+
+mod answer;
+mod code;
+mod fluents;
+mod listing;
+mod steps;
+
+use crate::certificate::Cert;
+use crate::task_system::instances_exceed;
+pub use code::RefusalCode;
+pub use fluents::{is_atom, is_fluent};
+use std::alloc::{AllocError, AllocFailed, Global};
+use tokens::NoMemory;
+use validator::formulas::Plan;
+use validator::typing::Task;
+
+/// What an accepted certificate shows.
+#[derive(Clone, Copy, Debug, PartialEq, Eq)]
+pub enum Accepted {
+    /// The plan that was handed in solves the task at this cost, and no plan solves it at less.
+    Optimal {
+        /// The plan's cost.
+        cost: u64,
+    },
+    /// No plan solves the task at less than this cost.
+    AtLeast {
+        /// The bound.
+        cost: u64,
+    },
+    /// No plan solves the task.
+    Unsolvable,
+}
+
+/// Why a certificate, or the plan that was handed in with it, is refused.
+#[derive(Clone, Copy, Debug, PartialEq, Eq)]
+pub enum Refusal {
+    /// This is wrong with a line of the certificate.
+    Line {
+        /// What is wrong.
+        code: RefusalCode,
+        /// The line that the certificate's text has it in, counted from 1: atom lines begin at line 4, and state
+        /// lines follow them.
+        line: u64,
+    },
+    /// This is wrong, and not with one line.
+    Plain(RefusalCode),
+    /// Memory that was asked for was refused.
+    NoMemory,
+}
+
+impl From<NoMemory> for Refusal {
+    ghost use Rattle.std.specs.Prelude.{◌≡◌};
+    ghost use Rattle.cert_checker.specs.declared.check.Refusal.TheVariants.{NoMemory};
+
+    ghost from_gives = { λ _ e. e ≡ NoMemory };
+
+    fn from(_error: NoMemory) -> Refusal {
+        Refusal::NoMemory
+    }
+}
+
+impl From<AllocError> for Refusal {
+    ghost use Rattle.std.specs.Prelude.{◌≡◌};
+    ghost use Rattle.cert_checker.specs.declared.check.Refusal.TheVariants.{NoMemory};
+
+    ghost from_gives = { λ _ e. e ≡ NoMemory };
+
+    fn from(_error: AllocError) -> Refusal {
+        Refusal::NoMemory
+    }
+}
+
+impl<T: Drop> From<AllocFailed<T>> for Refusal {
+    ghost use Rattle.std.specs.Prelude.{◌≡◌};
+    ghost use Rattle.cert_checker.specs.declared.check.Refusal.TheVariants.{NoMemory};
+
+    ghost from_gives = { λ _ e. e ≡ NoMemory };
+
+    fn from(_error: AllocFailed<T>) -> Refusal {
+        Refusal::NoMemory
+    }
+}
+
+/// Decides whether the certificate is closed for the task, and whether the plan, if one is handed in, solves the task
+/// at a cost of at most the claim's. Each instance of the plan is one of the task's.
+///
+/// # Errors
+/// The first that applies: what is wrong with a line (43, 44, 52); 55 where the task has more than `max_instances`
+/// instances; 45 where the initial state is not listed at 0; what is wrong with the successors or the cost of a listed
+/// state, line by line (48 to 51); what is wrong with the plan (53, 54). [`Refusal::NoMemory`] where memory is refused.
+pub fn check_cert(
+    alloc: Global,
+    task: &Task,
+    cert: &Cert,
+    plan: Option<&Plan>,
+    max_instances: u32,
+) -> Result<Accepted, Refusal>
+    requires { ForSome plan (λ p. IsTrue (list_all (is_instance (task_of task.now)) (plan_of p.now))) }
+    ensures shown { IfOk result (IsShown (task_of task.now) (option_map (λ p. plan_of p.now) plan.entry)) }
+{
+    listing::check_atoms(alloc, task, cert)?;
+    let states = listing::listed_states(alloc, task, cert)?;
+    if instances_exceed(task, max_instances) {
+        return Err(Refusal::Plain(RefusalCode::Limit));
+    }
+    steps::check_initial(alloc, task, cert, &states)?;
+    steps::check_lines(alloc, task, cert, &states)?;
+    answer::answer(alloc, task, cert.claim(), plan)
+}
+
+/// The refusal of the atom at this place, from 0, by its line.
+fn atom_line(code: RefusalCode, place: usize) -> Refusal
+    requires { place < 1048576 }
+{
+    Refusal::Line {
+        code,
+        line: 4 + place as u64,
+    }
+}
+
+/// The refusal of the state line at this place, from 0, by its line.
+fn state_line(code: RefusalCode, cert: &Cert, place: usize) -> Refusal
+    requires { place < length (certificate_of cert.now).lines }
+{
+    Refusal::Line {
+        code,
+        line: 4 + cert.atoms().len() as u64 + place as u64,
+    }
+}

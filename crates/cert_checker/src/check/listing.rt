@@ -1,0 +1,86 @@
+//! The listing of a certificate: its atoms and its states, read in the order of their lines.
+ghost use Rattle.std.specs.Prelude.{◌≡◌, List, ◌++◌, slice_get, IfOk};
+ghost use Rattle.std.specs.FinSet.{from_list};
+ghost use Rattle.std.specs.List.{filter_map};
+ghost use Rattle.validator.specs.Typing.{task_of};
+ghost use Rattle.validator.specs.Formulas.{state_of};
+ghost use Rattle.cert_checker.specs.CertificateParts.{line_of};
+ghost use Rattle.cert_checker.specs.Certificate.{certificate_of};
+ghost use Rattle.cert_checker.specs.PlainStore.{states_of};
+ghost use Rattle.cert_checker.specs.CheckedLines.{Lists};
+ghost use Rattle.model.specs.Task as model_task;
+ghost use Rattle.model.specs.Certificates.{static_atoms};
+
+use crate::certificate::{Cert, Claim, StateLine};
+use crate::check::code::RefusalCode;
+use crate::check::fluents::{is_atom, is_fluent};
+use crate::check::{Refusal, atom_line, state_line};
+use crate::task_system::PlainStore;
+use indexmap::IndexSet;
+use std::alloc::Global;
+use tokens::NoMemory;
+use validator::formulas::State;
+use validator::typing::Task;
+
+/// Whether each atom is a well-typed atom of a fluent predicate, and none stood before.
+pub(super) fn check_atoms(alloc: Global, task: &Task, cert: &Cert) -> Result<(), Refusal> {
+    let mut seen = IndexSet::new(alloc);
+    for (place, atom) in cert.atoms().iter().enumerate() {
+        if !is_atom(task, atom) || !is_fluent(task, atom.predicate) {
+            return Err(atom_line(RefusalCode::NotFluent, place));
+        }
+        if !seen.insert(atom.clone()?)? {
+            return Err(atom_line(RefusalCode::Repeated, place));
+        }
+    }
+    Ok(())
+}
+
+/// The states that the lines list, in order. None stands twice, and none is cut where no cut is allowed.
+pub(super) fn listed_states(alloc: Global, task: &Task, cert: &Cert) -> Result<PlainStore, Refusal>
+    ensures { IfOk result (λ states. Lists (task_of task.now) (certificate_of cert.now) (states_of states)) }
+{
+    let statics = static_state(alloc, task)?;
+    let mut states = PlainStore::new(alloc);
+    for (place, line) in cert.lines().iter().enumerate() {
+        let state = listed_state(&statics, cert, line)?;
+        if !states.insert_if_new(state)? {
+            return Err(state_line(RefusalCode::Repeated, cert, place));
+        }
+        if line.cut.is_some() && cert.claim() == Claim::Unsolvable {
+            return Err(state_line(RefusalCode::CutNotAllowed, cert, place));
+        }
+    }
+    Ok(states)
+}
+
+/// The state of the static atoms that are true at the start.
+fn static_state(alloc: Global, task: &Task) -> Result<State, NoMemory>
+    ensures { IfOk result (λ s. state_of s ≡ from_list (static_atoms (task_of task.now))) }
+{
+    let mut state = State::new(alloc);
+    for atom in task.init() {
+        if is_fluent(task, atom.predicate) {
+            continue;
+        }
+        state.insert(atom.clone()?)?;
+    }
+    Ok(state)
+}
+
+/// The state that a line lists: its atoms with the static ones.
+fn listed_state(statics: &State, cert: &Cert, line: &StateLine) -> Result<State, NoMemory>
+    ensures { IfOk result (λ s. (fixed : List model_task.Atom) → state_of statics.now ≡ from_list fixed
+        → state_of s ≡ from_list (filter_map (slice_get (certificate_of cert.now).atoms) (line_of line.now).atoms ++ fixed)) }
+{
+    let mut state = statics.try_clone()?;
+    let atoms = cert.atoms();
+    for number in &line.atoms {
+        let number = *number as usize;
+        if number >= atoms.len() {
+            continue;
+        }
+        state.insert(atoms[number].clone()?)?;
+    }
+    Ok(state)
+}

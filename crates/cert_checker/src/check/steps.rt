@@ -1,0 +1,153 @@
+//! Whether no action leads out of the listing at less than is claimed.
+ghost use Rattle.std.specs.Prelude.{◌≡◌, ℕ, ◌+◌, ◌<◌, ◌↔◌, length, slice_get, Some, IsTrue, IfSome, OnOk};
+ghost use Rattle.validator.specs.Typing.{task_of};
+ghost use Rattle.validator.specs.Formulas.{state_of};
+ghost use Rattle.cert_checker.specs.CertificateParts.{claim_of};
+ghost use Rattle.cert_checker.specs.Certificate.{certificate_of};
+ghost use Rattle.cert_checker.specs.PlainStore.{states_of};
+ghost use Rattle.cert_checker.specs.CheckedLines.{Lists, IsListedAt, IsOpenClosed, IsCutClosed, IsLineClosed};
+ghost use Rattle.model.specs.Meaning.{system_of};
+ghost use Rattle.model.specs.Meaning as meaning;
+ghost use Rattle.model.specs.Claims as claims;
+ghost use Rattle.model.specs.Claims.{Allows, IsListedWithin};
+ghost use Rattle.model.specs.Certificates.{lines_of};
+
+use crate::certificate::{Cert, Claim};
+use crate::check::code::RefusalCode;
+use crate::check::{Refusal, state_line};
+use crate::task_system::{PlainStore, successors};
+use std::alloc::Global;
+use validator::formulas::{State, meets_goal};
+use validator::typing::Task;
+
+/// Whether the initial state is listed at cost 0.
+pub(super) fn check_initial(
+    alloc: Global,
+    task: &Task,
+    cert: &Cert,
+    states: &PlainStore,
+) -> Result<(), Refusal>
+    requires { Lists (task_of task.now) (certificate_of cert.now) (states_of states.now) }
+    ensures { OnOk result (IsListedWithin (lines_of (task_of task.now) (certificate_of cert.now)) (system_of (task_of task.now)).initial 0) }
+{
+    let initial = State::initial(alloc, task)?;
+    if listed_cost(task, cert, states, &initial) == Some(0) {
+        Ok(())
+    } else {
+        Err(Refusal::Plain(RefusalCode::NoInitial))
+    }
+}
+
+/// Checks the state lines in order: the successors and the costs of open states, and the bounds of cuts.
+pub(super) fn check_lines(
+    alloc: Global,
+    task: &Task,
+    cert: &Cert,
+    states: &PlainStore,
+) -> Result<(), Refusal>
+    requires { Lists (task_of task.now) (certificate_of cert.now) (states_of states.now) }
+    ensures { OnOk result ((place : ℕ) (line : claims.Line meaning.State) → slice_get (lines_of (task_of task.now) (certificate_of cert.now)) place ≡ Some line
+        → IsLineClosed (system_of (task_of task.now)) (certificate_of cert.now).claim (lines_of (task_of task.now) (certificate_of cert.now)) line) }
+{
+    for place in 0..cert.lines().len() {
+        check_line(alloc, task, cert, states, place)?;
+    }
+    Ok(())
+}
+
+/// Checks the state line at this place.
+fn check_line(
+    alloc: Global,
+    task: &Task,
+    cert: &Cert,
+    states: &PlainStore,
+    place: usize,
+) -> Result<(), Refusal>
+    requires lists { Lists (task_of task.now) (certificate_of cert.now) (states_of states.now) }
+    requires within { place < length (certificate_of cert.now).lines }
+    ensures { OnOk result ((line : claims.Line meaning.State) → slice_get (lines_of (task_of task.now) (certificate_of cert.now)) place ≡ Some line
+        → IsLineClosed (system_of (task_of task.now)) (certificate_of cert.now).claim (lines_of (task_of task.now) (certificate_of cert.now)) line) }
+{
+    let line = &cert.lines()[place];
+    match line.cut {
+        None => check_open(alloc, task, cert, states, place, line.cost),
+        Some(rest) => check_cut(cert, place, line.cost, rest),
+    }
+}
+
+/// Checks the open state at this place, which is listed at this cost: its goal, and its successors in order.
+fn check_open(
+    alloc: Global,
+    task: &Task,
+    cert: &Cert,
+    states: &PlainStore,
+    place: usize,
+    cost: u64,
+) -> Result<(), Refusal>
+    requires lists { Lists (task_of task.now) (certificate_of cert.now) (states_of states.now) }
+    requires within { place < length (certificate_of cert.now).lines }
+    requires small { cost < 1152921504606846976 }
+    ensures { OnOk result ((state : meaning.State) → slice_get (states_of states.now) place ≡ Some state
+        → IsOpenClosed (system_of (task_of task.now)) (certificate_of cert.now).claim (lines_of (task_of task.now) (certificate_of cert.now)) state cost) }
+{
+    let state = states.get(place);
+    check_goal(task, cert, place, state, cost)?;
+    for successor in &successors(alloc, task, state)? {
+        let Some(listed) = listed_cost(task, cert, states, &successor.state) else {
+            return Err(state_line(RefusalCode::SuccessorMissing, cert, place));
+        };
+        if listed > cost + 1 {
+            return Err(state_line(RefusalCode::SuccessorDearer, cert, place));
+        }
+    }
+    Ok(())
+}
+
+/// Checks the goal in the open state at this place, which is listed at this cost.
+fn check_goal(
+    task: &Task,
+    cert: &Cert,
+    place: usize,
+    state: &State,
+    cost: u64,
+) -> Result<(), Refusal>
+    requires { place < length (certificate_of cert.now).lines }
+    ensures { OnOk result (IsTrue (meaning.meets_goal (task_of task.now) (state_of state.now)) → Allows (certificate_of cert.now).claim cost) }
+{
+    if meets_goal(task, state) && !allows(cert.claim(), cost) {
+        Err(state_line(RefusalCode::GoalOpen, cert, place))
+    } else {
+        Ok(())
+    }
+}
+
+/// Checks the cut at this place, which is listed at this cost and told to have at least `rest` still to pay.
+fn check_cut(cert: &Cert, place: usize, cost: u64, rest: u64) -> Result<(), Refusal>
+    requires within { place < length (certificate_of cert.now).lines }
+    ensures { OnOk result (IsCutClosed (certificate_of cert.now).claim cost rest) }
+{
+    if rest == 0 && allows(cert.claim(), cost) {
+        Ok(())
+    } else {
+        Err(state_line(RefusalCode::CutWeak, cert, place))
+    }
+}
+
+/// Whether the claim allows a plan of this cost.
+fn allows(claim: Claim, cost: u64) -> bool
+    ensures { IsTrue result ↔ Allows (claim_of claim) cost }
+{
+    match claim {
+        Claim::Bound(least) => least <= cost,
+        Claim::Unsolvable => false,
+    }
+}
+
+/// The cost at which the state is listed, if it is.
+fn listed_cost(task: &Task, cert: &Cert, states: &PlainStore, state: &State) -> Option<u64>
+    requires { Lists (task_of task.now) (certificate_of cert.now) (states_of states.now) }
+    ensures { IfSome result (IsListedAt (lines_of (task_of task.now) (certificate_of cert.now)) (state_of state.now)) }
+{
+    let place = states.find(state)?;
+    Some(cert.lines()[place].cost)
+}
