@@ -13,9 +13,6 @@ use crate::typing::Task;
 use std::alloc::Global;
 use tokens::NoMemory;
 
-#[cfg(test)]
-mod tests;
-
 /// What is said of a plan.
 #[derive(Clone, Copy, Debug, PartialEq, Eq)]
 pub enum Verdict {
