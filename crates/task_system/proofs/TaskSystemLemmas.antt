@@ -1,6 +1,7 @@
 -- Counting a task's instances, and finding the successors of a state instance by instance.
 use Rattle.std.proofs.Common.{◌≡◌, ℕ, zero, suc, ◌+◌, ◌*◌, ◌^◌, ◌<◌, ◌≤◌, min, Bool, true, false, ◌&&◌, List, [], ◌∷◌, ◌++◌, length, map, drop, Option, None, Some, inl, inr, refl, sym, ap, ◌∙◌, subst, arith, add-one, add-zero}
-use Rattle.std.specs.Prelude.{◌==◌, nat_lt, nat_le, slice_get, IsTrue}
+use Rattle.std.specs.Global.{Vec}
+use Rattle.std.specs.Prelude.{◌==◌, nat_lt, nat_le, slice_get, IsTrue, Result, Ok, Err, IfOk}
 use Rattle.std.specs.List.{list_all, filter_map, flat_map, range_with_len}
 use Rattle.std.specs.Option.{option_map, option_map_or}
 use Rattle.std.proofs.lemmas.Bool.{cases_lt, and_parts, and_from, eqb-true, eq-eqb, lt-ltb, leb-true}
@@ -12,11 +13,16 @@ use Rattle.std.proofs.Math.Nat.{pow-zero, pow-suc, pow-succ', zero-mul, suc-mul,
 use Rattle.validator.specs.TaskParts.{shape_of_schema}
 use Rattle.model.specs.Task as task
 use Rattle.model.specs.Task.{Schema, Task, Instance, Formula, Effect}
-use Rattle.model.specs.Meaning.{State, step, is_instance, fits}
+use Rattle.model.specs.Runs.{AreSuccessors}
+use Rattle.model.specs.Meaning.{State, step, is_instance, fits, system_of}
 use Rattle.model.specs.WellTyped.{is_task, is_schema, is_atom, is_formula, is_effect, max_arguments, max_variables}
 use Rattle.validator.proofs.FormulasTasks.{passes_got}
 use Rattle.model.specs.Instances.{tuples, instances_of_schema, instances_from, all_instances, leading_to, successors_of}
-use Rattle.task_system.specs.TaskSystem.{begun_instances, is_begun, is_begun_of}
+use Rattle.model.proofs.InstancesLemmas.{successors-AreSuccessors}
+use Rattle.search.specs.declared.transitions.Successor.{Successor}
+use Rattle.validator.specs.declared.formulas.instance.Instance as code_instance
+use Rattle.validator.specs.declared.formulas.state.State as code_state
+use Rattle.task_system.specs.TaskSystem.{begun_instances, is_begun, is_begun_of, successor_of}
 
 -- ---- a schema at its place
 
@@ -237,3 +243,9 @@ few_parameters t number s typed at =
     let few = nat_le s.parameters max_variables in
     let condition = is_formula t s.parameters s.precondition in
     leb-true s.parameters 16 (and_parts few condition (and_parts (few && condition) (is_effect t s.parameters s.effect) schema_typed).0).0
+
+-- what the successors are, where they were found
+pub if_successors : {E : Type 0} (t : Task) (state : State) (r : Result (Vec (Successor code_instance.Instance code_state.State)) E)
+    → IfOk r (λ found. map successor_of found.items ≡ successors_of t state) → IfOk r (λ found. AreSuccessors (system_of t) state (map successor_of found.items))
+if_successors t state (Ok found) is = successors-AreSuccessors t state (map successor_of found.items) is
+if_successors t state (Err e) is = tt
