@@ -1,4 +1,2 @@
-pub mod TaskSystemLemmas
 pub mod CertCheckerLemmas
-pub mod StoreLemmas
 pub mod FluentsLemmas

@@ -16,7 +16,7 @@ mod listing;
 mod steps;
 
 use crate::certificate::Cert;
-use crate::task_system::instances_exceed;
+use task_system::instances_exceed;
 pub use code::RefusalCode;
 pub use fluents::{is_atom, is_fluent};
 use std::alloc::{AllocError, AllocFailed, Global};

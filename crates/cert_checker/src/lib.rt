@@ -4,6 +4,5 @@
 
 pub mod certificate;
 mod check;
-pub mod task_system;
 
 pub use check::{Accepted, Refusal, RefusalCode, check_cert, is_atom, is_fluent};

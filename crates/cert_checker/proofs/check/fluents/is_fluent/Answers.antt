@@ -3,7 +3,7 @@ use Rattle.std.specs.Prelude.{slice_get}
 use Rattle.validator.specs.Typing.{task_of}
 use Rattle.validator.specs.TaskParts.{shape_of}
 use Rattle.model.specs.Certificates.{touches}
-use Rattle.cert_checker.proofs.TaskSystemLemmas.{Shape, schema_found}
+use Rattle.task_system.proofs.TaskSystemLemmas.{Shape, schema_found}
 use Rattle.cert_checker.proofs.FluentsLemmas.{fluent_here, fluent_later}
 use Rattle.cert_checker.proofs.check.fluents.is_fluent.Goals as goal
 

@@ -4,7 +4,7 @@ use Rattle.validator.specs.Typing.{task_of}
 use Rattle.validator.specs.Formulas.{state_of}
 use Rattle.cert_checker.specs.CertificateParts.{line_of}
 use Rattle.cert_checker.specs.Certificate.{certificate_of}
-use Rattle.cert_checker.specs.PlainStore.{states_of}
+use Rattle.task_system.specs.PlainStore.{states_of}
 use Rattle.model.specs.Certificates.{state_of_line, static_atoms}
 use Rattle.cert_checker.proofs.CertCheckerLemmas.{states_more, states_whole}
 use Rattle.cert_checker.proofs.check.listing.listed_states.Goals as goal

@@ -2,7 +2,7 @@ use Rattle.std.proofs.Common.{◌≡◌, map, take}
 use Rattle.validator.specs.Typing.{task_of}
 use Rattle.cert_checker.specs.CertificateParts.{line_of}
 use Rattle.cert_checker.specs.Certificate.{certificate_of}
-use Rattle.cert_checker.specs.PlainStore.{states_of}
+use Rattle.task_system.specs.PlainStore.{states_of}
 use Rattle.model.specs.Certificates.{state_of_line}
 use Rattle.cert_checker.proofs.check.listing.listed_states.Given as goal
 

@@ -2,7 +2,7 @@ use Rattle.std.proofs.Common.{◌≡◌, ◌∙◌, ◌+◌, ap, subst, map}
 use Rattle.validator.specs.Typing.{task_of}
 use Rattle.validator.specs.Formulas.{state_of}
 use Rattle.cert_checker.specs.Certificate.{certificate_of}
-use Rattle.cert_checker.specs.TaskSystem.{successor_of}
+use Rattle.task_system.specs.TaskSystem.{successor_of}
 use Rattle.cert_checker.specs.CheckedLines.{IsOpenClosed}
 use Rattle.model.specs.Meaning.{State, system_of}
 use Rattle.model.specs.Certificates.{lines_of}

@@ -1,7 +1,7 @@
 use Rattle.std.proofs.Common.{◌+◌, map, take}
 use Rattle.validator.specs.Typing.{task_of}
 use Rattle.cert_checker.specs.Certificate.{certificate_of}
-use Rattle.cert_checker.specs.TaskSystem.{successor_of}
+use Rattle.task_system.specs.TaskSystem.{successor_of}
 use Rattle.model.specs.Certificates.{lines_of}
 use Rattle.cert_checker.proofs.CertCheckerLemmas.{AllListed}
 use Rattle.cert_checker.proofs.check.steps.check_open.Given as goal

@@ -2,8 +2,8 @@ use Rattle.std.proofs.Common.{get_or}
 use Rattle.validator.specs.Typing.{task_of}
 use Rattle.validator.specs.Formulas.{state_of}
 use Rattle.cert_checker.specs.Certificate.{certificate_of}
-use Rattle.cert_checker.specs.PlainStore.{states_of}
-use Rattle.cert_checker.proofs.StoreLemmas.{slice_get-or}
+use Rattle.task_system.specs.PlainStore.{states_of}
+use Rattle.task_system.proofs.StoreLemmas.{slice_get-or}
 use Rattle.cert_checker.proofs.CertCheckerLemmas.{place_within, listed_at}
 use Rattle.cert_checker.proofs.check.steps.listed_cost.Goals as goal
 

@@ -1,0 +1,2 @@
+pub mod TaskSystemLemmas
+pub mod StoreLemmas

@@ -1,0 +1,2 @@
+pub mod TaskSystem
+pub mod PlainStore

@@ -1,0 +1,95 @@
+//! The successors of a state, by going through all instances.
+ghost use Rattle.std.specs.Prelude.{◌≡◌, ◌+◌, ◌≤◌, ◌<◌, [], ◌∷◌, ◌++◌, map, length, IfOk, OnOk, IsTrue};
+ghost use Rattle.std.specs.List.{filter_map};
+ghost use Rattle.validator.specs.Typing.{task_of};
+ghost use Rattle.validator.specs.TaskParts.{object_of};
+ghost use Rattle.validator.specs.Formulas.{state_of, instance_of};
+ghost use Rattle.model.specs.Instances.{tuples, leading_to, successors_of};
+ghost use Rattle.task_system.specs.TaskSystem.{successor_of, begun_instances, is_begun};
+
+use search::transitions::Successor;
+use std::alloc::Global;
+use tokens::NoMemory;
+use validator::formulas::{Binding, Instance, State, apply};
+use validator::typing::{ObjectId, SchemaId, Task};
+
+/// The instances that are applicable in the state, in the order of all instances, each with what it leads to.
+pub(crate) fn successors(
+    alloc: Global,
+    task: &Task,
+    state: &State,
+) -> Result<Vec<Successor<Instance, State>>, NoMemory>
+    ensures { IfOk result (λ found. map successor_of found.items ≡ successors_of (task_of task.now) (state_of state.now)) }
+{
+    let mut found = Vec::new(alloc);
+    for number in 0..task.schema_count() {
+        let expansion = Expansion {
+            task,
+            state,
+            schema: SchemaId(number),
+        };
+        let Some(schema) = task.schema(expansion.schema) else {
+            return Ok(found);
+        };
+        expansion.add(alloc, schema.parameters, Binding::new(), &mut found)?;
+    }
+    Ok(found)
+}
+
+/// The instances of one schema, to be tried in one state.
+#[derive(Drop)]
+struct Expansion<'a> {
+    task: &'a Task,
+    state: &'a State,
+    schema: SchemaId,
+}
+
+impl Expansion<'_> {
+    /// Adds the applicable ones among the instances whose first objects are these and of whose objects `left` are
+    /// still to be chosen.
+    fn add(
+        &self,
+        alloc: Global,
+        left: usize,
+        objects: Binding,
+        found: &mut Vec<Successor<Instance, State>>,
+    ) -> Result<(), NoMemory>
+        requires begun { IsTrue (is_begun (task_of self.now.task.now) self.now.schema.0 left (map object_of objects.items)) }
+        requires room { length objects.items + left ≤ 16 }
+        ensures { OnOk result (map successor_of found.new.items ≡ map successor_of found.old.items
+            ++ filter_map (leading_to (task_of self.now.task.now) (state_of self.now.state.now))
+            (begun_instances self.now.schema.0 (map object_of objects.items) (tuples (length (task_of self.now.task.now).objects) left))) }
+    {
+        if left == 0 {
+            let action = Instance {
+                schema: self.schema,
+                objects,
+            };
+            if let Some(state) = apply(alloc, self.task, &action, self.state)? {
+                found.push(Successor { action, state })?;
+            }
+            return Ok(());
+        }
+        for number in 0..self.task.object_count() {
+            let Ok(object) = u32::try_from(number) else {
+                return Err(NoMemory);
+            };
+            let chosen = with_object(&objects, ObjectId(object));
+            self.add(alloc, left - 1, chosen, found)?;
+        }
+        Ok(())
+    }
+}
+
+/// These objects, and then one more.
+fn with_object(objects: &Binding, last: ObjectId) -> Binding
+    requires { length objects.now.items < 16 }
+    ensures { result.items ≡ objects.now.items ++ last ∷ [] }
+{
+    let mut longer = Binding::new();
+    for object in objects.as_slice() {
+        longer.push(*object);
+    }
+    longer.push(last);
+    longer
+}
