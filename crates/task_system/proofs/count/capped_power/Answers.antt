@@ -1,7 +1,7 @@
 use Rattle.std.proofs.Common.{◌≡◌, ◌≤◌, ◌+◌, ◌*◌, ◌^◌, min, ◌∙◌, ap, sym, arith}
 use Rattle.std.proofs.Math.Nat.{pow-zero}
 use Rattle.task_system.proofs.TaskSystemLemmas.{capped_more}
-use Rattle.task_system.proofs.task_system.count.capped_power.Goals as goal
+use Rattle.task_system.proofs.count.capped_power.Goals as goal
 
 pub loop-init : goal.loop-init
 loop-init c = (omega (arith, pow-zero c.args.objects), omega (arith, c.from-cap.ensures))

@@ -5,7 +5,7 @@ use Rattle.validator.specs.Typing.{task_of}
 use Rattle.validator.specs.TaskParts.{shape_of}
 use Rattle.model.specs.Instances.{all_instances}
 use Rattle.task_system.proofs.TaskSystemLemmas.{Shape, schema_found, counted}
-use Rattle.task_system.proofs.task_system.count.instances_exceed.Goals as goal
+use Rattle.task_system.proofs.count.instances_exceed.Goals as goal
 
 pub returns-then-count-from : goal.returns-then-count-from
 returns-then-count-from c =

@@ -1,7 +1,7 @@
 use Rattle.std.proofs.Common.{◌≡◌, ◌+◌, ◌≤◌, length, drop}
 use Rattle.validator.specs.Typing.{task_of}
 use Rattle.model.specs.Instances.{instances_from, all_instances}
-use Rattle.task_system.proofs.task_system.count.instances_exceed.Given as goal
+use Rattle.task_system.proofs.count.instances_exceed.Given as goal
 
 -- the instances counted and those of the schemas that are left are all
 abbrev pub invariant-loop-number : goal.invariant-loop-number

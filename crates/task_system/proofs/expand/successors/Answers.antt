@@ -7,7 +7,7 @@ use Rattle.validator.specs.Formulas.{state_of}
 use Rattle.model.specs.Instances.{tuples, leading_to}
 use Rattle.task_system.specs.TaskSystem.{successor_of, begun_instances}
 use Rattle.task_system.proofs.TaskSystemLemmas.{Shape, schema_found, few_parameters, found-schema}
-use Rattle.task_system.proofs.task_system.expand.successors.Goals as goal
+use Rattle.task_system.proofs.expand.successors.Goals as goal
 
 pub add-requires-clause-room : goal.add-requires-clause-room
 add-requires-clause-room c =

@@ -4,7 +4,7 @@ use Rattle.validator.specs.Typing.{task_of}
 use Rattle.validator.specs.Formulas.{state_of}
 use Rattle.model.specs.Instances.{instances_from, leading_to, successors_of}
 use Rattle.task_system.specs.TaskSystem.{successor_of}
-use Rattle.task_system.proofs.task_system.expand.successors.Given as goal
+use Rattle.task_system.proofs.expand.successors.Given as goal
 
 -- what was found, with what the schemas that are left give, is all
 abbrev pub invariant-loop-number : goal.invariant-loop-number

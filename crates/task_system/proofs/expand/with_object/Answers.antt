@@ -1,7 +1,7 @@
 use Rattle.std.proofs.Common.{◌≡◌, ◌∙◌, ◌++◌, ◌∷◌, [], length, ap, sym, arith}
 use Rattle.std.proofs.lemmas.List.{take_all, take_more}
 use Rattle.std.proofs.lemmas.Grind.{common_steps}
-use Rattle.task_system.proofs.task_system.expand.with_object.Goals as goal
+use Rattle.task_system.proofs.expand.with_object.Goals as goal
 
 pub push-requires : goal.push-requires
 push-requires c = (omega arith, omega (arith, c.requires, c.loop-object.invariant.1, ap length c.as_slice-object-items.ensures.value))

@@ -7,7 +7,7 @@ use Rattle.validator.specs.Formulas.{state_of}
 use Rattle.model.specs.Instances.{tuples, leading_to}
 use Rattle.task_system.specs.TaskSystem.{successor_of, begun_instances}
 use Rattle.task_system.proofs.TaskSystemLemmas.{found-more}
-use Rattle.task_system.proofs.task_system.expand.Expansion.+add.Goals as goal
+use Rattle.task_system.proofs.expand.Expansion.+add.Goals as goal
 
 pub loop-number-preserved : goal.loop-number-preserved
 loop-number-preserved t c =

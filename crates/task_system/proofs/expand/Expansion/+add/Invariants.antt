@@ -6,7 +6,7 @@ use Rattle.validator.specs.Formulas.{state_of}
 use Rattle.model.specs.Instances.{tuples, leading_to}
 use Rattle.task_system.specs.TaskSystem.{successor_of}
 use Rattle.task_system.proofs.TaskSystemLemmas.{begun_below}
-use Rattle.task_system.proofs.task_system.expand.Expansion.+add.Given as goal
+use Rattle.task_system.proofs.expand.Expansion.+add.Given as goal
 
 abbrev pub decreases-add : goal.decreases-add
 decreases-add l = l.left
