@@ -9,3 +9,4 @@ pub mod GrammarStops
 pub mod StaticLemmas
 pub mod Steps
 pub mod ExampleProofs
+pub mod CertificateRefusalsLemmas
