@@ -295,3 +295,23 @@ fn well_typed_pairs(rt: HostRuntime) -> Result<(), Fail> {
     }
     Ok(())
 }
+
+/// A problem's text with this many objects.
+fn crowd(alloc: Global, count: u32) -> Result<String, Fail> {
+    let mut text = format!(in alloc; "(define (problem r) (:domain d) (:objects")?;
+    for number in 0..count {
+        let object = format!(in alloc; " o{number}")?;
+        text.push_str(object.as_str())?;
+    }
+    text.push_str(") (:init (q o0)) (:goal (p)))")?;
+    Ok(text)
+}
+
+#[test]
+fn the_object_beyond_the_last(rt: HostRuntime) -> Result<(), Fail> {
+    let most = crowd(rt.alloc(), 65_535)?;
+    pair_is(&rt, rt.alloc(), DOMAIN, most.as_str(), "a task")?;
+    let beyond = crowd(rt.alloc(), 65_536)?;
+    let told = "Problem: TooMany at 447677..447683";
+    pair_is(&rt, rt.alloc(), DOMAIN, beyond.as_str(), told)
+}
