@@ -3,7 +3,7 @@ use Rattle.std.proofs.Common.{◌≡◌, ◌∙◌, ℕ, Bool, true, ◌&&◌, L
 use Rattle.std.proofs.lemmas.Bool.{and_parts, eqb-true}
 use Rattle.std.proofs.lemmas.Map.Lookups.{btree_set_from_contains, CmpEqualImpliesEq}
 use Rattle.std.specs.Prelude.{◌==◌}
-use Rattle.std.specs.BTreeSet as sorted
+use Rattle.std.specs.Bool.{Decides}
 use Rattle.std.specs.Cmp.{IsTotalOrder, on_total, nat_eq_equiv}
 use Rattle.std.specs.Cmp.Lexicographic.{pointwise}
 use Rattle.std.specs.FinSet.{contains, from_list}
@@ -93,3 +93,11 @@ one_list s t same =
 pub same_states : (s t : code_state.State) → state_of s ≡ state_of t → state_eq s t ≡ true
 same_states s t same =
     subst (λ keys. pointwise atom_eq s.atoms.keys keys ≡ true) (one_list s t same) (each_itself atom_eq atom_itself s.atoms.keys)
+
+-- ---- both ways
+
+pub Decides-atom_eq : (a b : Atom) → Decides (atom_eq a b) (atom_of a ≡ atom_of b)
+Decides-atom_eq a b = (equal_atoms a b, same_atoms a b)
+
+pub Decides-state_eq : (s t : code_state.State) → Decides (state_eq s t) (state_of s ≡ state_of t)
+Decides-state_eq s t = (equal_states s t, same_states s t)

@@ -8,6 +8,9 @@ ghost use Rattle.model.specs.Runs.{IsVerdict};
 ghost use Rattle.model.specs.Meaning.{is_instance, system_of};
 ghost use Rattle.model.specs.Examples.{WorkedExamples};
 
+#[cfg(test)]
+mod tests;
+
 use crate::formulas::{Plan, State, apply, meets_goal};
 use crate::typing::Task;
 use std::alloc::Global;

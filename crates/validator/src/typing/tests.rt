@@ -1,3 +1,5 @@
+mod faults;
+
 use super::*;
 use pddl_tree as tree;
 use pddl_tree::{Action, Fact, Name};
