@@ -1,5 +1,7 @@
 //! States: which atoms are true.
 ghost use Rattle.std.specs.Prelude.{◌≡◌};
+ghost use Rattle.std.proofs.Props.{props};
+ghost use Rattle.validator.specs.TaskParts.{AreInOrder};
 
 use crate::typing::{Atom, Task};
 use std::alloc::Global;
@@ -10,6 +12,7 @@ use tokens::NoMemory;
 #[derive(PartialEq, Eq, Hash, Drop)]
 pub struct State {
     atoms: BTreeSet<Atom>,
+    ghost in_order: { AreInOrder atoms.keys } by { Prim.hlevel props },
 }
 
 impl State {
