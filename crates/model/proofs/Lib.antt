@@ -10,3 +10,6 @@ pub mod StaticLemmas
 pub mod Steps
 pub mod ExampleProofs
 pub mod CertificateRefusalsLemmas
+pub mod PlanMachine
+pub mod PlanReading
+pub mod PlanMeaning

@@ -8,4 +8,4 @@ pub returns : goal.returns
 returns c =
     let found = c.in_ok-objects.objects.items in
     let count : length found ≡ c.in-Some-schema.declared.now.parameters = search rules in
-    sym (instance_by_objects (task_of c.args.task.now) c.in-Some.schema.0 (shape_of c.in-Some-schema.declared.now) c.in-Some-schema.ensures found count) ∙ c.in_ok-objects.ensures.objects
+    sym (instance_by_objects (task_of c.args.task.now) c.in-Some.schema.0 (shape_of c.in-Some-schema.declared.now) c.in-Some-schema.ensures.shape found count) ∙ c.in_ok-objects.ensures.objects
