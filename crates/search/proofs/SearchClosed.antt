@@ -1,10 +1,11 @@
 -- What the found states prove once no state waits that is cheaper than a goal state.
-use Rattle.std.proofs.Common.{◌≡◌, ℕ, zero, suc, ◌+◌, ◌≤◌, inl, inr, List, [], ◌∷◌, ◌++◌, map, length, Bool, Option, Some, None, true, false, refl, sym, ap, ◌∙◌, subst, arith}
+use Rattle.std.proofs.Common.{◌≡◌, ℕ, zero, suc, ◌+◌, ◌*◌, ◌≤◌, inl, inr, List, [], ◌∷◌, ◌++◌, map, length, Bool, Option, Some, None, true, false, refl, sym, ap, ◌∙◌, subst, arith}
 use Rattle.std.specs.Prelude.{slice_get, Contains, if◌then◌else◌}
 use Rattle.std.proofs.lemmas.Bool.{false≢true}
 use Rattle.std.proofs.lemmas.Option.{same_Some}
-use Rattle.std.proofs.lemmas.List.{map_push}
-use Rattle.std.proofs.lemmas.List.Sums.{sum_by-append}
+use Rattle.std.proofs.lemmas.List.{map_push, length-append}
+use Rattle.std.proofs.lemmas.List.Sums.{sum_by-append, count_by-le-length}
+use Rattle.std.proofs.Math.Nat.{mul-le-mul_right}
 use Rattle.model.specs.Runs.{System, run, cost_of_all, IsOptimal, IsUnsolvable}
 use Rattle.model.specs.Claims.{Claim, bound, none, Allows, Line, IsListedWithin, IsLowerBound, IsClosed}
 use Rattle.model.proofs.ClaimsLemmas.{claim-of_closed}
@@ -12,9 +13,9 @@ use Rattle.model.proofs.ListLemmas.{Contains-here, Contains-there, Contains-case
 use Rattle.search.specs.declared.search.progress.Reached.{Reached}
 use Rattle.search.specs.declared.search.progress.Origin.{Origin}
 use Rattle.search.specs.Search.{line_of, lines_of, AreFound}
-use Rattle.search.specs.SearchNodes.{Waiting, Node, nodes_of, AreNodes, IsFoundWithin, AreOpen, AreDescending, IsPath, begins, follows}
+use Rattle.search.specs.SearchNodes.{Waiting, Node, nodes_of, AreNodes, IsFoundWithin, AreOpen, AreDescending, IsPath, begins, follows, depth_of, expanded_count, dearest}
 use Rattle.search.proofs.SearchNodesLemmas.{run-push}
-use Rattle.search.proofs.SearchLinked.{nodes_of-get, get-nodes_of}
+use Rattle.search.proofs.SearchLinked.{nodes_of-get, get-nodes_of, length-nodes_of}
 use Rattle.search.proofs.SearchLists.{get_exists, get_within}
 
 -- a line of the listing is that of a place
@@ -116,6 +117,21 @@ module _ {S L Action : Type 0} (t : System S L) (label : Action → L) (states :
           ap (cost_of_all t) labels ∙ sum_by-append t.cost (map label before) (label origin.action ∷ []) ∙ omega (arith, costs, leads.cost),
         )
 
+    few_expanded : expanded_count (nodes_of states all origins) ≤ length states
+    few_expanded =
+        omega (arith, count_by-le-length (λ (n : Node S Action). n.reached.is_expanded) (nodes_of states all origins), length-nodes_of states all origins one_each other)
+
+    -- there are as many actions along the origins as the node's depth says
+    path_length : (k : ℕ) (path : List Action) (n : Node S Action) → IsPath origins k path → slice_get (nodes_of states all origins) k ≡ Some n → length path ≡ depth_of n.origin
+    path_length k path n (begins at is) there =
+        let none : n.origin ≡ None = same_Some n.origin None (sym (nodes_of-get states all origins k n there).2 ∙ at) in
+        ap length is ∙ ap depth_of (sym none)
+    path_length k path n (follows origin before at earlier is) there =
+        let some : n.origin ≡ Some origin = same_Some n.origin (Some origin) (sym (nodes_of-get states all origins k n there).2 ∙ at) in
+        let leads = nodes.linked k n origin there some in
+        let shorter = path_length origin.parent.0 before leads.parent earlier leads.stands in
+        ap length is ∙ length-append before (origin.action ∷ []) ∙ ap (λ m. m + 1) shorter ∙ sym leads.depth ∙ ap depth_of (sym some)
+
     found_states : (claim : Claim) (max_states : ℕ) → length states ≤ max_states → IsClosed t (λ _. 0) claim (lines_of states all) → AreFound t claim max_states states all
     found_states claim max_states within is_closed = record {
       one_for_each = one_each;
@@ -129,6 +145,10 @@ module _ {S L Action : Type 0} (t : System S L) (label : Action → L) (states :
       reachable = λ k s r at_s at_r.
           let (o, there) = node_at k s r at_s at_r in
           nodes.reachable k (record { state = s; reached = r; origin = o }) there;
+      cheap = λ k r at_r.
+          let s = get_exists states k (omega (arith, get_within all k r at_r)) in
+          let (o, there) = node_at k s.0 r s.1 at_r in
+          omega (arith, nodes.cheap k (record { state = s.0; reached = r; origin = o }) there, mul-le-mul_right dearest few_expanded);
       closed = is_closed;
     }
 
@@ -141,11 +161,13 @@ module _ {S L Action : Type 0} (t : System S L) (label : Action → L) (states :
         → ((k : ℕ) (n : Node S Action) → slice_get (nodes_of states all origins) k ≡ Some n → n.reached.is_expanded ≡ false → one.reached.cost ≤ n.reached.cost)
         → t.meets_goal one.state ≡ true → IsPath origins i steps → length states ≤ max_states
         → IsOptimal t (map label steps) × (cost_of_all t (map label steps) ≡ one.reached.cost) × AreFound t (bound one.reached.cost) max_states states all
+        × (length steps ≤ max_states)
     optimal i one steps max_states are_open stands cheapest goal path within =
         let is_closed = closed (bound one.reached.cost) are_open (λ k n at waits. omega (arith, cheapest k n at waits)) in
         let holds = claim-of_closed t (λ _. 0) (bound one.reached.cost) (lines_of states all) zero_lower is_closed in
         let (runs, costs) = path_runs i steps one path stands in
-        (((one.state, runs, goal), λ plan solves. subst (λ c. c ≤ cost_of_all t plan) (sym costs) (holds plan solves)), costs, found_states (bound one.reached.cost) max_states within is_closed)
+        (((one.state, runs, goal), λ plan solves. subst (λ c. c ≤ cost_of_all t plan) (sym costs) (holds plan solves)), costs, found_states (bound one.reached.cost) max_states within is_closed,
+        omega (arith, path_length i steps one path stands, nodes.shallow i one stands, few_expanded))
 
     -- where no state waits, none solves
     pub unsolvable : (max_states : ℕ) → AreOpen t (nodes_of states all origins)

@@ -1,5 +1,5 @@
 -- What a search tells of a transition system.
-use Rattle.std.specs.Prelude.{◌≡◌, ℕ, ◌<◌, ◌≤◌, if◌then◌else◌, List, [], ◌∷◌, length, map, slice_get, Some, None, Contains}
+use Rattle.std.specs.Prelude.{◌≡◌, ℕ, ◌*◌, ◌<◌, ◌≤◌, if◌then◌else◌, List, [], ◌∷◌, length, map, slice_get, Some, None, Contains}
 use Rattle.model.specs.Runs.{System, run, cost_of_all, IsReachable, IsOptimal, IsUnsolvable}
 use Rattle.model.specs.Claims.{Claim, bound, none, Line, IsClosed}
 use Rattle.search.specs.declared.search.progress.Reached.{Reached}
@@ -27,6 +27,8 @@ pub record AreFound {S A : Type 0} (t : System S A) (claim : Claim) (max_states 
   pub within_limit : length states ≤ max_states
   pub distinct : AreDistinct states
   pub reachable : (k : ℕ) (s : S) (reached : Reached) → slice_get states k ≡ Some s → slice_get all k ≡ Some reached → IsReachableAt t s reached.cost
+  -- no action costs more than 32 bits can say, and a way to a state takes each other state at most once
+  pub cheap : (k : ℕ) (reached : Reached) → slice_get all k ≡ Some reached → reached.cost ≤ length states * 4294967295
   pub closed : IsClosed t (λ _. 0) claim (lines_of states all)
 
 -- more states are reachable than the limit
@@ -40,6 +42,7 @@ abbrev pub IsTrueOutcome : {S L Action Store : Type 0} → System S L → (Actio
 IsTrueOutcome t label states_of max_states (Found steps cost found) =
     IsOptimal t (map label steps.items) × (cost_of_all t (map label steps.items) ≡ cost)
     × AreFound t (bound cost) max_states (states_of found.store) found.reached.items
+    × (length steps.items ≤ max_states)
 IsTrueOutcome t label states_of max_states (Exhausted found) =
     IsUnsolvable t × AreFound t none max_states (states_of found.store) found.reached.items
 IsTrueOutcome t label states_of max_states States = AreMoreReachable t max_states

@@ -1,49 +1,17 @@
--- States that pass the code's test of equality are one state.
-use Rattle.std.proofs.Common.{◌≡◌, ℕ, zero, suc, ◌<◌, Bool, true, false, ◌&&◌, List, [], ◌∷◌, length, map, get_or, Option, None, Some, refl, sym, ap, ◌∙◌, arith}
-use Rattle.std.specs.Prelude.{◌==◌, slice_get, IfSome}
-use Rattle.std.specs.List.{position}
-use Rattle.std.specs.Cmp.Lexicographic.{pointwise}
-use Rattle.std.specs.FinSet.{from_list}
-use Rattle.std.proofs.lemmas.Bool.{and_parts, eqb-true}
+-- Where a state stands in a list of states, looked up by the code's test of equality.
+use Rattle.std.proofs.Common.{◌≡◌, ℕ, zero, suc, ◌+◌, ◌<◌, Bool, true, false, not, cond, ◌||◌, List, [], ◌∷◌, ◌++◌, length, map, get_or, Option, None, Some, refl, sym, ap, ◌∙◌, subst, arith}
+use Rattle.std.specs.Prelude.{slice_get, Contains, MatchOption, is_some, if◌then◌else◌}
+use Rattle.std.specs.List.{position, position_or_len, list_any}
+use Rattle.std.proofs.lemmas.Bool.{or_parts, false≢true}
+use Rattle.std.proofs.lemmas.List.{length-map, map_push}
+use Rattle.std.proofs.lemmas.List.Folds.{list_any_at}
 use Rattle.std.proofs.lemmas.List.Quantifiers.{position-Some}
 use Rattle.validator.specs.declared.formulas.state.State as code_state
-use Rattle.validator.specs.declared.typing.Atom as code_atom
-use Rattle.validator.specs.declared.typing.ObjectId.{ObjectId}
-use Rattle.validator.specs.contracts.formulas.state.StatePartialEq.TheImpl as state_impl
-use Rattle.validator.specs.contracts.typing.AtomPartialEq.TheImpl as atom_impl
-use Rattle.validator.specs.contracts.typing.ObjectIdPartialEq.TheImpl as object_impl
-use Rattle.validator.specs.TaskParts.{atom_of, object_of}
 use Rattle.validator.specs.Formulas.{state_of}
-
-abbrev pub state_eq : code_state.State → code_state.State → Bool
-state_eq = (state_impl.ghosts).eq
-
-abbrev atom_eq : code_atom.Atom → code_atom.Atom → Bool
-atom_eq = (atom_impl.ghosts).eq
-
-equal_objects : (xs ys : List ObjectId) → pointwise (object_impl.ghosts).eq xs ys ≡ true → map object_of xs ≡ map object_of ys
-equal_objects [] [] is = refl
-equal_objects [] (y ∷ ys) is = absurd (cc)
-equal_objects (x ∷ xs) [] is = absurd (cc)
-equal_objects (x ∷ xs) (y ∷ ys) is =
-    let parts = and_parts ((object_impl.ghosts).eq x y) (pointwise (object_impl.ghosts).eq xs ys) is in
-    λ i. eqb-true x.0 y.0 parts.0 i ∷ equal_objects xs ys parts.1 i
-
-equal_atoms : (a b : code_atom.Atom) → atom_eq a b ≡ true → atom_of a ≡ atom_of b
-equal_atoms a b is =
-    let parts = and_parts (a.predicate.0 == b.predicate.0) (pointwise (object_impl.ghosts).eq a.objects.items b.objects.items) is in
-    λ i. record { predicate = eqb-true a.predicate.0 b.predicate.0 parts.0 i; objects = equal_objects a.objects.items b.objects.items parts.1 i }
-
-equal_lists : (xs ys : List code_atom.Atom) → pointwise atom_eq xs ys ≡ true → map atom_of xs ≡ map atom_of ys
-equal_lists [] [] is = refl
-equal_lists [] (y ∷ ys) is = absurd (cc)
-equal_lists (x ∷ xs) [] is = absurd (cc)
-equal_lists (x ∷ xs) (y ∷ ys) is =
-    let parts = and_parts (atom_eq x y) (pointwise atom_eq xs ys) is in
-    λ i. equal_atoms x y parts.0 i ∷ equal_lists xs ys parts.1 i
-
-pub equal_states : (s t : code_state.State) → state_eq s t ≡ true → state_of s ≡ state_of t
-equal_states s t is = ap from_list (equal_lists s.atoms.keys t.atoms.keys is)
+use Rattle.validator.proofs.FormulasEquality.{state_eq, equal_states, same_states}
+use Rattle.indexmap.specs.IndexSet.{insert_key}
+use Rattle.search.specs.SearchStore.{IsPlaced}
+use Rattle.model.proofs.ListLemmas.{map-Contains}
 
 pub slice_get-or : {X : Type 0} (xs : List X) (i : ℕ) (d : X) → i < length xs → slice_get xs i ≡ Some (get_or xs i d)
 slice_get-or [] i d lt = absurd (omega arith)
@@ -55,10 +23,54 @@ slice_get-map f [] i x at = absurd (cc)
 slice_get-map f (y ∷ xs) zero x at = let same : y ≡ x = cc in ap (λ z. Some (f z)) same
 slice_get-map f (y ∷ xs) (suc i) x at = slice_get-map f xs i x at
 
--- where a look-up finds a place, the state stands there
-pub found_place : (s : code_state.State) (keys : List code_state.State) (o : Option ℕ) → o ≡ position (state_eq s) keys
-    → IfSome o (λ place. slice_get (map state_of keys) place ≡ Some (state_of s))
-found_place s keys None is = tt
-found_place s keys (Some place) is =
+any_there : {X : Type 0} (p : X → Bool) (xs : List X) (x : X) → Contains xs x → p x ≡ true → list_any p xs ≡ true
+any_there p xs x at passes = list_any_at p xs at.0 x at.1 (ap p at.2 ∙ passes)
+
+-- a state that no key equals is not in the list
+absent : (s : code_state.State) (keys : List code_state.State) → list_any (state_eq s) keys ≡ false → Contains (map state_of keys) (state_of s) → ⊥
+absent s keys none among =
+    let (t, at, is) = map-Contains state_of keys (state_of s) among in
+    false≢true (sym none ∙ any_there (state_eq s) keys t at (same_states s t (sym is)))
+
+one_more : (b : Bool) (m n : ℕ) → b ≡ false → m ≡ n → cond (not b) (1 + m) 0 ≡ suc n
+one_more true m n is same = absurd (cc)
+one_more false m n is same = omega arith
+
+one_after : (n : ℕ) → 1 + n ≡ suc n
+one_after n = omega arith
+
+past_all : {X : Type 0} (p : X → Bool) (xs : List X) → list_any p xs ≡ false → position_or_len p xs ≡ length xs
+past_all p [] none = refl
+past_all p (x ∷ xs) none =
+    let parts = or_parts (p x) (list_any p xs) none in
+    one_more (p x) (position_or_len p xs) (length xs) parts.0 (past_all p xs parts.1)
+
+there_before : (s : code_state.State) (keys : List code_state.State) (place : ℕ) → list_any (state_eq s) keys ≡ true → place ≡ position_or_len (state_eq s) keys
+    → slice_get (map state_of keys) place ≡ Some (state_of s)
+there_before s [] place any is = absurd (cc)
+there_before s (t ∷ keys) place any is =
+    elim (state_eq s t) as (λ b. state_eq s t ≡ b → (b || list_any (state_eq s) keys) ≡ true → place ≡ cond (not b) (1 + position_or_len (state_eq s) keys) 0 → slice_get (map state_of (t ∷ keys)) place ≡ Some (state_of s)) [
+      | true ↦ λ same _ here. ap (slice_get (map state_of (t ∷ keys))) here ∙ ap Some (sym (equal_states s t same))
+      | false ↦ λ _ later beyond. ap (slice_get (map state_of (t ∷ keys))) (beyond ∙ one_after (position_or_len (state_eq s) keys)) ∙ there_before s keys (position_or_len (state_eq s) keys) later refl
+    ] refl any is
+
+-- where a look-up finds a place, the state stands there, and where it finds none, the state is nowhere
+pub found_place : (s : code_state.State) (keys : List code_state.State) (o : Option ℕ) → o ≡ position (state_eq s) keys → is_some o ≡ list_any (state_eq s) keys
+    → MatchOption o (¬ Contains (map state_of keys) (state_of s)) (λ place. slice_get (map state_of keys) place ≡ Some (state_of s))
+found_place s keys None is any = absent s keys (sym any)
+found_place s keys (Some place) is any =
     let found = position-Some (state_eq s) keys place s (sym is) in
     slice_get-map state_of keys place (get_or keys place s) (slice_get-or keys place s found.0) ∙ ap Some (sym (equal_states s (get_or keys place s) found.1))
+
+-- where the state was put, or found
+pub placed : (s : code_state.State) (keys after : List code_state.State) (place : ℕ) (is_new : Bool) → is_new ≡ not (list_any (state_eq s) keys) → after ≡ insert_key state_eq keys s
+    → place ≡ position_or_len (state_eq s) keys → IsPlaced (map state_of keys) (map state_of after) (state_of s) place is_new
+placed s keys after place is_new new is there =
+    elim (list_any (state_eq s) keys) as (λ v. list_any (state_eq s) keys ≡ v → is_new ≡ not v → after ≡ (if v then keys else keys ++ s ∷ []) → IsPlaced (map state_of keys) (map state_of after) (state_of s) place is_new) [
+      | true ↦ λ any old kept.
+          subst (λ b. IsPlaced (map state_of keys) (map state_of after) (state_of s) place b) (sym old)
+          (there_before s keys place any there, ap (map state_of) kept)
+      | false ↦ λ none fresh pushed.
+          subst (λ b. IsPlaced (map state_of keys) (map state_of after) (state_of s) place b) (sym fresh)
+          (absent s keys none, ap (map state_of) pushed ∙ map_push state_of keys s, there ∙ past_all (state_eq s) keys none ∙ sym (length-map keys state_of))
+    ] refl new is

@@ -4,11 +4,11 @@ use Rattle.std.specs.List.{list_all}
 use Rattle.validator.specs.declared.formulas.state.State.{State}
 use Rattle.validator.specs.declared.formulas.instance.Instance.{Instance}
 use Rattle.validator.specs.Formulas.{state_of, instance_of}
-use Rattle.task_system.specs.declared.Successor.{Successor}
+use Rattle.search.specs.declared.transitions.Successor.{Successor}
 use Rattle.model.specs.Task as task
 use Rattle.model.specs.Meaning as meaning
 
-abbrev pub successor_of : Successor → task.Instance × meaning.State
+abbrev pub successor_of : Successor Instance State → task.Instance × meaning.State
 successor_of s = (instance_of s.action, state_of s.state)
 
 -- the instances of the schema of this number whose objects are these and then those of one of the lists

@@ -7,7 +7,7 @@ ghost use Rattle.validator.specs.Formulas.{state_of, instance_of};
 ghost use Rattle.model.specs.Instances.{tuples, leading_to, successors_of};
 ghost use Rattle.task_system.specs.TaskSystem.{successor_of, begun_instances, is_begun};
 
-use crate::Successor;
+use search::transitions::Successor;
 use std::alloc::Global;
 use tokens::NoMemory;
 use validator::formulas::{Binding, Instance, State, apply};
@@ -18,7 +18,7 @@ pub(crate) fn successors(
     alloc: Global,
     task: &Task,
     state: &State,
-) -> Result<Vec<Successor>, NoMemory>
+) -> Result<Vec<Successor<Instance, State>>, NoMemory>
     ensures { IfOk result (λ found. map successor_of found.items ≡ successors_of (task_of task.now) (state_of state.now)) }
 {
     let mut found = Vec::new(alloc);
@@ -52,7 +52,7 @@ impl Expansion<'_> {
         alloc: Global,
         left: usize,
         objects: Binding,
-        found: &mut Vec<Successor>,
+        found: &mut Vec<Successor<Instance, State>>,
     ) -> Result<(), NoMemory>
         requires begun { IsTrue (is_begun (task_of self.now.task.now) self.now.schema.0 left (map object_of objects.items)) }
         requires room { length objects.items + left ≤ 16 }

@@ -10,26 +10,24 @@ ghost use Rattle.model.specs.Instances.{successors_of};
 mod count;
 mod expand;
 mod store;
+mod system;
 
 pub use count::instances_exceed;
+pub use search::transitions::Successor;
 use std::alloc::Global;
 pub use store::PlainStore;
+pub use system::TaskSystem;
 use tokens::NoMemory;
 use validator::formulas::{Instance, State};
 use validator::typing::Task;
 
-/// An instance that is applicable in a state, and the state that it leads to.
-#[derive(Drop)]
-pub struct Successor {
-    /// The instance.
-    pub action: Instance,
-    /// The state after it.
-    pub state: State,
-}
-
 /// The instances that are applicable in the state, in the order of all instances (schema by schema in the domain's
 /// order, and within a schema by the objects' numbers, compared from the left), each with the state that it leads to.
-pub fn successors(alloc: Global, task: &Task, state: &State) -> Result<Vec<Successor>, NoMemory>
+pub fn successors(
+    alloc: Global,
+    task: &Task,
+    state: &State,
+) -> Result<Vec<Successor<Instance, State>>, NoMemory>
     ensures { IfOk result (λ found. map successor_of found.items ≡ successors_of (task_of task.now) (state_of state.now)) }
 {
     expand::successors(alloc, task, state)

@@ -1,15 +1,16 @@
 -- What it means that an instance is the task's, and where it leads.
-use Rattle.std.specs.Prelude.{◌≡◌, ℕ, true, false, ◌&&◌, ◌==◌, List, length, map, slice_get, IsTrue, Option, None, Some, if◌then◌else◌, cond, refl}
-use Rattle.std.proofs.Common.{sym, ◌∙◌, ap, subst, eq-eqb}
+use Rattle.std.specs.Prelude.{◌≡◌, ℕ, ◌≤◌, true, false, ◌&&◌, ◌==◌, nat_le, List, length, map, slice_get, IsTrue, Option, None, Some, if◌then◌else◌, cond, refl}
+use Rattle.std.proofs.Common.{sym, ◌∙◌, ap, subst, arith, eq-eqb}
 use Rattle.std.specs.Cmp.{first_so, second_so, unsigned_Decides}
 use Rattle.std.specs.List.{list_all}
 use Rattle.std.specs.Option.{option_map, option_map_or, option_and_then}
+use Rattle.std.proofs.lemmas.Bool.Decides.{nat_tests}
 use Rattle.std.proofs.lemmas.Option.{none-some, same_Some}
 use Rattle.std.proofs.Math.ListN.{length-map}
 use Rattle.validator.specs.declared.typing.ObjectId.{ObjectId}
 use Rattle.validator.specs.TaskParts.{object_of, shape_of_schema}
 use Rattle.model.specs.Task as task
-use Rattle.model.specs.WellTyped.{is_object, is_task, is_schema, is_formula, is_effect}
+use Rattle.model.specs.WellTyped.{max_variables, is_object, is_task, is_schema, is_formula, is_effect}
 use Rattle.model.specs.Meaning.{State, fits, is_instance, step, holds, after_changes, changes_of}
 use Rattle.validator.proofs.FormulasTasks.{passes_map, passes_got}
 
@@ -20,6 +21,9 @@ Shape = ℕ × task.Formula × task.Effect
 found : (o : Option task.Schema) (shape : Shape) → Some shape ≡ option_map shape_of_schema o → (s : task.Schema) × (o ≡ Some s) × (shape ≡ shape_of_schema s)
 found None shape e = absurd (none-some shape (sym e))
 found (Some s) shape e = (s, refl, same_Some shape (shape_of_schema s) e)
+
+few_here : (count : ℕ) → nat_le count max_variables ≡ true → count ≤ max_variables
+few_here count few = grind (arith, nat_tests)
 
 module _ (t : task.Task) (schema : ℕ) (shape : Shape) (is : Some shape ≡ option_map shape_of_schema (slice_get t.schemas schema)) where
   abbrev it : (s : task.Schema) × (slice_get t.schemas schema ≡ Some s) × (shape ≡ shape_of_schema s)
@@ -33,6 +37,14 @@ module _ (t : task.Task) (schema : ℕ) (shape : Shape) (is : Some shape ≡ opt
       eq-eqb (length (map object_of objects)) it.0.parameters (length-map objects object_of ∙ count ∙ ap (λ (s : Shape). s.0) it.2) in
       sym (ap (λ o. option_map_or (λ s. fits t s (map object_of objects)) o false) it.1 ∙ ap (λ b. b && list_all (is_object t) (map object_of objects)) counted ∙ passes_map (is_object t) object_of objects)
 
+  typed_schema : IsTrue (is_task t) → is_schema t it.0 ≡ true
+  typed_schema well = passes_got (is_schema t) t.schemas schema it.0 it.1 (second_so _ _ (first_so _ _ (first_so _ _ well)))
+
+  -- a schema of a well-typed task has few parameters
+  pub few_parameters : IsTrue (is_task t) → shape.0 ≤ max_variables
+  few_parameters well =
+      subst (λ (s : Shape). s.0 ≤ max_variables) (sym it.2) (few_here it.0.parameters (first_so _ _ (first_so _ _ (typed_schema well))))
+
   module _ (given : List ObjectId) (instance : IsTrue (is_instance t (record { schema = schema; objects = map object_of given }))) where
     abbrev objects : List ℕ
     objects = map object_of given
@@ -43,9 +55,6 @@ module _ (t : task.Task) (schema : ℕ) (shape : Shape) (is : Some shape ≡ opt
     -- an object for each parameter
     counts : length given ≡ shape.0
     counts = sym (length-map given object_of) ∙ (unsigned_Decides (length objects) it.0.parameters).0 (first_so (length objects == it.0.parameters) _ fitting) ∙ sym (ap (λ (s : Shape). s.0) it.2)
-
-    typed_schema : IsTrue (is_task t) → is_schema t it.0 ≡ true
-    typed_schema well = passes_got (is_schema t) t.schemas schema it.0 it.1 (second_so _ _ (first_so _ _ (first_so _ _ well)))
 
     pub precondition_typed : IsTrue (is_task t) → IsTrue (is_formula t (length given) shape.1)
     precondition_typed well =

@@ -9,13 +9,14 @@ use Rattle.std.specs.BTreeMap.{is_at}
 use Rattle.std.specs.BTreeSet as sorted
 use Rattle.std.specs.BTreeSet.{BTreeSet}
 use Rattle.std.specs.List.{list_any}
+use Rattle.std.specs.List.Sorted.{IsStrictlySortedBy}
 use Rattle.std.proofs.lemmas.List.{take_all, take_more, map-append}
 use Rattle.std.specs.FinSet.{contains, from_list_push, insert, remove, from_list, contains-from_list, contains-insert, contains-remove}
 use Rattle.validator.specs.declared.typing.Atom.{Atom}
 use Rattle.validator.specs.declared.typing.ObjectId.{ObjectId}
 use Rattle.validator.specs.contracts.typing.AtomOrd.TheImpl as atom_ord
 use Rattle.validator.specs.contracts.typing.ObjectIdOrd.TheImpl as object_ord
-use Rattle.validator.specs.TaskParts.{atom_of, object_of}
+use Rattle.validator.specs.TaskParts.{atom_of, object_of, AreInOrder}
 use Rattle.model.specs.Task as task
 use Rattle.model.specs.Meaning.{State, atom_cmp}
 use Rattle.model.proofs.Atoms.{atoms_total, atoms_apart, same_state}
@@ -34,9 +35,20 @@ objects_alike (x ∷ xs) (y ∷ ys) = ap (ordering_then (nat_cmp x.0 y.0)) (obje
 pub order_alike : (a b : Atom) → code_cmp a b ≡ atom_cmp (atom_of a) (atom_of b)
 order_alike a b = ap (ordering_then (nat_cmp a.predicate.0 b.predicate.0)) (objects_alike a.objects.items b.objects.items)
 
+-- the model's order of the code's atoms
+abbrev pub model_cmp : Atom → Atom → Ordering
+model_cmp a b = atom_cmp (atom_of a) (atom_of b)
+
+orders_alike : code_cmp ≡ model_cmp
+orders_alike = λ i a b. order_alike a b i
+
+-- what ascends in one of the orders ascends in the other
+pub in_order : (keys : List Atom) → IsStrictlySortedBy code_cmp keys → AreInOrder keys
+in_order keys ordered = subst (λ R. IsStrictlySortedBy R keys) orders_alike ordered
+
 -- ---- every atom of the model is one of the code's
 
-abbrev atom_at : task.Atom → Atom
+abbrev pub atom_at : task.Atom → Atom
 atom_at a = record { predicate = record { 0 = a.predicate }; objects = record { items = map (λ n. record { 0 = n }) a.objects } }
 
 numbers_at : (xs : List ℕ) → map object_of (map (λ n. record { 0 = n }) xs) ≡ xs
@@ -59,6 +71,10 @@ any_alike k (x ∷ keys) = λ i. is_eq (order_alike k x i) || any_alike k keys i
 -- what a set of the code has, the model's has
 pub contains_alike : (keys : List Atom) (k : Atom) → list_any (is_at (code_cmp k)) keys ≡ contains (set_of keys) (atom_of k)
 contains_alike keys k = any_alike k keys ∙ sym (contains-from_list atoms_total (map atom_of keys) (atom_of k))
+
+-- as by the model's order
+pub contains_in_model : (keys : List Atom) (k : Atom) → list_any (is_at (model_cmp k)) keys ≡ contains (set_of keys) (atom_of k)
+contains_in_model keys k = ap (λ R. list_any (is_at (R k)) keys) (sym orders_alike) ∙ contains_alike keys k
 
 -- a set of the code that has what a state has is that state
 pub from_same_atoms : (keys : List Atom) (s : State) → ((q : Atom) → list_any (is_at (code_cmp q)) keys ≡ contains s (atom_of q)) → set_of keys ≡ s

@@ -1,4 +1,5 @@
 pub mod FormulasStates
+pub mod FormulasEquality
 pub mod FormulasTrees
 pub mod FormulasTasks
 pub mod FormulasChanges

@@ -1,13 +1,16 @@
 -- The parts that the phases make are the task of the trees, where no phase has a fault.
-use Rattle.std.proofs.Common.{◌≡◌, ℕ, ◌≤◌, true, List, [], ◌∷◌, map, length, slice_get, refl, ap, sym, ◌∙◌, arith, zero, suc, nat_le, true≢false}
+use Rattle.std.proofs.Common.{◌≡◌, ℕ, ◌≤◌, true, List, [], ◌∷◌, map, length, slice_get, refl, ap, sym, subst, ◌∙◌, arith, zero, suc, nat_le, true≢false}
 use Rattle.std.specs.List.{flat_map, list_all}
 use Rattle.std.proofs.lemmas.Bool.Decides.{nat_tests}
 use Rattle.std.proofs.lemmas.List.{length-map, take_all}
 use Rattle.model.specs.Task as task
 use Rattle.model.specs.Trees as tree
-use Rattle.model.specs.Typing.{File, in_domain, in_problem, Known, folded, number_in, names_of, one_after, refused, repeated, unknown_faults, predicate_faults, fact_faults, formula_faults, domain_name_faults, object_faults, declaration_faults, action_faults, atom_in, formula_in, schema_in, predicates_of, known_in_problem, task_of_trees, first_filled, IsWellTyped}
+use Rattle.model.specs.Typing.{File, TypingFault, in_domain, in_problem, Known, folded, number_in, names_of, one_after, refused, repeated, unknown_faults, predicate_faults, fact_faults, formula_faults, domain_name_faults, object_faults, declaration_faults, action_faults, init_faults, goal_faults, atom_in, formula_in, schema_in, predicates_of, known_in_problem, task_of_trees, first_filled, IsWellTyped}
 use Rattle.model.specs.WellTyped.{is_of_arity, is_task}
+use Rattle.validator.specs.declared.typing.TaskFault.{TaskFault}
+use Rattle.validator.specs.Typing.{TellsLeastOf, TellsLeastFault}
 use Rattle.validator.specs.TypingScope.{narrow_atom_in}
+use Rattle.validator.proofs.TypingTells.{tells_here, tells_later}
 use Rattle.validator.proofs.TypingWellTyped.{nil_left, nil_right, declared_arity, arities_fit, is_task-task_of_trees}
 
 -- a count that is that of a declaration is low where all of them are
@@ -67,3 +70,45 @@ made_by_phases d p objects predicates schemas variables init goal e1 e3 o e4 q e
       same = same;
       typed = ap is_task same ∙ is_task-task_of_trees d p e4 f6 f7 f8;
     }
+
+-- ---- the fault that a phase tells is the pair's, where the phases before have none
+
+module _ (d : tree.Domain) (p : tree.Problem) (e : TaskFault) where
+  pub told_of_name : TellsLeastOf (domain_name_faults d p) e → TellsLeastFault d p e
+  told_of_name h = tells_here (domain_name_faults d p) _ e h
+
+  module _ (e1 : domain_name_faults d p ≡ []) where
+    pub told_of_objects : TellsLeastOf (object_faults p) e → TellsLeastFault d p e
+    told_of_objects h = tells_later (domain_name_faults d p) _ e1 e (tells_here (object_faults p) _ e h)
+
+    module _ (e3 : object_faults p ≡ []) where
+      pub told_of_predicates : TellsLeastOf (declaration_faults d) e → TellsLeastFault d p e
+      told_of_predicates h = tells_later (domain_name_faults d p) _ e1 e (tells_later (object_faults p) _ e3 e (tells_here (declaration_faults d) _ e h))
+
+      module _ (e4 : declaration_faults d ≡ []) (predicates : List task.Predicate) (q : predicates ≡ predicates_of d) where
+        pub told_of_actions : TellsLeastOf (action_faults predicates d) e → TellsLeastFault d p e
+        told_of_actions h =
+            tells_later (domain_name_faults d p) _ e1 e (tells_later (object_faults p) _ e3 e (tells_later (declaration_faults d) _ e4 e
+            (tells_here (action_faults (predicates_of d) d) _ e (subst (λ ps. TellsLeastOf (action_faults ps d) e) q h))))
+
+        module _ (e6 : action_faults predicates d ≡ []) (objects variables : List task.Name) (o : objects ≡ map folded p.objects) (v : variables ≡ []) where
+          abbrev known : Known
+          known = record { predicates = predicates; variables = variables; objects = objects }
+
+          same_known : known ≡ known_in_problem (predicates_of d) p
+          same_known = λ j. record { predicates = q j; variables = v j; objects = o j }
+
+          later : (rest : List (List TypingFault)) → TellsLeastOf (first_filled rest) e
+              → TellsLeastOf (first_filled (domain_name_faults d p ∷ object_faults p ∷ declaration_faults d ∷ action_faults (predicates_of d) d ∷ rest)) e
+          later rest h =
+              tells_later (domain_name_faults d p) _ e1 e (tells_later (object_faults p) _ e3 e (tells_later (declaration_faults d) _ e4 e
+              (tells_later (action_faults (predicates_of d) d) rest (ap (λ ps. action_faults ps d) (sym q) ∙ e6) e h)))
+
+          pub told_of_init : TellsLeastOf (flat_map (fact_faults in_problem known) p.init) e → TellsLeastFault d p e
+          told_of_init h =
+              later _ (tells_here (init_faults (predicates_of d) p) _ e (subst (λ k. TellsLeastOf (flat_map (fact_faults in_problem k) p.init) e) same_known h))
+
+          pub told_of_goal : flat_map (fact_faults in_problem known) p.init ≡ [] → TellsLeastOf (formula_faults in_problem known p.goal) e → TellsLeastFault d p e
+          told_of_goal e7 h =
+              later _ (tells_later (init_faults (predicates_of d) p) _ (ap (λ k. flat_map (fact_faults in_problem k) p.init) (sym same_known) ∙ e7) e
+              (tells_here (goal_faults (predicates_of d) p) _ e (subst (λ k. TellsLeastOf (formula_faults in_problem k p.goal) e) same_known h)))

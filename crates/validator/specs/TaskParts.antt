@@ -1,6 +1,7 @@
 -- The parts of the code's task, in the model's terms.
 use Rattle.std.specs.Prelude.{ℕ, List, map}
 use Rattle.std.specs.Global.{Vec}
+use Rattle.std.specs.List.Sorted.{IsStrictlySortedBy}
 use Rattle.validator.specs.declared.typing.ObjectId.{ObjectId}
 use Rattle.validator.specs.declared.typing.PredicateId.{PredicateId}
 use Rattle.validator.specs.declared.typing.SchemaId.{SchemaId}
@@ -15,6 +16,7 @@ use Rattle.validator.specs.declared.typing.Effect as effect
 use Rattle.validator.specs.declared.typing.Predicate.{Predicate}
 use Rattle.validator.specs.declared.typing.Schema.{Schema}
 use Rattle.model.specs.Task as task
+use Rattle.model.specs.Meaning.{atom_cmp}
 
 abbrev pub object_of : ObjectId → ℕ
 object_of o = o.0
@@ -27,6 +29,10 @@ schema_id_of s = s.0
 
 abbrev pub atom_of : Atom → task.Atom
 atom_of a = record { predicate = a.predicate.0; objects = map object_of a.objects.items }
+
+-- the atoms ascend in the model's order, so that each stands there once
+abbrev pub AreInOrder : List Atom → Type 0
+AreInOrder atoms = IsStrictlySortedBy (λ a b. atom_cmp (atom_of a) (atom_of b)) atoms
 
 abbrev pub term_of : Term → task.Term
 term_of (Variable v) = task.variable v.0

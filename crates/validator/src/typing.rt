@@ -181,7 +181,7 @@ impl<T: Drop> From<AllocFailed<T>> for TaskFault {
 }
 
 impl Task {
-    ghost use Rattle.std.specs.Prelude.{◌≡◌, length, map, position, slice_get, IfErr, IfOk, OnOk};
+    ghost use Rattle.std.specs.Prelude.{◌≡◌, length, map, position, slice_get, IfErr, IfOk, IfSome, OnOk};
     ghost use Rattle.std.specs.Option.{option_copied, option_map};
     ghost use Rattle.validator.specs.Typing.{task_of, TellsLeastFault};
     ghost use Rattle.pddl_tree.specs.Tree.{domain_of, problem_of};
@@ -192,7 +192,11 @@ impl Task {
     ///
     /// # Errors
     /// The least fault of the pair, where it has one; [`TaskFault::NoMemory`] where memory is refused.
-    pub fn new(alloc: Global, domain: Domain<'_>, problem: Problem<'_>) -> Result<Task, TaskFault> {
+    pub fn new(alloc: Global, domain: Domain<'_>, problem: Problem<'_>) -> Result<Task, TaskFault>
+        ensures well_typed { OnOk result (IsWellTyped (domain_of domain.entry) (problem_of problem.entry)) }
+        ensures task { IfOk result (λ t. task_of t ≡ task_of_trees (domain_of domain.entry) (problem_of problem.entry)) }
+        ensures least { IfErr result (TellsLeastFault (domain_of domain.entry) (problem_of problem.entry)) }
+    {
         phases::domain_name(alloc, &domain, &problem)?;
         let objects = phases::objects(alloc, &problem)?;
         let predicates = phases::predicates(alloc, &domain)?;
@@ -244,9 +248,11 @@ impl Task {
 
     /// The schema of this number, and `None` where the number is beyond the last.
     pub fn schema(&self, id: SchemaId) -> Option<&Schema>
-        ensures { option_map (λ s. shape_of s.now) result ≡ option_map shape_of_schema (slice_get (task_of self.now).schemas id.0) }
+        ensures shape { option_map (λ s. shape_of s.now) result ≡ option_map shape_of_schema (slice_get (task_of self.now).schemas id.0) }
+        ensures few { IfSome result (λ s. s.now.parameters ≤ MAX_VARIABLES) }
     {
-        self.schemas.get_index(id.0).map(|entry| entry.1)
+        let (_, schema) = self.schemas.get_index(id.0)?;
+        Some(schema)
     }
 
     /// The predicate of this number, and `None` where the number is beyond the last.

@@ -1,5 +1,7 @@
 //! States: which atoms are true.
 ghost use Rattle.std.specs.Prelude.{◌≡◌};
+ghost use Rattle.std.proofs.Props.{props};
+ghost use Rattle.validator.specs.TaskParts.{AreInOrder};
 
 use crate::typing::{Atom, Task};
 use std::alloc::Global;
@@ -10,11 +12,12 @@ use tokens::NoMemory;
 #[derive(PartialEq, Eq, Hash, Drop)]
 pub struct State {
     atoms: BTreeSet<Atom>,
+    ghost in_order: { AreInOrder atoms.keys } by { Prim.hlevel props },
 }
 
 impl State {
-    ghost use Rattle.std.specs.Prelude.{IfOk, OnOk};
-    ghost use Rattle.std.specs.FinSet.{empty, contains, insert, remove};
+    ghost use Rattle.std.specs.Prelude.{map, IfOk, OnOk};
+    ghost use Rattle.std.specs.FinSet.{empty, contains, from_list, insert, remove};
     ghost use Rattle.validator.specs.TaskParts.{atom_of};
     ghost use Rattle.validator.specs.Typing.{task_of};
     ghost use Rattle.validator.specs.Formulas.{state_of};
@@ -47,6 +50,13 @@ impl State {
         ensures { result ≡ contains (state_of self.now) (atom_of atom.now) }
     {
         self.atoms.contains(atom)
+    }
+
+    /// The atoms that are true, in the order of their predicates and then of their objects from the left.
+    pub fn atoms(&self) -> &BTreeSet<Atom>
+        ensures { from_list (map atom_of result.now.keys) ≡ state_of self.now }
+    {
+        &self.atoms
     }
 
     /// Makes the atom true.

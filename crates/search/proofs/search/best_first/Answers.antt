@@ -117,6 +117,7 @@ returns-then-meets_goal g c =
       best.1 ∙ same_cost,
       rw (c.in_ok-steps.ensures.store, c.in-Some.ensures.store, c.in_ok-steps.ensures.reached, c.in-Some.ensures.reached)
           (subst (λ (n : ℕ). AreFound t (bound n) c.args.max_states states all) same_cost best.2),
+      best.3,
     )
 
 pub expand-requires-clause-turn : goal.expand-requires-clause-turn

@@ -2,7 +2,7 @@ use Rattle.std.proofs.Common.{◌∙◌, ap}
 use Rattle.std.specs.List.{each_same}
 use Rattle.std.specs.FinSet.{from_list}
 use Rattle.validator.specs.Formulas.{state_of}
-use Rattle.validator.proofs.FormulasStates.{set_of, copied, initial_more, initial_whole}
+use Rattle.validator.proofs.FormulasStates.{set_of, in_order, copied, initial_more, initial_whole}
 use Rattle.validator.proofs.formulas.state.State.initial.Goals as goal
 
 pub loop-atom-init : goal.loop-atom-init
@@ -16,3 +16,6 @@ loop-atom-preserved c =
 
 pub returns : goal.returns
 returns c = initial_whole (state_of c.loop-atom.state) c.init-atom-items.result.now c.loop-atom.atom-index c.loop-atom-test.false c.loop-atom.invariant ∙ ap from_list c.init-atom-items.ensures
+
+pub invariant_of-state : goal.invariant_of-state
+invariant_of-state c = record { in_order = in_order c.new.result.keys c.new.ensures.ordered }

@@ -1,0 +1,4 @@
+pub mod TypedLemmas
+pub mod NumbersLemmas
+pub mod ListingLemmas
+pub mod AnswerLemmas

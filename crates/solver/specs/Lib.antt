@@ -1,0 +1,3 @@
+pub mod Limit
+pub mod Listing
+pub mod Solver

@@ -1,0 +1,30 @@
+-- What the answers to a task say.
+use Rattle.std.specs.Prelude.{◌≡◌, ℕ, ◌<◌, ◌≤◌, IsTrue, length}
+use Rattle.std.specs.List.{list_all}
+use Rattle.validator.specs.Formulas.{plan_of}
+use Rattle.cert_checker.specs.Certificate.{certificate_of}
+use Rattle.search.specs.Search.{AreMoreReachable}
+use Rattle.solver.specs.declared.answer.Answer.{Answer}
+use Rattle.solver.specs.declared.answer.Answer.TheVariants.{Plan, Unsolvable, Unknown}
+use Rattle.solver.specs.declared.answer.Limit.TheVariants.{Instances, Atoms, States}
+use Rattle.solver.specs.Listing.{IsShownBy, AreMoreAtoms}
+use Rattle.model.specs.Task.{Task}
+use Rattle.model.specs.Runs.{cost_of_all, IsOptimal, IsUnsolvable}
+use Rattle.model.specs.Claims.{bound, none}
+use Rattle.model.specs.Meaning.{system_of, is_instance}
+use Rattle.model.specs.Instances.{all_instances}
+
+-- The answer is true: the steps are instances of the task, solve it at this cost, and no list of whatever length that
+-- solves costs less; or no list solves; and the certificate shows it. Or a limit is exceeded. That of the instances is
+-- told exactly where the task has more.
+abbrev pub IsTrueAnswer : Task → ℕ → ℕ → Answer → Type 0
+IsTrueAnswer task states instances (Plan steps cost cert) =
+    IsOptimal (system_of task) (plan_of steps) × (cost_of_all (system_of task) (plan_of steps) ≡ cost)
+    × IsTrue (list_all (is_instance task) (plan_of steps))
+    × IsShownBy task (bound cost) (certificate_of cert)
+    × (length (all_instances task) ≤ instances)
+IsTrueAnswer task states instances (Unsolvable cert) =
+    IsUnsolvable (system_of task) × IsShownBy task none (certificate_of cert) × (length (all_instances task) ≤ instances)
+IsTrueAnswer task states instances (Unknown Instances) = instances < length (all_instances task)
+IsTrueAnswer task states instances (Unknown Atoms) = AreMoreAtoms task 1048576 × (length (all_instances task) ≤ instances)
+IsTrueAnswer task states instances (Unknown States) = AreMoreReachable (system_of task) states × (length (all_instances task) ≤ instances)

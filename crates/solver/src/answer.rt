@@ -1,0 +1,73 @@
+//! The answer to a task.
+ghost use Rattle.std.specs.Prelude.{IfOk};
+ghost use Rattle.validator.specs.Typing.{task_of};
+ghost use Rattle.solver.specs.Solver.{IsTrueAnswer};
+
+use crate::limits::Limits;
+use crate::listing::cert_of;
+use cert_checker::certificate::{Cert, Claim};
+use search::{Outcome, best_first};
+use std::alloc::Global;
+use task_system::{PlainStore, instances_exceed};
+use tokens::NoMemory;
+use validator::formulas::Plan;
+use validator::typing::Task;
+
+/// What is found out of a task.
+#[derive(Drop)]
+pub enum Answer {
+    /// A cheapest plan.
+    Plan {
+        /// Its steps.
+        steps: Plan,
+        /// What they cost together.
+        cost: u64,
+        /// It shows that no plan costs less.
+        cert: Cert,
+    },
+    /// There is no plan.
+    Unsolvable {
+        /// It shows that there is none.
+        cert: Cert,
+    },
+    /// A limit is exceeded, and nothing is said of plans.
+    Unknown(Limit),
+}
+
+/// A limit that a task exceeds.
+#[derive(Clone, Copy, Debug, PartialEq, Eq)]
+pub enum Limit {
+    /// That of the task's instances.
+    Instances,
+    /// That of a certificate's atoms, 1,048,576.
+    Atoms,
+    /// That of the listed states.
+    States,
+}
+
+/// A cheapest plan of the task, or that it has none, with the certificate that shows it.
+pub fn solve(alloc: Global, task: &Task, limits: Limits) -> Result<Answer, NoMemory>
+    ensures { IfOk result (IsTrueAnswer (task_of task.now) limits.states limits.instances) }
+{
+    if instances_exceed(task, limits.instances()) {
+        return Ok(Answer::Unknown(Limit::Instances));
+    }
+    match best_first(alloc, task, PlainStore::new(alloc), limits.states())? {
+        Outcome::Found {
+            steps,
+            cost,
+            states,
+        } => match cert_of(alloc, task, Claim::Bound(cost), &states)? {
+            Some(cert) => match Plan::new(steps) {
+                Some(steps) => Ok(Answer::Plan { steps, cost, cert }),
+                None => Err(NoMemory),
+            },
+            None => Ok(Answer::Unknown(Limit::Atoms)),
+        },
+        Outcome::Exhausted { states } => match cert_of(alloc, task, Claim::Unsolvable, &states)? {
+            Some(cert) => Ok(Answer::Unsolvable { cert }),
+            None => Ok(Answer::Unknown(Limit::Atoms)),
+        },
+        Outcome::States => Ok(Answer::Unknown(Limit::States)),
+    }
+}

@@ -1,0 +1,11 @@
+//! Cheapest plans of tasks: each answer is true of every list of instances, and comes with the certificate that shows it.
+#![tactic(auto)]
+
+mod answer;
+mod limits;
+mod listing;
+#[cfg(test)]
+mod tests;
+
+pub use answer::{Answer, Limit, solve};
+pub use limits::{Limits, MAX_LIMIT};

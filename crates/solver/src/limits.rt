@@ -1,0 +1,53 @@
+//! The limits of a search.
+ghost use Rattle.std.specs.Prelude.{IsTrue};
+ghost use Rattle.solver.specs.Limit.{is_limit};
+
+/// The most that a limit may be.
+pub const MAX_LIMIT: u32 = 16_777_216;
+
+/// How many states a search may list, and how many instances a task may have; each from 1 to 16,777,216.
+#[derive(Clone, Copy, Debug, PartialEq, Eq)]
+pub struct Limits {
+    states: u32,
+    instances: u32,
+    ghost states_within: { IsTrue (is_limit states) },
+    ghost instances_within: { IsTrue (is_limit instances) },
+}
+
+impl Limits {
+    ghost use Rattle.std.specs.Prelude.{◌≡◌, ◌&&◌, is_some, IfSome};
+
+    /// These limits, and `None` where one of them is out of range.
+    pub fn new(states: u32, instances: u32) -> Option<Limits>
+        ensures within { is_some result ≡ (is_limit states && is_limit instances) }
+        ensures states { IfSome result (λ l. l.states ≡ states) }
+        ensures instances { IfSome result (λ l. l.instances ≡ instances) }
+    {
+        if is_limit(states) && is_limit(instances) {
+            Some(Limits { states, instances })
+        } else {
+            None
+        }
+    }
+
+    /// The most states that may be listed.
+    pub fn states(&self) -> u32
+        ensures { result ≡ self.now.states }
+    {
+        self.states
+    }
+
+    /// The most instances that the task may have.
+    pub fn instances(&self) -> u32
+        ensures { result ≡ self.now.instances }
+    {
+        self.instances
+    }
+}
+
+/// Whether the number may be a limit.
+fn is_limit(number: u32) -> bool
+    ensures { result ≡ is_limit number }
+{
+    1 <= number && number <= MAX_LIMIT
+}

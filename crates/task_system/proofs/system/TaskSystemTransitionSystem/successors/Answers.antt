@@ -1,0 +1,7 @@
+use Rattle.validator.specs.Typing.{task_of}
+use Rattle.validator.specs.Formulas.{state_of}
+use Rattle.task_system.proofs.TaskSystemLemmas.{if_successors}
+use Rattle.task_system.proofs.system.TaskSystemTransitionSystem.successors.Goals as goal
+
+pub returns : goal.returns
+returns c = if_successors (task_of c.args.self.now.0.now) (state_of c.args.state.now) c.successors.result c.successors.ensures
