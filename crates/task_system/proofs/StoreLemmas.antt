@@ -1,58 +1,17 @@
--- States that pass the code's test of equality are one state.
-use Rattle.std.proofs.Common.{◌≡◌, ℕ, zero, suc, ◌+◌, ◌<◌, Bool, true, false, not, cond, ◌&&◌, ◌||◌, List, [], ◌∷◌, ◌++◌, length, map, get_or, Option, None, Some, refl, sym, ap, ◌∙◌, subst, arith}
-use Rattle.std.specs.Prelude.{◌==◌, slice_get, Contains, MatchOption, is_some, if◌then◌else◌}
+-- Where a state stands in a list of states, looked up by the code's test of equality.
+use Rattle.std.proofs.Common.{◌≡◌, ℕ, zero, suc, ◌+◌, ◌<◌, Bool, true, false, not, cond, ◌||◌, List, [], ◌∷◌, ◌++◌, length, map, get_or, Option, None, Some, refl, sym, ap, ◌∙◌, subst, arith}
+use Rattle.std.specs.Prelude.{slice_get, Contains, MatchOption, is_some, if◌then◌else◌}
 use Rattle.std.specs.List.{position, position_or_len, list_any}
-use Rattle.std.specs.Cmp.Lexicographic.{pointwise}
-use Rattle.std.specs.FinSet.{from_list}
-use Rattle.std.proofs.lemmas.Bool.{and_parts, or_parts, eqb-true, false≢true}
+use Rattle.std.proofs.lemmas.Bool.{or_parts, false≢true}
 use Rattle.std.proofs.lemmas.List.{length-map, map_push}
 use Rattle.std.proofs.lemmas.List.Folds.{list_any_at}
 use Rattle.std.proofs.lemmas.List.Quantifiers.{position-Some}
 use Rattle.validator.specs.declared.formulas.state.State as code_state
-use Rattle.validator.specs.declared.typing.Atom as code_atom
-use Rattle.validator.specs.declared.typing.ObjectId.{ObjectId}
-use Rattle.validator.specs.contracts.formulas.state.StatePartialEq.TheImpl as state_impl
-use Rattle.validator.specs.contracts.typing.AtomPartialEq.TheImpl as atom_impl
-use Rattle.validator.specs.contracts.typing.ObjectIdPartialEq.TheImpl as object_impl
-use Rattle.validator.specs.TaskParts.{atom_of, object_of}
 use Rattle.validator.specs.Formulas.{state_of}
+use Rattle.validator.proofs.FormulasEquality.{state_eq, equal_states, same_states}
 use Rattle.indexmap.specs.IndexSet.{insert_key}
 use Rattle.search.specs.SearchStore.{IsPlaced}
 use Rattle.model.proofs.ListLemmas.{map-Contains}
-
-abbrev pub state_eq : code_state.State → code_state.State → Bool
-state_eq = (state_impl.ghosts).eq
-
-abbrev atom_eq : code_atom.Atom → code_atom.Atom → Bool
-atom_eq = (atom_impl.ghosts).eq
-
-equal_objects : (xs ys : List ObjectId) → pointwise (object_impl.ghosts).eq xs ys ≡ true → map object_of xs ≡ map object_of ys
-equal_objects [] [] is = refl
-equal_objects [] (y ∷ ys) is = absurd (cc)
-equal_objects (x ∷ xs) [] is = absurd (cc)
-equal_objects (x ∷ xs) (y ∷ ys) is =
-    let parts = and_parts ((object_impl.ghosts).eq x y) (pointwise (object_impl.ghosts).eq xs ys) is in
-    λ i. eqb-true x.0 y.0 parts.0 i ∷ equal_objects xs ys parts.1 i
-
-equal_atoms : (a b : code_atom.Atom) → atom_eq a b ≡ true → atom_of a ≡ atom_of b
-equal_atoms a b is =
-    let parts = and_parts (a.predicate.0 == b.predicate.0) (pointwise (object_impl.ghosts).eq a.objects.items b.objects.items) is in
-    λ i. record { predicate = eqb-true a.predicate.0 b.predicate.0 parts.0 i; objects = equal_objects a.objects.items b.objects.items parts.1 i }
-
-equal_lists : (xs ys : List code_atom.Atom) → pointwise atom_eq xs ys ≡ true → map atom_of xs ≡ map atom_of ys
-equal_lists [] [] is = refl
-equal_lists [] (y ∷ ys) is = absurd (cc)
-equal_lists (x ∷ xs) [] is = absurd (cc)
-equal_lists (x ∷ xs) (y ∷ ys) is =
-    let parts = and_parts (atom_eq x y) (pointwise atom_eq xs ys) is in
-    λ i. equal_atoms x y parts.0 i ∷ equal_lists xs ys parts.1 i
-
-pub equal_states : (s t : code_state.State) → state_eq s t ≡ true → state_of s ≡ state_of t
-equal_states s t is = ap from_list (equal_lists s.atoms.keys t.atoms.keys is)
-
--- states that are one pass the test
-states_equal : (s t : code_state.State) → state_of s ≡ state_of t → state_eq s t ≡ true
-states_equal s t is = ?
 
 pub slice_get-or : {X : Type 0} (xs : List X) (i : ℕ) (d : X) → i < length xs → slice_get xs i ≡ Some (get_or xs i d)
 slice_get-or [] i d lt = absurd (omega arith)
@@ -71,7 +30,7 @@ any_there p xs x at passes = list_any_at p xs at.0 x at.1 (ap p at.2 ∙ passes)
 absent : (s : code_state.State) (keys : List code_state.State) → list_any (state_eq s) keys ≡ false → Contains (map state_of keys) (state_of s) → ⊥
 absent s keys none among =
     let (t, at, is) = map-Contains state_of keys (state_of s) among in
-    false≢true (sym none ∙ any_there (state_eq s) keys t at (states_equal s t (sym is)))
+    false≢true (sym none ∙ any_there (state_eq s) keys t at (same_states s t (sym is)))
 
 one_more : (b : Bool) (m n : ℕ) → b ≡ false → m ≡ n → cond (not b) (1 + m) 0 ≡ suc n
 one_more true m n is same = absurd (cc)

@@ -1,22 +1,19 @@
 -- Counting a task's instances, and finding the successors of a state instance by instance.
-use Rattle.std.proofs.Common.{◌≡◌, ℕ, zero, suc, ◌+◌, ◌*◌, ◌^◌, ◌<◌, ◌≤◌, min, Bool, true, false, ◌&&◌, List, [], ◌∷◌, ◌++◌, length, map, drop, Option, None, Some, inl, inr, refl, sym, ap, ◌∙◌, subst, arith, add-one, add-zero}
+use Rattle.std.proofs.Common.{◌≡◌, ℕ, zero, suc, ◌+◌, ◌*◌, ◌^◌, ◌<◌, ◌≤◌, min, true, false, ◌&&◌, List, [], ◌∷◌, ◌++◌, length, map, drop, Option, None, Some, inl, inr, refl, sym, ap, ◌∙◌, arith, add-one, add-zero}
 use Rattle.std.specs.Global.{Vec}
-use Rattle.std.specs.Prelude.{◌==◌, nat_lt, nat_le, slice_get, IsTrue, Result, Ok, Err, IfOk}
+use Rattle.std.specs.Prelude.{◌==◌, nat_lt, slice_get, Result, Ok, Err, IfOk}
 use Rattle.std.specs.List.{list_all, filter_map, flat_map, range_with_len}
 use Rattle.std.specs.Option.{option_map, option_map_or}
-use Rattle.std.proofs.lemmas.Bool.{cases_lt, and_parts, and_from, eqb-true, eq-eqb, lt-ltb, leb-true}
+use Rattle.std.proofs.lemmas.Bool.{cases_lt, and_parts, and_from, eqb-true, eq-eqb, lt-ltb}
 use Rattle.std.proofs.lemmas.List.{append_assoc, append-nil, length-map, length-append}
 use Rattle.std.proofs.lemmas.List.Folds.{list_all-append}
 use Rattle.std.proofs.lemmas.List.Elements.{filter_map-append}
 use Rattle.std.proofs.lemmas.Grind.{flat_map-append}
 use Rattle.std.proofs.Math.Nat.{pow-zero, pow-suc, pow-succ', zero-mul, suc-mul, le-mul_of_pos_right}
 use Rattle.validator.specs.TaskParts.{shape_of_schema}
-use Rattle.model.specs.Task as task
 use Rattle.model.specs.Task.{Schema, Task, Instance, Formula, Effect}
 use Rattle.model.specs.Runs.{AreSuccessors}
 use Rattle.model.specs.Meaning.{State, step, is_instance, fits, system_of}
-use Rattle.model.specs.WellTyped.{is_task, is_schema, is_atom, is_formula, is_effect, max_arguments, max_variables}
-use Rattle.validator.proofs.FormulasTasks.{passes_got}
 use Rattle.model.specs.Instances.{tuples, instances_of_schema, instances_from, all_instances, leading_to, successors_of}
 use Rattle.model.proofs.InstancesLemmas.{successors-AreSuccessors}
 use Rattle.search.specs.declared.transitions.Successor.{Successor}
@@ -231,18 +228,6 @@ instance-begun t schema left objects is begun =
           let count = eqb-true (length objects + left) s.parameters parts.0 in
           and_from (length objects == s.parameters) (list_all test objects) (eq-eqb (length objects) s.parameters (omega (arith, count))) parts.1
     ] begun
-
--- a schema has at most 16 parameters
-pub few_parameters : (t : Task) (number : ℕ) (s : Schema) → is_task t ≡ true → slice_get t.schemas number ≡ Some s → s.parameters ≤ 16
-few_parameters t number s typed at =
-    let arities = list_all (λ (p : task.Predicate). nat_le p.arity max_arguments) t.predicates in
-    let schemas = list_all (is_schema t) t.schemas in
-    let init = list_all (is_atom t) t.init in
-    let schemas_typed = (and_parts arities schemas (and_parts (arities && schemas) init (and_parts (arities && schemas && init) (is_formula t 0 t.goal) typed).0).0).1 in
-    let schema_typed = passes_got (is_schema t) t.schemas number s at schemas_typed in
-    let few = nat_le s.parameters max_variables in
-    let condition = is_formula t s.parameters s.precondition in
-    leb-true s.parameters 16 (and_parts few condition (and_parts (few && condition) (is_effect t s.parameters s.effect) schema_typed).0).0
 
 -- what the successors are, where they were found
 pub if_successors : {E : Type 0} (t : Task) (state : State) (r : Result (Vec (Successor code_instance.Instance code_state.State)) E)

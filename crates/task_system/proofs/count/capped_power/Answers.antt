@@ -1,4 +1,4 @@
-use Rattle.std.proofs.Common.{◌≡◌, ◌≤◌, ◌+◌, ◌*◌, ◌^◌, min, ◌∙◌, ap, sym, arith}
+use Rattle.std.proofs.Common.{◌≡◌, ◌≤◌, ◌+◌, ◌*◌, ◌^◌, min, ◌∙◌, ap, arith}
 use Rattle.std.proofs.Math.Nat.{pow-zero}
 use Rattle.task_system.proofs.TaskSystemLemmas.{capped_more}
 use Rattle.task_system.proofs.count.capped_power.Goals as goal

@@ -1,4 +1,4 @@
-use Rattle.std.proofs.Common.{◌∙◌, ◌++◌, ap, sym, map, length, arith}
+use Rattle.std.proofs.Common.{◌∙◌, ◌++◌, ap, map, length, arith}
 use Rattle.std.specs.Prelude.{slice_get}
 use Rattle.std.specs.List.{filter_map}
 use Rattle.validator.specs.Typing.{task_of}
@@ -6,21 +6,18 @@ use Rattle.validator.specs.TaskParts.{object_of, shape_of}
 use Rattle.validator.specs.Formulas.{state_of}
 use Rattle.model.specs.Instances.{tuples, leading_to}
 use Rattle.task_system.specs.TaskSystem.{successor_of, begun_instances}
-use Rattle.task_system.proofs.TaskSystemLemmas.{Shape, schema_found, few_parameters, found-schema}
+use Rattle.task_system.proofs.TaskSystemLemmas.{Shape, schema_found, found-schema}
 use Rattle.task_system.proofs.expand.successors.Goals as goal
 
 pub add-requires-clause-room : goal.add-requires-clause-room
-add-requires-clause-room c =
-    let task = task_of c.args.task.now in
-    let found = schema_found (slice_get task.schemas c.loop-number.number) (shape_of c.in-Some.schema.now) c.in-Some.ensures in
-    omega (arith, ap length c.new.ensures, ap (λ (s : Shape). s.0) found.2, few_parameters task c.loop-number.number found.0 c.args.task.now.well_typed found.1)
+add-requires-clause-room c = omega (arith, ap length c.new.ensures, c.in-Some.ensures.few)
 
 pub loop-number-preserved : goal.loop-number-preserved
 loop-number-preserved c =
     let task = task_of c.args.task.now in
     let state = state_of c.args.state.now in
     let number = c.loop-number.number in
-    let found = schema_found (slice_get task.schemas number) (shape_of c.in-Some.schema.now) c.in-Some.ensures in
+    let found = schema_found (slice_get task.schemas number) (shape_of c.in-Some.schema.now) c.in-Some.ensures.shape in
     found-schema task state number found.0 (map successor_of c.loop-number.found.items) (map successor_of c.add.new.found.items) found.1 c.loop-number.invariant
     (c.in_ok-add.ensures
     ∙ (λ i. map successor_of c.loop-number.found.items
