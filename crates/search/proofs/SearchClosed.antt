@@ -165,9 +165,12 @@ module _ {S L Action : Type 0} (t : System S L) (label : Action → L) (states :
     optimal i one steps max_states are_open stands cheapest goal path within =
         let is_closed = closed (bound one.reached.cost) are_open (λ k n at waits. omega (arith, cheapest k n at waits)) in
         let holds = claim-of_closed t (λ _. 0) (bound one.reached.cost) (lines_of states all) zero_lower is_closed in
-        let (runs, costs) = path_runs i steps one path stands in
-        (((one.state, runs, goal), λ plan solves. subst (λ c. c ≤ cost_of_all t plan) (sym costs) (holds plan solves)), costs, found_states (bound one.reached.cost) max_states within is_closed,
-        omega (arith, path_length i steps one path stands, nodes.shallow i one stands, few_expanded))
+        let (runs, costs) = path_runs i steps one path stands in (
+          ((one.state, runs, goal), λ plan solves. subst (λ c. c ≤ cost_of_all t plan) (sym costs) (holds plan solves)),
+          costs,
+          found_states (bound one.reached.cost) max_states within is_closed,
+          omega (arith, path_length i steps one path stands, nodes.shallow i one stands, few_expanded),
+        )
 
     -- where no state waits, none solves
     pub unsolvable : (max_states : ℕ) → AreOpen t (nodes_of states all origins)
