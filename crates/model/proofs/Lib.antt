@@ -9,3 +9,6 @@ pub mod GrammarStops
 pub mod StaticLemmas
 pub mod Steps
 pub mod ExampleProofs
+pub mod PlanMachine
+pub mod PlanReading
+pub mod PlanMeaning

@@ -2,13 +2,13 @@
 -- are this repository's profile of what planners write and validators read: steps `(action object ..)`, each the name of
 -- an action (PDDL 1.2 manual, "Actions") and of an object for each of its parameters, with blanks and comments as in a
 -- domain file. Runs may have any length, and case does not matter.
-use Rattle.std.specs.Prelude.{◌≡◌, ◌≢◌, ℕ, ◌+◌, ◌<◌, ◌≤◌, Bool, true, false, IsTrue, if◌then◌else◌, List, [], ◌∷◌, ◌++◌, length, map, slice_get, Some, ⊤}
-use Rattle.std.specs.Char.{to_ascii_lowercase}
+use Rattle.std.specs.Prelude.{◌≡◌, ◌≢◌, ℕ, ◌+◌, ◌<◌, ◌≤◌, Bool, true, false, IsTrue, if◌then◌else◌, List, [], ◌∷◌, ◌++◌, length, map, position, slice_get, Some, ⊤}
 use Rattle.model.specs.Fault.{Span, Fault}
 use Rattle.model.specs.Words.{Form, blank, comment, opening, closing, Part, form, bytes, size, AreParts, is_name, longest_text}
 use Rattle.model.specs.Trees.{Name, span_of}
 use Rattle.model.specs.Task.{Task, Schema, Instance}
 use Rattle.model.specs.Meaning.{is_instance}
+use Rattle.model.specs.Typing.{folded, is_same}
 
 -- a parenthesis, a run or a stray byte of a text, and the offset of its first byte
 pub record Placed : Type 0 where
@@ -72,9 +72,9 @@ pub record HasSteps (text : List ℕ) (steps : List Step) : Type 0 where
 
 -- The actions that a plan text names
 
--- the number is that of a declared name that is the same but for case
+-- the number is that of the first declared name that is the same but for case
 abbrev pub IsNumberOf : List (List ℕ) → Name → ℕ → Type 0
-IsNumberOf declared name number = slice_get declared number ≡ Some (map to_ascii_lowercase name.text)
+IsNumberOf declared name number = position (is_same (folded name)) declared ≡ Some number
 
 abbrev pub IsDeclared : List (List ℕ) → Name → Type 0
 IsDeclared declared name = (number : ℕ) × IsNumberOf declared name number

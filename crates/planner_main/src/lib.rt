@@ -6,8 +6,10 @@ pub mod files;
 pub mod plan_file;
 mod program;
 mod report;
+mod task_file;
 mod verdict;
 
 pub use files::Files;
 pub use program::run;
-pub use verdict::{File, FileFault, validate_files};
+pub use task_file::{File, FileFault};
+pub use verdict::validate_files;

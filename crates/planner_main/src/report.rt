@@ -5,7 +5,7 @@ ghost use Rattle.validator.specs.Verdict.{verdict_of};
 ghost use Rattle.planner_main.specs.Report.{is_failure, line_of, status_of};
 
 use crate::certificate::{Sink, WriteFault, write_all};
-use crate::verdict::FileFault;
+use crate::task_file::FileFault;
 use std::alloc::{AllocError, Global};
 use validator::Verdict;
 

@@ -6,7 +6,7 @@ ghost use Rattle.model.specs.Words.{form_of, goes_on};
 
 /// What a part of a text is, by its first byte.
 #[derive(Clone, Copy, Debug, PartialEq, Eq)]
-pub(crate) enum Form {
+pub enum Form {
     /// A space, a tab, a line feed or a carriage return.
     Blank,
     /// `;` and what follows it on its line.
@@ -23,7 +23,7 @@ pub(crate) enum Form {
 
 impl Form {
     /// What begins with this byte.
-    pub(crate) fn of(byte: u8) -> Form
+    pub fn of(byte: u8) -> Form
         ensures { view result ≡ form_of byte }
     {
         match byte {
@@ -49,7 +49,7 @@ impl Form {
 }
 
 /// Where the part of this form that begins at `start` ends: the offset after its last byte.
-pub(crate) fn part_end(text: &[u8], start: usize, form: Form) -> usize
+pub fn part_end(text: &[u8], start: usize, form: Form) -> usize
     requires { start < length text.now }
     ensures after_start { start < result }
     ensures within { result ≤ length text.now }

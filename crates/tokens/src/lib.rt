@@ -9,6 +9,8 @@ mod scanner;
 mod word;
 
 pub use fault::{Code, Fault, NoMemory, Span};
+pub use form::{Form, part_end};
 pub use laws::{one_fault, one_reading};
-pub use scanner::scan;
+pub use run::is_name;
+pub use scanner::{LONGEST_TEXT, scan};
 pub use word::{Kind, Word};

@@ -48,7 +48,7 @@ fn are_digits(bytes: &[u8]) -> bool
 }
 
 /// Whether the bytes are a letter, and then letters, digits, `-` and `_`.
-fn is_name(bytes: &[u8]) -> bool
+pub fn is_name(bytes: &[u8]) -> bool
     ensures { result ≡ is_name bytes.now }
 {
     match bytes.split_first() {

@@ -12,7 +12,7 @@ use crate::word::{Kind, Word};
 use std::alloc::Global;
 
 /// How many bytes a text may have.
-const LONGEST_TEXT: usize = 16_777_216;
+pub const LONGEST_TEXT: usize = 16_777_216;
 
 /// How many bytes a run may have.
 const LONGEST_RUN: usize = 255;

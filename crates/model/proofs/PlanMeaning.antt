@@ -1,0 +1,162 @@
+-- The steps of a plan text mean one list of instances, or the first of them that means none is at fault.
+use Rattle.std.proofs.Common.{◌≡◌, ℕ, suc, ◌+◌, ◌≤◌, Bool, true, false, cond, List, [], ◌∷◌, ◌++◌, length, Option, Some, sym, refl, ap, ◌∙◌, subst, eqb, arith, append_assoc}
+use Rattle.std.specs.List.{list_all}
+use Rattle.std.specs.Option.{option_map_or}
+use Rattle.std.specs.Prelude.{slice_get}
+use Rattle.std.proofs.lemmas.Bool.{and_parts, and_from, eqb-true}
+use Rattle.std.proofs.lemmas.List.{length-append}
+use Rattle.model.specs.Fault.{Span, Fault}
+use Rattle.model.specs.Words.{Part, form, bytes, size, AreParts, longest_text}
+use Rattle.model.specs.Trees.{Name}
+use Rattle.model.specs.Task.{Task, Schema, Instance}
+use Rattle.model.specs.Meaning.{is_instance, fits}
+use Rattle.model.specs.PlanText.{Placed, placed_from, is_gap, Step, AreSteps, HasSteps, IsFormFault, too_long, refused, open_at_end, IsNumberOf, IsDeclared, AreNumbersOf, schema_names, Means, AllMean, IsPlanText, IsStepFault, unknown_action, wrong_count, unknown_object, IsPlanFault, of_form, of_step}
+use Rattle.model.proofs.PlanReading.{one_list}
+
+-- A name has one number.
+one_number : (declared : List (List ℕ)) (name : Name) (a b : ℕ) → IsNumberOf declared name a → IsNumberOf declared name b → a ≡ b
+one_number declared name a b h g = let both : Some a ≡ Some b = sym h ∙ g in cc
+
+one_numbers : (declared : List (List ℕ)) (names : List Name) (a b : List ℕ) → AreNumbersOf declared names a → AreNumbersOf declared names b → a ≡ b
+one_numbers declared [] [] [] h g = refl
+one_numbers declared [] [] (m ∷ ms) h g = absurd g
+one_numbers declared [] (n ∷ ns) b h g = absurd h
+one_numbers declared (name ∷ names) [] b h g = absurd h
+one_numbers declared (name ∷ names) (n ∷ ns) [] h g = absurd g
+one_numbers declared (name ∷ names) (n ∷ ns) (m ∷ ms) h g =
+    ap (λ k. k ∷ ns) (one_number declared name n m h.0 g.0) ∙ ap (λ ks. m ∷ ks) (one_numbers declared names ns ms h.1 g.1)
+
+same_instance : (i j : Instance) → i.schema ≡ j.schema → i.objects ≡ j.objects → i ≡ j
+same_instance i j schema objects =
+    ap (λ s. let k : Instance = record { schema = s; objects = i.objects } in k) schema
+    ∙ ap (λ os. let k : Instance = record { schema = j.schema; objects = os } in k) objects
+
+one_meaning : (task : Task) (step : Step) (i j : Instance) → Means task step i → Means task step j → i ≡ j
+one_meaning task step i j h g =
+    same_instance i j (one_number (schema_names task) step.action i.schema j.schema h.action g.action)
+    (one_numbers task.objects step.objects i.objects j.objects h.objects g.objects)
+
+one_plan : (task : Task) (steps : List Step) (a b : List Instance) → AllMean task steps a → AllMean task steps b → a ≡ b
+one_plan task [] [] [] h g = refl
+one_plan task [] [] (j ∷ b) h g = absurd g
+one_plan task [] (i ∷ a) b h g = absurd h
+one_plan task (step ∷ steps) [] b h g = absurd h
+one_plan task (step ∷ steps) (i ∷ a) [] h g = absurd g
+one_plan task (step ∷ steps) (i ∷ a) (j ∷ b) h g =
+    ap (λ k. k ∷ a) (one_meaning task step i j h.0 g.0) ∙ ap (λ ks. j ∷ ks) (one_plan task steps a b h.1 g.1)
+
+-- A step that means an instance is not at fault.
+pub numbers_length : (declared : List (List ℕ)) (names : List Name) (numbers : List ℕ) → AreNumbersOf declared names numbers → length names ≡ length numbers
+numbers_length declared [] [] h = refl
+numbers_length declared [] (n ∷ ns) h = absurd h
+numbers_length declared (name ∷ names) [] h = absurd h
+numbers_length declared (name ∷ names) (n ∷ ns) h = ap suc (numbers_length declared names ns h.1)
+
+each_declared : (declared : List (List ℕ)) (before after : List Name) (name : Name) (numbers : List ℕ) → AreNumbersOf declared (before ++ name ∷ after) numbers → IsDeclared declared name
+each_declared declared [] after name [] h = absurd h
+each_declared declared [] after name (n ∷ ns) h = (n, h.0)
+each_declared declared (first ∷ before) after name [] h = absurd h
+each_declared declared (first ∷ before) after name (n ∷ ns) h = each_declared declared before after name ns h.1
+
+-- an instance has an object for each parameter
+right_count : (task : Task) (i : Instance) (schema : Schema) → is_instance task i ≡ true → slice_get task.schemas i.schema ≡ Some schema → length i.objects ≡ schema.parameters
+right_count task i schema is here =
+    let fit : fits task schema i.objects ≡ true = sym (ap (λ (o : Option Schema). option_map_or (λ (s : Schema). fits task s i.objects) o false) here) ∙ is in
+    eqb-true (length i.objects) schema.parameters (and_parts (eqb (length i.objects) schema.parameters) _ fit).0
+
+means_no_fault : (task : Task) (step : Step) (i : Instance) (fault : Fault) → Means task step i → IsStepFault task step fault → ⊥
+means_no_fault task step i fault h (unknown_action none code span) = none (i.schema, h.action)
+means_no_fault task step i fault h (wrong_count number schema is here differs code span) =
+    let same = one_number (schema_names task) step.action number i.schema is h.action in
+    let there = subst (λ k. slice_get task.schemas k ≡ Some schema) same here in
+    differs (numbers_length task.objects step.objects i.objects h.objects ∙ right_count task i schema h.fits there)
+means_no_fault task step i fault h (unknown_object number schema is here counted before after name numbers objects_are named none code span) =
+    none (each_declared task.objects before after name i.objects (subst (λ names. AreNumbersOf task.objects names i.objects) objects_are h.objects))
+
+each_means : (task : Task) (before after : List Step) (step : Step) (plan : List Instance) → AllMean task (before ++ step ∷ after) plan → (i : Instance) × Means task step i
+each_means task [] after step [] h = absurd h
+each_means task [] after step (i ∷ plan) h = (i, h.0)
+each_means task (first ∷ before) after step [] h = absurd h
+each_means task (first ∷ before) after step (i ∷ plan) h = each_means task before after step plan h.1
+
+-- one more step
+pub all_mean_push : (task : Task) (steps : List Step) (plan : List Instance) (step : Step) (i : Instance) → AllMean task steps plan → Means task step i → AllMean task (steps ++ step ∷ []) (plan ++ i ∷ [])
+all_mean_push task [] [] step i h m = (m, tt)
+all_mean_push task [] (j ∷ plan) step i h m = absurd h
+all_mean_push task (first ∷ steps) [] step i h m = absurd h
+all_mean_push task (first ∷ steps) (j ∷ plan) step i h m = (h.0, all_mean_push task steps plan step i h.1 m)
+
+pub numbers_push : (declared : List (List ℕ)) (names : List Name) (numbers : List ℕ) (name : Name) (number : ℕ) → AreNumbersOf declared names numbers → IsNumberOf declared name number → AreNumbersOf declared (names ++ name ∷ []) (numbers ++ number ∷ [])
+numbers_push declared [] [] name number h is = (is, tt)
+numbers_push declared [] (n ∷ ns) name number h is = absurd h
+numbers_push declared (m ∷ names) [] name number h is = absurd h
+numbers_push declared (m ∷ names) (n ∷ ns) name number h is = (h.0, numbers_push declared names ns name number h.1 is)
+
+-- what steps mean are instances of the task
+pub are_instances : (task : Task) (steps : List Step) (plan : List Instance) → AllMean task steps plan → list_all (is_instance task) plan ≡ true
+are_instances task [] [] h = refl
+are_instances task [] (i ∷ plan) h = absurd h
+are_instances task (step ∷ steps) [] h = absurd h
+are_instances task (step ∷ steps) (i ∷ plan) h = and_from (is_instance task i) (list_all (is_instance task) plan) h.0.fits (are_instances task steps plan h.1)
+
+pub plan_length : (task : Task) (steps : List Step) (plan : List Instance) → AllMean task steps plan → length plan ≡ length steps
+plan_length task [] [] h = refl
+plan_length task [] (i ∷ plan) h = absurd h
+plan_length task (step ∷ steps) [] h = absurd h
+plan_length task (step ∷ steps) (i ∷ plan) h = ap suc (plan_length task steps plan h.1)
+
+-- A text has no more steps than bytes.
+words_within : (text : List ℕ) (start : ℕ) (parts : List Part) → AreParts text parts → length (placed_from start parts) ≤ length text
+words_within text start [] h = omega arith
+words_within text start (part ∷ parts) (rest, text_is, _, _, more) = by_gap (is_gap (form part)) (words_within rest (start + size part) parts more)
+  where
+    joined : length text ≡ size part + length rest
+    joined = ap length text_is ∙ length-append (bytes part) rest
+
+    by_gap : (gap : Bool) → length (placed_from (start + size part) parts) ≤ length rest → length (cond gap (placed_from (start + size part) parts) (record { start = start; part = part } ∷ placed_from (start + size part) parts)) ≤ length text
+    by_gap true inner = omega (arith, joined)
+    by_gap false inner = omega (arith, joined)
+
+steps_within : (words : List Placed) (steps : List Step) → AreSteps words steps → length steps ≤ length words
+steps_within words [] h = omega arith
+steps_within words (step ∷ steps) (these, rest, words_are, is, more) =
+    let inner = steps_within rest steps more in
+    let whole : length words ≡ length these + length rest = ap length words_are ∙ length-append these rest in
+    let first : length these ≡ suc (length (is.names ++ is.last ∷ [])) = ap length is.in_order in
+    omega (arith, inner, whole, first)
+
+pub few_steps : (text : List ℕ) (steps : List Step) → HasSteps text steps → length steps ≤ longest_text
+few_steps text steps h =
+    let a = steps_within (placed_from 0 h.parts) steps h.steps_of_parts in
+    let b = words_within text 0 h.parts h.cut in
+    let c = h.short in
+    omega (arith, a, b, c)
+
+-- Laws of plan texts, where a text is cut into parts in one way.
+module _ (text : List ℕ) (one_cut : (a b : List Part) → AreParts text a → AreParts text b → a ≡ b) where
+  pub one_steps : (steps others : List Step) → HasSteps text steps → HasSteps text others → steps ≡ others
+  one_steps steps others h g =
+      one_list (placed_from 0 h.parts) steps others h.steps_of_parts
+      (subst (λ parts. AreSteps (placed_from 0 parts) others) (one_cut g.parts h.parts g.cut h.cut) g.steps_of_parts)
+
+  -- a text reads as at most one list
+  pub one_reading : (task : Task) (plan other : List Instance) → IsPlanText task text plan → IsPlanText task text other → plan ≡ other
+  one_reading task plan other (steps, has, mean) (others, had, meant) =
+      one_plan task steps plan other mean (subst (λ ss. AllMean task ss other) (one_steps others steps had has) meant)
+
+  -- the form of a plan text is not at fault
+  no_form_fault : (steps : List Step) (span : Span) → HasSteps text steps → IsFormFault text span → ⊥
+  no_form_fault steps span h (too_long long _ _) = let short = h.short in omega (arith, short)
+  no_form_fault steps span h (refused short parts cut before after word words_are begins dead _ _) =
+      let all = subst (λ ps. AreSteps (placed_from 0 ps) steps) (one_cut h.parts parts h.cut cut) h.steps_of_parts in
+      dead (after, steps, subst (λ ws. AreSteps ws steps) (words_are ∙ sym (append_assoc before (word ∷ []) after)) all)
+  no_form_fault steps span h (open_at_end short parts cut begins none _ _) =
+      none steps (subst (λ ps. AreSteps (placed_from 0 ps) steps) (one_cut h.parts parts h.cut cut) h.steps_of_parts)
+
+  -- no fault is told of a plan text
+  pub no_fault : (task : Task) (plan : List Instance) (fault : Fault) → IsPlanText task text plan → IsPlanFault task text fault → ⊥
+  no_fault task plan fault (steps, has, mean) (of_form span code) = no_form_fault steps fault.span has span
+  no_fault task plan fault (steps, has, mean) (of_step others before after step partial had are meant wrong) =
+      let same = one_steps steps others has had ∙ are in
+      let here = each_means task before after step plan (subst (λ ss. AllMean task ss plan) same mean) in
+      means_no_fault task step here.0 fault here.1 wrong
