@@ -46,7 +46,7 @@ one_plan task (step ∷ steps) (i ∷ a) (j ∷ b) h g =
     ap (λ k. k ∷ a) (one_meaning task step i j h.0 g.0) ∙ ap (λ ks. j ∷ ks) (one_plan task steps a b h.1 g.1)
 
 -- A step that means an instance is not at fault.
-numbers_length : (declared : List (List ℕ)) (names : List Name) (numbers : List ℕ) → AreNumbersOf declared names numbers → length names ≡ length numbers
+pub numbers_length : (declared : List (List ℕ)) (names : List Name) (numbers : List ℕ) → AreNumbersOf declared names numbers → length names ≡ length numbers
 numbers_length declared [] [] h = refl
 numbers_length declared [] (n ∷ ns) h = absurd h
 numbers_length declared (name ∷ names) [] h = absurd h

@@ -2,3 +2,4 @@ pub mod TypedLemmas
 pub mod NumbersLemmas
 pub mod ListingLemmas
 pub mod AnswerLemmas
+pub mod LoopLemmas

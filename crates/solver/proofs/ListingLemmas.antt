@@ -1,14 +1,13 @@
 -- The lines of the found states make a closed certificate.
-use Rattle.std.proofs.Common.{◌≡◌, ◌≢◌, ℕ, zero, suc, ◌+◌, ◌*◌, ◌<◌, ◌≤◌, Bool, true, false, ◌&&◌, ◌||◌, List, [], ◌∷◌, ◌++◌, length, map, take, get_or, Option, None, Some, inl, inr, refl, sym, ap, ◌∙◌, subst, arith}
-use Rattle.std.specs.Prelude.{nat_le, nat_lt, slice_get, Contains, All, AllPairs, IsTrue, if◌then◌else◌}
+use Rattle.std.proofs.Common.{◌≡◌, ◌≢◌, ℕ, zero, suc, ◌*◌, ◌<◌, ◌≤◌, Bool, true, false, ◌&&◌, ◌||◌, List, [], ◌∷◌, ◌++◌, length, map, get_or, Option, None, Some, inl, inr, refl, sym, ap, ◌∙◌, subst, arith}
+use Rattle.std.specs.Prelude.{nat_le, slice_get, All, AllPairs, IsTrue, if◌then◌else◌}
 use Rattle.std.specs.List.{list_any, list_all, filter_map}
 use Rattle.std.specs.List.Sorted.{IsStrictlySortedBy}
 use Rattle.std.specs.Option.{option_map_or}
 use Rattle.std.specs.declared.cmp.Ordering.TheVariants.{Less}
-use Rattle.std.specs.Ordering.{eq_by_cmp}
 use Rattle.std.specs.FinSet.{contains, from_list, contains-from_list}
 use Rattle.std.proofs.lemmas.Bool.{and_parts, and_from, cases_lt, cases_eq, lt-ltb, le-leb}
-use Rattle.std.proofs.lemmas.List.{length-map, append-nil}
+use Rattle.std.proofs.lemmas.List.{length-map}
 use Rattle.std.proofs.lemmas.Map.Keys.{Less-from_sorted}
 use Rattle.std.proofs.lemmas.Option.{get_or_from_slice_get}
 use Rattle.cert_checker.specs.declared.certificate.cert.StateLine as code_line
@@ -18,18 +17,17 @@ use Rattle.search.specs.Search as search
 use Rattle.search.specs.Search.{AreFound, IsReachableAt}
 use Rattle.search.specs.SearchStore.{AreDistinct}
 use Rattle.search.proofs.SearchLists.{get_exists, get_within}
-use Rattle.solver.specs.Listing.{stands_in, AreFluentIn, Names, IsLineFor, AreLinesFor, IsShownBy, AreMoreAtoms}
+use Rattle.solver.specs.Listing.{stands_in, AreFluentIn, Names, AreLinesFor, IsShownBy, AreMoreAtoms}
 use Rattle.solver.proofs.TypedLemmas.{reachable_typed}
 use Rattle.solver.proofs.NumbersLemmas.{stands_at, never_below_itself}
 use Rattle.model.specs.Task.{Task, Atom}
 use Rattle.model.specs.WellTyped.{is_task, is_atom}
 use Rattle.model.specs.Runs.{IsReachable}
-use Rattle.model.specs.Claims.{Claim, bound, Line, IsClosed}
+use Rattle.model.specs.Claims.{Claim, Line, IsClosed}
 use Rattle.model.specs.Meaning.{State, atom_cmp, system_of}
-use Rattle.model.specs.Certificates.{Certificate, StateLine, is_fluent, is_number, is_claim, is_state_line, keeps_limits, rise, static_atoms, state_of_line, lines_of, IsClosedFor}
+use Rattle.model.specs.Certificates.{Certificate, StateLine, is_fluent, is_number, is_claim, is_state_line, keeps_limits, rise, static_atoms, state_of_line, lines_of}
 use Rattle.model.proofs.Atoms.{atoms_total}
-use Rattle.model.proofs.StaticLemmas.{AreFluentAtoms, state_of_fluent}
-use Rattle.model.proofs.ListLemmas.{Contains-map}
+use Rattle.model.proofs.StaticLemmas.{state_of_fluent}
 
 -- ---- lists
 
@@ -154,6 +152,13 @@ states_apart states all one distinct i j d lt within is =
     let place = distinct i j s at_i (at_j ∙ ap Some same) in
     absurd (omega arith)
 
+pub reached : (task : Task) (claim : Claim) (most : ℕ) (states : List State) (all : List Reached) → AreFound (system_of task) claim most states all
+    → (k : ℕ) (s : State) → slice_get states k ≡ Some s → IsReachable (system_of task) s
+reached task claim most states all found k s at =
+    let (r, at_r) = get_exists all k (omega (arith, get_within states k s at, found.one_for_each)) in
+    let there = found.reachable k s r at at_r in
+    (there.0, there.1)
+
 pub shown_by : (task : Task) (well : is_task task ≡ true) (claim : Claim) (most : ℕ) (states : List State) (all : List Reached) (fluent : State) (atoms : List Atom) (lines : List code_line.StateLine) (certificate : Certificate)
     → AreFound (system_of task) claim most states all → AreFluentIn task states fluent → from_list atoms ≡ fluent → IsStrictlySortedBy atom_cmp atoms → AreLinesFor atoms states all lines
     → certificate ≡ record { claim = claim; atoms = atoms; lines = map line_of lines } → IsShownBy task claim certificate
@@ -172,10 +177,7 @@ shown_by task well claim most states all fluent atoms lines certificate found ar
     made = record { claim = claim; atoms = atoms; lines = map line_of lines }
 
     reachable : (k : ℕ) (s : State) → slice_get states k ≡ Some s → IsReachable (system_of task) s
-    reachable k s at =
-        let (r, at_r) = get_exists all k (omega (arith, get_within states k s at, found.one_for_each)) in
-        let there = found.reachable k s r at at_r in
-        (there.0, there.1)
+    reachable = reached task claim most states all found
 
     entry : StateLine → Line State
     entry l = record { state = state_of_line task made l; cost = l.cost; cut = l.cut }

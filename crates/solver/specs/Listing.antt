@@ -1,5 +1,5 @@
 -- What the certificate of a search's found states is made of.
-use Rattle.std.specs.Prelude.{◌≡◌, ℕ, Bool, true, ◌&&◌, ◌<◌, if◌then◌else◌, IsTrue, List, length, slice_get, Option, None, Some, Contains}
+use Rattle.std.specs.Prelude.{◌≡◌, ℕ, Bool, true, ◌&&◌, ◌<◌, if◌then◌else◌, IsTrue, List, length, slice_get, None, Some, Contains}
 use Rattle.std.specs.List.{list_any, filter_map}
 use Rattle.std.specs.Ordering.{eq_by_cmp}
 use Rattle.std.specs.FinSet.{contains}
@@ -10,7 +10,6 @@ use Rattle.model.specs.Task.{Task, Atom}
 use Rattle.model.specs.Runs.{IsReachable}
 use Rattle.model.specs.Claims.{Claim}
 use Rattle.model.specs.Meaning.{State, atom_cmp, system_of}
-use Rattle.model.specs.Certificates as certificates
 use Rattle.model.specs.Certificates.{Certificate, is_fluent, rise, IsClosedFor}
 
 -- the atom stands in the list

@@ -8,7 +8,7 @@ use crate::listing::cert_of;
 use cert_checker::certificate::{Cert, Claim};
 use search::{Outcome, best_first};
 use std::alloc::Global;
-use task_system::{PlainStore, instances_exceed};
+use task_system::{PlainStore, TaskSystem, instances_exceed};
 use tokens::NoMemory;
 use validator::formulas::Plan;
 use validator::typing::Task;
@@ -52,7 +52,8 @@ pub fn solve(alloc: Global, task: &Task, limits: Limits) -> Result<Answer, NoMem
     if instances_exceed(task, limits.instances()) {
         return Ok(Answer::Unknown(Limit::Instances));
     }
-    match best_first(alloc, task, PlainStore::new(alloc), limits.states())? {
+    let system = TaskSystem(task);
+    match best_first(alloc, &system, PlainStore::new(alloc), limits.states())? {
         Outcome::Found {
             steps,
             cost,
@@ -60,7 +61,7 @@ pub fn solve(alloc: Global, task: &Task, limits: Limits) -> Result<Answer, NoMem
         } => match cert_of(alloc, task, Claim::Bound(cost), &states)? {
             Some(cert) => match Plan::new(steps) {
                 Some(steps) => Ok(Answer::Plan { steps, cost, cert }),
-                None => Err(NoMemory),
+                None => unreachable!(),
             },
             None => Ok(Answer::Unknown(Limit::Atoms)),
         },

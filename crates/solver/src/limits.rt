@@ -1,5 +1,5 @@
 //! The limits of a search.
-ghost use Rattle.std.specs.Prelude.{IsTrue};
+ghost use Rattle.std.specs.Prelude.{◌≡◌, IsTrue};
 ghost use Rattle.solver.specs.Limit.{is_limit};
 
 /// The most that a limit may be.
@@ -15,7 +15,7 @@ pub struct Limits {
 }
 
 impl Limits {
-    ghost use Rattle.std.specs.Prelude.{◌≡◌, ◌&&◌, is_some, IfSome};
+    ghost use Rattle.std.specs.Prelude.{◌&&◌, is_some, IfSome};
 
     /// These limits, and `None` where one of them is out of range.
     pub fn new(states: u32, instances: u32) -> Option<Limits>

@@ -1,13 +1,17 @@
 //! The instances that the steps of a plan text name.
-ghost use Rattle.std.specs.Prelude.{◌≡◌, IsTrue, IfOk, IfSome, length, map};
-ghost use Rattle.std.specs.List.{list_all};
+ghost use Rattle.std.specs.Prelude.{◌≡◌, ◌<◌, ◌≤◌, ℕ, Some, IfOk, IfErr, IfSome, length, map, position, slice_get};
+ghost use Rattle.std.specs.Option.{option_map};
+ghost use Rattle.tokens.specs.Fault.{told_by};
 ghost use Rattle.validator.specs.Typing.{task_of};
+ghost use Rattle.validator.specs.TaskParts.{object_of, schema_id_of};
 ghost use Rattle.validator.specs.Formulas as view;
-ghost use Rattle.model.specs.Meaning.{is_instance};
-ghost use Rattle.model.specs.WellTyped.{is_object};
+ghost use Rattle.planner_main.specs.PlanFile.{step_of, name_of, IsFirstFault, IsUnknownObject};
+ghost use Rattle.model.specs.Task as model;
+ghost use Rattle.model.specs.Typing.{folded, is_same};
+ghost use Rattle.model.specs.PlanText.{Means, AllMean, AreNumbersOf, IsStepFault, schema_names};
 
 use super::text::Step;
-use pddl_tree::Name;
+use super::word::Word;
 use std::alloc::Global;
 use tokens::{Code, Fault, NoMemory};
 use validator::formulas::{Binding, Instance};
@@ -19,7 +23,8 @@ pub(super) fn instances_of(
     task: &Task,
     steps: &[Step<'_>],
 ) -> Result<Vec<Instance>, Fault>
-    ensures { IfOk result (λ found. IsTrue (list_all (is_instance (task_of task.now)) (map view.instance_of found.items))) }
+    ensures mean { IfOk result (λ found. AllMean (task_of task.now) (map step_of steps.now) (map view.instance_of found.items)) }
+    ensures refused { IfErr result (λ fault. IfSome (told_by fault) (IsFirstFault (task_of task.now) (map step_of steps.now))) }
 {
     let mut instances = Vec::new(alloc);
     for step in steps {
@@ -31,55 +36,56 @@ pub(super) fn instances_of(
 
 /// The instance of a step.
 fn instance_of(alloc: Global, task: &Task, step: &Step<'_>) -> Result<Instance, Fault>
-    ensures { IfOk result (λ i. IsTrue (is_instance (task_of task.now) (view.instance_of i))) }
+    ensures means { IfOk result (λ i. Means (task_of task.now) (step_of step.now) (view.instance_of i)) }
+    ensures refused { IfErr result (λ fault. IfSome (told_by fault) (IsStepFault (task_of task.now) (step_of step.now))) }
 {
-    let Some(schema) = schema_named(alloc, task, &step.action)? else {
-        return Err(refused(Code::UnknownAction, &step.action));
+    let Some(schema) = schema_named(alloc, task, step.action)? else {
+        return Err(step.action.refused(Code::UnknownAction));
     };
-    let Some(declared) = task.schema(schema) else {
-        return Err(refused(Code::UnknownAction, &step.action));
-    };
-    if step.objects.len() != declared.parameters {
-        return Err(refused(Code::StepArity, &step.action));
+    if step.objects.len() != parameters_of(task, schema) {
+        return Err(step.action.refused(Code::StepArity));
     }
-    let objects = objects_of(alloc, task, step)?;
+    let objects = objects_of(alloc, task, &step.objects)?;
     Ok(Instance { schema, objects })
 }
 
-/// The objects of a step, in order.
-fn objects_of(alloc: Global, task: &Task, step: &Step<'_>) -> Result<Binding, Fault>
-    ensures objects { IfOk result (λ found. IsTrue (list_all (λ o. is_object (task_of task.now) o.0) found.items)) }
-    ensures count { IfOk result (λ found. length found.items ≡ length step.now.objects.items) }
+/// How many parameters a schema of the task has.
+fn parameters_of(task: &Task, schema: SchemaId) -> usize
+    requires { schema.0 < length (task_of task.now).schemas }
+    ensures few { result ≤ 16 }
+    ensures count { option_map (λ s. s.parameters) (slice_get (task_of task.now).schemas schema.0) ≡ Some result }
+{
+    task.schema(schema).unwrap().parameters
+}
+
+/// The objects of these names, in order.
+fn objects_of(alloc: Global, task: &Task, names: &[Word<'_>]) -> Result<Binding, Fault>
+    requires { length names.now ≤ 16 }
+    ensures objects { IfOk result (λ found. AreNumbersOf (task_of task.now).objects (map name_of names.now) (map object_of found.items)) }
+    ensures refused { IfErr result (λ fault. IfSome (told_by fault) (IsUnknownObject (task_of task.now).objects (map name_of names.now))) }
 {
     let mut objects = Binding::new();
-    for name in &step.objects {
-        let Some(object) = object_named(alloc, task, name)? else {
-            return Err(refused(Code::StepType, name));
+    for name in names {
+        let Some(object) = object_named(alloc, task, *name)? else {
+            return Err(name.refused(Code::StepType));
         };
-        match objects.try_push(object) {
-            Ok(()) => {}
-            Err(_) => return Err(refused(Code::StepArity, &step.action)),
-        }
+        objects.push(object);
     }
     Ok(objects)
 }
 
-fn schema_named(alloc: Global, task: &Task, name: &Name<'_>) -> Result<Option<SchemaId>, NoMemory> {
-    let folded = name.text.to_ascii_lowercase(alloc)?;
+fn schema_named(alloc: Global, task: &Task, name: Word<'_>) -> Result<Option<SchemaId>, NoMemory>
+    ensures { IfOk result (λ found.
+        option_map schema_id_of found ≡ position (is_same (folded (name_of name.entry))) (schema_names (task_of task.now))) }
+{
+    let folded = name.text().to_ascii_lowercase(alloc)?;
     Ok(task.schema_named(folded.as_slice()))
 }
 
-fn object_named(alloc: Global, task: &Task, name: &Name<'_>) -> Result<Option<ObjectId>, NoMemory>
-    ensures { IfOk result (λ found. IfSome found (λ o. IsTrue (is_object (task_of task.now) o.0))) }
+fn object_named(alloc: Global, task: &Task, name: Word<'_>) -> Result<Option<ObjectId>, NoMemory>
+    ensures { IfOk result (λ found.
+        option_map object_of found ≡ position (is_same (folded (name_of name.entry))) (task_of task.now).objects) }
 {
-    let folded = name.text.to_ascii_lowercase(alloc)?;
-    match task.object_named(folded.as_slice()) {
-        Some(object) => Ok(Some(object)),
-        None => Ok(None),
-    }
-}
-
-fn refused(code: Code, name: &Name<'_>) -> Fault {
-    let span = name.span;
-    Fault::At { code, span }
+    let folded = name.text().to_ascii_lowercase(alloc)?;
+    Ok(task.object_named(folded.as_slice()))
 }

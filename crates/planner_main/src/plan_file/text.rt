@@ -1,148 +1,120 @@
 //! The form of a plan text.
-ghost use Rattle.std.specs.Prelude.{◌≡◌, ◌+◌, ◌<◌, ◌≤◌, length, IfOk, IsTrue};
+ghost use Rattle.std.specs.Prelude.{◌≡◌, map, IfOk, IfErr, IfSome};
+ghost use Rattle.tokens.specs.Fault.{told_by};
+ghost use Rattle.planner_main.specs.PlanFile.{step_of, IsRefusedForm};
+ghost use Rattle.model.specs.PlanText.{HasSteps};
 
-use pddl_tree::Name;
+use super::word::{Sort, Word, refusal};
 use std::alloc::Global;
-use tokens::{Code, Fault, Span};
-
-/// The most bytes of a plan text.
-const MAX_TEXT: usize = 16_777_216;
+use tokens::{Code, Fault, LONGEST_TEXT};
 
 /// A step as it stands in the text.
 #[derive(Drop)]
 pub(super) struct Step<'a> {
     /// The name of its action.
-    pub action: Name<'a>,
+    pub action: Word<'a>,
     /// The names of its objects, in order.
-    pub objects: Vec<Name<'a>>,
+    pub objects: Vec<Word<'a>>,
+}
+
+/// Where in a plan text a word stands.
+#[derive(Drop)]
+enum Place<'a> {
+    /// Outside of steps.
+    Outside,
+    /// After the `(` of a step.
+    Opened,
+    /// After the names of an action and of some objects.
+    Inside(Step<'a>),
+}
+
+/// What a word does.
+#[derive(Drop)]
+enum Turn<'a> {
+    /// The step goes on.
+    Goes(Place<'a>),
+    /// It ends.
+    Ends(Step<'a>),
+}
+
+impl<'a> Place<'a> {
+    ghost use Rattle.planner_main.specs.PlanFile.{place_of, turn_of, sort_of, name_of, span_of, TellsStop};
+    ghost use Rattle.model.proofs.PlanMachine.{turn};
+
+    /// What this word does here, or its refusal.
+    fn after(self, alloc: Global, word: Word<'a>) -> Result<Turn<'a>, Fault>
+        ensures goes_on { IfOk result (λ next.
+            turn (place_of self.entry) (sort_of word.entry.sort) (name_of word.entry) ≡ turn_of next) }
+        ensures refused { IfErr result (λ fault. IfSome (told_by fault)
+            (TellsStop (turn (place_of self.entry) (sort_of word.entry.sort) (name_of word.entry)) (span_of word.entry))) }
+    {
+        match self {
+            Place::Outside => match word.sort {
+                Sort::Open => Ok(Turn::Goes(Place::Opened)),
+                Sort::Close | Sort::Name | Sort::Other => Err(word.refused(Code::PlanForm)),
+            },
+            Place::Opened => match word.sort {
+                Sort::Name => {
+                    let objects = Vec::new(alloc);
+                    Ok(Turn::Goes(Place::Inside(Step {
+                        action: word,
+                        objects,
+                    })))
+                }
+                Sort::Open | Sort::Close | Sort::Other => Err(word.refused(Code::PlanForm)),
+            },
+            Place::Inside(step) => step.after(word),
+        }
+    }
+}
+
+impl<'a> Step<'a> {
+    ghost use Rattle.planner_main.specs.PlanFile.{turn_of, sort_of, name_of, span_of, TellsStop};
+    ghost use Rattle.model.proofs.PlanMachine.{turn, inside};
+
+    /// What this word does to a step that is open, or its refusal.
+    fn after(mut self, word: Word<'a>) -> Result<Turn<'a>, Fault>
+        ensures goes_on { IfOk result (λ next.
+            turn (inside (name_of self.entry.action) (map name_of self.entry.objects.items)) (sort_of word.entry.sort) (name_of word.entry)
+            ≡ turn_of next) }
+        ensures refused { IfErr result (λ fault. IfSome (told_by fault)
+            (TellsStop (turn (inside (name_of self.entry.action) (map name_of self.entry.objects.items)) (sort_of word.entry.sort) (name_of word.entry))
+            (span_of word.entry))) }
+    {
+        match word.sort {
+            Sort::Close => Ok(Turn::Ends(self)),
+            Sort::Name => {
+                self.objects.push(word)?;
+                Ok(Turn::Goes(Place::Inside(self)))
+            }
+            Sort::Open | Sort::Other => Err(word.refused(Code::PlanForm)),
+        }
+    }
 }
 
 /// The steps of a whole text.
-pub(super) fn steps_of<'a>(alloc: Global, text: &'a [u8]) -> Result<Vec<Step<'a>>, Fault> {
-    if text.len() > MAX_TEXT {
-        return Err(refused(MAX_TEXT, text.len()));
+pub(super) fn steps_of<'a>(alloc: Global, text: &'a [u8]) -> Result<Vec<Step<'a>>, Fault>
+    ensures steps { IfOk result (λ steps. HasSteps text.now (map step_of steps.items)) }
+    ensures refused { IfErr result (λ fault. IfSome (told_by fault) (IsRefusedForm text.now)) }
+{
+    if text.len() > LONGEST_TEXT {
+        return Err(refusal(Code::PlanForm, LONGEST_TEXT, text.len()));
     }
     let mut steps = Vec::new(alloc);
-    let mut at = after_gap(text, 0);
-    'steps: while at < text.len() {
-        let (step, end) = step_at(alloc, text, at)?;
-        steps.push(step)?;
-        at = after_gap(text, end);
-    }
-    Ok(steps)
-}
-
-/// The step that begins at this place, and the offset after it.
-fn step_at<'a>(alloc: Global, text: &'a [u8], at: usize) -> Result<(Step<'a>, usize), Fault>
-    requires { at < length text.now }
-    ensures { IfOk result (λ found. (at < found.1) × (found.1 ≤ length text.now)) }
-{
-    if text[at] != b'(' {
-        return Err(refused_at(text, at));
-    }
-    let (action, end) = name_at(text, after_gap(text, at + 1))?;
-    let mut objects = Vec::new(alloc);
-    let mut next = after_gap(text, end);
-    'objects: while next < text.len() {
-        if text[next] == b')' {
-            return Ok((Step { action, objects }, next + 1));
+    let mut place = Place::Outside;
+    let mut at = 0;
+    'words: while let Some(word) = Word::first_from(text, at) {
+        match place.after(alloc, word)? {
+            Turn::Goes(next) => place = next,
+            Turn::Ends(step) => {
+                steps.push(step)?;
+                place = Place::Outside;
+            }
         }
-        let (object, end) = name_at(text, next)?;
-        objects.push(object)?;
-        next = after_gap(text, end);
+        at = word.end();
     }
-    Err(refused_at(text, next))
-}
-
-/// The name that begins at this place, and the offset after it.
-fn name_at<'a>(text: &'a [u8], at: usize) -> Result<(Name<'a>, usize), Fault>
-    requires { at ≤ length text.now }
-    ensures { IfOk result (λ found. (at < found.1) × (found.1 ≤ length text.now)) }
-{
-    let end = run_end(text, at);
-    let run = &text[at..end];
-    if !is_name(run) {
-        return Err(refused_at(text, at));
+    match place {
+        Place::Outside => Ok(steps),
+        Place::Opened | Place::Inside(_) => { Err(refusal(Code::PlanForm, text.len(), text.len())) }
     }
-    let span = Span { start: at, end };
-    Ok((Name { text: run, span }, end))
-}
-
-/// The offset after the blanks and comments that begin at this place.
-fn after_gap(text: &[u8], at: usize) -> usize
-    requires { at ≤ length text.now }
-    ensures from { at ≤ result }
-    ensures within { result ≤ length text.now }
-{
-    let mut in_comment = false;
-    for i in at..text.len() {
-        let byte = text[i];
-        if in_comment {
-            in_comment = byte != b'\n';
-        } else if byte == b';' {
-            in_comment = true;
-        } else if !is_blank(byte) {
-            return i;
-        }
-    }
-    text.len()
-}
-
-/// The offset after the run of printable bytes that begins at this place: the place where there is none.
-fn run_end(text: &[u8], at: usize) -> usize
-    requires { at ≤ length text.now }
-    ensures from { at ≤ result }
-    ensures within { result ≤ length text.now }
-{
-    for i in at..text.len() {
-        if !is_run_byte(text[i]) {
-            return i;
-        }
-    }
-    text.len()
-}
-
-/// The refusal of what begins at this place: a run, a parenthesis, a stray byte, or the end of the text.
-fn refused_at(text: &[u8], at: usize) -> Fault
-    requires { at ≤ length text.now }
-{
-    let end = run_end(text, at);
-    if end == at && at < text.len() {
-        refused(at, at + 1)
-    } else {
-        refused(at, end)
-    }
-}
-
-fn refused(start: usize, end: usize) -> Fault {
-    let span = Span { start, end };
-    Fault::At {
-        code: Code::PlanForm,
-        span,
-    }
-}
-
-/// Space, tab, line feed or carriage return.
-fn is_blank(byte: u8) -> bool {
-    matches!(byte, b' ' | b'\t' | b'\n' | b'\r')
-}
-
-/// A printable byte that is no parenthesis and begins no comment.
-fn is_run_byte(byte: u8) -> bool {
-    byte.is_ascii_graphic() && byte != b'(' && byte != b')' && byte != b';'
-}
-
-/// A letter, and then letters, digits, `-` and `_`.
-fn is_name(run: &[u8]) -> bool
-    ensures { IsTrue result → 0 < length run.now }
-{
-    match run.split_first() {
-        Some((first, rest)) => first.is_ascii_alphabetic()
-            && rest.iter().all(|byte| is_name_byte(*byte)),
-        None => false,
-    }
-}
-
-fn is_name_byte(byte: u8) -> bool {
-    byte.is_ascii_alphanumeric() || byte == b'-' || byte == b'_'
 }

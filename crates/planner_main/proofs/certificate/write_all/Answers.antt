@@ -1,4 +1,4 @@
-use Rattle.std.proofs.Common.{◌≡◌, ◌++◌, ◌∙◌, take, sym, ap, append_assoc, take-append-drop, drop}
+use Rattle.std.proofs.Common.{◌++◌, ◌∙◌, take, sym, ap, append_assoc, take-append-drop, drop}
 use Rattle.std.proofs.lemmas.List.{take_rest}
 use Rattle.std.proofs.KnownBytes.{Appends-trans}
 use Rattle.planner_main.proofs.certificate.write_all.Goals as goal

@@ -1,4 +1,4 @@
-use Rattle.std.proofs.Common.{◌≡◌, ◌++◌, ◌∙◌, take, sym, ap, subst, arith, length, ◌≤◌, length-take}
+use Rattle.std.proofs.Common.{◌∙◌, take, sym, subst, arith, length, ◌≤◌, length-take}
 use Rattle.std.specs.Io.KnownBytes.{Consumes}
 use Rattle.std.proofs.KnownBytes.{Consumes-trans}
 use Rattle.planner_main.proofs.program.read_text.Goals as goal

@@ -1,10 +1,10 @@
-use Rattle.std.proofs.Common.{◌≡◌, true, map}
-use Rattle.std.specs.List.{list_all}
+use Rattle.std.proofs.Common.{map, take}
 use Rattle.validator.specs.Typing.{task_of}
 use Rattle.validator.specs.Formulas.{instance_of}
-use Rattle.model.specs.Meaning.{is_instance}
+use Rattle.model.specs.PlanText.{AllMean}
+use Rattle.planner_main.specs.PlanFile.{step_of}
 use Rattle.planner_main.proofs.plan_file.steps.instances_of.Given as goal
 
--- the instances so far are the task's
+-- the instances so far are those of the steps so far
 abbrev pub invariant-loop-step : goal.invariant-loop-step
-invariant-loop-step l = list_all (is_instance (task_of l.task)) (map instance_of l.instances.items) ≡ true
+invariant-loop-step l = AllMean (task_of l.task) (map step_of (take l.step-index l.steps)) (map instance_of l.instances.items)

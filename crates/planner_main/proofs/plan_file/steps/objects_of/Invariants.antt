@@ -1,9 +1,13 @@
-use Rattle.std.proofs.Common.{◌≡◌, true, length}
-use Rattle.std.specs.List.{list_all}
+use Rattle.std.proofs.Common.{◌≡◌, length, map, take}
 use Rattle.validator.specs.Typing.{task_of}
-use Rattle.model.specs.WellTyped.{is_object}
+use Rattle.validator.specs.TaskParts.{object_of}
+use Rattle.model.specs.PlanText.{AreNumbersOf}
+use Rattle.planner_main.specs.PlanFile.{name_of}
 use Rattle.planner_main.proofs.plan_file.steps.objects_of.Given as goal
 
--- the objects so far are the task's, one for each name so far
+-- the objects so far are those of the names so far
 abbrev pub invariant-loop-name : goal.invariant-loop-name
-invariant-loop-name l = (list_all (λ o. is_object (task_of l.task) o.0) l.objects.items ≡ true) × (length l.objects.items ≡ l.name-index)
+invariant-loop-name l = record {
+  are : AreNumbersOf (task_of l.task).objects (map name_of (take l.name-index l.names)) (map object_of l.objects.items);
+  count : length l.objects.items ≡ l.name-index;
+}

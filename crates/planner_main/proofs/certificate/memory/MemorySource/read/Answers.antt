@@ -1,4 +1,4 @@
-use Rattle.std.proofs.Common.{◌≡◌, ℕ, ◌+◌, ◌<◌, ◌≤◌, List, [], ◌++◌, ◌∙◌, length, take, drop, sym, ap, arith, take-append-drop, drop_of_length-le, take_at, length-append, length-drop, length-take-le, min, ◌-◌}
+use Rattle.std.proofs.Common.{◌≡◌, ℕ, ◌+◌, ◌<◌, List, [], ◌++◌, ◌∙◌, length, take, drop, sym, ap, arith, take-append-drop, drop_of_length-le, take_at, length-append, length-drop, length-take-le, min, ◌-◌}
 use Rattle.std.proofs.lemmas.List.{drop-drop, take_rest}
 use Rattle.planner_main.proofs.certificate.memory.MemorySource.read.Goals as goal
 

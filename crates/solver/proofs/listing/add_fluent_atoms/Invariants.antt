@@ -1,0 +1,15 @@
+use Rattle.std.proofs.Common.{◌≡◌, ◌||◌, ◌&&◌, map}
+use Rattle.std.specs.FinSet.{contains}
+use Rattle.validator.specs.Typing.{task_of}
+use Rattle.validator.specs.TaskParts.{atom_of}
+use Rattle.validator.specs.Formulas.{state_of}
+use Rattle.model.specs.Task.{Atom}
+use Rattle.model.specs.Certificates.{is_fluent}
+use Rattle.solver.specs.Listing.{stands_in}
+use Rattle.solver.proofs.listing.add_fluent_atoms.Given as goal
+
+-- what was added, with the fluent ones of the atoms that are left, is all
+abbrev pub invariant-loop-atom : goal.invariant-loop-atom
+invariant-loop-atom l =
+    (q : Atom) → (contains (state_of l.atoms) q || (is_fluent (task_of l.task) q.predicate && stands_in (map atom_of l.atom-iterator) q))
+    ≡ (contains (state_of l.initial.atoms) q || (is_fluent (task_of l.task) q.predicate && stands_in (map atom_of l.initial.atom-iterator) q))

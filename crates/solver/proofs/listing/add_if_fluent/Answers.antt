@@ -1,0 +1,31 @@
+use Rattle.std.proofs.Common.{sym, ap, ◌∙◌}
+use Rattle.std.specs.List.{each_same}
+use Rattle.std.specs.FinSet.{insert}
+use Rattle.validator.specs.Typing.{task_of}
+use Rattle.validator.specs.TaskParts.{atom_of}
+use Rattle.validator.specs.Formulas.{state_of}
+use Rattle.validator.proofs.FormulasStates.{copied}
+use Rattle.solver.proofs.LoopLemmas.{there_already, static_skipped, fluent_added}
+use Rattle.solver.proofs.listing.add_if_fluent.Goals as goal
+use Rattle.solver.proofs.listing.add_if_fluent.Goals.{then-contains-via-then-contains, then-contains-via-else-contains+then-not-is_fluent}
+
+pub returns-then-contains : goal.returns-then-contains
+returns-then-contains c =
+    λ q.
+    let task = task_of c.args.task.now in
+    let state = state_of c.args.atoms.now in
+    let atom = atom_of c.args.atom.now in
+    elim c.then-contains.branch [
+      | then-contains-via-then-contains w ↦ there_already task state atom q (sym w.if-contains.true ∙ c.contains.ensures)
+      | then-contains-via-else-contains+then-not-is_fluent w ↦ static_skipped task state atom q (sym w.if-not-is_fluent.true ∙ w.is_fluent.ensures)
+    ]
+
+pub returns : goal.returns
+returns c =
+    λ q.
+    let task = task_of c.args.task.now in
+    let state = state_of c.args.atoms.now in
+    let atom = c.args.atom.now in
+    let copy = c.in_ok-clone.field-0 in
+    let same = copied atom copy c.in_ok-clone.ensures.cases.0 (each_same atom.objects.items copy.objects.items c.in_ok-clone.ensures.cases.1) in
+    fluent_added task state (state_of c.insert.new.self) (atom_of atom) q (sym c.if-not-is_fluent.false ∙ c.is_fluent.ensures) (c.in_ok-insert.ensures ∙ ap (insert state) same)
