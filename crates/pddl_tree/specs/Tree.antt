@@ -73,3 +73,12 @@ problem_of p = record {
   init = map fact_of p.init.items;
   goal = formula_of p.goal;
 }
+
+-- lists of parts, in order
+abbrev pub formulas_in : List Formula → tree.Formulas
+formulas_in [] = tree.no_formula
+formulas_in (first ∷ rest) = tree.more_formulas (formula_of first) (formulas_in rest)
+
+abbrev pub effects_in : List Effect → tree.Effects
+effects_in [] = tree.no_effect
+effects_in (first ∷ rest) = tree.more_effects (effect_of first) (effects_in rest)

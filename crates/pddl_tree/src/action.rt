@@ -1,11 +1,22 @@
 //! Actions, from the word after `:action` on.
-ghost use Rattle.std.specs.Prelude.{◌<◌, ◌≤◌, IfOk, OnSome, length};
+ghost use Rattle.std.specs.Prelude.{◌≡◌, ◌<◌, ◌≤◌, IfOk, IfErr, OnSome, Some, length, true, false, cond, ◌||◌, ◌&&◌, not};
+ghost use Rattle.std.specs.Option.{option_map};
+ghost use Rattle.model.specs.Grammar.{no_parts};
+ghost use Rattle.model.specs.Trees as model_tree;
+ghost use Rattle.model.proofs.GrammarMachine.{wants_action, wants_parts, wants_value, part_of, has_part};
+ghost use Rattle.pddl_tree.specs.Ahead.{from, opens_first, closes_first};
+ghost use Rattle.pddl_tree.specs.Reading.{IsRead, IsTold, Leads};
+ghost use Rattle.pddl_tree.specs.Refusal.{told, code_first};
+ghost use Rattle.pddl_tree.specs.Sections.{part_view, parts_of, part_first, value_code};
+ghost use Rattle.pddl_tree.specs.Symbol.{keyword_view};
+ghost use Rattle.pddl_tree.specs.Tree.{action_of};
 
 use crate::effects::effect;
 use crate::formulas::formula;
 use crate::lists::variables;
 use crate::refusal::{Refusal, refused, refused_keyword};
-use crate::symbol::{Symbol, is_close, is_open, name_at, symbol_at};
+use crate::ahead::{is_close, is_open, keyword_at, name_at};
+use crate::symbol::Keyword;
 use crate::tree::{Action, Effect, Formula, Name};
 use std::alloc::Global;
 use tokens::{Code, Word};
@@ -18,6 +29,20 @@ enum Part {
     Effect,
 }
 
+impl Part {
+    /// The part that a keyword begins.
+    fn of(keyword: Keyword) -> Option<Part>
+        ensures { option_map part_view result ≡ part_of (keyword_view keyword) }
+    {
+        match keyword {
+            Keyword::Parameters => Some(Part::Parameters),
+            Keyword::Precondition => Some(Part::Precondition),
+            Keyword::Effect => Some(Part::Effect),
+            _ => None,
+        }
+    }
+}
+
 /// The parts of an action that were read so far.
 #[derive(Drop)]
 struct Parts<'a> {
@@ -28,7 +53,9 @@ struct Parts<'a> {
 
 impl Parts<'_> {
     /// Whether this part was read.
-    fn has(&self, part: Part) -> bool {
+    fn has(&self, part: Part) -> bool
+        ensures { result ≡ has_part (parts_of self.now) (part_view part) }
+    {
         match part {
             Part::Parameters => self.parameters.is_some(),
             Part::Precondition => self.precondition.is_some(),
@@ -39,14 +66,11 @@ impl Parts<'_> {
 
 /// The part whose keyword stands at an index.
 fn part_at(words: &[Word], at: usize) -> Option<Part>
-    ensures { OnSome result (at < length words.now) }
+    ensures within { OnSome result (at < length words.now) }
+    ensures first { option_map part_view result ≡ part_first (from words.now at) }
 {
-    match symbol_at(words, at) {
-        Symbol::Parameters => Some(Part::Parameters),
-        Symbol::Precondition => Some(Part::Precondition),
-        Symbol::Effect => Some(Part::Effect),
-        _ => None,
-    }
+    let keyword = keyword_at(words, at)?;
+    Part::of(keyword)
 }
 
 /// An action whose `:action` was read, and the index after its `)`.
@@ -55,7 +79,9 @@ pub(crate) fn action<'a>(
     words: &[Word<'a>],
     at: usize,
 ) -> Result<(Action<'a>, usize), Refusal>
-    ensures { IfOk result (λ r. at < r.1) }
+    ensures after { IfOk result (λ r. at < r.1) }
+    ensures read { IfOk result (λ r. IsRead wants_action (from words.now at) (action_of r.0) (from words.now r.1)) }
+    ensures told { IfErr result (λ refusal. IsTold wants_action words.now at refusal) }
 {
     let Some(name) = name_at(words, at) else {
         return Err(refused_in_action(words, at, false));
@@ -89,6 +115,10 @@ fn read_parts<'a>(
 ) -> Result<(Parts<'a>, usize), Refusal>
     ensures after { IfOk result (λ r. at ≤ r.1) }
     ensures within { IfOk result (λ r. r.1 < length words.now) }
+    ensures closes { IfOk result (λ r. closes_first (from words.now r.1) ≡ true) }
+    ensures read { IfOk result (λ r. (n : model_tree.Name) →
+        Leads (wants_parts n no_parts) (from words.now at) (wants_parts n (parts_of r.0)) (from words.now r.1)) }
+    ensures told { IfErr result (λ refusal. (n : model_tree.Name) → IsTold (wants_parts n no_parts) words.now at refusal) }
 {
     let mut parts = Parts {
         parameters: None,
@@ -122,7 +152,11 @@ fn value<'a>(
     part: Part,
     mut parts: Parts<'a>,
 ) -> Result<(Parts<'a>, usize), Refusal>
-    ensures { IfOk result (λ r. at < r.1) }
+    ensures after { IfOk result (λ r. at < r.1) }
+    ensures read { IfOk result (λ r. (n : model_tree.Name) →
+        Leads (wants_value n (part_view part) (parts_of parts.entry)) (from words.now at) (wants_parts n (parts_of r.0)) (from words.now r.1)) }
+    ensures told { IfErr result (λ refusal. (n : model_tree.Name) →
+        IsTold (wants_value n (part_view part) (parts_of parts.entry)) words.now at refusal) }
 {
     if !is_open(words, at) {
         return Err(refused_value(words, at, part, &parts));
@@ -147,7 +181,9 @@ fn value<'a>(
 }
 
 /// The refusal of a word in the list of an action: `)` where the parameters are missing, or any other.
-fn refused_in_action(words: &[Word], at: usize, has_parameters: bool) -> Refusal {
+fn refused_in_action(words: &[Word], at: usize, has_parameters: bool) -> Refusal
+    ensures { told result ≡ Some (cond (not has_parameters && closes_first (from words.now at)) 10 (code_first (from words.now at)), at) }
+{
     if !has_parameters && is_close(words, at) {
         return Refusal::At {
             code: Code::MissingSection,
@@ -158,7 +194,9 @@ fn refused_in_action(words: &[Word], at: usize, has_parameters: bool) -> Refusal
 }
 
 /// The refusal of a word where the value of a part is wanted: the keyword of a part that was read, or any other.
-fn refused_value(words: &[Word], at: usize, part: Part, parts: &Parts) -> Refusal {
+fn refused_value(words: &[Word], at: usize, part: Part, parts: &Parts) -> Refusal
+    ensures { told result ≡ Some (value_code (parts_of parts.now) (part_view part) (from words.now at), at) }
+{
     if let Some(again) = part_at(words, at) {
         if again == part || parts.has(again) {
             return Refusal::At {
