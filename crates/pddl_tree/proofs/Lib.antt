@@ -1,2 +1,3 @@
+pub mod Here
 pub mod Looks
 pub mod ReadOn

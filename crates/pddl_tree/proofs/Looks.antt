@@ -1,11 +1,22 @@
 -- What the machine does at the first of some words, told from what stands there.
-use Rattle.std.proofs.Common.{◌≡◌, ◌≢◌, ℕ, suc, ◌+◌, ◌<◌, ◌≤◌, Bool, true, false, List, [], ◌∷◌, ◌++◌, map, drop, length, Option, None, Some, refl, sym, ◌∙◌, ap}
+use Rattle.std.proofs.Common.{◌≡◌, ◌≢◌, ℕ, zero, suc, add-one, ◌+◌, ◌<◌, ◌≤◌, Bool, true, false, List, [], ◌∷◌, ◌++◌, map, drop, length, Option, None, Some, refl, sym, ◌∙◌, ap}
 use Rattle.model.specs.Trees.{Name, Term, Formula, Formulas, Effect, Effects, Atom, Predicate, Fact}
 use Rattle.model.specs.Trees as tree
-use Rattle.model.specs.GrammarWords.{Token, opens, closes, name, variable, keyword, other, free, reserved, and, not}
+use Rattle.model.specs.GrammarWords.{Token, opens, closes, name, variable, keyword, other, free, ReservedName, reserved, and, not, left_out_name, other_reserved}
 use Rattle.model.proofs.GrammarMachine.{State, run, stopped, wants_open, wants_close, wants_name, wants_names, wants_variables, wants_terms, wants_formulas, wants_effects, wants_predicates, wants_facts, wants_formula, wants_effect, wants_atom, wants_predicate, wants_fact, atom_from}
-use Rattle.pddl_tree.specs.Ahead.{rest_of, opens_first, closes_first, name_first, variable_first, term_first, head_first, HeadView, and_head, not_head, predicate_head, other_head}
+use Rattle.tokens.specs.declared.word.Word.{Word}
+use Rattle.pddl_tree.specs.Ahead.{token, from, rest_of, opens_first, closes_first, name_first, variable_first, term_first, head_first, head_by, HeadView, and_head, not_head, predicate_head, other_head}
 use Rattle.pddl_tree.specs.Refusal.{code_first}
+
+rest-drop : (n : ℕ) (w : List Token) → rest_of (drop n w) ≡ drop (suc n) w
+rest-drop zero [] = refl
+rest-drop zero (t ∷ w) = refl
+rest-drop (suc n) [] = refl
+rest-drop (suc n) (t ∷ w) = rest-drop n w
+
+-- after the first word stand the words from the next index on
+pub stepped : (words : List Word) (at : ℕ) (s : State) → run (rest_of (from words at)) s ≡ run (from words (at + 1)) s
+stepped words at s = ap (λ w. run w s) (rest-drop at (map token words) ∙ ap (λ i. drop i (map token words)) (sym (add-one at)))
 
 -- names
 pub names_more : (w : List Token) (n : Name) (k : List Name → State) → Some n ≡ name_first w → run w (wants_names k) ≡ run (rest_of w) (wants_names (λ ns. k (n ∷ ns)))
@@ -139,12 +150,19 @@ name_stop (name label m ∷ w) k e = absurd (cc)
 name_stop (t ∷ w) k e = refl
 
 -- heads
+not_predicate : (l : ReservedName) (m n : Name) → predicate_head n ≡ head_by (reserved l) m → ⊥
+not_predicate and m n e = cc
+not_predicate not m n e = cc
+not_predicate left_out_name m n e = cc
+not_predicate other_reserved m n e = cc
+
 pub formula_and : (w : List Token) (k : Formula → State) → and_head ≡ head_first w → run w (wants_formula k) ≡ run (rest_of w) (wants_formulas (λ fs. k (tree.and fs)))
 formula_and (name (reserved and) m ∷ w) k e = refl
 formula_and w k e = absurd (cc)
 
 pub formula_atom : (w : List Token) (n : Name) (k : Formula → State) → predicate_head n ≡ head_first w → run w (wants_formula k) ≡ run (rest_of w) (wants_terms (λ ts. k (tree.atom (atom_from n ts))))
 formula_atom (name (free f) m ∷ w) n k e = let same : m ≡ n = cc in ap (λ x. run w (wants_terms (λ ts. k (tree.atom (atom_from x ts))))) same
+formula_atom (name (reserved l) m ∷ w) n k e = absurd (not_predicate l m n e)
 formula_atom w n k e = absurd (cc)
 
 pub formula_stop : (w : List Token) (h : HeadView) (k : Formula → State) → h ≡ head_first w → h ≢ and_head → ((n : Name) → h ≢ predicate_head n) → run w (wants_formula k) ≡ stopped (code_first w) w
@@ -163,6 +181,7 @@ effect_not w k e = absurd (cc)
 
 pub effect_atom : (w : List Token) (n : Name) (k : Effect → State) → predicate_head n ≡ head_first w → run w (wants_effect k) ≡ run (rest_of w) (wants_terms (λ ts. k (tree.add (atom_from n ts))))
 effect_atom (name (free f) m ∷ w) n k e = let same : m ≡ n = cc in ap (λ x. run w (wants_terms (λ ts. k (tree.add (atom_from x ts))))) same
+effect_atom (name (reserved l) m ∷ w) n k e = absurd (not_predicate l m n e)
 effect_atom w n k e = absurd (cc)
 
 pub effect_stop : (w : List Token) (k : Effect → State) → other_head ≡ head_first w → run w (wants_effect k) ≡ stopped (code_first w) w
@@ -174,6 +193,7 @@ effect_stop (t ∷ w) k e = refl
 
 pub atom_more : (w : List Token) (n : Name) (k : Atom → State) → predicate_head n ≡ head_first w → run w (wants_atom k) ≡ run (rest_of w) (wants_terms (λ ts. k (atom_from n ts)))
 atom_more (name (free f) m ∷ w) n k e = let same : m ≡ n = cc in ap (λ x. run w (wants_terms (λ ts. k (atom_from x ts)))) same
+atom_more (name (reserved l) m ∷ w) n k e = absurd (not_predicate l m n e)
 atom_more w n k e = absurd (cc)
 
 pub atom_stop : (w : List Token) (h : HeadView) (k : Atom → State) → h ≡ head_first w → ((n : Name) → h ≢ predicate_head n) → run w (wants_atom k) ≡ stopped (code_first w) w
@@ -183,6 +203,7 @@ atom_stop (t ∷ w) h k e p = refl
 
 pub predicate_more : (w : List Token) (n : Name) (k : Predicate → State) → predicate_head n ≡ head_first w → run w (wants_predicate k) ≡ run (rest_of w) (wants_variables (λ ns. k (record { name = n; parameters = ns })))
 predicate_more (name (free f) m ∷ w) n k e = let same : m ≡ n = cc in ap (λ x. run w (wants_variables (λ ns. k (record { name = x; parameters = ns })))) same
+predicate_more (name (reserved l) m ∷ w) n k e = absurd (not_predicate l m n e)
 predicate_more w n k e = absurd (cc)
 
 pub predicate_stop : (w : List Token) (h : HeadView) (k : Predicate → State) → h ≡ head_first w → ((n : Name) → h ≢ predicate_head n) → run w (wants_predicate k) ≡ stopped (code_first w) w
@@ -192,6 +213,7 @@ predicate_stop (t ∷ w) h k e p = refl
 
 pub fact_more : (w : List Token) (n : Name) (k : Fact → State) → predicate_head n ≡ head_first w → run w (wants_fact k) ≡ run (rest_of w) (wants_names (λ ns. k (record { predicate = n; objects = ns })))
 fact_more (name (free f) m ∷ w) n k e = let same : m ≡ n = cc in ap (λ x. run w (wants_names (λ ns. k (record { predicate = x; objects = ns })))) same
+fact_more (name (reserved l) m ∷ w) n k e = absurd (not_predicate l m n e)
 fact_more w n k e = absurd (cc)
 
 pub fact_stop : (w : List Token) (h : HeadView) (k : Fact → State) → h ≡ head_first w → ((n : Name) → h ≢ predicate_head n) → run w (wants_fact k) ≡ stopped (code_first w) w

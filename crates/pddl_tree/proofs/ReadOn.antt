@@ -34,16 +34,16 @@ pub on_more : {A T V : Type 0} (wants : (T → State) → State) (cons : A → T
     → IsReadOn wants cons w (map view items) r → items' ≡ items ++ x ∷ []
     → ((k : T → State) → run r (wants k) ≡ run r' (wants (λ t. k (cons (view x) t))))
     → IsReadOn wants cons w (map view items') r'
-on_more wants cons view w r r' items items' x h e one =
+on_more {A} {T} {V} wants cons view w r r' items items' x h e one =
     let same : map view items' ≡ map view items ++ view x ∷ [] = ap (map view) e ∙ map-append view items (x ∷ []) in
-    let more = λ t. joined-more cons (map view items) (view x) t ∙ ap (λ xs. joined cons xs t) (sym same) in
+    let more : (t : T) → joined cons (map view items) (cons (view x) t) ≡ joined cons (map view items') t = λ t. joined-more cons (map view items) (view x) t ∙ ap (λ xs. joined cons xs t) (sym same) in
     record { goes = λ k. h.goes k ∙ one (λ t. k (joined cons (map view items) t)) ∙ ap (λ f. run r' (wants f)) (λ i t. k (more t i)) }
 
-pub on_end : {A T : Type 0} (wants : (T → State) → State) (cons : A → T → T) (w r r' : List Token) (done : List A) (nil : T)
-    → IsReadOn wants cons w done r → ((k : T → State) → run r (wants k) ≡ run r' (k nil))
-    → IsRead wants w (joined cons done nil) r'
-on_end wants cons w r r' done nil h one =
-    record { runs = λ k. h.goes k ∙ one (λ t. k (joined cons done t)) }
+pub on_end : {A T : Type 0} (wants : (T → State) → State) (cons : A → T → T) (w r r' : List Token) (done : List A) (nil all : T)
+    → IsReadOn wants cons w done r → ((k : T → State) → run r (wants k) ≡ run r' (k nil)) → joined cons done nil ≡ all
+    → IsRead wants w all r'
+on_end wants cons w r r' done nil all h one e =
+    record { runs = λ k. h.goes k ∙ one (λ t. k (joined cons done t)) ∙ ap (λ t. run r' (k t)) e }
 
 -- where a refusal tells of these words
 pub told_here : (words : List Word) (at : ℕ) (state : State) (refusal : Refusal) (code place : ℕ) → told refusal ≡ Some (code, place) → run (from words at) state ≡ stopped code (from words place) → StopsAs words at state refusal

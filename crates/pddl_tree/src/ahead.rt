@@ -2,10 +2,12 @@
 ghost use Rattle.std.specs.Prelude.{◌≡◌, ◌≢◌, ◌<◌, length, IsTrue, OnSome, Some, false};
 ghost use Rattle.std.specs.Option.{option_map};
 ghost use Rattle.tokens.specs.Word.{word_of};
+ghost use Rattle.std.specs.Str.{str_to_ascii_lowercase};
+ghost use Rattle.model.specs.GrammarWords as words;
 ghost use Rattle.model.specs.GrammarWords.{name_from};
 ghost use Rattle.pddl_tree.specs.Tree.{name_of, term_of};
 ghost use Rattle.pddl_tree.specs.Symbol.{label_view, keyword_view};
-ghost use Rattle.pddl_tree.specs.Ahead.{from, opens_first, closes_first, name_first, variable_first, term_first, label_first, keyword_first, head_first, head_of, other_head};
+ghost use Rattle.pddl_tree.specs.Ahead.{from, opens_first, closes_first, name_first, variable_first, term_first, label_first, keyword_first, head_first, head_of, head_by, other_head};
 
 use crate::symbol::{Keyword, Label, keyword_of, label_of};
 use crate::tree::{Name, Term};
@@ -17,7 +19,8 @@ pub(crate) fn is_open(words: &[Word], at: usize) -> bool
     ensures first { result ≡ opens_first (from words.now at) }
 {
     if at < words.len() {
-        match words[at].kind() {
+        let word = &words[at];
+        match word.kind() {
             Kind::Open => true,
             _ => false,
         }
@@ -32,7 +35,8 @@ pub(crate) fn is_close(words: &[Word], at: usize) -> bool
     ensures first { result ≡ closes_first (from words.now at) }
 {
     if at < words.len() {
-        match words[at].kind() {
+        let word = &words[at];
+        match word.kind() {
             Kind::Close => true,
             _ => false,
         }
@@ -47,8 +51,9 @@ pub(crate) fn name_at<'a>(words: &[Word<'a>], at: usize) -> Option<Name<'a>>
     ensures first { option_map name_of result ≡ name_first (from words.now at) }
 {
     if at < words.len() {
-        match words[at].kind() {
-            Kind::Name => Some(as_name(&words[at])),
+        let word = &words[at];
+        match word.kind() {
+            Kind::Name => Some(as_name(word)),
             _ => None,
         }
     } else {
@@ -62,8 +67,9 @@ pub(crate) fn variable_at<'a>(words: &[Word<'a>], at: usize) -> Option<Name<'a>>
     ensures first { option_map name_of result ≡ variable_first (from words.now at) }
 {
     if at < words.len() {
-        match words[at].kind() {
-            Kind::Variable => Some(as_name(&words[at])),
+        let word = &words[at];
+        match word.kind() {
+            Kind::Variable => Some(as_name(word)),
             _ => None,
         }
     } else {
@@ -77,9 +83,10 @@ pub(crate) fn term_at<'a>(words: &[Word<'a>], at: usize) -> Option<Term<'a>>
     ensures first { option_map term_of result ≡ term_first (from words.now at) }
 {
     if at < words.len() {
-        match words[at].kind() {
-            Kind::Name => Some(Term::Object(as_name(&words[at]))),
-            Kind::Variable => Some(Term::Variable(as_name(&words[at]))),
+        let word = &words[at];
+        match word.kind() {
+            Kind::Name => Some(Term::Object(as_name(word))),
+            Kind::Variable => Some(Term::Variable(as_name(word))),
             _ => None,
         }
     } else {
@@ -93,8 +100,9 @@ pub(crate) fn label_at(words: &[Word], at: usize) -> Option<Label>
     ensures first { option_map label_view result ≡ label_first (from words.now at) }
 {
     if at < words.len() {
-        match words[at].kind() {
-            Kind::Name => Some(label_of(words[at].text())),
+        let word = &words[at];
+        match word.kind() {
+            Kind::Name => Some(label_of(word.text())),
             _ => None,
         }
     } else {
@@ -120,8 +128,9 @@ pub(crate) fn keyword_at(words: &[Word], at: usize) -> Option<Keyword>
     ensures first { option_map keyword_view result ≡ keyword_first (from words.now at) }
 {
     if at < words.len() {
-        match words[at].kind() {
-            Kind::Keyword => Some(keyword_of(words[at].text())),
+        let word = &words[at];
+        match word.kind() {
+            Kind::Keyword => Some(keyword_of(word.text())),
             _ => None,
         }
     } else {
@@ -147,16 +156,28 @@ pub(crate) fn head_at<'a>(words: &[Word<'a>], at: usize) -> Head<'a>
     ensures within { head_of result ≢ other_head → at < length words.now }
     ensures first { head_of result ≡ head_first (from words.now at) }
 {
-    let Some(label) = label_at(words, at) else {
-        return Head::Other;
-    };
-    match label {
+    if at < words.len() {
+        let word = &words[at];
+        match word.kind() {
+            Kind::Name => head_named(word),
+            _ => Head::Other,
+        }
+    } else {
+        Head::Other
+    }
+}
+
+/// The head that a name is.
+fn head_named<'a>(word: &Word<'a>) -> Head<'a>
+    ensures { head_of result ≡ head_by (words.label_of (str_to_ascii_lowercase (word_of word.now).text)) (name_from (word_of word.now)) }
+{
+    match label_of(word.text()) {
         Label::And => Head::And,
         Label::Not => Head::Not,
-        Label::Define | Label::Domain | Label::Problem | Label::Ordinary => {
-            Head::Predicate(as_name(&words[at]))
-        }
         Label::LeftOut | Label::Reserved => Head::Other,
+        Label::Define | Label::Domain | Label::Problem | Label::Ordinary => {
+            Head::Predicate(as_name(word))
+        }
     }
 }
 
