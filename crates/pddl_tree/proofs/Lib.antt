@@ -1,3 +1,4 @@
 pub mod Here
 pub mod Looks
 pub mod ReadOn
+pub mod Rows
