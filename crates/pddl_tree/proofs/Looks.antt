@@ -1,11 +1,13 @@
 -- What the machine does at the first of some words, told from what stands there.
-use Rattle.std.proofs.Common.{◌≡◌, ◌≢◌, ℕ, zero, suc, add-one, ◌+◌, ◌<◌, ◌≤◌, Bool, true, false, List, [], ◌∷◌, ◌++◌, map, drop, length, Option, None, Some, refl, sym, ◌∙◌, ap}
+use Rattle.std.proofs.Common.{◌≡◌, ◌≢◌, ℕ, zero, suc, add-one, ◌+◌, ◌<◌, ◌≤◌, Bool, true, false, List, [], ◌∷◌, ◌++◌, map, drop, length, Option, None, Some, refl, sym, ◌∙◌, ap, arith}
 use Rattle.model.specs.Trees.{Name, Term, Formula, Formulas, Effect, Effects, Atom, Predicate, Fact}
 use Rattle.model.specs.Trees as tree
 use Rattle.model.specs.GrammarWords.{Token, opens, closes, name, variable, keyword, other, free, ReservedName, reserved, and, not, left_out_name, other_reserved}
 use Rattle.model.proofs.GrammarMachine.{State, run, stopped, wants_open, wants_close, wants_name, wants_names, wants_variables, wants_terms, wants_formulas, wants_effects, wants_predicates, wants_facts, wants_formula, wants_effect, wants_atom, wants_predicate, wants_fact, atom_from}
 use Rattle.tokens.specs.declared.word.Word.{Word}
-use Rattle.pddl_tree.specs.Ahead.{token, from, rest_of, opens_first, closes_first, name_first, variable_first, term_first, head_first, head_by, HeadView, and_head, not_head, predicate_head, other_head}
+use Rattle.pddl_tree.specs.declared.ahead.Head.{Head}
+use Rattle.pddl_tree.specs.declared.ahead.Head.TheVariants as head
+use Rattle.pddl_tree.specs.Ahead.{token, from, rest_of, opens_first, closes_first, name_first, variable_first, term_first, head_first, head_of, head_by, HeadView, and_head, not_head, predicate_head, other_head}
 use Rattle.pddl_tree.specs.Refusal.{code_first}
 
 rest-drop : (n : ℕ) (w : List Token) → rest_of (drop n w) ≡ drop (suc n) w
@@ -17,6 +19,9 @@ rest-drop (suc n) (t ∷ w) = rest-drop n w
 -- after the first word stand the words from the next index on
 pub stepped : (words : List Word) (at : ℕ) (s : State) → run (rest_of (from words at)) s ≡ run (from words (at + 1)) s
 stepped words at s = ap (λ w. run w s) (rest-drop at (map token words) ∙ ap (λ i. drop i (map token words)) (sym (add-one at)))
+
+pub stepped_twice : (words : List Word) (at : ℕ) (s : State) → run (rest_of (from words (at + 1))) s ≡ run (from words (at + 2)) s
+stepped_twice words at s = stepped words (at + 1) s ∙ ap (λ i. run (from words i) s) (omega arith)
 
 -- names
 pub names_more : (w : List Token) (n : Name) (k : List Name → State) → Some n ≡ name_first w → run w (wants_names k) ≡ run (rest_of w) (wants_names (λ ns. k (n ∷ ns)))
@@ -150,6 +155,12 @@ name_stop (name label m ∷ w) k e = absurd (cc)
 name_stop (t ∷ w) k e = refl
 
 -- heads
+pub not_predicate_head : (h : Head) → ((p : _) → h ≢ head.Predicate p) → (n : Name) → head_of h ≢ predicate_head n
+not_predicate_head head.And apart n e = cc
+not_predicate_head head.Not apart n e = cc
+not_predicate_head (head.Predicate p) apart n e = apart p refl
+not_predicate_head head.Other apart n e = cc
+
 not_predicate : (l : ReservedName) (m n : Name) → predicate_head n ≡ head_by (reserved l) m → ⊥
 not_predicate and m n e = cc
 not_predicate not m n e = cc

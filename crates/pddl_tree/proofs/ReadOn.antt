@@ -1,6 +1,8 @@
 -- Lists that are read in a loop: what was read so far, and what the words left make of the rest.
 use Rattle.std.proofs.Common.{◌≡◌, ℕ, List, [], ◌∷◌, ◌++◌, map, Option, Some, None, refl, sym, ◌∙◌, ap, subst}
-use Rattle.std.specs.Prelude.{IfSome}
+use Rattle.std.specs.Prelude.{IfSome, IfErr, Result}
+use Rattle.std.specs.Result.{IsErrAnd}
+use Rattle.std.proofs.lemmas.Result.{err_from_is_err_and}
 use Rattle.std.proofs.lemmas.List.{map-append}
 use Rattle.tokens.specs.declared.word.Word.{Word}
 use Rattle.pddl_tree.specs.declared.refusal.Refusal.{Refusal}
@@ -45,6 +47,12 @@ pub on_end : {A T : Type 0} (wants : (T → State) → State) (cons : A → T �
 on_end wants cons w r r' done nil all h one e =
     record { runs = λ k. h.goes k ∙ one (λ t. k (joined cons done t)) ∙ ap (λ t. run r' (k t)) e }
 
+-- what a `?` passes on
+pub if_passed : {T E : Type 0} (P : E → Type 0) (r : Result T E) (x : E) → IsErrAnd r (λ y. y ≡ x) → P x → IfErr r P
+if_passed P r x h p =
+    let is = err_from_is_err_and r h in
+    rw (is.1, is.2) p
+
 -- where a refusal tells of these words
 pub told_here : (words : List Word) (at : ℕ) (state : State) (refusal : Refusal) (code place : ℕ) → told refusal ≡ Some (code, place) → run (from words at) state ≡ stopped code (from words place) → StopsAs words at state refusal
 told_here words at state refusal code place e h =
@@ -88,6 +96,7 @@ pub later : {T U : Type 0} (wants : (T → State) → State) (words : List Word)
 later wants words at after wanted refusal then one told =
     record { stops = λ k. told_later words at after (wants k) (wanted (then k)) refusal (one k) (told.stops (then k)) }
 
-pub at_once : {T : Type 0} (wants : (T → State) → State) (words : List Word) (at : ℕ) (refusal : Refusal) (code : ℕ)
-    → told refusal ≡ Some (code, at) → ((k : T → State) → run (from words at) (wants k) ≡ stopped code (from words at)) → IsTold wants words at refusal
-at_once wants words at refusal code e one = record { stops = λ k. told_here words at (wants k) refusal code at e (one k) }
+-- the words stop at a later one
+pub on_place : {T : Type 0} (wants : (T → State) → State) (words : List Word) (at place : ℕ) (refusal : Refusal) (code : ℕ)
+    → told refusal ≡ Some (code, place) → ((k : T → State) → run (from words at) (wants k) ≡ stopped code (from words place)) → IsTold wants words at refusal
+on_place wants words at place refusal code e one = record { stops = λ k. told_here words at (wants k) refusal code place e (one k) }

@@ -197,17 +197,14 @@ fn refused_in_action(words: &[Word], at: usize, has_parameters: bool) -> Refusal
 fn refused_value(words: &[Word], at: usize, part: Part, parts: &Parts) -> Refusal
     ensures { told result ≡ Some (value_code (parts_of parts.now) (part_view part) (from words.now at), at) }
 {
-    if let Some(again) = part_at(words, at) {
-        if again == part || parts.has(again) {
-            return Refusal::At {
-                code: Code::RepeatedSection,
-                at,
-            };
-        }
-    }
-    refused_in_action(
-        words,
-        at,
-        part == Part::Parameters || parts.has(Part::Parameters),
-    )
+    let Some(again) = part_at(words, at) else {
+        let has_parameters = part == Part::Parameters || parts.has(Part::Parameters);
+        return refused_in_action(words, at, has_parameters);
+    };
+    let code = if again == part || parts.has(again) {
+        Code::RepeatedSection
+    } else {
+        Code::BadForm
+    };
+    Refusal::At { code, at }
 }
