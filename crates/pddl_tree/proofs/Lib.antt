@@ -2,3 +2,4 @@ pub mod Here
 pub mod Looks
 pub mod ReadOn
 pub mod Rows
+pub mod SectionLooks

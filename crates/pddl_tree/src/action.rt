@@ -1,15 +1,15 @@
 //! Actions, from the word after `:action` on.
-ghost use Rattle.std.specs.Prelude.{◌≡◌, ◌<◌, ◌≤◌, IfOk, IfErr, OnSome, Some, length, true, false, cond, ◌||◌, ◌&&◌, not};
+ghost use Rattle.std.specs.Prelude.{◌≡◌, ◌<◌, ◌≤◌, IfOk, IfErr, OnSome, Some, length, true, false, cond, ◌||◌, ◌&&◌, not, unwrap_or};
 ghost use Rattle.std.specs.Option.{option_map};
 ghost use Rattle.model.specs.Grammar.{no_parts};
 ghost use Rattle.model.specs.Trees as model_tree;
-ghost use Rattle.model.proofs.GrammarMachine.{wants_action, wants_parts, wants_value, part_of, has_part};
+ghost use Rattle.model.proofs.GrammarMachine.{wants_action, wants_parts, wants_value, part_of, has_part, is_part, parameter_part};
 ghost use Rattle.pddl_tree.specs.Ahead.{from, opens_first, closes_first};
 ghost use Rattle.pddl_tree.specs.Reading.{IsRead, IsTold, Leads};
 ghost use Rattle.pddl_tree.specs.Refusal.{told, code_first};
 ghost use Rattle.pddl_tree.specs.Sections.{part_view, parts_of, part_first, value_code};
 ghost use Rattle.pddl_tree.specs.Symbol.{keyword_view};
-ghost use Rattle.pddl_tree.specs.Tree.{action_of};
+ghost use Rattle.pddl_tree.specs.Tree.{action_of, formula_of, effect_of};
 
 use crate::effects::effect;
 use crate::formulas::formula;
@@ -62,6 +62,16 @@ impl Parts<'_> {
             Part::Effect => self.effect.is_some(),
         }
     }
+
+    /// Whether the parameters were read, where this part comes next.
+    fn has_parameters_with(&self, next: Part) -> bool
+        ensures { result ≡ (has_part (parts_of self.now) parameter_part || is_part (part_view next) parameter_part) }
+    {
+        match next {
+            Part::Parameters => true,
+            Part::Precondition | Part::Effect => self.has(Part::Parameters),
+        }
+    }
 }
 
 /// The part whose keyword stands at an index.
@@ -101,10 +111,30 @@ pub(crate) fn action<'a>(
     let action = Action {
         name,
         parameters,
-        precondition: precondition.unwrap_or(Formula::And(Vec::new(alloc))),
-        effect: effect.unwrap_or(Effect::And(Vec::new(alloc))),
+        precondition: precondition_from(alloc, precondition),
+        effect: effect_from(alloc, effect),
     };
     Ok((action, next + 1))
+}
+
+/// The precondition of an action; one that does not stand there is `(and)`.
+fn precondition_from<'a>(alloc: Global, found: Option<Formula<'a>>) -> Formula<'a>
+    ensures { formula_of result ≡ unwrap_or (option_map formula_of found.entry) (model_tree.and model_tree.no_formula) }
+{
+    match found {
+        Some(precondition) => precondition,
+        None => Formula::And(Vec::new(alloc)),
+    }
+}
+
+/// The effect of an action; one that does not stand there is `(and)`.
+fn effect_from<'a>(alloc: Global, found: Option<Effect<'a>>) -> Effect<'a>
+    ensures { effect_of result ≡ unwrap_or (option_map effect_of found.entry) (model_tree.both model_tree.no_effect) }
+{
+    match found {
+        Some(effect) => effect,
+        None => Effect::And(Vec::new(alloc)),
+    }
 }
 
 /// Parts of an action, each at most once, and the index of the `)` after them.
@@ -182,9 +212,9 @@ fn value<'a>(
 
 /// The refusal of a word in the list of an action: `)` where the parameters are missing, or any other.
 fn refused_in_action(words: &[Word], at: usize, has_parameters: bool) -> Refusal
-    ensures { told result ≡ Some (cond (not has_parameters && closes_first (from words.now at)) 10 (code_first (from words.now at)), at) }
+    ensures { told result ≡ Some (cond (closes_first (from words.now at) && not has_parameters) 10 (code_first (from words.now at)), at) }
 {
-    if !has_parameters && is_close(words, at) {
+    if is_close(words, at) && !has_parameters {
         return Refusal::At {
             code: Code::MissingSection,
             at,
@@ -198,8 +228,7 @@ fn refused_value(words: &[Word], at: usize, part: Part, parts: &Parts) -> Refusa
     ensures { told result ≡ Some (value_code (parts_of parts.now) (part_view part) (from words.now at), at) }
 {
     let Some(again) = part_at(words, at) else {
-        let has_parameters = part == Part::Parameters || parts.has(Part::Parameters);
-        return refused_in_action(words, at, has_parameters);
+        return refused_in_action(words, at, parts.has_parameters_with(part));
     };
     let code = if again == part || parts.has(again) {
         Code::RepeatedSection

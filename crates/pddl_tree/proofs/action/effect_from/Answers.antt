@@ -1,0 +1,8 @@
+use Rattle.std.proofs.Common.{◌∙◌, ap}
+use Rattle.model.specs.Trees as tree
+use Rattle.pddl_tree.specs.Tree.{effects_in}
+use Rattle.pddl_tree.proofs.Rows.{effect_of-And}
+use Rattle.pddl_tree.proofs.action.effect_from.Goals as goal
+
+pub returns-in-None : goal.returns-in-None
+returns-in-None c = effect_of-And c.new.result ∙ ap (λ parts. tree.both (effects_in parts)) c.new.ensures.items

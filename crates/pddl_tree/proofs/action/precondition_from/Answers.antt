@@ -1,0 +1,8 @@
+use Rattle.std.proofs.Common.{◌∙◌, ap}
+use Rattle.model.specs.Trees as tree
+use Rattle.pddl_tree.specs.Tree.{formulas_in}
+use Rattle.pddl_tree.proofs.Rows.{formula_of-And}
+use Rattle.pddl_tree.proofs.action.precondition_from.Goals as goal
+
+pub returns-in-None : goal.returns-in-None
+returns-in-None c = formula_of-And c.new.result ∙ ap (λ parts. tree.and (formulas_in parts)) c.new.ensures.items
