@@ -1,14 +1,14 @@
 -- What the machine does at the words of an action and of sections, told from what stands there.
-use Rattle.std.proofs.Common.{◌≡◌, ℕ, Bool, true, false, cond, ◌||◌, ◌&&◌, List, [], ◌∷◌, Option, None, Some, refl, sym, ◌∙◌, ap}
+use Rattle.std.proofs.Common.{◌≡◌, ◌≢◌, ℕ, Bool, true, false, cond, ◌||◌, ◌&&◌, List, [], ◌∷◌, Option, None, Some, unwrap_or, refl, sym, ◌∙◌, ap}
 use Rattle.std.specs.Prelude.{not as not_b}
-use Rattle.model.specs.Trees.{Name, Formula, Effect, Action}
-use Rattle.model.specs.GrammarWords.{Token, opens, closes, name, keyword, requirement_key}
-use Rattle.model.specs.Grammar.{Parts, parts, no_parts, action_from, DomainSections, ProblemSections}
-use Rattle.model.specs.Refusals.{is_full}
-use Rattle.model.proofs.GrammarMachine.{State, run, stopped, follow, go, refuse, wants_keys, wants_action, wants_parts, wants_value, wants_domain_sections, wants_domain_section, wants_problem_sections, wants_problem_section, Part, parameter_part, DomainSection, ProblemSection, has_part, is_part, has_domain_section, has_problem_section, keyword_in_action, keyword_in_domain, keyword_in_problem, after_open, after_domain_keyword, after_problem_keyword, code_at_value}
-use Rattle.pddl_tree.specs.Ahead.{rest_of, opens_first, closes_first, name_first, keyword_first}
-use Rattle.pddl_tree.specs.Refusal.{code_first, keyword_code_first}
-use Rattle.pddl_tree.specs.Sections.{part_first, value_code, domain_section_first, problem_section_first}
+use Rattle.model.specs.Trees.{Name, Formula, Effect, Action, Predicate, Fact}
+use Rattle.model.specs.GrammarWords.{Token, opens, closes, name, keyword, requirement_key, free, reserved, define, domain, problem}
+use Rattle.model.specs.Grammar.{Parts, parts, no_parts, action_from, DomainSections, domain_sections, ProblemSections, problem_sections}
+use Rattle.model.specs.Refusals.{File, domain_file, problem_file, is_full, is_complete}
+use Rattle.model.proofs.GrammarMachine.{State, Tree, domain_tree, problem_tree, run, finished, stopped, wants_name, wants_close, wants_nothing, wants_define, wants_head, wants_kind, at_sections, follow, go, refuse, wants_keys, wants_action, wants_parts, wants_value, wants_domain_sections, wants_domain_section, wants_problem_sections, wants_problem_section, Part, parameter_part, DomainSection, ProblemSection, has_part, is_part, has_domain_section, has_problem_section, keyword_in_action, keyword_in_domain, keyword_in_problem, after_open, after_domain_keyword, after_problem_keyword, code_at_value}
+use Rattle.pddl_tree.specs.Ahead.{rest_of, opens_first, closes_first, name_first, label_first, keyword_first}
+use Rattle.pddl_tree.specs.Refusal.{code_first, missing_code, keyword_code_first}
+use Rattle.pddl_tree.specs.Sections.{part_first, kind_of, value_code, domain_section_first, problem_section_first}
 
 -- keys
 pub keys_more : (w : List Token) (s : State) → Some requirement_key ≡ keyword_first w → run w (wants_keys s) ≡ run (rest_of w) (wants_keys s)
@@ -107,3 +107,80 @@ pub problem_unknown : (w : List Token) (n : Name) (s : ProblemSections) → None
 problem_unknown [] n s e = refl
 problem_unknown (keyword j ∷ w) n s e = ap (λ o. follow (keyword_in_problem n s j o) (run w) (keyword j ∷ w)) (sym e)
 problem_unknown (t ∷ w) n s e = refl
+
+pub domain_stop : (w : List Token) (n : Name) (s : DomainSections) → opens_first w ≡ false → closes_first w ≡ false → run w (wants_domain_sections n s) ≡ stopped (code_first w) w
+domain_stop [] n s e f = refl
+domain_stop (opens ∷ w) n s e f = absurd (cc)
+domain_stop (closes ∷ w) n s e f = absurd (cc)
+domain_stop (t ∷ w) n s e f = refl
+
+pub domain_missing : (w : List Token) (n : Name) (q : Bool) (found : List Action) → closes_first w ≡ true → run w (wants_domain_sections n (domain_sections q None found)) ≡ stopped 10 w
+domain_missing (closes ∷ w) n q found e = refl
+domain_missing w n q found e = absurd (cc)
+
+pub domain_end : (w : List Token) (n : Name) (q : Bool) (ps : List Predicate) (found : List Action) → closes_first w ≡ true → run w (wants_domain_sections n (domain_sections q (Some ps) found)) ≡ run (rest_of w) (wants_nothing (domain_tree (record { name = n; predicates = ps; actions = found })))
+domain_end (closes ∷ w) n q ps found e = refl
+domain_end w n q ps found e = absurd (cc)
+
+pub problem_stop : (w : List Token) (n : Name) (s : ProblemSections) → opens_first w ≡ false → closes_first w ≡ false → run w (wants_problem_sections n s) ≡ stopped (code_first w) w
+problem_stop [] n s e f = refl
+problem_stop (opens ∷ w) n s e f = absurd (cc)
+problem_stop (closes ∷ w) n s e f = absurd (cc)
+problem_stop (t ∷ w) n s e f = refl
+
+pub problem_missing : (w : List Token) (n : Name) (s : ProblemSections) → closes_first w ≡ true → is_complete s ≡ false → run w (wants_problem_sections n s) ≡ stopped 10 w
+problem_missing (closes ∷ w) n (problem_sections (Some d) q o (Some i) (Some g)) e f = absurd (cc)
+problem_missing (closes ∷ w) n (problem_sections None q o i g) e f = refl
+problem_missing (closes ∷ w) n (problem_sections (Some d) q o None g) e f = refl
+problem_missing (closes ∷ w) n (problem_sections (Some d) q o (Some i) None) e f = refl
+problem_missing w n s e f = absurd (cc)
+
+pub problem_end : (w : List Token) (n d : Name) (q : Bool) (o : Option (List Name)) (i : List Fact) (g : Formula) → closes_first w ≡ true
+    → run w (wants_problem_sections n (problem_sections (Some d) q o (Some i) (Some g))) ≡ run (rest_of w) (wants_nothing (problem_tree (record { name = n; domain = d; objects = unwrap_or o []; init = i; goal = g })))
+problem_end (closes ∷ w) n d q o i g e = refl
+problem_end w n d q o i g e = absurd (cc)
+
+-- the head of a file
+pub define_more : (w : List Token) (file : File) → label_first w ≡ Some (free define) → run w (wants_define file) ≡ run (rest_of w) (wants_head file)
+define_more (name (free define) m ∷ w) file e = refl
+define_more (name (reserved l) m ∷ w) file e = absurd (cc)
+define_more w file e = absurd (cc)
+
+pub define_stop : (w : List Token) (file : File) → label_first w ≢ Some (free define) → run w (wants_define file) ≡ stopped (missing_code w) w
+define_stop [] file e = refl
+define_stop (name (free define) m ∷ w) file e = absurd (e refl)
+define_stop (closes ∷ w) file e = refl
+define_stop (t ∷ w) file e = refl
+
+pub head_more : (w : List Token) (file : File) → opens_first w ≡ true → run w (wants_head file) ≡ run (rest_of w) (wants_kind file)
+head_more (opens ∷ w) file e = refl
+head_more w file e = absurd (cc)
+
+pub head_stop : (w : List Token) (file : File) → opens_first w ≡ false → run w (wants_head file) ≡ stopped (missing_code w) w
+head_stop [] file e = refl
+head_stop (opens ∷ w) file e = absurd (cc)
+head_stop (closes ∷ w) file e = refl
+head_stop (t ∷ w) file e = refl
+
+pub kind_more : (w : List Token) (file : File) → label_first w ≡ Some (kind_of file) → run w (wants_kind file) ≡ run (rest_of w) (wants_name (λ m. wants_close (at_sections file m)))
+kind_more (name (free domain) m ∷ w) domain_file e = refl
+kind_more (name (free problem) m ∷ w) problem_file e = refl
+kind_more w domain_file e = absurd (cc)
+kind_more w problem_file e = absurd (cc)
+
+pub kind_stop : (w : List Token) (file : File) → label_first w ≢ Some (kind_of file) → run w (wants_kind file) ≡ stopped (code_first w) w
+kind_stop [] domain_file e = refl
+kind_stop [] problem_file e = refl
+kind_stop (name (free domain) m ∷ w) domain_file e = absurd (e refl)
+kind_stop (name (free problem) m ∷ w) problem_file e = absurd (e refl)
+kind_stop (t ∷ w) domain_file e = refl
+kind_stop (t ∷ w) problem_file e = refl
+
+-- the end
+pub nothing_more : (w : List Token) (tree : Tree) → w ≡ [] → run w (wants_nothing tree) ≡ finished tree
+nothing_more [] tree e = refl
+nothing_more (t ∷ w) tree e = absurd (cc)
+
+pub nothing_stop : (w : List Token) (tree : Tree) → w ≢ [] → run w (wants_nothing tree) ≡ stopped (code_first w) w
+nothing_stop [] tree e = absurd (e refl)
+nothing_stop (t ∷ w) tree e = refl

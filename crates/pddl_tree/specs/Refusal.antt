@@ -1,11 +1,11 @@
 -- What a refusal tells: a number and the index of a word; and the numbers that the next word decides.
-use Rattle.std.specs.Prelude.{ℕ, List, [], ◌∷◌, Option, None, Some, slice_get}
+use Rattle.std.specs.Prelude.{ℕ, List, [], ◌∷◌, Option, None, Some}
 use Rattle.pddl_tree.specs.declared.refusal.Refusal.{Refusal}
 use Rattle.pddl_tree.specs.declared.refusal.Refusal.TheVariants.{At, NoMemory}
 use Rattle.tokens.specs.Fault.{number_of}
 use Rattle.model.specs.Fault as fault
-use Rattle.model.specs.Words.{Word, end_of}
-use Rattle.model.specs.Refusals.{end_of_all}
+use Rattle.model.specs.Words.{Word}
+use Rattle.model.proofs.GrammarRefusals.{span_of_place}
 use Rattle.model.specs.GrammarWords.{Token, closes, keyword}
 use Rattle.model.proofs.GrammarMachine.{by_word, by_keyword}
 
@@ -28,14 +28,7 @@ abbrev pub keyword_code_first : List Token → ℕ
 keyword_code_first (keyword k ∷ w) = by_keyword k
 keyword_code_first w = code_first w
 
-abbrev pub span_by : List Word → Option Word → fault.Span
-span_by words (Some word) = record { start = word.start; end = end_of word }
-span_by words None = record { start = end_of_all words; end = end_of_all words }
-
--- where a word stands; past the last, the end of the words
-abbrev pub span_of_place : List Word → ℕ → fault.Span
-span_of_place words at = span_by words (slice_get words at)
-
+-- what is told of these words
 abbrev pub fault_of : List Word → Option (ℕ × ℕ) → Option fault.Fault
 fault_of words (Some place) = Some (record { code = place.0; span = span_of_place words place.1 })
 fault_of words None = None

@@ -1,13 +1,15 @@
 //! From words to trees.
-ghost use Rattle.std.specs.Prelude.{◌≡◌, map, IfOk, IfErr, IfSome, None, Some, []};
+ghost use Rattle.std.specs.Prelude.{◌≡◌, map, IfOk, IfErr, IfSome, None, Some, [], unwrap_or};
+ghost use Rattle.std.specs.Option.{option_map};
 ghost use Rattle.tokens.specs.Fault.{told_by};
 ghost use Rattle.tokens.specs.Word.{word_of};
 ghost use Rattle.model.specs.Grammar.{EachIsOneDomain, EachIsOneProblem, IsDomain, IsProblem};
 ghost use Rattle.model.specs.Refusals.{File, domain_file, problem_file, tokens_of, IsWhole, IsRefused};
 ghost use Rattle.model.proofs.GrammarMachine.{run, start, finished, Tree, wants_nothing, domain_tree, problem_tree, at_sections};
 ghost use Rattle.pddl_tree.specs.Ahead.{from};
+ghost use Rattle.model.proofs.GrammarRefusals.{span_of_place};
 ghost use Rattle.pddl_tree.specs.Reading.{StopsAs};
-ghost use Rattle.pddl_tree.specs.Refusal.{told, code_first, fault_of, span_of_place, missing_code};
+ghost use Rattle.pddl_tree.specs.Refusal.{told, fault_of, missing_code};
 ghost use Rattle.pddl_tree.specs.Symbol.{label_view};
 ghost use Rattle.pddl_tree.specs.Sections.{kind_of};
 ghost use Rattle.pddl_tree.specs.Tree.{name_of, domain_of, problem_of};
@@ -144,20 +146,37 @@ fn read_problem<'a>(alloc: Global, words: &[Word<'a>]) -> Result<Problem<'a>, Re
         init,
         goal,
     } = sections;
-    let (Some(domain), Some(init), Some(goal)) = (domain, init, goal) else {
-        return Err(Refusal::At {
-            code: Code::MissingSection,
-            at: next,
-        });
+    let missing = Refusal::At {
+        code: Code::MissingSection,
+        at: next,
+    };
+    let Some(domain) = domain else {
+        return Err(missing);
+    };
+    let Some(init) = init else {
+        return Err(missing);
+    };
+    let Some(goal) = goal else {
+        return Err(missing);
     };
     end(words, next + 1)?;
     Ok(Problem {
         name,
         domain,
-        objects: objects.unwrap_or(Vec::new(alloc)),
+        objects: objects_from(alloc, objects),
         init,
         goal,
     })
+}
+
+/// The objects of a problem; none where `:objects` does not stand there.
+fn objects_from<'a>(alloc: Global, found: Option<Vec<Name<'a>>>) -> Vec<Name<'a>>
+    ensures { map name_of result.items ≡ unwrap_or (option_map (λ v. map name_of v.items) found.entry) [] }
+{
+    match found {
+        Some(objects) => objects,
+        None => Vec::new(alloc),
+    }
 }
 
 /// `( define ( domain NAME )`, or `problem` in place of `domain`: the name.
