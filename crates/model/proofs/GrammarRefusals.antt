@@ -1,13 +1,12 @@
 -- Where the machine stops, the words are refused: no file begins with the words up to that one, or the words run out.
-use Rattle.std.proofs.Common.{◌≡◌, ◌⊎◌, inl, inr, ℕ, zero, suc, List, [], ◌∷◌, ◌++◌, map, drop, Option, Some, None, refl, sym, ◌∙◌, ap, subst}
+use Rattle.std.proofs.Common.{◌≡◌, ℕ, zero, suc, List, [], ◌∷◌, ◌++◌, drop, Option, Some, None, refl, sym, ◌∙◌, ap, subst}
 use Rattle.std.specs.Prelude.{slice_get}
 use Rattle.std.proofs.lemmas.List.{map-append}
 use Rattle.model.specs.Fault.{Span}
 use Rattle.model.specs.Words.{Word, end_of}
 use Rattle.model.specs.GrammarWords.{Token, token_of}
 use Rattle.model.specs.Refusals.{File, domain_file, problem_file, IsWhole, tokens_of, end_of_all, IsRefused, at_word, at_end}
-use Rattle.model.proofs.GrammarMachine.{State, wants_nothing, Tree, domain_tree, problem_tree, Step, go, refuse, step, Outcome, finished, stopped, follow, run, start}
-use Rattle.model.proofs.GrammarMachine as machine
+use Rattle.model.proofs.GrammarMachine.{State, wants_nothing, Tree, domain_tree, problem_tree, Step, go, refuse, step, finished, stopped, follow, run, start}
 use Rattle.model.proofs.GrammarRuns.{domain_run, problem_run}
 use Rattle.model.proofs.GrammarStops.{dead_domain, dead_problem}
 

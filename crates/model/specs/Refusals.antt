@@ -1,7 +1,7 @@
 -- What is told of words that are no domain, or no problem: the first word with which no file goes on, and the line of
 -- the table of refusals that is true of it (docs/language.md, "Refusals", 7 to 12).
-use Rattle.std.specs.Prelude.{◌≡◌, ℕ, ◌≤◌, ◌⊎◌, Bool, true, false, List, [], ◌∷◌, ◌++◌, map, Option, None, Some, is_some}
-use Rattle.model.specs.Fault.{Fault, Span}
+use Rattle.std.specs.Prelude.{◌≡◌, ℕ, ◌⊎◌, Bool, true, false, List, [], ◌∷◌, ◌++◌, map, Option, None, Some, is_some}
+use Rattle.model.specs.Fault.{Fault}
 use Rattle.model.specs.Words.{Word, end_of}
 use Rattle.model.specs.Trees.{Name, Formula, Effect, Predicate, Action, Domain, Problem}
 use Rattle.model.specs.GrammarWords.{Token, opens, closes, name, keyword, token_of, Label, free, reserved, define, domain, problem, left_out_name, Keyword, domain_keyword, requirements, predicates, action, objects, init, goal, parameters, precondition, effect, requirement_key, left_out_keyword}

@@ -1,18 +1,13 @@
 -- What the word at an index is, told from its kind.
-use Rattle.std.proofs.Common.{◌≡◌, ◌≢◌, ℕ, ◌+◌, ◌<◌, Bool, true, false, List, [], ◌∷◌, map, drop, length, get_or, Option, None, Some, refl, sym, ◌∙◌, ap}
+use Rattle.std.proofs.Common.{◌≡◌, ◌≢◌, ℕ, ◌+◌, ◌<◌, false, List, ◌∷◌, map, drop, length, get_or, None, refl, sym, ◌∙◌, ap}
 use Rattle.std.specs.Str.{str_to_ascii_lowercase}
-use Rattle.std.specs.Option.{option_map}
 use Rattle.std.proofs.lemmas.List.{drop_more, drop-map}
 use Rattle.tokens.specs.declared.word.Kind.{Kind}
-use Rattle.tokens.specs.declared.word.Kind.TheVariants.{Name, Variable, Keyword, Number, Dash, Equals, Open, Close}
+use Rattle.tokens.specs.declared.word.Kind.TheVariants.{Name, Variable, Keyword, Open, Close}
 use Rattle.tokens.specs.declared.word.Word.{Word}
 use Rattle.tokens.specs.Word.{kind_of, word_of}
-use Rattle.pddl_tree.specs.Ahead.{token, from, rest_of, opens_first, closes_first, name_first, variable_first, term_first, label_first, keyword_first, head_first, head_by, HeadView, and_head, not_head, predicate_head, other_head}
-use Rattle.pddl_tree.specs.Refusal.{code_first, keyword_code_first}
-use Rattle.model.specs.Trees as tree
-use Rattle.model.specs.Words as words
-use Rattle.model.specs.GrammarWords as grammar
-use Rattle.model.specs.GrammarWords.{Token, token_from, name_from, free, reserved, and, not, left_out_name, other_reserved}
+use Rattle.pddl_tree.specs.Ahead.{token, from, opens_first, closes_first, name_first, variable_first, term_first, label_first, keyword_first, head_first, other_head}
+use Rattle.model.specs.GrammarWords.{Token, token_from, name_from}
 
 -- a word of this kind, and then these
 abbrev pub of_kind : Kind → Word → List Token → List Token

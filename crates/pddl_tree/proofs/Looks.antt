@@ -1,8 +1,8 @@
 -- What the machine does at the first of some words, told from what stands there.
-use Rattle.std.proofs.Common.{◌≡◌, ◌≢◌, ℕ, zero, suc, add-one, ◌+◌, ◌<◌, ◌≤◌, Bool, true, false, List, [], ◌∷◌, ◌++◌, map, drop, length, Option, None, Some, refl, sym, ◌∙◌, ap, arith}
+use Rattle.std.proofs.Common.{◌≡◌, ◌≢◌, ℕ, zero, suc, add-one, ◌+◌, true, false, List, [], ◌∷◌, map, drop, None, Some, refl, sym, ◌∙◌, ap, arith}
 use Rattle.model.specs.Trees.{Name, Term, Formula, Formulas, Effect, Effects, Atom, Predicate, Fact}
 use Rattle.model.specs.Trees as tree
-use Rattle.model.specs.GrammarWords.{Token, opens, closes, name, variable, keyword, other, free, ReservedName, reserved, and, not, left_out_name, other_reserved}
+use Rattle.model.specs.GrammarWords.{Token, opens, closes, name, variable, free, ReservedName, reserved, and, not, left_out_name, other_reserved}
 use Rattle.model.proofs.GrammarMachine.{State, run, stopped, wants_open, wants_close, wants_name, wants_names, wants_variables, wants_terms, wants_formulas, wants_effects, wants_predicates, wants_facts, wants_formula, wants_effect, wants_atom, wants_predicate, wants_fact, atom_from}
 use Rattle.tokens.specs.declared.word.Word.{Word}
 use Rattle.pddl_tree.specs.declared.ahead.Head.{Head}

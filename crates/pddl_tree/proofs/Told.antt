@@ -1,5 +1,5 @@
 -- What the machine makes of a whole file, in the terms of the public contracts.
-use Rattle.std.proofs.Common.{◌≡◌, ◌≢◌, ℕ, zero, suc, ◌+◌, ◌-◌, ◌<◌, ◌≤◌, List, [], ◌∷◌, map, drop, length, Option, None, Some, refl, sym, ◌∙◌, ap, subst, arith}
+use Rattle.std.proofs.Common.{◌≡◌, ◌≢◌, ℕ, zero, suc, ◌-◌, ◌<◌, ◌≤◌, List, [], ◌∷◌, map, drop, length, Option, None, Some, refl, sym, ◌∙◌, ap, arith}
 use Rattle.std.specs.Prelude.{IfSome, slice_get}
 use Rattle.std.specs.Option.{option_map}
 use Rattle.std.proofs.lemmas.List.{length-drop, length-map}
@@ -8,14 +8,12 @@ use Rattle.tokens.specs.declared.word.Word.{Word}
 use Rattle.tokens.specs.Word.{word_of}
 use Rattle.pddl_tree.specs.Ahead.{token, from}
 use Rattle.pddl_tree.specs.Refusal.{fault_of}
-use Rattle.model.specs.Fault.{Span}
 use Rattle.model.specs.Words.{end_of}
-use Rattle.model.specs.Words as words
-use Rattle.model.specs.GrammarWords.{Token, token_of}
+use Rattle.model.specs.Words as text
 use Rattle.model.specs.Trees as tree
 use Rattle.model.specs.Grammar.{IsDomain, IsProblem}
 use Rattle.model.specs.Refusals.{File, domain_file, problem_file, IsWhole, IsRefused, tokens_of, end_of_all}
-use Rattle.model.proofs.GrammarMachine.{run, start, Tree, domain_tree, problem_tree, finished, stopped}
+use Rattle.model.proofs.GrammarMachine.{run, start, domain_tree, problem_tree, finished, stopped}
 use Rattle.model.proofs.GrammarMeaning.{file_meaning}
 use Rattle.model.proofs.GrammarRefusals.{span_by, span_of_place, refused_at, whole_run}
 
@@ -45,7 +43,7 @@ taken_by file words (Some p) h whole =
     absurd (cc)
 
 -- the end of the last word
-last_end : (words : List words.Word) (w : words.Word) (i : ℕ) → length words ≡ suc i → slice_get words i ≡ Some w → end_of_all words ≡ end_of w
+last_end : (words : List text.Word) (w : text.Word) (i : ℕ) → length words ≡ suc i → slice_get words i ≡ Some w → end_of_all words ≡ end_of w
 last_end [] w i n e = absurd (omega arith)
 last_end (x ∷ []) w zero n e = let same : x ≡ w = cc in ap end_of same
 last_end (x ∷ []) w (suc i) n e = absurd (cc)

@@ -7,8 +7,7 @@ use Rattle.pddl_tree.specs.declared.ahead.Head.TheVariants as head
 use Rattle.pddl_tree.specs.Tree.{name_of}
 use Rattle.model.specs.Trees.{Name, Term}
 use Rattle.model.specs.Trees as tree
-use Rattle.model.specs.GrammarWords.{Token, opens, closes, name, variable, keyword, other, Label, free, reserved, and, not, Keyword, token_of}
-use Rattle.model.specs.Words as words
+use Rattle.model.specs.GrammarWords.{Token, opens, closes, name, variable, keyword, Label, free, reserved, and, not, Keyword, token_of}
 
 abbrev pub token : Word → Token
 token w = token_of (word_of w)

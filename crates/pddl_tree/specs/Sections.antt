@@ -1,6 +1,6 @@
 -- The parts of an action and the sections of a file that were read so far, in the model's terms, and what the words from
 -- a place on make of them.
-use Rattle.std.specs.Prelude.{◌≡◌, ℕ, Bool, List, [], ◌∷◌, map, Option, None, Some}
+use Rattle.std.specs.Prelude.{◌≡◌, ℕ, List, ◌∷◌, map, Option, None}
 use Rattle.std.specs.Option.{option_map}
 use Rattle.tokens.specs.declared.word.Word.{Word}
 use Rattle.pddl_tree.specs.declared.action.Part.{Part}

@@ -1,5 +1,5 @@
 -- The code's trees, in the model's terms.
-use Rattle.std.specs.Prelude.{ℕ, List, [], ◌∷◌, map}
+use Rattle.std.specs.Prelude.{List, [], ◌∷◌, map}
 use Rattle.pddl_tree.specs.declared.tree.Name.{Name}
 use Rattle.pddl_tree.specs.declared.tree.Term.{Term}
 use Rattle.pddl_tree.specs.declared.tree.Term.TheVariants.{Variable, Object}

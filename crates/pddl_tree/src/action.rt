@@ -11,11 +11,11 @@ ghost use Rattle.pddl_tree.specs.Sections.{part_view, parts_of, part_first, valu
 ghost use Rattle.pddl_tree.specs.Symbol.{keyword_view};
 ghost use Rattle.pddl_tree.specs.Tree.{action_of, formula_of, effect_of};
 
+use crate::ahead::{is_close, is_open, keyword_at, name_at};
 use crate::effects::effect;
 use crate::formulas::formula;
 use crate::lists::variables;
 use crate::refusal::{Refusal, refused, refused_keyword};
-use crate::ahead::{is_close, is_open, keyword_at, name_at};
 use crate::symbol::Keyword;
 use crate::tree::{Action, Effect, Formula, Name};
 use std::alloc::Global;

@@ -10,9 +10,9 @@ ghost use Rattle.pddl_tree.specs.Symbol.{keyword_view};
 ghost use Rattle.pddl_tree.specs.Tree.{predicate_of};
 
 use crate::action::action;
+use crate::ahead::{Head, head_at, is_close, is_open, keyword_at};
 use crate::lists::variables;
 use crate::refusal::{Refusal, refused, refused_keyword};
-use crate::ahead::{Head, head_at, is_close, is_open, keyword_at};
 use crate::symbol::Keyword;
 use crate::tree::{Action, Predicate};
 use std::alloc::Global;

@@ -10,11 +10,11 @@ ghost use Rattle.pddl_tree.specs.Sections.{problem_section_view, problem_section
 ghost use Rattle.pddl_tree.specs.Symbol.{keyword_view};
 ghost use Rattle.pddl_tree.specs.Tree.{name_of, fact_of, formula_of};
 
+use crate::ahead::{Head, head_at, is_close, is_open, keyword_at, name_at};
 use crate::domain_file::requirements;
 use crate::formulas::formula;
 use crate::lists::names;
 use crate::refusal::{Refusal, refused, refused_keyword};
-use crate::ahead::{Head, head_at, is_close, is_open, keyword_at, name_at};
 use crate::symbol::Keyword;
 use crate::tree::{Fact, Formula, Name};
 use std::alloc::Global;

@@ -14,10 +14,10 @@ ghost use Rattle.pddl_tree.specs.Symbol.{label_view};
 ghost use Rattle.pddl_tree.specs.Sections.{kind_of};
 ghost use Rattle.pddl_tree.specs.Tree.{name_of, domain_of, problem_of};
 
+use crate::ahead::{is_close, is_label, is_open, name_at};
 use crate::domain_file::{DomainSections, domain_sections};
 use crate::problem_file::{ProblemSections, problem_sections};
 use crate::refusal::{Refusal, refused};
-use crate::ahead::{is_close, is_label, is_open, name_at};
 use crate::symbol::Label;
 use crate::tree::{Domain, Name, Problem};
 use std::alloc::Global;

@@ -1,6 +1,6 @@
-use Rattle.std.proofs.Common.{rules, refl, sym, ◌∙◌, ap, Some}
+use Rattle.std.proofs.Common.{rules, ◌∙◌}
 use Rattle.tokens.specs.declared.word.Kind.TheVariants as kind
-use Rattle.pddl_tree.specs.Ahead.{head_first, head_of}
+use Rattle.pddl_tree.specs.Ahead.{head_first}
 use Rattle.pddl_tree.proofs.Here.{first_is, not_head_word}
 use Rattle.pddl_tree.proofs.ahead.head_at.Goals as goal
 

@@ -1,4 +1,4 @@
-use Rattle.std.proofs.Common.{rules, refl, sym, ◌∙◌, ap, Some}
+use Rattle.std.proofs.Common.{rules}
 use Rattle.tokens.specs.declared.word.Kind.TheVariants as kind
 use Rattle.pddl_tree.specs.Ahead.{opens_first}
 use Rattle.pddl_tree.proofs.Here.{first_is, not_open}

@@ -1,4 +1,4 @@
-use Rattle.std.proofs.Common.{rules, refl, sym, ◌∙◌, ap, Some}
+use Rattle.std.proofs.Common.{◌∙◌, ap, Some}
 use Rattle.tokens.specs.declared.word.Kind.TheVariants as kind
 use Rattle.pddl_tree.specs.Ahead.{keyword_first}
 use Rattle.pddl_tree.proofs.Here.{first_is, not_keyword}

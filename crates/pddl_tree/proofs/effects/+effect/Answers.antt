@@ -1,12 +1,11 @@
-use Rattle.std.proofs.Common.{◌+◌, ◌∷◌, [], ◌∙◌, map, sym, ap, arith, rules}
+use Rattle.std.proofs.Common.{◌+◌, ◌∙◌, map, sym, ap, arith, rules}
 use Rattle.model.specs.Trees as tree
 use Rattle.model.proofs.GrammarMachine.{wants_effect, wants_effects, wants_terms, wants_open, wants_atom, wants_close, run, atom_from}
 use Rattle.pddl_tree.specs.Ahead.{from}
 use Rattle.pddl_tree.specs.Reading.{IsTold}
-use Rattle.pddl_tree.specs.Refusal.{code_first}
-use Rattle.pddl_tree.specs.Tree.{name_of, term_of, atom_of, effect_of, effects_in}
+use Rattle.pddl_tree.specs.Tree.{name_of, effect_of, effects_in}
 use Rattle.pddl_tree.proofs.Looks.{stepped, effect_and, effect_not, effect_atom, effects_more, effects_end}
-use Rattle.pddl_tree.proofs.ReadOn.{on_more, on_end, on_stop, on_later, later, if_passed}
+use Rattle.pddl_tree.proofs.ReadOn.{on_more, on_end, on_later, later, if_passed}
 use Rattle.pddl_tree.proofs.Rows.{effect_of-And, joined-effects}
 use Rattle.pddl_tree.proofs.effects.+effect.Goals as goal
 

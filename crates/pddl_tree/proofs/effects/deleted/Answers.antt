@@ -1,15 +1,12 @@
-use Rattle.std.proofs.Common.{◌+◌, ◌∷◌, [], ◌∙◌, map, sym, ap, arith, rules}
-use Rattle.model.specs.Trees as tree
-use Rattle.model.proofs.GrammarMachine.{wants_terms, wants_open, wants_atom, wants_close, run, atom_from}
+use Rattle.std.proofs.Common.{◌+◌, ◌∙◌, rules}
+use Rattle.model.proofs.GrammarMachine.{wants_terms, wants_open, wants_atom, wants_close, atom_from}
 use Rattle.pddl_tree.specs.Ahead.{from}
 use Rattle.pddl_tree.specs.Reading.{IsTold}
 use Rattle.pddl_tree.specs.Refusal.{code_first}
-use Rattle.pddl_tree.specs.Tree.{name_of, term_of, atom_of}
+use Rattle.pddl_tree.specs.Tree.{name_of, atom_of}
 use Rattle.pddl_tree.proofs.Looks.{stepped, stepped_twice, open_more, atom_more, atom_stop, close_more, close_stop}
-use Rattle.pddl_tree.proofs.ReadOn.{on_more, on_end, on_stop, on_later, later, on_place, if_passed}
-use Rattle.pddl_tree.specs.Ahead.{head_of, predicate_head}
-use Rattle.pddl_tree.specs.declared.ahead.Head.{Head}
-use Rattle.pddl_tree.specs.declared.ahead.Head.TheVariants as head
+use Rattle.pddl_tree.proofs.ReadOn.{later, on_place, if_passed}
+use Rattle.pddl_tree.specs.Ahead.{head_of}
 use Rattle.pddl_tree.proofs.Looks.{not_predicate_head}
 use Rattle.pddl_tree.proofs.effects.deleted.Goals as goal
 

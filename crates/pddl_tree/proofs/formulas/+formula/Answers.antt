@@ -1,12 +1,11 @@
-use Rattle.std.proofs.Common.{◌+◌, ◌∷◌, [], ◌∙◌, map, sym, ap, arith, rules}
+use Rattle.std.proofs.Common.{◌+◌, ◌∙◌, map, sym, ap, arith, rules}
 use Rattle.model.specs.Trees as tree
 use Rattle.model.proofs.GrammarMachine.{wants_formula, wants_formulas, wants_terms, run, atom_from}
 use Rattle.pddl_tree.specs.Ahead.{from}
 use Rattle.pddl_tree.specs.Reading.{IsTold}
-use Rattle.pddl_tree.specs.Refusal.{code_first}
-use Rattle.pddl_tree.specs.Tree.{name_of, term_of, formula_of, formulas_in}
+use Rattle.pddl_tree.specs.Tree.{name_of, formula_of, formulas_in}
 use Rattle.pddl_tree.proofs.Looks.{stepped, formula_and, formula_atom, formulas_more, formulas_end}
-use Rattle.pddl_tree.proofs.ReadOn.{on_more, on_end, on_stop, on_later, later, if_passed}
+use Rattle.pddl_tree.proofs.ReadOn.{on_more, on_end, on_later, later, if_passed}
 use Rattle.pddl_tree.proofs.Rows.{formula_of-And, joined-formulas}
 use Rattle.pddl_tree.proofs.formulas.+formula.Goals as goal
 
