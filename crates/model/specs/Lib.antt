@@ -4,6 +4,7 @@ pub mod Words
 pub mod Trees
 pub mod GrammarWords
 pub mod Grammar
+pub mod Refusals
 pub mod Task
 pub mod WellTyped
 pub mod Typing
