@@ -6,10 +6,12 @@ pub mod files;
 pub mod plan_file;
 mod program;
 mod report;
+mod solve;
 mod task_file;
 mod verdict;
 
 pub use files::Files;
 pub use program::run;
+pub use solve::{Solved, solve_files};
 pub use task_file::{File, FileFault};
 pub use verdict::validate_files;

@@ -1,16 +1,22 @@
 //! The program.
 ghost use Rattle.std.specs.Prelude.{◌≡◌, ℕ, ◌+◌, ◌⊎◌, IfOk, IfSome, IsTrue, List, length, take, vec_len};
 ghost use Rattle.planner_main.specs.Report.{TellsVerdict, is_failure};
+ghost use Rattle.planner_main.specs.Solution.{TellsAnswer, Tells};
 ghost use Rattle.planner_main.specs.Devices.{CountsDevice, IsReading, ReadsSome};
 
 use crate::certificate::{Sink, Source, WriteFault, write_all};
 use crate::files::Files;
 use crate::report::{Failure, answer, tell, tell_usage};
+use crate::solve::{answer_text, solve_files};
 use crate::verdict::validate_files;
+use solver::Limits;
 use std::alloc::{AllocError, Global};
 
 /// The most bytes that are read of a file: one more than a text may have.
 const MAX_READ: usize = 16_777_217;
+
+/// How many states a search may list, and how many instances a task may have, where nothing else is asked for.
+const DEFAULT_LIMIT: u32 = 1_000_000;
 
 /// How many bytes are asked for at a read.
 const PIECE: usize = 65_536;
@@ -18,11 +24,15 @@ const PIECE: usize = 65_536;
 /// The whole program: what the words ask for, with its answer on the standard output and its faults on the standard
 /// error, and the status that it ends with.
 ///
-/// `validate DOMAIN PROBLEM PLAN` says whether the plan solves the task. Of a file at most 16,777,217 bytes are read
+/// `solve DOMAIN PROBLEM [--states N]` tells a cheapest plan, or that there is none; at most N states are listed, where
+/// no N is given 1,000,000. `validate DOMAIN PROBLEM PLAN` says whether the plan solves the task. Of a file at most 16,777,217 bytes are read
 /// and taken for its whole text, and all files are read before any fault of their texts is told.
 ///
 /// | What comes | Standard output | Standard error | Status |
 /// |---|---|---|---|
+/// | a cheapest plan | its steps, a line each, and `; cost = N` | | 0 |
+/// | there is no plan | `unsolvable` | | 10 |
+/// | a limit is exceeded | `unknown states`, `unknown instances` or `unknown atoms` | | 11 |
 /// | the plan solves the task | `valid cost N` | | 0 |
 /// | it does not | `not applicable step N` or `goal missed` | | 12 |
 /// | other words | | how the program is used | 2 |
@@ -36,12 +46,18 @@ pub fn run<F: Files, O: Sink, E: Sink>(
     out: &mut O,
     err: &mut E,
 ) -> u8
-    // There is a verdict, and its line is all that stands on the standard output, or the status says why not.
-    ensures status { IsTrue (is_failure result) ⊎ TellsVerdict (O.taken out.old) (O.taken out.new) result }
+    // There is a verdict or an answer, and its text is all that stands on the standard output, or the status says why not.
+    ensures status { IsTrue (is_failure result) ⊎ Tells (O.taken out.old) (O.taken out.new) result }
 {
     let outcome = match words {
         [command, domain, problem, plan] if *command == "validate" => {
             run_validate(alloc, domain, problem, plan, files, out)
+        }
+        [command, domain, problem, options @ ..] if *command == "solve" => {
+            let Some(limits) = read_limits(options) else {
+                return tell_usage(err);
+            };
+            run_solve(alloc, domain, problem, limits, files, out)
         }
         _ => return tell_usage(err),
     };
@@ -69,6 +85,37 @@ fn run_validate<F: Files, O: Sink>(
     let (line, status) = answer(alloc, verdict)?;
     write_all(out, line.as_bytes())?;
     Ok(status)
+}
+
+/// Tells a cheapest plan, or that there is none: the status.
+fn run_solve<F: Files, O: Sink>(
+    alloc: Global,
+    domain: &str,
+    problem: &str,
+    limits: Limits,
+    files: &mut F,
+    out: &mut O,
+) -> Result<u8, Failure>
+    ensures { IfOk result (λ status. TellsAnswer limits.states limits.instances (O.taken out.old) (O.taken out.new) status) }
+{
+    let domain = read_file(alloc, files, domain)?;
+    let problem = read_file(alloc, files, problem)?;
+    let solved = solve_files(alloc, &domain, &problem, limits)?;
+    let (text, status) = answer_text(alloc, &solved.task, &solved.answer)?;
+    write_all(out, &text)?;
+    Ok(status)
+}
+
+/// The limits that the words after the files ask for, and `None` where they are no options.
+fn read_limits(options: &[&str]) -> Option<Limits> {
+    match options {
+        [] => Limits::new(DEFAULT_LIMIT, DEFAULT_LIMIT),
+        [option, states] if *option == "--states" => match states.parse::<u32>() {
+            Ok(states) => Limits::new(states, DEFAULT_LIMIT),
+            Err(_) => None,
+        },
+        _ => None,
+    }
 }
 
 /// The first 16,777,217 bytes of a file, or all that it has.

@@ -27,7 +27,8 @@ pub(crate) const DEVICE: u8 = 21;
 /// Memory was refused.
 pub(crate) const NO_MEMORY: u8 = 22;
 
-const USAGE: &str = "usage: optplan validate DOMAIN PROBLEM PLAN\n";
+const USAGE: &str =
+    "usage: optplan solve DOMAIN PROBLEM [--states N]\n       optplan validate DOMAIN PROBLEM PLAN\n";
 
 /// Why the program has no answer.
 #[derive(Clone, Copy)]

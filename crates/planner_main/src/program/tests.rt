@@ -13,6 +13,10 @@ const GO_DOMAIN: &str = "(define (domain go)
 
 const GO_PROBLEM: &str = "(define (problem g) (:domain go) (:init (p)) (:goal (and (p) (q))))\n";
 
+const GO_HOLDS: &str = "(define (problem g) (:domain go) (:init (p)) (:goal (p)))\n";
+
+const TIE_LOOSE: &str = "(define (problem t) (:domain tie) (:objects a) (:init) (:goal (tied)))\n";
+
 const TIE_DOMAIN: &str = "(define (domain tie) (:predicates (link ?x ?y) (tied))
  (:action tie :parameters (?x ?y) :precondition (link ?x ?y) :effect (tied)))
 ";
@@ -245,7 +249,8 @@ fn other_words_are_no_command(rt: HostRuntime) -> Result<(), Fail> {
     let alloc = rt.alloc();
     let mut files = files_of(alloc, GO_DOMAIN, GO_PROBLEM, "(go)")?;
     let (d, p, q) = ("domain.pddl", "problem.pddl", "plan.txt");
-    let usage = "usage: optplan validate DOMAIN PROBLEM PLAN\n";
+    let usage =
+        "usage: optplan solve DOMAIN PROBLEM [--states N]\n       optplan validate DOMAIN PROBLEM PLAN\n";
     check(&rt, run_on(alloc, &[], &mut files), 2, "", usage);
     check(
         &rt,
@@ -333,5 +338,73 @@ fn a_file_is_read_in_pieces(rt: HostRuntime) -> Result<(), Fail> {
     let mut source = InPieces::new(Memory::new(b"(go a b)".to_vec(alloc)?), 3);
     let text = super::read_text(alloc, &mut source)?;
     assert_eq!(rt; text.as_slice(), b"(go a b)".as_slice());
+    Ok(())
+}
+
+#[test]
+fn tells_a_cheapest_plan(rt: HostRuntime) -> Result<(), Fail> {
+    let alloc = rt.alloc();
+    let solve = ["solve", "domain.pddl", "problem.pddl"];
+    let solve_in_1 = ["solve", "domain.pddl", "problem.pddl", "--states", "1"];
+    let solve_in_2 = ["solve", "domain.pddl", "problem.pddl", "--states", "2"];
+    for (words, domain, problem, status, out) in [
+        (solve.as_slice(), GO_DOMAIN, GO_HOLDS, 0, "; cost = 0\n"),
+        (
+            solve.as_slice(),
+            GO_DOMAIN,
+            GO_PROBLEM,
+            0,
+            "(go)\n; cost = 1\n",
+        ),
+        (
+            solve_in_1.as_slice(),
+            GO_DOMAIN,
+            GO_PROBLEM,
+            11,
+            "unknown states\n",
+        ),
+        (
+            solve_in_2.as_slice(),
+            GO_DOMAIN,
+            GO_PROBLEM,
+            0,
+            "(go)\n; cost = 1\n",
+        ),
+        (
+            solve.as_slice(),
+            TIE_DOMAIN,
+            TIE_PROBLEM,
+            0,
+            "(tie a a)\n; cost = 1\n",
+        ),
+        (solve.as_slice(), TIE_DOMAIN, TIE_LOOSE, 10, "unsolvable\n"),
+        (
+            solve.as_slice(),
+            PATH_DOMAIN,
+            PATH_PROBLEM,
+            0,
+            "(go a b)\n(go b c)\n; cost = 2\n",
+        ),
+    ] {
+        let mut files = files_of(alloc, domain, problem, "")?;
+        check(&rt, run_on(alloc, words, &mut files), status, out, "");
+    }
+    Ok(())
+}
+
+#[test]
+fn refuses_options_that_are_none(rt: HostRuntime) -> Result<(), Fail> {
+    let alloc = rt.alloc();
+    for (option, number) in [
+        ("--states", "many"),
+        ("--states", "0"),
+        ("--states", "16777217"),
+        ("--twice", "1"),
+    ] {
+        let mut files = files_of(alloc, GO_DOMAIN, GO_PROBLEM, "")?;
+        let words = ["solve", "domain.pddl", "problem.pddl", option, number];
+        assert_eq!(rt; run_on(alloc, &words, &mut files).status, 2, "{number}");
+        assert_eq!(rt; run_on(alloc, &words[..4], &mut files).status, 2);
+    }
     Ok(())
 }

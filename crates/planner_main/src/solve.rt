@@ -1,0 +1,37 @@
+//! From the bytes of a domain file and a problem file to a cheapest plan.
+ghost use Rattle.std.specs.Prelude.{IfOk};
+ghost use Rattle.validator.specs.Typing.{task_of};
+ghost use Rattle.solver.specs.Solver.{IsTrueAnswer};
+
+mod text;
+
+use crate::task_file::{FileFault, read_task};
+use solver::{Answer, Limits, solve};
+use std::alloc::Global;
+pub(crate) use text::answer_text;
+use validator::typing::Task;
+
+/// A task with what was found out of it.
+#[derive(Drop)]
+pub struct Solved {
+    /// The task of the two files.
+    pub task: Task,
+    /// What was found.
+    pub answer: Answer,
+}
+
+/// A cheapest plan, or that there is none, from the bytes of the two files.
+///
+/// The domain is scanned and read, then the problem, then both are typed together; the first fault ends the call.
+pub fn solve_files(
+    alloc: Global,
+    domain: &[u8],
+    problem: &[u8],
+    limits: Limits,
+) -> Result<Solved, FileFault>
+    ensures { IfOk result (λ s. IsTrueAnswer (task_of s.task) limits.states limits.instances s.answer) }
+{
+    let task = read_task(alloc, domain, problem)?;
+    let answer = solve(alloc, &task, limits)?;
+    Ok(Solved { task, answer })
+}
