@@ -20,10 +20,14 @@ object_name task number = option_map_or (λ (name : Name). name) (slice_get task
 abbrev pub schema_name : Task → ℕ → Name
 schema_name task number = option_map_or (λ (s : Schema). s.name) (slice_get task.schemas number) (codes "")
 
+-- a blank and the object's name
+abbrev pub object_text : Task → ℕ → List ℕ
+object_text task number = codes " " ++ object_name task number
+
 -- a step: the names of its schema and of its objects, in parentheses, on a line of its own
 abbrev pub step_text : Task → Instance → List ℕ
 step_text task i =
-    codes "(" ++ schema_name task i.schema ++ flat_map (λ (o : ℕ). codes " " ++ object_name task o) i.objects ++ codes ")\n"
+    codes "(" ++ schema_name task i.schema ++ flat_map (object_text task) i.objects ++ codes ")\n"
 
 -- the steps, and then their cost
 abbrev pub plan_text : Task → List Instance → ℕ → List ℕ

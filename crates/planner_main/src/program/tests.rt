@@ -280,13 +280,7 @@ fn other_words_are_no_command(rt: HostRuntime) -> Result<(), Fail> {
         "",
         usage,
     );
-    check(
-        &rt,
-        run_on(alloc, &["solve", d, p], &mut files),
-        2,
-        "",
-        usage,
-    );
+    check(&rt, run_on(alloc, &["solve", d], &mut files), 2, "", usage);
     check(
         &rt,
         run_on(alloc, &["check", d, p, q], &mut files),

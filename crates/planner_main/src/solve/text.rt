@@ -2,12 +2,12 @@
 ghost use Rattle.std.specs.Prelude.{◌≡◌, ◌++◌, codes, IfOk, OnOk};
 ghost use Rattle.validator.specs.Typing.{task_of};
 ghost use Rattle.validator.specs.Formulas.{instance_of, plan_of};
-ghost use Rattle.planner_main.specs.Solution.{text_of, status_of, plan_text, step_text};
+ghost use Rattle.planner_main.specs.Solution.{text_of, status_of, plan_text, step_text, object_text, schema_name, object_name};
 
 use solver::{Answer, Limit};
 use std::alloc::{AllocError, Global};
 use validator::formulas::{Instance, Plan};
-use validator::typing::Task;
+use validator::typing::{ObjectId, SchemaId, Task};
 
 /// A plan is told.
 const PLAN: u8 = 0;
@@ -63,11 +63,39 @@ fn add_step(task: &Task, step: &Instance, text: &mut Vec<u8>) -> Result<(), Allo
     ensures { OnOk result (text.new.items ≡ text.old.items ++ step_text (task_of task.now) (instance_of step.now)) }
 {
     text.extend_from_slice(b"(")?;
-    text.extend_from_slice(task.schema_name(step.schema).unwrap_or(b""))?;
+    text.extend_from_slice(schema_name(task, step.schema))?;
     for object in step.objects.as_slice() {
-        text.extend_from_slice(b" ")?;
-        text.extend_from_slice(task.object_name(*object).unwrap_or(b""))?;
+        add_object(task, *object, text)?;
     }
     text.extend_from_slice(b")\n")?;
     Ok(())
+}
+
+/// Adds a blank and the object's name.
+fn add_object(task: &Task, object: ObjectId, text: &mut Vec<u8>) -> Result<(), AllocError>
+    ensures { OnOk result (text.new.items ≡ text.old.items ++ object_text (task_of task.now) object.0) }
+{
+    text.extend_from_slice(b" ")?;
+    text.extend_from_slice(object_name(task, object))?;
+    Ok(())
+}
+
+/// The schema's name; no bytes where there is no such schema.
+fn schema_name(task: &Task, schema: SchemaId) -> &[u8]
+    ensures { result.now ≡ schema_name (task_of task.now) schema.0 }
+{
+    match task.schema_name(schema) {
+        Some(name) => name,
+        None => b"",
+    }
+}
+
+/// The object's name; no bytes where there is no such object.
+fn object_name(task: &Task, object: ObjectId) -> &[u8]
+    ensures { result.now ≡ object_name (task_of task.now) object.0 }
+{
+    match task.object_name(object) {
+        Some(name) => name,
+        None => b"",
+    }
 }
