@@ -4,6 +4,7 @@ pub mod Words
 pub mod Trees
 pub mod GrammarWords
 pub mod Grammar
+pub mod Refusals
 pub mod Task
 pub mod WellTyped
 pub mod Typing
@@ -14,3 +15,4 @@ pub mod Claims
 pub mod Certificates
 pub mod Examples
 pub mod PlanText
+pub mod Files

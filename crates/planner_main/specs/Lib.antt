@@ -1,3 +1,4 @@
 pub mod Devices
 pub mod Report
 pub mod PlanFile
+pub mod Files
