@@ -1,7 +1,7 @@
 -- What is told of words that are no domain, or no problem: the first word with which no file goes on, and the line of
 -- the table of refusals that is true of it (docs/language.md, "Refusals", 7 to 12).
-use Rattle.std.specs.Prelude.{◌≡◌, ℕ, ◌≤◌, ◌⊎◌, Bool, true, false, List, [], ◌∷◌, ◌++◌, map, Option, None, Some, is_some}
-use Rattle.model.specs.Fault.{Fault, Span}
+use Rattle.std.specs.Prelude.{◌≡◌, ℕ, ◌⊎◌, Bool, true, false, List, [], ◌∷◌, ◌++◌, map, Option, None, Some, is_some}
+use Rattle.model.specs.Fault.{Fault}
 use Rattle.model.specs.Words.{Word, end_of}
 use Rattle.model.specs.Trees.{Name, Formula, Effect, Predicate, Action, Domain, Problem}
 use Rattle.model.specs.GrammarWords.{Token, opens, closes, name, keyword, token_of, Label, free, reserved, define, domain, problem, left_out_name, Keyword, domain_keyword, requirements, predicates, action, objects, init, goal, parameters, precondition, effect, requirement_key, left_out_keyword}
@@ -131,10 +131,9 @@ end_of_all (word ∷ next ∷ words) = end_of_all (next ∷ words)
 
 -- what is told of words that are no file of this kind
 pub data IsRefused (file : File) (words : List Word) (fault : Fault) : Type 0 where
-  -- of a word: no file begins with the words up to it, however they go on, and the told line is true of it
+  -- of a word: no file begins with the words up to it, however they go on
   at_word : (before after : List Word) (word : Word) → words ≡ before ++ word ∷ after
       → ((rest : List Token) → IsWhole file (tokens_of before ++ token_of word ∷ rest) → ⊥)
-      → IsTrueOf file (tokens_of before) (token_of word) fault.code
       → fault.span ≡ record { start = word.start; end = end_of word } → IsRefused file words fault
   -- of the end of the last word: the words run out, and begin with no whole file
   at_end : ((before after : List Word) → words ≡ before ++ after → IsWhole file (tokens_of before) → ⊥) → fault.code ≡ 7
