@@ -16,3 +16,4 @@ pub mod Certificates
 pub mod CertificateRefusals
 pub mod Examples
 pub mod PlanText
+pub mod Files
