@@ -8,7 +8,12 @@ use std::process::ExitCode;
 use std::{env, io};
 
 fn main(rt: HostRuntime) -> io::Result<ExitCode> {
-    let arguments: Vec<String> = env::args(&rt)?.skip(1).collect(rt.alloc())?;
+    let arguments: Vec<String> = match env::args(&rt) {
+        Ok(arguments) => arguments.skip(1).collect(rt.alloc())?,
+        Err(error) if error.kind() == io::ErrorKind::OutOfMemory => return Err(error),
+        // Arguments that are no text are no words of the program.
+        Err(_) => Vec::new(rt.alloc()),
+    };
     let words: Vec<&str> = arguments
         .iter()
         .map(|word| word.as_str())
