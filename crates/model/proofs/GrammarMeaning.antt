@@ -103,15 +103,15 @@ goal_section_words {d} {q} {o} {i} f s w u v x r a h b hs =
     let Q : List Token → Type 0 = λ y. IsFormula (opens ∷ u) f y in
     subst P (sym a) (more_problem_sections (goal_formula (subst Q b h)) hs)
 
-new_parameters : (p : Parts) (ns : List Name) (w r : List Token) → AreVariables w ns (closes ∷ r) → has_part p parameter_part ≡ false → IsPart (keyword parameters ∷ opens ∷ w) p (set_parameters p ns) r
+pub new_parameters : (p : Parts) (ns : List Name) (w r : List Token) → AreVariables w ns (closes ∷ r) → has_part p parameter_part ≡ false → IsPart (keyword parameters ∷ opens ∷ w) p (set_parameters p ns) r
 new_parameters (parts None c e) ns w r d h = parameter_list d
 new_parameters (parts (Some ms) c e) ns w r d h = absurd (cc)
 
-new_precondition : (p : Parts) (f : Formula) (w r : List Token) → IsFormula w f r → has_part p precondition_part ≡ false → IsPart (keyword precondition ∷ w) p (set_precondition p f) r
+pub new_precondition : (p : Parts) (f : Formula) (w r : List Token) → IsFormula w f r → has_part p precondition_part ≡ false → IsPart (keyword precondition ∷ w) p (set_precondition p f) r
 new_precondition (parts p None e) f w r d h = condition d
 new_precondition (parts p (Some c) e) f w r d h = absurd (cc)
 
-new_effect : (p : Parts) (f : Effect) (w r : List Token) → IsEffect w f r → has_part p effect_part ≡ false → IsPart (keyword effect ∷ w) p (set_effect p f) r
+pub new_effect : (p : Parts) (f : Effect) (w r : List Token) → IsEffect w f r → has_part p effect_part ≡ false → IsPart (keyword effect ∷ w) p (set_effect p f) r
 new_effect (parts p c None) f w r d h = change d
 new_effect (parts p c (Some e)) f w r d h = absurd (cc)
 

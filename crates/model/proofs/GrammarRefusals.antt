@@ -9,6 +9,7 @@ use Rattle.model.specs.Refusals.{File, domain_file, problem_file, IsWhole, token
 use Rattle.model.proofs.GrammarMachine.{State, wants_nothing, Tree, domain_tree, problem_tree, Step, go, refuse, step, finished, stopped, follow, run, start}
 use Rattle.model.proofs.GrammarRuns.{domain_run, problem_run}
 use Rattle.model.proofs.GrammarStops.{dead_domain, dead_problem}
+use Rattle.model.proofs.GrammarTold.{true_of}
 
 -- what finished did not stop
 apart : {t : Tree} {code : ℕ} {w : List Token} → finished t ≡ stopped code w → ⊥
@@ -75,7 +76,7 @@ refused_word : (file : File) (words before after : List Word) (word : Word) (cod
 refused_word file words before after word code split e =
     let tokens : tokens_of words ≡ tokens_of before ++ token_of word ∷ tokens_of after = ap tokens_of split ∙ map-append token_of before (word ∷ after) in
     let runs : run (tokens_of before ++ token_of word ∷ tokens_of after) (start file) ≡ stopped code (token_of word ∷ tokens_of after) = ap (λ w. run w (start file)) (sym tokens) ∙ e in
-    at_word before after word split (dead file (tokens_of before) (token_of word) (tokens_of after) code runs) refl
+    at_word before after word split (dead file (tokens_of before) (token_of word) (tokens_of after) code runs) (true_of file (tokens_of before) (token_of word) (tokens_of after) code runs) refl
 
 refused_end : (file : File) (words : List Word) (code : ℕ) → run (tokens_of words) (start file) ≡ stopped code [] → IsRefused file words (record { code = code; span = record { start = end_of_all words; end = end_of_all words } })
 refused_end file words code e =

@@ -74,7 +74,7 @@ domain_section_run (domain_requirements {p = p} {found = found} d) n = keys_run 
 domain_section_run (declared_predicates {q = q} {found = found} d) n = predicates_run d (λ ps. wants_domain_sections n (domain_sections q (Some ps) found))
 domain_section_run (one_action {q = q} {p = p} {found = found} d) n = action_run d (λ a. wants_domain_sections n (domain_sections q p (found ++ a ∷ [])))
 
-domain_sections_run : {w r : List Token} {s t : DomainSections} → AreDomainSections w s t r → (n : Name) → run w (wants_domain_sections n s) ≡ run r (wants_domain_sections n t)
+pub domain_sections_run : {w r : List Token} {s t : DomainSections} → AreDomainSections w s t r → (n : Name) → run w (wants_domain_sections n s) ≡ run r (wants_domain_sections n t)
 domain_sections_run no_domain_section n = refl
 domain_sections_run (more_domain_sections d ds) n = domain_section_run d n ∙ domain_sections_run ds n
 
@@ -82,7 +82,7 @@ pub domain_run : {w : List Token} {d : Domain} → IsDomain w d → run w (start
 domain_run (whole_domain {n = n} d) = domain_sections_run d n
 
 -- a section that was not read keeps the list of a problem open
-not_full_keys : (d : Option Name) (o : Option (List Name)) (i : Option (List Fact)) (g : Option Formula) → is_full (problem_sections d false o i g) ≡ false
+pub not_full_keys : (d : Option Name) (o : Option (List Name)) (i : Option (List Fact)) (g : Option Formula) → is_full (problem_sections d false o i g) ≡ false
 not_full_keys None o i g = refl
 not_full_keys (Some d) o i g = refl
 
@@ -116,7 +116,7 @@ problem_section_run (initial_facts {d = d} {q = q} {o = o} {g = g} {w = v} h) n 
 problem_section_run (goal_formula {d = d} {q = q} {o = o} {i = i} {w = v} h) n =
     section_opens (keyword goal ∷ v) n (problem_sections d q o i None) (not_full_goal d q o i) ∙ formula_run h (wants_open (wants_formula (λ f. wants_close (wants_problem_sections n (problem_sections d q o i (Some f)))))) (λ f. wants_close (wants_problem_sections n (problem_sections d q o i (Some f)))) refl
 
-problem_sections_run : {w r : List Token} {s t : ProblemSections} → AreProblemSections w s t r → (n : Name) → run w (wants_problem_sections n s) ≡ run r (wants_problem_sections n t)
+pub problem_sections_run : {w r : List Token} {s t : ProblemSections} → AreProblemSections w s t r → (n : Name) → run w (wants_problem_sections n s) ≡ run r (wants_problem_sections n t)
 problem_sections_run no_problem_section n = refl
 problem_sections_run (more_problem_sections d ds) n = problem_section_run d n ∙ problem_sections_run ds n
 

@@ -9,7 +9,7 @@ use Rattle.model.specs.Refusals.{domain_file, problem_file}
 use Rattle.model.proofs.GrammarRuns.{domain_run, problem_run}
 
 -- the words left of what stopped
-abbrev LeftWithin : Outcome → List Token → Type 0
+abbrev pub LeftWithin : Outcome → List Token → Type 0
 LeftWithin (finished t) w = Unit {0}
 LeftWithin (stopped code left) w = length left ≤ length w
 
@@ -21,7 +21,7 @@ ended : (s : State) → LeftWithin (at_end s) []
 ended (wants_nothing t) = tt
 ended s = omega arith
 
-left_within : (w : List Token) (s : State) → LeftWithin (run w s) w
+pub left_within : (w : List Token) (s : State) → LeftWithin (run w s) w
 left_within [] s = ended s
 left_within (t ∷ w) s = by_step (left_within w) (step s t)
   where

@@ -6,6 +6,9 @@ pub mod GrammarMachine
 pub mod GrammarRuns
 pub mod GrammarMeaning
 pub mod GrammarStops
+pub mod GrammarFrames
+pub mod GrammarLines
+pub mod GrammarTold
 pub mod GrammarRefusals
 pub mod StaticLemmas
 pub mod Steps

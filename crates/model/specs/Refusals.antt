@@ -131,9 +131,10 @@ end_of_all (word ∷ next ∷ words) = end_of_all (next ∷ words)
 
 -- what is told of words that are no file of this kind
 pub data IsRefused (file : File) (words : List Word) (fault : Fault) : Type 0 where
-  -- of a word: no file begins with the words up to it, however they go on
+  -- of a word: no file begins with the words up to it, however they go on, and the told line is true of it
   at_word : (before after : List Word) (word : Word) → words ≡ before ++ word ∷ after
       → ((rest : List Token) → IsWhole file (tokens_of before ++ token_of word ∷ rest) → ⊥)
+      → IsTrueOf file (tokens_of before) (token_of word) fault.code
       → fault.span ≡ record { start = word.start; end = end_of word } → IsRefused file words fault
   -- of the end of the last word: the words run out, and begin with no whole file
   at_end : ((before after : List Word) → words ≡ before ++ after → IsWhole file (tokens_of before) → ⊥) → fault.code ≡ 7
