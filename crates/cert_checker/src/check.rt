@@ -17,6 +17,8 @@ mod code;
 mod fluents;
 mod listing;
 mod steps;
+#[cfg(test)]
+mod tests;
 
 use crate::certificate::Cert;
 pub use code::RefusalCode;
