@@ -1,6 +1,6 @@
 -- Why a certificate that the checker goes through without a refusal is closed.
 use Rattle.std.proofs.Common.{◌≡◌, ℕ, zero, suc, ◌+◌, ◌<◌, ◌≤◌, Bool, true, false, ◌&&◌, ◌||◌, List, [], ◌∷◌, ◌++◌, length, map, take, get_or, Option, None, Some, inl, inr, refl, sym, ap, ◌∙◌, subst, arith}
-use Rattle.std.specs.Prelude.{IsTrue, IfSome, OnOk, Result, Ok, Err, filter, if◌then◌else◌, nat_eq, Contains, slice_get}
+use Rattle.std.specs.Prelude.{IsTrue, MatchOption, OnOk, Result, Ok, Err, filter, if◌then◌else◌, nat_eq, Contains, slice_get}
 use Rattle.std.specs.Option.{option_eq, option_map_or}
 use Rattle.std.proofs.lemmas.Bool.{eqb-true, ltb-true, and_parts}
 use Rattle.std.specs.List.{filter_map, list_all, cons_option}
@@ -16,12 +16,13 @@ use Rattle.cert_checker.specs.declared.certificate.cert.StateLine as code_line
 use Rattle.cert_checker.specs.CertificateParts.{line_of}
 use Rattle.cert_checker.specs.CheckedLines.{Lists, IsListedAt, IsOpenClosed, IsCutClosed, IsLineClosed}
 use Rattle.model.specs.Task.{Task, Atom, Instance}
-use Rattle.model.specs.Runs.{System, cost_of_all, Solves, IsOptimal}
+use Rattle.model.specs.Runs.{cost_of_all, Solves, IsOptimal}
 use Rattle.model.specs.Meaning.{State, atom_cmp, system_of}
 use Rattle.model.specs.Instances.{successors_of}
-use Rattle.model.specs.Claims.{Claim, bound, Allows, Line, IsListedWithin, IsLowerBound, IsClosed, ClaimHolds}
+use Rattle.model.specs.Claims.{Claim, bound, Allows, Line, IsListedWithin, IsClosed, ClaimHolds}
 use Rattle.model.specs.Certificates.{Certificate, StateLine, state_of_line, lines_of, is_number, is_state_line, rise}
-use Rattle.model.proofs.ListLemmas.{Contains-here, Contains-cases, Contains-none}
+use Rattle.model.specs.CertificateRefusals.{IsListed}
+use Rattle.model.proofs.ListLemmas.{Contains-cases, Contains-none}
 use Rattle.model.proofs.Atoms.{atoms_total, atoms_apart, same_state}
 use Rattle.model.proofs.ClaimsLemmas.{claim-of_closed}
 use Rattle.model.proofs.InstancesLemmas.{Contains-successors}
@@ -46,7 +47,7 @@ Contains-place xs x at = (at.0, got xs at.0 x at.1 (sym at.2))
 
 -- ---- the listing
 
-abbrev entry : Task → Certificate → StateLine → Line State
+abbrev pub entry : Task → Certificate → StateLine → Line State
 entry task cert l = record { state = state_of_line task cert l; cost = l.cost; cut = l.cut }
 
 -- what the listing has at the place of a line of the code's certificate
@@ -58,13 +59,13 @@ listed_there task cert lines place l is at =
 pub state_there : (task : Task) (cert : Certificate) (states : List State) (lines : List code_line.StateLine) (place : ℕ) (l : code_line.StateLine)
     → Lists task cert states → map line_of lines ≡ cert.lines → slice_get lines place ≡ Some l → slice_get states place ≡ Some (state_of_line task cert (line_of l))
 state_there task cert states lines place l lists is at =
-    subst (λ ss. slice_get ss place ≡ Some (state_of_line task cert (line_of l))) (sym lists)
+    subst (λ ss. slice_get ss place ≡ Some (state_of_line task cert (line_of l))) (sym lists.listed)
     (slice_get-map (state_of_line task cert) cert.lines place (line_of l) (subst (λ ls. slice_get ls place ≡ Some (line_of l)) is (slice_get-map line_of lines place l at)))
 
 pub place_within : (task : Task) (cert : Certificate) (states : List State) (lines : List code_line.StateLine) (place : ℕ) (state : State)
     → Lists task cert states → map line_of lines ≡ cert.lines → slice_get states place ≡ Some state → place < length lines
 place_within task cert states lines place state lists is at =
-    omega (arith, slice_get_within states place state at, ap length lists, length-map cert.lines (state_of_line task cert), ap length is, length-map lines line_of)
+    omega (arith, slice_get_within states place state at, ap length lists.listed, length-map cert.lines (state_of_line task cert), ap length is, length-map lines line_of)
 
 -- a state found at a place of the listing is listed at the cost of the line there
 pub listed_at : (task : Task) (cert : Certificate) (states : List State) (lines : List code_line.StateLine) (place : ℕ) (state : State) (l : code_line.StateLine)
@@ -165,7 +166,8 @@ insert-between (x ∷ xs) rest a = insert-swap (from_list (xs ++ rest)) x a ∙ 
 
 -- ---- the initial state
 
-pub listed_at_none : (lines : List (Line State)) (s t : State) (o : Option ℕ) → IfSome o (IsListedAt lines s) → true ≡ option_eq nat_eq o (Some 0) → s ≡ t → IsListedWithin lines t 0
+pub listed_at_none : (lines : List (Line State)) (s t : State) (o : Option ℕ) → MatchOption o (¬ IsListed lines s) (IsListedAt lines s) → true ≡ option_eq nat_eq o (Some 0) → s ≡ t
+    → IsListedWithin lines t 0
 listed_at_none lines s t None listed is same = absurd (cc)
 listed_at_none lines s t (Some cost) listed is same =
     subst (λ r. IsListedWithin lines r 0) same (listed_within lines s cost 0 listed (omega (arith, eqb-true cost 0 (sym is))))
@@ -221,7 +223,7 @@ states_more view xs k x before after s lt at so here is =
     here ∙ (λ i. so i ++ is i ∷ []) ∙ sym (ap (map view) (take_more xs k x lt ∙ ap (λ y. take k xs ++ y ∷ []) (sym at)) ∙ map-append view (take k xs) (x ∷ []))
 
 pub states_whole : (task : Task) (cert : Certificate) (lines : List code_line.StateLine) (k : ℕ) (states : List State) → length lines ≤ k → map line_of lines ≡ cert.lines
-    → states ≡ map (λ line. state_of_line task cert (line_of line)) (take k lines) → Lists task cert states
+    → states ≡ map (λ line. state_of_line task cert (line_of line)) (take k lines) → states ≡ map (state_of_line task cert) cert.lines
 states_whole task cert lines k states past is so =
     so ∙ ap (map (λ line. state_of_line task cert (line_of line))) (take_all k lines past) ∙ in_two lines ∙ ap (map (state_of_line task cert)) is
   where

@@ -1,2 +1,5 @@
 pub mod CertCheckerLemmas
 pub mod FluentsLemmas
+pub mod RefusalsLemmas
+pub mod ReadingLemmas
+pub mod AnswerLemmas

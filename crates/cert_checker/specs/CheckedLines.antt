@@ -1,14 +1,31 @@
 -- What the checker finds out of a certificate's lines, one after another.
-use Rattle.std.specs.Prelude.{◌≡◌, ℕ, ◌+◌, ◌≤◌, IsTrue, List, map, Contains, Option, None, Some}
-use Rattle.model.specs.Task.{Task}
-use Rattle.model.specs.Meaning.{State, system_of}
+use Rattle.std.specs.Prelude.{◌≡◌, ◌≢◌, ℕ, ◌+◌, ◌≤◌, ◌&&◌, IsTrue, List, map, All, AllPairs, Contains, slice_get, Option, None, Some}
+use Rattle.cert_checker.specs.declared.check.Refusal.{Refusal}
+use Rattle.cert_checker.specs.CertChecker.{IsTrueRefusal}
+use Rattle.model.specs.Task.{Atom, Task, Instance}
+use Rattle.model.specs.WellTyped.{is_atom}
+use Rattle.model.specs.Meaning.{State}
 use Rattle.model.specs.Runs.{System}
 use Rattle.model.specs.Claims.{Claim, Allows, Line, IsListedWithin}
-use Rattle.model.specs.Certificates.{Certificate, state_of_line, lines_of}
+use Rattle.model.specs.Certificates.{Certificate, StateLine, is_fluent, state_of_line}
 
--- these are the states that the certificate's lines list, in their order
-abbrev pub Lists : Task → Certificate → List State → Type 0
-Lists task certificate states = states ≡ map (state_of_line task certificate) certificate.lines
+-- the atoms are well-typed, of fluent predicates, and distinct
+pub record AreFluent (task : Task) (atoms : List Atom) : Type 0 where
+  pub fluent : All (λ (a : Atom). IsTrue (is_atom task a && is_fluent task a.predicate)) atoms
+  pub distinct : AllPairs (λ (a b : Atom). a ≢ b) atoms
+
+-- these are the states that the certificate's lines list, in their order, and they are distinct
+pub record Lists (task : Task) (certificate : Certificate) (states : List State) : Type 0 where
+  pub listed : states ≡ map (state_of_line task certificate) certificate.lines
+  pub distinct : AllPairs (λ (s t : State). s ≢ t) states
+
+-- the refusal is true, whatever plan is handed in and whatever the limit of instances
+abbrev pub IsTrueAnyway : Task → Certificate → Refusal → Type 0
+IsTrueAnyway task c refusal = (plan : Option (List Instance)) (most : ℕ) → IsTrueRefusal task c plan most refusal
+
+-- the certificate's line at this place has this cost and this cut
+abbrev pub HasCost : Certificate → ℕ → ℕ → Option ℕ → Type 0
+HasCost c place cost cut = (l : StateLine) × (slice_get c.lines place ≡ Some l) × (l.cost ≡ cost) × (l.cut ≡ cut)
 
 -- the state is listed at just this cost
 abbrev pub IsListedAt : {S : Type 0} → List (Line S) → S → ℕ → Type 0

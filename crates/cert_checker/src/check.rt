@@ -1,13 +1,16 @@
 //! The checker of certificates: it accepts exactly where the certificate is closed for the task, and then its claim is
 //! true of every plan.
-ghost use Rattle.std.specs.Prelude.{◌<◌, length, IsTrue, IfOk};
+ghost use Rattle.std.specs.Prelude.{◌≡◌, ◌<◌, length, IsTrue, IfErr, IfOk, MatchResult, OnOk};
 ghost use Rattle.std.specs.List.{list_all};
 ghost use Rattle.std.specs.Option.{ForSome, option_map};
 ghost use Rattle.validator.specs.Typing.{task_of};
 ghost use Rattle.validator.specs.Formulas.{plan_of};
 ghost use Rattle.model.specs.Meaning.{is_instance};
+ghost use Rattle.model.specs.Instances.{all_instances};
+ghost use Rattle.model.specs.Certificates.{IsClosedFor};
+ghost use Rattle.model.specs.CertificateRefusals.{IsPlanWithin, atom_line, state_line};
 ghost use Rattle.cert_checker.specs.Certificate.{certificate_of};
-ghost use Rattle.cert_checker.specs.CertChecker.{IsShown};
+ghost use Rattle.cert_checker.specs.CertChecker.{Answers, IsByTheLimit, IsNoFault, IsShown, IsTrueRefusal};
 
 mod answer;
 mod code;
@@ -16,10 +19,10 @@ mod listing;
 mod steps;
 
 use crate::certificate::Cert;
-use task_system::instances_exceed;
 pub use code::RefusalCode;
 pub use fluents::{is_atom, is_fluent};
 use std::alloc::{AllocError, AllocFailed, Global};
+use task_system::instances_exceed;
 use tokens::NoMemory;
 use validator::formulas::Plan;
 use validator::typing::Task;
@@ -107,6 +110,18 @@ pub fn check_cert(
 ) -> Result<Accepted, Refusal>
     requires { ForSome plan (λ p. IsTrue (list_all (is_instance (task_of task.now)) (plan_of p.now))) }
     ensures shown { IfOk result (IsShown (task_of task.now) (option_map (λ p. plan_of p.now) plan.entry)) }
+
+    // It accepts exactly where the certificate is closed and the plan, if one is handed in, costs no more than is
+    // claimed; the limit of instances and want of memory aside.
+    ensures closed { OnOk result (IsClosedFor (task_of task.now) (certificate_of cert.now)) }
+    ensures answers { IfOk result (Answers (certificate_of cert.now).claim (option_map (λ p. plan_of p.now) plan.entry)) }
+    ensures accepts { IsClosedFor (task_of task.now) (certificate_of cert.now)
+        → IsPlanWithin (task_of task.now) (certificate_of cert.now).claim (option_map (λ p. plan_of p.now) plan.entry)
+        → IfErr result IsNoFault }
+
+    // Each refusal is true, and beyond the limit of instances nothing is told that comes after it.
+    ensures refused { IfErr result (IsTrueRefusal (task_of task.now) (certificate_of cert.now) (option_map (λ p. plan_of p.now) plan.entry) max_instances) }
+    ensures limited { max_instances < length (all_instances (task_of task.now)) → MatchResult result (λ _. ⊥) IsByTheLimit }
 {
     listing::check_atoms(alloc, task, cert)?;
     let states = listing::listed_states(alloc, task, cert)?;
@@ -115,12 +130,13 @@ pub fn check_cert(
     }
     steps::check_initial(alloc, task, cert, &states)?;
     steps::check_lines(alloc, task, cert, &states)?;
-    answer::answer(alloc, task, cert.claim(), plan)
+    answer::answer(alloc, task, cert, plan)
 }
 
 /// The refusal of the atom at this place, from 0, by its line.
 fn atom_line(code: RefusalCode, place: usize) -> Refusal
     requires { place < 1048576 }
+    ensures { result ≡ Refusal.Line code (atom_line place) }
 {
     Refusal::Line {
         code,
@@ -131,6 +147,7 @@ fn atom_line(code: RefusalCode, place: usize) -> Refusal
 /// The refusal of the state line at this place, from 0, by its line.
 fn state_line(code: RefusalCode, cert: &Cert, place: usize) -> Refusal
     requires { place < length (certificate_of cert.now).lines }
+    ensures { result ≡ Refusal.Line code (state_line (certificate_of cert.now) place) }
 {
     Refusal::Line {
         code,

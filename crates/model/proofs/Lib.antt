@@ -12,3 +12,4 @@ pub mod ExampleProofs
 pub mod PlanMachine
 pub mod PlanReading
 pub mod PlanMeaning
+pub mod CertificateRefusalsLemmas

@@ -12,5 +12,6 @@ pub mod Meaning
 pub mod Instances
 pub mod Claims
 pub mod Certificates
+pub mod CertificateRefusals
 pub mod Examples
 pub mod PlanText

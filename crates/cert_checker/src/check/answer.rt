@@ -1,15 +1,15 @@
 //! What a closed certificate shows, with the plan that was handed in.
-ghost use Rattle.std.specs.Prelude.{IsTrue, IfOk};
+ghost use Rattle.std.specs.Prelude.{ℕ, IsTrue, IfErr, IfOk};
 ghost use Rattle.std.specs.List.{list_all};
 ghost use Rattle.std.specs.Option.{ForSome, option_map};
 ghost use Rattle.validator.specs.Typing.{task_of};
 ghost use Rattle.validator.specs.Formulas.{plan_of};
-ghost use Rattle.cert_checker.specs.CertificateParts.{claim_of};
-ghost use Rattle.cert_checker.specs.CertChecker.{IsShown};
+ghost use Rattle.cert_checker.specs.Certificate.{certificate_of};
+ghost use Rattle.cert_checker.specs.CertChecker.{Answers, IsShown, IsTrueRefusal};
 ghost use Rattle.model.specs.Meaning.{is_instance, system_of};
 ghost use Rattle.model.specs.Claims.{ClaimHolds};
 
-use crate::certificate::Claim;
+use crate::certificate::{Cert, Claim};
 use crate::check::code::RefusalCode;
 use crate::check::{Accepted, Refusal};
 use std::alloc::Global;
@@ -17,19 +17,22 @@ use validator::formulas::Plan;
 use validator::typing::Task;
 use validator::{Verdict, validate};
 
-/// What the claim, which is true, shows: of all plans, or that the plan handed in, if it costs no more, is optimal.
+/// What the certificate's claim, which is true, shows: of all plans, or that the plan handed in, if it costs no more,
+/// is optimal.
 pub(super) fn answer(
     alloc: Global,
     task: &Task,
-    claim: Claim,
+    cert: &Cert,
     plan: Option<&Plan>,
 ) -> Result<Accepted, Refusal>
     requires instances { ForSome plan (λ p. IsTrue (list_all (is_instance (task_of task.now)) (plan_of p.now))) }
-    requires holds { ClaimHolds (system_of (task_of task.now)) (claim_of claim) }
-    ensures { IfOk result (IsShown (task_of task.now) (option_map (λ p. plan_of p.now) plan.entry)) }
+    requires holds { ClaimHolds (system_of (task_of task.now)) (certificate_of cert.now).claim }
+    ensures shown { IfOk result (IsShown (task_of task.now) (option_map (λ p. plan_of p.now) plan.entry)) }
+    ensures answers { IfOk result (Answers (certificate_of cert.now).claim (option_map (λ p. plan_of p.now) plan.entry)) }
+    ensures wrong { IfErr result (λ e. (most : ℕ) → IsTrueRefusal (task_of task.now) (certificate_of cert.now) (option_map (λ p. plan_of p.now) plan.entry) most e) }
 {
     let Some(plan) = plan else {
-        return Ok(match claim {
+        return Ok(match cert.claim() {
             Claim::Bound(cost) => Accepted::AtLeast { cost },
             Claim::Unsolvable => Accepted::Unsolvable,
         });
@@ -37,7 +40,7 @@ pub(super) fn answer(
     let Verdict::Valid { cost } = validate(alloc, task, plan)? else {
         return Err(Refusal::Plain(RefusalCode::PlanInvalid));
     };
-    match claim {
+    match cert.claim() {
         Claim::Bound(least) if cost <= least => Ok(Accepted::Optimal { cost }),
         Claim::Bound(_) => Err(Refusal::Plain(RefusalCode::PlanDearer)),
         Claim::Unsolvable => Err(Refusal::Plain(RefusalCode::PlanInvalid)),

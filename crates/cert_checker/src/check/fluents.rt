@@ -1,5 +1,5 @@
 //! Which atoms are well-typed, and which predicates the task's actions change.
-ghost use Rattle.std.specs.Prelude.{◌≡◌};
+ghost use Rattle.std.specs.Prelude.{◌≡◌, ◌&&◌};
 ghost use Rattle.std.specs.List.{list_all};
 ghost use Rattle.validator.specs.TaskParts.{atom_of, object_of};
 ghost use Rattle.model.specs.WellTyped as well_typed;
@@ -18,6 +18,13 @@ pub fn is_atom(task: &Task, atom: &Atom) -> bool
         return false;
     };
     atom.objects.len() == predicate.arity && are_objects(task, atom.objects.as_slice())
+}
+
+/// Whether the atom is well-typed, and some action of the task adds or deletes atoms of its predicate.
+pub(super) fn is_fluent_atom(task: &Task, atom: &Atom) -> bool
+    ensures { result ≡ (well_typed.is_atom (task_of task.now) (atom_of atom.now) && certificates.is_fluent (task_of task.now) (atom_of atom.now).predicate) }
+{
+    is_atom(task, atom) && is_fluent(task, atom.predicate)
 }
 
 /// Whether each is an object of the task.

@@ -1,5 +1,5 @@
 //! The listing of a certificate: its atoms and its states, read in the order of their lines.
-ghost use Rattle.std.specs.Prelude.{◌≡◌, List, ◌++◌, slice_get, IfOk};
+ghost use Rattle.std.specs.Prelude.{◌≡◌, ◌↔◌, List, ◌++◌, slice_get, IfErr, IfOk, IsSome, IsTrue, OnOk};
 ghost use Rattle.std.specs.FinSet.{from_list};
 ghost use Rattle.std.specs.List.{filter_map};
 ghost use Rattle.validator.specs.Typing.{task_of};
@@ -7,26 +7,32 @@ ghost use Rattle.validator.specs.Formulas.{state_of};
 ghost use Rattle.cert_checker.specs.CertificateParts.{line_of};
 ghost use Rattle.cert_checker.specs.Certificate.{certificate_of};
 ghost use Rattle.task_system.specs.PlainStore.{states_of};
-ghost use Rattle.cert_checker.specs.CheckedLines.{Lists};
+ghost use Rattle.cert_checker.specs.CertChecker.{IsByTheLimit};
+ghost use Rattle.cert_checker.specs.CheckedLines.{AreFluent, IsTrueAnyway, Lists};
 ghost use Rattle.model.specs.Task as model_task;
+ghost use Rattle.model.specs.Claims as claims;
 ghost use Rattle.model.specs.Certificates.{static_atoms};
 
 use crate::certificate::{Cert, Claim, StateLine};
 use crate::check::code::RefusalCode;
-use crate::check::fluents::{is_atom, is_fluent};
+use crate::check::fluents::{is_fluent, is_fluent_atom};
 use crate::check::{Refusal, atom_line, state_line};
-use task_system::PlainStore;
 use indexmap::IndexSet;
 use std::alloc::Global;
+use task_system::PlainStore;
 use tokens::NoMemory;
 use validator::formulas::State;
 use validator::typing::Task;
 
 /// Whether each atom is a well-typed atom of a fluent predicate, and none stood before.
-pub(super) fn check_atoms(alloc: Global, task: &Task, cert: &Cert) -> Result<(), Refusal> {
+pub(super) fn check_atoms(alloc: Global, task: &Task, cert: &Cert) -> Result<(), Refusal>
+    ensures right { OnOk result (AreFluent (task_of task.now) (certificate_of cert.now).atoms) }
+    ensures wrong { IfErr result (IsTrueAnyway (task_of task.now) (certificate_of cert.now)) }
+    ensures early { IfErr result IsByTheLimit }
+{
     let mut seen = IndexSet::new(alloc);
     for (place, atom) in cert.atoms().iter().enumerate() {
-        if !is_atom(task, atom) || !is_fluent(task, atom.predicate) {
+        if !is_fluent_atom(task, atom) {
             return Err(atom_line(RefusalCode::NotFluent, place));
         }
         if !seen.insert(atom.clone()?)? {
@@ -38,7 +44,9 @@ pub(super) fn check_atoms(alloc: Global, task: &Task, cert: &Cert) -> Result<(),
 
 /// The states that the lines list, in order. None stands twice, and none is cut where no cut is allowed.
 pub(super) fn listed_states(alloc: Global, task: &Task, cert: &Cert) -> Result<PlainStore, Refusal>
-    ensures { IfOk result (λ states. Lists (task_of task.now) (certificate_of cert.now) (states_of states)) }
+    ensures right { IfOk result (λ states. Lists (task_of task.now) (certificate_of cert.now) (states_of states)) }
+    ensures wrong { IfErr result (IsTrueAnyway (task_of task.now) (certificate_of cert.now)) }
+    ensures early { IfErr result IsByTheLimit }
 {
     let statics = static_state(alloc, task)?;
     let mut states = PlainStore::new(alloc);
@@ -47,11 +55,21 @@ pub(super) fn listed_states(alloc: Global, task: &Task, cert: &Cert) -> Result<P
         if !states.insert_if_new(state)? {
             return Err(state_line(RefusalCode::Repeated, cert, place));
         }
-        if line.cut.is_some() && cert.claim() == Claim::Unsolvable {
+        if is_cut_not_allowed(cert, line) {
             return Err(state_line(RefusalCode::CutNotAllowed, cert, place));
         }
     }
     Ok(states)
+}
+
+/// Whether the line is a cut, and it is claimed that no plan solves the task.
+fn is_cut_not_allowed(cert: &Cert, line: &StateLine) -> bool
+    ensures { IsTrue result ↔ ((certificate_of cert.now).claim ≡ claims.none) × IsSome line.now.cut }
+{
+    match cert.claim() {
+        Claim::Bound(_) => false,
+        Claim::Unsolvable => line.cut.is_some(),
+    }
 }
 
 /// The state of the static atoms that are true at the start.

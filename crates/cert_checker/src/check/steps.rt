@@ -1,22 +1,24 @@
 //! Whether no action leads out of the listing at less than is claimed.
-ghost use Rattle.std.specs.Prelude.{◌≡◌, ℕ, ◌+◌, ◌<◌, ◌↔◌, length, slice_get, Some, IsTrue, IfSome, OnOk};
+ghost use Rattle.std.specs.Prelude.{◌≡◌, ℕ, ◌+◌, ◌<◌, ◌↔◌, length, slice_get, None, Some, IsTrue, IfErr, MatchOption, OnOk};
 ghost use Rattle.validator.specs.Typing.{task_of};
 ghost use Rattle.validator.specs.Formulas.{state_of};
 ghost use Rattle.cert_checker.specs.CertificateParts.{claim_of};
 ghost use Rattle.cert_checker.specs.Certificate.{certificate_of};
 ghost use Rattle.task_system.specs.PlainStore.{states_of};
-ghost use Rattle.cert_checker.specs.CheckedLines.{Lists, IsListedAt, IsOpenClosed, IsCutClosed, IsLineClosed};
+ghost use Rattle.cert_checker.specs.CheckedLines.{HasCost, IsCutClosed, IsLineClosed, IsListedAt, IsOpenClosed, IsTrueAnyway, Lists};
+ghost use Rattle.model.specs.Task as model_task;
 ghost use Rattle.model.specs.Meaning.{system_of};
 ghost use Rattle.model.specs.Meaning as meaning;
 ghost use Rattle.model.specs.Claims as claims;
 ghost use Rattle.model.specs.Claims.{Allows, IsListedWithin};
 ghost use Rattle.model.specs.Certificates.{lines_of};
+ghost use Rattle.model.specs.CertificateRefusals.{IsListed};
 
 use crate::certificate::{Cert, Claim};
 use crate::check::code::RefusalCode;
 use crate::check::{Refusal, state_line};
-use task_system::{PlainStore, successors};
 use std::alloc::Global;
+use task_system::{PlainStore, successors};
 use validator::formulas::{State, meets_goal};
 use validator::typing::Task;
 
@@ -28,7 +30,8 @@ pub(super) fn check_initial(
     states: &PlainStore,
 ) -> Result<(), Refusal>
     requires { Lists (task_of task.now) (certificate_of cert.now) (states_of states.now) }
-    ensures { OnOk result (IsListedWithin (lines_of (task_of task.now) (certificate_of cert.now)) (system_of (task_of task.now)).initial 0) }
+    ensures right { OnOk result (IsListedWithin (lines_of (task_of task.now) (certificate_of cert.now)) (system_of (task_of task.now)).initial 0) }
+    ensures wrong { IfErr result (IsTrueAnyway (task_of task.now) (certificate_of cert.now)) }
 {
     let initial = State::initial(alloc, task)?;
     if listed_cost(task, cert, states, &initial) == Some(0) {
@@ -46,8 +49,9 @@ pub(super) fn check_lines(
     states: &PlainStore,
 ) -> Result<(), Refusal>
     requires { Lists (task_of task.now) (certificate_of cert.now) (states_of states.now) }
-    ensures { OnOk result ((place : ℕ) (line : claims.Line meaning.State) → slice_get (lines_of (task_of task.now) (certificate_of cert.now)) place ≡ Some line
+    ensures right { OnOk result ((place : ℕ) (line : claims.Line meaning.State) → slice_get (lines_of (task_of task.now) (certificate_of cert.now)) place ≡ Some line
         → IsLineClosed (system_of (task_of task.now)) (certificate_of cert.now).claim (lines_of (task_of task.now) (certificate_of cert.now)) line) }
+    ensures wrong { IfErr result (IsTrueAnyway (task_of task.now) (certificate_of cert.now)) }
 {
     for place in 0..cert.lines().len() {
         check_line(alloc, task, cert, states, place)?;
@@ -65,8 +69,9 @@ fn check_line(
 ) -> Result<(), Refusal>
     requires lists { Lists (task_of task.now) (certificate_of cert.now) (states_of states.now) }
     requires within { place < length (certificate_of cert.now).lines }
-    ensures { OnOk result ((line : claims.Line meaning.State) → slice_get (lines_of (task_of task.now) (certificate_of cert.now)) place ≡ Some line
+    ensures right { OnOk result ((line : claims.Line meaning.State) → slice_get (lines_of (task_of task.now) (certificate_of cert.now)) place ≡ Some line
         → IsLineClosed (system_of (task_of task.now)) (certificate_of cert.now).claim (lines_of (task_of task.now) (certificate_of cert.now)) line) }
+    ensures wrong { IfErr result (IsTrueAnyway (task_of task.now) (certificate_of cert.now)) }
 {
     let line = &cert.lines()[place];
     match line.cut {
@@ -86,9 +91,11 @@ fn check_open(
 ) -> Result<(), Refusal>
     requires lists { Lists (task_of task.now) (certificate_of cert.now) (states_of states.now) }
     requires within { place < length (certificate_of cert.now).lines }
+    requires listed { HasCost (certificate_of cert.now) place cost None }
     requires small { cost < 1152921504606846976 }
-    ensures { OnOk result ((state : meaning.State) → slice_get (states_of states.now) place ≡ Some state
+    ensures right { OnOk result ((state : meaning.State) → slice_get (states_of states.now) place ≡ Some state
         → IsOpenClosed (system_of (task_of task.now)) (certificate_of cert.now).claim (lines_of (task_of task.now) (certificate_of cert.now)) state cost) }
+    ensures wrong { IfErr result (IsTrueAnyway (task_of task.now) (certificate_of cert.now)) }
 {
     let state = states.get(place);
     check_goal(task, cert, place, state, cost)?;
@@ -111,8 +118,10 @@ fn check_goal(
     state: &State,
     cost: u64,
 ) -> Result<(), Refusal>
-    requires { place < length (certificate_of cert.now).lines }
-    ensures { OnOk result (IsTrue (meaning.meets_goal (task_of task.now) (state_of state.now)) → Allows (certificate_of cert.now).claim cost) }
+    requires within { place < length (certificate_of cert.now).lines }
+    requires listed { slice_get (lines_of (task_of task.now) (certificate_of cert.now)) place ≡ Some (record { state = state_of state.now; cost = cost; cut = None }) }
+    ensures right { OnOk result (IsTrue (meaning.meets_goal (task_of task.now) (state_of state.now)) → Allows (certificate_of cert.now).claim cost) }
+    ensures wrong { IfErr result (IsTrueAnyway (task_of task.now) (certificate_of cert.now)) }
 {
     if meets_goal(task, state) && !allows(cert.claim(), cost) {
         Err(state_line(RefusalCode::GoalOpen, cert, place))
@@ -124,7 +133,9 @@ fn check_goal(
 /// Checks the cut at this place, which is listed at this cost and told to have at least `rest` still to pay.
 fn check_cut(cert: &Cert, place: usize, cost: u64, rest: u64) -> Result<(), Refusal>
     requires within { place < length (certificate_of cert.now).lines }
-    ensures { OnOk result (IsCutClosed (certificate_of cert.now).claim cost rest) }
+    requires listed { HasCost (certificate_of cert.now) place cost (Some rest) }
+    ensures right { OnOk result (IsCutClosed (certificate_of cert.now).claim cost rest) }
+    ensures wrong { IfErr result (λ e. (task : model_task.Task) → IsTrueAnyway task (certificate_of cert.now) e) }
 {
     if rest == 0 && allows(cert.claim(), cost) {
         Ok(())
@@ -146,8 +157,12 @@ fn allows(claim: Claim, cost: u64) -> bool
 /// The cost at which the state is listed, if it is.
 fn listed_cost(task: &Task, cert: &Cert, states: &PlainStore, state: &State) -> Option<u64>
     requires { Lists (task_of task.now) (certificate_of cert.now) (states_of states.now) }
-    ensures { IfSome result (IsListedAt (lines_of (task_of task.now) (certificate_of cert.now)) (state_of state.now)) }
+    ensures { MatchOption result
+        (¬ IsListed (lines_of (task_of task.now) (certificate_of cert.now)) (state_of state.now))
+        (IsListedAt (lines_of (task_of task.now) (certificate_of cert.now)) (state_of state.now)) }
 {
-    let place = states.find(state)?;
-    Some(cert.lines()[place].cost)
+    match states.find(state) {
+        Some(place) => Some(cert.lines()[place].cost),
+        None => None,
+    }
 }

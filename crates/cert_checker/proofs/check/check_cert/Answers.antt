@@ -1,14 +1,78 @@
-use Rattle.std.proofs.Common.{sym, subst}
+use Rattle.std.specs.Option.{option_map}
 use Rattle.validator.specs.Typing.{task_of}
+use Rattle.validator.specs.Formulas.{plan_of}
 use Rattle.cert_checker.specs.Certificate.{certificate_of}
-use Rattle.model.specs.Meaning.{system_of}
-use Rattle.model.specs.Claims.{ClaimHolds}
-use Rattle.cert_checker.proofs.CertCheckerLemmas.{claim_holds}
+use Rattle.cert_checker.specs.CertChecker.{IsTrueRefusal, IsNoFault}
+use Rattle.task_system.specs.PlainStore.{states_of}
+use Rattle.cert_checker.proofs.CertCheckerLemmas.{claim_holds, closed_listing}
+use Rattle.cert_checker.proofs.AnswerLemmas.{no_fault, no_fault_of, closed_for, on_ok, passed_on}
 use Rattle.cert_checker.proofs.check.check_cert.Goals as goal
 
 -- the certificate is closed, so its claim is true
 pub answer-requires-clause-holds : goal.answer-requires-clause-holds
-answer-requires-clause-holds c =
+answer-requires-clause-holds c = claim_holds (task_of c.args.task.now) (certificate_of c.args.cert.now) c.in_ok-check_initial.ensures.right c.in_ok-check_lines.ensures.right
+
+pub returns-clause-closed : goal.returns-clause-closed
+returns-clause-closed c =
     let task = task_of c.args.task.now in
-    subst (λ k. ClaimHolds (system_of task) k) (sym c.claim.ensures)
-    (claim_holds task (certificate_of c.args.cert.now) c.in_ok-check_initial.ensures c.in_ok-check_lines.ensures)
+    let cert = certificate_of c.args.cert.now in
+    on_ok c.answer.result
+    (closed_for task cert (states_of c.in_ok-states.states) c.in_ok-check_atoms.ensures.right c.in_ok-states.ensures.right
+    (closed_listing task cert c.in_ok-check_initial.ensures.right c.in_ok-check_lines.ensures.right))
+
+pub returns-clause-accepts : goal.returns-clause-accepts
+returns-clause-accepts c =
+    λ closed within.
+    no_fault_of (task_of c.args.task.now) (certificate_of c.args.cert.now) (option_map (λ p. plan_of p.now) c.args.plan) c.args.max_instances closed within c.answer.result c.answer.ensures.wrong
+
+pub returns-in_err-check_atoms-clause-refused : goal.returns-in_err-check_atoms-clause-refused
+returns-in_err-check_atoms-clause-refused c =
+    let plan = option_map (λ p. plan_of p.now) c.args.plan in
+    passed_on (IsTrueRefusal (task_of c.args.task.now) (certificate_of c.args.cert.now) plan c.args.max_instances) c.from_residual.result c.in_err-check_atoms.field-0.0 c.from_residual.ensures.1
+    (c.in_err-check_atoms.ensures.wrong plan c.args.max_instances)
+
+pub returns-in_err-check_atoms-clause-accepts : goal.returns-in_err-check_atoms-clause-accepts
+returns-in_err-check_atoms-clause-accepts c =
+    λ closed within.
+    let plan = option_map (λ p. plan_of p.now) c.args.plan in
+    passed_on IsNoFault c.from_residual.result c.in_err-check_atoms.field-0.0 c.from_residual.ensures.1
+    (no_fault (task_of c.args.task.now) (certificate_of c.args.cert.now) plan c.args.max_instances closed within c.in_err-check_atoms.field-0.0 (c.in_err-check_atoms.ensures.wrong plan c.args.max_instances))
+
+pub returns-in_err-states-clause-refused : goal.returns-in_err-states-clause-refused
+returns-in_err-states-clause-refused c =
+    let plan = option_map (λ p. plan_of p.now) c.args.plan in
+    passed_on (IsTrueRefusal (task_of c.args.task.now) (certificate_of c.args.cert.now) plan c.args.max_instances) c.from_residual-in_err-states.result c.in_err-states.field-0.0 c.from_residual-in_err-states.ensures.1
+    (c.in_err-states.ensures.wrong plan c.args.max_instances)
+
+pub returns-in_err-states-clause-accepts : goal.returns-in_err-states-clause-accepts
+returns-in_err-states-clause-accepts c =
+    λ closed within.
+    let plan = option_map (λ p. plan_of p.now) c.args.plan in
+    passed_on IsNoFault c.from_residual-in_err-states.result c.in_err-states.field-0.0 c.from_residual-in_err-states.ensures.1
+    (no_fault (task_of c.args.task.now) (certificate_of c.args.cert.now) plan c.args.max_instances closed within c.in_err-states.field-0.0 (c.in_err-states.ensures.wrong plan c.args.max_instances))
+
+pub returns-in_err-check_initial-clause-refused : goal.returns-in_err-check_initial-clause-refused
+returns-in_err-check_initial-clause-refused c =
+    let plan = option_map (λ p. plan_of p.now) c.args.plan in
+    passed_on (IsTrueRefusal (task_of c.args.task.now) (certificate_of c.args.cert.now) plan c.args.max_instances) c.from_residual-in_err-check_initial.result c.in_err-check_initial.field-0.0 c.from_residual-in_err-check_initial.ensures.1
+    (c.in_err-check_initial.ensures.wrong plan c.args.max_instances)
+
+pub returns-in_err-check_initial-clause-accepts : goal.returns-in_err-check_initial-clause-accepts
+returns-in_err-check_initial-clause-accepts c =
+    λ closed within.
+    let plan = option_map (λ p. plan_of p.now) c.args.plan in
+    passed_on IsNoFault c.from_residual-in_err-check_initial.result c.in_err-check_initial.field-0.0 c.from_residual-in_err-check_initial.ensures.1
+    (no_fault (task_of c.args.task.now) (certificate_of c.args.cert.now) plan c.args.max_instances closed within c.in_err-check_initial.field-0.0 (c.in_err-check_initial.ensures.wrong plan c.args.max_instances))
+
+pub returns-in_err-check_lines-clause-refused : goal.returns-in_err-check_lines-clause-refused
+returns-in_err-check_lines-clause-refused c =
+    let plan = option_map (λ p. plan_of p.now) c.args.plan in
+    passed_on (IsTrueRefusal (task_of c.args.task.now) (certificate_of c.args.cert.now) plan c.args.max_instances) c.from_residual-in_err-check_lines.result c.in_err-check_lines.field-0.0 c.from_residual-in_err-check_lines.ensures.1
+    (c.in_err-check_lines.ensures.wrong plan c.args.max_instances)
+
+pub returns-in_err-check_lines-clause-accepts : goal.returns-in_err-check_lines-clause-accepts
+returns-in_err-check_lines-clause-accepts c =
+    λ closed within.
+    let plan = option_map (λ p. plan_of p.now) c.args.plan in
+    passed_on IsNoFault c.from_residual-in_err-check_lines.result c.in_err-check_lines.field-0.0 c.from_residual-in_err-check_lines.ensures.1
+    (no_fault (task_of c.args.task.now) (certificate_of c.args.cert.now) plan c.args.max_instances closed within c.in_err-check_lines.field-0.0 (c.in_err-check_lines.ensures.wrong plan c.args.max_instances))

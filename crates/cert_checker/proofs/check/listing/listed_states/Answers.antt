@@ -1,12 +1,17 @@
-use Rattle.std.proofs.Common.{◌≡◌, ◌++◌, ◌∷◌, [], subst}
-use Rattle.std.specs.Prelude.{Contains, MatchBool}
+use Rattle.std.proofs.Common.{◌≡◌, ◌≢◌, ◌++◌, ◌∷◌, [], sym, subst}
+use Rattle.std.specs.Prelude.{AllPairs, Contains, MatchBool}
 use Rattle.validator.specs.Typing.{task_of}
+use Rattle.cert_checker.specs.Certificate.{certificate_of}
 use Rattle.validator.specs.Formulas.{state_of}
 use Rattle.cert_checker.specs.CertificateParts.{line_of}
-use Rattle.cert_checker.specs.Certificate.{certificate_of}
 use Rattle.task_system.specs.PlainStore.{states_of}
+use Rattle.cert_checker.specs.declared.check.code.RefusalCode.TheVariants.{Repeated, CutNotAllowed}
+use Rattle.model.specs.Meaning.{State}
 use Rattle.model.specs.Certificates.{state_of_line, static_atoms}
-use Rattle.cert_checker.proofs.CertCheckerLemmas.{states_more, states_whole}
+use Rattle.model.specs.CertificateRefusals.{state_line}
+use Rattle.cert_checker.proofs.CertCheckerLemmas.{states_more}
+use Rattle.cert_checker.proofs.RefusalsLemmas.{told}
+use Rattle.cert_checker.proofs.ReadingLemmas.{distinct_more, wrong_repeated, wrong_not_allowed, some_there, lists_all}
 use Rattle.cert_checker.proofs.check.listing.listed_states.Goals as goal
 
 pub loop-place-preserved : goal.loop-place-preserved
@@ -16,13 +21,35 @@ loop-place-preserved c =
     let old = states_of c.loop-place.states in
     let new = states_of c.insert_if_new.new.self in
     let state = state_of c.in_ok-state.state in
-    let here =
-    (subst (λ b. MatchBool b ((¬ Contains old state) × (new ≡ old ++ state ∷ [])) (Contains old state × (new ≡ old))) c.if-not-branch.false c.in_ok-insert_if_new.ensures.ok).1 in
-    states_more (λ line. state_of_line task cert (line_of line)) c.lines-line-items.result.now c.loop-place.place c.line-item.result
-    (states_of c.loop-place.states) (states_of c.insert_if_new.new.self) (state_of c.in_ok-state.state) c.loop-place-test.true c.line-item.is c.loop-place.invariant here
-    (c.in_ok-state.ensures (static_atoms task) c.in_ok-statics.ensures)
+    let here = subst (λ b. MatchBool b ((¬ Contains old state) × (new ≡ old ++ state ∷ [])) (Contains old state × (new ≡ old))) c.if-not-branch.false c.in_ok-insert_if_new.ensures.ok in (
+      states_more (λ line. state_of_line task cert (line_of line)) c.lines-line-items.result.now c.loop-place.place c.line-item.result
+          old new state c.loop-place-test.true c.line-item.is c.loop-place.invariant.0 here.1
+          (c.in_ok-state.ensures (static_atoms task) c.in_ok-statics.ensures),
+      subst (AllPairs (λ (s t : State). s ≢ t)) (sym here.1) (distinct_more old state c.loop-place.invariant.1 here.0),
+    )
 
-pub returns : goal.returns
-returns c =
-    states_whole (task_of c.args.task.now) (certificate_of c.args.cert.now) c.lines-line-items.result.now c.loop-place.place (states_of c.loop-place.states)
-    c.loop-place-test.false c.lines-line-items.ensures.lines c.loop-place.invariant
+pub returns-clause-right : goal.returns-clause-right
+returns-clause-right c =
+    lists_all (task_of c.args.task.now) (certificate_of c.args.cert.now) c.lines-line-items.result.now c.loop-place.place (states_of c.loop-place.states)
+    c.loop-place-test.false c.lines-line-items.ensures.lines c.loop-place.invariant.0 c.loop-place.invariant.1
+
+pub returns-then-not-branch-clause-wrong : goal.returns-then-not-branch-clause-wrong
+returns-then-not-branch-clause-wrong c =
+    let task = task_of c.args.task.now in
+    let cert = certificate_of c.args.cert.now in
+    let old = states_of c.loop-place.states in
+    let new = states_of c.insert_if_new.new.self in
+    let state = state_of c.in_ok-state.state in
+    let there = subst (λ b. MatchBool b ((¬ Contains old state) × (new ≡ old ++ state ∷ [])) (Contains old state × (new ≡ old))) c.if-not-branch.true c.in_ok-insert_if_new.ensures.ok in
+    told task cert c.state_line.result Repeated (state_line cert c.loop-place.place) c.state_line.ensures
+    (wrong_repeated task cert c.lines-line-items.result.now c.loop-place.place c.line-item.result old state c.loop-place-test.true c.line-item.is c.lines-line-items.ensures.lines
+    c.loop-place.invariant.0 (c.in_ok-state.ensures (static_atoms task) c.in_ok-statics.ensures) there.0)
+
+pub returns-then-is_cut_not_allowed-clause-wrong : goal.returns-then-is_cut_not_allowed-clause-wrong
+returns-then-is_cut_not_allowed-clause-wrong c =
+    let task = task_of c.args.task.now in
+    let cert = certificate_of c.args.cert.now in
+    let wrong = c.is_cut_not_allowed.ensures.0 c.if-is_cut_not_allowed.true in
+    let cut = some_there c.line-item.result.cut wrong.1 in
+    told task cert c.state_line-then-is_cut_not_allowed.result CutNotAllowed (state_line cert c.loop-place.place) c.state_line-then-is_cut_not_allowed.ensures
+    (wrong_not_allowed task cert c.lines-line-items.result.now c.loop-place.place c.line-item.result cut.0 c.loop-place-test.true c.line-item.is c.lines-line-items.ensures.lines cut.1 wrong.0)

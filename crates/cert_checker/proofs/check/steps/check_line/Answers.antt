@@ -1,10 +1,12 @@
-use Rattle.std.proofs.Common.{◌<◌, length, ap, arith}
+use Rattle.std.proofs.Common.{◌<◌, None, Some, length, ap, arith}
 use Rattle.std.proofs.lemmas.List.{length-map}
 use Rattle.validator.specs.Typing.{task_of}
 use Rattle.cert_checker.specs.CertificateParts.{line_of}
 use Rattle.cert_checker.specs.Certificate.{certificate_of}
 use Rattle.task_system.specs.PlainStore.{states_of}
 use Rattle.cert_checker.proofs.CertCheckerLemmas.{got, small_cost, line_open_if_ok, line_cut_if_ok}
+use Rattle.cert_checker.specs.CheckedLines.{IsTrueAnyway}
+use Rattle.cert_checker.proofs.RefusalsLemmas.{has_cost, wrong_for}
 use Rattle.cert_checker.proofs.check.steps.check_line.Goals as goal
 
 pub check_open-requires-clause-small : goal.check_open-requires-clause-small
@@ -14,18 +16,38 @@ check_open-requires-clause-small c =
     let within : c.args.place < length lines = omega (arith, c.requires.within, ap length c.lines.ensures.lines, length-map lines line_of) in
     small_cost (length (certificate_of c.args.cert.now).atoms) lines c.args.place line (got lines c.args.place line within c.index-lines-place.is) c.lines.ensures.within_limits
 
-pub returns-in-None : goal.returns-in-None
-returns-in-None c =
+pub returns-in-None-clause-right : goal.returns-in-None-clause-right
+returns-in-None-clause-right c =
     let lines = c.lines.result.now in
     let line = c.index-lines-place.result in
     let within : c.args.place < length lines = omega (arith, c.requires.within, ap length c.lines.ensures.lines, length-map lines line_of) in
     line_open_if_ok (task_of c.args.task.now) (certificate_of c.args.cert.now) (states_of c.args.states.now) lines c.args.place line c.check_open.result
-    c.requires.lists c.lines.ensures.lines (got lines c.args.place line within c.index-lines-place.is) c.in-None.is c.check_open.ensures
+    c.requires.lists c.lines.ensures.lines (got lines c.args.place line within c.index-lines-place.is) c.in-None.is c.check_open.ensures.right
 
-pub returns-in-Some : goal.returns-in-Some
-returns-in-Some c =
+pub returns-in-Some-clause-right : goal.returns-in-Some-clause-right
+returns-in-Some-clause-right c =
     let lines = c.lines.result.now in
     let line = c.index-lines-place.result in
     let within : c.args.place < length lines = omega (arith, c.requires.within, ap length c.lines.ensures.lines, length-map lines line_of) in
     line_cut_if_ok (task_of c.args.task.now) (certificate_of c.args.cert.now) lines c.args.place line c.in-Some.rest c.check_cut.result
-    c.lines.ensures.lines (got lines c.args.place line within c.index-lines-place.is) c.in-Some.is c.check_cut.ensures
+    c.lines.ensures.lines (got lines c.args.place line within c.index-lines-place.is) c.in-Some.is c.check_cut.ensures.right
+
+pub check_open-requires-clause-listed : goal.check_open-requires-clause-listed
+check_open-requires-clause-listed c =
+    let lines = c.lines.result.now in
+    let line = c.index-lines-place.result in
+    let within : c.args.place < length lines = omega (arith, c.requires.within, ap length c.lines.ensures.lines, length-map lines line_of) in
+    has_cost (certificate_of c.args.cert.now) lines c.args.place line None c.lines.ensures.lines (got lines c.args.place line within c.index-lines-place.is) c.in-None.is
+
+pub check_cut-requires-clause-listed : goal.check_cut-requires-clause-listed
+check_cut-requires-clause-listed c =
+    let lines = c.lines.result.now in
+    let line = c.index-lines-place.result in
+    let within : c.args.place < length lines = omega (arith, c.requires.within, ap length c.lines.ensures.lines, length-map lines line_of) in
+    has_cost (certificate_of c.args.cert.now) lines c.args.place line (Some c.in-Some.rest) c.lines.ensures.lines (got lines c.args.place line within c.index-lines-place.is) c.in-Some.is
+
+pub returns-in-None-clause-wrong : goal.returns-in-None-clause-wrong
+returns-in-None-clause-wrong c = c.check_open.ensures.wrong
+
+pub returns-in-Some-clause-wrong : goal.returns-in-Some-clause-wrong
+returns-in-Some-clause-wrong c = wrong_for (task_of c.args.task.now) (λ task e. IsTrueAnyway task (certificate_of c.args.cert.now) e) c.check_cut.result c.check_cut.ensures.wrong

@@ -1,12 +1,16 @@
-use Rattle.std.proofs.Common.{◌≡◌, ◌∙◌, ◌+◌, ap, subst, map}
+use Rattle.std.proofs.Common.{◌∙◌, ◌+◌, ap, subst, map, None}
 use Rattle.validator.specs.Typing.{task_of}
-use Rattle.validator.specs.Formulas.{state_of}
+use Rattle.validator.specs.Formulas.{state_of, instance_of}
 use Rattle.cert_checker.specs.Certificate.{certificate_of}
 use Rattle.task_system.specs.TaskSystem.{successor_of}
+use Rattle.task_system.specs.PlainStore.{states_of}
+use Rattle.cert_checker.specs.declared.check.code.RefusalCode.TheVariants.{SuccessorMissing, SuccessorDearer}
 use Rattle.cert_checker.specs.CheckedLines.{IsOpenClosed}
-use Rattle.model.specs.Meaning.{State, system_of}
+use Rattle.model.specs.Meaning.{system_of}
 use Rattle.model.specs.Certificates.{lines_of}
 use Rattle.cert_checker.proofs.CertCheckerLemmas.{AllListed-none, AllListed-more, listed_within, open_closed, same_place}
+use Rattle.model.specs.CertificateRefusals.{state_line}
+use Rattle.cert_checker.proofs.RefusalsLemmas.{told, line_there, leads_there, wrong_missing, wrong_dearer}
 use Rattle.cert_checker.proofs.check.steps.check_open.Goals as goal
 
 pub loop-successor-init : goal.loop-successor-init
@@ -19,12 +23,43 @@ loop-successor-preserved c =
     AllListed-more lines most successor_of c.deref-successor-items.result.now c.loop-successor.successor-index c.successor-item.result c.loop-successor-test.true c.successor-item.is c.loop-successor.invariant
     (listed_within lines (state_of c.successor-item.result.state) c.in-Some.listed most c.in-Some.ensures c.if-listed-cost.false)
 
-pub returns : goal.returns
-returns c =
+pub returns-clause-right : goal.returns-clause-right
+returns-clause-right c =
     let task = task_of c.args.task.now in
     let cert = certificate_of c.args.cert.now in
     let lines = lines_of task cert in
     λ state at.
     subst (λ s. IsOpenClosed (system_of task) cert.claim lines s c.args.cost) (same_place _ c.args.place (state_of c.get-state.result.now) state c.get-state.ensures at)
     (open_closed task cert.claim lines (state_of c.get-state.result.now) c.args.cost successor_of c.deref-successor-items.result.now c.loop-successor.successor-index
-    c.loop-successor-test.false (ap (map successor_of) c.deref-successor-items.ensures.value ∙ c.in_ok-successors.ensures) c.loop-successor.invariant c.in_ok-check_goal.ensures)
+    c.loop-successor-test.false (ap (map successor_of) c.deref-successor-items.ensures.value ∙ c.in_ok-successors.ensures) c.loop-successor.invariant c.in_ok-check_goal.ensures.right)
+
+pub check_goal-requires-clause-listed : goal.check_goal-requires-clause-listed
+check_goal-requires-clause-listed c =
+    line_there (task_of c.args.task.now) (certificate_of c.args.cert.now) (states_of c.args.states.now) c.args.place c.args.cost None (state_of c.get-state.result.now) c.requires.lists c.requires.listed c.get-state.ensures
+
+pub returns-in_default-clause-wrong : goal.returns-in_default-clause-wrong
+returns-in_default-clause-wrong c =
+    let task = task_of c.args.task.now in
+    let cert = certificate_of c.args.cert.now in
+    let state = state_of c.get-state.result.now in
+    let found = c.deref-successor-items.result.now in
+    let there = line_there task cert (states_of c.args.states.now) c.args.place c.args.cost None state c.requires.lists c.requires.listed c.get-state.ensures in
+    told task cert c.state_line.result SuccessorMissing (state_line cert c.args.place) c.state_line.ensures
+    (wrong_missing task cert c.args.place state c.args.cost (instance_of c.successor-item.result.action) (state_of c.successor-item.result.state) there
+    (leads_there task state successor_of found c.loop-successor.successor-index c.successor-item.result c.loop-successor-test.true c.successor-item.is
+    (ap (map successor_of) c.deref-successor-items.ensures.value ∙ c.in_ok-successors.ensures))
+    c.in_default.ensures)
+
+pub returns-then-listed-cost-clause-wrong : goal.returns-then-listed-cost-clause-wrong
+returns-then-listed-cost-clause-wrong c =
+    let task = task_of c.args.task.now in
+    let cert = certificate_of c.args.cert.now in
+    let state = state_of c.get-state.result.now in
+    let found = c.deref-successor-items.result.now in
+    let there = line_there task cert (states_of c.args.states.now) c.args.place c.args.cost None state c.requires.lists c.requires.listed c.get-state.ensures in
+    told task cert c.state_line-then-listed-cost.result SuccessorDearer (state_line cert c.args.place) c.state_line-then-listed-cost.ensures
+    (wrong_dearer task cert (states_of c.args.states.now) c.args.place state c.args.cost (instance_of c.successor-item.result.action) (state_of c.successor-item.result.state) c.in-Some.listed
+    c.requires.lists there
+    (leads_there task state successor_of found c.loop-successor.successor-index c.successor-item.result c.loop-successor-test.true c.successor-item.is
+    (ap (map successor_of) c.deref-successor-items.ensures.value ∙ c.in_ok-successors.ensures))
+    c.in-Some.ensures c.if-listed-cost.true)

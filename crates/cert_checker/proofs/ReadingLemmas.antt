@@ -1,0 +1,147 @@
+-- What the reading of a certificate's lines, one after another, finds out: distinct atoms, distinct states, and a line
+-- that repeats one before it.
+use Rattle.std.proofs.Common.{◌≡◌, ◌≢◌, ℕ, ◌+◌, ◌<◌, ◌≤◌, Bool, true, false, not, ◌&&◌, List, [], ◌∷◌, ◌++◌, length, map, take, get_or, Option, None, Some, inl, inr, refl, sym, ap, ◌∙◌, subst, arith}
+use Rattle.std.specs.Prelude.{IsSome, IsTrue, AllPairs, Contains, slice_get, if◌then◌else◌}
+use Rattle.std.specs.List.{list_any}
+use Rattle.std.proofs.lemmas.Bool.{false≢true}
+use Rattle.std.proofs.lemmas.List.{take_all, take_more, map-append, length-map, length-take-le, get_or-map, get_or-take}
+use Rattle.std.proofs.lemmas.List.Elements.{All-push}
+use Rattle.std.proofs.lemmas.List.Folds.{list_any_at}
+use Rattle.std.proofs.lemmas.List.Quantifiers.{all_pairs_push}
+use Rattle.std.proofs.lemmas.Map.Views.{Contains-from_any}
+use Rattle.std.proofs.lemmas.Option.{get_or_from_slice_get}
+use Rattle.indexmap.specs.IndexSet.{insert_key}
+use Rattle.validator.specs.declared.typing.Atom as code_atom
+use Rattle.validator.specs.TaskParts.{atom_of}
+use Rattle.validator.proofs.FormulasEquality.{atom_eq, equal_atoms, same_atoms, one_atom}
+use Rattle.task_system.proofs.StoreLemmas.{slice_get-or}
+use Rattle.cert_checker.specs.declared.certificate.cert.StateLine as code_line
+use Rattle.cert_checker.specs.CertificateParts.{line_of}
+use Rattle.cert_checker.specs.CheckedLines.{AreFluent, Lists}
+use Rattle.cert_checker.proofs.CertCheckerLemmas.{entry, listed_there, slice_get-map, states_whole}
+use Rattle.model.specs.Task.{Task, Atom}
+use Rattle.model.specs.WellTyped.{is_atom}
+use Rattle.model.specs.Meaning.{State}
+use Rattle.model.specs.Claims.{none}
+use Rattle.model.specs.Certificates.{Certificate, is_fluent, state_of_line}
+use Rattle.model.specs.CertificateRefusals.{not_fluent, repeated, cut_not_allowed, IsWrongLine, atom_line, state_line}
+use Rattle.model.proofs.ListLemmas.{map-Contains}
+
+-- ---- lists of distinct elements
+
+pub distinct_none : {X : Type 0} → AllPairs (λ (a b : X). a ≢ b) []
+distinct_none i j d lt within = absurd (omega arith)
+
+pub distinct_more : {X : Type 0} (xs : List X) (y : X) → AllPairs (λ (a b : X). a ≢ b) xs → (Contains xs y → ⊥) → AllPairs (λ (a b : X). a ≢ b) (xs ++ y ∷ [])
+distinct_more {X} xs y pairs absent =
+    all_pairs_push (λ (a b : X). a ≢ b) xs y pairs
+    (λ k d lt same. absent (k, lt, get_or_from_slice_get xs k (get_or xs k d) y (slice_get-or xs k d lt) ∙ same))
+
+-- an element of the first ones is one of all, at an earlier place
+pub place_before : {X Y : Type 0} (view : X → Y) (xs : List X) (k : ℕ) (x : X) (y : Y) → k < length xs → Contains (map view (take k xs)) y
+    → (j : ℕ) × (before : X) × (j < k) × (slice_get xs j ≡ Some before) × (view before ≡ y)
+place_before view xs k x y lt (j, within, is) =
+    let first = length-take-le k xs (omega arith) in
+    let in_first : j < length (take k xs) = omega (arith, within, length-map (take k xs) view) in
+    let lt_k : j < k = omega (arith, in_first, first) in (
+      j,
+      get_or xs j x,
+      lt_k,
+      slice_get-or xs j x (omega arith),
+      ap view (sym (get_or-take k xs j x lt_k)) ∙ sym (get_or-map view (take k xs) j x y in_first) ∙ is,
+    )
+
+pub some_there : {X : Type 0} (o : Option X) → IsSome o → (x : X) × (o ≡ Some x)
+some_there None there = absurd (cc)
+some_there (Some x) there = (x, refl)
+
+-- ---- states
+
+pub wrong_repeated : (task : Task) (c : Certificate) (lines : List code_line.StateLine) (k : ℕ) (l : code_line.StateLine) (states : List State) (s : State) → k < length lines → l ≡ get_or lines k l
+    → map line_of lines ≡ c.lines → states ≡ map (λ line. state_of_line task c (line_of line)) (take k lines) → s ≡ state_of_line task c (line_of l) → Contains states s
+    → IsWrongLine task c repeated (state_line c k)
+wrong_repeated task c lines k l states s lt at is so here among =
+    let (j, before, earlier, at_j, same) = place_before (λ line. state_of_line task c (line_of line)) lines k l s lt (subst (λ ss. Contains ss s) so among) in
+    inr (
+      entry task c (line_of before),
+      entry task c (line_of l),
+      state_line c j,
+      omega arith,
+      (j, refl, listed_there task c lines j before is at_j),
+      (k, refl, listed_there task c lines k l is (slice_get-or lines k l lt ∙ ap Some (sym at))),
+      same ∙ here,
+    )
+
+pub wrong_not_allowed : (task : Task) (c : Certificate) (lines : List code_line.StateLine) (k : ℕ) (l : code_line.StateLine) (rest : ℕ) → k < length lines → l ≡ get_or lines k l
+    → map line_of lines ≡ c.lines → l.cut ≡ Some rest → c.claim ≡ none → IsWrongLine task c cut_not_allowed (state_line c k)
+wrong_not_allowed task c lines k l rest lt at is cut claim =
+    (entry task c (line_of l), rest, (k, refl, listed_there task c lines k l is (slice_get-or lines k l lt ∙ ap Some (sym at))), cut, claim)
+
+pub lists_all : (task : Task) (c : Certificate) (lines : List code_line.StateLine) (k : ℕ) (states : List State) → length lines ≤ k → map line_of lines ≡ c.lines
+    → states ≡ map (λ line. state_of_line task c (line_of line)) (take k lines) → AllPairs (λ (s t : State). s ≢ t) states → Lists task c states
+lists_all task c lines k states past is so pairs = record { listed = states_whole task c lines k states past is so; distinct = pairs }
+
+-- ---- atoms
+
+pub fluent_none : (task : Task) → AreFluent task []
+fluent_none task = record { fluent = λ k d lt. absurd (omega arith); distinct = distinct_none }
+
+atoms_more : (atoms : List code_atom.Atom) (k : ℕ) (x : code_atom.Atom) → k < length atoms → x ≡ get_or atoms k x → map atom_of (take (k + 1) atoms) ≡ map atom_of (take k atoms) ++ atom_of x ∷ []
+atoms_more atoms k x lt at = ap (map atom_of) (take_more atoms k x lt ∙ ap (λ y. take k atoms ++ y ∷ []) (sym at)) ∙ map-append atom_of (take k atoms) (x ∷ [])
+
+any_there : (x : code_atom.Atom) (keys : List code_atom.Atom) → Contains (map atom_of keys) (atom_of x) → list_any (atom_eq x) keys ≡ true
+any_there x keys among =
+    let (y, at, is) = map-Contains atom_of keys (atom_of x) among in
+    list_any_at (atom_eq x) keys at.0 y at.1 (ap (atom_eq x) at.2 ∙ same_atoms x y (sym is))
+
+pub fluent_more : (task : Task) (atoms : List code_atom.Atom) (k : ℕ) (x : code_atom.Atom) → k < length atoms → x ≡ get_or atoms k x → AreFluent task (map atom_of (take k atoms))
+    → (is_atom task (atom_of x) && is_fluent task (atom_of x).predicate) ≡ true → list_any (atom_eq x) (take k atoms) ≡ false → AreFluent task (map atom_of (take (k + 1) atoms))
+fluent_more task atoms k x lt at before right new =
+    subst (AreFluent task) (sym (atoms_more atoms k x lt at)) (record {
+      fluent = All-push (λ (a : Atom). IsTrue (is_atom task a && is_fluent task a.predicate)) (map atom_of (take k atoms)) (atom_of x) before.fluent right;
+      distinct = distinct_more (map atom_of (take k atoms)) (atom_of x) before.distinct (λ among. false≢true (sym new ∙ any_there x (take k atoms) among));
+    })
+
+pub fluent_all : (task : Task) (atoms : List code_atom.Atom) (k : ℕ) (whole : List Atom) → length atoms ≤ k → map atom_of atoms ≡ whole → AreFluent task (map atom_of (take k atoms)) → AreFluent task whole
+fluent_all task atoms k whole past is so = subst (AreFluent task) (ap (map atom_of) (take_all k atoms past) ∙ is) so
+
+pub was_there : (is_new old : Bool) → is_new ≡ not old → is_new ≡ false → old ≡ true
+was_there is_new true is fails = refl
+was_there is_new false is fails = absurd (false≢true (sym fails ∙ is))
+
+pub was_new : (is_new old : Bool) → is_new ≡ not old → is_new ≡ true → old ≡ false
+was_new is_new true is holds = absurd (false≢true (sym is ∙ holds))
+was_new is_new false is holds = refl
+
+-- a copy that was not seen before is an atom that does not stand before
+pub new_one : (atoms : List code_atom.Atom) (k : ℕ) (x copy : code_atom.Atom) (seen : List code_atom.Atom) → atom_of copy ≡ atom_of x → seen ≡ take k atoms → list_any (atom_eq copy) seen ≡ false
+    → list_any (atom_eq x) (take k atoms) ≡ false
+new_one atoms k x copy seen same so new = sym (λ i. list_any (atom_eq (one_atom copy x same i)) (so i)) ∙ new
+
+-- the atoms seen, once one more is seen
+pub seen_more : (atoms : List code_atom.Atom) (k : ℕ) (x copy : code_atom.Atom) (before after : List code_atom.Atom) → k < length atoms → x ≡ get_or atoms k x → atom_of copy ≡ atom_of x
+    → before ≡ take k atoms → after ≡ insert_key atom_eq before copy → list_any (atom_eq copy) before ≡ false → after ≡ take (k + 1) atoms
+seen_more atoms k x copy before after lt at same so is new =
+    is ∙ ap (λ b. if b then before else before ++ copy ∷ []) new ∙ (λ i. so i ++ one_atom copy x same i ∷ []) ∙ ap (λ y. take k atoms ++ y ∷ []) at ∙ sym (take_more atoms k x lt)
+
+pub wrong_atom : (task : Task) (c : Certificate) (atoms : List code_atom.Atom) (k : ℕ) (x : code_atom.Atom) → k < length atoms → x ≡ get_or atoms k x → map atom_of atoms ≡ c.atoms
+    → (is_atom task (atom_of x) && is_fluent task (atom_of x).predicate) ≡ false → IsWrongLine task c not_fluent (atom_line k)
+wrong_atom task c atoms k x lt at is wrong =
+    (atom_of x, (k, refl, subst (λ those. slice_get those k ≡ Some (atom_of x)) is (slice_get-map atom_of atoms k x (slice_get-or atoms k x lt ∙ ap Some (sym at)))), wrong)
+
+pub wrong_repeated_atom : (task : Task) (c : Certificate) (atoms : List code_atom.Atom) (k : ℕ) (x copy : code_atom.Atom) (seen : List code_atom.Atom) → k < length atoms → x ≡ get_or atoms k x
+    → map atom_of atoms ≡ c.atoms → atom_of copy ≡ atom_of x → seen ≡ take k atoms → list_any (atom_eq copy) seen ≡ true → IsWrongLine task c repeated (atom_line k)
+wrong_repeated_atom task c atoms k x copy seen lt at is same so old =
+    let among : Contains (take k atoms) copy = Contains-from_any (λ a b alike. one_atom a b (equal_atoms a b alike)) copy (take k atoms) (subst (λ s. list_any (atom_eq copy) s ≡ true) so old) in
+    let (j, before, earlier, at_j, alike) = place_before (λ (a : code_atom.Atom). a) atoms k x copy lt (subst (λ those. Contains those copy) (sym (map_same (take k atoms))) among) in
+    inl (
+      atom_of x,
+      atom_line j,
+      omega arith,
+      (j, refl, subst (λ those. slice_get those j ≡ Some (atom_of x)) is (slice_get-map atom_of atoms j before at_j ∙ ap Some (ap atom_of alike ∙ same))),
+      (k, refl, subst (λ those. slice_get those k ≡ Some (atom_of x)) is (slice_get-map atom_of atoms k x (slice_get-or atoms k x lt ∙ ap Some (sym at)))),
+    )
+  where
+    map_same : (xs : List code_atom.Atom) → map (λ (a : code_atom.Atom). a) xs ≡ xs
+    map_same [] = refl
+    map_same (a ∷ xs) = ap (λ rest. a ∷ rest) (map_same xs)

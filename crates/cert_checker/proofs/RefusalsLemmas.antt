@@ -1,0 +1,150 @@
+-- Why the checker's refusals are true.
+use Rattle.std.proofs.Common.{◌≡◌, ◌≢◌, ℕ, ◌+◌, ◌<◌, ◌≤◌, ◌⊎◌, Bool, false, List, [], ◌∷◌, length, map, get_or, Option, None, Some, inl, inr, refl, sym, ap, ◌∙◌, subst, arith}
+use Rattle.std.specs.Prelude.{◌↔◌, Result, Ok, Err, IfErr, IsTrue, AllPairs, Contains, MatchOption, nat_eq, slice_get}
+use Rattle.std.specs.Option.{option_eq}
+use Rattle.std.proofs.lemmas.Bool.{cases_order, eq-eqb, false≢true}
+use Rattle.std.proofs.lemmas.List.{length-map}
+use Rattle.std.proofs.Math.ListN.{get_or-map}
+use Rattle.cert_checker.specs.declared.check.Refusal.{Refusal}
+use Rattle.cert_checker.specs.declared.check.Refusal.TheVariants as refusal
+use Rattle.cert_checker.specs.declared.check.code.RefusalCode.{RefusalCode}
+use Rattle.cert_checker.specs.declared.certificate.cert.StateLine as code_line
+use Rattle.cert_checker.specs.CertificateParts.{line_of}
+use Rattle.cert_checker.specs.RefusalCode.{reason_of}
+use Rattle.cert_checker.specs.CheckedLines.{Lists, HasCost, IsListedAt, IsTrueAnyway}
+use Rattle.cert_checker.proofs.CertCheckerLemmas.{slice_get-map, Contains-place, entry}
+use Rattle.model.specs.Task.{Task, Instance}
+use Rattle.model.specs.Meaning.{State, step, meets_goal}
+use Rattle.model.specs.Instances.{successors_of}
+use Rattle.model.specs.Claims.{Claim, Allows, Line, IsListedWithin}
+use Rattle.model.specs.Certificates.{Certificate, StateLine, state_of_line, lines_of}
+use Rattle.model.specs.CertificateRefusals.{goal_open, successor_missing, successor_dearer, cut_weak, IsWrongLine, IsListed, state_line}
+use Rattle.model.proofs.ListLemmas.{Contains-map}
+use Rattle.model.proofs.InstancesLemmas.{successors-Contains}
+use Rattle.model.proofs.CertificateRefusalsLemmas.{apart}
+
+-- ---- a refusal with its line
+
+pub told : (task : Task) (c : Certificate) (r : Refusal) (code : RefusalCode) (line : ℕ) → r ≡ refusal.Line code line → IsWrongLine task c (reason_of code) line → IsTrueAnyway task c r
+told task c r code line is wrong = subst (IsTrueAnyway task c) (sym is) (λ plan most. wrong)
+
+-- ---- a line of the certificate, and its state
+
+pub has_cost : (c : Certificate) (lines : List code_line.StateLine) (place : ℕ) (l : code_line.StateLine) (cut : Option ℕ) → map line_of lines ≡ c.lines → slice_get lines place ≡ Some l
+    → l.cut ≡ cut → HasCost c place l.cost cut
+has_cost c lines place l cut is at cut_is =
+    (line_of l, subst (λ ls. slice_get ls place ≡ Some (line_of l)) is (slice_get-map line_of lines place l at), refl, cut_is)
+
+pub line_there : (task : Task) (c : Certificate) (states : List State) (place cost : ℕ) (cut : Option ℕ) (s : State) → Lists task c states → HasCost c place cost cut → slice_get states place ≡ Some s
+    → slice_get (lines_of task c) place ≡ Some (record { state = s; cost = cost; cut = cut })
+line_there task c states place cost cut s lists (l, at, cost_is, cut_is) at_state =
+    let at_states = subst (λ ss. slice_get ss place ≡ Some (state_of_line task c l)) (sym lists.listed) (slice_get-map (state_of_line task c) c.lines place l at) in
+    let same : state_of_line task c l ≡ s = cc in
+    slice_get-map (entry task c) c.lines place l at ∙ (λ i. Some (record { state = same i; cost = cost_is i; cut = cut_is i }))
+
+-- ---- distinct states are listed once
+
+pairs-map : {X Y : Type 0} (f : X → Y) (xs : List X) → AllPairs (λ (s t : Y). s ≢ t) (map f xs) → AllPairs (λ (x y : X). f x ≢ f y) xs
+pairs-map f xs pairs i j d lt within same =
+    pairs i j (f d) lt (omega (arith, within, length-map xs f)) (get_or-map f xs i d ∙ same ∙ sym (get_or-map f xs j d))
+
+states_of_lines : (task : Task) (c : Certificate) (ls : List StateLine) → map (state_of_line task c) ls ≡ map (λ (k : Line State). k.state) (map (entry task c) ls)
+states_of_lines task c [] = refl
+states_of_lines task c (l ∷ ls) = ap (λ rest. state_of_line task c l ∷ rest) (states_of_lines task c ls)
+
+listed_states : (task : Task) (c : Certificate) (states : List State) → Lists task c states → states ≡ map (λ (k : Line State). k.state) (lines_of task c)
+listed_states task c states lists = lists.listed ∙ states_of_lines task c c.lines
+
+pub lines_apart : (task : Task) (c : Certificate) (states : List State) → Lists task c states → AllPairs (λ (k l : Line State). k.state ≢ l.state) (lines_of task c)
+lines_apart task c states lists =
+    pairs-map (λ (k : Line State). k.state) (lines_of task c) (subst (AllPairs (λ (s t : State). s ≢ t)) (listed_states task c states lists) lists.distinct)
+
+-- a state that is listed is one of the states
+pub Contains-listed : (task : Task) (c : Certificate) (states : List State) (s : State) → Lists task c states → IsListed (lines_of task c) s → Contains states s
+Contains-listed task c states s lists (l, among, is) =
+    subst (λ ss. Contains ss s) (sym (listed_states task c states lists))
+    (subst (λ t. Contains (map (λ (k : Line State). k.state) (lines_of task c)) t) is (Contains-map (λ (k : Line State). k.state) (lines_of task c) l among))
+
+-- a state that is listed at one cost is not listed at less
+pub one_cost : {S : Type 0} (lines : List (Line S)) (s : S) (m n : ℕ) → AllPairs (λ (k l : Line S). k.state ≢ l.state) lines → IsListedAt lines s m → IsListedWithin lines s n → m ≤ n
+one_cost {S} lines s m n pairs (k, among_k, state_k, cost_k) (l, among_l, state_l, cost_l) =
+    let R : Line S → Line S → Type 0 = λ a b. a.state ≢ b.state in
+    let there_k = Contains-place lines k among_k in
+    let there_l = Contains-place lines l among_l in
+    elim (cases_order there_k.0 there_l.0) [
+      | inl same ↦
+          let at_k = subst (λ i. slice_get lines i ≡ Some k) same there_k.1 in
+          let at_l = there_l.1 in
+          let one : k ≡ l = cc in
+          omega (arith, ap (λ (a : Line S). a.cost) one, cost_k, cost_l)
+      | inr (inl before) ↦ absurd (apart R lines there_k.0 there_l.0 k l pairs before there_k.1 there_l.1 (state_k ∙ sym state_l))
+      | inr (inr after) ↦ absurd (apart R lines there_l.0 there_k.0 l k pairs after there_l.1 there_k.1 (state_l ∙ sym state_k))
+    ]
+
+-- ---- the initial state
+
+not_at_none : (cost : ℕ) → false ≡ nat_eq cost 0 → cost ≤ 0 → ⊥
+not_at_none cost is le = false≢true (is ∙ eq-eqb cost 0 (omega arith))
+
+pub not_listed_at_none : (lines : List (Line State)) (s t : State) (o : Option ℕ) → AllPairs (λ (k l : Line State). k.state ≢ l.state) lines → MatchOption o (¬ IsListed lines s) (IsListedAt lines s)
+    → false ≡ option_eq nat_eq o (Some 0) → s ≡ t → ¬ IsListedWithin lines t 0
+not_listed_at_none lines s t None pairs missing is same (l, among, state, cost) = missing (l, among, state ∙ sym same)
+not_listed_at_none lines s t (Some cost) pairs listed is same within =
+    not_at_none cost is (one_cost lines s cost 0 pairs listed (subst (λ r. IsListedWithin lines r 0) (sym same) within))
+
+-- ---- open states
+
+abbrev IsOpenAt : Task → Certificate → ℕ → State → ℕ → Type 0
+IsOpenAt task c place s cost = slice_get (lines_of task c) place ≡ Some (record { state = s; cost = cost; cut = None })
+
+pub wrong_goal : (task : Task) (c : Certificate) (place : ℕ) (s : State) (cost : ℕ) → IsOpenAt task c place s cost → IsTrue (meets_goal task s) → ¬ Allows c.claim cost
+    → IsWrongLine task c goal_open (state_line c place)
+wrong_goal task c place s cost there goal denied = (record { state = s; cost = cost; cut = None }, (place, refl, there), refl, goal, denied)
+
+-- each successor that is gone through is one that an instance leads to
+pub leads_there : {X : Type 0} (task : Task) (s : State) (view : X → Instance × State) (xs : List X) (k : ℕ) (x : X) → k < length xs → x ≡ get_or xs k x
+    → map view xs ≡ successors_of task s → step task s (view x).0 ≡ Some (view x).1
+leads_there task s view xs k x lt at is =
+    successors-Contains task s (view x).0 (view x).1 (subst (λ l. Contains {X = Instance × State} l (view x)) is (Contains-map view xs x (k, lt, sym at)))
+
+pub wrong_missing : (task : Task) (c : Certificate) (place : ℕ) (s : State) (cost : ℕ) (i : Instance) (next : State) → IsOpenAt task c place s cost → step task s i ≡ Some next
+    → ¬ IsListed (lines_of task c) next → IsWrongLine task c successor_missing (state_line c place)
+wrong_missing task c place s cost i next there leads missing =
+    (record { state = s; cost = cost; cut = None }, i, next, ((place, refl, there), refl, leads), missing)
+
+pub wrong_dearer : (task : Task) (c : Certificate) (states : List State) (place : ℕ) (s : State) (cost : ℕ) (i : Instance) (next : State) (listed : ℕ) → Lists task c states
+    → IsOpenAt task c place s cost → step task s i ≡ Some next → IsListedAt (lines_of task c) next listed → cost + 1 < listed → IsWrongLine task c successor_dearer (state_line c place)
+wrong_dearer task c states place s cost i next listed lists there leads at dearer = (
+  record { state = s; cost = cost; cut = None },
+  i,
+  next,
+  ((place, refl, there), refl, leads),
+  (at.0, at.1, at.2),
+  λ within. omega (arith, one_cost (lines_of task c) next listed (cost + 1) (lines_apart task c states lists) at within),
+)
+
+-- ---- cuts
+
+pub wrong_cut : (task : Task) (c : Certificate) (place cost rest : ℕ) → HasCost c place cost (Some rest) → (0 < rest) ⊎ ¬ Allows c.claim (cost + rest)
+    → IsWrongLine task c cut_weak (state_line c place)
+wrong_cut task c place cost rest (l, at, cost_is, cut_is) wrong = (
+  entry task c l,
+  rest,
+  (place, refl, slice_get-map (entry task c) c.lines place l at),
+  cut_is,
+  subst (λ m. (0 < rest) ⊎ ¬ Allows c.claim (m + rest)) (sym cost_is) wrong,
+)
+
+pub not_allowed : (claim whole : Claim) (cost : ℕ) (b : Bool) → claim ≡ whole → IsTrue b ↔ Allows claim cost → b ≡ false → ¬ Allows whole cost
+not_allowed claim whole cost b same iff fails allowed = false≢true (sym fails ∙ iff.1 (subst (λ k. Allows k cost) (sym same) allowed))
+
+pub denied : (claim whole : Claim) (cost rest : ℕ) (b : Bool) → claim ≡ whole → IsTrue b ↔ Allows claim cost → b ≡ false → rest ≡ 0 → ¬ Allows whole (cost + rest)
+denied claim whole cost rest b same iff fails nothing allowed =
+    let alike : cost + rest ≡ cost = omega (arith, nothing) in
+    not_allowed claim whole cost b same iff fails (subst (Allows whole) alike allowed)
+
+-- ---- clauses of results
+
+pub wrong_for : {X T E : Type 0} (x : X) (P : X → E → Type 0) (r : Result T E) → IfErr r (λ e. (y : X) → P y e) → IfErr r (P x)
+wrong_for x P (Ok v) all = tt
+wrong_for x P (Err e) all = all x

@@ -1,0 +1,45 @@
+use Rattle.std.proofs.Common.{sym, ◌∙◌}
+use Rattle.std.specs.List.{each_same, list_any}
+use Rattle.validator.specs.Typing.{task_of}
+use Rattle.validator.proofs.FormulasStates.{copied}
+use Rattle.validator.proofs.FormulasEquality.{atom_eq}
+use Rattle.cert_checker.specs.Certificate.{certificate_of}
+use Rattle.cert_checker.specs.declared.check.code.RefusalCode.TheVariants.{NotFluent, Repeated}
+use Rattle.model.specs.CertificateRefusals.{atom_line}
+use Rattle.cert_checker.proofs.RefusalsLemmas.{told}
+use Rattle.cert_checker.proofs.ReadingLemmas.{was_there, was_new, seen_more, fluent_more, new_one, wrong_atom, wrong_repeated_atom}
+use Rattle.cert_checker.proofs.check.listing.check_atoms.Goals as goal
+
+pub returns-then-not-is_fluent_atom-clause-wrong : goal.returns-then-not-is_fluent_atom-clause-wrong
+returns-then-not-is_fluent_atom-clause-wrong c =
+    let task = task_of c.args.task.now in
+    let cert = certificate_of c.args.cert.now in
+    told task cert c.atom_line.result NotFluent (atom_line c.loop-place.place) c.atom_line.ensures
+    (wrong_atom task cert c.atoms-atom-items.result.now c.loop-place.place c.atom-item.result c.loop-place-test.true c.atom-item.is c.atoms-atom-items.ensures.atoms
+    (sym c.is_fluent_atom.ensures ∙ c.if-not-is_fluent_atom.true))
+
+pub returns-then-not-branch-clause-wrong : goal.returns-then-not-branch-clause-wrong
+returns-then-not-branch-clause-wrong c =
+    let task = task_of c.args.task.now in
+    let cert = certificate_of c.args.cert.now in
+    let atom = c.atom-item.result in
+    let copy = c.in_ok-clone.field-0 in
+    let same = copied atom copy c.in_ok-clone.ensures.cases.0 (each_same atom.objects.items copy.objects.items c.in_ok-clone.ensures.cases.1) in
+    told task cert c.atom_line-then-not-branch.result Repeated (atom_line c.loop-place.place) c.atom_line-then-not-branch.ensures
+    (wrong_repeated_atom task cert c.atoms-atom-items.result.now c.loop-place.place atom copy c.loop-place.seen.keys c.loop-place-test.true c.atom-item.is c.atoms-atom-items.ensures.atoms same
+    c.loop-place.invariant.0 (was_there c.in_ok-insert.field-0 (list_any (atom_eq copy) c.loop-place.seen.keys) c.in_ok-insert.ensures.added c.if-not-branch.true))
+
+pub loop-place-preserved : goal.loop-place-preserved
+loop-place-preserved c =
+    let task = task_of c.args.task.now in
+    let atoms = c.atoms-atom-items.result.now in
+    let place = c.loop-place.place in
+    let seen = c.loop-place.seen.keys in
+    let atom = c.atom-item.result in
+    let copy = c.in_ok-clone.field-0 in
+    let same = copied atom copy c.in_ok-clone.ensures.cases.0 (each_same atom.objects.items copy.objects.items c.in_ok-clone.ensures.cases.1) in
+    let new = was_new c.in_ok-insert.field-0 (list_any (atom_eq copy) seen) c.in_ok-insert.ensures.added c.if-not-branch.false in (
+      seen_more atoms place atom copy seen c.insert.new.self.keys c.loop-place-test.true c.atom-item.is same c.loop-place.invariant.0 c.in_ok-insert.ensures.keys new,
+      fluent_more task atoms place atom c.loop-place-test.true c.atom-item.is c.loop-place.invariant.1 (sym c.is_fluent_atom.ensures ∙ c.if-not-is_fluent_atom.false)
+          (new_one atoms place atom copy seen same c.loop-place.invariant.0 new),
+    )
