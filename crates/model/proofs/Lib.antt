@@ -17,3 +17,7 @@ pub mod CertificateRefusalsLemmas
 pub mod PlanMachine
 pub mod PlanReading
 pub mod PlanMeaning
+pub mod PlanMachine
+pub mod PlanReading
+pub mod PlanMeaning
+pub mod CertificateRefusalsLemmas

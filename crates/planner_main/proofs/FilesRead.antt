@@ -50,7 +50,7 @@ tree_refused_in kind text words reads (Err fault) h = tree_refused kind text wor
 
 -- words that are a whole file are not refused
 whole_not_refused : (kind : refusals.File) (words : List Word) (fault : Fault) → IsWhole kind (tokens_of words) → IsRefused kind words fault → ⊥
-whole_not_refused kind words fault whole (at_word before after word in_order dead span) =
+whole_not_refused kind words fault whole (at_word before after word in_order dead line span) =
     dead (tokens_of after) (subst (IsWhole kind) (ap tokens_of in_order ∙ map-append token_of before (word ∷ after)) whole)
 whole_not_refused kind words fault whole (at_end none code span) = none words [] (sym (append-nil words)) whole
 
