@@ -22,9 +22,12 @@ action_starts n (domain_sections q p found) w = refl
 action_leads : {w : List Token} {p : Parts} → InAction w p → (n : Name) × (k : Action → State) × ((v : List Token) → run (w ++ v) (start domain_file) ≡ run v (wants_parts n p k))
 action_leads (in_action label n {v = u} {w = w} {s = s} h d) =
     let leads = domain_leads h in
-    let k : Action → State = λ a. wants_domain_sections leads.0 (add_action s a) in
-    (n, k, λ v. ap (λ x. run x (start domain_file)) (append_assoc u (opens ∷ keyword action ∷ name label n ∷ w) v)
-        ∙ leads.1 (opens ∷ keyword action ∷ name label n ∷ (w ++ v)) ∙ action_starts leads.0 s (name label n ∷ (w ++ v)) ∙ parts_run (parts_framed v d) n k)
+    let k : Action → State = λ a. wants_domain_sections leads.0 (add_action s a) in (
+      n,
+      k,
+      λ v. ap (λ x. run x (start domain_file)) (append_assoc u (opens ∷ keyword action ∷ name label n ∷ w) v)
+          ∙ leads.1 (opens ∷ keyword action ∷ name label n ∷ (w ++ v)) ∙ action_starts leads.0 s (name label n ∷ (w ++ v)) ∙ parts_run (parts_framed v d) n k,
+    )
 
 keys_lead : {w r : List Token} → AreKeys w r → (s : State) → run w (wants_keys s) ≡ run r (wants_keys s)
 keys_lead no_key s = refl

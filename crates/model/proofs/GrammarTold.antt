@@ -283,7 +283,7 @@ one file (wants_effect k) b (name (free f) n) i = λ ts w d. shift (Before file 
 one file (wants_effect k) b (name (reserved and) n) i = λ es w d. shift (Before file (k (tree.both es))) b (name (reserved and) n) w (i (tree.both es) (name (reserved and) n ∷ w) (both d))
 one file (wants_effect k) b (name (reserved not) m) i =
     λ f n ts w d. let P : List Token → Type 0 = Before file (k (tree.delete (atom_from n ts))) in
-        shift_twice P (b ++ name (reserved not) m ∷ []) opens (name (free f) n ∷ w) (closes ∷ []) (shift P b (name (reserved not) m) (opens ∷ name (free f) n ∷ (w ++ closes ∷ [])) (i (tree.delete (atom_from n ts)) (name (reserved not) m ∷ opens ∷ name (free f) n ∷ (w ++ closes ∷ [])) (delete (terms_framed (closes ∷ []) d))))
+    shift_twice P (b ++ name (reserved not) m ∷ []) opens (name (free f) n ∷ w) (closes ∷ []) (shift P b (name (reserved not) m) (opens ∷ name (free f) n ∷ (w ++ closes ∷ [])) (i (tree.delete (atom_from n ts)) (name (reserved not) m ∷ opens ∷ name (free f) n ∷ (w ++ closes ∷ [])) (delete (terms_framed (closes ∷ []) d))))
 one file (wants_atom k) b (name (free f) n) i = λ ts w d. shift (Before file (k (atom_from n ts))) b (name (free f) n) w (i f n ts w d)
 one file (wants_predicate k) b (name (free f) n) i = λ ns w d. shift (Before file (k (record { name = n; parameters = ns }))) b (name (free f) n) w (i f n ns w d)
 one file (wants_fact k) b (name (free f) n) i = λ ns w d. shift (Before file (k (record { predicate = n; objects = ns }))) b (name (free f) n) w (i f n ns w d)
@@ -296,14 +296,20 @@ one file (wants_parts n p k) b (keyword j) i = unknown_word j i.0 refl
 one file (wants_parts n (parts (Some ns) c e) k) b closes i = i.1 ns c e (closes ∷ []) no_part
 one file (wants_parts n (parts None c e) k) b closes i = no_parameters i.0
 one file (wants_value n parameter_part p k) b opens i =
-    λ ns w d. (shift (λ x. AtParts file x (set_parameters p ns)) b opens w (part_grows (opens ∷ w) i.0 (new_parameters p ns w [] d (new_of i.0))),
-        λ ms c e v ds. shift_twice (Before file (k (action_from n ms c e))) b opens w v (i.1 ms c e (opens ∷ (w ++ v)) (more_parts (new_parameters p ns (w ++ v) v (variables_framed v d) (new_of i.0)) ds)))
+    λ ns w d. (
+      shift (λ x. AtParts file x (set_parameters p ns)) b opens w (part_grows (opens ∷ w) i.0 (new_parameters p ns w [] d (new_of i.0))),
+      λ ms c e v ds. shift_twice (Before file (k (action_from n ms c e))) b opens w v (i.1 ms c e (opens ∷ (w ++ v)) (more_parts (new_parameters p ns (w ++ v) v (variables_framed v d) (new_of i.0)) ds)),
+    )
 one file (wants_value n precondition_part p k) b opens i =
-    λ f w d. (shift (λ x. AtParts file x (set_precondition p f)) b opens w (part_grows (opens ∷ w) i.0 (new_precondition p f (opens ∷ w) [] d (new_of i.0))),
-        λ ms c e v ds. shift_twice (Before file (k (action_from n ms c e))) b opens w v (i.1 ms c e (opens ∷ (w ++ v)) (more_parts (new_precondition p f (opens ∷ (w ++ v)) v (formula_framed v d) (new_of i.0)) ds)))
+    λ f w d. (
+      shift (λ x. AtParts file x (set_precondition p f)) b opens w (part_grows (opens ∷ w) i.0 (new_precondition p f (opens ∷ w) [] d (new_of i.0))),
+      λ ms c e v ds. shift_twice (Before file (k (action_from n ms c e))) b opens w v (i.1 ms c e (opens ∷ (w ++ v)) (more_parts (new_precondition p f (opens ∷ (w ++ v)) v (formula_framed v d) (new_of i.0)) ds)),
+    )
 one file (wants_value n effect_part p k) b opens i =
-    λ f w d. (shift (λ x. AtParts file x (set_effect p f)) b opens w (part_grows (opens ∷ w) i.0 (new_effect p f (opens ∷ w) [] d (new_of i.0))),
-        λ ms c e v ds. shift_twice (Before file (k (action_from n ms c e))) b opens w v (i.1 ms c e (opens ∷ (w ++ v)) (more_parts (new_effect p f (opens ∷ (w ++ v)) v (effect_framed v d) (new_of i.0)) ds)))
+    λ f w d. (
+      shift (λ x. AtParts file x (set_effect p f)) b opens w (part_grows (opens ∷ w) i.0 (new_effect p f (opens ∷ w) [] d (new_of i.0))),
+      λ ms c e v ds. shift_twice (Before file (k (action_from n ms c e))) b opens w v (i.1 ms c e (opens ∷ (w ++ v)) (more_parts (new_effect p f (opens ∷ (w ++ v)) v (effect_framed v d) (new_of i.0)) ds)),
+    )
 one file (wants_value n part p k) b closes i = value_closes p i.0
 one file (wants_value n part p k) b (keyword parameters) i = value_word p parameter_part i.0
 one file (wants_value n part p k) b (keyword precondition) i = value_word p precondition_part i.0

@@ -17,7 +17,3 @@ pub mod CertificateRefusalsLemmas
 pub mod PlanMachine
 pub mod PlanReading
 pub mod PlanMeaning
-pub mod PlanMachine
-pub mod PlanReading
-pub mod PlanMeaning
-pub mod CertificateRefusalsLemmas
