@@ -1,5 +1,5 @@
 -- What was read of words is read of them also where more words follow, and lists that are read one after the other are one list.
-use Rattle.std.proofs.Common.{List, [], ◌∷◌, ◌++◌}
+use Rattle.std.proofs.Common.{List, ◌++◌}
 use Rattle.model.specs.Trees.{Name, Term, Formula, Formulas, Effect, Effects, Predicate, Action, Fact}
 use Rattle.model.specs.GrammarWords.{Token}
 use Rattle.model.specs.Grammar.{AreNames, no_name, more_names, AreVariables, no_variable, more_variables, AreTerms, no_term, object_first, variable_first, IsFormula, atom, conjunction, AreFormulas, no_formula, more_formulas, IsEffect, add, delete, both, AreEffects, no_effect, more_effects, Parts, IsPart, parameter_list, condition, change, AreParts, no_part, more_parts, IsAction, whole_action, ArePredicates, no_predicate, more_predicates, AreKeys, no_key, more_keys, DomainSections, IsDomainSection, domain_requirements, declared_predicates, one_action, AreDomainSections, no_domain_section, more_domain_sections, AreFacts, no_fact, more_facts, ProblemSections, IsProblemSection, domain_name, problem_requirements, object_list, initial_facts, goal_formula, AreProblemSections, no_problem_section, more_problem_sections}

@@ -1,12 +1,12 @@
 -- A line of the table that is true of a word stops the machine at it, by the number of the line.
-use Rattle.std.proofs.Common.{◌≡◌, ℕ, Bool, true, false, cond, ◌||◌, List, [], ◌∷◌, ◌++◌, Option, None, Some, refl, sym, ◌∙◌, ap, arith}
+use Rattle.std.proofs.Common.{◌≡◌, ℕ, Bool, true, false, List, [], ◌∷◌, ◌++◌, None, Some, refl, ◌∙◌, ap, arith}
 use Rattle.std.proofs.lemmas.List.{append_assoc}
-use Rattle.model.specs.Trees.{Name, Formula, Effect, Predicate, Action}
-use Rattle.model.specs.GrammarWords.{Token, opens, closes, name, variable, keyword, other, Label, free, reserved, define, domain, problem, left_out_name, Keyword, domain_keyword, requirements, predicates, action, objects, init, goal, parameters, precondition, effect, requirement_key, left_out_keyword, unknown_keyword}
-use Rattle.model.specs.Grammar.{Parts, parts, no_parts, AreKeys, no_key, more_keys, DomainSections, domain_sections, no_domain_sections, ProblemSections, problem_sections, no_problem_sections}
-use Rattle.model.specs.Refusals.{File, domain_file, problem_file, InDomain, in_domain, InProblem, in_problem, InAction, in_action, is_domain_section, is_problem_section, is_part, stands_in_domain, stands_in_problem, stands_in_action, is_full, is_complete, is_requirement, number_of_keyword, IsLine, unknown_in_domain, unknown_in_problem, unknown_in_action, repeated_in_domain, repeated_in_problem, repeated_in_action, repeated_at_once, repeated_at_value, missing_define, missing_kind, missing_in_domain, missing_in_problem, missing_name, missing_in_action, missing_after_precondition, missing_after_effect, unknown_key_in_domain, unknown_key_in_problem, left_out_form}
-use Rattle.model.proofs.GrammarMachine.{State, Step, go, refuse, step, Outcome, finished, stopped, follow, run, start, wants_keys, wants_action, wants_parts, wants_value, wants_domain_sections, wants_domain_section, wants_problem_sections, wants_problem_section, Part, parameter_part, precondition_part, effect_part, DomainSection, action_section, add_action, keyword_in_domain, keyword_in_problem, keyword_in_action, by_keyword, code_at_value, part_of, has_part, domain_section_of, problem_section_of, set_domain_requirements, set_problem_requirements}
-use Rattle.model.proofs.GrammarRuns.{not_full_keys, domain_sections_run, problem_sections_run, parts_run, keys_run, section_opens}
+use Rattle.model.specs.Trees.{Name, Action}
+use Rattle.model.specs.GrammarWords.{Token, opens, closes, name, keyword, reserved, left_out_name, Keyword, domain_keyword, requirements, predicates, action, objects, init, goal, parameters, precondition, effect, requirement_key, left_out_keyword}
+use Rattle.model.specs.Grammar.{Parts, parts, AreKeys, no_key, more_keys, DomainSections, domain_sections, ProblemSections, problem_sections}
+use Rattle.model.specs.Refusals.{File, domain_file, problem_file, InDomain, in_domain, InProblem, in_problem, InAction, in_action, is_domain_section, is_problem_section, is_part, stands_in_domain, stands_in_problem, stands_in_action, is_complete, is_requirement, number_of_keyword, IsLine, unknown_in_domain, unknown_in_problem, unknown_in_action, repeated_in_domain, repeated_in_problem, repeated_in_action, repeated_at_once, repeated_at_value, missing_define, missing_kind, missing_in_domain, missing_in_problem, missing_name, missing_in_action, missing_after_precondition, missing_after_effect, unknown_key_in_domain, unknown_key_in_problem, left_out_form}
+use Rattle.model.proofs.GrammarMachine.{State, stopped, run, start, wants_keys, wants_action, wants_parts, wants_domain_sections, wants_domain_section, wants_problem_sections, wants_problem_section, add_action, set_problem_requirements}
+use Rattle.model.proofs.GrammarRuns.{not_full_keys, domain_sections_run, problem_sections_run, parts_run, section_opens}
 use Rattle.model.proofs.GrammarFrames.{domain_sections_framed, problem_sections_framed, parts_framed, keys_framed}
 
 -- what the machine comes to after the words before a place
