@@ -88,14 +88,6 @@ fn names_become_numbers(rt: HostRuntime) -> Result<(), Fail> {
         task.schema_name(SchemaId(0))
             .is_some_and(|name| name == b"go".as_slice())
     );
-    assert!(rt;
-        task.predicate(PredicateId(0))
-            .is_some_and(|predicate| predicate.arity == 1)
-    );
-    assert!(rt;
-        task.schema(SchemaId(0))
-            .is_some_and(|schema| schema.parameters == 2)
-    );
     assert_eq!(rt; task.init().len(), 1);
     Ok(())
 }

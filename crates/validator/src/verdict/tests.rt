@@ -154,9 +154,22 @@ fn states_of_walk(rt: HostRuntime) -> Result<(), Fail> {
     walks(&rt, alloc, &task, &start)
 }
 
+/// A road joins two places, and a move has two parameters.
+fn walk_is_declared(rt: &impl Abort, task: &Task) {
+    assert!(rt;
+        task.predicate(PredicateId(1))
+            .is_some_and(|predicate| predicate.arity == 2)
+    );
+    assert!(rt;
+        task.schema(SchemaId(0))
+            .is_some_and(|schema| schema.parameters == 2)
+    );
+}
+
 #[test]
 fn instances_of_walk(rt: HostRuntime) -> Result<(), Fail> {
     let task = task_of(rt.alloc(), WALK_DOMAIN, WALK_PROBLEM)?;
+    walk_is_declared(&rt, &task);
     assert!(rt; is_instance(&task, &instance(0, &[2, 2])));
     assert!(rt; !is_instance(&task, &instance(0, &[2])));
     assert!(rt; !is_instance(&task, &instance(0, &[2, 3])));
