@@ -3,3 +3,5 @@ pub mod FluentsLemmas
 pub mod RefusalsLemmas
 pub mod ReadingLemmas
 pub mod AnswerLemmas
+pub mod OrderLemmas
+pub mod FirstLemmas

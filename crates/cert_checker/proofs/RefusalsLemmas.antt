@@ -48,7 +48,7 @@ pairs-map : {X Y : Type 0} (f : X → Y) (xs : List X) → AllPairs (λ (s t : Y
 pairs-map f xs pairs i j d lt within same =
     pairs i j (f d) lt (omega (arith, within, length-map xs f)) (get_or-map f xs i d ∙ same ∙ sym (get_or-map f xs j d))
 
-states_of_lines : (task : Task) (c : Certificate) (ls : List StateLine) → map (state_of_line task c) ls ≡ map (λ (k : Line State). k.state) (map (entry task c) ls)
+pub states_of_lines : (task : Task) (c : Certificate) (ls : List StateLine) → map (state_of_line task c) ls ≡ map (λ (k : Line State). k.state) (map (entry task c) ls)
 states_of_lines task c [] = refl
 states_of_lines task c (l ∷ ls) = ap (λ rest. state_of_line task c l ∷ rest) (states_of_lines task c ls)
 

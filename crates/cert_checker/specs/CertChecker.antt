@@ -10,7 +10,7 @@ use Rattle.model.specs.Runs.{cost_of_all, IsOptimal, CostsAtLeast, IsUnsolvable}
 use Rattle.model.specs.Meaning.{system_of}
 use Rattle.model.specs.Claims.{Claim, bound, none}
 use Rattle.model.specs.Certificates.{Certificate}
-use Rattle.model.specs.CertificateRefusals.{Reason, not_fluent, repeated, cut_not_allowed, limit, IsWrong, IsWrongLine}
+use Rattle.model.specs.CertificateRefusals.{limit, IsFirst, IsWrong, IsWrongLine}
 
 -- What an accepted certificate shows is true, of all lists of instances: the plan that was handed in is optimal at
 -- this cost; every list that solves costs at least this; no list solves.
@@ -37,15 +37,8 @@ IsNoFault (Line code line) = ⊥
 IsNoFault (Plain code) = reason_of code ≡ limit
 IsNoFault NoMemory = Unit {0}
 
--- what is looked at while the certificate's lines are read
-abbrev pub IsOfReading : Reason → Type 0
-IsOfReading not_fluent = Unit {0}
-IsOfReading repeated = Unit {0}
-IsOfReading cut_not_allowed = Unit {0}
-IsOfReading _ = ⊥
-
--- It is told no later than the limit of instances, which comes after the reading of the certificate's lines.
-abbrev pub IsByTheLimit : Refusal → Type 0
-IsByTheLimit (Line code line) = IsOfReading (reason_of code)
-IsByTheLimit (Plain code) = reason_of code ≡ limit
-IsByTheLimit NoMemory = Unit {0}
+-- Nothing that the checker looks for before is wrong.
+abbrev pub IsFirstRefusal : Task → Certificate → Option (List Instance) → ℕ → Refusal → Type 0
+IsFirstRefusal task c plan most (Line code line) = IsFirst task c plan most (reason_of code) line
+IsFirstRefusal task c plan most (Plain code) = IsFirst task c plan most (reason_of code) 0
+IsFirstRefusal task c plan most NoMemory = Unit {0}

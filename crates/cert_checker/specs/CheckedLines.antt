@@ -1,13 +1,14 @@
 -- What the checker finds out of a certificate's lines, one after another.
-use Rattle.std.specs.Prelude.{◌≡◌, ◌≢◌, ℕ, ◌+◌, ◌≤◌, ◌&&◌, IsTrue, List, map, All, AllPairs, Contains, slice_get, Option, None, Some}
+use Rattle.std.specs.Prelude.{◌≡◌, ◌≢◌, ℕ, ◌+◌, ◌<◌, ◌≤◌, ◌&&◌, IsTrue, List, length, map, All, AllPairs, Contains, slice_get, Option, None, Some}
 use Rattle.cert_checker.specs.declared.check.Refusal.{Refusal}
-use Rattle.cert_checker.specs.CertChecker.{IsTrueRefusal}
+use Rattle.cert_checker.specs.CertChecker.{IsFirstRefusal, IsTrueRefusal}
 use Rattle.model.specs.Task.{Atom, Task, Instance}
 use Rattle.model.specs.WellTyped.{is_atom}
-use Rattle.model.specs.Meaning.{State}
+use Rattle.model.specs.Meaning.{State, initial_state, system_of}
 use Rattle.model.specs.Runs.{System}
-use Rattle.model.specs.Claims.{Claim, Allows, Line, IsListedWithin}
-use Rattle.model.specs.Certificates.{Certificate, StateLine, is_fluent, state_of_line}
+use Rattle.model.specs.Instances.{all_instances}
+use Rattle.model.specs.Claims.{Claim, none, Allows, Line, IsListedWithin}
+use Rattle.model.specs.Certificates.{Certificate, StateLine, is_fluent, state_of_line, lines_of}
 
 -- the atoms are well-typed, of fluent predicates, and distinct
 pub record AreFluent (task : Task) (atoms : List Atom) : Type 0 where
@@ -22,6 +23,15 @@ pub record Lists (task : Task) (certificate : Certificate) (states : List State)
 -- the refusal is true, whatever plan is handed in and whatever the limit of instances
 abbrev pub IsTrueAnyway : Task → Certificate → Refusal → Type 0
 IsTrueAnyway task c refusal = (plan : Option (List Instance)) (most : ℕ) → IsTrueRefusal task c plan most refusal
+
+-- the refusal is the first, whatever plan is handed in and whatever the limit of instances
+abbrev pub IsFirstAnyway : Task → Certificate → Refusal → Type 0
+IsFirstAnyway task c refusal = (plan : Option (List Instance)) (most : ℕ) → IsFirstRefusal task c plan most refusal
+
+-- of the first so many state lines none is cut where it is claimed that no list solves
+abbrev pub CutsAreAllowed : Task → Certificate → ℕ → Type 0
+CutsAreAllowed task c count =
+    (place : ℕ) (l : Line State) (rest : ℕ) → place < count → slice_get (lines_of task c) place ≡ Some l → l.cut ≡ Some rest → c.claim ≡ none → ⊥
 
 -- the certificate's line at this place has this cost and this cut
 abbrev pub HasCost : Certificate → ℕ → ℕ → Option ℕ → Type 0
@@ -44,3 +54,13 @@ IsCutClosed claim cost rest = (rest ≤ 0) × Allows claim (cost + rest)
 pub record IsLineClosed {S A : Type 0} (t : System S A) (claim : Claim) (lines : List (Line S)) (line : Line S) : Type 0 where
   pub is_open : line.cut ≡ None → IsOpenClosed t claim lines line.state line.cost
   pub is_cut : (rest : ℕ) → line.cut ≡ Some rest → IsCutClosed claim line.cost rest
+
+-- All is right up to the state line at this place: the reading of the certificate, the count of instances, the initial
+-- state, and the state lines before.
+pub record IsRightUpTo (task : Task) (c : Certificate) (most place : ℕ) : Type 0 where
+  pub atoms : AreFluent task c.atoms
+  pub distinct : AllPairs (λ (k l : Line State). k.state ≢ l.state) (lines_of task c)
+  pub allowed : CutsAreAllowed task c (length (lines_of task c))
+  pub within : length (all_instances task) ≤ most
+  pub initial : IsListedWithin (lines_of task c) (initial_state task) 0
+  pub lines : (k : ℕ) (l : Line State) → k < place → slice_get (lines_of task c) k ≡ Some l → IsLineClosed (system_of task) c.claim (lines_of task c) l

@@ -1,6 +1,6 @@
 //! The checker of certificates: it accepts exactly where the certificate is closed for the task, and then its claim is
 //! true of every plan.
-ghost use Rattle.std.specs.Prelude.{◌≡◌, ◌<◌, length, IsTrue, IfErr, IfOk, MatchResult, OnOk};
+ghost use Rattle.std.specs.Prelude.{◌≡◌, ◌<◌, ◌≤◌, length, IsTrue, IfErr, IfOk, OnOk};
 ghost use Rattle.std.specs.List.{list_all};
 ghost use Rattle.std.specs.Option.{ForSome, option_map};
 ghost use Rattle.validator.specs.Typing.{task_of};
@@ -10,7 +10,7 @@ ghost use Rattle.model.specs.Instances.{all_instances};
 ghost use Rattle.model.specs.Certificates.{IsClosedFor};
 ghost use Rattle.model.specs.CertificateRefusals.{IsPlanWithin, atom_line, state_line};
 ghost use Rattle.cert_checker.specs.Certificate.{certificate_of};
-ghost use Rattle.cert_checker.specs.CertChecker.{Answers, IsByTheLimit, IsNoFault, IsShown, IsTrueRefusal};
+ghost use Rattle.cert_checker.specs.CertChecker.{Answers, IsFirstRefusal, IsNoFault, IsShown, IsTrueRefusal};
 
 mod answer;
 mod code;
@@ -121,9 +121,11 @@ pub fn check_cert(
         → IsPlanWithin (task_of task.now) (certificate_of cert.now).claim (option_map (λ p. plan_of p.now) plan.entry)
         → IfErr result IsNoFault }
 
-    // Each refusal is true, and beyond the limit of instances nothing is told that comes after it.
+    ensures within { OnOk result (length (all_instances (task_of task.now)) ≤ max_instances) }
+
+    // Each refusal is true, and nothing that comes before it is wrong.
     ensures refused { IfErr result (IsTrueRefusal (task_of task.now) (certificate_of cert.now) (option_map (λ p. plan_of p.now) plan.entry) max_instances) }
-    ensures limited { max_instances < length (all_instances (task_of task.now)) → MatchResult result (λ _. ⊥) IsByTheLimit }
+    ensures first { IfErr result (IsFirstRefusal (task_of task.now) (certificate_of cert.now) (option_map (λ p. plan_of p.now) plan.entry) max_instances) }
 {
     listing::check_atoms(alloc, task, cert)?;
     let states = listing::listed_states(alloc, task, cert)?;

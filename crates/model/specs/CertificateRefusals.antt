@@ -90,6 +90,40 @@ IsWrong task c plan most plan_dearer =
 IsWrong task c plan most limit = most < length (all_instances task)
 IsWrong task c plan most _ = ⊥
 
+-- The checker looks for what is wrong in this order: it reads the lines one by one, counts the instances, looks for the
+-- initial state, goes through the state lines one by one, and holds the plan against the claim.
+abbrev pub stage_of : Reason → ℕ
+stage_of not_fluent = 0
+stage_of repeated = 0
+stage_of cut_not_allowed = 0
+stage_of limit = 1
+stage_of no_initial = 2
+stage_of goal_open = 3
+stage_of successor_missing = 3
+stage_of successor_dearer = 3
+stage_of cut_weak = 3
+stage_of plan_invalid = 4
+stage_of plan_dearer = 4
+
+-- and of one line in this order; of a line's successors it tells the first one that is not as it is to be
+abbrev pub rank_of : Reason → ℕ
+rank_of repeated = 1
+rank_of cut_not_allowed = 2
+rank_of successor_missing = 1
+rank_of successor_dearer = 1
+rank_of plan_dearer = 1
+rank_of _ = 0
+
+-- the one reason comes before the other, in these lines; what is not wrong with a line is told as in line 0
+abbrev pub ComesBefore : Reason → ℕ → Reason → ℕ → Type 0
+ComesBefore earlier line later other =
+    (stage_of earlier < stage_of later) ⊎ ((stage_of earlier ≡ stage_of later) × ((line < other) ⊎ ((line ≡ other) × (rank_of earlier < rank_of later))))
+
+-- nothing is wrong that comes before
+abbrev pub IsFirst : Task → Certificate → Option (List Instance) → ℕ → Reason → ℕ → Type 0
+IsFirst task c plan most reason line =
+    (earlier : Reason) (before : ℕ) → ComesBefore earlier before reason line → ¬ (IsWrongLine task c earlier before ⊎ IsWrong task c plan most earlier)
+
 -- no plan is handed in, or one that solves the task and costs no more than is claimed
 abbrev pub IsPlanWithin : Task → Claim → Option (List Instance) → Type 0
 IsPlanWithin task claim None = Unit {0}

@@ -1,5 +1,5 @@
 //! The listing of a certificate: its atoms and its states, read in the order of their lines.
-ghost use Rattle.std.specs.Prelude.{◌≡◌, ◌↔◌, List, ◌++◌, slice_get, IfErr, IfOk, IsSome, IsTrue, OnOk};
+ghost use Rattle.std.specs.Prelude.{◌≡◌, ◌↔◌, List, ◌++◌, slice_get, IfErr, IfOk, IsSome, IsTrue, OnOk, length};
 ghost use Rattle.std.specs.FinSet.{from_list};
 ghost use Rattle.std.specs.List.{filter_map};
 ghost use Rattle.validator.specs.Typing.{task_of};
@@ -7,11 +7,10 @@ ghost use Rattle.validator.specs.Formulas.{state_of};
 ghost use Rattle.cert_checker.specs.CertificateParts.{line_of};
 ghost use Rattle.cert_checker.specs.Certificate.{certificate_of};
 ghost use Rattle.task_system.specs.PlainStore.{states_of};
-ghost use Rattle.cert_checker.specs.CertChecker.{IsByTheLimit};
-ghost use Rattle.cert_checker.specs.CheckedLines.{AreFluent, IsTrueAnyway, Lists};
+ghost use Rattle.cert_checker.specs.CheckedLines.{AreFluent, CutsAreAllowed, IsFirstAnyway, IsTrueAnyway, Lists};
 ghost use Rattle.model.specs.Task as model_task;
 ghost use Rattle.model.specs.Claims as claims;
-ghost use Rattle.model.specs.Certificates.{static_atoms};
+ghost use Rattle.model.specs.Certificates.{lines_of, static_atoms};
 
 use crate::certificate::{Cert, Claim, StateLine};
 use crate::check::code::RefusalCode;
@@ -28,7 +27,7 @@ use validator::typing::Task;
 pub(super) fn check_atoms(alloc: Global, task: &Task, cert: &Cert) -> Result<(), Refusal>
     ensures right { OnOk result (AreFluent (task_of task.now) (certificate_of cert.now).atoms) }
     ensures wrong { IfErr result (IsTrueAnyway (task_of task.now) (certificate_of cert.now)) }
-    ensures early { IfErr result IsByTheLimit }
+    ensures first { IfErr result (IsFirstAnyway (task_of task.now) (certificate_of cert.now)) }
 {
     let mut seen = IndexSet::new(alloc);
     for (place, atom) in cert.atoms().iter().enumerate() {
@@ -46,7 +45,8 @@ pub(super) fn check_atoms(alloc: Global, task: &Task, cert: &Cert) -> Result<(),
 pub(super) fn listed_states(alloc: Global, task: &Task, cert: &Cert) -> Result<PlainStore, Refusal>
     ensures right { IfOk result (λ states. Lists (task_of task.now) (certificate_of cert.now) (states_of states)) }
     ensures wrong { IfErr result (IsTrueAnyway (task_of task.now) (certificate_of cert.now)) }
-    ensures early { IfErr result IsByTheLimit }
+    ensures allowed { OnOk result (CutsAreAllowed (task_of task.now) (certificate_of cert.now) (length (lines_of (task_of task.now) (certificate_of cert.now)))) }
+    ensures first { IfErr result (λ e. AreFluent (task_of task.now) (certificate_of cert.now).atoms → IsFirstAnyway (task_of task.now) (certificate_of cert.now) e) }
 {
     let statics = static_state(alloc, task)?;
     let mut states = PlainStore::new(alloc);

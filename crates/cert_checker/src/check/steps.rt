@@ -1,16 +1,18 @@
 //! Whether no action leads out of the listing at less than is claimed.
-ghost use Rattle.std.specs.Prelude.{◌≡◌, ℕ, ◌+◌, ◌<◌, ◌↔◌, length, slice_get, None, Some, IsTrue, IfErr, MatchOption, OnOk};
+ghost use Rattle.std.specs.Prelude.{◌≡◌, ℕ, ◌+◌, ◌<◌, ◌≤◌, ◌↔◌, List, length, slice_get, Option, None, Some, IsTrue, IfErr, MatchOption, OnOk};
 ghost use Rattle.validator.specs.Typing.{task_of};
 ghost use Rattle.validator.specs.Formulas.{state_of};
 ghost use Rattle.cert_checker.specs.CertificateParts.{claim_of};
 ghost use Rattle.cert_checker.specs.Certificate.{certificate_of};
 ghost use Rattle.task_system.specs.PlainStore.{states_of};
-ghost use Rattle.cert_checker.specs.CheckedLines.{HasCost, IsCutClosed, IsLineClosed, IsListedAt, IsOpenClosed, IsTrueAnyway, Lists};
+ghost use Rattle.cert_checker.specs.CertChecker.{IsFirstRefusal};
+ghost use Rattle.cert_checker.specs.CheckedLines.{AreFluent, CutsAreAllowed, HasCost, IsCutClosed, IsLineClosed, IsListedAt, IsOpenClosed, IsRightUpTo, IsTrueAnyway, Lists};
 ghost use Rattle.model.specs.Task as model_task;
 ghost use Rattle.model.specs.Meaning.{system_of};
 ghost use Rattle.model.specs.Meaning as meaning;
 ghost use Rattle.model.specs.Claims as claims;
 ghost use Rattle.model.specs.Claims.{Allows, IsListedWithin};
+ghost use Rattle.model.specs.Instances.{all_instances};
 ghost use Rattle.model.specs.Certificates.{lines_of};
 ghost use Rattle.model.specs.CertificateRefusals.{IsListed};
 
@@ -32,6 +34,10 @@ pub(super) fn check_initial(
     requires { Lists (task_of task.now) (certificate_of cert.now) (states_of states.now) }
     ensures right { OnOk result (IsListedWithin (lines_of (task_of task.now) (certificate_of cert.now)) (system_of (task_of task.now)).initial 0) }
     ensures wrong { IfErr result (IsTrueAnyway (task_of task.now) (certificate_of cert.now)) }
+    ensures first { IfErr result (λ e. AreFluent (task_of task.now) (certificate_of cert.now).atoms
+        → CutsAreAllowed (task_of task.now) (certificate_of cert.now) (length (lines_of (task_of task.now) (certificate_of cert.now)))
+        → (plan : Option (List model_task.Instance)) (most : ℕ) → length (all_instances (task_of task.now)) ≤ most
+        → IsFirstRefusal (task_of task.now) (certificate_of cert.now) plan most e) }
 {
     let initial = State::initial(alloc, task)?;
     if listed_cost(task, cert, states, &initial) == Some(0) {
@@ -52,6 +58,8 @@ pub(super) fn check_lines(
     ensures right { OnOk result ((place : ℕ) (line : claims.Line meaning.State) → slice_get (lines_of (task_of task.now) (certificate_of cert.now)) place ≡ Some line
         → IsLineClosed (system_of (task_of task.now)) (certificate_of cert.now).claim (lines_of (task_of task.now) (certificate_of cert.now)) line) }
     ensures wrong { IfErr result (IsTrueAnyway (task_of task.now) (certificate_of cert.now)) }
+    ensures first { IfErr result (λ e. (plan : Option (List model_task.Instance)) (most : ℕ) → IsRightUpTo (task_of task.now) (certificate_of cert.now) most 0
+        → IsFirstRefusal (task_of task.now) (certificate_of cert.now) plan most e) }
 {
     for place in 0..cert.lines().len() {
         check_line(alloc, task, cert, states, place)?;
@@ -72,6 +80,8 @@ fn check_line(
     ensures right { OnOk result ((line : claims.Line meaning.State) → slice_get (lines_of (task_of task.now) (certificate_of cert.now)) place ≡ Some line
         → IsLineClosed (system_of (task_of task.now)) (certificate_of cert.now).claim (lines_of (task_of task.now) (certificate_of cert.now)) line) }
     ensures wrong { IfErr result (IsTrueAnyway (task_of task.now) (certificate_of cert.now)) }
+    ensures first { IfErr result (λ e. (plan : Option (List model_task.Instance)) (most : ℕ) → IsRightUpTo (task_of task.now) (certificate_of cert.now) most place
+        → IsFirstRefusal (task_of task.now) (certificate_of cert.now) plan most e) }
 {
     let line = &cert.lines()[place];
     match line.cut {
@@ -96,6 +106,8 @@ fn check_open(
     ensures right { OnOk result ((state : meaning.State) → slice_get (states_of states.now) place ≡ Some state
         → IsOpenClosed (system_of (task_of task.now)) (certificate_of cert.now).claim (lines_of (task_of task.now) (certificate_of cert.now)) state cost) }
     ensures wrong { IfErr result (IsTrueAnyway (task_of task.now) (certificate_of cert.now)) }
+    ensures first { IfErr result (λ e. (plan : Option (List model_task.Instance)) (most : ℕ) → IsRightUpTo (task_of task.now) (certificate_of cert.now) most place
+        → IsFirstRefusal (task_of task.now) (certificate_of cert.now) plan most e) }
 {
     let state = states.get(place);
     check_goal(task, cert, place, state, cost)?;
@@ -122,6 +134,8 @@ fn check_goal(
     requires listed { slice_get (lines_of (task_of task.now) (certificate_of cert.now)) place ≡ Some (record { state = state_of state.now; cost = cost; cut = None }) }
     ensures right { OnOk result (IsTrue (meaning.meets_goal (task_of task.now) (state_of state.now)) → Allows (certificate_of cert.now).claim cost) }
     ensures wrong { IfErr result (IsTrueAnyway (task_of task.now) (certificate_of cert.now)) }
+    ensures first { IfErr result (λ e. (plan : Option (List model_task.Instance)) (most : ℕ) → IsRightUpTo (task_of task.now) (certificate_of cert.now) most place
+        → IsFirstRefusal (task_of task.now) (certificate_of cert.now) plan most e) }
 {
     if meets_goal(task, state) && !allows(cert.claim(), cost) {
         Err(state_line(RefusalCode::GoalOpen, cert, place))
@@ -136,6 +150,8 @@ fn check_cut(cert: &Cert, place: usize, cost: u64, rest: u64) -> Result<(), Refu
     requires listed { HasCost (certificate_of cert.now) place cost (Some rest) }
     ensures right { OnOk result (IsCutClosed (certificate_of cert.now).claim cost rest) }
     ensures wrong { IfErr result (λ e. (task : model_task.Task) → IsTrueAnyway task (certificate_of cert.now) e) }
+    ensures first { IfErr result (λ e. (task : model_task.Task) (plan : Option (List model_task.Instance)) (most : ℕ) → IsRightUpTo task (certificate_of cert.now) most place
+        → IsFirstRefusal task (certificate_of cert.now) plan most e) }
 {
     if rest == 0 && allows(cert.claim(), cost) {
         Ok(())

@@ -1,8 +1,10 @@
-use Rattle.std.proofs.Common.{inl, inr, arith}
+use Rattle.std.proofs.Common.{inl, inr, refl, arith}
 use Rattle.cert_checker.specs.Certificate.{certificate_of}
 use Rattle.cert_checker.specs.CertificateParts.{claim_of}
 use Rattle.cert_checker.specs.declared.check.code.RefusalCode.TheVariants.{CutWeak}
-use Rattle.model.specs.CertificateRefusals.{state_line}
+use Rattle.model.specs.CertificateRefusals.{cut_weak, state_line}
+use Rattle.cert_checker.proofs.OrderLemmas.{first_in_line}
+use Rattle.cert_checker.proofs.FirstLemmas.{told_first}
 use Rattle.cert_checker.proofs.RefusalsLemmas.{told, wrong_cut, denied}
 use Rattle.cert_checker.proofs.check.steps.check_cut.Goals as goal
 use Rattle.cert_checker.proofs.check.steps.check_cut.Goals.{else-rest-eq0-via-then-rest-eq0+else-allows, else-rest-eq0-via-else-rest-eq0}
@@ -17,3 +19,10 @@ returns-else-rest-eq0-clause-wrong c =
       | else-rest-eq0-via-then-rest-eq0+else-allows w ↦ inr (denied (claim_of w.claim.result) cert.claim c.args.cost c.args.rest w.allows.result w.claim.ensures w.allows.ensures w.if-allows.false w.if-rest-eq0.true)
       | else-rest-eq0-via-else-rest-eq0 w ↦ inl (omega arith)
     ]))
+
+pub returns-else-rest-eq0-clause-first : goal.returns-else-rest-eq0-clause-first
+returns-else-rest-eq0-clause-first c =
+    λ task plan most right.
+    let cert = certificate_of c.args.cert.now in
+    told_first task cert plan most c.state_line.result CutWeak (state_line cert c.args.place) c.state_line.ensures
+    (first_in_line task cert plan most c.args.place cut_weak right refl (λ r stage rank wrong. omega arith))

@@ -1,10 +1,12 @@
-use Rattle.std.proofs.Common.{sym, ◌∙◌}
+use Rattle.std.proofs.Common.{sym, ◌∙◌, refl, arith}
 use Rattle.validator.specs.Typing.{task_of}
 use Rattle.cert_checker.specs.Certificate.{certificate_of}
 use Rattle.validator.specs.Formulas.{state_of}
 use Rattle.cert_checker.specs.CertificateParts.{claim_of}
 use Rattle.cert_checker.specs.declared.check.code.RefusalCode.TheVariants.{GoalOpen}
-use Rattle.model.specs.CertificateRefusals.{state_line}
+use Rattle.model.specs.CertificateRefusals.{goal_open, state_line}
+use Rattle.cert_checker.proofs.OrderLemmas.{first_in_line}
+use Rattle.cert_checker.proofs.FirstLemmas.{told_first}
 use Rattle.cert_checker.proofs.RefusalsLemmas.{told, wrong_goal, not_allowed}
 use Rattle.cert_checker.proofs.check.steps.check_goal.Goals as goal
 
@@ -15,3 +17,11 @@ returns-then-not-allows-clause-wrong c =
     told task cert c.state_line.result GoalOpen (state_line cert c.args.place) c.state_line.ensures
     (wrong_goal task cert c.args.place (state_of c.args.state.now) c.args.cost c.requires.listed (sym c.meets_goal.ensures ∙ c.if-meets_goal.true)
     (not_allowed (claim_of c.claim.result) cert.claim c.args.cost c.allows.result c.claim.ensures c.allows.ensures c.if-not-allows.true))
+
+pub returns-then-not-allows-clause-first : goal.returns-then-not-allows-clause-first
+returns-then-not-allows-clause-first c =
+    λ plan most right.
+    let task = task_of c.args.task.now in
+    let cert = certificate_of c.args.cert.now in
+    told_first task cert plan most c.state_line.result GoalOpen (state_line cert c.args.place) c.state_line.ensures
+    (first_in_line task cert plan most c.args.place goal_open right refl (λ r stage rank wrong. omega arith))

@@ -1,11 +1,13 @@
-use Rattle.std.proofs.Common.{◌<◌, None, Some, length, ap, arith}
+use Rattle.std.proofs.Common.{ℕ, ◌<◌, List, Option, None, Some, length, ap, arith}
 use Rattle.std.proofs.lemmas.List.{length-map}
 use Rattle.validator.specs.Typing.{task_of}
 use Rattle.cert_checker.specs.CertificateParts.{line_of}
 use Rattle.cert_checker.specs.Certificate.{certificate_of}
 use Rattle.task_system.specs.PlainStore.{states_of}
 use Rattle.cert_checker.proofs.CertCheckerLemmas.{got, small_cost, line_open_if_ok, line_cut_if_ok}
-use Rattle.cert_checker.specs.CheckedLines.{IsTrueAnyway}
+use Rattle.cert_checker.specs.CertChecker.{IsFirstRefusal}
+use Rattle.cert_checker.specs.CheckedLines.{IsRightUpTo, IsTrueAnyway}
+use Rattle.model.specs.Task.{Instance}
 use Rattle.cert_checker.proofs.RefusalsLemmas.{has_cost, wrong_for}
 use Rattle.cert_checker.proofs.check.steps.check_line.Goals as goal
 
@@ -51,3 +53,12 @@ returns-in-None-clause-wrong c = c.check_open.ensures.wrong
 
 pub returns-in-Some-clause-wrong : goal.returns-in-Some-clause-wrong
 returns-in-Some-clause-wrong c = wrong_for (task_of c.args.task.now) (λ task e. IsTrueAnyway task (certificate_of c.args.cert.now) e) c.check_cut.result c.check_cut.ensures.wrong
+
+pub returns-in-None-clause-first : goal.returns-in-None-clause-first
+returns-in-None-clause-first c = c.check_open.ensures.first
+
+pub returns-in-Some-clause-first : goal.returns-in-Some-clause-first
+returns-in-Some-clause-first c =
+    wrong_for (task_of c.args.task.now)
+    (λ task e. (plan : Option (List Instance)) (most : ℕ) → IsRightUpTo task (certificate_of c.args.cert.now) most c.args.place → IsFirstRefusal task (certificate_of c.args.cert.now) plan most e)
+    c.check_cut.result c.check_cut.ensures.first

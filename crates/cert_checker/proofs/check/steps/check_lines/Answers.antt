@@ -1,9 +1,14 @@
-use Rattle.std.proofs.Common.{◌≡◌, Some, inl, inr, subst, arith}
+use Rattle.std.proofs.Common.{◌≡◌, ℕ, List, Option, Some, inl, inr, subst, arith}
 use Rattle.std.specs.Prelude.{slice_get}
 use Rattle.std.proofs.lemmas.Bool.{cases_eq}
 use Rattle.validator.specs.Typing.{task_of}
 use Rattle.cert_checker.specs.Certificate.{certificate_of}
 use Rattle.model.specs.Certificates.{lines_of}
+use Rattle.model.specs.Task.{Instance}
+use Rattle.cert_checker.specs.CertChecker.{IsFirstRefusal}
+use Rattle.cert_checker.specs.CheckedLines.{IsRightUpTo}
+use Rattle.cert_checker.proofs.AnswerLemmas.{passed_on}
+use Rattle.cert_checker.proofs.FirstLemmas.{right_to_line}
 use Rattle.cert_checker.proofs.CertCheckerLemmas.{lines_within}
 use Rattle.cert_checker.proofs.check.steps.check_lines.Goals as goal
 
@@ -17,3 +22,10 @@ loop-place-preserved c =
 
 pub returns-clause-right : goal.returns-clause-right
 returns-clause-right c = λ k line at. c.loop-place.invariant k line (omega (arith, lines_within (task_of c.args.task.now) (certificate_of c.args.cert.now) c.lines-place-end.result.now k line c.lines-place-end.ensures.lines at)) at
+
+pub returns-in_err-check_line-clause-first : goal.returns-in_err-check_line-clause-first
+returns-in_err-check_line-clause-first c =
+    let task = task_of c.args.task.now in
+    let cert = certificate_of c.args.cert.now in
+    passed_on (λ e. (plan : Option (List Instance)) (most : ℕ) → IsRightUpTo task cert most 0 → IsFirstRefusal task cert plan most e) c.from_residual.result c.in_err-check_line.field-0.0 c.from_residual.ensures.1
+    (λ plan most right. c.in_err-check_line.ensures.first plan most (right_to_line task cert most c.loop-place.place right c.loop-place.invariant))

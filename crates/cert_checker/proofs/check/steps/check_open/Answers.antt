@@ -1,4 +1,4 @@
-use Rattle.std.proofs.Common.{◌∙◌, ◌+◌, ap, subst, map, None}
+use Rattle.std.proofs.Common.{◌∙◌, ◌+◌, ap, subst, map, None, refl}
 use Rattle.validator.specs.Typing.{task_of}
 use Rattle.validator.specs.Formulas.{state_of, instance_of}
 use Rattle.cert_checker.specs.Certificate.{certificate_of}
@@ -9,7 +9,9 @@ use Rattle.cert_checker.specs.CheckedLines.{IsOpenClosed}
 use Rattle.model.specs.Meaning.{system_of}
 use Rattle.model.specs.Certificates.{lines_of}
 use Rattle.cert_checker.proofs.CertCheckerLemmas.{AllListed-none, AllListed-more, listed_within, open_closed, same_place}
-use Rattle.model.specs.CertificateRefusals.{state_line}
+use Rattle.model.specs.CertificateRefusals.{successor_missing, successor_dearer, state_line}
+use Rattle.cert_checker.proofs.OrderLemmas.{first_in_line, open_here}
+use Rattle.cert_checker.proofs.FirstLemmas.{told_first}
 use Rattle.cert_checker.proofs.RefusalsLemmas.{told, line_there, leads_there, wrong_missing, wrong_dearer}
 use Rattle.cert_checker.proofs.check.steps.check_open.Goals as goal
 
@@ -63,3 +65,25 @@ returns-then-listed-cost-clause-wrong c =
     (leads_there task state successor_of found c.loop-successor.successor-index c.successor-item.result c.loop-successor-test.true c.successor-item.is
     (ap (map successor_of) c.deref-successor-items.ensures.value ∙ c.in_ok-successors.ensures))
     c.in-Some.ensures c.if-listed-cost.true)
+
+pub returns-in_default-clause-first : goal.returns-in_default-clause-first
+returns-in_default-clause-first c =
+    λ plan most right.
+    let task = task_of c.args.task.now in
+    let cert = certificate_of c.args.cert.now in
+    let state = state_of c.get-state.result.now in
+    let there = line_there task cert (states_of c.args.states.now) c.args.place c.args.cost None state c.requires.lists c.requires.listed c.get-state.ensures in
+    told_first task cert plan most c.state_line.result SuccessorMissing (state_line cert c.args.place) c.state_line.ensures
+    (first_in_line task cert plan most c.args.place successor_missing right refl
+    (open_here task cert c.args.place (record { state = state; cost = c.args.cost; cut = None }) there refl c.in_ok-check_goal.ensures.right))
+
+pub returns-then-listed-cost-clause-first : goal.returns-then-listed-cost-clause-first
+returns-then-listed-cost-clause-first c =
+    λ plan most right.
+    let task = task_of c.args.task.now in
+    let cert = certificate_of c.args.cert.now in
+    let state = state_of c.get-state.result.now in
+    let there = line_there task cert (states_of c.args.states.now) c.args.place c.args.cost None state c.requires.lists c.requires.listed c.get-state.ensures in
+    told_first task cert plan most c.state_line-then-listed-cost.result SuccessorDearer (state_line cert c.args.place) c.state_line-then-listed-cost.ensures
+    (first_in_line task cert plan most c.args.place successor_dearer right refl
+    (open_here task cert c.args.place (record { state = state; cost = c.args.cost; cut = None }) there refl c.in_ok-check_goal.ensures.right))

@@ -1,0 +1,142 @@
+-- Why a refusal of the checker is the first: what the reading of the lines has found out so far.
+use Rattle.std.proofs.Common.{◌≡◌, ◌≢◌, ℕ, ◌+◌, ◌<◌, ◌≤◌, ◌&&◌, Bool, true, false, List, [], ◌∷◌, length, map, take, get_or, Option, Some, inl, inr, refl, sym, ap, ◌∙◌, subst, arith}
+use Rattle.std.specs.Prelude.{◌↔◌, Result, Ok, Err, IfErr, AllPairs, Contains, IsSome, IsTrue, is_some, slice_get}
+use Rattle.std.proofs.lemmas.Bool.{cases_eq, false≢true}
+use Rattle.std.proofs.lemmas.List.{length-map, length-take, get_or-take, take-map}
+use Rattle.std.proofs.lemmas.Option.{slice_get_within, get_or_from_slice_get}
+use Rattle.validator.specs.declared.typing.Atom as code_atom
+use Rattle.validator.specs.TaskParts.{atom_of}
+use Rattle.task_system.proofs.StoreLemmas.{slice_get-or}
+use Rattle.cert_checker.specs.declared.check.Refusal.{Refusal}
+use Rattle.cert_checker.specs.declared.check.Refusal.TheVariants as refusal
+use Rattle.cert_checker.specs.declared.check.code.RefusalCode.{RefusalCode}
+use Rattle.cert_checker.specs.declared.certificate.cert.StateLine as code_line
+use Rattle.cert_checker.specs.CertificateParts.{line_of}
+use Rattle.cert_checker.specs.RefusalCode.{reason_of}
+use Rattle.cert_checker.specs.CertChecker.{IsFirstRefusal}
+use Rattle.cert_checker.specs.CheckedLines.{AreFluent, CutsAreAllowed, IsLineClosed, IsRightUpTo}
+use Rattle.cert_checker.proofs.CertCheckerLemmas.{entry, listed_there, slice_get-map}
+use Rattle.cert_checker.proofs.RefusalsLemmas.{states_of_lines}
+use Rattle.cert_checker.proofs.OrderLemmas.{AtomsAreRight, StatesAreRight}
+use Rattle.model.specs.Task.{Task, Atom, Instance}
+use Rattle.model.specs.WellTyped.{is_atom}
+use Rattle.model.specs.Meaning.{State, system_of}
+use Rattle.model.specs.Instances.{all_instances}
+use Rattle.model.specs.Claims.{none, Line}
+use Rattle.model.specs.Certificates.{Certificate, is_fluent, state_of_line, lines_of, IsClosedFor}
+use Rattle.model.specs.CertificateRefusals.{IsFirst}
+use Rattle.model.proofs.CertificateRefusalsLemmas.{apart}
+
+pub told_first : (task : Task) (c : Certificate) (plan : Option (List Instance)) (most : ℕ) (r : Refusal) (code : RefusalCode) (line : ℕ) → r ≡ refusal.Line code line
+    → IsFirst task c plan most (reason_of code) line → IsFirstRefusal task c plan most r
+told_first task c plan most r code line is first = subst (IsFirstRefusal task c plan most) (sym is) first
+
+slice_get-take : {X : Type 0} (k : ℕ) (xs : List X) (i : ℕ) (x : X) → i < k → slice_get xs i ≡ Some x → slice_get (take k xs) i ≡ Some x
+slice_get-take k xs i x lt at =
+    slice_get-or (take k xs) i x (omega (arith, length-take k xs, slice_get_within xs i x at)) ∙ ap Some (get_or-take k xs i x lt ∙ get_or_from_slice_get xs i x x at)
+
+-- ---- the atoms so far
+
+pub atoms_upto : (task : Task) (c : Certificate) (atoms : List code_atom.Atom) (k : ℕ) → map atom_of atoms ≡ c.atoms → AreFluent task (map atom_of (take k atoms)) → AtomsAreRight task c k
+atoms_upto task c atoms k is right = record {
+  fluent = λ place a lt at.
+      let there = in_first place a lt at in
+      subst (λ (b : Atom). (is_atom task b && is_fluent task b.predicate) ≡ true) (get_or_from_slice_get (map atom_of (take k atoms)) place a a there)
+      (right.fluent place a (slice_get_within (map atom_of (take k atoms)) place a there));
+  distinct = λ i j a lt within at_i at_j.
+      apart (λ (x y : Atom). x ≢ y) (map atom_of (take k atoms)) i j a a right.distinct lt (in_first i a (omega arith) at_i) (in_first j a within at_j) refl;
+}
+  where
+    in_first : (place : ℕ) (a : Atom) → place < k → slice_get c.atoms place ≡ Some a → slice_get (map atom_of (take k atoms)) place ≡ Some a
+    in_first place a lt at =
+        subst (λ l. slice_get l place ≡ Some a) (take-map atom_of k atoms) (slice_get-take k (map atom_of atoms) place a lt (subst (λ l. slice_get l place ≡ Some a) (sym is) at))
+
+pub fluent_at : (task : Task) (c : Certificate) (atoms : List code_atom.Atom) (k : ℕ) (x : code_atom.Atom) → k < length atoms → x ≡ get_or atoms k x → map atom_of atoms ≡ c.atoms
+    → (is_atom task (atom_of x) && is_fluent task (atom_of x).predicate) ≡ true → (a : Atom) → slice_get c.atoms k ≡ Some a → (is_atom task a && is_fluent task a.predicate) ≡ true
+fluent_at task c atoms k x lt at is right a at_a =
+    let at_x : slice_get c.atoms k ≡ Some (atom_of x) = subst (λ l. slice_get l k ≡ Some (atom_of x)) is (slice_get-map atom_of atoms k x (slice_get-or atoms k x lt ∙ ap Some (sym at))) in
+    let same : atom_of x ≡ a = cc in
+    subst (λ (b : Atom). (is_atom task b && is_fluent task b.predicate) ≡ true) same right
+
+pub within_atoms : (c : Certificate) (atoms : List code_atom.Atom) (k : ℕ) → k < length atoms → map atom_of atoms ≡ c.atoms → k ≤ length c.atoms
+within_atoms c atoms k lt is = omega (arith, lt, ap length is, length-map atoms atom_of)
+
+-- ---- the states so far
+
+module _ (task : Task) (c : Certificate) (lines : List code_line.StateLine) (is : map line_of lines ≡ c.lines) where
+  in_two : (ls : List code_line.StateLine) → map (λ line. state_of_line task c (line_of line)) ls ≡ map (state_of_line task c) (map line_of ls)
+  in_two [] = refl
+  in_two (l ∷ ls) = ap (λ rest. state_of_line task c (line_of l) ∷ rest) (in_two ls)
+
+  all_states : map (λ line. state_of_line task c (line_of line)) lines ≡ map (λ (l : Line State). l.state) (lines_of task c)
+  all_states = in_two lines ∙ ap (map (state_of_line task c)) is ∙ states_of_lines task c c.lines
+
+  state_in_first : (k : ℕ) (states : List State) → states ≡ map (λ line. state_of_line task c (line_of line)) (take k lines) → (place : ℕ) (a : Line State) → place < k
+      → slice_get (lines_of task c) place ≡ Some a → slice_get states place ≡ Some a.state
+  state_in_first k states so place a lt at =
+      let first : states ≡ take k (map (λ (l : Line State). l.state) (lines_of task c)) =
+      so ∙ sym (take-map (λ line. state_of_line task c (line_of line)) k lines) ∙ ap (take k) all_states in
+      subst (λ l. slice_get l place ≡ Some a.state) (sym first)
+      (slice_get-take k (map (λ (l : Line State). l.state) (lines_of task c)) place a.state lt (slice_get-map (λ (l : Line State). l.state) (lines_of task c) place a at))
+
+  pub states_upto : (k : ℕ) (states : List State) → states ≡ map (λ line. state_of_line task c (line_of line)) (take k lines) → AllPairs (λ (s t : State). s ≢ t) states → CutsAreAllowed task c k
+      → StatesAreRight task c k
+  states_upto k states so pairs allowed = record {
+    distinct = λ i j a b lt within at_i at_j same.
+        apart (λ (s t : State). s ≢ t) states i j a.state b.state pairs lt (state_in_first k states so i a (omega arith) at_i) (state_in_first k states so j b within at_j) same;
+    allowed = allowed;
+  }
+
+  line_at : (k : ℕ) (x : code_line.StateLine) → k < length lines → x ≡ get_or lines k x → slice_get (lines_of task c) k ≡ Some (entry task c (line_of x))
+  line_at k x lt at = listed_there task c lines k x is (slice_get-or lines k x lt ∙ ap Some (sym at))
+
+  -- a state that is not among the ones so far is not one of theirs
+  pub new_state : (k : ℕ) (x : code_line.StateLine) (states : List State) (s : State) → k < length lines → x ≡ get_or lines k x → states ≡ map (λ line. state_of_line task c (line_of line)) (take k lines)
+      → s ≡ state_of_line task c (line_of x) → (Contains states s → ⊥)
+      → (j : ℕ) (a b : Line State) → j < k → slice_get (lines_of task c) j ≡ Some a → slice_get (lines_of task c) k ≡ Some b → a.state ≡ b.state → ⊥
+  new_state k x states s lt at so here absent j a b before at_a at_b same =
+      let there = state_in_first k states so j a before at_a in
+      let at_x = line_at k x lt at in
+      let one : entry task c (line_of x) ≡ b = cc in
+      let is_s : a.state ≡ s = same ∙ sym (ap (λ (l : Line State). l.state) one) ∙ sym here in
+      absent (subst (Contains states) is_s (j, slice_get_within states j a.state there, get_or_from_slice_get states j a.state a.state there))
+
+  pub cuts_more : (k : ℕ) (x : code_line.StateLine) (is_wrong : Bool) → k < length lines → x ≡ get_or lines k x → CutsAreAllowed task c k
+      → IsTrue is_wrong ↔ ((c.claim ≡ none) × IsSome x.cut) → is_wrong ≡ false → CutsAreAllowed task c (k + 1)
+  cuts_more k x is_wrong lt at before iff fails place l rest below at_l cut claim =
+      elim (cases_eq place k) [
+        | inl same ↦
+            let at_k = subst (λ j. slice_get (lines_of task c) j ≡ Some l) same at_l in
+            let at_x = line_at k x lt at in
+            let one : entry task c (line_of x) ≡ l = cc in
+            let cut_x : x.cut ≡ Some rest = ap (λ (m : Line State). m.cut) one ∙ cut in
+            false≢true (sym fails ∙ iff.1 (claim, ap is_some cut_x))
+        | inr other ↦ before place l rest (omega arith) at_l cut claim
+      ]
+
+  pub cuts_all : (k : ℕ) → length lines ≤ k → CutsAreAllowed task c k → CutsAreAllowed task c (length (lines_of task c))
+  cuts_all k past allowed place l rest below at cut claim =
+      allowed place l rest (omega (arith, below, past, length-map c.lines (entry task c), ap length is, length-map lines line_of)) at cut claim
+
+pub cuts_none : (task : Task) (c : Certificate) → CutsAreAllowed task c 0
+cuts_none task c place l rest below at cut claim = omega arith
+
+-- ---- the lines so far
+
+pub right_to_line : (task : Task) (c : Certificate) (most place : ℕ) → IsRightUpTo task c most 0
+    → ((k : ℕ) (l : Line State) → k < place → slice_get (lines_of task c) k ≡ Some l → IsLineClosed (system_of task) c.claim (lines_of task c) l) → IsRightUpTo task c most place
+right_to_line task c most place right lines = record {
+  atoms = right.atoms;
+  distinct = right.distinct;
+  allowed = right.allowed;
+  within = right.within;
+  initial = right.initial;
+  lines = lines;
+}
+
+-- ---- clauses of results
+
+pub first_of : {T : Type 0} (task : Task) (c : Certificate) (plan : Option (List Instance)) (most : ℕ) (r : Result T Refusal) → IsClosedFor task c → length (all_instances task) ≤ most
+    → IfErr r (λ e. (m : ℕ) → IsClosedFor task c → length (all_instances task) ≤ m → IsFirstRefusal task c plan m e) → IfErr r (IsFirstRefusal task c plan most)
+first_of task c plan most (Ok v) closed within first = tt
+first_of task c plan most (Err e) closed within first = first most closed within

@@ -1,0 +1,359 @@
+-- What is told of a certificate is the first thing that is wrong: nothing before it is.
+use Rattle.std.proofs.Common.{◌≡◌, ◌≢◌, ℕ, ◌+◌, ◌<◌, ◌≤◌, ◌⊎◌, ◌&&◌, true, List, length, Option, None, Some, inl, inr, refl, sym, ap, ◌∙◌, subst, arith}
+use Rattle.std.specs.Prelude.{IsTrue, AllPairs, slice_get}
+use Rattle.std.proofs.lemmas.Bool.{cases_eq}
+use Rattle.std.proofs.lemmas.Option.{slice_get_within, get_or_from_slice_get}
+use Rattle.model.specs.Task.{Atom, Task, Instance}
+use Rattle.model.specs.WellTyped.{is_atom}
+use Rattle.model.specs.Runs.{Solves}
+use Rattle.model.specs.Meaning.{State, system_of, initial_state}
+use Rattle.model.specs.Instances.{all_instances}
+use Rattle.model.specs.Claims.{none, Allows, Line, IsListedWithin}
+use Rattle.model.specs.Certificates.{Certificate, is_fluent, lines_of, IsClosedFor}
+use Rattle.model.specs.CertificateRefusals.{Reason, not_fluent, repeated, no_initial, goal_open, successor_missing, successor_dearer, cut_weak, cut_not_allowed, plan_invalid, plan_dearer, limit, IsWrongLine, IsWrong, IsFirst, stage_of, rank_of, atom_line, state_line}
+use Rattle.cert_checker.specs.CheckedLines.{AreFluent, CutsAreAllowed, IsLineClosed, IsRightUpTo}
+use Rattle.model.proofs.CertificateRefusalsLemmas.{apart, right_line}
+
+-- ---- what is known of a beginning of the certificate
+
+-- of the first so many atoms each is well-typed and fluent, and no two are one
+pub record AtomsAreRight (task : Task) (c : Certificate) (count : ℕ) : Type 0 where
+  pub fluent : (place : ℕ) (a : Atom) → place < count → slice_get c.atoms place ≡ Some a → (is_atom task a && is_fluent task a.predicate) ≡ true
+  pub distinct : (i j : ℕ) (a : Atom) → i < j → j < count → slice_get c.atoms i ≡ Some a → slice_get c.atoms j ≡ Some a → ⊥
+
+-- of the first so many state lines no two list one state, and none is cut where no cut is allowed
+pub record StatesAreRight (task : Task) (c : Certificate) (count : ℕ) : Type 0 where
+  pub distinct : (i j : ℕ) (k l : Line State) → i < j → j < count → slice_get (lines_of task c) i ≡ Some k → slice_get (lines_of task c) j ≡ Some l → k.state ≡ l.state → ⊥
+  pub allowed : (place : ℕ) (l : Line State) (rest : ℕ) → place < count → slice_get (lines_of task c) place ≡ Some l → l.cut ≡ Some rest → c.claim ≡ none → ⊥
+
+pub atoms_right : (task : Task) (c : Certificate) → AreFluent task c.atoms → AtomsAreRight task c (length c.atoms)
+atoms_right task c right = record {
+  fluent = λ place a lt at.
+      subst (λ (b : Atom). (is_atom task b && is_fluent task b.predicate) ≡ true) (get_or_from_slice_get c.atoms place a a at) (right.fluent place a lt);
+  distinct = λ i j a lt within at_i at_j. apart (λ (x y : Atom). x ≢ y) c.atoms i j a a right.distinct lt at_i at_j refl;
+}
+
+pub states_right_all : (task : Task) (c : Certificate) → AllPairs (λ (k l : Line State). k.state ≢ l.state) (lines_of task c) → CutsAreAllowed task c (length (lines_of task c))
+    → StatesAreRight task c (length (lines_of task c))
+states_right_all task c pairs allowed = record {
+  distinct = λ i j k l lt within at_i at_j same. apart (λ (x y : Line State). x.state ≢ y.state) (lines_of task c) i j k l pairs lt at_i at_j same;
+  allowed = allowed;
+}
+
+module _ (task : Task) (c : Certificate) where
+  the_line : (place k : ℕ) (a b : Line State) → k ≡ place → slice_get (lines_of task c) k ≡ Some a → slice_get (lines_of task c) place ≡ Some b → a ≡ b
+  the_line place k a b same at_a at_b =
+      let at = subst (λ j. slice_get (lines_of task c) j ≡ Some a) same at_a in
+      cc
+
+  -- ---- reading
+
+  -- nothing is wrong with the lines of the first atoms
+  pub atoms_before : (count line : ℕ) (r : Reason) → count ≤ length c.atoms → AtomsAreRight task c count → line < atom_line count → stage_of r ≡ 0 → IsWrongLine task c r line → ⊥
+  atoms_before count line not_fluent le right lt stage (a, (place, told, at), wrong) =
+      let fluent = right.fluent place a (omega arith) at in
+      absurd (cc)
+  atoms_before count line repeated le right lt stage (inl (a, before, earlier, (j, told_j, at_j), (k, told_k, at_k))) =
+      right.distinct j k a (omega arith) (omega arith) at_j at_k
+  atoms_before count line repeated le right lt stage (inr (other, l, before, earlier, there, (k, told_k, at_k), same)) = absurd (omega arith)
+  atoms_before count line cut_not_allowed le right lt stage (l, rest, (k, told, at), cut, claim) = absurd (omega arith)
+  atoms_before count line no_initial le right lt stage wrong = wrong
+  atoms_before count line goal_open le right lt stage wrong = absurd (omega arith)
+  atoms_before count line successor_missing le right lt stage wrong = absurd (omega arith)
+  atoms_before count line successor_dearer le right lt stage wrong = absurd (omega arith)
+  atoms_before count line cut_weak le right lt stage wrong = absurd (omega arith)
+  atoms_before count line plan_invalid le right lt stage wrong = wrong
+  atoms_before count line plan_dearer le right lt stage wrong = wrong
+  atoms_before count line limit le right lt stage wrong = wrong
+
+  -- nor with those of the first states
+  states_right : (count line : ℕ) (r : Reason) → AtomsAreRight task c (length c.atoms) → StatesAreRight task c count
+      → ((k : ℕ) → line ≡ state_line c k → k < length (lines_of task c) → k < count) → stage_of r ≡ 0 → IsWrongLine task c r line → ⊥
+  states_right count line not_fluent atoms right reach stage (a, (place, told, at), wrong) =
+      let fluent = atoms.fluent place a (slice_get_within c.atoms place a at) at in
+      absurd (cc)
+  states_right count line repeated atoms right reach stage (inl (a, before, earlier, (j, told_j, at_j), (k, told_k, at_k))) =
+      atoms.distinct j k a (omega arith) (slice_get_within c.atoms k a at_k) at_j at_k
+  states_right count line repeated atoms right reach stage (inr (other, l, before, earlier, (j, told_j, at_j), (k, told_k, at_k), same)) =
+      right.distinct j k other l (omega arith) (reach k told_k (slice_get_within (lines_of task c) k l at_k)) at_j at_k same
+  states_right count line cut_not_allowed atoms right reach stage (l, rest, (k, told, at), cut, claim) =
+      right.allowed k l rest (reach k told (slice_get_within (lines_of task c) k l at)) at cut claim
+  states_right count line no_initial atoms right reach stage wrong = wrong
+  states_right count line goal_open atoms right reach stage wrong = absurd (omega arith)
+  states_right count line successor_missing atoms right reach stage wrong = absurd (omega arith)
+  states_right count line successor_dearer atoms right reach stage wrong = absurd (omega arith)
+  states_right count line cut_weak atoms right reach stage wrong = absurd (omega arith)
+  states_right count line plan_invalid atoms right reach stage wrong = wrong
+  states_right count line plan_dearer atoms right reach stage wrong = wrong
+  states_right count line limit atoms right reach stage wrong = wrong
+
+  -- what is looked for in reading is wrong with a line alone
+  of_line : (plan : Option (List Instance)) (most : ℕ) (r : Reason) → stage_of r ≡ 0 → IsWrong task c plan most r → ⊥
+  of_line plan most not_fluent stage wrong = wrong
+  of_line plan most repeated stage wrong = wrong
+  of_line plan most cut_not_allowed stage wrong = wrong
+  of_line plan most no_initial stage wrong = absurd (omega arith)
+  of_line plan most goal_open stage wrong = wrong
+  of_line plan most successor_missing stage wrong = wrong
+  of_line plan most successor_dearer stage wrong = wrong
+  of_line plan most cut_weak stage wrong = wrong
+  of_line plan most plan_invalid stage wrong = absurd (omega arith)
+  of_line plan most plan_dearer stage wrong = absurd (omega arith)
+  of_line plan most limit stage wrong = absurd (omega arith)
+
+  first_in_reading : (plan : Option (List Instance)) (most : ℕ) (reason : Reason) (line : ℕ) → stage_of reason ≡ 0
+      → ((r : Reason) (l : ℕ) → l < line → stage_of r ≡ 0 → IsWrongLine task c r l → ⊥)
+      → ((r : Reason) → stage_of r ≡ 0 → rank_of r < rank_of reason → IsWrongLine task c r line → ⊥)
+      → IsFirst task c plan most reason line
+  first_in_reading plan most reason line stage lines here r l (inl before) wrong = omega arith
+  first_in_reading plan most reason line stage lines here r l (inr (same, inl before)) (inl wrong) = lines r l before (same ∙ stage) wrong
+  first_in_reading plan most reason line stage lines here r l (inr (same, inl before)) (inr wrong) = of_line plan most r (same ∙ stage) wrong
+  first_in_reading plan most reason line stage lines here r l (inr (same, inr (there, rank))) (inl wrong) =
+      here r (same ∙ stage) rank (subst (IsWrongLine task c r) there wrong)
+  first_in_reading plan most reason line stage lines here r l (inr (same, inr (there, rank))) (inr wrong) = of_line plan most r (same ∙ stage) wrong
+
+  pub first_atom : (plan : Option (List Instance)) (most k : ℕ) → k ≤ length c.atoms → AtomsAreRight task c k → IsFirst task c plan most not_fluent (atom_line k)
+  first_atom plan most k le right =
+      first_in_reading plan most not_fluent (atom_line k) refl (λ r l lt stage wrong. atoms_before k l r le right lt stage wrong) (λ r stage rank wrong. omega arith)
+
+  fluent_here : (k : ℕ) (r : Reason) → ((a : Atom) → slice_get c.atoms k ≡ Some a → (is_atom task a && is_fluent task a.predicate) ≡ true) → stage_of r ≡ 0 → rank_of r < 1
+      → IsWrongLine task c r (atom_line k) → ⊥
+  fluent_here k not_fluent fluent stage rank (a, (place, told, at), wrong) =
+      let same : place ≡ k = omega arith in
+      let holds = fluent a (subst (λ j. slice_get c.atoms j ≡ Some a) same at) in
+      absurd (cc)
+  fluent_here k repeated fluent stage rank wrong = omega arith
+  fluent_here k cut_not_allowed fluent stage rank wrong = omega arith
+  fluent_here k no_initial fluent stage rank wrong = omega arith
+  fluent_here k goal_open fluent stage rank wrong = absurd (omega arith)
+  fluent_here k successor_missing fluent stage rank wrong = omega arith
+  fluent_here k successor_dearer fluent stage rank wrong = omega arith
+  fluent_here k cut_weak fluent stage rank wrong = absurd (omega arith)
+  fluent_here k plan_invalid fluent stage rank wrong = wrong
+  fluent_here k plan_dearer fluent stage rank wrong = wrong
+  fluent_here k limit fluent stage rank wrong = wrong
+
+  pub first_repeated_atom : (plan : Option (List Instance)) (most k : ℕ) → k ≤ length c.atoms → AtomsAreRight task c k
+      → ((a : Atom) → slice_get c.atoms k ≡ Some a → (is_atom task a && is_fluent task a.predicate) ≡ true) → IsFirst task c plan most repeated (atom_line k)
+  first_repeated_atom plan most k le right fluent =
+      first_in_reading plan most repeated (atom_line k) refl (λ r l lt stage wrong. atoms_before k l r le right lt stage wrong) (λ r stage rank wrong. fluent_here k r fluent stage rank wrong)
+
+  -- up to the state line at this place, and in it what is looked for before
+  states_here : (k : ℕ) (r : Reason) → AtomsAreRight task c (length c.atoms) → StatesAreRight task c (k + 1) → stage_of r ≡ 0 → rank_of r < 2 → IsWrongLine task c r (state_line c k) → ⊥
+  states_here k r atoms right stage rank wrong = states_right (k + 1) (state_line c k) r atoms right (λ j told within. omega arith) stage wrong
+
+  states_upto : (k l : ℕ) (r : Reason) → AtomsAreRight task c (length c.atoms) → StatesAreRight task c k → l < state_line c k → stage_of r ≡ 0 → IsWrongLine task c r l → ⊥
+  states_upto k l r atoms right lt stage wrong = states_right k l r atoms right (λ j told within. omega arith) stage wrong
+
+  atoms_here : (k : ℕ) (r : Reason) → AtomsAreRight task c (length c.atoms) → stage_of r ≡ 0 → rank_of r < 1 → IsWrongLine task c r (state_line c k) → ⊥
+  atoms_here k not_fluent atoms stage rank (a, (place, told, at), wrong) =
+      let fluent = atoms.fluent place a (slice_get_within c.atoms place a at) at in
+      absurd (cc)
+  atoms_here k repeated atoms stage rank wrong = omega arith
+  atoms_here k cut_not_allowed atoms stage rank wrong = omega arith
+  atoms_here k no_initial atoms stage rank wrong = omega arith
+  atoms_here k goal_open atoms stage rank wrong = absurd (omega arith)
+  atoms_here k successor_missing atoms stage rank wrong = omega arith
+  atoms_here k successor_dearer atoms stage rank wrong = omega arith
+  atoms_here k cut_weak atoms stage rank wrong = absurd (omega arith)
+  atoms_here k plan_invalid atoms stage rank wrong = wrong
+  atoms_here k plan_dearer atoms stage rank wrong = wrong
+  atoms_here k limit atoms stage rank wrong = wrong
+
+  pub first_repeated_state : (plan : Option (List Instance)) (most k : ℕ) → AtomsAreRight task c (length c.atoms) → StatesAreRight task c k → IsFirst task c plan most repeated (state_line c k)
+  first_repeated_state plan most k atoms right =
+      first_in_reading plan most repeated (state_line c k) refl (λ r l lt stage wrong. states_upto k l r atoms right lt stage wrong) (λ r stage rank wrong. atoms_here k r atoms stage rank wrong)
+
+  distinct_here : (k : ℕ) (r : Reason) → AtomsAreRight task c (length c.atoms)
+      → ((j : ℕ) (a b : Line State) → j < k → slice_get (lines_of task c) j ≡ Some a → slice_get (lines_of task c) k ≡ Some b → a.state ≡ b.state → ⊥)
+      → stage_of r ≡ 0 → rank_of r < 2 → IsWrongLine task c r (state_line c k) → ⊥
+  distinct_here k not_fluent atoms new stage rank wrong = atoms_here k not_fluent atoms refl (omega arith) wrong
+  distinct_here k repeated atoms new stage rank (inl (a, before, earlier, (j, told_j, at_j), (i, told_i, at_i))) =
+      atoms.distinct j i a (omega arith) (slice_get_within c.atoms i a at_i) at_j at_i
+  distinct_here k repeated atoms new stage rank (inr (other, l, before, earlier, (j, told_j, at_j), (i, told_i, at_i), same)) =
+      let here : i ≡ k = omega arith in
+      new j other l (omega arith) at_j (subst (λ n. slice_get (lines_of task c) n ≡ Some l) here at_i) same
+  distinct_here k cut_not_allowed atoms new stage rank wrong = omega arith
+  distinct_here k no_initial atoms new stage rank wrong = wrong
+  distinct_here k goal_open atoms new stage rank wrong = absurd (omega arith)
+  distinct_here k successor_missing atoms new stage rank wrong = absurd (omega arith)
+  distinct_here k successor_dearer atoms new stage rank wrong = absurd (omega arith)
+  distinct_here k cut_weak atoms new stage rank wrong = absurd (omega arith)
+  distinct_here k plan_invalid atoms new stage rank wrong = wrong
+  distinct_here k plan_dearer atoms new stage rank wrong = wrong
+  distinct_here k limit atoms new stage rank wrong = wrong
+
+  pub first_not_allowed : (plan : Option (List Instance)) (most k : ℕ) → AtomsAreRight task c (length c.atoms) → StatesAreRight task c k
+      → ((j : ℕ) (a b : Line State) → j < k → slice_get (lines_of task c) j ≡ Some a → slice_get (lines_of task c) k ≡ Some b → a.state ≡ b.state → ⊥)
+      → IsFirst task c plan most cut_not_allowed (state_line c k)
+  first_not_allowed plan most k atoms right new =
+      first_in_reading plan most cut_not_allowed (state_line c k) refl (λ r l lt stage wrong. states_upto k l r atoms right lt stage wrong) (λ r stage rank wrong. distinct_here k r atoms new stage rank wrong)
+
+  -- ---- after reading
+
+  read_right : (plan : Option (List Instance)) (most : ℕ) (r : Reason) (l : ℕ) → AtomsAreRight task c (length c.atoms) → StatesAreRight task c (length (lines_of task c)) → stage_of r ≡ 0
+      → IsWrongLine task c r l ⊎ IsWrong task c plan most r → ⊥
+  read_right plan most r l atoms states stage (inl wrong) = states_right (length (lines_of task c)) l r atoms states (λ j told within. within) stage wrong
+  read_right plan most r l atoms states stage (inr wrong) = of_line plan most r stage wrong
+
+  pub first_limit : (plan : Option (List Instance)) (most : ℕ) → AtomsAreRight task c (length c.atoms) → StatesAreRight task c (length (lines_of task c)) → IsFirst task c plan most limit 0
+  first_limit plan most atoms states r l (inl before) wrong = read_right plan most r l atoms states (omega arith) wrong
+  first_limit plan most atoms states r l (inr (same, inl before)) wrong = omega arith
+  first_limit plan most atoms states r l (inr (same, inr (there, rank))) wrong = omega arith
+
+  in_limit : (plan : Option (List Instance)) (most : ℕ) (r : Reason) (l : ℕ) → length (all_instances task) ≤ most → stage_of r ≡ 1 → IsWrongLine task c r l ⊎ IsWrong task c plan most r → ⊥
+  in_limit plan most limit l within stage (inl wrong) = wrong
+  in_limit plan most limit l within stage (inr wrong) = omega arith
+  in_limit plan most not_fluent l within stage wrong = absurd (omega arith)
+  in_limit plan most repeated l within stage wrong = absurd (omega arith)
+  in_limit plan most cut_not_allowed l within stage wrong = absurd (omega arith)
+  in_limit plan most no_initial l within stage wrong = absurd (omega arith)
+  in_limit plan most goal_open l within stage wrong = absurd (omega arith)
+  in_limit plan most successor_missing l within stage wrong = absurd (omega arith)
+  in_limit plan most successor_dearer l within stage wrong = absurd (omega arith)
+  in_limit plan most cut_weak l within stage wrong = absurd (omega arith)
+  in_limit plan most plan_invalid l within stage wrong = absurd (omega arith)
+  in_limit plan most plan_dearer l within stage wrong = absurd (omega arith)
+
+  before_initial : (plan : Option (List Instance)) (most : ℕ) (r : Reason) (l : ℕ) → AtomsAreRight task c (length c.atoms) → StatesAreRight task c (length (lines_of task c)) → length (all_instances task) ≤ most
+      → stage_of r < 2 → IsWrongLine task c r l ⊎ IsWrong task c plan most r → ⊥
+  before_initial plan most r l atoms states within stage wrong =
+      elim (cases_eq (stage_of r) 0) [
+        | inl reading ↦ read_right plan most r l atoms states reading wrong
+        | inr later ↦ in_limit plan most r l within (omega arith) wrong
+      ]
+
+  pub first_initial : (plan : Option (List Instance)) (most : ℕ) → AtomsAreRight task c (length c.atoms) → StatesAreRight task c (length (lines_of task c)) → length (all_instances task) ≤ most
+      → IsFirst task c plan most no_initial 0
+  first_initial plan most atoms states within r l (inl before) wrong = before_initial plan most r l atoms states within before wrong
+  first_initial plan most atoms states within r l (inr (same, inl before)) wrong = omega arith
+  first_initial plan most atoms states within r l (inr (same, inr (there, rank))) wrong = no_rank r same rank
+    where
+      no_rank : (r : Reason) → stage_of r ≡ 2 → rank_of r < 0 → ⊥
+      no_rank r same rank = omega arith
+
+  in_initial : (plan : Option (List Instance)) (most : ℕ) (r : Reason) (l : ℕ) → IsListedWithin (lines_of task c) (initial_state task) 0 → stage_of r ≡ 2 → IsWrongLine task c r l ⊎ IsWrong task c plan most r → ⊥
+  in_initial plan most no_initial l listed stage (inl wrong) = wrong
+  in_initial plan most no_initial l listed stage (inr wrong) = wrong listed
+  in_initial plan most not_fluent l listed stage wrong = absurd (omega arith)
+  in_initial plan most repeated l listed stage wrong = absurd (omega arith)
+  in_initial plan most cut_not_allowed l listed stage wrong = absurd (omega arith)
+  in_initial plan most limit l listed stage wrong = absurd (omega arith)
+  in_initial plan most goal_open l listed stage wrong = absurd (omega arith)
+  in_initial plan most successor_missing l listed stage wrong = absurd (omega arith)
+  in_initial plan most successor_dearer l listed stage wrong = absurd (omega arith)
+  in_initial plan most cut_weak l listed stage wrong = absurd (omega arith)
+  in_initial plan most plan_invalid l listed stage wrong = absurd (omega arith)
+  in_initial plan most plan_dearer l listed stage wrong = absurd (omega arith)
+
+  before_lines : (plan : Option (List Instance)) (most place : ℕ) (r : Reason) (l : ℕ) → IsRightUpTo task c most place → stage_of r < 3 → IsWrongLine task c r l ⊎ IsWrong task c plan most r → ⊥
+  before_lines plan most place r l right stage wrong =
+      elim (cases_eq (stage_of r) 2) [
+        | inl initial ↦ in_initial plan most r l right.initial initial wrong
+        | inr earlier ↦ before_initial plan most r l (atoms_right task c right.atoms) (states_right_all task c right.distinct right.allowed) right.within (omega arith) wrong
+      ]
+
+  -- ---- the state lines
+
+  line_right : (r : Reason) (line place : ℕ) → line < state_line c place → ((k : ℕ) (l : Line State) → k < place → slice_get (lines_of task c) k ≡ Some l → IsLineClosed (system_of task) c.claim (lines_of task c) l) → stage_of r ≡ 3
+      → IsWrongLine task c r line → ⊥
+  line_right goal_open line place lt right stage (l, (k, told, at), is_open, goal, denied) = denied (((right k l (omega arith) at).is_open is_open).goal_allowed goal)
+  line_right successor_missing line place lt right stage (l, i, next, ((k, told, at), is_open, leads), missing) =
+      let listed = ((right k l (omega arith) at).is_open is_open).successors_listed i next leads in
+      missing (listed.0, listed.1, listed.2)
+  line_right successor_dearer line place lt right stage (l, i, next, ((k, told, at), is_open, leads), is_listed, dearer) =
+      dearer (((right k l (omega arith) at).is_open is_open).successors_listed i next leads)
+  line_right cut_weak line place lt right stage (l, rest, (k, told, at), cut, inl more) =
+      let allowed = (right k l (omega arith) at).is_cut rest cut in
+      omega (arith, allowed.0)
+  line_right cut_weak line place lt right stage (l, rest, (k, told, at), cut, inr denied) = denied ((right k l (omega arith) at).is_cut rest cut).1
+  line_right not_fluent line place lt right stage wrong = absurd (omega arith)
+  line_right repeated line place lt right stage wrong = absurd (omega arith)
+  line_right cut_not_allowed line place lt right stage wrong = absurd (omega arith)
+  line_right no_initial line place lt right stage wrong = wrong
+  line_right limit line place lt right stage wrong = wrong
+  line_right plan_invalid line place lt right stage wrong = wrong
+  line_right plan_dearer line place lt right stage wrong = wrong
+
+  of_state_line : (plan : Option (List Instance)) (most : ℕ) (r : Reason) → stage_of r ≡ 3 → IsWrong task c plan most r → ⊥
+  of_state_line plan most not_fluent stage wrong = wrong
+  of_state_line plan most repeated stage wrong = wrong
+  of_state_line plan most cut_not_allowed stage wrong = wrong
+  of_state_line plan most goal_open stage wrong = wrong
+  of_state_line plan most successor_missing stage wrong = wrong
+  of_state_line plan most successor_dearer stage wrong = wrong
+  of_state_line plan most cut_weak stage wrong = wrong
+  of_state_line plan most no_initial stage wrong = absurd (omega arith)
+  of_state_line plan most limit stage wrong = absurd (omega arith)
+  of_state_line plan most plan_invalid stage wrong = absurd (omega arith)
+  of_state_line plan most plan_dearer stage wrong = absurd (omega arith)
+
+  pub first_in_line : (plan : Option (List Instance)) (most place : ℕ) (reason : Reason) → IsRightUpTo task c most place → stage_of reason ≡ 3
+      → ((r : Reason) → stage_of r ≡ 3 → rank_of r < rank_of reason → IsWrongLine task c r (state_line c place) → ⊥) → IsFirst task c plan most reason (state_line c place)
+  first_in_line plan most place reason right stage here r l (inl before) wrong = before_lines plan most place r l right (omega arith) wrong
+  first_in_line plan most place reason right stage here r l (inr (same, inl before)) (inl wrong) = line_right r l place before right.lines (same ∙ stage) wrong
+  first_in_line plan most place reason right stage here r l (inr (same, inl before)) (inr wrong) = of_state_line plan most r (same ∙ stage) wrong
+  first_in_line plan most place reason right stage here r l (inr (same, inr (there, rank))) (inl wrong) = here r (same ∙ stage) rank (subst (IsWrongLine task c r) there wrong)
+  first_in_line plan most place reason right stage here r l (inr (same, inr (there, rank))) (inr wrong) = of_state_line plan most r (same ∙ stage) wrong
+
+  -- of an open state whose goal is as it is to be
+  pub open_here : (place : ℕ) (l : Line State) → slice_get (lines_of task c) place ≡ Some l → l.cut ≡ None → (IsTrue ((system_of task).meets_goal l.state) → Allows c.claim l.cost)
+      → (r : Reason) → stage_of r ≡ 3 → rank_of r < 1 → IsWrongLine task c r (state_line c place) → ⊥
+  open_here place l here is_open allowed goal_open stage rank (other, (k, told, at), cut, goal, denied) =
+      let there : k ≡ place = omega arith in
+      let same = the_line place k other l there at here in
+      denied (subst (λ (a : Line State). Allows c.claim a.cost) (sym same) (allowed (subst (λ (a : Line State). IsTrue ((system_of task).meets_goal a.state)) same goal)))
+  open_here place l here is_open allowed cut_weak stage rank (other, rest, (k, told, at), cut, wrong) =
+      let there : k ≡ place = omega arith in
+      let same = the_line place k other l there at here in
+      let none_cut = ap (λ (a : Line State). a.cut) same in
+      absurd (cc)
+  open_here place l here is_open allowed successor_missing stage rank wrong = omega arith
+  open_here place l here is_open allowed successor_dearer stage rank wrong = omega arith
+  open_here place l here is_open allowed not_fluent stage rank wrong = absurd (omega arith)
+  open_here place l here is_open allowed repeated stage rank wrong = absurd (omega arith)
+  open_here place l here is_open allowed cut_not_allowed stage rank wrong = absurd (omega arith)
+  open_here place l here is_open allowed no_initial stage rank wrong = wrong
+  open_here place l here is_open allowed limit stage rank wrong = wrong
+  open_here place l here is_open allowed plan_invalid stage rank wrong = wrong
+  open_here place l here is_open allowed plan_dearer stage rank wrong = wrong
+
+  -- ---- the plan
+
+  before_plan : (plan : Option (List Instance)) (most : ℕ) (r : Reason) (l : ℕ) → IsClosedFor task c → length (all_instances task) ≤ most → stage_of r < 4 → IsWrongLine task c r l ⊎ IsWrong task c plan most r → ⊥
+  before_plan plan most r l closed within stage (inl wrong) = right_line task c closed r l wrong
+  before_plan plan most limit l closed within stage (inr wrong) = omega arith
+  before_plan plan most no_initial l closed within stage (inr wrong) = wrong closed.listing_is_closed.initial_listed
+  before_plan plan most plan_invalid l closed within stage (inr wrong) = omega arith
+  before_plan plan most plan_dearer l closed within stage (inr wrong) = omega arith
+  before_plan plan most not_fluent l closed within stage (inr wrong) = wrong
+  before_plan plan most repeated l closed within stage (inr wrong) = wrong
+  before_plan plan most cut_not_allowed l closed within stage (inr wrong) = wrong
+  before_plan plan most goal_open l closed within stage (inr wrong) = wrong
+  before_plan plan most successor_missing l closed within stage (inr wrong) = wrong
+  before_plan plan most successor_dearer l closed within stage (inr wrong) = wrong
+  before_plan plan most cut_weak l closed within stage (inr wrong) = wrong
+
+  pub first_invalid : (plan : Option (List Instance)) (most : ℕ) → IsClosedFor task c → length (all_instances task) ≤ most → IsFirst task c plan most plan_invalid 0
+  first_invalid plan most closed within r l (inl before) wrong = before_plan plan most r l closed within before wrong
+  first_invalid plan most closed within r l (inr (same, inl before)) wrong = omega arith
+  first_invalid plan most closed within r l (inr (same, inr (there, rank))) wrong = omega arith
+
+  pub first_dearer : (p : List Instance) (most : ℕ) → IsClosedFor task c → length (all_instances task) ≤ most → Solves (system_of task) p → IsFirst task c (Some p) most plan_dearer 0
+  first_dearer p most closed within solves r l (inl before) wrong = before_plan (Some p) most r l closed within before wrong
+  first_dearer p most closed within solves r l (inr (same, inl before)) wrong = omega arith
+  first_dearer p most closed within solves r l (inr (same, inr (there, rank))) wrong = solving r same rank wrong
+    where
+      solving : (r : Reason) → stage_of r ≡ 4 → rank_of r < 1 → IsWrongLine task c r l ⊎ IsWrong task c (Some p) most r → ⊥
+      solving plan_invalid stage rank (inl wrong) = wrong
+      solving plan_invalid stage rank (inr wrong) = wrong solves
+      solving plan_dearer stage rank wrong = omega arith
+      solving not_fluent stage rank wrong = absurd (omega arith)
+      solving repeated stage rank wrong = absurd (omega arith)
+      solving cut_not_allowed stage rank wrong = absurd (omega arith)
+      solving goal_open stage rank wrong = absurd (omega arith)
+      solving successor_missing stage rank wrong = absurd (omega arith)
+      solving successor_dearer stage rank wrong = absurd (omega arith)
+      solving cut_weak stage rank wrong = absurd (omega arith)
+      solving no_initial stage rank wrong = absurd (omega arith)
+      solving limit stage rank wrong = absurd (omega arith)
