@@ -6,10 +6,7 @@ use Rattle.model.specs.Trees.{Name, Term, Atom, Formula, Formulas, Effect, Effec
 use Rattle.model.specs.Trees as tree
 use Rattle.model.specs.GrammarWords.{Token, opens, closes, name, variable, keyword, other, free, reserved, define, domain, problem, and, not, left_out_name, other_reserved, Keyword, domain_keyword, requirements, predicates, action, objects, init, goal, parameters, precondition, effect, requirement_key, left_out_keyword}
 use Rattle.model.specs.Grammar.{Parts, parts, no_parts, action_from, DomainSections, domain_sections, no_domain_sections, ProblemSections, problem_sections, no_problem_sections}
-
-pub data File : Type 0 where
-  domain_file : File
-  problem_file : File
+use Rattle.model.specs.Refusals.{File, domain_file, problem_file, is_full}
 
 pub data Tree : Type 0 where
   domain_tree : Domain → Tree
@@ -169,11 +166,6 @@ set_init (problem_sections d q o i g) fs = problem_sections d q o (Some fs) g
 
 abbrev pub set_goal : ProblemSections → Formula → ProblemSections
 set_goal (problem_sections d q o i g) f = problem_sections d q o i (Some f)
-
--- every section of a problem was read, so no list can follow
-abbrev pub is_full : ProblemSections → Bool
-is_full (problem_sections (Some d) true (Some o) (Some i) (Some g)) = true
-is_full _ = false
 
 -- the state for the value of a part, after its `(`
 abbrev pub after_open : Name → Part → Parts → (Action → State) → State

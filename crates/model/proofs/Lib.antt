@@ -6,6 +6,7 @@ pub mod GrammarMachine
 pub mod GrammarRuns
 pub mod GrammarMeaning
 pub mod GrammarStops
+pub mod GrammarRefusals
 pub mod StaticLemmas
 pub mod Steps
 pub mod ExampleProofs

@@ -83,6 +83,12 @@ label_of text =
     else (if is_among text other_reserved_names then reserved other_reserved
     else free ordinary))))))
 
+-- what a keyword is, folded, that begins no section and no part
+abbrev pub other_keyword_of : List ℕ → Keyword
+other_keyword_of text =
+    if is_among text requirement_keys then requirement_key
+    else (if is_among text left_out_keywords then left_out_keyword else unknown_keyword)
+
 -- what a keyword is, folded
 abbrev pub keyword_of : List ℕ → Keyword
 keyword_of text =
@@ -97,11 +103,6 @@ keyword_of text =
     else (if bytes_eq text (codes ":init") then init
     else (if bytes_eq text (codes ":goal") then goal
     else other_keyword_of text)))))))))
-  where
-    other_keyword_of : List ℕ → Keyword
-    other_keyword_of text =
-        if is_among text requirement_keys then requirement_key
-        else (if is_among text left_out_keywords then left_out_keyword else unknown_keyword)
 
 abbrev pub token_from : Kind → List ℕ → Name → Token
 token_from words.name text n = name (label_of text) n

@@ -4,6 +4,7 @@ pub mod Words
 pub mod Trees
 pub mod GrammarWords
 pub mod Grammar
+pub mod Refusals
 pub mod Task
 pub mod WellTyped
 pub mod Typing
@@ -15,3 +16,4 @@ pub mod Certificates
 pub mod CertificateRefusals
 pub mod Examples
 pub mod PlanText
+pub mod Files

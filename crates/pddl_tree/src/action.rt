@@ -1,11 +1,22 @@
 //! Actions, from the word after `:action` on.
-ghost use Rattle.std.specs.Prelude.{◌<◌, ◌≤◌, IfOk, OnSome, length};
+ghost use Rattle.std.specs.Prelude.{◌≡◌, ◌<◌, ◌≤◌, IfOk, IfErr, OnSome, Some, length, true, false, cond, ◌||◌, ◌&&◌, not, unwrap_or};
+ghost use Rattle.std.specs.Option.{option_map};
+ghost use Rattle.model.specs.Grammar.{no_parts};
+ghost use Rattle.model.specs.Trees as model_tree;
+ghost use Rattle.model.proofs.GrammarMachine.{wants_action, wants_parts, wants_value, part_of, has_part, is_part, parameter_part};
+ghost use Rattle.pddl_tree.specs.Ahead.{from, opens_first, closes_first};
+ghost use Rattle.pddl_tree.specs.Reading.{IsRead, IsTold, Leads};
+ghost use Rattle.pddl_tree.specs.Refusal.{told, code_first};
+ghost use Rattle.pddl_tree.specs.Sections.{part_view, parts_of, part_first, value_code};
+ghost use Rattle.pddl_tree.specs.Symbol.{keyword_view};
+ghost use Rattle.pddl_tree.specs.Tree.{action_of, formula_of, effect_of};
 
+use crate::ahead::{is_close, is_open, keyword_at, name_at};
 use crate::effects::effect;
 use crate::formulas::formula;
 use crate::lists::variables;
 use crate::refusal::{Refusal, refused, refused_keyword};
-use crate::symbol::{Symbol, is_close, is_open, name_at, symbol_at};
+use crate::symbol::Keyword;
 use crate::tree::{Action, Effect, Formula, Name};
 use std::alloc::Global;
 use tokens::{Code, Word};
@@ -18,6 +29,20 @@ enum Part {
     Effect,
 }
 
+impl Part {
+    /// The part that a keyword begins.
+    fn of(keyword: Keyword) -> Option<Part>
+        ensures { option_map part_view result ≡ part_of (keyword_view keyword) }
+    {
+        match keyword {
+            Keyword::Parameters => Some(Part::Parameters),
+            Keyword::Precondition => Some(Part::Precondition),
+            Keyword::Effect => Some(Part::Effect),
+            _ => None,
+        }
+    }
+}
+
 /// The parts of an action that were read so far.
 #[derive(Drop)]
 struct Parts<'a> {
@@ -28,25 +53,34 @@ struct Parts<'a> {
 
 impl Parts<'_> {
     /// Whether this part was read.
-    fn has(&self, part: Part) -> bool {
+    fn has(&self, part: Part) -> bool
+        ensures { result ≡ has_part (parts_of self.now) (part_view part) }
+    {
         match part {
             Part::Parameters => self.parameters.is_some(),
             Part::Precondition => self.precondition.is_some(),
             Part::Effect => self.effect.is_some(),
         }
     }
+
+    /// Whether the parameters were read, where this part comes next.
+    fn has_parameters_with(&self, next: Part) -> bool
+        ensures { result ≡ (has_part (parts_of self.now) parameter_part || is_part (part_view next) parameter_part) }
+    {
+        match next {
+            Part::Parameters => true,
+            Part::Precondition | Part::Effect => self.has(Part::Parameters),
+        }
+    }
 }
 
 /// The part whose keyword stands at an index.
 fn part_at(words: &[Word], at: usize) -> Option<Part>
-    ensures { OnSome result (at < length words.now) }
+    ensures within { OnSome result (at < length words.now) }
+    ensures first { option_map part_view result ≡ part_first (from words.now at) }
 {
-    match symbol_at(words, at) {
-        Symbol::Parameters => Some(Part::Parameters),
-        Symbol::Precondition => Some(Part::Precondition),
-        Symbol::Effect => Some(Part::Effect),
-        _ => None,
-    }
+    let keyword = keyword_at(words, at)?;
+    Part::of(keyword)
 }
 
 /// An action whose `:action` was read, and the index after its `)`.
@@ -55,7 +89,9 @@ pub(crate) fn action<'a>(
     words: &[Word<'a>],
     at: usize,
 ) -> Result<(Action<'a>, usize), Refusal>
-    ensures { IfOk result (λ r. at < r.1) }
+    ensures after { IfOk result (λ r. at < r.1) }
+    ensures read { IfOk result (λ r. IsRead wants_action (from words.now at) (action_of r.0) (from words.now r.1)) }
+    ensures told { IfErr result (λ refusal. IsTold wants_action words.now at refusal) }
 {
     let Some(name) = name_at(words, at) else {
         return Err(refused_in_action(words, at, false));
@@ -75,10 +111,30 @@ pub(crate) fn action<'a>(
     let action = Action {
         name,
         parameters,
-        precondition: precondition.unwrap_or(Formula::And(Vec::new(alloc))),
-        effect: effect.unwrap_or(Effect::And(Vec::new(alloc))),
+        precondition: precondition_from(alloc, precondition),
+        effect: effect_from(alloc, effect),
     };
     Ok((action, next + 1))
+}
+
+/// The precondition of an action; one that does not stand there is `(and)`.
+fn precondition_from<'a>(alloc: Global, found: Option<Formula<'a>>) -> Formula<'a>
+    ensures { formula_of result ≡ unwrap_or (option_map formula_of found.entry) (model_tree.and model_tree.no_formula) }
+{
+    match found {
+        Some(precondition) => precondition,
+        None => Formula::And(Vec::new(alloc)),
+    }
+}
+
+/// The effect of an action; one that does not stand there is `(and)`.
+fn effect_from<'a>(alloc: Global, found: Option<Effect<'a>>) -> Effect<'a>
+    ensures { effect_of result ≡ unwrap_or (option_map effect_of found.entry) (model_tree.both model_tree.no_effect) }
+{
+    match found {
+        Some(effect) => effect,
+        None => Effect::And(Vec::new(alloc)),
+    }
 }
 
 /// Parts of an action, each at most once, and the index of the `)` after them.
@@ -89,6 +145,10 @@ fn read_parts<'a>(
 ) -> Result<(Parts<'a>, usize), Refusal>
     ensures after { IfOk result (λ r. at ≤ r.1) }
     ensures within { IfOk result (λ r. r.1 < length words.now) }
+    ensures closes { IfOk result (λ r. closes_first (from words.now r.1) ≡ true) }
+    ensures read { IfOk result (λ r. (n : model_tree.Name) →
+        Leads (wants_parts n no_parts) (from words.now at) (wants_parts n (parts_of r.0)) (from words.now r.1)) }
+    ensures told { IfErr result (λ refusal. (n : model_tree.Name) → IsTold (wants_parts n no_parts) words.now at refusal) }
 {
     let mut parts = Parts {
         parameters: None,
@@ -122,7 +182,11 @@ fn value<'a>(
     part: Part,
     mut parts: Parts<'a>,
 ) -> Result<(Parts<'a>, usize), Refusal>
-    ensures { IfOk result (λ r. at < r.1) }
+    ensures after { IfOk result (λ r. at < r.1) }
+    ensures read { IfOk result (λ r. (n : model_tree.Name) →
+        Leads (wants_value n (part_view part) (parts_of parts.entry)) (from words.now at) (wants_parts n (parts_of r.0)) (from words.now r.1)) }
+    ensures told { IfErr result (λ refusal. (n : model_tree.Name) →
+        IsTold (wants_value n (part_view part) (parts_of parts.entry)) words.now at refusal) }
 {
     if !is_open(words, at) {
         return Err(refused_value(words, at, part, &parts));
@@ -147,8 +211,10 @@ fn value<'a>(
 }
 
 /// The refusal of a word in the list of an action: `)` where the parameters are missing, or any other.
-fn refused_in_action(words: &[Word], at: usize, has_parameters: bool) -> Refusal {
-    if !has_parameters && is_close(words, at) {
+fn refused_in_action(words: &[Word], at: usize, has_parameters: bool) -> Refusal
+    ensures { told result ≡ Some (cond (closes_first (from words.now at) && not has_parameters) 10 (code_first (from words.now at)), at) }
+{
+    if is_close(words, at) && !has_parameters {
         return Refusal::At {
             code: Code::MissingSection,
             at,
@@ -158,18 +224,16 @@ fn refused_in_action(words: &[Word], at: usize, has_parameters: bool) -> Refusal
 }
 
 /// The refusal of a word where the value of a part is wanted: the keyword of a part that was read, or any other.
-fn refused_value(words: &[Word], at: usize, part: Part, parts: &Parts) -> Refusal {
-    if let Some(again) = part_at(words, at) {
-        if again == part || parts.has(again) {
-            return Refusal::At {
-                code: Code::RepeatedSection,
-                at,
-            };
-        }
-    }
-    refused_in_action(
-        words,
-        at,
-        part == Part::Parameters || parts.has(Part::Parameters),
-    )
+fn refused_value(words: &[Word], at: usize, part: Part, parts: &Parts) -> Refusal
+    ensures { told result ≡ Some (value_code (parts_of parts.now) (part_view part) (from words.now at), at) }
+{
+    let Some(again) = part_at(words, at) else {
+        return refused_in_action(words, at, parts.has_parameters_with(part));
+    };
+    let code = if again == part || parts.has(again) {
+        Code::RepeatedSection
+    } else {
+        Code::BadForm
+    };
+    Refusal::At { code, at }
 }

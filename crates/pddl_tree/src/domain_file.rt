@@ -1,10 +1,19 @@
 //! The file of a domain.
-ghost use Rattle.std.specs.Prelude.{◌<◌, IfOk, OnSome, length};
+ghost use Rattle.std.specs.Prelude.{◌≡◌, ◌<◌, IfOk, IfErr, OnSome, length, map, true, false};
+ghost use Rattle.std.specs.Option.{option_map};
+ghost use Rattle.model.specs.Grammar.{no_domain_sections};
+ghost use Rattle.model.proofs.GrammarMachine.{wants_predicates, wants_predicate, domain_section_of, has_domain_section};
+ghost use Rattle.pddl_tree.specs.Ahead.{from, opens_first};
+ghost use Rattle.pddl_tree.specs.Reading.{IsRead, IsTold};
+ghost use Rattle.pddl_tree.specs.Sections.{domain_section_view, domain_sections_of, domain_section_first, KeysEnd, KeysStop, DomainGoesOn, DomainStops, DomainSectionEnds, DomainSectionStops};
+ghost use Rattle.pddl_tree.specs.Symbol.{keyword_view};
+ghost use Rattle.pddl_tree.specs.Tree.{predicate_of};
 
 use crate::action::action;
+use crate::ahead::{Head, head_at, is_close, is_open, keyword_at};
 use crate::lists::variables;
 use crate::refusal::{Refusal, refused, refused_keyword};
-use crate::symbol::{Head, Symbol, head_at, is_close, is_open, symbol_at};
+use crate::symbol::Keyword;
 use crate::tree::{Action, Predicate};
 use std::alloc::Global;
 use tokens::{Code, Word};
@@ -17,6 +26,20 @@ enum Section {
     Action,
 }
 
+impl Section {
+    /// The section that a keyword begins.
+    fn of(keyword: Keyword) -> Option<Section>
+        ensures { option_map domain_section_view result ≡ domain_section_of (keyword_view keyword) }
+    {
+        match keyword {
+            Keyword::Requirements => Some(Section::Requirements),
+            Keyword::Predicates => Some(Section::Predicates),
+            Keyword::Action => Some(Section::Action),
+            _ => None,
+        }
+    }
+}
+
 /// The sections of a domain that were read so far.
 #[derive(Drop)]
 pub(crate) struct DomainSections<'a> {
@@ -27,7 +50,9 @@ pub(crate) struct DomainSections<'a> {
 
 impl DomainSections<'_> {
     /// Whether this section was read and may not stand again.
-    fn has(&self, section: Section) -> bool {
+    fn has(&self, section: Section) -> bool
+        ensures { result ≡ has_domain_section (domain_sections_of self.now) (domain_section_view section) }
+    {
         match section {
             Section::Requirements => self.requirements,
             Section::Predicates => self.predicates.is_some(),
@@ -38,22 +63,23 @@ impl DomainSections<'_> {
 
 /// The section whose keyword stands at an index.
 fn section_at(words: &[Word], at: usize) -> Option<Section>
-    ensures { OnSome result (at < length words.now) }
+    ensures within { OnSome result (at < length words.now) }
+    ensures first { option_map domain_section_view result ≡ domain_section_first (from words.now at) }
 {
-    match symbol_at(words, at) {
-        Symbol::Requirements => Some(Section::Requirements),
-        Symbol::Predicates => Some(Section::Predicates),
-        Symbol::Action => Some(Section::Action),
-        _ => None,
-    }
+    let keyword = keyword_at(words, at)?;
+    Section::of(keyword)
 }
 
-/// DomainSections of a domain, each but `:action` at most once, and the index of the word after them.
+/// Sections of a domain, each but `:action` at most once, and the index of the word after them.
 pub(crate) fn domain_sections<'a>(
     alloc: Global,
     words: &[Word<'a>],
     at: usize,
-) -> Result<(DomainSections<'a>, usize), Refusal> {
+) -> Result<(DomainSections<'a>, usize), Refusal>
+    ensures ends { IfOk result (λ r. opens_first (from words.now r.1) ≡ false) }
+    ensures read { IfOk result (λ r. DomainGoesOn words.now at no_domain_sections r.1 (domain_sections_of r.0)) }
+    ensures told { IfErr result (λ refusal. DomainStops words.now at no_domain_sections refusal) }
+{
     let mut sections = DomainSections {
         requirements: false,
         predicates: None,
@@ -85,7 +111,9 @@ fn section_rest<'a>(
     section: Section,
     mut sections: DomainSections<'a>,
 ) -> Result<(DomainSections<'a>, usize), Refusal>
-    ensures { IfOk result (λ r. at < r.1) }
+    ensures after { IfOk result (λ r. at < r.1) }
+    ensures read { IfOk result (λ r. DomainSectionEnds words.now at (domain_section_view section) (domain_sections_of sections.entry) r.1 (domain_sections_of r.0)) }
+    ensures told { IfErr result (λ refusal. DomainSectionStops words.now at (domain_section_view section) (domain_sections_of sections.entry) refusal) }
 {
     match section {
         Section::Requirements => {
@@ -108,20 +136,22 @@ fn section_rest<'a>(
 
 /// Keys of requirements, and `)`: the index after it. The keys switch nothing on or off.
 pub(crate) fn requirements(words: &[Word], at: usize) -> Result<usize, Refusal>
-    ensures { IfOk result (λ next. at < next) }
+    ensures after { IfOk result (λ next. at < next) }
+    ensures read { IfOk result (λ next. KeysEnd words.now at next) }
+    ensures told { IfErr result (λ refusal. KeysStop words.now at refusal) }
 {
     let mut next = at;
-    'keys: while let Symbol::Requirement = symbol_at(words, next) {
+    'keys: while let Some(keyword) = keyword_at(words, next) {
+        if keyword != Keyword::Requirement {
+            return Err(Refusal::At {
+                code: Code::UnknownRequirement,
+                at: next,
+            });
+        }
         next += 1;
     }
-    let symbol = symbol_at(words, next);
-    if symbol == Symbol::Close {
+    if is_close(words, next) {
         Ok(next + 1)
-    } else if symbol.is_keyword() {
-        Err(Refusal::At {
-            code: Code::UnknownRequirement,
-            at: next,
-        })
     } else {
         Err(refused(words, next))
     }
@@ -133,7 +163,9 @@ fn predicates<'a>(
     words: &[Word<'a>],
     at: usize,
 ) -> Result<(Vec<Predicate<'a>>, usize), Refusal>
-    ensures { IfOk result (λ r. at < r.1) }
+    ensures after { IfOk result (λ r. at < r.1) }
+    ensures read { IfOk result (λ r. IsRead wants_predicates (from words.now at) (map predicate_of r.0.items) (from words.now r.1)) }
+    ensures told { IfErr result (λ refusal. IsTold wants_predicates words.now at refusal) }
 {
     let mut predicates = Vec::new(alloc);
     let mut next = at;
@@ -155,7 +187,9 @@ fn predicate<'a>(
     words: &[Word<'a>],
     at: usize,
 ) -> Result<(Predicate<'a>, usize), Refusal>
-    ensures { IfOk result (λ r. at < r.1) }
+    ensures after { IfOk result (λ r. at < r.1) }
+    ensures read { IfOk result (λ r. IsRead wants_predicate (from words.now at) (predicate_of r.0) (from words.now r.1)) }
+    ensures told { IfErr result (λ refusal. IsTold wants_predicate words.now at refusal) }
 {
     let Head::Predicate(name) = head_at(words, at) else {
         return Err(refused(words, at));

@@ -2,6 +2,7 @@
 #![tactic(auto)]
 
 mod action;
+mod ahead;
 mod domain_file;
 mod effects;
 mod formulas;

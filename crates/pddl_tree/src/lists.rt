@@ -1,8 +1,12 @@
 //! Lists of names, of variables and of terms, up to the parenthesis that closes them.
-ghost use Rattle.std.specs.Prelude.{◌<◌, IfOk};
+ghost use Rattle.std.specs.Prelude.{◌<◌, IfOk, IfErr, map};
+ghost use Rattle.model.proofs.GrammarMachine.{wants_names, wants_variables, wants_terms};
+ghost use Rattle.pddl_tree.specs.Ahead.{from};
+ghost use Rattle.pddl_tree.specs.Reading.{IsRead, IsTold};
+ghost use Rattle.pddl_tree.specs.Tree.{name_of, term_of};
 
+use crate::ahead::{is_close, name_at, term_at, variable_at};
 use crate::refusal::{Refusal, refused};
-use crate::symbol::{is_close, name_at, term_at, variable_at};
 use crate::tree::{Name, Term};
 use std::alloc::Global;
 use tokens::Word;
@@ -13,7 +17,9 @@ pub(crate) fn names<'a>(
     words: &[Word<'a>],
     at: usize,
 ) -> Result<(Vec<Name<'a>>, usize), Refusal>
-    ensures { IfOk result (λ r. at < r.1) }
+    ensures after { IfOk result (λ r. at < r.1) }
+    ensures read { IfOk result (λ r. IsRead wants_names (from words.now at) (map name_of r.0.items) (from words.now r.1)) }
+    ensures told { IfErr result (λ refusal. IsTold wants_names words.now at refusal) }
 {
     let mut names = Vec::new(alloc);
     let mut next = at;
@@ -34,7 +40,9 @@ pub(crate) fn variables<'a>(
     words: &[Word<'a>],
     at: usize,
 ) -> Result<(Vec<Name<'a>>, usize), Refusal>
-    ensures { IfOk result (λ r. at < r.1) }
+    ensures after { IfOk result (λ r. at < r.1) }
+    ensures read { IfOk result (λ r. IsRead wants_variables (from words.now at) (map name_of r.0.items) (from words.now r.1)) }
+    ensures told { IfErr result (λ refusal. IsTold wants_variables words.now at refusal) }
 {
     let mut variables = Vec::new(alloc);
     let mut next = at;
@@ -55,7 +63,9 @@ pub(crate) fn terms<'a>(
     words: &[Word<'a>],
     at: usize,
 ) -> Result<(Vec<Term<'a>>, usize), Refusal>
-    ensures { IfOk result (λ r. at < r.1) }
+    ensures after { IfOk result (λ r. at < r.1) }
+    ensures read { IfOk result (λ r. IsRead wants_terms (from words.now at) (map term_of r.0.items) (from words.now r.1)) }
+    ensures told { IfErr result (λ refusal. IsTold wants_terms words.now at refusal) }
 {
     let mut terms = Vec::new(alloc);
     let mut next = at;

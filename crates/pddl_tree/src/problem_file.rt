@@ -1,11 +1,21 @@
 //! The file of a problem.
-ghost use Rattle.std.specs.Prelude.{◌<◌, IfOk, OnSome, length};
+ghost use Rattle.std.specs.Prelude.{◌≡◌, ◌<◌, IfOk, IfErr, OnSome, length, map, true, false};
+ghost use Rattle.std.specs.Option.{option_map};
+ghost use Rattle.model.specs.Grammar.{no_problem_sections};
+ghost use Rattle.model.specs.Refusals.{is_full};
+ghost use Rattle.model.proofs.GrammarMachine.{wants_name, wants_close, wants_open, wants_formula, wants_facts, wants_fact, problem_section_of, has_problem_section};
+ghost use Rattle.pddl_tree.specs.Ahead.{from, opens_first};
+ghost use Rattle.pddl_tree.specs.Reading.{IsRead, IsTold};
+ghost use Rattle.pddl_tree.specs.Sections.{problem_section_view, problem_sections_of, problem_section_first, ProblemGoesOn, ProblemStops, ProblemSectionEnds, ProblemSectionStops};
+ghost use Rattle.pddl_tree.specs.Symbol.{keyword_view};
+ghost use Rattle.pddl_tree.specs.Tree.{name_of, fact_of, formula_of};
 
+use crate::ahead::{Head, head_at, is_close, is_open, keyword_at, name_at};
 use crate::domain_file::requirements;
 use crate::formulas::formula;
 use crate::lists::names;
 use crate::refusal::{Refusal, refused, refused_keyword};
-use crate::symbol::{Head, Symbol, head_at, is_close, is_open, name_at, symbol_at};
+use crate::symbol::Keyword;
 use crate::tree::{Fact, Formula, Name};
 use std::alloc::Global;
 use tokens::{Code, Word};
@@ -20,6 +30,22 @@ enum Section {
     Goal,
 }
 
+impl Section {
+    /// The section that a keyword begins.
+    fn of(keyword: Keyword) -> Option<Section>
+        ensures { option_map problem_section_view result ≡ problem_section_of (keyword_view keyword) }
+    {
+        match keyword {
+            Keyword::Domain => Some(Section::Domain),
+            Keyword::Requirements => Some(Section::Requirements),
+            Keyword::Objects => Some(Section::Objects),
+            Keyword::Init => Some(Section::Init),
+            Keyword::Goal => Some(Section::Goal),
+            _ => None,
+        }
+    }
+}
+
 /// The sections of a problem that were read so far.
 #[derive(Drop)]
 pub(crate) struct ProblemSections<'a> {
@@ -32,7 +58,9 @@ pub(crate) struct ProblemSections<'a> {
 
 impl ProblemSections<'_> {
     /// Whether this section was read.
-    fn has(&self, section: Section) -> bool {
+    fn has(&self, section: Section) -> bool
+        ensures { result ≡ has_problem_section (problem_sections_of self.now) (problem_section_view section) }
+    {
         match section {
             Section::Domain => self.domain.is_some(),
             Section::Requirements => self.requirements,
@@ -43,7 +71,9 @@ impl ProblemSections<'_> {
     }
 
     /// Whether every section was read, so that no list can follow.
-    fn is_full(&self) -> bool {
+    fn is_full(&self) -> bool
+        ensures { result ≡ is_full (problem_sections_of self.now) }
+    {
         self.domain.is_some()
             && self.requirements
             && self.objects.is_some()
@@ -54,24 +84,23 @@ impl ProblemSections<'_> {
 
 /// The section whose keyword stands at an index.
 fn section_at(words: &[Word], at: usize) -> Option<Section>
-    ensures { OnSome result (at < length words.now) }
+    ensures within { OnSome result (at < length words.now) }
+    ensures first { option_map problem_section_view result ≡ problem_section_first (from words.now at) }
 {
-    match symbol_at(words, at) {
-        Symbol::DomainKeyword => Some(Section::Domain),
-        Symbol::Requirements => Some(Section::Requirements),
-        Symbol::Objects => Some(Section::Objects),
-        Symbol::Init => Some(Section::Init),
-        Symbol::Goal => Some(Section::Goal),
-        _ => None,
-    }
+    let keyword = keyword_at(words, at)?;
+    Section::of(keyword)
 }
 
-/// ProblemSections of a problem, each at most once, and the index of the word after them.
+/// Sections of a problem, each at most once, and the index of the word after them.
 pub(crate) fn problem_sections<'a>(
     alloc: Global,
     words: &[Word<'a>],
     at: usize,
-) -> Result<(ProblemSections<'a>, usize), Refusal> {
+) -> Result<(ProblemSections<'a>, usize), Refusal>
+    ensures ends { IfOk result (λ r. opens_first (from words.now r.1) ≡ false) }
+    ensures read { IfOk result (λ r. ProblemGoesOn words.now at no_problem_sections r.1 (problem_sections_of r.0)) }
+    ensures told { IfErr result (λ refusal. ProblemStops words.now at no_problem_sections refusal) }
+{
     let mut sections = ProblemSections {
         domain: None,
         requirements: false,
@@ -108,7 +137,9 @@ fn section_rest<'a>(
     section: Section,
     mut sections: ProblemSections<'a>,
 ) -> Result<(ProblemSections<'a>, usize), Refusal>
-    ensures { IfOk result (λ r. at < r.1) }
+    ensures after { IfOk result (λ r. at < r.1) }
+    ensures read { IfOk result (λ r. ProblemSectionEnds words.now at (problem_section_view section) (problem_sections_of sections.entry) r.1 (problem_sections_of r.0)) }
+    ensures told { IfErr result (λ refusal. ProblemSectionStops words.now at (problem_section_view section) (problem_sections_of sections.entry) refusal) }
 {
     match section {
         Section::Domain => {
@@ -141,7 +172,9 @@ fn section_rest<'a>(
 
 /// A name, and `)`: the name, and the index after the parenthesis.
 fn domain_name<'a>(words: &[Word<'a>], at: usize) -> Result<(Name<'a>, usize), Refusal>
-    ensures { IfOk result (λ r. at < r.1) }
+    ensures after { IfOk result (λ r. at < r.1) }
+    ensures read { IfOk result (λ r. IsRead (λ k. wants_name (λ n. wants_close (k n))) (from words.now at) (name_of r.0) (from words.now r.1)) }
+    ensures told { IfErr result (λ refusal. IsTold (λ k. wants_name (λ n. wants_close (k n))) words.now at refusal) }
 {
     let Some(name) = name_at(words, at) else {
         return Err(refused(words, at));
@@ -159,7 +192,9 @@ fn facts<'a>(
     words: &[Word<'a>],
     at: usize,
 ) -> Result<(Vec<Fact<'a>>, usize), Refusal>
-    ensures { IfOk result (λ r. at < r.1) }
+    ensures after { IfOk result (λ r. at < r.1) }
+    ensures read { IfOk result (λ r. IsRead wants_facts (from words.now at) (map fact_of r.0.items) (from words.now r.1)) }
+    ensures told { IfErr result (λ refusal. IsTold wants_facts words.now at refusal) }
 {
     let mut facts = Vec::new(alloc);
     let mut next = at;
@@ -177,7 +212,9 @@ fn facts<'a>(
 
 /// A fact whose `(` was read, and the index after its `)`.
 fn fact<'a>(alloc: Global, words: &[Word<'a>], at: usize) -> Result<(Fact<'a>, usize), Refusal>
-    ensures { IfOk result (λ r. at < r.1) }
+    ensures after { IfOk result (λ r. at < r.1) }
+    ensures read { IfOk result (λ r. IsRead wants_fact (from words.now at) (fact_of r.0) (from words.now r.1)) }
+    ensures told { IfErr result (λ refusal. IsTold wants_fact words.now at refusal) }
 {
     let Head::Predicate(predicate) = head_at(words, at) else {
         return Err(refused(words, at));
@@ -188,7 +225,9 @@ fn fact<'a>(alloc: Global, words: &[Word<'a>], at: usize) -> Result<(Fact<'a>, u
 
 /// A formula, and `)`: the formula, and the index after the parenthesis.
 fn goal<'a>(alloc: Global, words: &[Word<'a>], at: usize) -> Result<(Formula<'a>, usize), Refusal>
-    ensures { IfOk result (λ r. at < r.1) }
+    ensures after { IfOk result (λ r. at < r.1) }
+    ensures read { IfOk result (λ r. IsRead (λ k. wants_open (wants_formula (λ f. wants_close (k f)))) (from words.now at) (formula_of r.0) (from words.now r.1)) }
+    ensures told { IfErr result (λ refusal. IsTold (λ k. wants_open (wants_formula (λ f. wants_close (k f)))) words.now at refusal) }
 {
     if !is_open(words, at) {
         return Err(refused(words, at));

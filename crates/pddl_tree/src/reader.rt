@@ -1,10 +1,24 @@
 //! From words to trees.
-ghost use Rattle.model.specs.Grammar.{EachIsOneDomain, EachIsOneProblem};
+ghost use Rattle.std.specs.Prelude.{◌≡◌, map, IfOk, IfErr, IfSome, None, Some, [], unwrap_or};
+ghost use Rattle.std.specs.Option.{option_map};
+ghost use Rattle.tokens.specs.Fault.{told_by};
+ghost use Rattle.tokens.specs.Word.{word_of};
+ghost use Rattle.model.specs.Grammar.{EachIsOneDomain, EachIsOneProblem, IsDomain, IsProblem};
+ghost use Rattle.model.specs.Refusals.{File, domain_file, problem_file, tokens_of, IsWhole, IsRefused};
+ghost use Rattle.model.proofs.GrammarMachine.{run, start, finished, Tree, wants_nothing, domain_tree, problem_tree, at_sections};
+ghost use Rattle.pddl_tree.specs.Ahead.{from};
+ghost use Rattle.model.proofs.GrammarRefusals.{span_of_place};
+ghost use Rattle.pddl_tree.specs.Reading.{StopsAs};
+ghost use Rattle.pddl_tree.specs.Refusal.{told, fault_of, missing_code};
+ghost use Rattle.pddl_tree.specs.Symbol.{label_view};
+ghost use Rattle.pddl_tree.specs.Sections.{kind_of};
+ghost use Rattle.pddl_tree.specs.Tree.{name_of, domain_of, problem_of};
 
+use crate::ahead::{is_close, is_label, is_open, name_at};
 use crate::domain_file::{DomainSections, domain_sections};
 use crate::problem_file::{ProblemSections, problem_sections};
 use crate::refusal::{Refusal, refused};
-use crate::symbol::{Symbol, is_close, is_open, name_at, symbol_at};
+use crate::symbol::Label;
 use crate::tree::{Domain, Name, Problem};
 use std::alloc::Global;
 use tokens::{Code, Fault, Span, Word};
@@ -23,8 +37,14 @@ use tokens::{Code, Fault, Span, Word};
 /// - `BadForm`: any other word.
 ///
 /// `NoMemory` says nothing about the words.
-pub fn domain<'a>(alloc: Global, words: &[Word<'a>]) -> Result<Domain<'a>, Fault> {
-    match domain_file(alloc, words) {
+pub fn domain<'a>(alloc: Global, words: &[Word<'a>]) -> Result<Domain<'a>, Fault>
+    ensures tree { IfOk result (λ tree. IsDomain (tokens_of (map word_of words.now)) (domain_of tree)) }
+    ensures refused { IfErr result (λ fault. IfSome (told_by fault) (IsRefused domain_file (map word_of words.now))) }
+
+    // Words that are a domain are never refused: the only error is want of memory.
+    ensures taken { IsWhole domain_file (tokens_of (map word_of words.now)) → IfErr result (λ fault. told_by fault ≡ None) }
+{
+    match read_domain(alloc, words) {
         Ok(domain) => Ok(domain),
         Err(refusal) => Err(fault(words, refusal)),
     }
@@ -33,8 +53,14 @@ pub fn domain<'a>(alloc: Global, words: &[Word<'a>]) -> Result<Domain<'a>, Fault
 /// The problem that the words are: the whole file, in the words of its text.
 ///
 /// Refusals are those of [`domain`]; `MissingSection` is told at the `)` of a file without `:domain`, `:init` or `:goal`.
-pub fn problem<'a>(alloc: Global, words: &[Word<'a>]) -> Result<Problem<'a>, Fault> {
-    match problem_file(alloc, words) {
+pub fn problem<'a>(alloc: Global, words: &[Word<'a>]) -> Result<Problem<'a>, Fault>
+    ensures tree { IfOk result (λ tree. IsProblem (tokens_of (map word_of words.now)) (problem_of tree)) }
+    ensures refused { IfErr result (λ fault. IfSome (told_by fault) (IsRefused problem_file (map word_of words.now))) }
+
+    // Words that are a problem are never refused: the only error is want of memory.
+    ensures taken { IsWhole problem_file (tokens_of (map word_of words.now)) → IfErr result (λ fault. told_by fault ≡ None) }
+{
+    match read_problem(alloc, words) {
         Ok(problem) => Ok(problem),
         Err(refusal) => Err(fault(words, refusal)),
     }
@@ -47,7 +73,9 @@ pub fn one_reading()
 {}
 
 /// What a refusal tells of the file.
-fn fault(words: &[Word], refusal: Refusal) -> Fault {
+fn fault(words: &[Word], refusal: Refusal) -> Fault
+    ensures { told_by result ≡ fault_of (map word_of words.now) (told refusal) }
+{
     match refusal {
         Refusal::At { code, at } => Fault::At {
             code,
@@ -58,7 +86,10 @@ fn fault(words: &[Word], refusal: Refusal) -> Fault {
 }
 
 /// The span of the word at an index; where the words run out, the end of the last word, or 0.
-fn span_at(words: &[Word], at: usize) -> Span {
+fn span_at(words: &[Word], at: usize) -> Span
+    ensures start { result.start ≡ (span_of_place (map word_of words.now) at).start }
+    ensures end { result.end ≡ (span_of_place (map word_of words.now) at).end }
+{
     if at < words.len() {
         return words[at].span();
     }
@@ -70,8 +101,11 @@ fn span_at(words: &[Word], at: usize) -> Span {
 }
 
 /// The domain that the words are, or the refused word.
-fn domain_file<'a>(alloc: Global, words: &[Word<'a>]) -> Result<Domain<'a>, Refusal> {
-    let name = head(words, Symbol::Domain)?;
+fn read_domain<'a>(alloc: Global, words: &[Word<'a>]) -> Result<Domain<'a>, Refusal>
+    ensures read { IfOk result (λ tree. run (from words.now 0) (start domain_file) ≡ finished (domain_tree (domain_of tree))) }
+    ensures told { IfErr result (λ refusal. StopsAs words.now 0 (start domain_file) refusal) }
+{
+    let name = head(words, Label::Domain)?;
     let (sections, next) = domain_sections(alloc, words, 6)?;
     if !is_close(words, next) {
         return Err(refused(words, next));
@@ -96,8 +130,11 @@ fn domain_file<'a>(alloc: Global, words: &[Word<'a>]) -> Result<Domain<'a>, Refu
 }
 
 /// The problem that the words are, or the refused word.
-fn problem_file<'a>(alloc: Global, words: &[Word<'a>]) -> Result<Problem<'a>, Refusal> {
-    let name = head(words, Symbol::Problem)?;
+fn read_problem<'a>(alloc: Global, words: &[Word<'a>]) -> Result<Problem<'a>, Refusal>
+    ensures read { IfOk result (λ tree. run (from words.now 0) (start problem_file) ≡ finished (problem_tree (problem_of tree))) }
+    ensures told { IfErr result (λ refusal. StopsAs words.now 0 (start problem_file) refusal) }
+{
+    let name = head(words, Label::Problem)?;
     let (sections, next) = problem_sections(alloc, words, 6)?;
     if !is_close(words, next) {
         return Err(refused(words, next));
@@ -109,34 +146,55 @@ fn problem_file<'a>(alloc: Global, words: &[Word<'a>]) -> Result<Problem<'a>, Re
         init,
         goal,
     } = sections;
-    let (Some(domain), Some(init), Some(goal)) = (domain, init, goal) else {
-        return Err(Refusal::At {
-            code: Code::MissingSection,
-            at: next,
-        });
+    let missing = Refusal::At {
+        code: Code::MissingSection,
+        at: next,
+    };
+    let Some(domain) = domain else {
+        return Err(missing);
+    };
+    let Some(init) = init else {
+        return Err(missing);
+    };
+    let Some(goal) = goal else {
+        return Err(missing);
     };
     end(words, next + 1)?;
     Ok(Problem {
         name,
         domain,
-        objects: objects.unwrap_or(Vec::new(alloc)),
+        objects: objects_from(alloc, objects),
         init,
         goal,
     })
 }
 
+/// The objects of a problem; none where `:objects` does not stand there.
+fn objects_from<'a>(alloc: Global, found: Option<Vec<Name<'a>>>) -> Vec<Name<'a>>
+    ensures { map name_of result.items ≡ unwrap_or (option_map (λ v. map name_of v.items) found.entry) [] }
+{
+    match found {
+        Some(objects) => objects,
+        None => Vec::new(alloc),
+    }
+}
+
 /// `( define ( domain NAME )`, or `problem` in place of `domain`: the name.
-fn head<'a>(words: &[Word<'a>], kind: Symbol) -> Result<Name<'a>, Refusal> {
+fn head<'a>(words: &[Word<'a>], kind: Label) -> Result<Name<'a>, Refusal>
+    ensures read { (file : File) → label_view kind ≡ kind_of file → IfOk result (λ name.
+        run (from words.now 0) (start file) ≡ run (from words.now 6) (at_sections file (name_of name))) }
+    ensures told { (file : File) → label_view kind ≡ kind_of file → IfErr result (λ refusal. StopsAs words.now 0 (start file) refusal) }
+{
     if !is_open(words, 0) {
         return Err(refused(words, 0));
     }
-    if symbol_at(words, 1) != Symbol::Define {
+    if !is_label(words, 1, Label::Define) {
         return Err(refused_in_file(words, 1));
     }
     if !is_open(words, 2) {
         return Err(refused_in_file(words, 2));
     }
-    if symbol_at(words, 3) != kind {
+    if !is_label(words, 3, kind) {
         return Err(refused(words, 3));
     }
     let Some(name) = name_at(words, 4) else {
@@ -150,7 +208,9 @@ fn head<'a>(words: &[Word<'a>], kind: Symbol) -> Result<Name<'a>, Refusal> {
 }
 
 /// The refusal of a word in the file's list before its sections: `)`, since they are missing, or any other.
-fn refused_in_file(words: &[Word], at: usize) -> Refusal {
+fn refused_in_file(words: &[Word], at: usize) -> Refusal
+    ensures { told result ≡ Some (missing_code (from words.now at), at) }
+{
     if is_close(words, at) {
         return Refusal::At {
             code: Code::MissingSection,
@@ -161,7 +221,10 @@ fn refused_in_file(words: &[Word], at: usize) -> Refusal {
 }
 
 /// No word stands at this index.
-fn end(words: &[Word], at: usize) -> Result<(), Refusal> {
+fn end(words: &[Word], at: usize) -> Result<(), Refusal>
+    ensures none { IfOk result (λ _. from words.now at ≡ []) }
+    ensures told { IfErr result (λ refusal. (tree : Tree) → StopsAs words.now at (wants_nothing tree) refusal) }
+{
     if at < words.len() {
         Err(refused(words, at))
     } else {

@@ -1,16 +1,13 @@
-//! What a word is to the grammar, and looks at the next word.
-ghost use Rattle.std.specs.Prelude.{◌≢◌, ◌<◌, length, IsTrue, OnSome};
+//! What a name or a keyword is to the grammar.
+ghost use Rattle.std.specs.Prelude.{◌≡◌, ◌||◌, codes};
+ghost use Rattle.std.specs.Str.{bytes_eq, str_to_ascii_lowercase};
+ghost use Rattle.model.specs.GrammarWords as words;
+ghost use Rattle.model.specs.GrammarWords.{is_among, left_out_names, other_reserved_names, requirement_keys, left_out_keywords};
+ghost use Rattle.pddl_tree.specs.Symbol.{label_view, keyword_view};
 
-use crate::tree::{Name, Term};
-use tokens::{Kind, Word};
-
-/// What a word is to the grammar, its letters folded to lower case.
+/// What a name is to the grammar, its letters folded to lower case.
 #[derive(Clone, Copy, Debug, PartialEq, Eq)]
-pub(crate) enum Symbol {
-    /// `(`
-    Open,
-    /// `)`
-    Close,
+pub(crate) enum Label {
     /// `define`
     Define,
     /// `domain`
@@ -18,19 +15,22 @@ pub(crate) enum Symbol {
     /// `problem`
     Problem,
     /// Any other name that is not reserved.
-    Name,
+    Ordinary,
     /// `and`
     And,
     /// `not`
     Not,
-    /// A reserved name of a form that is left out.
-    LeftOutName,
+    /// The reserved name of a form that is left out.
+    LeftOut,
     /// Any other reserved name.
     Reserved,
-    /// A variable.
-    Variable,
+}
+
+/// What a keyword is to the grammar, its letters folded to lower case.
+#[derive(Clone, Copy, Debug, PartialEq, Eq)]
+pub(crate) enum Keyword {
     /// `:domain`
-    DomainKeyword,
+    Domain,
     /// `:requirements`
     Requirements,
     /// `:predicates`
@@ -52,291 +52,143 @@ pub(crate) enum Symbol {
     /// A key of `:requirements`.
     Requirement,
     /// The keyword of a section or part that is left out.
-    LeftOutKeyword,
+    LeftOut,
     /// Any other keyword.
-    Keyword,
-    /// A number, `-` or `=`.
-    Other,
-    /// No word: the words end here.
-    End,
+    Unknown,
 }
 
-/// The keys of `:requirements`.
-const REQUIREMENTS: [&[u8]; 13] = [
-    b":strips",
-    b":typing",
-    b":equality",
-    b":negative-preconditions",
-    b":disjunctive-preconditions",
-    b":existential-preconditions",
-    b":universal-preconditions",
-    b":quantified-preconditions",
-    b":conditional-effects",
-    b":adl",
-    b":action-costs",
-    b":fluents",
-    b":numeric-fluents",
-];
-
-/// The keywords of sections and parts that are left out.
-const LEFT_OUT_KEYWORDS: [&[u8]; 14] = [
-    b":durative-action",
-    b":derived",
-    b":constraints",
-    b":axiom",
-    b":safety",
-    b":timeless",
-    b":extends",
-    b":situation",
-    b":length",
-    b":vars",
-    b":duration",
-    b":condition",
-    b":expansion",
-    b":method",
-];
-
-/// The reserved names of forms that are left out.
-const LEFT_OUT_NAMES: [&[u8]; 5] = [
-    b"preference",
-    b"assign",
-    b"decrease",
-    b"scale-up",
-    b"scale-down",
-];
-
-/// The other reserved names, without `and` and `not`.
-const RESERVED: [&[u8]; 8] = [
-    b"or",
-    b"imply",
-    b"exists",
-    b"forall",
-    b"when",
-    b"increase",
-    b"either",
-    b"total-cost",
-];
-
-impl Symbol {
-    /// Whether the word is a keyword.
-    pub(crate) fn is_keyword(self) -> bool {
-        match self {
-            Symbol::DomainKeyword
-            | Symbol::Requirements
-            | Symbol::Predicates
-            | Symbol::Action
-            | Symbol::Objects
-            | Symbol::Init
-            | Symbol::Goal
-            | Symbol::Parameters
-            | Symbol::Precondition
-            | Symbol::Effect
-            | Symbol::Requirement
-            | Symbol::LeftOutKeyword
-            | Symbol::Keyword => true,
-            _ => false,
-        }
-    }
-}
-
-/// Whether a text is one of these, its letters folded to lower case.
-fn is_among(text: &[u8], list: &[&[u8]]) -> bool {
-    for entry in list {
-        if text.eq_ignore_ascii_case(entry) {
-            return true;
-        }
-    }
-    false
-}
-
-/// What a name is to the grammar.
-fn name_symbol(text: &[u8]) -> Symbol {
-    if text.eq_ignore_ascii_case(b"and") {
-        Symbol::And
-    } else if text.eq_ignore_ascii_case(b"not") {
-        Symbol::Not
-    } else if text.eq_ignore_ascii_case(b"define") {
-        Symbol::Define
-    } else if text.eq_ignore_ascii_case(b"domain") {
-        Symbol::Domain
-    } else if text.eq_ignore_ascii_case(b"problem") {
-        Symbol::Problem
-    } else if is_among(text, &LEFT_OUT_NAMES) {
-        Symbol::LeftOutName
-    } else if is_among(text, &RESERVED) {
-        Symbol::Reserved
+/// What a name is.
+pub(crate) fn label_of(text: &[u8]) -> Label
+    ensures { label_view result ≡ words.label_of (str_to_ascii_lowercase text.now) }
+{
+    if is(text, b"and") {
+        Label::And
+    } else if is(text, b"not") {
+        Label::Not
+    } else if is(text, b"define") {
+        Label::Define
+    } else if is(text, b"domain") {
+        Label::Domain
+    } else if is(text, b"problem") {
+        Label::Problem
+    } else if is_left_out_name(text) {
+        Label::LeftOut
+    } else if is_other_reserved(text) {
+        Label::Reserved
     } else {
-        Symbol::Name
+        Label::Ordinary
     }
 }
 
-/// What a keyword is to the grammar.
-fn keyword_symbol(text: &[u8]) -> Symbol {
-    if text.eq_ignore_ascii_case(b":action") {
-        Symbol::Action
-    } else if text.eq_ignore_ascii_case(b":parameters") {
-        Symbol::Parameters
-    } else if text.eq_ignore_ascii_case(b":precondition") {
-        Symbol::Precondition
-    } else if text.eq_ignore_ascii_case(b":effect") {
-        Symbol::Effect
-    } else if text.eq_ignore_ascii_case(b":requirements") {
-        Symbol::Requirements
-    } else if text.eq_ignore_ascii_case(b":predicates") {
-        Symbol::Predicates
-    } else if text.eq_ignore_ascii_case(b":domain") {
-        Symbol::DomainKeyword
-    } else if text.eq_ignore_ascii_case(b":objects") {
-        Symbol::Objects
-    } else if text.eq_ignore_ascii_case(b":init") {
-        Symbol::Init
-    } else if text.eq_ignore_ascii_case(b":goal") {
-        Symbol::Goal
+/// What a keyword is.
+pub(crate) fn keyword_of(text: &[u8]) -> Keyword
+    ensures { keyword_view result ≡ words.keyword_of (str_to_ascii_lowercase text.now) }
+{
+    if is(text, b":action") {
+        Keyword::Action
+    } else if is(text, b":parameters") {
+        Keyword::Parameters
+    } else if is(text, b":precondition") {
+        Keyword::Precondition
+    } else if is(text, b":effect") {
+        Keyword::Effect
+    } else if is(text, b":requirements") {
+        Keyword::Requirements
+    } else if is(text, b":predicates") {
+        Keyword::Predicates
+    } else if is(text, b":domain") {
+        Keyword::Domain
+    } else if is(text, b":objects") {
+        Keyword::Objects
+    } else if is(text, b":init") {
+        Keyword::Init
+    } else if is(text, b":goal") {
+        Keyword::Goal
     } else {
-        other_keyword_symbol(text)
+        other_keyword(text)
     }
 }
 
 /// What a keyword is that begins no section and no part.
-fn other_keyword_symbol(text: &[u8]) -> Symbol {
-    if is_among(text, &REQUIREMENTS) {
-        Symbol::Requirement
-    } else if is_among(text, &LEFT_OUT_KEYWORDS) {
-        Symbol::LeftOutKeyword
-    } else {
-        Symbol::Keyword
-    }
-}
-
-/// What a word is to the grammar.
-fn symbol_of(word: &Word) -> Symbol {
-    match word.kind() {
-        Kind::Open => Symbol::Open,
-        Kind::Close => Symbol::Close,
-        Kind::Name => name_symbol(word.text()),
-        Kind::Variable => Symbol::Variable,
-        Kind::Keyword => keyword_symbol(word.text()),
-        Kind::Number | Kind::Dash | Kind::Equals => Symbol::Other,
-    }
-}
-
-/// What the word at an index is.
-pub(crate) fn symbol_at(words: &[Word], at: usize) -> Symbol
-    ensures { result ≢ Symbol.End → at < length words.now }
+fn other_keyword(text: &[u8]) -> Keyword
+    ensures { keyword_view result ≡ words.other_keyword_of (str_to_ascii_lowercase text.now) }
 {
-    if at < words.len() {
-        symbol_of(&words[at])
+    if is_requirement_key(text) {
+        Keyword::Requirement
+    } else if is_left_out_keyword(text) {
+        Keyword::LeftOut
     } else {
-        Symbol::End
+        Keyword::Unknown
     }
 }
 
-/// Whether `(` stands at an index.
-pub(crate) fn is_open(words: &[Word], at: usize) -> bool
-    ensures { IsTrue result → at < length words.now }
+/// Whether a text is this word, its letters folded to lower case.
+fn is(text: &[u8], word: &[u8]) -> bool
+    ensures { result ≡ bytes_eq (str_to_ascii_lowercase text.now) (str_to_ascii_lowercase word.now) }
 {
-    if at < words.len() {
-        match words[at].kind() {
-            Kind::Open => true,
-            _ => false,
-        }
-    } else {
-        false
-    }
+    text.eq_ignore_ascii_case(word)
 }
 
-/// Whether `)` stands at an index.
-pub(crate) fn is_close(words: &[Word], at: usize) -> bool
-    ensures { IsTrue result → at < length words.now }
+/// Whether a name is reserved for a form that is left out.
+fn is_left_out_name(text: &[u8]) -> bool
+    ensures { result ≡ is_among (str_to_ascii_lowercase text.now) left_out_names }
 {
-    if at < words.len() {
-        match words[at].kind() {
-            Kind::Close => true,
-            _ => false,
-        }
-    } else {
-        false
-    }
+    is(text, b"preference")
+        || is(text, b"assign")
+        || is(text, b"decrease")
+        || is(text, b"scale-up")
+        || is(text, b"scale-down")
 }
 
-/// The name at an index, if one stands there.
-pub(crate) fn name_at<'a>(words: &[Word<'a>], at: usize) -> Option<Name<'a>>
-    ensures { OnSome result (at < length words.now) }
+/// Whether a name is reserved otherwise, `and` and `not` aside.
+fn is_other_reserved(text: &[u8]) -> bool
+    ensures { result ≡ is_among (str_to_ascii_lowercase text.now) other_reserved_names }
 {
-    if at < words.len() {
-        match words[at].kind() {
-            Kind::Name => Some(name_of(&words[at])),
-            _ => None,
-        }
-    } else {
-        None
-    }
+    is(text, b"or")
+        || is(text, b"imply")
+        || is(text, b"exists")
+        || is(text, b"forall")
+        || is(text, b"when")
+        || is(text, b"increase")
+        || is(text, b"either")
+        || is(text, b"total-cost")
 }
 
-/// The variable at an index, if one stands there.
-pub(crate) fn variable_at<'a>(words: &[Word<'a>], at: usize) -> Option<Name<'a>>
-    ensures { OnSome result (at < length words.now) }
+/// Whether a keyword is a key of `:requirements`.
+fn is_requirement_key(text: &[u8]) -> bool
+    ensures { result ≡ is_among (str_to_ascii_lowercase text.now) requirement_keys }
 {
-    if at < words.len() {
-        match words[at].kind() {
-            Kind::Variable => Some(name_of(&words[at])),
-            _ => None,
-        }
-    } else {
-        None
-    }
+    is(text, b":strips")
+        || is(text, b":typing")
+        || is(text, b":equality")
+        || is(text, b":negative-preconditions")
+        || is(text, b":disjunctive-preconditions")
+        || is(text, b":existential-preconditions")
+        || is(text, b":universal-preconditions")
+        || is(text, b":quantified-preconditions")
+        || is(text, b":conditional-effects")
+        || is(text, b":adl")
+        || is(text, b":action-costs")
+        || is(text, b":fluents")
+        || is(text, b":numeric-fluents")
 }
 
-/// The term at an index, if one stands there.
-pub(crate) fn term_at<'a>(words: &[Word<'a>], at: usize) -> Option<Term<'a>>
-    ensures { OnSome result (at < length words.now) }
+/// Whether a keyword is that of a section or part that is left out.
+fn is_left_out_keyword(text: &[u8]) -> bool
+    ensures { result ≡ is_among (str_to_ascii_lowercase text.now) left_out_keywords }
 {
-    if at < words.len() {
-        match words[at].kind() {
-            Kind::Name => Some(Term::Object(name_of(&words[at]))),
-            Kind::Variable => Some(Term::Variable(name_of(&words[at]))),
-            _ => None,
-        }
-    } else {
-        None
-    }
-}
-
-/// What a list in a formula or an effect begins with.
-#[derive(Clone, Copy, Debug)]
-pub(crate) enum Head<'a> {
-    /// `and`
-    And,
-    /// `not`
-    Not,
-    /// A name that may be a predicate's.
-    Predicate(Name<'a>),
-    /// Any other word, or none.
-    Other,
-}
-
-/// The head at an index.
-pub(crate) fn head_at<'a>(words: &[Word<'a>], at: usize) -> Head<'a>
-    ensures { result ≢ Head.Other → at < length words.now }
-{
-    if at < words.len() {
-        match symbol_of(&words[at]) {
-            Symbol::And => Head::And,
-            Symbol::Not => Head::Not,
-            Symbol::Define | Symbol::Domain | Symbol::Problem | Symbol::Name => {
-                Head::Predicate(name_of(&words[at]))
-            }
-            _ => Head::Other,
-        }
-    } else {
-        Head::Other
-    }
-}
-
-/// A word as a name: its bytes and its place.
-fn name_of<'a>(word: &Word<'a>) -> Name<'a> {
-    Name {
-        text: word.text(),
-        span: word.span(),
-    }
+    is(text, b":durative-action")
+        || is(text, b":derived")
+        || is(text, b":constraints")
+        || is(text, b":axiom")
+        || is(text, b":safety")
+        || is(text, b":timeless")
+        || is(text, b":extends")
+        || is(text, b":situation")
+        || is(text, b":length")
+        || is(text, b":vars")
+        || is(text, b":duration")
+        || is(text, b":condition")
+        || is(text, b":expansion")
+        || is(text, b":method")
 }

@@ -1,3 +1,4 @@
 pub mod Readings
 pub mod PlanWords
 pub mod PlanSteps
+pub mod FilesRead

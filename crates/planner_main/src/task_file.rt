@@ -1,4 +1,12 @@
 //! From the bytes of a domain file and a problem file to their task, and the faults of files.
+ghost use Rattle.std.specs.Prelude.{IfOk, IfErr, IfSome};
+ghost use Rattle.tokens.specs.Fault.{told_by};
+ghost use Rattle.pddl_tree.specs.Tree.{domain_of, problem_of};
+ghost use Rattle.validator.specs.Typing.{task_of};
+ghost use Rattle.planner_main.specs.Files.{told_in};
+ghost use Rattle.model.specs.Refusals.{domain_file, problem_file};
+ghost use Rattle.model.specs.Files.{IsDomainText, IsProblemText, IsTextFault, IsTaskOf, IsTaskFault};
+
 use std::alloc::Global;
 use std::fmt;
 use thiserror::Error;
@@ -46,8 +54,14 @@ pub enum FileFault {
 }
 
 impl FileFault {
+    ghost use Rattle.std.specs.Prelude.{◌≡◌};
+    ghost use Rattle.tokens.specs.Fault.{told_by};
+    ghost use Rattle.planner_main.specs.Files.{told_in, in_file};
+
     /// The fault of a file's text.
-    pub(crate) fn of(file: File, fault: Fault) -> FileFault {
+    pub(crate) fn of(file: File, fault: Fault) -> FileFault
+        ensures { told_in result ≡ in_file file (told_by fault) }
+    {
         match fault {
             Fault::At { code, span } => FileFault::At { file, code, span },
             Fault::NoMemory => FileFault::NoMemory,
@@ -56,6 +70,11 @@ impl FileFault {
 }
 
 impl From<TaskFault> for FileFault {
+    ghost use Rattle.std.specs.Prelude.{◌≡◌};
+    ghost use Rattle.planner_main.specs.Files.{told_in, told_of_pair};
+
+    ghost from_gives = { λ fault e. told_in e ≡ told_of_pair fault };
+
     fn from(fault: TaskFault) -> FileFault {
         match fault {
             TaskFault::At { file, code, span } => {
@@ -71,6 +90,11 @@ impl From<TaskFault> for FileFault {
 }
 
 impl From<NoMemory> for FileFault {
+    ghost use Rattle.std.specs.Prelude.{◌≡◌};
+    ghost use Rattle.planner_main.specs.declared.task_file.FileFault.TheVariants.{NoMemory};
+
+    ghost from_gives = { λ _ e. e ≡ NoMemory };
+
     fn from(_error: NoMemory) -> FileFault {
         FileFault::NoMemory
     }
@@ -79,21 +103,33 @@ impl From<NoMemory> for FileFault {
 /// The task of a domain file and a problem file.
 ///
 /// The domain is scanned and read, then the problem, then both are typed together; the first fault ends the call.
-pub(crate) fn read_task(alloc: Global, domain: &[u8], problem: &[u8]) -> Result<Task, FileFault> {
-    let domain = read_domain(alloc, domain).map_err(|fault| FileFault::of(File::Domain, fault))?;
-    let problem = read_problem(alloc, problem).map_err(|fault| FileFault::of(
-        File::Problem,
-        fault,
-    ))?;
+pub(crate) fn read_task(alloc: Global, domain: &[u8], problem: &[u8]) -> Result<Task, FileFault>
+    ensures task { IfOk result (λ task. IsTaskOf domain.now problem.now (task_of task)) }
+    ensures refused { IfErr result (λ fault. IfSome (told_in fault) (IsTaskFault domain.now problem.now)) }
+{
+    let domain = match read_domain(alloc, domain) {
+        Ok(domain) => domain,
+        Err(fault) => return Err(FileFault::of(File::Domain, fault)),
+    };
+    let problem = match read_problem(alloc, problem) {
+        Ok(problem) => problem,
+        Err(fault) => return Err(FileFault::of(File::Problem, fault)),
+    };
     Ok(Task::new(alloc, domain, problem)?)
 }
 
-fn read_domain(alloc: Global, text: &[u8]) -> Result<pddl_tree::Domain<'_>, Fault> {
+fn read_domain(alloc: Global, text: &[u8]) -> Result<pddl_tree::Domain<'_>, Fault>
+    ensures domain { IfOk result (λ domain. IsDomainText text.now (domain_of domain)) }
+    ensures refused { IfErr result (λ fault. IfSome (told_by fault) (IsTextFault domain_file text.now)) }
+{
     let words = scan(alloc, text)?;
     pddl_tree::domain(alloc, &words)
 }
 
-fn read_problem(alloc: Global, text: &[u8]) -> Result<pddl_tree::Problem<'_>, Fault> {
+fn read_problem(alloc: Global, text: &[u8]) -> Result<pddl_tree::Problem<'_>, Fault>
+    ensures problem { IfOk result (λ problem. IsProblemText text.now (problem_of problem)) }
+    ensures refused { IfErr result (λ fault. IfSome (told_by fault) (IsTextFault problem_file text.now)) }
+{
     let words = scan(alloc, text)?;
     pddl_tree::problem(alloc, &words)
 }

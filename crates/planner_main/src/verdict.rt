@@ -1,4 +1,10 @@
 //! From the bytes of three files to the verdict.
+ghost use Rattle.std.specs.Prelude.{◌≡◌, List, IfOk, IfErr, IfSome, None};
+ghost use Rattle.validator.specs.Verdict.{verdict_of};
+ghost use Rattle.planner_main.specs.Files.{told_in};
+ghost use Rattle.model.specs.Task as model;
+ghost use Rattle.model.specs.Files.{AreRead, IsVerdictOf, IsFileFault};
+
 use crate::plan_file::read_plan;
 use crate::task_file::{File, FileFault, read_task};
 use std::alloc::Global;
@@ -13,8 +19,18 @@ pub fn validate_files(
     domain: &[u8],
     problem: &[u8],
     plan: &[u8],
-) -> Result<Verdict, FileFault> {
+) -> Result<Verdict, FileFault>
+    ensures verdict { IfOk result (λ verdict. IsVerdictOf domain.now problem.now plan.now (verdict_of verdict)) }
+    ensures refused { IfErr result (λ fault. IfSome (told_in fault) (IsFileFault domain.now problem.now plan.now)) }
+
+    // Where the three are a task and a plan for it, there is a verdict: the only error is want of memory.
+    ensures taken { (task : model.Task) (steps : List model.Instance)
+        → AreRead domain.now problem.now plan.now task steps → IfErr result (λ fault. told_in fault ≡ None) }
+{
     let task = read_task(alloc, domain, problem)?;
-    let plan = read_plan(alloc, &task, plan).map_err(|fault| FileFault::of(File::Plan, fault))?;
+    let plan = match read_plan(alloc, &task, plan) {
+        Ok(plan) => plan,
+        Err(fault) => return Err(FileFault::of(File::Plan, fault)),
+    };
     Ok(validate(alloc, &task, &plan)?)
 }

@@ -1,0 +1,91 @@
+-- From the bytes of files to their task, to the fault that is told where they are not read, and to the verdict on a
+-- plan: the definitions of words, trees, typing and plan texts one after another. Files are looked at in their order,
+-- the domain, the problem and then the plan; the pair is typed between the problem and the plan.
+use Rattle.std.specs.Prelude.{◌≡◌, ℕ, ◌-◌, ◌^◌, min, List}
+use Rattle.model.specs.Fault.{Fault}
+use Rattle.model.specs.Words.{Word, ReadsAs, IsTold}
+use Rattle.model.specs.Trees.{Domain, Problem}
+use Rattle.model.specs.Grammar.{IsDomain, IsProblem}
+use Rattle.model.specs.Refusals.{tokens_of, domain_file, problem_file, IsRefused}
+use Rattle.model.specs.Refusals as refusals
+use Rattle.model.specs.Task.{Task, Instance}
+use Rattle.model.specs.Typing.{in_domain, in_problem, TypingFault, task_of_trees, IsWellTyped, IsLeastFault}
+use Rattle.model.specs.Typing as typing
+use Rattle.model.specs.Runs.{Verdict, IsVerdict}
+use Rattle.model.specs.Meaning.{system_of}
+use Rattle.model.specs.PlanText.{IsPlanText, IsPlanFault}
+
+pub data File : Type 0 where
+  the_domain : File
+  the_problem : File
+  the_plan : File
+
+-- a fault, and the file that it is told of
+pub record FileFault : Type 0 where
+  pub file : File
+  pub fault : Fault
+
+-- the text is this domain: its words have this tree
+pub record IsDomainText (text : List ℕ) (domain : Domain) : Type 0 where
+  pub words : List Word
+  pub reads : ReadsAs text words
+  pub tree : IsDomain (tokens_of words) domain
+
+-- the text is this problem: its words have this tree
+pub record IsProblemText (text : List ℕ) (problem : Problem) : Type 0 where
+  pub words : List Word
+  pub reads : ReadsAs text words
+  pub tree : IsProblem (tokens_of words) problem
+
+-- what is told of a text that is no file of this kind: what keeps it from reading as words, or else what keeps its
+-- words from having a tree
+pub data IsTextFault (kind : refusals.File) (text : List ℕ) (fault : Fault) : Type 0 where
+  of_words : IsTold text fault → IsTextFault kind text fault
+  of_tree : (words : List Word) → ReadsAs text words → IsRefused kind words fault → IsTextFault kind text fault
+
+-- The two texts are this task: they are a domain and a problem, the pair is well-typed, and each name is its number.
+pub record IsTaskOf (domain problem : List ℕ) (task : Task) : Type 0 where
+  pub domain_tree : Domain
+  pub problem_tree : Problem
+  pub domain_reads : IsDomainText domain domain_tree
+  pub problem_reads : IsProblemText problem problem_tree
+  pub well_typed : IsWellTyped domain_tree problem_tree
+  pub resolved : task ≡ task_of_trees domain_tree problem_tree
+
+abbrev pub file_of : typing.File → File
+file_of in_domain = the_domain
+file_of in_problem = the_problem
+
+-- A fault of typing is told of its file, with its number and span. A span that would end beyond 2^64 - 1, as none of a
+-- text does, would be told with that end.
+pub record IsToldTyping (typed : TypingFault) (told : FileFault) : Type 0 where
+  pub file : told.file ≡ file_of typed.file
+  pub code : told.fault.code ≡ typed.fault.code
+  pub start : told.fault.span.start ≡ typed.fault.span.start
+  pub end : told.fault.span.end ≡ min typed.fault.span.end (2 ^ 64 - 1)
+
+-- what is told of two texts that are no task: the first fault in the order of files
+pub data IsTaskFault (domain problem : List ℕ) (told : FileFault) : Type 0 where
+  in_the_domain : IsTextFault domain_file domain told.fault → told.file ≡ the_domain → IsTaskFault domain problem told
+  in_the_problem : (d : Domain) → IsDomainText domain d → IsTextFault problem_file problem told.fault → told.file ≡ the_problem
+      → IsTaskFault domain problem told
+  in_the_pair : (d : Domain) (p : Problem) (typed : TypingFault) → IsDomainText domain d → IsProblemText problem p
+      → IsLeastFault d p typed → IsToldTyping typed told → IsTaskFault domain problem told
+
+-- what is told of three texts that are not a task and a plan for it: the first fault in the order of files
+pub data IsFileFault (domain problem plan : List ℕ) (told : FileFault) : Type 0 where
+  in_the_task : IsTaskFault domain problem told → IsFileFault domain problem plan told
+  in_the_plan : (task : Task) → IsTaskOf domain problem task → IsPlanFault task plan told.fault → told.file ≡ the_plan
+      → IsFileFault domain problem plan told
+
+-- the three texts are this task and these steps
+pub record AreRead (domain problem plan : List ℕ) (task : Task) (steps : List Instance) : Type 0 where
+  pub is_task : IsTaskOf domain problem task
+  pub is_plan : IsPlanText task plan steps
+
+-- the verdict that is true of the three texts: of the plan, in the task
+pub record IsVerdictOf (domain problem plan : List ℕ) (verdict : Verdict) : Type 0 where
+  pub task : Task
+  pub steps : List Instance
+  pub are_read : AreRead domain problem plan task steps
+  pub is_true : IsVerdict (system_of task) steps verdict

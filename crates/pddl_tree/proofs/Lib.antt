@@ -1,0 +1,6 @@
+pub mod Here
+pub mod Looks
+pub mod ReadOn
+pub mod Rows
+pub mod SectionLooks
+pub mod Told

@@ -1,0 +1,34 @@
+-- The files, faults and verdicts of the code, in the model's terms.
+use Rattle.std.specs.Prelude.{Option, None, Some}
+use Rattle.std.specs.Option.{option_map}
+use Rattle.tokens.specs.Fault.{number_of}
+use Rattle.validator.specs.declared.typing.TaskFault.{TaskFault}
+use Rattle.validator.specs.declared.typing.TaskFault.TheVariants as typing
+use Rattle.validator.specs.Typing.{file_of}
+use Rattle.planner_main.specs.declared.task_file.File.{File}
+use Rattle.planner_main.specs.declared.task_file.File.TheVariants.{Domain, Problem, Plan}
+use Rattle.planner_main.specs.declared.task_file.FileFault.{FileFault}
+use Rattle.planner_main.specs.declared.task_file.FileFault.TheVariants.{At, NoMemory}
+use Rattle.model.specs.Fault as told
+use Rattle.model.specs.Files as model
+
+abbrev pub file_view : File → model.File
+file_view Domain = model.the_domain
+file_view Problem = model.the_problem
+file_view Plan = model.the_plan
+
+-- the fault that is told of the files, and None where it is want of memory
+abbrev pub told_in : FileFault → Option model.FileFault
+told_in (At file code span) =
+    Some (record { file = file_view file; fault = record { code = number_of code; span = record { start = span.start; end = span.end } } })
+told_in NoMemory = None
+
+-- what is told of this file
+abbrev pub in_file : File → Option told.Fault → Option model.FileFault
+in_file file = option_map (λ (fault : told.Fault). record { file = file_view file; fault = fault })
+
+-- what the fault of a pair tells of its files
+abbrev pub told_of_pair : TaskFault → Option model.FileFault
+told_of_pair (typing.At file code span) =
+    Some (record { file = model.file_of (file_of file); fault = record { code = number_of code; span = record { start = span.start; end = span.end } } })
+told_of_pair typing.NoMemory = None
