@@ -1,7 +1,10 @@
 //! From the bytes of a domain file and a problem file to a cheapest plan.
-ghost use Rattle.std.specs.Prelude.{IfOk};
+ghost use Rattle.std.specs.Prelude.{◌≡◌, IfOk, IfErr, IfSome, None};
 ghost use Rattle.validator.specs.Typing.{task_of};
 ghost use Rattle.solver.specs.Solver.{IsTrueAnswer};
+ghost use Rattle.planner_main.specs.Files.{told_in};
+ghost use Rattle.model.specs.Task as model;
+ghost use Rattle.model.specs.Files.{IsTaskOf, IsTaskFault};
 
 mod text;
 
@@ -29,7 +32,13 @@ pub fn solve_files(
     problem: &[u8],
     limits: Limits,
 ) -> Result<Solved, FileFault>
-    ensures { IfOk result (λ s. IsTrueAnswer (task_of s.task) limits.states limits.instances s.answer) }
+    // The task is that of the two texts, and the answer is true of it.
+    ensures task { IfOk result (λ s. IsTaskOf domain.now problem.now (task_of s.task)) }
+    ensures answer { IfOk result (λ s. IsTrueAnswer (task_of s.task) limits.states limits.instances s.answer) }
+    ensures refused { IfErr result (λ fault. IfSome (told_in fault) (IsTaskFault domain.now problem.now)) }
+
+    // Where the two are a task, there is an answer: the only error is want of memory.
+    ensures taken { (task : model.Task) → IsTaskOf domain.now problem.now task → IfErr result (λ fault. told_in fault ≡ None) }
 {
     let task = read_task(alloc, domain, problem)?;
     let answer = solve(alloc, &task, limits)?;
