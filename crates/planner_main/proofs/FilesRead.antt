@@ -98,8 +98,8 @@ module _ (domain problem : List ℕ) where
   pub none_told : (plan : List ℕ) (o : Option FileFault) → IfSome o (IsFileFault domain problem plan) → (task : Task) (steps : List Instance) → AreRead domain problem plan task steps → o ≡ None
   none_told plan o h task steps are = told_none_in (IsFileFault domain problem plan) o h (λ told. no_file_fault plan task steps told are)
 
-  pub no_task_told : (o : Option FileFault) → IfSome o (IsTaskFault domain problem) → (task : Task) → IsTaskOf domain problem task → o ≡ None
-  no_task_told o h task is = told_none_in (IsTaskFault domain problem) o h (λ told. no_task_fault task told is)
+  pub none_told_of_task : (o : Option FileFault) → IfSome o (IsTaskFault domain problem) → (task : Task) → IsTaskOf domain problem task → o ≡ None
+  none_told_of_task o h task is = told_none_in (IsTaskFault domain problem) o h (λ told. no_task_fault task told is)
 
   pub domain_told : (o : Option Fault) → IfSome o (IsTextFault domain_file domain) → IfSome (option_map (λ (f : Fault). let t : FileFault = record { file = the_domain; fault = f } in t) o) (IsTaskFault domain problem)
   domain_told None h = tt

@@ -32,6 +32,7 @@ pub fn solve_files(
     problem: &[u8],
     limits: Limits,
 ) -> Result<Solved, FileFault>
+    // The task is that of the two texts, and the answer is true of it.
     ensures task { IfOk result (λ s. IsTaskOf domain.now problem.now (task_of s.task)) }
     ensures answer { IfOk result (λ s. IsTrueAnswer (task_of s.task) limits.states limits.instances s.answer) }
     ensures refused { IfErr result (λ fault. IfSome (told_in fault) (IsTaskFault domain.now problem.now)) }
