@@ -1,4 +1,4 @@
-use Rattle.std.proofs.Common.{rules, ◌∙◌, ap, sym, map}
+use Rattle.std.proofs.Common.{rules, ◌∙◌, ap, sym}
 use Rattle.std.specs.List.{list_all}
 use Rattle.validator.specs.Typing.{task_of}
 use Rattle.validator.specs.Formulas.{instance_of}
