@@ -101,6 +101,13 @@ fn tells_the_verdict(rt: HostRuntime) -> Result<(), Fail> {
             12,
             "goal missed\n",
         ),
+        (
+            PATH_DOMAIN,
+            PATH_PROBLEM,
+            "(go a b) ; \u{e9} (\n\t( Go\nb ;)\r\n C )",
+            0,
+            "valid cost 2\n",
+        ),
         (PATH_DOMAIN, PATH_PROBLEM, "; nothing", 12, "goal missed\n"),
         (
             PATH_DOMAIN,
@@ -236,6 +243,72 @@ fn tells_the_first_fault(rt: HostRuntime) -> Result<(), Fail> {
             PATH_PROBLEM,
             "(go a\u{e9})",
             "fault 30 PlanForm in plan at 5..6\n",
+        ),
+        (
+            PATH_DOMAIN,
+            PATH_PROBLEM,
+            "\u{1}(go a b)",
+            "fault 30 PlanForm in plan at 0..1\n",
+        ),
+        (
+            PATH_DOMAIN,
+            PATH_PROBLEM,
+            ") (go a b)",
+            "fault 30 PlanForm in plan at 0..1\n",
+        ),
+        (
+            PATH_DOMAIN,
+            PATH_PROBLEM,
+            "(go a b)go",
+            "fault 30 PlanForm in plan at 8..10\n",
+        ),
+        (
+            PATH_DOMAIN,
+            PATH_PROBLEM,
+            "((go a b)",
+            "fault 30 PlanForm in plan at 1..2\n",
+        ),
+        (
+            PATH_DOMAIN,
+            PATH_PROBLEM,
+            "(?x a)",
+            "fault 30 PlanForm in plan at 1..3\n",
+        ),
+        (
+            PATH_DOMAIN,
+            PATH_PROBLEM,
+            "(",
+            "fault 30 PlanForm in plan at 1..1\n",
+        ),
+        (
+            PATH_DOMAIN,
+            PATH_PROBLEM,
+            "(go a ; b)",
+            "fault 30 PlanForm in plan at 10..10\n",
+        ),
+        (
+            PATH_DOMAIN,
+            PATH_PROBLEM,
+            "(go d e)",
+            "fault 34 StepType in plan at 4..5\n",
+        ),
+        (
+            PATH_DOMAIN,
+            PATH_PROBLEM,
+            "(go a d)(stop)",
+            "fault 34 StepType in plan at 6..7\n",
+        ),
+        (
+            PATH_DOMAIN,
+            PATH_PROBLEM,
+            "(GO a)(stop)",
+            "fault 33 StepArity in plan at 1..3\n",
+        ),
+        (
+            PATH_DOMAIN,
+            PATH_PROBLEM,
+            "(a a b)",
+            "fault 32 UnknownAction in plan at 1..2\n",
         ),
     ] {
         let mut files = files_of(alloc, domain, problem, plan)?;
