@@ -6,7 +6,7 @@ use Rattle.model.specs.Trees.{Name, Term, Atom, Formula, Formulas, Effect, Effec
 use Rattle.model.specs.Trees as tree
 use Rattle.model.specs.GrammarWords.{Token, opens, closes, name, variable, keyword, other, free, reserved, define, domain, problem, and, not, left_out_name, other_reserved, Keyword, domain_keyword, requirements, predicates, action, objects, init, goal, parameters, precondition, effect, requirement_key, left_out_keyword}
 use Rattle.model.specs.Grammar.{Parts, parts, no_parts, action_from, DomainSections, domain_sections, no_domain_sections, ProblemSections, problem_sections, no_problem_sections}
-use Rattle.model.specs.Refusals.{File, domain_file, problem_file, is_full}
+use Rattle.model.specs.Refusals.{File, domain_file, problem_file, is_full, number_of_keyword}
 
 pub data Tree : Type 0 where
   domain_tree : Domain → Tree
@@ -85,11 +85,6 @@ by_word (name (reserved other_reserved) n) = 7
 by_word (variable n) = 7
 by_word (keyword k) = 7
 by_word other = 7
-
--- the code of a keyword that is no section or part where one is wanted
-abbrev pub by_keyword : Keyword → ℕ
-by_keyword left_out_keyword = 12
-by_keyword _ = 8
 
 abbrev pub part_of : Keyword → Option Part
 part_of parameters = Some parameter_part
@@ -213,15 +208,15 @@ close_problem n _ = refuse 10
 
 -- a keyword where that of a part, or of a section, is wanted
 abbrev pub keyword_in_action : Name → Parts → (Action → State) → Keyword → Option Part → Step
-keyword_in_action n p k word None = refuse (by_keyword word)
+keyword_in_action n p k word None = refuse (number_of_keyword word)
 keyword_in_action n p k word (Some part) = cond (has_part p part) (refuse 9) (go (wants_value n part p k))
 
 abbrev pub keyword_in_domain : Name → DomainSections → Keyword → Option DomainSection → Step
-keyword_in_domain n s word None = refuse (by_keyword word)
+keyword_in_domain n s word None = refuse (number_of_keyword word)
 keyword_in_domain n s word (Some section) = cond (has_domain_section s section) (refuse 9) (go (after_domain_keyword n section s))
 
 abbrev pub keyword_in_problem : Name → ProblemSections → Keyword → Option ProblemSection → Step
-keyword_in_problem n s word None = refuse (by_keyword word)
+keyword_in_problem n s word None = refuse (number_of_keyword word)
 keyword_in_problem n s word (Some section) = cond (has_problem_section s section) (refuse 9) (go (after_problem_keyword n section s))
 
 -- a keyword where the value of a part is wanted

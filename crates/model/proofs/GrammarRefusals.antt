@@ -1,15 +1,16 @@
 -- Where the machine stops, the words are refused: no file begins with the words up to that one, or the words run out.
 use Rattle.std.proofs.Common.{◌≡◌, ℕ, zero, suc, List, [], ◌∷◌, ◌++◌, drop, Option, Some, None, refl, sym, ◌∙◌, ap, subst}
 use Rattle.std.specs.Prelude.{slice_get}
-use Rattle.std.proofs.lemmas.List.{map-append}
+use Rattle.std.proofs.lemmas.List.{map-append, append_assoc}
 use Rattle.model.specs.Fault.{Span}
 use Rattle.model.specs.Words.{Word, end_of}
 use Rattle.model.specs.GrammarWords.{Token, token_of}
-use Rattle.model.specs.Refusals.{File, domain_file, problem_file, IsWhole, tokens_of, end_of_all, IsRefused, at_word, at_end}
+use Rattle.model.specs.Refusals.{File, domain_file, problem_file, IsWhole, Begins, tokens_of, end_of_all, IsRefused, at_word, at_end}
 use Rattle.model.proofs.GrammarMachine.{State, wants_nothing, Tree, domain_tree, problem_tree, Step, go, refuse, step, finished, stopped, follow, run, start}
 use Rattle.model.proofs.GrammarRuns.{domain_run, problem_run}
 use Rattle.model.proofs.GrammarStops.{dead_domain, dead_problem}
-use Rattle.model.proofs.GrammarTold.{true_of}
+use Rattle.model.proofs.GrammarTold.{stops_in, ends_in, true_of}
+use Rattle.model.proofs.GrammarBegins.{begins}
 
 -- what finished did not stop
 apart : {t : Tree} {code : ℕ} {w : List Token} → finished t ≡ stopped code w → ⊥
@@ -20,24 +21,13 @@ pub whole_run : (file : File) (w : List Token) → IsWhole file w → (t : Tree)
 whole_run domain_file w h = (domain_tree h.0, domain_run h.1)
 whole_run problem_file w h = (problem_tree h.0, problem_run h.1)
 
-pub dead : (file : File) (before : List Token) (t : Token) (after : List Token) (code : ℕ) → run (before ++ t ∷ after) (start file) ≡ stopped code (t ∷ after) → (rest : List Token) → IsWhole file (before ++ t ∷ rest) → ⊥
-dead domain_file before t after code e rest h = dead_domain before t after code e rest h.0 h.1
-dead problem_file before t after code e rest h = dead_problem before t after code e rest h.0 h.1
-
--- after a whole file nothing is taken
-full : (v : List Token) (t : Tree) (code : ℕ) → run v (wants_nothing t) ≡ stopped code [] → ⊥
-full [] t code e = apart e
-full (x ∷ v) t code e = absurd (cc)
-
--- words that begin with a whole file don't run out
-ran_out : (w v : List Token) (s : State) (t : Tree) (code : ℕ) → run w s ≡ finished t → run (w ++ v) s ≡ stopped code [] → ⊥
-ran_out [] v (wants_nothing u) t code e h = full v u code h
-ran_out [] v s t code e h = absurd (cc)
-ran_out (x ∷ w) v s t code e h = by_step (λ u. ran_out w v u t code) (step s x) e h
+-- no file begins with words that the machine stops at
+dead : (file : File) (before : List Token) (t : Token) (after : List Token) (code : ℕ) → run (before ++ t ∷ after) (start file) ≡ stopped code (t ∷ after) → Begins file (before ++ t ∷ []) → ⊥
+dead file before t after code e h = by_file file e (subst (IsWhole file) (append_assoc before (t ∷ []) h.0) h.1)
   where
-    by_step : ((u : State) → run w u ≡ finished t → run (w ++ v) u ≡ stopped code [] → ⊥) → (y : Step) → follow y (run w) (x ∷ w) ≡ finished t → follow y (run (w ++ v)) (x ∷ w ++ v) ≡ stopped code [] → ⊥
-    by_step again (go u) e h = again u e h
-    by_step again (refuse c) e h = absurd (cc)
+    by_file : (f : File) → run (before ++ t ∷ after) (start f) ≡ stopped code (t ∷ after) → IsWhole f (before ++ t ∷ h.0) → ⊥
+    by_file domain_file e whole = dead_domain before t after code e h.0 whole.0 whole.1
+    by_file problem_file e whole = dead_problem before t after code e h.0 whole.0 whole.1
 
 -- the number that is told where words run out
 ended_by : (w : List Token) (s : State) (code : ℕ) → run w s ≡ stopped code [] → code ≡ 7
@@ -76,14 +66,13 @@ refused_word : (file : File) (words before after : List Word) (word : Word) (cod
 refused_word file words before after word code split e =
     let tokens : tokens_of words ≡ tokens_of before ++ token_of word ∷ tokens_of after = ap tokens_of split ∙ map-append token_of before (word ∷ after) in
     let runs : run (tokens_of before ++ token_of word ∷ tokens_of after) (start file) ≡ stopped code (token_of word ∷ tokens_of after) = ap (λ w. run w (start file)) (sym tokens) ∙ e in
-    at_word before after word split (dead file (tokens_of before) (token_of word) (tokens_of after) code runs) (true_of file (tokens_of before) (token_of word) (tokens_of after) code runs) refl
+    let stop = stops_in file (tokens_of before) (token_of word) (tokens_of after) code runs in
+    at_word before after word split (begins file stop.0 (tokens_of before) stop.1) (dead file (tokens_of before) (token_of word) (tokens_of after) code runs) (true_of file (tokens_of before) (token_of word) (tokens_of after) code runs) refl
 
 refused_end : (file : File) (words : List Word) (code : ℕ) → run (tokens_of words) (start file) ≡ stopped code [] → IsRefused file words (record { code = code; span = record { start = end_of_all words; end = end_of_all words } })
 refused_end file words code e =
-    at_end (λ before after split whole.
-    let runs = whole_run file (tokens_of before) whole in
-    let tokens : tokens_of words ≡ tokens_of before ++ tokens_of after = ap tokens_of split ∙ map-append token_of before after in
-    ran_out (tokens_of before) (tokens_of after) (start file) runs.0 code runs.1 (ap (λ w. run w (start file)) (sym tokens) ∙ e)) (ended_by (tokens_of words) (start file) code e) refl
+    let stop = ends_in file (tokens_of words) code e in
+    at_end (begins file stop.0 (tokens_of words) stop.1) (λ whole. let runs = whole_run file (tokens_of words) whole in let ends = runs.1 in apart (sym ends ∙ e)) (ended_by (tokens_of words) (start file) code e) refl
 
 -- what the machine stops at is refused
 pub refused_at : (file : File) (words : List Word) (code place : ℕ) → run (tokens_of words) (start file) ≡ stopped code (drop place (tokens_of words)) → IsRefused file words (record { code = code; span = span_of_place words place })

@@ -1,10 +1,10 @@
 -- What the machine tells of words that it stops at is true of them.
-use Rattle.std.proofs.Common.{◌≡◌, ℕ, suc, ◌+◌, ◌⊎◌, inl, inr, Bool, true, false, cond, ◌||◌, List, [], ◌∷◌, ◌++◌, length, Option, None, Some, refl, sym, ◌∙◌, ap, subst, arith, length-append}
+use Rattle.std.proofs.Common.{◌≡◌, ℕ, suc, ◌+◌, ◌⊎◌, inl, inr, Bool, true, false, cond, ◌||◌, List, [], ◌∷◌, ◌++◌, length, Option, None, Some, unwrap_or, refl, sym, ◌∙◌, ap, subst, arith, length-append}
 use Rattle.std.proofs.lemmas.List.{append_assoc, append-nil}
 use Rattle.model.specs.Trees.{Name, Term, Formula, Formulas, Effect, Effects, Predicate, Action, Fact}
 use Rattle.model.specs.Trees as tree
 use Rattle.model.specs.GrammarWords.{Token, opens, closes, name, variable, keyword, other, Label, FreeName, free, reserved, and, not, define, domain, problem, left_out_name, other_reserved, Keyword, domain_keyword, requirements, predicates, action, objects, init, goal, parameters, precondition, effect, requirement_key}
-use Rattle.model.specs.Grammar.{AreNames, no_name, more_names, AreVariables, no_variable, more_variables, AreTerms, no_term, object_first, variable_first, IsFormula, atom, conjunction, AreFormulas, no_formula, more_formulas, IsEffect, add, delete, both, AreEffects, no_effect, more_effects, Parts, parts, no_parts, IsPart, AreParts, no_part, more_parts, IsAction, whole_action, action_from, ArePredicates, no_predicate, more_predicates, AreKeys, no_key, more_keys, DomainSections, domain_sections, no_domain_sections, IsDomainSection, domain_requirements, declared_predicates, one_action, no_domain_section, more_domain_sections, AreFacts, no_fact, more_facts, ProblemSections, problem_sections, no_problem_sections, IsProblemSection, domain_name, problem_requirements, object_list, initial_facts, goal_formula, no_problem_section, more_problem_sections}
+use Rattle.model.specs.Grammar.{AreNames, no_name, more_names, AreVariables, no_variable, more_variables, AreTerms, no_term, object_first, variable_first, IsFormula, atom, conjunction, AreFormulas, no_formula, more_formulas, IsEffect, add, delete, both, AreEffects, no_effect, more_effects, Parts, parts, no_parts, IsPart, AreParts, no_part, more_parts, IsAction, whole_action, action_from, ArePredicates, no_predicate, more_predicates, AreKeys, no_key, more_keys, DomainSections, domain_sections, no_domain_sections, IsDomainSection, domain_requirements, declared_predicates, one_action, no_domain_section, more_domain_sections, AreFacts, no_fact, more_facts, ProblemSections, problem_sections, no_problem_sections, IsProblemSection, domain_name, problem_requirements, object_list, initial_facts, goal_formula, no_problem_section, more_problem_sections, whole_domain, whole_problem}
 use Rattle.model.specs.Refusals.{File, domain_file, problem_file, IsWhole, tokens_of, InDomain, in_domain, InProblem, in_problem, InAction, in_action, stands_in_action, is_full, is_complete, is_requirement, number_of_keyword, IsLine, unknown_in_domain, unknown_in_problem, unknown_in_action, repeated_in_domain, repeated_in_problem, repeated_in_action, repeated_at_once, repeated_at_value, missing_define, missing_kind, missing_in_domain, missing_in_problem, missing_name, missing_in_action, missing_after_precondition, missing_after_effect, unknown_key_in_domain, unknown_key_in_problem, left_out_form, IsTrueOf}
 use Rattle.model.specs.Refusals as refusals
 use Rattle.model.proofs.GrammarMachine.{State, wants_open, wants_close, wants_name, wants_names, wants_variables, wants_terms, wants_formulas, wants_effects, wants_predicates, wants_facts, wants_keys, wants_formula, wants_effect, wants_atom, wants_predicate, wants_fact, wants_action, wants_parts, wants_value, wants_domain_sections, wants_domain_section, wants_problem_sections, wants_problem_section, wants_define, wants_head, wants_kind, wants_nothing, Step, go, refuse, step, stopped, follow, run, start, Part, parameter_part, precondition_part, effect_part, has_part, is_part, set_parameters, set_precondition, set_effect, atom_from, by_word}
@@ -14,7 +14,7 @@ use Rattle.model.proofs.GrammarFrames.{names_framed, variables_framed, terms_fra
 use Rattle.model.proofs.GrammarLines.{is_left_out, line_stops, line_not_seven}
 
 -- the number that is told of a word after these words is that of a line that is true of it, or 7
-abbrev Told : File → List Token → Token → ℕ → Type 0
+abbrev pub Told : File → List Token → Token → ℕ → Type 0
 Told file b t code = IsLine file b t code ⊎ ((code ≡ 7) × (is_left_out t ≡ false))
 
 -- where no rule on the word's place speaks
@@ -36,38 +36,38 @@ keyword_of precondition_part = precondition
 keyword_of effect_part = effect
 
 -- Where a file's own words stand: what was read before them
-data AtDomain : File → List Token → DomainSections → Type 0 where
+pub data AtDomain : File → List Token → DomainSections → Type 0 where
   at_domain : {b : List Token} {s : DomainSections} → InDomain b s → AtDomain domain_file b s
 
-data AtDomainSection : File → List Token → DomainSections → Type 0 where
+pub data AtDomainSection : File → List Token → DomainSections → Type 0 where
   at_domain_section : {b : List Token} {s : DomainSections} → InDomain b s → AtDomainSection domain_file (b ++ opens ∷ []) s
 
-data AtProblem : File → List Token → ProblemSections → Type 0 where
+pub data AtProblem : File → List Token → ProblemSections → Type 0 where
   at_problem : {b : List Token} {s : ProblemSections} → InProblem b s → AtProblem problem_file b s
 
-data AtProblemSection : File → List Token → ProblemSections → Type 0 where
+pub data AtProblemSection : File → List Token → ProblemSections → Type 0 where
   at_problem_section : {b : List Token} {s : ProblemSections} → InProblem b s → is_full s ≡ false → AtProblemSection problem_file (b ++ opens ∷ []) s
 
-data AtAction : File → List Token → Type 0 where
+pub data AtAction : File → List Token → Type 0 where
   at_action : {b : List Token} {s : DomainSections} → InDomain b s → AtAction domain_file (b ++ opens ∷ keyword action ∷ [])
 
-data AtParts : File → List Token → Parts → Type 0 where
+pub data AtParts : File → List Token → Parts → Type 0 where
   at_parts : {b : List Token} {p : Parts} → InAction b p → AtParts domain_file b p
 
-data AtValue : File → List Token → Part → Parts → Type 0 where
+pub data AtValue : File → List Token → Part → Parts → Type 0 where
   at_value : {b : List Token} {p : Parts} (part : Part) → InAction b p → has_part p part ≡ false → AtValue domain_file (b ++ keyword (keyword_of part) ∷ []) part p
 
-data AtHead : File → List Token → File → Type 0 where
+pub data AtHead : File → List Token → File → Type 0 where
   at_define : {file : File} → AtHead file (opens ∷ []) file
 
-data AtKind : File → List Token → File → Type 0 where
+pub data AtKind : File → List Token → File → Type 0 where
   after_define : {file : File} {m : Name} → AtKind file (opens ∷ name (free define) m ∷ []) file
 
-data AtName : File → List Token → File → Type 0 where
+pub data AtName : File → List Token → File → Type 0 where
   after_open : {file : File} {m : Name} → AtName file (opens ∷ name (free define) m ∷ opens ∷ []) file
 
 -- what stands before the words from a state on, and before those of the states after it
-abbrev Before : File → State → List Token → Type 0
+abbrev pub Before : File → State → List Token → Type 0
 Before file (wants_open s) b = Before file s (b ++ opens ∷ [])
 Before file (wants_close s) b = Before file s (b ++ closes ∷ [])
 Before file (wants_name k) b = (label : Label) (n : Name) → Before file (k n) (b ++ name label n ∷ [])
@@ -94,7 +94,7 @@ Before file (wants_problem_section n s) b = AtProblemSection file b s
 Before file (wants_define f) b = AtHead file b f
 Before file (wants_head f) b = AtKind file b f
 Before file (wants_kind f) b = AtName file b f
-Before file (wants_nothing t) b = Unit {0}
+Before file (wants_nothing t) b = IsWhole file b
 
 -- a step keeps what stands before, or what it tells is true
 abbrev Kept : File → List Token → Token → Step → Type 0
@@ -108,10 +108,10 @@ shift P b t w h = subst P (sym (append_assoc b (t ∷ []) w)) h
 shift_twice : (P : List Token → Type 0) (b : List Token) (t : Token) (w v : List Token) → P (b ++ t ∷ (w ++ v)) → P (((b ++ t ∷ []) ++ w) ++ v)
 shift_twice P b t w v h = subst P (sym (append_assoc (b ++ t ∷ []) w v)) (shift P b t (w ++ v) h)
 
-domain_grows : {b u : List Token} {s t : DomainSections} → InDomain b s → IsDomainSection u s t [] → InDomain (b ++ u) t
+pub domain_grows : {b u : List Token} {s t : DomainSections} → InDomain b s → IsDomainSection u s t [] → InDomain (b ++ u) t
 domain_grows {u = u} (in_domain d) h = in_domain (domain_sections_then (domain_sections_framed u d) (more_domain_sections h no_domain_section))
 
-problem_grows : {b u : List Token} {s t : ProblemSections} → InProblem b s → IsProblemSection u s t [] → InProblem (b ++ u) t
+pub problem_grows : {b u : List Token} {s t : ProblemSections} → InProblem b s → IsProblemSection u s t [] → InProblem (b ++ u) t
 problem_grows {u = u} (in_problem d) h = in_problem (problem_sections_then (problem_sections_framed u d) (more_problem_sections h no_problem_section))
 
 action_grows : {b u : List Token} {p q : Parts} → InAction b p → IsPart u p q [] → InAction (b ++ u) q
@@ -119,12 +119,12 @@ action_grows {u = u} {q = q} (in_action label n {v = v} {w = w} h d) e =
     subst (λ (x : List Token). InAction x q) (sym (append_assoc v (opens ∷ keyword action ∷ name label n ∷ w) u)) (in_action label n h (parts_then (parts_framed u d) (more_parts e no_part)))
 
 -- a section after its first two words
-section_grows : {file : File} {b : List Token} {s t : DomainSections} (k : Keyword) (w : List Token) → AtDomainSection file b s → IsDomainSection (opens ∷ keyword k ∷ w) s t [] → AtDomain file ((b ++ keyword k ∷ []) ++ w) t
+pub section_grows : {file : File} {b : List Token} {s t : DomainSections} (k : Keyword) (w : List Token) → AtDomainSection file b s → IsDomainSection (opens ∷ keyword k ∷ w) s t [] → AtDomain file ((b ++ keyword k ∷ []) ++ w) t
 section_grows {t = t} k w (at_domain_section {b = b} h) d =
     let P : List Token → Type 0 = λ x. AtDomain domain_file x t in
     shift P (b ++ opens ∷ []) (keyword k) w (shift P b opens (keyword k ∷ w) (at_domain (domain_grows h d)))
 
-problem_section_grows : {file : File} {b : List Token} {s t : ProblemSections} (k : Keyword) (w : List Token) → AtProblemSection file b s → IsProblemSection (opens ∷ keyword k ∷ w) s t [] → AtProblem file ((b ++ keyword k ∷ []) ++ w) t
+pub problem_section_grows : {file : File} {b : List Token} {s t : ProblemSections} (k : Keyword) (w : List Token) → AtProblemSection file b s → IsProblemSection (opens ∷ keyword k ∷ w) s t [] → AtProblem file ((b ++ keyword k ∷ []) ++ w) t
 problem_section_grows {t = t} k w (at_problem_section {b = b} h room) d =
     let P : List Token → Type 0 = λ x. AtProblem problem_file x t in
     shift P (b ++ opens ∷ []) (keyword k) w (shift P b opens (keyword k ∷ w) (at_problem (problem_grows h d)))
@@ -134,20 +134,20 @@ part_grows {q = q} w (at_value {b = b} part h new) d =
     let P : List Token → Type 0 = λ x. AtParts domain_file x q in
     shift P b (keyword (keyword_of part)) w (at_parts (action_grows h d))
 
-new_of : {file : File} {b : List Token} {part : Part} {p : Parts} → AtValue file b part p → has_part p part ≡ false
+pub new_of : {file : File} {b : List Token} {part : Part} {p : Parts} → AtValue file b part p → has_part p part ≡ false
 new_of (at_value part h new) = new
 
 -- the words of a file's own lists
-domain_named : {file : File} {b : List Token} (j : Name) (label : Label) (n : Name) → AtName file b domain_file → AtDomain file (((b ++ name (free domain) j ∷ []) ++ name label n ∷ []) ++ closes ∷ []) no_domain_sections
+pub domain_named : {file : File} {b : List Token} (j : Name) (label : Label) (n : Name) → AtName file b domain_file → AtDomain file (((b ++ name (free domain) j ∷ []) ++ name label n ∷ []) ++ closes ∷ []) no_domain_sections
 domain_named j label n after_open = at_domain (in_domain no_domain_section)
 
-problem_named : {file : File} {b : List Token} (j : Name) (label : Label) (n : Name) → AtName file b problem_file → AtProblem file (((b ++ name (free problem) j ∷ []) ++ name label n ∷ []) ++ closes ∷ []) no_problem_sections
+pub problem_named : {file : File} {b : List Token} (j : Name) (label : Label) (n : Name) → AtName file b problem_file → AtProblem file (((b ++ name (free problem) j ∷ []) ++ name label n ∷ []) ++ closes ∷ []) no_problem_sections
 problem_named j label n after_open = at_problem (in_problem no_problem_section)
 
-defined : {file f : File} {b : List Token} (m : Name) → AtHead file b f → AtKind file (b ++ name (free define) m ∷ []) f
+pub defined : {file f : File} {b : List Token} (m : Name) → AtHead file b f → AtKind file (b ++ name (free define) m ∷ []) f
 defined m at_define = after_define
 
-head_opened : {file f : File} {b : List Token} → AtKind file b f → AtName file (b ++ opens ∷ []) f
+pub head_opened : {file f : File} {b : List Token} → AtKind file b f → AtName file (b ++ opens ∷ []) f
 head_opened after_define = after_open
 
 no_define : {file f : File} {b : List Token} → AtHead file b f → Told file b closes 10
@@ -159,6 +159,10 @@ no_kind after_define = inl missing_kind
 -- the words of a domain's list
 section_opened : {file : File} {b : List Token} {s : DomainSections} → AtDomain file b s → AtDomainSection file (b ++ opens ∷ []) s
 section_opened (at_domain h) = at_domain_section h
+
+pub domain_closed : {file : File} {b : List Token} {q : Bool} {ps : List Predicate} {found : List Action} → AtDomain file b (domain_sections q (Some ps) found) → IsWhole file (b ++ closes ∷ [])
+domain_closed {ps = ps} {found = found} (at_domain (in_domain {n = n} d)) =
+    (record { name = n; predicates = ps; actions = found }, whole_domain (domain_sections_framed (closes ∷ []) d))
 
 no_predicates : {file : File} {b : List Token} {q : Bool} {found : List Action} → AtDomain file b (domain_sections q None found) → Told file b closes 10
 no_predicates (at_domain h) = inl (missing_in_domain h)
@@ -190,6 +194,10 @@ problem_opened : (file : File) (b : List Token) (n : Name) (s : ProblemSections)
 problem_opened file b n s h true e = inr (refl, refl)
 problem_opened domain_file b n s h false e = elim h [ ]
 problem_opened problem_file b n s (at_problem h) false e = at_problem_section h e
+
+pub problem_closed : {file : File} {b : List Token} {d : Name} {q : Bool} {o : Option (List Name)} {fs : List Fact} {g : Formula} → AtProblem file b (problem_sections (Some d) q o (Some fs) (Some g)) → IsWhole file (b ++ closes ∷ [])
+problem_closed {d = d} {o = o} {fs = fs} {g = g} (at_problem (in_problem {n = n} h)) =
+    (record { name = n; domain = d; objects = unwrap_or o []; init = fs; goal = g }, whole_problem (problem_sections_framed (closes ∷ []) h))
 
 no_required : {file : File} {b : List Token} {s : ProblemSections} → AtProblem file b s → is_complete s ≡ false → Told file b closes 10
 no_required (at_problem h) e = inl (missing_in_problem h e)
@@ -316,7 +324,7 @@ one file (wants_value n part p k) b (keyword precondition) i = value_word p prec
 one file (wants_value n part p k) b (keyword effect) i = value_word p effect_part i.0
 one file (wants_value n part p k) b (keyword j) i = inr (refl, refl)
 one file (wants_domain_sections n s) b opens i = section_opened i
-one file (wants_domain_sections n (domain_sections q (Some ps) found)) b closes i = tt
+one file (wants_domain_sections n (domain_sections q (Some ps) found)) b closes i = domain_closed i
 one file (wants_domain_sections n (domain_sections q None found)) b closes i = no_predicates i
 one file (wants_domain_section n (domain_sections true p found)) b (keyword requirements) i = repeated_domain requirements i refl
 one file (wants_domain_section n (domain_sections false p found)) b (keyword requirements) i = (λ w d. section_grows requirements w i (domain_requirements d), λ w k d e. domain_key w k i d e)
@@ -325,7 +333,7 @@ one file (wants_domain_section n (domain_sections q None found)) b (keyword pred
 one file (wants_domain_section n (domain_sections q p found)) b (keyword action) i = (action_opened i, λ a w d. section_grows action w i (one_action d))
 one file (wants_domain_section n s) b (keyword k) i = unknown_domain k i refl
 one file (wants_problem_sections n s) b opens i = problem_opened file b n s i (is_full s) refl
-one file (wants_problem_sections n (problem_sections (Some d) q o (Some fs) (Some g))) b closes i = tt
+one file (wants_problem_sections n (problem_sections (Some d) q o (Some fs) (Some g))) b closes i = problem_closed i
 one file (wants_problem_sections n s) b closes i = no_required i refl
 one file (wants_problem_section n (problem_sections (Some d) q o fs g)) b (keyword domain_keyword) i = repeated_problem domain_keyword i refl
 one file (wants_problem_section n (problem_sections None q o fs g)) b (keyword domain_keyword) i =
@@ -350,24 +358,42 @@ one file (wants_kind domain_file) b t i = by_default file b t
 one file (wants_kind problem_file) b t i = by_default file b t
 one file s b t i = by_default file b t
 
--- what is told of the word that the machine stops at is true of it
-told_walk : (file : File) (w : List Token) (s : State) (b : List Token) (t : Token) (after : List Token) (code : ℕ) → Before file s b → run (w ++ t ∷ after) s ≡ stopped code (t ∷ after) → Told file (b ++ w) t code
-told_walk file [] s b t after code i e = subst (λ x. Told file x t code) (sym (append-nil b)) (by_step (step s t) (one file s b t i) e)
+-- where the machine stops at a word: the state that it is in, with what stands before, and what is told of the word
+abbrev AtStop : File → List Token → Token → ℕ → Type 0
+AtStop file b t code = (s : State) × Before file s b × Told file b t code
+
+stop_walk : (file : File) (w : List Token) (s : State) (b : List Token) (t : Token) (after : List Token) (code : ℕ) → Before file s b → run (w ++ t ∷ after) s ≡ stopped code (t ∷ after) → AtStop file (b ++ w) t code
+stop_walk file [] s b t after code i e = subst (λ x. AtStop file x t code) (sym (append-nil b)) (s, i, by_step (step s t) (one file s b t i) e)
   where
     by_step : (x : Step) → Kept file b t x → follow x (run after) (t ∷ after) ≡ stopped code (t ∷ after) → Told file b t code
     by_step (go u) k h = absurd (let l = subst (λ o. LeftWithin o after) h (left_within after u) in omega arith)
     by_step (refuse c) k h = let same : c ≡ code = cc in subst (λ x. Told file b t x) same k
-told_walk file (x ∷ w) s b t after code i e = by_step (λ u k h. subst (λ y. Told file y t code) (append_assoc b (x ∷ []) w) (told_walk file w u (b ++ x ∷ []) t after code k h)) (step s x) (one file s b x i) e
+stop_walk file (x ∷ w) s b t after code i e = by_step (λ u k h. subst (λ y. AtStop file y t code) (append_assoc b (x ∷ []) w) (stop_walk file w u (b ++ x ∷ []) t after code k h)) (step s x) (one file s b x i) e
   where
-    by_step : ((u : State) → Before file u (b ++ x ∷ []) → run (w ++ t ∷ after) u ≡ stopped code (t ∷ after) → Told file (b ++ x ∷ w) t code) → (y : Step) → Kept file b x y → follow y (run (w ++ t ∷ after)) (x ∷ w ++ t ∷ after) ≡ stopped code (t ∷ after) → Told file (b ++ x ∷ w) t code
+    by_step : ((u : State) → Before file u (b ++ x ∷ []) → run (w ++ t ∷ after) u ≡ stopped code (t ∷ after) → AtStop file (b ++ x ∷ w) t code) → (y : Step) → Kept file b x y → follow y (run (w ++ t ∷ after)) (x ∷ w ++ t ∷ after) ≡ stopped code (t ∷ after) → AtStop file (b ++ x ∷ w) t code
     by_step again (go u) k h = again u k h
     by_step again (refuse c) k h =
         let same : x ∷ (w ++ t ∷ after) ≡ t ∷ after = cc in
         let l : suc (length w + suc (length after)) ≡ suc (length after) = simp length-append at (ap length same) in absurd (omega arith)
 
+pub stops_in : (file : File) (before : List Token) (t : Token) (after : List Token) (code : ℕ) → run (before ++ t ∷ after) (start file) ≡ stopped code (t ∷ after) → (s : State) × Before file s before × Told file before t code
+stops_in file before t after code e = stop_walk file before (start file) [] t after code at_define e
+
+-- where the words run out: the state that the machine is in, with what stands before
+end_walk : (file : File) (w : List Token) (s : State) (b : List Token) (code : ℕ) → Before file s b → run w s ≡ stopped code [] → (u : State) × Before file u (b ++ w)
+end_walk file [] s b code i e = (s, subst (Before file s) (sym (append-nil b)) i)
+end_walk file (x ∷ w) s b code i e = by_step (λ u k h. subst (λ y. (v : State) × Before file v y) (append_assoc b (x ∷ []) w) (end_walk file w u (b ++ x ∷ []) code k h)) (step s x) (one file s b x i) e
+  where
+    by_step : ((u : State) → Before file u (b ++ x ∷ []) → run w u ≡ stopped code [] → (v : State) × Before file v (b ++ x ∷ w)) → (y : Step) → Kept file b x y → follow y (run w) (x ∷ w) ≡ stopped code [] → (v : State) × Before file v (b ++ x ∷ w)
+    by_step again (go u) k h = again u k h
+    by_step again (refuse c) k h = absurd (cc)
+
+pub ends_in : (file : File) (w : List Token) (code : ℕ) → run w (start file) ≡ stopped code [] → (s : State) × Before file s w
+ends_in file w code e = end_walk file w (start file) [] code at_define e
+
 -- a line is true of the word that the machine stops at, or 7 is told and none is
 pub true_of : (file : File) (before : List Token) (t : Token) (after : List Token) (code : ℕ) → run (before ++ t ∷ after) (start file) ≡ stopped code (t ∷ after) → IsTrueOf file before t code
-true_of file before t after code e = by_told (told_walk file before (start file) [] t after code at_define e)
+true_of file before t after code e = let stop = stops_in file before t after code e in by_told stop.2
   where
     by_told : Told file before t code → IsTrueOf file before t code
     by_told (inl l) = inl l

@@ -9,7 +9,9 @@ pub mod GrammarStops
 pub mod GrammarFrames
 pub mod GrammarLines
 pub mod GrammarTold
+pub mod GrammarBegins
 pub mod GrammarRefusals
+pub mod GrammarOneRefusal
 pub mod StaticLemmas
 pub mod Steps
 pub mod ExampleProofs

@@ -16,6 +16,10 @@ abbrev pub IsWhole : File → List Token → Type 0
 IsWhole domain_file w = (d : Domain) × IsDomain w d
 IsWhole problem_file w = (p : Problem) × IsProblem w p
 
+-- a file of this kind begins with the words
+abbrev pub Begins : File → List Token → Type 0
+Begins file w = (rest : List Token) × IsWhole file (w ++ rest)
+
 abbrev pub tokens_of : List Word → List Token
 tokens_of words = map token_of words
 
@@ -131,11 +135,12 @@ end_of_all (word ∷ next ∷ words) = end_of_all (next ∷ words)
 
 -- what is told of words that are no file of this kind
 pub data IsRefused (file : File) (words : List Word) (fault : Fault) : Type 0 where
-  -- of a word: no file begins with the words up to it, however they go on, and the told line is true of it
+  -- of the first word with which no file goes on: one begins with the words before it, and none with these and it;
+  -- the told line is true of it
   at_word : (before after : List Word) (word : Word) → words ≡ before ++ word ∷ after
-      → ((rest : List Token) → IsWhole file (tokens_of before ++ token_of word ∷ rest) → ⊥)
+      → Begins file (tokens_of before) → (Begins file (tokens_of before ++ token_of word ∷ []) → ⊥)
       → IsTrueOf file (tokens_of before) (token_of word) fault.code
       → fault.span ≡ record { start = word.start; end = end_of word } → IsRefused file words fault
-  -- of the end of the last word: the words run out, and begin with no whole file
-  at_end : ((before after : List Word) → words ≡ before ++ after → IsWhole file (tokens_of before) → ⊥) → fault.code ≡ 7
+  -- of the end of the last word: the words run out, a file begins with them, and they are none
+  at_end : Begins file (tokens_of words) → (IsWhole file (tokens_of words) → ⊥) → fault.code ≡ 7
       → fault.span ≡ record { start = end_of_all words; end = end_of_all words } → IsRefused file words fault

@@ -7,7 +7,8 @@ use Rattle.model.specs.Fault as fault
 use Rattle.model.specs.Words.{Word}
 use Rattle.model.proofs.GrammarRefusals.{span_of_place}
 use Rattle.model.specs.GrammarWords.{Token, closes, keyword}
-use Rattle.model.proofs.GrammarMachine.{by_word, by_keyword}
+use Rattle.model.specs.Refusals.{number_of_keyword}
+use Rattle.model.proofs.GrammarMachine.{by_word}
 
 abbrev pub told : Refusal → Option (ℕ × ℕ)
 told (At code at) = Some (number_of code, at)
@@ -25,7 +26,7 @@ missing_code w = code_first w
 
 -- the same where the keyword of a section or part is wanted
 abbrev pub keyword_code_first : List Token → ℕ
-keyword_code_first (keyword k ∷ w) = by_keyword k
+keyword_code_first (keyword k ∷ w) = number_of_keyword k
 keyword_code_first w = code_first w
 
 -- what is told of these words

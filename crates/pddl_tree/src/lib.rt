@@ -15,5 +15,5 @@ mod symbol;
 mod tests;
 mod tree;
 
-pub use reader::{domain, one_reading, problem};
+pub use reader::{domain, one_fault, one_reading, problem};
 pub use tree::{Action, Atom, Domain, Effect, Fact, Formula, Name, Predicate, Problem, Term};

@@ -1,8 +1,10 @@
 //! From words to trees.
-ghost use Rattle.std.specs.Prelude.{◌≡◌, map, IfOk, IfErr, IfSome, None, Some, [], unwrap_or};
+ghost use Rattle.std.specs.Prelude.{◌≡◌, List, map, IfOk, IfErr, IfSome, None, Some, [], unwrap_or};
 ghost use Rattle.std.specs.Option.{option_map};
 ghost use Rattle.tokens.specs.Fault.{told_by};
 ghost use Rattle.tokens.specs.Word.{word_of};
+ghost use Rattle.model.specs.Fault as model;
+ghost use Rattle.model.specs.Words as text;
 ghost use Rattle.model.specs.Grammar.{EachIsOneDomain, EachIsOneProblem, IsDomain, IsProblem};
 ghost use Rattle.model.specs.Refusals.{File, domain_file, problem_file, tokens_of, IsWhole, IsRefused};
 ghost use Rattle.model.proofs.GrammarMachine.{run, start, finished, Tree, wants_nothing, domain_tree, problem_tree, at_sections};
@@ -70,6 +72,14 @@ pub fn problem<'a>(alloc: Global, words: &[Word<'a>]) -> Result<Problem<'a>, Fau
 pub fn one_reading()
     ensures domain { EachIsOneDomain }
     ensures problem { EachIsOneProblem }
+{}
+
+/// A law of refusals: at most one fault is told of words, and none of a whole file.
+pub fn one_fault()
+    ensures one { (file : File) (words : List text.Word) (fault other : model.Fault)
+        → IsRefused file words fault → IsRefused file words other → fault ≡ other }
+    ensures none { (file : File) (words : List text.Word) (fault : model.Fault)
+        → IsWhole file (tokens_of words) → IsRefused file words fault → ⊥ }
 {}
 
 /// What a refusal tells of the file.

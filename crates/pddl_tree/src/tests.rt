@@ -132,3 +132,9 @@ fn a_problem_has_its_tree(rt: HostRuntime) -> Result<(), Fail> {
     }
     Ok(())
 }
+
+#[test]
+fn laws_of_trees() {
+    one_reading();
+    one_fault();
+}

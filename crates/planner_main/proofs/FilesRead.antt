@@ -2,13 +2,11 @@
 use Rattle.std.proofs.Common.{◌≡◌, ℕ, List, [], ◌∷◌, Option, Some, None, IfSome, sym, refl, ap, ◌∙◌, subst}
 use Rattle.std.specs.Prelude.{Contains, Result, Ok, Err, IfErr}
 use Rattle.std.specs.Option.{option_map}
-use Rattle.std.proofs.lemmas.List.{map-append, append-nil}
 use Rattle.model.specs.Fault.{Fault}
 use Rattle.model.specs.Words.{Word, ReadsAs, IsTold}
 use Rattle.model.specs.Trees.{Domain, Problem}
 use Rattle.model.specs.Grammar.{IsDomain, IsProblem}
-use Rattle.model.specs.GrammarWords.{token_of}
-use Rattle.model.specs.Refusals.{IsWhole, tokens_of, domain_file, problem_file, IsRefused, at_word, at_end}
+use Rattle.model.specs.Refusals.{IsWhole, tokens_of, domain_file, problem_file, IsRefused}
 use Rattle.model.specs.Refusals as refusals
 use Rattle.model.specs.Task.{Task, Instance}
 use Rattle.model.specs.Typing.{TypingFault, faults_of, task_of_trees}
@@ -16,6 +14,7 @@ use Rattle.model.specs.PlanText.{IsPlanText, IsPlanFault}
 use Rattle.model.specs.Files.{the_domain, the_problem, the_plan, FileFault, IsDomainText, IsProblemText, IsTextFault, of_words, of_tree, IsTaskOf, file_of, IsTaskFault, in_the_domain, in_the_problem, in_the_pair, IsFileFault, in_the_task, in_the_plan, AreRead}
 use Rattle.model.proofs.ListLemmas.{Contains-none}
 use Rattle.model.proofs.GrammarStops.{one_domain, one_problem}
+use Rattle.model.proofs.GrammarOneRefusal.{whole_not_refused}
 use Rattle.tokens.specs.declared.fault.Fault as code
 use Rattle.tokens.specs.Fault.{told_by}
 use Rattle.tokens.proofs.Words.{one_reading_lem}
@@ -47,12 +46,6 @@ tree_refused kind text words reads (Some fault) h = of_tree words reads h
 pub tree_refused_in : {T : Type 0} (kind : refusals.File) (text : List ℕ) (words : List Word) → ReadsAs text words → (r : Result T code.Fault) → IfErr r (λ fault. IfSome (told_by fault) (IsRefused kind words)) → IfErr r (λ fault. IfSome (told_by fault) (IsTextFault kind text))
 tree_refused_in kind text words reads (Ok tree) h = tt
 tree_refused_in kind text words reads (Err fault) h = tree_refused kind text words reads (told_by fault) h
-
--- words that are a whole file are not refused
-whole_not_refused : (kind : refusals.File) (words : List Word) (fault : Fault) → IsWhole kind (tokens_of words) → IsRefused kind words fault → ⊥
-whole_not_refused kind words fault whole (at_word before after word in_order dead line span) =
-    dead (tokens_of after) (subst (IsWhole kind) (ap tokens_of in_order ∙ map-append token_of before (word ∷ after)) whole)
-whole_not_refused kind words fault whole (at_end none code span) = none words [] (sym (append-nil words)) whole
 
 text_not_refused : (kind : refusals.File) (text : List ℕ) (words : List Word) (fault : Fault) → ReadsAs text words → IsWhole kind (tokens_of words) → IsTextFault kind text fault → ⊥
 text_not_refused kind text words fault reads whole (of_words told) = read_is_told_nothing text words fault reads told
