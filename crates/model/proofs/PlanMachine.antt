@@ -50,12 +50,12 @@ turn (inside action objects) a_closing name = ends (record { action = action; ob
 turn (inside action objects) a_name name = goes (inside action (objects ++ name ∷ []))
 turn (inside action objects) strange name = stops
 
--- the word as a name
-abbrev pub name_at : Placed → Name
-name_at word = record { text = bytes word.part; start = word.start }
-
 abbrev pub span_at : Placed → Span
 span_at word = record { start = word.start; end = word.start + size word.part }
+
+-- the word as a name
+abbrev pub name_at : Placed → Name
+name_at word = record { text = bytes word.part; span = span_at word }
 
 -- the steps, or the span that is refused
 pub data Outcome : Type 0 where

@@ -40,7 +40,7 @@ names_by run false e = absurd (cc)
 names_by stray named e = absurd (cc)
 
 is_name_at : (word : Placed) → sort_of word.part ≡ a_name → IsName word (name_at word)
-is_name_at word e = record { well_formed = names_by (form word.part) (is_name (bytes word.part)) e; text = refl; start = refl }
+is_name_at word e = record { well_formed = names_by (form word.part) (is_name (bytes word.part)) e; text = refl; span = refl }
 
 -- And its sort, by what it is.
 opening_sort : (part : Part) → form part ≡ opening → sort_of part ≡ an_opening
@@ -80,8 +80,8 @@ name_sort part e =
 
 name_is : (word : Placed) (name : Name) → IsName word name → name_at word ≡ name
 name_is word name h =
-    ap (λ t. let n : Name = record { text = t; start = word.start } in n) (sym h.text)
-    ∙ ap (λ s. let n : Name = record { text = name.text; start = s } in n) (sym h.start)
+    ap (λ t. let n : Name = record { text = t; span = span_at word } in n) (sym h.text)
+    ∙ ap (λ s. let n : Name = record { text = name.text; span = s } in n) (sym h.span)
 
 -- What the machine reads are steps.
 

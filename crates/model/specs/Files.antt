@@ -1,7 +1,7 @@
 -- From the bytes of files to their task, to the fault that is told where they are not read, and to the verdict on a
 -- plan: the definitions of words, trees, typing and plan texts one after another. Files are looked at in their order,
 -- the domain, the problem and then the plan; the pair is typed between the problem and the plan.
-use Rattle.std.specs.Prelude.{◌≡◌, ℕ, ◌-◌, ◌^◌, min, List}
+use Rattle.std.specs.Prelude.{◌≡◌, ℕ, List}
 use Rattle.model.specs.Fault.{Fault}
 use Rattle.model.specs.Words.{Word, ReadsAs, IsTold}
 use Rattle.model.specs.Trees.{Domain, Problem}
@@ -56,13 +56,10 @@ abbrev pub file_of : typing.File → File
 file_of in_domain = the_domain
 file_of in_problem = the_problem
 
--- A fault of typing is told of its file, with its number and span. A span that would end beyond 2^64 - 1, as none of a
--- text does, would be told with that end.
+-- a fault of typing is told of its file, with its number and span
 pub record IsToldTyping (typed : TypingFault) (told : FileFault) : Type 0 where
   pub file : told.file ≡ file_of typed.file
-  pub code : told.fault.code ≡ typed.fault.code
-  pub start : told.fault.span.start ≡ typed.fault.span.start
-  pub end : told.fault.span.end ≡ min typed.fault.span.end (2 ^ 64 - 1)
+  pub fault : told.fault ≡ typed.fault
 
 -- what is told of two texts that are no task: the first fault in the order of files
 pub data IsTaskFault (domain problem : List ℕ) (told : FileFault) : Type 0 where

@@ -3,7 +3,7 @@
 use Rattle.std.specs.Prelude.{ℕ, Bool, List, [], ◌∷◌, codes, if◌then◌else◌}
 use Rattle.std.specs.List.{list_any}
 use Rattle.std.specs.Str.{bytes_eq, str_to_ascii_lowercase}
-use Rattle.model.specs.Words.{Word, Kind}
+use Rattle.model.specs.Words.{Word, Kind, end_of}
 use Rattle.model.specs.Words as words
 use Rattle.model.specs.Trees.{Name}
 
@@ -53,7 +53,7 @@ pub data Token : Type 0 where
   other : Token
 
 abbrev pub name_from : Word → Name
-name_from w = record { text = w.text; start = w.start }
+name_from w = record { text = w.text; span = record { start = w.start; end = end_of w } }
 
 -- the text is one of these
 abbrev pub is_among : List ℕ → List (List ℕ) → Bool

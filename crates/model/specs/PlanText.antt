@@ -5,7 +5,7 @@
 use Rattle.std.specs.Prelude.{◌≡◌, ◌≢◌, ℕ, ◌+◌, ◌<◌, ◌≤◌, Bool, true, false, IsTrue, if◌then◌else◌, List, [], ◌∷◌, ◌++◌, length, map, position, slice_get, Some, ⊤}
 use Rattle.model.specs.Fault.{Span, Fault}
 use Rattle.model.specs.Words.{Form, blank, comment, opening, closing, Part, form, bytes, size, AreParts, is_name, longest_text}
-use Rattle.model.specs.Trees.{Name, span_of}
+use Rattle.model.specs.Trees.{Name}
 use Rattle.model.specs.Task.{Task, Schema, Instance}
 use Rattle.model.specs.Meaning.{is_instance}
 use Rattle.model.specs.Typing.{folded, is_same}
@@ -39,7 +39,7 @@ pub record Step : Type 0 where
 pub record IsName (word : Placed) (name : Name) : Type 0 where
   pub well_formed : IsTrue (is_name (bytes word.part))
   pub text : name.text ≡ bytes word.part
-  pub start : name.start ≡ word.start
+  pub span : name.span ≡ record { start = word.start; end = word.start + size word.part }
 
 -- they are these names, one for one
 abbrev pub AreNames : List Placed → List Name → Type 0
@@ -125,17 +125,17 @@ pub data IsFormFault (text : List ℕ) (span : Span) : Type 0 where
 
 -- the step is at fault
 pub data IsStepFault (task : Task) (step : Step) (fault : Fault) : Type 0 where
-  unknown_action : (IsDeclared (schema_names task) step.action → ⊥) → fault.code ≡ 32 → fault.span ≡ span_of step.action
+  unknown_action : (IsDeclared (schema_names task) step.action → ⊥) → fault.code ≡ 32 → fault.span ≡ step.action.span
       → IsStepFault task step fault
   wrong_count : (number : ℕ) → (schema : Schema) → IsNumberOf (schema_names task) step.action number
       → slice_get task.schemas number ≡ Some schema → length step.objects ≢ schema.parameters
-      → fault.code ≡ 33 → fault.span ≡ span_of step.action → IsStepFault task step fault
+      → fault.code ≡ 33 → fault.span ≡ step.action.span → IsStepFault task step fault
   -- the first object that is not declared
   unknown_object : (number : ℕ) → (schema : Schema) → IsNumberOf (schema_names task) step.action number
       → slice_get task.schemas number ≡ Some schema → length step.objects ≡ schema.parameters
       → (before after : List Name) → (name : Name) → (numbers : List ℕ) → step.objects ≡ before ++ name ∷ after
       → AreNumbersOf task.objects before numbers → (IsDeclared task.objects name → ⊥)
-      → fault.code ≡ 34 → fault.span ≡ span_of name → IsStepFault task step fault
+      → fault.code ≡ 34 → fault.span ≡ name.span → IsStepFault task step fault
 
 -- the fault that is told of the text: its form before all else, and then the first step at fault
 pub data IsPlanFault (task : Task) (text : List ℕ) (fault : Fault) : Type 0 where

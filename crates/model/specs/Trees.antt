@@ -1,14 +1,11 @@
 -- The trees of a domain file and of a problem file: what stands in them, name by name, before names are resolved.
-use Rattle.std.specs.Prelude.{ℕ, ◌+◌, List, length}
+use Rattle.std.specs.Prelude.{ℕ, List}
 use Rattle.model.specs.Fault.{Span}
 
--- a name or a variable as it stands in its file, and the offset of its first byte
+-- a name or a variable: its bytes as they stand in its file, and where they stand
 pub record Name : Type 0 where
   pub text : List ℕ
-  pub start : ℕ
-
-abbrev pub span_of : Name → Span
-span_of name = record { start = name.start; end = name.start + length name.text }
+  pub span : Span
 
 pub data Term : Type 0 where
   variable : Name → Term

@@ -8,7 +8,7 @@ use Rattle.std.specs.List.{flat_map, list_any, position_or_len}
 use Rattle.std.specs.Ordering.{nat_cmp, is_lt}
 use Rattle.model.specs.Fault.{Fault}
 use Rattle.model.specs.Task as task
-use Rattle.model.specs.Trees.{Name, span_of, Domain, Problem}
+use Rattle.model.specs.Trees.{Name, Domain, Problem}
 use Rattle.model.specs.Trees as tree
 
 -- ---- names
@@ -141,7 +141,7 @@ pub record TypingFault : Type 0 where
 
 -- each of these words of the file is refused by this number
 abbrev pub refused : File → ℕ → List Name → List TypingFault
-refused file code words = map (λ word. record { file = file; fault = record { code = code; span = span_of word } }) words
+refused file code words = map (λ (word : Name). record { file = file; fault = record { code = code; span = word.span } }) words
 
 -- 17: a name that is not known
 abbrev pub unknown_faults : File → List task.Name → Name → List TypingFault

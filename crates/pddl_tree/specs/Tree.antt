@@ -16,7 +16,7 @@ use Rattle.pddl_tree.specs.declared.tree.Effect as effect
 use Rattle.model.specs.Trees as tree
 
 abbrev pub name_of : Name → tree.Name
-name_of n = record { text = n.text.now; start = n.span.start }
+name_of n = record { text = n.text.now; span = record { start = n.span.start; end = n.span.end } }
 
 abbrev pub term_of : Term → tree.Term
 term_of (Variable n) = tree.variable (name_of n)

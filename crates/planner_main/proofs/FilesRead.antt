@@ -103,8 +103,8 @@ module _ (domain problem : List ℕ) where
   problem_told d reads (Some fault) h = in_the_problem d reads h refl
 
   pub pair_told : (d : Domain) (p : Problem) → IsDomainText domain d → IsProblemText problem p → (fault : TaskFault) → TellsLeastFault d p fault → IfSome (told_of_pair fault) (IsTaskFault domain problem)
-  pair_told d p d_reads p_reads (typing.At file code span) (f, least, (same_file, same_code, start, end)) =
-      in_the_pair d p f d_reads p_reads least (record { file = ap file_of same_file; code = same_code; start = start; end = end })
+  pair_told d p d_reads p_reads (typing.At file code span) (f, least, (same_file, same_fault)) =
+      in_the_pair d p f d_reads p_reads least (record { file = ap file_of same_file; fault = sym same_fault })
   pair_told d p d_reads p_reads typing.NoMemory h = tt
 
   pub plan_told : (plan : List ℕ) (task : Task) → IsTaskOf domain problem task → (o : Option Fault) → IfSome o (IsPlanFault task plan) → IfSome (option_map (λ (f : Fault). let t : FileFault = record { file = the_plan; fault = f } in t) o) (IsFileFault domain problem plan)

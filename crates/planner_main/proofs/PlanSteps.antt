@@ -9,7 +9,7 @@ use Rattle.std.proofs.lemmas.List.{drop_more, take_more, map-append, length-map}
 use Rattle.std.proofs.lemmas.List.Quantifiers.{position-Some}
 use Rattle.model.specs.Fault.{Fault}
 use Rattle.model.specs.Words.{Part, AreParts}
-use Rattle.model.specs.Trees.{Name, span_of}
+use Rattle.model.specs.Trees.{Name}
 use Rattle.model.specs.Task.{Task, Schema, Instance}
 use Rattle.model.specs.Typing.{folded, is_same}
 use Rattle.model.specs.Meaning.{fits}
@@ -89,11 +89,11 @@ counted task number count e = by_schema (slice_get task.schemas number) refl e
 
 -- what is told of a step, and what it means
 module _ (task : Task) (step : Step) where
-  pub action_refused : position (is_same (folded step.action)) (schema_names task) ≡ None → (o : Option Fault) → o ≡ Some (record { code = 32; span = span_of step.action }) → IfSome o (IsStepFault task step)
+  pub action_refused : position (is_same (folded step.action)) (schema_names task) ≡ None → (o : Option Fault) → o ≡ Some (record { code = 32; span = step.action.span }) → IfSome o (IsStepFault task step)
   action_refused none o told =
       told_some (IsStepFault task step) o _ told (unknown_action (λ (number, is). let both : Some number ≡ None = sym is ∙ none in cc) refl refl)
 
-  pub count_refused : (number count : ℕ) → IsNumberOf (schema_names task) step.action number → Counts task number count → length step.objects ≢ count → (o : Option Fault) → o ≡ Some (record { code = 33; span = span_of step.action }) → IfSome o (IsStepFault task step)
+  pub count_refused : (number count : ℕ) → IsNumberOf (schema_names task) step.action number → Counts task number count → length step.objects ≢ count → (o : Option Fault) → o ≡ Some (record { code = 33; span = step.action.span }) → IfSome o (IsStepFault task step)
   count_refused number count is counts differs o told =
       let c = counted task number count counts in
       told_some (IsStepFault task step) o _ told (wrong_count number c.schema is c.here (λ h. differs (h ∙ c.counts)) refl refl)
@@ -118,7 +118,7 @@ module _ (task : Task) (step : Step) where
 
 -- what is told of an object
 pub object_refused : (declared : List (List ℕ)) (names before after : List Name) (name : Name) (numbers : List ℕ) → names ≡ before ++ name ∷ after → AreNumbersOf declared before numbers → position (is_same (folded name)) declared ≡ None
-    → (o : Option Fault) → o ≡ Some (record { code = 34; span = span_of name }) → IfSome o (IsUnknownObject declared names)
+    → (o : Option Fault) → o ≡ Some (record { code = 34; span = name.span }) → IfSome o (IsUnknownObject declared names)
 object_refused declared names before after name numbers in_order are none o told = told_some (IsUnknownObject declared names) o _ told (record {
   before = before;
   after = after;

@@ -39,22 +39,22 @@ module _ (text : List ℕ) (start end : ℕ) (f : Form) (inside_text : start < l
 
   word_read : is_gap f ≡ false → (slice : List ℕ) → slice ≡ take (end - start) (drop start text) → (place : Place)
       → read_from text start place
-      ≡ after_turn (record { start = start; end = start + length slice }) (turn place (sort_by f (is_name slice)) (record { text = slice; start = start })) (read_from text (start + length slice))
+      ≡ after_turn (record { start = start; end = start + length slice }) (turn place (sort_by f (is_name slice)) (record { text = slice; span = record { start = start; end = start + length slice } })) (read_from text (start + length slice))
   unfolding the_word words_after
   word_read e slice slice_is place =
       let same_bytes : bytes here.part ≡ slice = here.bytes_are ∙ sym slice_is in
       let end_is : end ≡ start + length slice = sym here.size_is ∙ ap (λ bs. start + length bs) same_bytes in
       ap (λ ws. outcome (length text) ws place) (words_here ∙ ap (λ t. cond t words_after (the_word ∷ words_after)) e)
-      ∙ ap (λ g. after_turn (record { start = start; end = start + size here.part }) (turn place (sort_by g (is_name (bytes here.part))) (record { text = bytes here.part; start = start })) (read_from text end)) same_form
-      ∙ ap (λ bs. after_turn (record { start = start; end = start + length bs }) (turn place (sort_by f (is_name bs)) (record { text = bs; start = start })) (read_from text end)) same_bytes
-      ∙ ap (λ k. after_turn (record { start = start; end = start + length slice }) (turn place (sort_by f (is_name slice)) (record { text = slice; start = start })) (read_from text k)) end_is
+      ∙ ap (λ g. after_turn (record { start = start; end = start + size here.part }) (turn place (sort_by g (is_name (bytes here.part))) (record { text = bytes here.part; span = record { start = start; end = start + size here.part } })) (read_from text end)) same_form
+      ∙ ap (λ bs. after_turn (record { start = start; end = start + length bs }) (turn place (sort_by f (is_name bs)) (record { text = bs; span = record { start = start; end = start + length bs } })) (read_from text end)) same_bytes
+      ∙ ap (λ k. after_turn (record { start = start; end = start + length slice }) (turn place (sort_by f (is_name slice)) (record { text = slice; span = record { start = start; end = start + length slice } })) (read_from text k)) end_is
 
   pub word_given : is_gap f ≡ false → (slice : List ℕ) → slice ≡ take (end - start) (drop start text) → (s : Sort) → s ≡ sort_by f (is_name slice) → (at : ℕ) → read_from text start ≡ read_from text at → (place : Place)
       → read_from text at place
-      ≡ after_turn (record { start = start; end = start + length slice }) (turn place s (record { text = slice; start = start })) (read_from text (start + length slice))
+      ≡ after_turn (record { start = start; end = start + length slice }) (turn place s (record { text = slice; span = record { start = start; end = start + length slice } })) (read_from text (start + length slice))
   word_given e slice slice_is s s_is at same place =
       ap (λ (read : Place → Outcome). read place) (sym same) ∙ word_read e slice slice_is place
-      ∙ ap (λ t. after_turn (record { start = start; end = start + length slice }) (turn place t (record { text = slice; start = start })) (read_from text (start + length slice))) (sym s_is)
+      ∙ ap (λ t. after_turn (record { start = start; end = start + length slice }) (turn place t (record { text = slice; span = record { start = start; end = start + length slice } })) (read_from text (start + length slice))) (sym s_is)
 
 -- nothing more
 pub end_read : (text : List ℕ) (start : ℕ) → length text ≤ start → (place : Place) → read_from text start place ≡ at_end (length text) place

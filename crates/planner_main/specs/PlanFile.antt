@@ -23,11 +23,11 @@ sort_of Close = machine.a_closing
 sort_of Name = machine.a_name
 sort_of Other = machine.strange
 
-abbrev pub name_of : Word → tree.Name
-name_of word = record { text = word.text.now; start = word.start }
-
 abbrev pub span_of : Word → Span
 span_of word = record { start = word.start; end = word.start + length word.text.now }
+
+abbrev pub name_of : Word → tree.Name
+name_of word = record { text = word.text.now; span = span_of word }
 
 abbrev pub step_of : Step → text.Step
 step_of step = record { action = name_of step.action; objects = map name_of step.objects.items }
@@ -70,7 +70,7 @@ pub record IsUnknownObject (declared : List (List ℕ)) (names : List tree.Name)
   pub declared_before : AreNumbersOf declared before numbers
   pub not_declared : IsDeclared declared name → ⊥
   pub code : fault.code ≡ 34
-  pub span : fault.span ≡ tree.span_of name
+  pub span : fault.span ≡ name.span
 
 -- of these steps the first that is at fault, and its fault
 pub record IsFirstFault (task : Task) (steps : List text.Step) (fault : Fault) : Type 0 where

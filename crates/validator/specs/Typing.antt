@@ -1,5 +1,5 @@
 -- The code's task and the faults that it tells, in the model's terms.
-use Rattle.std.specs.Prelude.{◌≡◌, ◌-◌, ◌^◌, min, List}
+use Rattle.std.specs.Prelude.{◌≡◌, List}
 use Rattle.tokens.specs.Fault.{number_of}
 use Rattle.validator.specs.declared.typing.Task.{Task}
 use Rattle.validator.specs.declared.typing.TaskFile.{TaskFile}
@@ -18,12 +18,11 @@ abbrev pub file_of : TaskFile → File
 file_of Domain = in_domain
 file_of Problem = in_problem
 
--- The file, the code and the span that are told are those of the fault. A span that would end beyond what a `usize`
--- can say, as no span of a text does, ends at the greatest one.
+-- the file, the code and the span that are told are those of the fault
 abbrev pub Tells : TaskFault → TypingFault → Type 0
 Tells (At file code span) f =
-    (file_of file ≡ f.file) × (number_of code ≡ f.fault.code)
-    × (span.start ≡ f.fault.span.start) × (span.end ≡ min f.fault.span.end (2 ^ 64 - 1))
+    (file_of file ≡ f.file)
+    × (f.fault ≡ record { code = number_of code; span = record { start = span.start; end = span.end } })
 Tells NoMemory f = ⊥
 
 -- the least of these faults is told; want of memory says nothing of them

@@ -1,5 +1,5 @@
 -- What the walks over the trees find, in the model's terms.
-use Rattle.std.specs.Prelude.{◌≡◌, ◌+◌, List, fold, Option, None, Some, if◌then◌else◌}
+use Rattle.std.specs.Prelude.{◌≡◌, List, fold, Option, None, Some, if◌then◌else◌}
 use Rattle.std.specs.Option.{option_map}
 use Rattle.tokens.specs.Fault.{number_of}
 use Rattle.validator.specs.declared.typing.TaskFault.{TaskFault}
@@ -12,7 +12,7 @@ use Rattle.model.specs.Typing as typing
 abbrev pub refusal_of : Refusal → typing.TypingFault
 refusal_of r = record {
   file = file_of r.file;
-  fault = record { code = number_of r.code; span = record { start = r.start; end = r.start + r.length } };
+  fault = record { code = number_of r.code; span = record { start = r.span.start; end = r.span.end } };
 }
 
 abbrev pub least_of : Walk → Option typing.TypingFault

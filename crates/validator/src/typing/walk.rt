@@ -8,13 +8,12 @@ use pddl_tree::Name;
 use std::alloc::Global;
 use tokens::{Code, NoMemory, Span};
 
-/// A fault of a pair of trees: a word of `file`, of this length in bytes from `start` on, that is refused by `code`.
+/// A fault of a pair of trees: the word of `file` that stands there is refused by `code`.
 #[derive(Clone, Copy)]
 pub(crate) struct Refusal {
     pub(crate) file: TaskFile,
     pub(crate) code: Code,
-    pub(crate) start: usize,
-    pub(crate) length: usize,
+    pub(crate) span: Span,
 }
 
 impl Refusal {
@@ -28,8 +27,8 @@ impl Refusal {
     {
         if self.file != other.file {
             self.file == TaskFile::Domain
-        } else if self.start != other.start {
-            self.start < other.start
+        } else if self.span.start != other.span.start {
+            self.span.start < other.span.start
         } else {
             self.code.number() < other.code.number()
         }
@@ -65,8 +64,7 @@ impl Walk {
         let refusal = Refusal {
             file,
             code,
-            start: word.span.start,
-            length: word.text.len(),
+            span: word.span,
         };
         match self.least {
             Some(least) => {
@@ -100,10 +98,7 @@ impl Walk {
             Some(refusal) => Err(TaskFault::At {
                 file: refusal.file,
                 code: refusal.code,
-                span: Span {
-                    start: refusal.start,
-                    end: refusal.start.saturating_add(refusal.length),
-                },
+                span: refusal.span,
             }),
         }
     }
