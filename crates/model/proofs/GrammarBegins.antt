@@ -11,7 +11,7 @@ use Rattle.model.proofs.GrammarTold.{Before, AtDomain, at_domain, AtDomainSectio
 
 -- a name that stands for any
 abbrev any_name : Name
-any_name = record { text = []; start = 0 }
+any_name = record { text = []; span = record { start = 0; end = 0 } }
 
 abbrev word : Token
 word = name (free ordinary) any_name
