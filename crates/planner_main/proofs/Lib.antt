@@ -2,3 +2,4 @@ pub mod Readings
 pub mod PlanWords
 pub mod PlanSteps
 pub mod FilesRead
+pub mod ProgramWords

@@ -3,3 +3,4 @@ pub mod Report
 pub mod PlanFile
 pub mod Solution
 pub mod Files
+pub mod Program

@@ -1,8 +1,7 @@
 -- What stands on the standard output, and the status beside it.
-use Rattle.std.specs.Prelude.{◌≡◌, ℕ, ◌==◌, Bool, List, [], ◌∷◌, ◌++◌, codes, Option}
+use Rattle.std.specs.Prelude.{ℕ, ◌==◌, Bool, List, [], ◌∷◌, ◌++◌, codes}
 use Rattle.std.specs.List.{list_any}
 use Rattle.std.specs.Fmt.{decimal}
-use Rattle.std.specs.Io.KnownBytes.{Appends}
 use Rattle.model.specs.Runs.{Verdict, valid, not_applicable, goal_missed}
 
 -- the line that tells a verdict
@@ -20,7 +19,3 @@ status_of goal_missed = 12
 -- the statuses where there is no verdict: words that are no command; a text that is refused; a device; memory
 abbrev pub is_failure : ℕ → Bool
 is_failure status = list_any (λ n. n == status) (2 ∷ 20 ∷ 21 ∷ 22 ∷ [])
-
--- the standard output grew by the line of a verdict, and the status is the verdict's
-abbrev pub TellsVerdict : Option (List ℕ) → Option (List ℕ) → ℕ → Type 0
-TellsVerdict before after status = (v : Verdict) × (status ≡ status_of v) × Appends before after (line_of v)

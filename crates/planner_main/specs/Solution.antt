@@ -1,15 +1,12 @@
 -- What stands on the standard output once a task was solved, and the status beside it.
-use Rattle.std.specs.Prelude.{◌≡◌, ℕ, ◌⊎◌, List, ◌++◌, codes, map, slice_get, Option}
+use Rattle.std.specs.Prelude.{ℕ, List, ◌++◌, codes, slice_get}
 use Rattle.std.specs.List.{flat_map}
 use Rattle.std.specs.Option.{option_map_or}
 use Rattle.std.specs.Fmt.{decimal}
-use Rattle.std.specs.Io.KnownBytes.{Appends}
 use Rattle.validator.specs.Formulas.{plan_of}
 use Rattle.solver.specs.declared.answer.Answer.{Answer}
 use Rattle.solver.specs.declared.answer.Answer.TheVariants.{Plan, Unsolvable, Unknown}
 use Rattle.solver.specs.declared.answer.Limit.TheVariants.{Instances, Atoms, States}
-use Rattle.solver.specs.Solver.{IsTrueAnswer}
-use Rattle.planner_main.specs.Report.{TellsVerdict}
 use Rattle.model.specs.Task.{Task, Schema, Instance, Name}
 
 -- the name of the object of this number
@@ -46,12 +43,3 @@ abbrev pub status_of : Answer → ℕ
 status_of (Plan steps cost cert) = 0
 status_of (Unsolvable cert) = 10
 status_of (Unknown limit) = 11
-
--- the standard output grew by the text of an answer that is true of a task within these limits, and the status is the answer's
-abbrev pub TellsAnswer : ℕ → ℕ → Option (List ℕ) → Option (List ℕ) → ℕ → Type 0
-TellsAnswer states instances before after status =
-    (task : Task) × (answer : Answer) × IsTrueAnswer task states instances answer × (status ≡ status_of answer) × Appends before after (text_of task answer)
-
--- the standard output grew by a verdict's line, or by the text of an answer that is true of some task
-abbrev pub Tells : Option (List ℕ) → Option (List ℕ) → ℕ → Type 0
-Tells before after status = TellsVerdict before after status ⊎ ((states instances : ℕ) × TellsAnswer states instances before after status)

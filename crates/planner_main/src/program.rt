@@ -1,22 +1,23 @@
 //! The program.
-ghost use Rattle.std.specs.Prelude.{◌≡◌, ℕ, ◌+◌, ◌⊎◌, IfOk, IfSome, IsTrue, List, length, take, vec_len};
-ghost use Rattle.planner_main.specs.Report.{TellsVerdict, is_failure};
-ghost use Rattle.planner_main.specs.Solution.{TellsAnswer, Tells};
+ghost use Rattle.std.specs.Prelude.{◌≡◌, ℕ, ◌+◌, ◌↔◌, ◌⊎◌, IfErr, IfOk, IfSome, IsTrue, List, length, take, vec_len};
+ghost use Rattle.planner_main.specs.Report.{is_failure};
+ghost use Rattle.planner_main.specs.Program.{texts, IsCommand, OnTwo, OnThree, Tells, TellsVerdict, TellsAnswer, TellsFor, Refuses, IsFaultFor, fault_in};
 ghost use Rattle.planner_main.specs.Devices.{CountsDevice, IsReading, ReadsSome};
+ghost use Rattle.model.specs.Files.{IsFileFault, IsTaskFault};
+
+mod command;
 
 use crate::certificate::{Sink, Source, WriteFault, write_all};
 use crate::files::Files;
 use crate::report::{Failure, answer, tell, tell_usage};
 use crate::solve::{answer_text, solve_files};
 use crate::verdict::validate_files;
+use command::{Command, read_command};
 use solver::Limits;
 use std::alloc::{AllocError, Global};
 
 /// The most bytes that are read of a file: one more than a text may have.
 const MAX_READ: usize = 16_777_217;
-
-/// How many states a search may list, and how many instances a task may have, where nothing else is asked for.
-const DEFAULT_LIMIT: u32 = 1_000_000;
 
 /// How many bytes are asked for at a read.
 const PIECE: usize = 65_536;
@@ -46,24 +47,44 @@ pub fn run<F: Files, O: Sink, E: Sink>(
     out: &mut O,
     err: &mut E,
 ) -> u8
-    // There is a verdict or an answer, and its text is all that stands on the standard output, or the status says why not.
-    ensures status { IsTrue (is_failure result) ⊎ Tells (O.taken out.old) (O.taken out.new) result }
+    // What the words ask for is told, or the status says why not.
+    ensures status { IsTrue (is_failure result)
+        ⊎ Tells (F.contents files.old) (texts words.now) (O.taken out.old) (O.taken out.new) result }
+    // The status of words that are no command is told exactly of these, and that of texts only where they are refused.
+    ensures words { (result ≡ 2) ↔ (IsCommand (texts words.now) → ⊥) }
+    ensures refused { result ≡ 20 → Refuses (F.contents files.old) (texts words.now) (O.taken out.old) (O.taken out.new) }
 {
-    let outcome = match words {
-        [command, domain, problem, plan] if *command == "validate" => {
-            run_validate(alloc, domain, problem, plan, files, out)
-        }
-        [command, domain, problem, options @ ..] if *command == "solve" => {
-            let Some(limits) = read_limits(options) else {
-                return tell_usage(err);
-            };
-            run_solve(alloc, domain, problem, limits, files, out)
-        }
-        _ => return tell_usage(err),
+    let Some(command) = read_command(words) else {
+        return tell_usage(err);
     };
-    match outcome {
+    match carry_out(alloc, command, files, out) {
         Ok(status) => status,
         Err(failure) => tell(alloc, failure, err),
+    }
+}
+
+/// Does what is asked for: the status.
+fn carry_out<F: Files, O: Sink>(
+    alloc: Global,
+    command: Command<'_>,
+    files: &mut F,
+    out: &mut O,
+) -> Result<u8, Failure>
+    ensures told { IfOk result (TellsFor (F.contents files.old) command.entry (O.taken out.old) (O.taken out.new)) }
+    ensures refused { IfErr result (λ failure. IfSome (fault_in failure) (λ fault.
+        IsFaultFor (F.contents files.old) command.entry fault × (O.taken out.new ≡ O.taken out.old))) }
+{
+    match command {
+        Command::Validate {
+            domain,
+            problem,
+            plan,
+        } => run_validate(alloc, domain, problem, plan, files, out),
+        Command::Solve {
+            domain,
+            problem,
+            limits,
+        } => run_solve(alloc, domain, problem, limits, files, out),
     }
 }
 
@@ -76,7 +97,10 @@ fn run_validate<F: Files, O: Sink>(
     files: &mut F,
     out: &mut O,
 ) -> Result<u8, Failure>
-    ensures { IfOk result (λ status. TellsVerdict (O.taken out.old) (O.taken out.new) status) }
+    ensures told { IfOk result (TellsVerdict (F.contents files.old) domain.now problem.now plan.now (O.taken out.old) (O.taken out.new)) }
+    ensures refused { IfErr result (λ failure. IfSome (fault_in failure) (λ fault.
+        OnThree (F.contents files.old) domain.now problem.now plan.now (λ d p l. IsFileFault d p l fault)
+        × (O.taken out.new ≡ O.taken out.old))) }
 {
     let domain = read_file(alloc, files, domain)?;
     let problem = read_file(alloc, files, problem)?;
@@ -96,7 +120,11 @@ fn run_solve<F: Files, O: Sink>(
     files: &mut F,
     out: &mut O,
 ) -> Result<u8, Failure>
-    ensures { IfOk result (λ status. TellsAnswer limits.states limits.instances (O.taken out.old) (O.taken out.new) status) }
+    ensures told { IfOk result (TellsAnswer (F.contents files.old) domain.now problem.now limits.states limits.instances
+        (O.taken out.old) (O.taken out.new)) }
+    ensures refused { IfErr result (λ failure. IfSome (fault_in failure) (λ fault.
+        OnTwo (F.contents files.old) domain.now problem.now (λ d p. IsTaskFault d p fault)
+        × (O.taken out.new ≡ O.taken out.old))) }
 {
     let domain = read_file(alloc, files, domain)?;
     let problem = read_file(alloc, files, problem)?;
@@ -104,18 +132,6 @@ fn run_solve<F: Files, O: Sink>(
     let (text, status) = answer_text(alloc, &solved.task, &solved.answer)?;
     write_all(out, &text)?;
     Ok(status)
-}
-
-/// The limits that the words after the files ask for, and `None` where they are no options.
-fn read_limits(options: &[&str]) -> Option<Limits> {
-    match options {
-        [] => Limits::new(DEFAULT_LIMIT, DEFAULT_LIMIT),
-        [option, states] if *option == "--states" => match states.parse::<u32>() {
-            Ok(states) => Limits::new(states, DEFAULT_LIMIT),
-            Err(_) => None,
-        },
-        _ => None,
-    }
 }
 
 /// The first 16,777,217 bytes of a file, or all that it has.

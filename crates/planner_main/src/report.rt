@@ -1,8 +1,9 @@
 //! What the program says: the lines of its two streams, and the statuses beside them.
-ghost use Rattle.std.specs.Prelude.{◌≡◌, IfOk, IsTrue};
+ghost use Rattle.std.specs.Prelude.{◌≡◌, ◌⊎◌, IfOk, IsTrue};
 ghost use Rattle.std.specs.String.{string_bytes};
 ghost use Rattle.validator.specs.Verdict.{verdict_of};
 ghost use Rattle.planner_main.specs.Report.{is_failure, line_of, status_of};
+ghost use Rattle.planner_main.specs.Program.{failure_status};
 
 use crate::certificate::{Sink, WriteFault, write_all};
 use crate::task_file::FileFault;
@@ -40,18 +41,34 @@ pub(crate) enum Failure {
 }
 
 impl From<FileFault> for Failure {
+    ghost use Rattle.std.specs.Prelude.{◌≡◌};
+    ghost use Rattle.planner_main.specs.declared.report.Failure.TheVariants.{Text};
+
+    ghost from_gives = { λ fault failure. failure ≡ Text fault };
+
     fn from(fault: FileFault) -> Failure {
         Failure::Text(fault)
     }
 }
 
 impl From<WriteFault> for Failure {
+    ghost use Rattle.std.specs.Prelude.{◌≡◌};
+    ghost use Rattle.planner_main.specs.declared.report.Failure.TheVariants.{Device};
+
+    ghost from_gives = { λ fault failure. failure ≡ Device fault };
+
     fn from(fault: WriteFault) -> Failure {
         Failure::Device(fault)
     }
 }
 
 impl From<AllocError> for Failure {
+    ghost use Rattle.std.specs.Prelude.{◌≡◌};
+    ghost use Rattle.planner_main.specs.declared.report.Failure.TheVariants.{Device};
+    ghost use Rattle.planner_main.specs.declared.certificate.WriteFault.TheVariants.{NoMemory};
+
+    ghost from_gives = { λ _ failure. failure ≡ Device NoMemory };
+
     fn from(_error: AllocError) -> Failure {
         Failure::Device(WriteFault::NoMemory)
     }
@@ -73,7 +90,9 @@ pub(crate) fn answer(alloc: Global, verdict: Verdict) -> Result<(String, u8), Al
 
 /// Tells a failure on standard error, and answers its status. That the telling fails changes no status.
 pub(crate) fn tell<E: Sink>(alloc: Global, failure: Failure, err: &mut E) -> u8
-    ensures { IsTrue (is_failure result) }
+    ensures failure { IsTrue (is_failure result) }
+    // Where memory for the line is refused, that is told.
+    ensures status { (result ≡ failure_status failure) ⊎ (result ≡ NO_MEMORY) }
 {
     match failure {
         Failure::Text(FileFault::At { file, code, span }) => {

@@ -1,0 +1,156 @@
+-- What the words of the program are, and what it tells of them.
+use Rattle.std.proofs.Common.{◌≡◌, ℕ, ◌+◌, ◌^◌, ◌<◌, ◌≤◌, ◌⊎◌, inl, inr, List, [], ◌∷◌, length, codes, get_or, take, drop, sym, refl, ap, ◌∙◌, subst, arith}
+use Rattle.std.proofs.lemmas.Bool.Decides.{nat_tests}
+use Rattle.std.specs.Prelude.{Option, None, Some, IfSome, is_some, Bool, true, ◌&&◌}
+use Rattle.std.specs.Str.Parse.{IsNumeral, without_leading_plus, digits_value}
+use Rattle.solver.specs.Limit.{is_limit}
+use Rattle.solver.specs.declared.limits.Limits.{Limits}
+use Rattle.std.specs.Borrow.{Bor}
+use Rattle.solver.specs.declared.answer.Answer.{Answer}
+use Rattle.solver.specs.declared.answer.Answer.TheVariants.{Plan, Unsolvable, Unknown}
+use Rattle.planner_main.specs.declared.program.command.Command.{Command}
+use Rattle.planner_main.specs.declared.program.command.Command.TheVariants.{Validate, Solve}
+use Rattle.planner_main.specs.declared.report.Failure.{Failure}
+use Rattle.planner_main.specs.declared.report.Failure.TheVariants as failure
+use Rattle.planner_main.specs.declared.task_file.FileFault.TheVariants as refusal
+use Rattle.planner_main.specs.declared.certificate.WriteFault.TheVariants as device
+use Rattle.planner_main.specs.Program.{texts, AllowsStates, by_default, as_asked, AsksForVerdict, AsksForPlan, IsCommand, is_validate, is_solve, IsText, OnTwo, OnThree, TellsVerdict, TellsAnswer, Tells, a_verdict, an_answer, Refuses, a_verdict_refused, an_answer_refused, TellsFor, Asks, fault_in, IsFaultFor, failure_status}
+use Rattle.planner_main.specs.Report as verdict
+use Rattle.planner_main.specs.Solution as answer
+use Rattle.model.specs.Runs.{Verdict, valid, not_applicable, goal_missed}
+use Rattle.model.specs.Files.{FileFault, IsTaskFault, IsFileFault}
+
+-- Four words of which the first is `validate` ask for a verdict.
+pub for_verdict : (words : List (Bor (List ℕ))) (d : Bor (List ℕ)) → 4 ≤ length words → length words < 5 → (get_or words 0 d).now ≡ codes "validate"
+    → AsksForVerdict (texts words) (get_or words 1 d).now (get_or words 2 d).now (get_or words 3 d).now
+for_verdict [] d least most first = absurd (omega arith)
+for_verdict (a ∷ []) d least most first = absurd (omega arith)
+for_verdict (a ∷ b ∷ []) d least most first = absurd (omega arith)
+for_verdict (a ∷ b ∷ c ∷ []) d least most first = absurd (omega arith)
+for_verdict (a ∷ b ∷ c ∷ e ∷ []) d least most first = ap (λ word. word ∷ b.now ∷ c.now ∷ e.now ∷ []) first
+for_verdict (a ∷ b ∷ c ∷ e ∷ f ∷ rest) d least most first = absurd (omega arith)
+
+-- Three words of which the first is `solve`, with options after them, ask for a plan.
+pub for_plan : (words : List (Bor (List ℕ))) (d : Bor (List ℕ)) (rest : List (Bor (List ℕ))) (states : ℕ) → rest ≡ drop 3 words → 3 ≤ length words
+    → (get_or words 0 d).now ≡ codes "solve" → AllowsStates (texts rest) states
+    → AsksForPlan (texts words) (get_or words 1 d).now (get_or words 2 d).now states
+for_plan [] d rest states same three first allows = absurd (omega arith)
+for_plan (a ∷ []) d rest states same three first allows = absurd (omega arith)
+for_plan (a ∷ b ∷ []) d rest states same three first allows = absurd (omega arith)
+for_plan (a ∷ b ∷ c ∷ more) d rest states same three first allows = record {
+  options = texts more;
+  in_order = ap (λ word. word ∷ b.now ∷ c.now ∷ texts more) first;
+  allows = subst (λ options. AllowsStates (texts options) states) same allows;
+}
+
+-- A text that a file has after other files were read is one that it had.
+pub text_kept : (before after : List ℕ → Option (List ℕ)) → ((other : List ℕ) → after other ≡ before other) → (name text : List ℕ)
+    → IsText after name text → IsText before name text
+text_kept before after kept name text is = subst (λ (known : Option (List ℕ)). IfSome known (λ bytes. text ≡ take 16777217 bytes)) (kept name) is
+
+-- What is told for a command is told for the words that ask for it.
+module _ (contents : List ℕ → Option (List ℕ)) (words : List (List ℕ)) (before after : Option (List ℕ)) where
+  pub told_of_words : (command : Command) (status : ℕ) → Asks words command → TellsFor contents command before after status
+      → Tells contents words before after status
+  told_of_words (Validate domain problem plan) status asks tells = a_verdict domain.now problem.now plan.now asks tells
+  told_of_words (Solve domain problem limits) status asks tells =
+      an_answer domain.now problem.now limits.states asks.0
+      (subst (λ instances. TellsAnswer contents domain.now problem.now limits.states instances before after status) asks.1 tells)
+
+  pub refused_of_words : (command : Command) (fault : FileFault) → Asks words command → IsFaultFor contents command fault → after ≡ before
+      → Refuses contents words before after
+  refused_of_words (Validate domain problem plan) fault asks is same = a_verdict_refused domain.now problem.now plan.now fault asks is same
+  refused_of_words (Solve domain problem limits) fault asks is same = an_answer_refused domain.now problem.now limits.states fault asks.0 is same
+
+pub asked_is_command : (words : List (List ℕ)) (command : Command) → Asks words command → IsCommand words
+asked_is_command words (Validate domain problem plan) asks = is_validate domain.now problem.now plan.now asks
+asked_is_command words (Solve domain problem limits) asks = is_solve domain.now problem.now limits.states asks.0
+
+-- The statuses of verdicts and answers are none of words that are no command.
+verdict_status : (v : Verdict) → verdict.status_of v ≡ 2 → ⊥
+verdict_status (valid cost) same = absurd (omega arith)
+verdict_status (not_applicable step) same = absurd (omega arith)
+verdict_status goal_missed same = absurd (omega arith)
+
+answer_status : (a : Answer) → answer.status_of a ≡ 2 → ⊥
+answer_status (Plan steps cost cert) same = absurd (omega arith)
+answer_status (Unsolvable cert) same = absurd (omega arith)
+answer_status (Unknown limit) same = absurd (omega arith)
+
+pub told_status : (contents : List ℕ → Option (List ℕ)) (command : Command) (before after : Option (List ℕ)) (status : ℕ)
+    → TellsFor contents command before after status → status ≡ 2 → ⊥
+told_status contents (Validate domain problem plan) before after status (v, texts_are, is_status, told) same = verdict_status v (sym is_status ∙ same)
+told_status contents (Solve domain problem limits) before after status (task, a, texts_are, is_true, is_status, told) same =
+    answer_status a (sym is_status ∙ same)
+
+-- A failure has neither the status of words that are no command, nor that of a text where no text is refused.
+pub failed_status : (f : Failure) (status : ℕ) → (status ≡ failure_status f) ⊎ (status ≡ 22) → status ≡ 2 → ⊥
+failed_status (failure.Text (refusal.At file code span)) status (inl is) same = absurd (omega arith)
+failed_status (failure.Text refusal.NoMemory) status (inl is) same = absurd (omega arith)
+failed_status (failure.Device device.Device) status (inl is) same = absurd (omega arith)
+failed_status (failure.Device device.NoMemory) status (inl is) same = absurd (omega arith)
+failed_status f status (inr is) same = absurd (omega arith)
+
+pub fault_of_status : (P : FileFault → Type 0) (f : Failure) (status : ℕ) → (status ≡ failure_status f) ⊎ (status ≡ 22) → status ≡ 20
+    → IfSome (fault_in f) P → (fault : FileFault) × P fault
+fault_of_status P (failure.Text (refusal.At file code span)) status is same h = (_, h)
+fault_of_status P (failure.Text refusal.NoMemory) status (inl is) same h = absurd (omega arith)
+fault_of_status P (failure.Device device.Device) status (inl is) same h = absurd (omega arith)
+fault_of_status P (failure.Device device.NoMemory) status (inl is) same h = absurd (omega arith)
+fault_of_status P (failure.Text refusal.NoMemory) status (inr is) same h = absurd (omega arith)
+fault_of_status P (failure.Device device.Device) status (inr is) same h = absurd (omega arith)
+fault_of_status P (failure.Device device.NoMemory) status (inr is) same h = absurd (omega arith)
+
+-- What is told of the texts of files.
+module _ (contents : List ℕ → Option (List ℕ)) (before after : Option (List ℕ)) (same : after ≡ before) where
+  pub refused_on_two : (domain problem d p : List ℕ) → IsText contents domain d → IsText contents problem p
+      → (o : Option FileFault) → IfSome o (IsTaskFault d p)
+      → IfSome o (λ fault. OnTwo contents domain problem (λ d p. IsTaskFault d p fault) × (after ≡ before))
+  refused_on_two domain problem d p d_is p_is None h = tt
+  refused_on_two domain problem d p d_is p_is (Some fault) h = ((d, p, d_is, p_is, h), same)
+
+  pub refused_on_three : (domain problem plan d p l : List ℕ) → IsText contents domain d → IsText contents problem p → IsText contents plan l
+      → (o : Option FileFault) → IfSome o (IsFileFault d p l)
+      → IfSome o (λ fault. OnThree contents domain problem plan (λ d p l. IsFileFault d p l fault) × (after ≡ before))
+  refused_on_three domain problem plan d p l d_is p_is l_is None h = tt
+  refused_on_three domain problem plan d p l d_is p_is l_is (Some fault) h = ((d, p, l, d_is, p_is, l_is, h), same)
+
+-- the lists of a first word and the rest are equal in both
+first_same : (x y : List ℕ) (xs ys : List (List ℕ)) → x ∷ xs ≡ y ∷ ys → x ≡ y
+first_same x y xs ys same = cc
+
+rest_same : (x y : List ℕ) (xs ys : List (List ℕ)) → x ∷ xs ≡ y ∷ ys → xs ≡ ys
+rest_same x y xs ys same = cc
+
+validate_is_not_solve : codes "solve" ≡ codes "validate" → ⊥
+validate_is_not_solve same = absurd (cc)
+
+-- Words that begin as those that ask for a plan, with options that are none, are no command.
+pub no_options : (words : List (Bor (List ℕ))) (d : Bor (List ℕ)) (options : List (Bor (List ℕ))) → options ≡ drop 3 words → 3 ≤ length words
+    → (get_or words 0 d).now ≡ codes "solve" → ((states : ℕ) → AllowsStates (texts options) states → ⊥) → IsCommand (texts words) → ⊥
+no_options [] d options same three solve none is = absurd (omega arith)
+no_options (a ∷ []) d options same three solve none is = absurd (omega arith)
+no_options (a ∷ b ∷ []) d options same three solve none is = absurd (omega arith)
+no_options (a ∷ b ∷ c ∷ rest) d options same three solve none (is_validate domain problem plan asks) =
+    validate_is_not_solve (sym solve ∙ first_same _ _ _ _ asks)
+no_options (a ∷ b ∷ c ∷ rest) d options same three solve none (is_solve domain problem states asks) =
+    let after : texts rest ≡ asks.options = rest_same _ _ _ _ (rest_same _ _ _ _ (rest_same _ _ _ _ asks.in_order)) in
+    none states (subst (λ words. AllowsStates words states) (sym after ∙ ap texts (sym same)) asks.allows)
+
+limit_is : (number : ℕ) → true ≡ (is_limit number && is_limit 1000000) → (1 ≤ number) × (number ≤ 16777216)
+limit_is number is = (grind (arith, nat_tests), grind (arith, nat_tests))
+
+-- The number of `--states` is allowed where it was read and is a limit.
+pub number_asked : (options : List (Bor (List ℕ))) (d : Bor (List ℕ)) (states : ℕ) (limits : Option Limits) → 2 ≤ length options → length options < 3
+    → (get_or options 0 d).now ≡ codes "--states"
+    → IsNumeral 10 (without_leading_plus (get_or options 1 d).now) × (digits_value 10 (without_leading_plus (get_or options 1 d).now) < 2 ^ 32)
+    → states ≡ digits_value 10 (without_leading_plus (get_or options 1 d).now)
+    → is_some limits ≡ (is_limit states && is_limit 1000000) → IfSome limits (λ l. l.states ≡ states)
+    → IfSome limits (λ l. AllowsStates (texts options) l.states)
+number_asked [] d states limits least most first numeral value within are = absurd (omega arith)
+number_asked (a ∷ []) d states limits least most first numeral value within are = absurd (omega arith)
+number_asked (a ∷ b ∷ c ∷ rest) d states limits least most first numeral value within are = absurd (omega arith)
+number_asked (a ∷ b ∷ []) d states None least most first numeral value within are = tt
+number_asked (a ∷ b ∷ []) d states (Some l) least most first numeral value within are =
+    let (least_limit, most_limit) = limit_is states within in
+    as_asked b.now (ap (λ word. word ∷ b.now ∷ []) first) (numeral.0, are ∙ value) (omega arith) (omega arith)
