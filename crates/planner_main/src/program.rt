@@ -26,8 +26,9 @@ const PIECE: usize = 65_536;
 /// error, and the status that it ends with.
 ///
 /// `solve DOMAIN PROBLEM [--states N]` tells a cheapest plan, or that there is none; at most N states are listed, where
-/// no N is given 1,000,000. `validate DOMAIN PROBLEM PLAN` says whether the plan solves the task. Of a file at most 16,777,217 bytes are read
-/// and taken for its whole text, and all files are read before any fault of their texts is told.
+/// no N is given 1,000,000. `validate DOMAIN PROBLEM PLAN` says whether the plan solves the task. Of a file at most
+/// 16,777,217 bytes are read and taken for its whole text, and all files are read before any fault of their texts is
+/// told.
 ///
 /// | What comes | Standard output | Standard error | Status |
 /// |---|---|---|---|
