@@ -1,5 +1,5 @@
 //! A plain store of states: an indexed hash set.
-ghost use Rattle.std.specs.Prelude.{◌≡◌, ◌<◌, [], ◌∷◌, ◌++◌, length, slice_get, Contains, MatchBool, MatchOption, IfOk, OnErr};
+ghost use Rattle.std.specs.Prelude.{◌≡◌, ◌<◌, ◌==◌, [], ◌∷◌, ◌++◌, length, slice_get, Contains, MatchBool, MatchOption, IfOk, OnErr};
 
 use crate::system::TaskSystem;
 use indexmap::IndexSet;
@@ -36,7 +36,9 @@ impl PlainStore {
     }
 
     /// Whether there is no state.
-    pub fn is_empty(&self) -> bool {
+    pub fn is_empty(&self) -> bool
+        ensures { result ≡ (length (states_of self.now) == 0) }
+    {
         self.states.is_empty()
     }
 
