@@ -1,6 +1,7 @@
 //! The program over files in memory: its two streams and its status, on the worked examples.
 use crate::certificate::{FailsAt, InPieces, Memory};
 use crate::files::Table;
+use crate::plan_file::one_plan;
 use crate::run;
 use std::alloc::Global;
 use std::process::Abort;
@@ -474,4 +475,9 @@ fn refuses_options_that_are_none(rt: HostRuntime) -> Result<(), Fail> {
         assert_eq!(rt; run_on(alloc, &words[..4], &mut files).status, 2);
     }
     Ok(())
+}
+
+#[test]
+fn laws_of_plan_texts() {
+    one_plan();
 }
