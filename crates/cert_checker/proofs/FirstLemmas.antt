@@ -1,5 +1,5 @@
 -- Why a refusal of the checker is the first: what the reading of the lines has found out so far.
-use Rattle.std.proofs.Common.{◌≡◌, ◌≢◌, ℕ, ◌+◌, ◌<◌, ◌≤◌, ◌&&◌, Bool, true, false, List, [], ◌∷◌, length, map, take, get_or, Option, Some, inl, inr, refl, sym, ap, ◌∙◌, subst, arith}
+use Rattle.std.proofs.Common.{◌≡◌, ◌≢◌, ℕ, ◌+◌, ◌<◌, ◌≤◌, ◌&&◌, Bool, true, false, List, [], ◌∷◌, length, map, take, get_or, Option, None, Some, inl, inr, refl, sym, ap, ◌∙◌, subst, arith}
 use Rattle.std.specs.Prelude.{◌↔◌, Result, Ok, Err, IfErr, AllPairs, Contains, IsSome, IsTrue, is_some, slice_get}
 use Rattle.std.proofs.lemmas.Bool.{cases_eq, false≢true}
 use Rattle.std.proofs.lemmas.List.{length-map, length-take, get_or-take, take-map}
@@ -13,27 +13,46 @@ use Rattle.cert_checker.specs.declared.check.code.RefusalCode.{RefusalCode}
 use Rattle.cert_checker.specs.declared.certificate.cert.StateLine as code_line
 use Rattle.cert_checker.specs.CertificateParts.{line_of}
 use Rattle.cert_checker.specs.RefusalCode.{reason_of}
-use Rattle.cert_checker.specs.CertChecker.{IsFirstRefusal}
+use Rattle.cert_checker.specs.CertChecker.{IsFirstRefusal, IsFirstSuccessor, IsFirstToLeave}
 use Rattle.cert_checker.specs.CheckedLines.{AreFluent, CutsAreAllowed, IsLineClosed, IsRightUpTo}
-use Rattle.cert_checker.proofs.CertCheckerLemmas.{entry, listed_there, slice_get-map}
+use Rattle.cert_checker.proofs.CertCheckerLemmas.{AllListed, Contains-got, entry, listed_there, slice_get-map}
 use Rattle.cert_checker.proofs.RefusalsLemmas.{states_of_lines}
 use Rattle.cert_checker.proofs.OrderLemmas.{AtomsAreRight, StatesAreRight}
 use Rattle.model.specs.Task.{Task, Atom, Instance}
 use Rattle.model.specs.WellTyped.{is_atom}
 use Rattle.model.specs.Meaning.{State, system_of}
-use Rattle.model.specs.Instances.{all_instances}
+use Rattle.model.specs.Instances.{all_instances, successors_of}
 use Rattle.model.specs.Claims.{none, Line}
 use Rattle.model.specs.Certificates.{Certificate, is_fluent, state_of_line, lines_of, IsClosedFor}
-use Rattle.model.specs.CertificateRefusals.{IsFirst}
+use Rattle.model.specs.CertificateRefusals.{state_line, IsFirst}
 use Rattle.model.proofs.CertificateRefusalsLemmas.{apart}
 
 pub told_first : (task : Task) (c : Certificate) (plan : Option (List Instance)) (most : ℕ) (r : Refusal) (code : RefusalCode) (line : ℕ) → r ≡ refusal.Line code line
-    → IsFirst task c plan most (reason_of code) line → IsFirstRefusal task c plan most r
-told_first task c plan most r code line is first = subst (IsFirstRefusal task c plan most) (sym is) first
+    → IsFirst task c plan most (reason_of code) line → IsFirstSuccessor task c (reason_of code) line → IsFirstRefusal task c plan most r
+told_first task c plan most r code line is first successor = subst (IsFirstRefusal task c plan most) (sym is) (first, successor)
 
 slice_get-take : {X : Type 0} (k : ℕ) (xs : List X) (i : ℕ) (x : X) → i < k → slice_get xs i ≡ Some x → slice_get (take k xs) i ≡ Some x
 slice_get-take k xs i x lt at =
     slice_get-or (take k xs) i x (omega (arith, length-take k xs, slice_get_within xs i x at)) ∙ ap Some (get_or-take k xs i x lt ∙ get_or_from_slice_get xs i x x at)
+
+-- ---- the successors so far
+
+-- the one that is gone through now is the first that may leave the listing
+pub first_to_leave : {X : Type 0} (task : Task) (c : Certificate) (place : ℕ) (s : State) (cost : ℕ) (view : X → Instance × State) (xs : List X) (k : ℕ) (x : X)
+    → slice_get (lines_of task c) place ≡ Some (record { state = s; cost = cost; cut = None }) → k < length xs → x ≡ get_or xs k x → map view xs ≡ successors_of task s
+    → AllListed (lines_of task c) (cost + 1) (map view (take k xs))
+    → IsFirstToLeave task c (state_line c place) (record { state = s; cost = cost; cut = None }) (view x).0 (view x).1
+first_to_leave {X} task c place s cost view xs k x there lt at is before = record {
+  stands_there = (place, refl, there);
+  is_open = refl;
+  place = k;
+  leads = subst (λ those. slice_get those k ≡ Some (view x)) is (slice_get-map view xs k x (slice_get-or xs k x lt ∙ ap Some (sym at)));
+  listed_before = λ earlier j next lt_k at_earlier.
+      let there_earlier : slice_get (map view xs) earlier ≡ Some (j, next) = subst (λ those. slice_get those earlier ≡ Some (j, next)) (sym is) at_earlier in
+      let in_first : slice_get (map view (take k xs)) earlier ≡ Some (j, next) =
+      subst (λ those. slice_get those earlier ≡ Some (j, next)) (take-map view k xs) (slice_get-take k (map view xs) earlier (j, next) lt_k there_earlier) in
+      before j next (Contains-got {X = Instance × State} (map view (take k xs)) earlier (j, next) in_first);
+}
 
 -- ---- the atoms so far
 

@@ -112,6 +112,14 @@ pub wrong_missing : (task : Task) (c : Certificate) (place : ℕ) (s : State) (c
 wrong_missing task c place s cost i next there leads missing =
     (record { state = s; cost = cost; cut = None }, i, next, ((place, refl, there), refl, leads), missing)
 
+pub listed_somewhere : (lines : List (Line State)) (s : State) (listed : ℕ) → IsListedAt lines s listed → IsListed lines s
+listed_somewhere lines s listed at = (at.0, at.1, at.2)
+
+pub not_within : (task : Task) (c : Certificate) (states : List State) (s : State) (listed cost : ℕ) → Lists task c states → IsListedAt (lines_of task c) s listed → cost + 1 < listed
+    → ¬ IsListedWithin (lines_of task c) s (cost + 1)
+not_within task c states s listed cost lists at dearer within =
+    omega (arith, one_cost (lines_of task c) s listed (cost + 1) (lines_apart task c states lists) at within)
+
 pub wrong_dearer : (task : Task) (c : Certificate) (states : List State) (place : ℕ) (s : State) (cost : ℕ) (i : Instance) (next : State) (listed : ℕ) → Lists task c states
     → IsOpenAt task c place s cost → step task s i ≡ Some next → IsListedAt (lines_of task c) next listed → cost + 1 < listed → IsWrongLine task c successor_dearer (state_line c place)
 wrong_dearer task c states place s cost i next listed lists there leads at dearer = (
@@ -119,8 +127,8 @@ wrong_dearer task c states place s cost i next listed lists there leads at deare
   i,
   next,
   ((place, refl, there), refl, leads),
-  (at.0, at.1, at.2),
-  λ within. omega (arith, one_cost (lines_of task c) next listed (cost + 1) (lines_apart task c states lists) at within),
+  listed_somewhere (lines_of task c) next listed at,
+  not_within task c states next listed cost lists at dearer,
 )
 
 -- ---- cuts

@@ -1,16 +1,17 @@
 -- What the answers of the checker of certificates say.
-use Rattle.std.specs.Prelude.{◌≡◌, ℕ, List, MatchOption, Option, None, IsSome}
+use Rattle.std.specs.Prelude.{◌≡◌, ℕ, ◌+◌, ◌<◌, List, slice_get, MatchOption, Option, None, Some, IsSome}
 use Rattle.cert_checker.specs.declared.check.Accepted.{Accepted}
 use Rattle.cert_checker.specs.declared.check.Accepted.TheVariants.{Optimal, AtLeast, Unsolvable}
 use Rattle.cert_checker.specs.declared.check.Refusal.{Refusal}
-use Rattle.cert_checker.specs.declared.check.Refusal.TheVariants.{Line, Plain, NoMemory}
+use Rattle.cert_checker.specs.declared.check.Refusal.TheVariants as refusal
 use Rattle.cert_checker.specs.RefusalCode.{reason_of}
 use Rattle.model.specs.Task.{Task, Instance}
 use Rattle.model.specs.Runs.{cost_of_all, IsOptimal, CostsAtLeast, IsUnsolvable}
-use Rattle.model.specs.Meaning.{system_of}
-use Rattle.model.specs.Claims.{Claim, bound, none}
-use Rattle.model.specs.Certificates.{Certificate}
-use Rattle.model.specs.CertificateRefusals.{limit, IsFirst, IsWrong, IsWrongLine}
+use Rattle.model.specs.Meaning.{State, system_of}
+use Rattle.model.specs.Instances.{successors_of}
+use Rattle.model.specs.Claims.{Claim, bound, none, Line, IsListedWithin}
+use Rattle.model.specs.Certificates.{Certificate, lines_of}
+use Rattle.model.specs.CertificateRefusals.{Reason, limit, successor_missing, successor_dearer, IsFirst, IsListed, HasState, IsWrong, IsWrongLine}
 
 -- What an accepted certificate shows is true, of all lists of instances: the plan that was handed in is optimal at
 -- this cost; every list that solves costs at least this; no list solves.
@@ -27,18 +28,37 @@ Answers claim plan Unsolvable = (claim ≡ none) × (plan ≡ None)
 
 -- The refusal is true of the certificate, the plan that was handed in, if one was, and the limit of instances.
 abbrev pub IsTrueRefusal : Task → Certificate → Option (List Instance) → ℕ → Refusal → Type 0
-IsTrueRefusal task c plan most (Line code line) = IsWrongLine task c (reason_of code) line
-IsTrueRefusal task c plan most (Plain code) = IsWrong task c plan most (reason_of code)
-IsTrueRefusal task c plan most NoMemory = Unit {0}
+IsTrueRefusal task c plan most (refusal.Line code line) = IsWrongLine task c (reason_of code) line
+IsTrueRefusal task c plan most (refusal.Plain code) = IsWrong task c plan most (reason_of code)
+IsTrueRefusal task c plan most refusal.NoMemory = Unit {0}
 
 -- Nothing is wrong with the certificate or the plan: the task has too many instances, or memory was refused.
 abbrev pub IsNoFault : Refusal → Type 0
-IsNoFault (Line code line) = ⊥
-IsNoFault (Plain code) = reason_of code ≡ limit
-IsNoFault NoMemory = Unit {0}
+IsNoFault (refusal.Line code line) = ⊥
+IsNoFault (refusal.Plain code) = reason_of code ≡ limit
+IsNoFault refusal.NoMemory = Unit {0}
 
--- Nothing that the checker looks for before is wrong.
+-- This line lists an open state, from which this instance leads to this state. Each that is applicable there and comes
+-- before it, in the order of all instances, leads to a state that is listed at no more than the line's cost and its own.
+pub record IsFirstToLeave (task : Task) (c : Certificate) (line : ℕ) (l : Line State) (i : Instance) (next : State) : Type 0 where
+  pub stands_there : HasState task c line l
+  pub is_open : l.cut ≡ None
+  pub place : ℕ
+  pub leads : slice_get (successors_of task l.state) place ≡ Some (i, next)
+  pub listed_before : (k : ℕ) (j : Instance) (s : State) → k < place → slice_get (successors_of task l.state) k ≡ Some (j, s)
+      → IsListedWithin (lines_of task c) s (l.cost + (system_of task).cost j)
+
+-- Where a successor is told of a line, it is the first one, in the order of the instances, that is not as it is to be.
+abbrev pub IsFirstSuccessor : Task → Certificate → Reason → ℕ → Type 0
+IsFirstSuccessor task c successor_missing line =
+    (l : Line State) × (i : Instance) × (next : State) × IsFirstToLeave task c line l i next × ¬ IsListed (lines_of task c) next
+IsFirstSuccessor task c successor_dearer line =
+    (l : Line State) × (i : Instance) × (next : State) × IsFirstToLeave task c line l i next × IsListed (lines_of task c) next
+    × ¬ IsListedWithin (lines_of task c) next (l.cost + (system_of task).cost i)
+IsFirstSuccessor task c _ line = Unit {0}
+
+-- Nothing that the checker looks for before is wrong, and of a line's successors none before.
 abbrev pub IsFirstRefusal : Task → Certificate → Option (List Instance) → ℕ → Refusal → Type 0
-IsFirstRefusal task c plan most (Line code line) = IsFirst task c plan most (reason_of code) line
-IsFirstRefusal task c plan most (Plain code) = IsFirst task c plan most (reason_of code) 0
-IsFirstRefusal task c plan most NoMemory = Unit {0}
+IsFirstRefusal task c plan most (refusal.Line code line) = IsFirst task c plan most (reason_of code) line × IsFirstSuccessor task c (reason_of code) line
+IsFirstRefusal task c plan most (refusal.Plain code) = IsFirst task c plan most (reason_of code) 0
+IsFirstRefusal task c plan most refusal.NoMemory = Unit {0}

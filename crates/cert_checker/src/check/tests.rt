@@ -1,9 +1,13 @@
-//! The checker on small tasks: closed certificates, and certificates with one condition broken.
+//! The checker on small tasks: certificates that are accepted, and certificates with one condition broken.
 ghost use Rattle.std.specs.Prelude.{◌≡◌, IsTrue};
 ghost use Rattle.std.specs.List.{list_all};
 ghost use Rattle.validator.specs.Typing.{task_of};
 ghost use Rattle.validator.specs.Formulas.{instance_of, plan_of};
 ghost use Rattle.model.specs.Meaning as meaning;
+
+mod accepted;
+mod line_refusals;
+mod plain_refusals;
 
 use crate::certificate::{Cert, Claim, StateLine};
 use crate::{Accepted, Refusal, RefusalCode, check_cert};
@@ -16,11 +20,19 @@ use tokens::scan;
 use validator::formulas::{Binding, Instance, Plan, is_instance};
 use validator::typing::{Atom, ObjectId, PredicateId, SchemaId, Task};
 
-const GO: [&str; 2] = [
-    "(define (domain go)
+const GO_DOMAIN: &str = "(define (domain go)
  (:predicates (p) (q))
- (:action go :parameters () :effect (and (not (p)) (p) (q))))",
+ (:action go :parameters () :effect (and (not (p)) (p) (q))))";
+
+const GO: [&str; 2] = [
+    GO_DOMAIN,
     "(define (problem g) (:domain go) (:init (p)) (:goal (and (p) (q))))",
+];
+
+// the goal holds at the start
+const DONE: [&str; 2] = [
+    GO_DOMAIN,
+    "(define (problem g) (:domain go) (:init (p)) (:goal (p)))",
 ];
 
 const TIE_DOMAIN: &str = "(define (domain tie) (:predicates (link ?x ?y) (tied))
@@ -36,13 +48,22 @@ const UNTIED: [&str; 2] = [
     "(define (problem t) (:domain tie) (:objects a) (:init) (:goal (tied)))",
 ];
 
+const PATH_DOMAIN: &str = "(define (domain path) (:predicates (at ?x) (road ?x ?y))
+ (:action go :parameters (?x ?y) :precondition (and (at ?x) (road ?x ?y))
+  :effect (and (not (at ?x)) (at ?y))))";
+
 // three places in a row, of which the last is to be reached
 const PATH: [&str; 2] = [
-    "(define (domain path) (:predicates (at ?x) (road ?x ?y))
- (:action go :parameters (?x ?y) :precondition (and (at ?x) (road ?x ?y))
-  :effect (and (not (at ?x)) (at ?y))))",
+    PATH_DOMAIN,
     "(define (problem p) (:domain path) (:objects a b c)
  (:init (at a) (road a b) (road b c)) (:goal (at c)))",
+];
+
+// two places that are reached from the first one
+const FORK: [&str; 2] = [
+    PATH_DOMAIN,
+    "(define (problem f) (:domain path) (:objects a b c)
+ (:init (at a) (road a b) (road a c)) (:goal (at c)))",
 ];
 
 /// A state line: its cost, its bound if it is a cut, and its atoms.
@@ -233,12 +254,12 @@ fn limited<'a>(
     }
 }
 
-/// A case of `GO`, with its two atoms.
+/// A case of `GO` or `DONE`, with their two atoms.
 fn go<'a>(claim: Claim, lines: &'a [Row<'a>], want: Result<Accepted, Refusal>) -> Case<'a> {
     listing(claim, &[(0, &[]), (1, &[])], lines, want)
 }
 
-/// A case of `PATH`, with an atom for each place.
+/// A case of `PATH` or `FORK`, with an atom for each place.
 fn path<'a>(claim: Claim, lines: &'a [Row<'a>], want: Result<Accepted, Refusal>) -> Case<'a> {
     listing(claim, &[(0, &[0]), (0, &[1]), (0, &[2])], lines, want)
 }
@@ -249,297 +270,54 @@ fn tie<'a>(claim: Claim, lines: &'a [Row<'a>], want: Result<Accepted, Refusal>) 
 }
 
 #[test]
-fn closed_listings_are_accepted(rt: HostRuntime) -> Result<(), Fail> {
+fn codes_have_their_numbers_and_names(rt: HostRuntime) -> Result<(), Fail> {
     let alloc = rt.alloc();
-    let cases = [
-        go(
-            Claim::Bound(1),
-            &[(0, None, &[0]), (1, Some(0), &[0, 1])],
-            at_least(1),
-        ),
-        go(
-            Claim::Bound(1),
-            &[(1, None, &[0, 1]), (0, None, &[0])],
-            at_least(1),
-        ),
-        go(
-            Claim::Bound(1),
-            &[(7, Some(0), &[1]), (0, None, &[0]), (1, Some(0), &[0, 1])],
-            at_least(1),
-        ),
-        go(Claim::Bound(0), &[(0, Some(0), &[0])], at_least(0)),
+    let table = [
+        (RefusalCode::NotFluent, 43, "NotFluent"),
+        (RefusalCode::Repeated, 44, "Repeated"),
+        (RefusalCode::NoInitial, 45, "NoInitial"),
+        (RefusalCode::GoalOpen, 48, "GoalOpen"),
+        (RefusalCode::SuccessorMissing, 49, "SuccessorMissing"),
+        (RefusalCode::SuccessorDearer, 50, "SuccessorDearer"),
+        (RefusalCode::CutWeak, 51, "CutWeak"),
+        (RefusalCode::CutNotAllowed, 52, "CutNotAllowed"),
+        (RefusalCode::PlanInvalid, 53, "PlanInvalid"),
+        (RefusalCode::PlanDearer, 54, "PlanDearer"),
+        (RefusalCode::Limit, 55, "Limit"),
     ];
-    check(&rt, alloc, &task(alloc, GO)?, &cases)?;
-    let cases = [
-        tie(
-            Claim::Bound(1),
-            &[(0, None, &[]), (1, None, &[0])],
-            at_least(1),
-        ),
-        tie(
-            Claim::Bound(1),
-            &[(0, None, &[]), (1, Some(0), &[0])],
-            at_least(1),
-        ),
-    ];
-    check(&rt, alloc, &task(alloc, TIE)?, &cases)?;
-    let cases = [
-        tie(
-            Claim::Unsolvable,
-            &[(0, None, &[])],
-            Ok(Accepted::Unsolvable),
-        ),
-        tie(Claim::Bound(9), &[(0, None, &[])], at_least(9)),
-        listing(
-            Claim::Unsolvable,
-            &[],
-            &[(0, None, &[])],
-            Ok(Accepted::Unsolvable),
-        ),
-    ];
-    check(&rt, alloc, &task(alloc, UNTIED)?, &cases)?;
-    let cases = [
-        path(
-            Claim::Bound(2),
-            &[(0, None, &[0]), (1, None, &[1]), (2, Some(0), &[2])],
-            at_least(2),
-        ),
-        path(
-            Claim::Bound(2),
-            &[(0, None, &[0]), (1, None, &[1]), (2, None, &[2])],
-            at_least(2),
-        ),
-        path(
-            Claim::Bound(1),
-            &[(0, None, &[0]), (1, Some(0), &[1])],
-            at_least(1),
-        ),
-    ];
-    check(&rt, alloc, &task(alloc, PATH)?, &cases)
+    for (code, number, name) in table {
+        let shown = format!(in alloc; "{} {code}", code.number())?;
+        let want = format!(in alloc; "{number} {name}")?;
+        assert_eq!(rt; shown.as_str(), want.as_str());
+    }
+    Ok(())
 }
 
 #[test]
-fn a_broken_condition_is_told_with_its_line(rt: HostRuntime) -> Result<(), Fail> {
+fn certificates_keep_their_limits(rt: HostRuntime) -> Result<(), Fail> {
     let alloc = rt.alloc();
-    let cases = [
-        // the initial state missing, and listed at 1
-        go(
-            Claim::Bound(1),
-            &[(1, Some(0), &[0, 1])],
-            whole(RefusalCode::NoInitial),
-        ),
-        go(
-            Claim::Bound(1),
-            &[(1, None, &[0]), (1, Some(0), &[0, 1])],
-            whole(RefusalCode::NoInitial),
-        ),
-        // a successor missing, and listed one too dear
-        go(
-            Claim::Bound(1),
-            &[(0, None, &[0])],
-            at(RefusalCode::SuccessorMissing, 6),
-        ),
-        go(
-            Claim::Bound(1),
-            &[(2, Some(0), &[0, 1]), (0, None, &[0])],
-            at(RefusalCode::SuccessorDearer, 7),
-        ),
-        // an open goal state below the claim, and one where no plan is claimed
-        go(
-            Claim::Bound(2),
-            &[(0, None, &[0]), (1, None, &[0, 1])],
-            at(RefusalCode::GoalOpen, 7),
-        ),
-        go(
-            Claim::Unsolvable,
-            &[(1, None, &[0, 1]), (0, None, &[0])],
-            at(RefusalCode::GoalOpen, 6),
-        ),
-        // a cut with a bound of 1, one that does not reach the claim, and one where no plan is claimed
-        go(
-            Claim::Bound(2),
-            &[(0, None, &[0]), (1, Some(1), &[0, 1])],
-            at(RefusalCode::CutWeak, 7),
-        ),
-        go(
-            Claim::Bound(2),
-            &[(0, None, &[0]), (1, Some(0), &[0, 1])],
-            at(RefusalCode::CutWeak, 7),
-        ),
-        go(
-            Claim::Unsolvable,
-            &[(0, None, &[0]), (1, Some(0), &[0, 1])],
-            at(RefusalCode::CutNotAllowed, 7),
-        ),
-        // a state twice
-        go(
-            Claim::Bound(1),
-            &[(0, None, &[0]), (1, Some(0), &[0, 1]), (5, None, &[0])],
-            at(RefusalCode::Repeated, 8),
-        ),
+    let most = 1_152_921_504_606_846_975;
+    let claim = Claim::Bound(0);
+    let cases: [(Claim, Row, bool); 9] = [
+        (Claim::Bound(most), (most, Some(most), &[0, 1]), true),
+        (Claim::Unsolvable, (0, None, &[]), true),
+        (Claim::Bound(most + 1), (0, None, &[]), false),
+        (claim, (most + 1, None, &[]), false),
+        (claim, (0, Some(most + 1), &[]), false),
+        // numbers that fall, stand twice, or name no atom
+        (claim, (0, None, &[1, 0]), false),
+        (claim, (0, None, &[0, 0]), false),
+        (claim, (0, None, &[1, 1]), false),
+        (claim, (0, None, &[2]), false),
     ];
-    check(&rt, alloc, &task(alloc, GO)?, &cases)?;
-    let cases = [
-        path(
-            Claim::Bound(2),
-            &[(0, None, &[0]), (2, None, &[1]), (2, None, &[2])],
-            at(RefusalCode::SuccessorDearer, 7),
-        ),
-        path(
-            Claim::Bound(2),
-            &[(0, None, &[0]), (1, None, &[1])],
-            at(RefusalCode::SuccessorMissing, 8),
-        ),
-        path(
-            Claim::Bound(3),
-            &[(0, None, &[0]), (1, None, &[1]), (2, Some(0), &[2])],
-            at(RefusalCode::CutWeak, 9),
-        ),
-        // the first of two wrong lines, and the goal before the successors
-        path(
-            Claim::Bound(2),
-            &[(0, None, &[0]), (1, Some(0), &[1]), (2, Some(3), &[2])],
-            at(RefusalCode::CutWeak, 8),
-        ),
-        path(
-            Claim::Unsolvable,
-            &[(0, None, &[0]), (1, None, &[1]), (2, None, &[2])],
-            at(RefusalCode::GoalOpen, 9),
-        ),
-    ];
-    check(&rt, alloc, &task(alloc, PATH)?, &cases)?;
-    let cases = [
-        tie(
-            Claim::Unsolvable,
-            &[(0, None, &[])],
-            at(RefusalCode::SuccessorMissing, 5),
-        ),
-        tie(
-            Claim::Unsolvable,
-            &[(0, None, &[]), (1, None, &[0])],
-            at(RefusalCode::GoalOpen, 6),
-        ),
-    ];
-    check(&rt, alloc, &task(alloc, TIE)?, &cases)
-}
-
-#[test]
-fn atoms_are_well_typed_fluent_and_distinct(rt: HostRuntime) -> Result<(), Fail> {
-    let alloc = rt.alloc();
-    let task = task(alloc, PATH)?;
-    let lines: [Row; 1] = [(0, Some(0), &[0])];
-    let cases = [
-        listing(Claim::Bound(0), &[(0, &[0])], &lines, at_least(0)),
-        // a static atom, an unknown predicate, a count of objects that is not the predicate's, an unknown object
-        listing(
-            Claim::Bound(0),
-            &[(0, &[0]), (1, &[0, 1])],
-            &lines,
-            at(RefusalCode::NotFluent, 5),
-        ),
-        listing(
-            Claim::Bound(0),
-            &[(2, &[0])],
-            &lines,
-            at(RefusalCode::NotFluent, 4),
-        ),
-        listing(
-            Claim::Bound(0),
-            &[(0, &[])],
-            &lines,
-            at(RefusalCode::NotFluent, 4),
-        ),
-        listing(
-            Claim::Bound(0),
-            &[(0, &[0]), (0, &[3])],
-            &lines,
-            at(RefusalCode::NotFluent, 5),
-        ),
-        // an atom twice
-        listing(
-            Claim::Bound(0),
-            &[(0, &[0]), (0, &[1]), (0, &[0]), (1, &[0, 1])],
-            &lines,
-            at(RefusalCode::Repeated, 6),
-        ),
-    ];
-    check(&rt, alloc, &task, &cases)
-}
-
-#[test]
-fn plans_are_held_against_the_claim(rt: HostRuntime) -> Result<(), Fail> {
-    let alloc = rt.alloc();
-    let claim = Claim::Bound(1);
-    let atoms: [Term; 2] = [(0, &[]), (1, &[])];
-    let lines: [Row; 2] = [(0, None, &[0]), (1, Some(0), &[0, 1])];
-    let (invalid, dearer) = (
-        whole(RefusalCode::PlanInvalid),
-        whole(RefusalCode::PlanDearer),
-    );
-    let cases = [
-        planned(claim, &atoms, &lines, &[(0, &[])], optimal(1)),
-        planned(claim, &atoms, &lines, &[], invalid),
-        planned(claim, &atoms, &lines, &[(0, &[]), (0, &[])], dearer),
-        // the listing comes before the plan
-        planned(
-            Claim::Bound(2),
-            &atoms,
-            &lines,
-            &[],
-            at(RefusalCode::CutWeak, 7),
-        ),
-    ];
-    check(&rt, alloc, &task(alloc, GO)?, &cases)?;
-    let claim = Claim::Unsolvable;
-    let atoms: [Term; 1] = [(1, &[])];
-    let lines: [Row; 1] = [(0, None, &[])];
-    let cases = [
-        planned(claim, &atoms, &lines, &[(0, &[0, 0])], invalid),
-        planned(claim, &atoms, &lines, &[], invalid),
-    ];
-    check(&rt, alloc, &task(alloc, UNTIED)?, &cases)?;
-    let claim = Claim::Bound(2);
-    let atoms: [Term; 3] = [(0, &[0]), (0, &[1]), (0, &[2])];
-    let lines: [Row; 3] = [(0, None, &[0]), (1, None, &[1]), (2, Some(0), &[2])];
-    let cases = [
-        planned(
-            claim,
-            &atoms,
-            &lines,
-            &[(0, &[0, 1]), (0, &[1, 2])],
-            optimal(2),
-        ),
-        planned(
-            claim,
-            &atoms,
-            &lines,
-            &[(0, &[0, 1]), (0, &[0, 1])],
-            invalid,
-        ),
-    ];
-    check(&rt, alloc, &task(alloc, PATH)?, &cases)
-}
-
-#[test]
-fn instances_are_limited(rt: HostRuntime) -> Result<(), Fail> {
-    let alloc = rt.alloc();
-    let atoms: [Term; 2] = [(0, &[]), (1, &[])];
-    let lines: [Row; 2] = [(0, None, &[0]), (1, Some(0), &[0, 1])];
-    let exceeds = whole(RefusalCode::Limit);
-    let cases = [
-        limited(1, &atoms, &lines, at_least(1)),
-        limited(0, &atoms, &lines, exceeds),
-        // the limit comes before the initial state, and after the atoms
-        limited(0, &atoms, &[], exceeds),
-        limited(0, &[(2, &[])], &[], at(RefusalCode::NotFluent, 4)),
-    ];
-    check(&rt, alloc, &task(alloc, GO)?, &cases)?;
-    // nine instances, of which two are ever applicable
-    let atoms: [Term; 2] = [(0, &[0]), (0, &[1])];
-    let lines: [Row; 2] = [(0, None, &[0]), (1, Some(0), &[1])];
-    let cases = [
-        limited(9, &atoms, &lines, at_least(1)),
-        limited(8, &atoms, &lines, exceeds),
-    ];
-    check(&rt, alloc, &task(alloc, PATH)?, &cases)
+    for (number, (claim, line, fits)) in cases.iter().enumerate() {
+        let atoms = atoms(alloc, &[(0, &[]), (1, &[])])?;
+        let lines = lines(alloc, &[*line])?;
+        assert_eq!(rt;
+            Cert::new(*claim, atoms, lines).is_some(),
+            *fits,
+            "case {number}"
+        );
+    }
+    Ok(())
 }

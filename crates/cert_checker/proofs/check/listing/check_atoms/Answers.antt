@@ -55,7 +55,7 @@ returns-then-not-is_fluent_atom-clause-first c =
     let place = c.loop-place.place in
     told_first task cert plan most c.atom_line.result NotFluent (atom_line place) c.atom_line.ensures
     (first_atom task cert plan most place (within_atoms cert atoms place c.loop-place-test.true c.atoms-atom-items.ensures.atoms)
-    (atoms_upto task cert atoms place c.atoms-atom-items.ensures.atoms c.loop-place.invariant.1))
+    (atoms_upto task cert atoms place c.atoms-atom-items.ensures.atoms c.loop-place.invariant.1)) tt
 
 pub returns-then-not-branch-clause-first : goal.returns-then-not-branch-clause-first
 returns-then-not-branch-clause-first c =
@@ -67,4 +67,4 @@ returns-then-not-branch-clause-first c =
     told_first task cert plan most c.atom_line-then-not-branch.result Repeated (atom_line place) c.atom_line-then-not-branch.ensures
     (first_repeated_atom task cert plan most place (within_atoms cert atoms place c.loop-place-test.true c.atoms-atom-items.ensures.atoms)
     (atoms_upto task cert atoms place c.atoms-atom-items.ensures.atoms c.loop-place.invariant.1)
-    (fluent_at task cert atoms place c.atom-item.result c.loop-place-test.true c.atom-item.is c.atoms-atom-items.ensures.atoms (sym c.is_fluent_atom.ensures ∙ c.if-not-is_fluent_atom.false)))
+    (fluent_at task cert atoms place c.atom-item.result c.loop-place-test.true c.atom-item.is c.atoms-atom-items.ensures.atoms (sym c.is_fluent_atom.ensures ∙ c.if-not-is_fluent_atom.false))) tt

@@ -69,7 +69,7 @@ returns-then-not-branch-clause-first c =
     let cert = certificate_of c.args.cert.now in
     told_first task cert plan most c.state_line.result Repeated (state_line cert c.loop-place.place) c.state_line.ensures
     (first_repeated_state task cert plan most c.loop-place.place (atoms_right task cert atoms)
-    (states_upto task cert c.lines-line-items.result.now c.lines-line-items.ensures.lines c.loop-place.place (states_of c.loop-place.states) c.loop-place.invariant.0 c.loop-place.invariant.1 c.loop-place.invariant.2))
+    (states_upto task cert c.lines-line-items.result.now c.lines-line-items.ensures.lines c.loop-place.place (states_of c.loop-place.states) c.loop-place.invariant.0 c.loop-place.invariant.1 c.loop-place.invariant.2)) tt
 
 pub returns-then-is_cut_not_allowed-clause-first : goal.returns-then-is_cut_not_allowed-clause-first
 returns-then-is_cut_not_allowed-clause-first c =
@@ -86,4 +86,4 @@ returns-then-is_cut_not_allowed-clause-first c =
     (first_not_allowed task cert plan most place (atoms_right task cert atoms)
     (states_upto task cert lines c.lines-line-items.ensures.lines place old c.loop-place.invariant.0 c.loop-place.invariant.1 c.loop-place.invariant.2)
     (new_state task cert lines c.lines-line-items.ensures.lines place c.line-item.result old state c.loop-place-test.true c.line-item.is c.loop-place.invariant.0
-    (c.in_ok-state.ensures (static_atoms task) c.in_ok-statics.ensures) here.0))
+    (c.in_ok-state.ensures (static_atoms task) c.in_ok-statics.ensures) here.0)) tt

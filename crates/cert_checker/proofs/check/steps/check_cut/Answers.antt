@@ -25,4 +25,4 @@ returns-else-rest-eq0-clause-first c =
     λ task plan most right.
     let cert = certificate_of c.args.cert.now in
     told_first task cert plan most c.state_line.result CutWeak (state_line cert c.args.place) c.state_line.ensures
-    (first_in_line task cert plan most c.args.place cut_weak right refl (λ r stage rank wrong. omega arith))
+    (first_in_line task cert plan most c.args.place cut_weak right refl (λ r stage rank wrong. omega arith)) tt

@@ -24,4 +24,4 @@ returns-then-not-allows-clause-first c =
     let task = task_of c.args.task.now in
     let cert = certificate_of c.args.cert.now in
     told_first task cert plan most c.state_line.result GoalOpen (state_line cert c.args.place) c.state_line.ensures
-    (first_in_line task cert plan most c.args.place goal_open right refl (λ r stage rank wrong. omega arith))
+    (first_in_line task cert plan most c.args.place goal_open right refl (λ r stage rank wrong. omega arith)) tt

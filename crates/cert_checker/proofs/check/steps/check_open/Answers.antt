@@ -11,8 +11,8 @@ use Rattle.model.specs.Certificates.{lines_of}
 use Rattle.cert_checker.proofs.CertCheckerLemmas.{AllListed-none, AllListed-more, listed_within, open_closed, same_place}
 use Rattle.model.specs.CertificateRefusals.{successor_missing, successor_dearer, state_line}
 use Rattle.cert_checker.proofs.OrderLemmas.{first_in_line, open_here}
-use Rattle.cert_checker.proofs.FirstLemmas.{told_first}
-use Rattle.cert_checker.proofs.RefusalsLemmas.{told, line_there, leads_there, wrong_missing, wrong_dearer}
+use Rattle.cert_checker.proofs.FirstLemmas.{told_first, first_to_leave}
+use Rattle.cert_checker.proofs.RefusalsLemmas.{told, line_there, leads_there, wrong_missing, wrong_dearer, listed_somewhere, not_within}
 use Rattle.cert_checker.proofs.check.steps.check_open.Goals as goal
 
 pub loop-successor-init : goal.loop-successor-init
@@ -75,7 +75,14 @@ returns-in_default-clause-first c =
     let there = line_there task cert (states_of c.args.states.now) c.args.place c.args.cost None state c.requires.lists c.requires.listed c.get-state.ensures in
     told_first task cert plan most c.state_line.result SuccessorMissing (state_line cert c.args.place) c.state_line.ensures
     (first_in_line task cert plan most c.args.place successor_missing right refl
-    (open_here task cert c.args.place (record { state = state; cost = c.args.cost; cut = None }) there refl c.in_ok-check_goal.ensures.right))
+    (open_here task cert c.args.place (record { state = state; cost = c.args.cost; cut = None }) there refl c.in_ok-check_goal.ensures.right)) (
+      record { state = state; cost = c.args.cost; cut = None },
+      instance_of c.successor-item.result.action,
+      state_of c.successor-item.result.state,
+      first_to_leave task cert c.args.place state c.args.cost successor_of c.deref-successor-items.result.now c.loop-successor.successor-index c.successor-item.result there
+          c.loop-successor-test.true c.successor-item.is (ap (map successor_of) c.deref-successor-items.ensures.value ∙ c.in_ok-successors.ensures) c.loop-successor.invariant,
+      c.in_default.ensures,
+    )
 
 pub returns-then-listed-cost-clause-first : goal.returns-then-listed-cost-clause-first
 returns-then-listed-cost-clause-first c =
@@ -86,4 +93,12 @@ returns-then-listed-cost-clause-first c =
     let there = line_there task cert (states_of c.args.states.now) c.args.place c.args.cost None state c.requires.lists c.requires.listed c.get-state.ensures in
     told_first task cert plan most c.state_line-then-listed-cost.result SuccessorDearer (state_line cert c.args.place) c.state_line-then-listed-cost.ensures
     (first_in_line task cert plan most c.args.place successor_dearer right refl
-    (open_here task cert c.args.place (record { state = state; cost = c.args.cost; cut = None }) there refl c.in_ok-check_goal.ensures.right))
+    (open_here task cert c.args.place (record { state = state; cost = c.args.cost; cut = None }) there refl c.in_ok-check_goal.ensures.right)) (
+      record { state = state; cost = c.args.cost; cut = None },
+      instance_of c.successor-item.result.action,
+      state_of c.successor-item.result.state,
+      first_to_leave task cert c.args.place state c.args.cost successor_of c.deref-successor-items.result.now c.loop-successor.successor-index c.successor-item.result there
+          c.loop-successor-test.true c.successor-item.is (ap (map successor_of) c.deref-successor-items.ensures.value ∙ c.in_ok-successors.ensures) c.loop-successor.invariant,
+      listed_somewhere (lines_of task cert) (state_of c.successor-item.result.state) c.in-Some.listed c.in-Some.ensures,
+      not_within task cert (states_of c.args.states.now) (state_of c.successor-item.result.state) c.in-Some.listed c.args.cost c.requires.lists c.in-Some.ensures c.if-listed-cost.true,
+    )
