@@ -1,6 +1,6 @@
 -- Of a closed certificate nothing is wrong.
 use Rattle.std.proofs.Common.{◌≡◌, ℕ, ◌+◌, ◌<◌, ◌&&◌, false, List, length, get_or, Option, None, Some, inl, inr, refl, sym, ap, subst, arith}
-use Rattle.std.specs.Prelude.{◌≢◌, IsTrue, AllPairs, Contains, slice_get}
+use Rattle.std.specs.Prelude.{◌≢◌, IsTrue, AllPairs, slice_get}
 use Rattle.std.proofs.lemmas.Option.{slice_get_within, get_or_from_slice_get}
 use Rattle.model.specs.Task.{Atom, Task, Instance}
 use Rattle.model.specs.WellTyped.{is_atom}
@@ -10,11 +10,9 @@ use Rattle.model.specs.Instances.{all_instances}
 use Rattle.model.specs.Claims.{Claim, bound, none, Allows, Line, IsListedWithin}
 use Rattle.model.specs.Certificates.{Certificate, is_fluent, lines_of, IsClosedFor}
 use Rattle.model.specs.CertificateRefusals.{Reason, not_fluent, repeated, no_initial, goal_open, successor_missing, successor_dearer, cut_weak, cut_not_allowed, plan_invalid, plan_dearer, limit, IsWrongLine, IsWrong, IsPlanWithin, IsListed}
+use Rattle.model.proofs.ListLemmas.{Contains-got}
 
 -- ---- elements at their places
-
-pub Contains-place_of : {X : Type 0} (xs : List X) (i : ℕ) (x : X) → slice_get xs i ≡ Some x → Contains xs x
-Contains-place_of xs i x at = (i, slice_get_within xs i x at, get_or_from_slice_get xs i x x at)
 
 -- what holds of each two holds of those at two places
 pub apart : {X : Type 0} (R : X → X → Type 0) (xs : List X) (i j : ℕ) (x y : X) → AllPairs R xs → i < j → slice_get xs i ≡ Some x → slice_get xs j ≡ Some y → R x y
@@ -43,19 +41,19 @@ module _ (task : Task) (c : Certificate) (closed : IsClosedFor task c) where
   right_line repeated line (inr (earlier, l, before, lt, (j, told_j, at_j), (k, told_k, at_k), same)) =
       apart (λ (k l : Line State). k.state ≢ l.state) listed j k earlier l closed.states_are_distinct (omega arith) at_j at_k same
   right_line goal_open line (l, (place, told, at), is_open, goal, denied) =
-      denied (closed.listing_is_closed.open_goals_allowed l (Contains-place_of listed place l at) is_open goal)
+      denied (closed.listing_is_closed.open_goals_allowed l (Contains-got listed place l at) is_open goal)
   right_line successor_missing line (l, i, next, ((place, told, at), is_open, leads), missing) =
-      let there = closed.listing_is_closed.successors_listed l i next (Contains-place_of listed place l at) is_open leads in
+      let there = closed.listing_is_closed.successors_listed l i next (Contains-got listed place l at) is_open leads in
       missing (there.0, there.1, there.2)
   right_line successor_dearer line (l, i, next, ((place, told, at), is_open, leads), is_listed, dearer) =
-      dearer (closed.listing_is_closed.successors_listed l i next (Contains-place_of listed place l at) is_open leads)
+      dearer (closed.listing_is_closed.successors_listed l i next (Contains-got listed place l at) is_open leads)
   right_line cut_weak line (l, rest, (place, told, at), is_cut, inl more) =
-      let allowed = closed.listing_is_closed.cuts_allowed l rest (Contains-place_of listed place l at) is_cut in
+      let allowed = closed.listing_is_closed.cuts_allowed l rest (Contains-got listed place l at) is_cut in
       omega (arith, allowed.0)
   right_line cut_weak line (l, rest, (place, told, at), is_cut, inr denied) =
-      denied (closed.listing_is_closed.cuts_allowed l rest (Contains-place_of listed place l at) is_cut).1
+      denied (closed.listing_is_closed.cuts_allowed l rest (Contains-got listed place l at) is_cut).1
   right_line cut_not_allowed line (l, rest, (place, told, at), is_cut, is_none) =
-      let allowed = (closed.listing_is_closed.cuts_allowed l rest (Contains-place_of listed place l at) is_cut).1 in
+      let allowed = (closed.listing_is_closed.cuts_allowed l rest (Contains-got listed place l at) is_cut).1 in
       subst (λ (claim : Claim). Allows claim (l.cost + rest)) is_none allowed
   right_line no_initial line wrong = wrong
   right_line plan_invalid line wrong = wrong

@@ -1,8 +1,9 @@
--- Which elements the lists made by `map`, `flat_map`, `filter_map` and a range have.
-use Rattle.std.proofs.Common.{◌≡◌, ℕ, zero, suc, ◌+◌, ◌<◌, ◌≤◌, ◌⊎◌, inl, inr, List, [], ◌∷◌, map, Option, None, Some, refl, sym, ap, ◌∙◌, subst, arith}
-use Rattle.std.specs.Prelude.{Contains}
+-- Which elements a list has, and those made by `map`, `flat_map`, `filter_map` and a range.
+use Rattle.std.proofs.Common.{◌≡◌, ℕ, zero, suc, ◌+◌, ◌<◌, ◌≤◌, ◌⊎◌, inl, inr, List, [], ◌∷◌, length, map, Option, None, Some, refl, sym, ap, ◌∙◌, subst, arith}
+use Rattle.std.specs.Prelude.{Contains, slice_get}
 use Rattle.std.specs.List.{flat_map, filter_map, range_with_len, cons_option}
 use Rattle.std.proofs.lemmas.Bool.{cases_eq}
+use Rattle.std.proofs.lemmas.Option.{slice_get_within, slice_get_read, get_or_from_slice_get}
 use Rattle.std.proofs.lemmas.List.Elements.{Contains-append_left, Contains-append_right, Contains-append_cases}
 
 pub Contains-here : {X : Type 0} (x : X) (xs : List X) → Contains (x ∷ xs) x
@@ -17,6 +18,12 @@ Contains-cases x xs y (suc k, below, is) = inr (k, omega (arith, below), is)
 
 pub Contains-none : {X : Type 0} (y : X) → Contains [] y → ⊥
 Contains-none y at = absurd (omega (arith, at.1))
+
+pub Contains-got : {X : Type 0} (xs : List X) (i : ℕ) (x : X) → slice_get xs i ≡ Some x → Contains xs x
+Contains-got xs i x at = (i, slice_get_within xs i x at, get_or_from_slice_get xs i x x at)
+
+pub Contains-place : {X : Type 0} (xs : List X) (x : X) → Contains xs x → (i : ℕ) × (slice_get xs i ≡ Some x)
+Contains-place xs x at = (at.0, slice_get_read xs (length xs) at.0 x refl at.1 (sym at.2))
 
 pub Contains-map : {X Y : Type 0} (f : X → Y) (xs : List X) (x : X) → Contains xs x → Contains (map f xs) (f x)
 Contains-map f [] x at = absurd (Contains-none x at)

@@ -14,7 +14,8 @@ use Rattle.model.specs.Runs.{run, IsReachable}
 use Rattle.model.specs.Certificates.{touches, any_touches, is_fluent, static_atoms}
 use Rattle.model.proofs.Atoms.{atoms_total, atoms_apart, same_state, added_by-append, deleted_by-append}
 
-abbrev stands_in : List Atom → Atom → Bool
+-- the atom stands in the list
+abbrev pub stands_in : List Atom → Atom → Bool
 stands_in atoms q = list_any (eq_by_cmp atom_cmp q) atoms
 
 -- a ground atom of another predicate is another atom
@@ -110,25 +111,25 @@ contains-run task q static (a ∷ actions) s end runs =
 pub contains-reachable : (task : Task) (s : State) (q : Atom) → is_fluent task q.predicate ≡ false → IsReachable (system_of task) s → contains s q ≡ contains (initial_state task) q
 contains-reachable task s q static reached = contains-run task q static reached.0 (initial_state task) s reached.1
 
-and_false : (x : Bool) → (x && false) ≡ false
+pub and_false : (x : Bool) → (x && false) ≡ false
 and_false true = refl
 and_false false = refl
 
-or_false : (x : Bool) → (x || false) ≡ x
+pub or_false : (x : Bool) → (x || false) ≡ x
 or_false true = refl
 or_false false = refl
 
 -- ---- a reachable state is its fluent atoms with the initial static ones
 
-eq_same : (q a : Atom) → eq_by_cmp atom_cmp q a ≡ true → q ≡ a
-eq_same q a same = atoms_apart q a ((Equal-is (atom_cmp q a)).0 same)
+pub same_atom : (q a : Atom) → eq_by_cmp atom_cmp q a ≡ true → q ≡ a
+same_atom q a same = atoms_apart q a ((Equal-is (atom_cmp q a)).0 same)
 
-stands_in-filter : (p : Atom → Bool) (atoms : List Atom) (q : Atom) → stands_in (filter p atoms) q ≡ (p q && stands_in atoms q)
+pub stands_in-filter : (p : Atom → Bool) (atoms : List Atom) (q : Atom) → stands_in (filter p atoms) q ≡ (p q && stands_in atoms q)
 stands_in-filter p [] q = sym (and_false (p q))
 stands_in-filter p (a ∷ atoms) q =
     elim (p a) as (λ t. p a ≡ t → stands_in (if t then a ∷ filter p atoms else filter p atoms) q ≡ (p q && (eq_by_cmp atom_cmp q a || stands_in atoms q))) [
-      | true ↦ λ passes. ap (λ v. eq_by_cmp atom_cmp q a || v) (stands_in-filter p atoms q) ∙ first_passes (eq_by_cmp atom_cmp q a) (p q) (stands_in atoms q) (λ same. ap p (eq_same q a same) ∙ passes)
-      | false ↦ λ fails. stands_in-filter p atoms q ∙ first_fails (eq_by_cmp atom_cmp q a) (p q) (stands_in atoms q) (λ same. ap p (eq_same q a same) ∙ fails)
+      | true ↦ λ passes. ap (λ v. eq_by_cmp atom_cmp q a || v) (stands_in-filter p atoms q) ∙ first_passes (eq_by_cmp atom_cmp q a) (p q) (stands_in atoms q) (λ same. ap p (same_atom q a same) ∙ passes)
+      | false ↦ λ fails. stands_in-filter p atoms q ∙ first_fails (eq_by_cmp atom_cmp q a) (p q) (stands_in atoms q) (λ same. ap p (same_atom q a same) ∙ fails)
     ] refl
   where
     first_passes : (e t r : Bool) → (e ≡ true → t ≡ true) → (e || (t && r)) ≡ (t && (e || r))

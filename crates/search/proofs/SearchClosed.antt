@@ -2,7 +2,7 @@
 use Rattle.std.proofs.Common.{◌≡◌, ℕ, zero, suc, ◌+◌, ◌*◌, ◌≤◌, inl, inr, List, [], ◌∷◌, ◌++◌, map, length, Bool, Option, Some, None, true, false, refl, sym, ap, ◌∙◌, subst, arith}
 use Rattle.std.specs.Prelude.{slice_get, Contains, if◌then◌else◌}
 use Rattle.std.proofs.lemmas.Bool.{false≢true}
-use Rattle.std.proofs.lemmas.Option.{same_Some}
+use Rattle.std.proofs.lemmas.Option.{same_Some, slice_get_within}
 use Rattle.std.proofs.lemmas.List.{map_push, length-append}
 use Rattle.std.proofs.lemmas.List.Sums.{sum_by-append, count_by-le-length}
 use Rattle.std.proofs.Math.Nat.{mul-le-mul_right}
@@ -16,7 +16,7 @@ use Rattle.search.specs.Search.{line_of, lines_of, AreFound}
 use Rattle.search.specs.SearchNodes.{Waiting, Node, nodes_of, AreNodes, IsFoundWithin, AreOpen, AreDescending, IsPath, begins, follows, depth_of, expanded_count, dearest}
 use Rattle.search.proofs.SearchNodesLemmas.{run-push}
 use Rattle.search.proofs.SearchLinked.{nodes_of-get, get-nodes_of, length-nodes_of}
-use Rattle.search.proofs.SearchLists.{get_exists, get_within}
+use Rattle.search.proofs.SearchLists.{get_exists}
 
 -- a line of the listing is that of a place
 line-at : {S : Type 0} (states : List S) (all : List Reached) (line : Line S) → Contains (lines_of states all) line
@@ -51,7 +51,7 @@ module _ {S L Action : Type 0} (t : System S L) (label : Action → L) (states :
   node_at : (k : ℕ) (s : S) (r : Reached) → slice_get states k ≡ Some s → slice_get all k ≡ Some r
       → (o : Option (Origin Action)) × (slice_get (nodes_of states all origins) k ≡ Some (record { state = s; reached = r; origin = o }))
   node_at k s r is_s is_r =
-      let there = get_exists origins k (omega (arith, get_within states k s is_s)) in
+      let there = get_exists origins k (omega (arith, slice_get_within states k s is_s)) in
       (there.0, get-nodes_of states all origins k s r there.0 is_s is_r there.1)
 
   listed : (s : S) (cost : ℕ) → IsFoundWithin (nodes_of states all origins) s cost → IsListedWithin (lines_of states all) s cost
@@ -92,8 +92,8 @@ module _ {S L Action : Type 0} (t : System S L) (label : Action → L) (states :
 
     pub descending : AreDescending origins
     descending k origin at =
-        let s = get_exists states k (omega (arith, get_within origins k (Some origin) at)) in
-        let r = get_exists all k (omega (arith, get_within origins k (Some origin) at)) in
+        let s = get_exists states k (omega (arith, slice_get_within origins k (Some origin) at)) in
+        let r = get_exists all k (omega (arith, slice_get_within origins k (Some origin) at)) in
         let n : Node S Action = record { state = s.0; reached = r.0; origin = Some origin } in
         let leads = nodes.linked k n origin (get-nodes_of states all origins k s.0 r.0 (Some origin) s.1 r.1 at) refl in
         (leads.parent.origin, (nodes_of-get states all origins origin.parent.0 leads.parent leads.stands).2, leads.depth)
@@ -137,8 +137,8 @@ module _ {S L Action : Type 0} (t : System S L) (label : Action → L) (states :
       one_for_each = one_each;
       within_limit = within;
       distinct = λ j k s at_j at_k.
-          let r_j = get_exists all j (omega (arith, get_within states j s at_j)) in
-          let r_k = get_exists all k (omega (arith, get_within states k s at_k)) in
+          let r_j = get_exists all j (omega (arith, slice_get_within states j s at_j)) in
+          let r_k = get_exists all k (omega (arith, slice_get_within states k s at_k)) in
           let (o_j, there_j) = node_at j s r_j.0 at_j r_j.1 in
           let (o_k, there_k) = node_at k s r_k.0 at_k r_k.1 in
           nodes.distinct j k (record { state = s; reached = r_j.0; origin = o_j }) (record { state = s; reached = r_k.0; origin = o_k }) there_j there_k refl;
@@ -146,7 +146,7 @@ module _ {S L Action : Type 0} (t : System S L) (label : Action → L) (states :
           let (o, there) = node_at k s r at_s at_r in
           nodes.reachable k (record { state = s; reached = r; origin = o }) there;
       cheap = λ k r at_r.
-          let s = get_exists states k (omega (arith, get_within all k r at_r)) in
+          let s = get_exists states k (omega (arith, slice_get_within all k r at_r)) in
           let (o, there) = node_at k s.0 r s.1 at_r in
           omega (arith, nodes.cheap k (record { state = s.0; reached = r; origin = o }) there, mul-le-mul_right dearest few_expanded);
       closed = is_closed;

@@ -1,13 +1,13 @@
 -- The nodes are the three lists put together, place by place.
 use Rattle.std.proofs.Common.{◌≡◌, ℕ, zero, suc, ◌+◌, ◌≤◌, List, [], ◌∷◌, ◌++◌, length, set, get_or, Bool, cond, Option, Some, true, false, refl, sym, ap, ◌∙◌, subst, arith}
 use Rattle.std.specs.Prelude.{slice_get}
-use Rattle.std.proofs.lemmas.Option.{same_Some, get_or_from_slice_get}
+use Rattle.std.proofs.lemmas.Option.{same_Some, get_or_from_slice_get, slice_get_within}
 use Rattle.std.proofs.lemmas.List.Sums.{sum_by-append, sum_by-set}
-use Rattle.std.proofs.lemmas.List.{length-set}
+use Rattle.std.proofs.lemmas.List.{length-set, length-append}
 use Rattle.search.specs.declared.search.progress.Reached.{Reached}
 use Rattle.search.specs.declared.search.progress.Origin.{Origin}
 use Rattle.search.specs.SearchNodes.{Node, nodes_of, expanded_count, Updates, marked}
-use Rattle.search.proofs.SearchLists.{get-push_new, get-push_other, get-set_here, get-set_other, get_within}
+use Rattle.search.proofs.SearchLists.{get-push_new, get-push_other, get-set_here, get-set_other}
 
 abbrev one_if : Bool → ℕ
 one_if b = cond b 1 0
@@ -88,7 +88,7 @@ module _ {S Action : Type 0} where
   count-set nodes j n m at =
       let here : get_or nodes j n ≡ n = get_or_from_slice_get nodes j n n at in
       let one : one_if (get_or nodes j n).reached.is_expanded ≡ one_if n.reached.is_expanded = ap (λ (x : Node S Action). one_if x.reached.is_expanded) here in
-      omega (arith, one, sum_by-set (λ (x : Node S Action). one_if x.reached.is_expanded) nodes j m n (get_within nodes j n at))
+      omega (arith, one, sum_by-set (λ (x : Node S Action). one_if x.reached.is_expanded) nodes j m n (slice_get_within nodes j n at))
 
   pub count-mark : (nodes : List (Node S Action)) (j : ℕ) (n : Node S Action) → slice_get nodes j ≡ Some n → n.reached.is_expanded ≡ false → expanded_count (set nodes j (marked n)) ≡ expanded_count nodes + 1
   count-mark nodes j n at waits =
@@ -99,7 +99,7 @@ module _ {S Action : Type 0} where
   pub updates-push : (nodes : List (Node S Action)) (m : Node S Action) → m.reached.is_expanded ≡ false → ((k : ℕ) (n : Node S Action) → slice_get nodes k ≡ Some n → n.state ≡ m.state → ⊥)
       → Updates nodes (nodes ++ m ∷ []) (length nodes) m
   updates-push nodes m waits is_new =
-      let none : (n : Node S Action) → slice_get nodes (length nodes) ≡ Some n → ⊥ = λ n at. omega (arith, get_within nodes (length nodes) n at) in
+      let none : (n : Node S Action) → slice_get nodes (length nodes) ≡ Some n → ⊥ = λ n at. omega (arith, slice_get_within nodes (length nodes) n at) in
       record {
         here = get-push_new nodes m;
         others = λ k other. get-push_other nodes m k other;
@@ -109,12 +109,8 @@ module _ {S Action : Type 0} where
         same_state = λ n at. absurd (none n at);
         cheaper = λ n at. absurd (none n at);
         only = λ k n at same. absurd (is_new k n at same);
-        longer = omega (arith, length-push nodes m);
+        longer = omega (arith, length-append nodes (m ∷ []));
       }
-    where
-      length-push : (xs : List (Node S Action)) (x : Node S Action) → length (xs ++ x ∷ []) ≡ length xs + 1
-      length-push [] x = refl
-      length-push (y ∷ xs) x = omega (arith, length-push xs x)
 
   -- a node is reached at a lower cost
   pub updates-set : (nodes : List (Node S Action)) (j : ℕ) (n m : Node S Action) → slice_get nodes j ≡ Some n → n.reached.is_expanded ≡ false → m.reached.is_expanded ≡ false → n.state ≡ m.state → m.reached.cost ≤ n.reached.cost

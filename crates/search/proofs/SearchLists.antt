@@ -2,11 +2,6 @@
 use Rattle.std.proofs.Common.{◌≡◌, ℕ, zero, suc, ◌<◌, ◌≢◌, List, [], ◌∷◌, ◌++◌, map, length, set, Some, refl, ap, arith}
 use Rattle.std.specs.Prelude.{slice_get}
 
-pub get-push_old : {X : Type 0} (xs : List X) (y : X) (k : ℕ) (x : X) → slice_get xs k ≡ Some x → slice_get (xs ++ y ∷ []) k ≡ Some x
-get-push_old [] y k x at = absurd (cc)
-get-push_old (z ∷ xs) y zero x at = at
-get-push_old (z ∷ xs) y (suc k) x at = get-push_old xs y k x at
-
 pub get-push_new : {X : Type 0} (xs : List X) (y : X) → slice_get (xs ++ y ∷ []) (length xs) ≡ Some y
 get-push_new [] y = refl
 get-push_new (z ∷ xs) y = get-push_new xs y
@@ -29,17 +24,7 @@ get-set_other (z ∷ xs) zero y (suc k) other = refl
 get-set_other (z ∷ xs) (suc i) y zero other = refl
 get-set_other (z ∷ xs) (suc i) y (suc k) other = get-set_other xs i y k (λ e. other (ap suc e))
 
-pub get_within : {X : Type 0} (xs : List X) (k : ℕ) (x : X) → slice_get xs k ≡ Some x → k < length xs
-get_within [] k x at = absurd (cc)
-get_within (z ∷ xs) zero x at = omega arith
-get_within (z ∷ xs) (suc k) x at = omega (arith, get_within xs k x at)
-
 pub get_exists : {X : Type 0} (xs : List X) (k : ℕ) → k < length xs → (x : X) × (slice_get xs k ≡ Some x)
 get_exists [] k within = absurd (omega arith)
 get_exists (z ∷ xs) zero within = (z, refl)
 get_exists (z ∷ xs) (suc k) within = get_exists xs k (omega arith)
-
-pub get-map : {X Y : Type 0} (f : X → Y) (xs : List X) (k : ℕ) (x : X) → slice_get xs k ≡ Some x → slice_get (map f xs) k ≡ Some (f x)
-get-map f [] k x at = absurd (cc)
-get-map f (z ∷ xs) zero x at = let e : z ≡ x = cc in ap (λ w. Some (f w)) e
-get-map f (z ∷ xs) (suc k) x at = get-map f xs k x at

@@ -5,7 +5,7 @@ use Rattle.std.specs.Ordering.{is_lt}
 use Rattle.std.specs.BinaryHeap.{IsHeap, IsUpperBound}
 use Rattle.std.proofs.lemmas.Bool.{false≢true}
 use Rattle.std.proofs.lemmas.Bool.Decides.{nat_tests}
-use Rattle.std.proofs.lemmas.Option.{same_Some, get_or_from_slice_get, slice_get_read}
+use Rattle.std.proofs.lemmas.Option.{same_Some, get_or_from_slice_get, slice_get_read, slice_get_within}
 use Rattle.std.proofs.lemmas.List.{append-nil, reverse-append}
 use Rattle.std.proofs.lemmas.List.Elements.{All-from_recursion, All-contains, All-tail, All-head}
 use Rattle.std.proofs.lemmas.List.Sorted.{Contains-permutation, All-permutation}
@@ -14,7 +14,7 @@ use Rattle.search.specs.declared.search.progress.Reached.{Reached}
 use Rattle.search.specs.declared.search.progress.Origin.{Origin}
 use Rattle.search.specs.SearchNodes.{Waiting, place_of, cost_of, IsCurrent, depth_of, AreDescending, IsPath, begins, follows}
 use Rattle.search.specs.SearchProgress.{by_cost, TakesNext}
-use Rattle.search.proofs.SearchLists.{get-set_other, get_exists, get_within}
+use Rattle.search.proofs.SearchLists.{get-set_other, get_exists}
 
 -- what is not below another in the queue's order costs no more
 cost-le : (x w : Waiting) → is_lt (by_cost x w) ≡ false → cost_of x ≤ cost_of w
@@ -110,7 +110,7 @@ module _ {Action : Type 0} (origins : List (Option (Origin Action))) (goal : ℕ
   pub way_back-read : (now : List (Option (Origin Action))) (at : ℕ) (steps : List Action) (way : IsWayBack origins now goal at steps) (d : Option (Origin Action)) → (at < length now) × (get_or now at d ≡ way.here)
   way_back-read now at steps way d =
       let there = way.intact at way.here way.stands (omega arith) in
-      (get_within now at way.here there, get_or_from_slice_get now at way.here d there)
+      (slice_get_within now at way.here there, get_or_from_slice_get now at way.here d there)
 
   pub way_back-more : (now : List (Option (Origin Action))) (at : ℕ) (steps : List Action) (origin : Origin Action) → AreDescending origins → (way : IsWayBack origins now goal at steps) → way.here ≡ Some origin
       → IsWayBack origins (set now at None) goal origin.parent.0 (steps ++ origin.action ∷ [])

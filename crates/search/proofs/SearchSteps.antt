@@ -2,12 +2,12 @@
 use Rattle.std.proofs.Common.{◌≡◌, ℕ, zero, suc, ◌+◌, ◌*◌, ◌<◌, ◌≤◌, ◌≢◌, ◌⊎◌, inl, inr, List, [], ◌∷◌, ◌++◌, length, set, Bool, Option, Some, None, true, false, refl, sym, ap, ◌∙◌, subst, arith}
 use Rattle.std.specs.Prelude.{slice_get, Contains, All, IsPermutation}
 use Rattle.std.proofs.lemmas.Bool.{false≢true, cases_eq}
-use Rattle.std.proofs.lemmas.Option.{same_Some}
-use Rattle.std.proofs.lemmas.List.{length-set}
+use Rattle.std.proofs.lemmas.Option.{same_Some, slice_get_within}
+use Rattle.std.proofs.lemmas.List.{length-set, length-append}
 use Rattle.std.proofs.lemmas.List.Elements.{Contains-push_cases, All-cons, All-nil, All-weaker}
 use Rattle.std.proofs.lemmas.List.Sorted.{Contains-permutation, All-permutation}
 use Rattle.std.proofs.lemmas.List.Sums.{count_by-le-length}
-use Rattle.model.proofs.ListLemmas.{Contains-here, Contains-there, Contains-cases, Contains-none}
+use Rattle.model.proofs.ListLemmas.{Contains-here, Contains-there, Contains-cases, Contains-none, Contains-got, Contains-place}
 use Rattle.model.specs.Runs.{System, IsReachable, AreSuccessors}
 use Rattle.search.specs.declared.search.progress.Reached.{Reached}
 use Rattle.search.specs.declared.search.progress.Origin.{Origin}
@@ -15,24 +15,10 @@ use Rattle.search.specs.Search.{IsReachableAt, AreMoreReachable}
 use Rattle.search.specs.SearchStore.{IsPlaced}
 use Rattle.search.specs.SearchNodes.{Waiting, place_of, cost_of, entry, depth_of, Node, nodes_of, expanded_count, dearest, Leads, AreNodes, IsFoundWithin, IsOpen, AreOpen, AreOpenBut, IsTurn, IsCurrent, marked}
 use Rattle.search.specs.SearchProgress.{Continues, IsListed, TakesNext}
-use Rattle.search.proofs.SearchLists.{get-push_new, get-push_other, get-set_here, get-set_other, get_exists, get_within}
+use Rattle.search.proofs.SearchLists.{get-push_new, get-push_other, get-set_here, get-set_other, get_exists}
 use Rattle.search.proofs.SearchLinked.{length-nodes_of, nodes_of-get, get-nodes_of, nodes_of-push, nodes_of-set, nodes_of-mark, count-mark, updates-push, updates-set}
 use Rattle.search.proofs.SearchMarked.{nodes_marked, turn_marked, open_but_marked}
 use Rattle.search.proofs.SearchNodesLemmas.{Stepped, stepped, run-push}
-
-length-push : {X : Type 0} (xs : List X) (x : X) → length (xs ++ x ∷ []) ≡ length xs + 1
-length-push [] x = refl
-length-push (y ∷ xs) x = omega (arith, length-push xs x)
-
-contained : {X : Type 0} (xs : List X) (k : ℕ) (x : X) → slice_get xs k ≡ Some x → Contains xs x
-contained [] k x at = absurd (cc)
-contained (y ∷ xs) zero x at = (0, omega arith, same_Some y x at)
-contained (y ∷ xs) (suc k) x at = let later = contained xs k x at in (suc later.0, omega (arith, later.1), later.2)
-
-placed : {X : Type 0} (xs : List X) (x : X) → Contains xs x → (k : ℕ) × (slice_get xs k ≡ Some x)
-placed [] x (k, within, is) = absurd (omega (arith, within))
-placed (y ∷ xs) x (zero, within, is) = (0, ap Some is)
-placed (y ∷ xs) x (suc k, within, is) = let later = placed xs x (k, omega (arith, within), is) in (suc later.0, later.1)
 
 module _ {S L Action : Type 0} (t : System S L) (label : Action → L) (states : List S) (all : List Reached) (origins : List (Option (Origin Action))) (queue : List Waiting) (i : ℕ)
     (one_each : length all ≡ length states) (other : length origins ≡ length states)
@@ -47,11 +33,11 @@ module _ {S L Action : Type 0} (t : System S L) (label : Action → L) (states :
       let reached : Reached = record { cost = cost; is_expanded = false } in
       let m : Node S Action = record { state = s; reached = reached; origin = Some origin } in
       let place : length (nodes_of states all origins) ≡ length states = length-nodes_of states all origins one_each other in
-      let updates = updates-push (nodes_of states all origins) m refl (λ k n at same. is_new (subst (λ x. Contains states x) same (contained states k n.state (nodes_of-get states all origins k n at).0))) in
+      let updates = updates-push (nodes_of states all origins) m refl (λ k n at same. is_new (subst (λ x. Contains states x) same (Contains-got states k n.state (nodes_of-get states all origins k n at).0))) in
       let joins' : IsPermutation (entry cost (length (nodes_of states all origins)) ∷ queue) queue' = subst (λ p. IsPermutation (entry cost p ∷ queue) queue') (sym place) joins in
       subst (λ after. Stepped t label (nodes_of states all origins) after queue' i (label origin.action) s) (sym (nodes_of-push states all origins s reached (Some origin) one_each other))
       (stepped (nodes_of states all origins) (nodes_of states all origins ++ m ∷ []) (length (nodes_of states all origins)) m updates t label i turn origin queue queue' nodes others
-      refl parent depth costs affordable step joins' (omega (arith, length-push (nodes_of states all origins) m)))
+      refl parent depth costs affordable step joins' (omega (arith, length-append (nodes_of states all origins) (m ∷ []))))
 
   pub stepped_new : (¬ Contains states s) → (states' : List S) (all' : List Reached) (origins' : List (Option (Origin Action))) (place : ℕ) (queue' : List Waiting)
       → states' ≡ states ++ s ∷ [] → all' ≡ all ++ record { cost = cost; is_expanded = false } ∷ [] → origins' ≡ origins ++ Some origin ∷ [] → place ≡ length states
@@ -61,9 +47,9 @@ module _ {S L Action : Type 0} (t : System S L) (label : Action → L) (states :
       let reached : Reached = record { cost = cost; is_expanded = false } in
       let joins' : IsPermutation (entry cost (length states) ∷ queue) queue' = subst (λ p. IsPermutation (entry cost p ∷ queue) queue') at_end joins in
       let same : nodes_of states' all' origins' ≡ nodes_of (states ++ s ∷ []) (all ++ reached ∷ []) (origins ++ Some origin ∷ []) = cc in
-      let count_states : length states' ≡ length states + 1 = ap length is_states ∙ length-push states s in
-      let count_all : length all' ≡ length all + 1 = ap length is_all ∙ length-push all reached in
-      let count_origins : length origins' ≡ length origins + 1 = ap length is_origins ∙ length-push origins (Some origin) in (
+      let count_states : length states' ≡ length states + 1 = ap length is_states ∙ length-append states (s ∷ []) in
+      let count_all : length all' ≡ length all + 1 = ap length is_all ∙ length-append all (reached ∷ []) in
+      let count_origins : length origins' ≡ length origins + 1 = ap length is_origins ∙ length-append origins (Some origin ∷ []) in (
         omega (arith, count_states, count_all, one_each),
         omega (arith, count_states, count_origins, other),
         subst (λ after. Stepped t label (nodes_of states all origins) after queue' i (label origin.action) s) (sym same) (stepped_pushed is_new queue' joins'),
@@ -73,7 +59,7 @@ module _ {S L Action : Type 0} (t : System S L) (label : Action → L) (states :
   stepped_set : (j : ℕ) (reached : Reached) → slice_get states j ≡ Some s → slice_get all j ≡ Some reached → cost < reached.cost → (queue' : List Waiting) → IsPermutation (entry cost j ∷ queue) queue'
       → Stepped t label (nodes_of states all origins) (nodes_of states (set all j (record { cost = cost; is_expanded = reached.is_expanded })) (set origins j (Some origin))) queue' i (label origin.action) s
   stepped_set j reached is_s is_reached cheaper queue' joins =
-      let was = get_exists origins j (omega (arith, get_within states j s is_s)) in
+      let was = get_exists origins j (omega (arith, slice_get_within states j s is_s)) in
       let n : Node S Action = record { state = s; reached = reached; origin = was.0 } in
       let stood : slice_get (nodes_of states all origins) j ≡ Some n = get-nodes_of states all origins j s reached was.0 is_s is_reached was.1 in
       let waited : reached.is_expanded ≡ false =
@@ -84,7 +70,7 @@ module _ {S L Action : Type 0} (t : System S L) (label : Action → L) (states :
       let now : Reached = record { cost = cost; is_expanded = reached.is_expanded } in
       let m : Node S Action = record { state = s; reached = now; origin = Some origin } in
       let updates = updates-set (nodes_of states all origins) j n m stood waited waited refl (omega (arith, cheaper)) (λ k x at same. nodes.distinct k j x n at stood same) in
-      let within : j < length (set (nodes_of states all origins) j m) = omega (arith, length-set (nodes_of states all origins) j m, get_within (nodes_of states all origins) j n stood) in
+      let within : j < length (set (nodes_of states all origins) j m) = omega (arith, length-set (nodes_of states all origins) j m, slice_get_within (nodes_of states all origins) j n stood) in
       subst (λ after. Stepped t label (nodes_of states all origins) after queue' i (label origin.action) s) (sym (nodes_of-set states all origins j n now (Some origin) stood))
       (stepped (nodes_of states all origins) (set (nodes_of states all origins) j m) j m updates t label i turn origin queue queue' nodes others
       refl parent depth costs affordable step joins within)
@@ -108,7 +94,7 @@ module _ {S L Action : Type 0} (t : System S L) (label : Action → L) (states :
   stepped_known : (j : ℕ) (reached : Reached) → slice_get states j ≡ Some s → slice_get all j ≡ Some reached → reached.cost ≤ cost
       → Stepped t label (nodes_of states all origins) (nodes_of states all origins) queue i (label origin.action) s
   stepped_known j reached is_s is_reached no_dearer =
-      let was = get_exists origins j (omega (arith, get_within states j s is_s)) in
+      let was = get_exists origins j (omega (arith, slice_get_within states j s is_s)) in
       let n : Node S Action = record { state = s; reached = reached; origin = was.0 } in
       let stood : slice_get (nodes_of states all origins) j ≡ Some n = get-nodes_of states all origins j s reached was.0 is_s is_reached was.1 in
       record {
@@ -139,31 +125,31 @@ module _ {S L Action : Type 0} (t : System S L) (label : Action → L) (states :
               let is_s : s ≡ x = same_Some s x (sym (get-push_new states s) ∙ ap (slice_get (states ++ s ∷ [])) (sym j_last) ∙ at_j) in
               elim (cases_eq k (length states)) [
                 | inl k_last ↦ j_last ∙ sym k_last
-                | inr k_other ↦ absurd (is_new (subst (λ y. Contains states y) (sym is_s) (contained states k x (sym (get-push_other states s k k_other) ∙ at_k))))
+                | inr k_other ↦ absurd (is_new (subst (λ y. Contains states y) (sym is_s) (Contains-got states k x (sym (get-push_other states s k k_other) ∙ at_k))))
               ]
           | inr j_other ↦
               let was : slice_get states j ≡ Some x = sym (get-push_other states s j j_other) ∙ at_j in
               elim (cases_eq k (length states)) [
                 | inl k_last ↦
                     let is_s : s ≡ x = same_Some s x (sym (get-push_new states s) ∙ ap (slice_get (states ++ s ∷ [])) (sym k_last) ∙ at_k) in
-                    absurd (is_new (subst (λ y. Contains states y) (sym is_s) (contained states j x was)))
+                    absurd (is_new (subst (λ y. Contains states y) (sym is_s) (Contains-got states j x was)))
                 | inr k_other ↦ distinct j k x was (sym (get-push_other states s k k_other) ∙ at_k)
               ]
         ]),
     (λ x at.
         elim (Contains-push_cases states s x at) [
-          | inl among ↦ let there = placed states x among in reachable there.0 x there.1
+          | inl among ↦ let there = Contains-place states x among in reachable there.0 x there.1
           | inr is ↦
               let (actions, runs, _) = nodes.reachable i turn.node turn.stands in
               (actions ++ label origin.action ∷ [], run-push t t.initial actions (label origin.action) turn.node.state x runs (step ∙ ap Some is))
         ]),
-    omega (arith, length-push states s, full),
+    omega (arith, length-append states (s ∷ []), full),
   )
     where
       node_there : (k : ℕ) (x : S) → slice_get states k ≡ Some x → (n : Node S Action) × (slice_get (nodes_of states all origins) k ≡ Some n) × (n.state ≡ x)
       node_there k x at =
-          let r = get_exists all k (omega (arith, get_within states k x at)) in
-          let o = get_exists origins k (omega (arith, get_within states k x at)) in
+          let r = get_exists all k (omega (arith, slice_get_within states k x at)) in
+          let o = get_exists origins k (omega (arith, slice_get_within states k x at)) in
           (record { state = x; reached = r.0; origin = o.0 }, get-nodes_of states all origins k x r.0 o.0 at r.1 o.1, refl)
 
       reachable : (k : ℕ) (x : S) → slice_get states k ≡ Some x → IsReachable t x
@@ -302,8 +288,8 @@ module _ {S L Action : Type 0} (t : System S L) (label : Action → L) (states :
   at_turn queue' i takes =
       let reached : Reached = record { cost = cost_of takes.next; is_expanded = false } in
       let is_reached : slice_get all i ≡ Some reached = ap (slice_get all) (sym takes.stands) ∙ takes.current in
-      let s = get_exists states i (omega (arith, get_within all i reached is_reached)) in
-      let o = get_exists origins i (omega (arith, get_within all i reached is_reached)) in (
+      let s = get_exists states i (omega (arith, slice_get_within all i reached is_reached)) in
+      let o = get_exists origins i (omega (arith, slice_get_within all i reached is_reached)) in (
         record { state = s.0; reached = reached; origin = o.0 },
         get-nodes_of states all origins i s.0 reached o.0 s.1 is_reached o.1,
         refl,

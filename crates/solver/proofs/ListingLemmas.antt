@@ -8,15 +8,15 @@ use Rattle.std.specs.declared.cmp.Ordering.TheVariants.{Less}
 use Rattle.std.specs.FinSet.{contains, from_list, contains-from_list}
 use Rattle.std.proofs.lemmas.Bool.{and_parts, and_from, cases_lt, cases_eq, lt-ltb, le-leb}
 use Rattle.std.proofs.lemmas.List.{length-map}
-use Rattle.std.proofs.lemmas.Map.Keys.{Less-from_sorted}
-use Rattle.std.proofs.lemmas.Option.{get_or_from_slice_get}
+use Rattle.std.proofs.lemmas.Map.Keys.{Less-from_sorted, any_passes_from_place}
+use Rattle.std.proofs.lemmas.Option.{get_or_from_slice_get, slice_get_within}
 use Rattle.cert_checker.specs.declared.certificate.cert.StateLine as code_line
 use Rattle.cert_checker.specs.CertificateParts.{line_of}
 use Rattle.search.specs.declared.search.progress.Reached.{Reached}
 use Rattle.search.specs.Search as search
 use Rattle.search.specs.Search.{AreFound, IsReachableAt}
 use Rattle.search.specs.SearchStore.{AreDistinct}
-use Rattle.search.proofs.SearchLists.{get_exists, get_within}
+use Rattle.search.proofs.SearchLists.{get_exists}
 use Rattle.solver.specs.Listing.{stands_in, AreFluentIn, Names, AreLinesFor, IsShownBy, AreMoreAtoms}
 use Rattle.solver.proofs.TypedLemmas.{reachable_typed}
 use Rattle.solver.proofs.NumbersLemmas.{stands_at, never_below_itself}
@@ -30,20 +30,6 @@ use Rattle.model.proofs.Atoms.{atoms_total}
 use Rattle.model.proofs.StaticLemmas.{state_of_fluent}
 
 -- ---- lists
-
-at-map : {X Y : Type 0} (f : X → Y) (xs : List X) (k : ℕ) → slice_get (map f xs) k ≡ elim (slice_get xs k) [ None ↦ None | Some x ↦ Some (f x) ]
-at-map f [] k = refl
-at-map f (x ∷ xs) zero = refl
-at-map f (x ∷ xs) (suc k) = at-map f xs k
-
-any_at : {X : Type 0} (p : X → Bool) (xs : List X) (k : ℕ) (x : X) → slice_get xs k ≡ Some x → p x ≡ true → list_any p xs ≡ true
-any_at p [] k x at passes = absurd (cc)
-any_at p (y ∷ xs) zero x at passes = let same : y ≡ x = cc in ap (λ z. p z || list_any p xs) same ∙ ap (λ v. v || list_any p xs) passes
-any_at p (y ∷ xs) (suc k) x at passes = ap (λ v. p y || v) (any_at p xs k x at passes) ∙ or_true (p y)
-  where
-    or_true : (b : Bool) → (b || true) ≡ true
-    or_true true = refl
-    or_true false = refl
 
 some_at : {X : Type 0} (p : X → Bool) (xs : List X) → list_any p xs ≡ true → (k : ℕ) × (x : X) × (slice_get xs k ≡ Some x) × (p x ≡ true)
 some_at p [] any = absurd (cc)
@@ -82,10 +68,10 @@ module _ (task : Task) (well : is_task task ≡ true) (states : List State) (rea
   pub no_two : AreDistinct atoms
   no_two j k a at_j at_k =
       elim (cases_lt j k) [
-        | inl before ↦ absurd (apart j k a before (get_within atoms k a at_k) (get_or_from_slice_get atoms j a a at_j ∙ sym (get_or_from_slice_get atoms k a a at_k)))
+        | inl before ↦ absurd (apart j k a before (slice_get_within atoms k a at_k) (get_or_from_slice_get atoms j a a at_j ∙ sym (get_or_from_slice_get atoms k a a at_k)))
         | inr after ↦ elim (cases_eq k j) [
           | inl is ↦ sym is
-          | inr other ↦ absurd (apart k j a (omega arith) (get_within atoms j a at_j) (get_or_from_slice_get atoms k a a at_k ∙ sym (get_or_from_slice_get atoms j a a at_j)))
+          | inr other ↦ absurd (apart k j a (omega arith) (slice_get_within atoms j a at_j) (get_or_from_slice_get atoms k a a at_k ∙ sym (get_or_from_slice_get atoms j a a at_j)))
         ]
       ]
 
@@ -108,7 +94,7 @@ module _ (task : Task) (well : is_task task ≡ true) (states : List State) (rea
   listed_state k s numbers at names =
       state_of_fluent task s (filter_map (slice_get atoms) numbers) (reachable k s at) (record {
         same = λ q is. sym (names.named q ∙ whole (contains s q) (stands_in atoms q)
-            (λ there. stands_fluent q ∙ and_from (is_fluent task q.predicate) (list_any (λ (t : State). contains t q) states) is (any_at (λ (t : State). contains t q) states k s at there)));
+            (λ there. stands_fluent q ∙ and_from (is_fluent task q.predicate) (list_any (λ (t : State). contains t q) states) is (any_passes_from_place (λ (t : State). contains t q) states k s at there)));
         none_static = λ q is.
             names.named q ∙ ap (λ v. contains s q && v) (stands_fluent q ∙ ap (λ v. v && list_any (λ (t : State). contains t q) states) is) ∙ none (contains s q);
       })
@@ -155,7 +141,7 @@ states_apart states all one distinct i j d lt within is =
 pub reached : (task : Task) (claim : Claim) (most : ℕ) (states : List State) (all : List Reached) → AreFound (system_of task) claim most states all
     → (k : ℕ) (s : State) → slice_get states k ≡ Some s → IsReachable (system_of task) s
 reached task claim most states all found k s at =
-    let (r, at_r) = get_exists all k (omega (arith, get_within states k s at, found.one_for_each)) in
+    let (r, at_r) = get_exists all k (omega (arith, slice_get_within states k s at, found.one_for_each)) in
     let there = found.reachable k s r at at_r in
     (there.0, there.1)
 
@@ -218,7 +204,7 @@ within_limits claim atoms lines states all small few_atoms few_states one cheap 
 
     passes : (k : ℕ) (l : code_line.StateLine) → slice_get lines k ≡ Some l → is_state_line (length atoms) (line_of l) ≡ true
     passes k l at =
-        let below = get_within lines k l at in
+        let below = slice_get_within lines k l at in
         let (s, at_s) = get_exists states k (omega (arith, below, each.one_for_each)) in
         let (r, at_r) = get_exists all k (omega (arith, below, each.one_for_each, one)) in
         let line = each.each k s r l at_s at_r at in

@@ -20,17 +20,13 @@ use Rattle.cert_checker.specs.declared.certificate.cert.StateLine as code_line
 use Rattle.search.specs.declared.search.progress.Reached.{Reached}
 use Rattle.search.proofs.SearchLists.{get-push_new, get-push_other}
 use Rattle.solver.specs.Listing.{stands_in, AreFluentIn, IsLineFor, AreLinesFor}
-use Rattle.solver.proofs.TypedLemmas.{same_atom}
 use Rattle.model.specs.Task.{Task, Atom}
 use Rattle.model.specs.Meaning.{State, atom_cmp}
 use Rattle.model.specs.Certificates.{is_fluent}
 use Rattle.model.proofs.Atoms.{atoms_total, atoms_apart}
+use Rattle.model.proofs.StaticLemmas.{same_atom, and_false, or_false}
 
 -- ---- one atom
-
-or_false : (b : Bool) → (b || false) ≡ b
-or_false true = refl
-or_false false = refl
 
 or_known : (c f e : Bool) → (e ≡ true → c ≡ true) → c ≡ (c || (f && e))
 or_known c f true known = ap (λ v. v) (known refl) ∙ sym (ap (λ v. v || (f && true)) (known refl))
@@ -80,10 +76,6 @@ fluent_more task before after left rest x q whole so here is =
     ap (λ v. v || (is_fluent task q.predicate && stands_in rest q)) here
     ∙ one_more (contains before q) (is_fluent task q.predicate) (eq_by_cmp atom_cmp q x) (stands_in rest q)
     ∙ ap (λ l. contains before q || (is_fluent task q.predicate && stands_in l q)) (sym is) ∙ so
-
-pub and_false : (b : Bool) → (b && false) ≡ false
-and_false true = refl
-and_false false = refl
 
 pub fluent_all : (task : Task) (before s now : State) (left whole : List Atom) (q : Atom)
     → (contains now q || (is_fluent task q.predicate && stands_in left q)) ≡ (contains before q || (is_fluent task q.predicate && stands_in whole q))

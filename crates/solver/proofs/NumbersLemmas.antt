@@ -1,25 +1,24 @@
 -- The places, among atoms in order, of the atoms of a state, found one after another.
-use Rattle.std.proofs.Common.{◌≡◌, ℕ, zero, suc, ◌+◌, ◌<◌, ◌≤◌, Bool, true, false, ◌&&◌, ◌||◌, List, [], ◌∷◌, ◌++◌, inl, inr, length, Some, refl, sym, ap, ◌∙◌, subst, arith}
+use Rattle.std.proofs.Common.{◌≡◌, ℕ, ◌+◌, ◌<◌, ◌≤◌, Bool, true, false, ◌&&◌, List, [], ◌∷◌, ◌++◌, inl, inr, length, Some, refl, sym, ap, ◌∙◌, subst, arith}
 use Rattle.std.specs.Prelude.{nat_lt, nat_le, filter, slice_get, Contains, if◌then◌else◌}
 use Rattle.std.specs.List.{filter_map, cons_option, AllByRecursion}
 use Rattle.std.specs.List.Sorted.{IsStrictlySortedBy}
-use Rattle.std.specs.declared.cmp.Ordering.{Ordering}
-use Rattle.std.specs.declared.cmp.Ordering.TheVariants.{Less, Equal, Greater}
-use Rattle.std.specs.Ordering.{eq_by_cmp}
+use Rattle.std.specs.declared.cmp.Ordering.TheVariants.{Less, Equal}
+use Rattle.std.specs.Ordering.{eq_by_cmp, is_eq}
 use Rattle.std.specs.FinSet.{contains, from_list, contains-from_list}
 use Rattle.std.proofs.lemmas.Bool.{and_parts, and_from, cases_lt, cases_eq, ltb-true, lt-ltb, le-leb}
 use Rattle.std.proofs.lemmas.Cmp.{tied_itself}
 use Rattle.std.proofs.lemmas.List.{append-nil, append_assoc}
 use Rattle.std.proofs.lemmas.List.Elements.{filter_map-append, Contains-append_cases}
-use Rattle.std.proofs.lemmas.Map.Keys.{sorted_head, sorted_tail, Less-from_sorted}
+use Rattle.std.proofs.lemmas.Map.Keys.{sorted_head, sorted_tail, Less-from_sorted, any_passes_from_place}
 use Rattle.std.proofs.lemmas.Option.{get_or_from_slice_get, slice_get_within}
-use Rattle.search.proofs.SearchLists.{get_exists, get_within}
+use Rattle.search.proofs.SearchLists.{get_exists}
 use Rattle.solver.specs.Listing.{stands_in, Names}
-use Rattle.solver.proofs.TypedLemmas.{same_atom}
 use Rattle.model.specs.Task.{Atom}
 use Rattle.model.specs.Meaning.{State, atom_cmp}
 use Rattle.model.specs.Certificates.{rise}
 use Rattle.model.proofs.Atoms.{atoms_total}
+use Rattle.model.proofs.StaticLemmas.{stands_in-filter}
 use Rattle.model.proofs.ListLemmas.{Contains-cases, Contains-none, Contains-there, Contains-here}
 
 -- ---- the order of atoms
@@ -98,20 +97,9 @@ names_begin atoms whole sorted = record {
   ascending = sorted;
 }
 
-stands_there : (atoms : List Atom) (k : ℕ) (a : Atom) → slice_get atoms k ≡ Some a → stands_in atoms a ≡ true
-stands_there [] k a at = absurd (cc)
-stands_there (x ∷ atoms) zero a at =
-    let same : x ≡ a = cc in
-    let tied : eq_by_cmp atom_cmp a x ≡ true = ap (λ (o : Ordering). elim o [ Less ↦ false | Equal ↦ true | Greater ↦ false ]) (ap (atom_cmp a) same ∙ tied_itself atoms_total a) in
-    ap (λ v. v || stands_in atoms a) tied
-stands_there (x ∷ atoms) (suc k) a at = ap (λ v. eq_by_cmp atom_cmp a x || v) (stands_there atoms k a at) ∙ or_true (eq_by_cmp atom_cmp a x)
-  where
-    or_true : (b : Bool) → (b || true) ≡ true
-    or_true true = refl
-    or_true false = refl
-
+-- an atom of the list stands in it
 pub stands_at : (atoms : List Atom) (k : ℕ) (a : Atom) → slice_get atoms k ≡ Some a → stands_in atoms a ≡ true
-stands_at = stands_there
+stands_at atoms k a at = any_passes_from_place (eq_by_cmp atom_cmp a) atoms k a at (ap is_eq (tied_itself atoms_total a))
 
 pub names_more : (atoms whole left rest : List Atom) (numbers : List ℕ) (x : Atom) (j : ℕ) → IsStrictlySortedBy atom_cmp atoms → NamesSoFar atoms whole left numbers
     → left ≡ x ∷ rest → slice_get atoms j ≡ Some x → NamesSoFar atoms whole rest (numbers ++ j ∷ [])
@@ -121,14 +109,14 @@ names_more atoms whole left rest numbers x j sorted so is at =
     let one : filter_map (slice_get atoms) (numbers ++ j ∷ []) ≡ named ++ x ∷ [] =
     filter_map-append (slice_get atoms) numbers (j ∷ []) ∙ ap (λ o. named ++ cons_option o []) at in
     let first : filter (stands_in atoms) (x ∷ rest) ≡ x ∷ filter (stands_in atoms) rest =
-    ap (λ t. if t then x ∷ filter (stands_in atoms) rest else filter (stands_in atoms) rest) (stands_there atoms j x at) in
+    ap (λ t. if t then x ∷ filter (stands_in atoms) rest else filter (stands_in atoms) rest) (stands_at atoms j x at) in
     record {
       rising = rise_push (length atoms) 0 numbers j old.rising
           (λ k there.
           let within = rise_within (length atoms) 0 numbers k old.rising there in
           let (a, at_k) = get_exists atoms k within in
           place_below atoms k j a x sorted at_k at (old.before k a x there at_k (Contains-here x rest)))
-          (omega arith) (get_within atoms j x at);
+          (omega arith) (slice_get_within atoms j x at);
       named =
           ap (λ l. l ++ filter (stands_in atoms) rest) one ∙ append_assoc named (x ∷ []) (filter (stands_in atoms) rest)
           ∙ ap (λ l. named ++ l) (sym first) ∙ old.named;
@@ -158,31 +146,11 @@ names_skip atoms whole left rest numbers x so is absent =
       ascending = sorted_tail atom_cmp x rest old.ascending;
     }
 
-and_false : (b : Bool) → (b && false) ≡ false
-and_false true = refl
-and_false false = refl
-
 pub and_swap : (b c : Bool) → (b && c) ≡ (c && b)
 and_swap true true = refl
 and_swap true false = refl
 and_swap false true = refl
 and_swap false false = refl
-
-stands_in-filter : (p : Atom → Bool) (atoms : List Atom) (q : Atom) → stands_in (filter p atoms) q ≡ (p q && stands_in atoms q)
-stands_in-filter p [] q = sym (and_false (p q))
-stands_in-filter p (a ∷ atoms) q =
-    elim (p a) as (λ t. p a ≡ t → stands_in (if t then a ∷ filter p atoms else filter p atoms) q ≡ (p q && (eq_by_cmp atom_cmp q a || stands_in atoms q))) [
-      | true ↦ λ passes. ap (λ v. eq_by_cmp atom_cmp q a || v) (stands_in-filter p atoms q) ∙ first_passes (eq_by_cmp atom_cmp q a) (p q) (stands_in atoms q) (λ same. ap p (same_atom q a same) ∙ passes)
-      | false ↦ λ fails. stands_in-filter p atoms q ∙ first_fails (eq_by_cmp atom_cmp q a) (p q) (stands_in atoms q) (λ same. ap p (same_atom q a same) ∙ fails)
-    ] refl
-  where
-    first_passes : (e t r : Bool) → (e ≡ true → t ≡ true) → (e || (t && r)) ≡ (t && (e || r))
-    first_passes true t r known = sym (ap (λ v. v && true) (known refl))
-    first_passes false t r known = refl
-
-    first_fails : (e t r : Bool) → (e ≡ true → t ≡ false) → (t && r) ≡ (t && (e || r))
-    first_fails true t r known = ap (λ v. v && r) (known refl) ∙ sym (ap (λ v. v && true) (known refl))
-    first_fails false t r known = refl
 
 pub names_end : (atoms whole left : List Atom) (numbers : List ℕ) (s : State) → NamesSoFar atoms whole left numbers → left ≡ [] → from_list whole ≡ s → Names atoms s numbers
 names_end atoms whole left numbers s so is same =

@@ -4,7 +4,6 @@ use Rattle.std.specs.Prelude.{◌==◌, nat_lt, nat_le, slice_get, if◌then◌e
 use Rattle.std.specs.Option.{option_and_then}
 use Rattle.std.specs.List.{list_all}
 use Rattle.std.specs.Ordering.{eq_by_cmp}
-use Rattle.std.specs.Cmp.{Equal-is}
 use Rattle.std.specs.FinSet.{contains, from_list, difference, contains-from_list, contains-union, contains-difference}
 use Rattle.std.proofs.lemmas.Bool.{and_parts, and_from, eqb-true, ltb-true}
 use Rattle.std.proofs.lemmas.List.{length-map}
@@ -14,11 +13,9 @@ use Rattle.model.specs.Task.{Atom, LiftedAtom, Term, variable, object, Predicate
 use Rattle.model.specs.WellTyped.{is_object, has_arity, is_term, is_lifted_atom, is_atom, is_formula, is_effect, are_effects, is_schema, is_task, max_arguments, max_variables}
 use Rattle.model.specs.Runs.{run, IsReachable}
 use Rattle.model.specs.Meaning.{State, atom_cmp, object_of, ground_atom, changes_of, changes_of_all, added_by, deleted_by, after_changes, step, holds, fits, system_of, initial_state}
-use Rattle.model.proofs.Atoms.{atoms_total, atoms_apart, added_by-append}
+use Rattle.model.proofs.Atoms.{atoms_total, added_by-append}
+use Rattle.model.proofs.StaticLemmas.{same_atom}
 use Rattle.solver.specs.Listing.{stands_in}
-
-pub same_atom : (q a : Atom) → eq_by_cmp atom_cmp q a ≡ true → q ≡ a
-same_atom q a same = atoms_apart q a ((Equal-is (atom_cmp q a)).0 same)
 
 -- an atom of a list of which each passes
 typed_there : (p : Atom → Bool) (atoms : List Atom) (q : Atom) → stands_in atoms q ≡ true → list_all p atoms ≡ true → p q ≡ true

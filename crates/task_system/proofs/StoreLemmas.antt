@@ -2,7 +2,9 @@
 use Rattle.std.proofs.Common.{◌≡◌, ℕ, zero, suc, ◌+◌, ◌<◌, Bool, true, false, not, cond, ◌||◌, List, [], ◌∷◌, ◌++◌, length, map, get_or, Option, None, Some, refl, sym, ap, ◌∙◌, subst, arith}
 use Rattle.std.specs.Prelude.{slice_get, Contains, MatchOption, is_some, if◌then◌else◌}
 use Rattle.std.specs.List.{position, position_or_len, list_any}
+use Rattle.std.specs.Option.{option_map}
 use Rattle.std.proofs.lemmas.Bool.{or_parts, false≢true}
+use Rattle.std.proofs.lemmas.Option.{slice_get-map}
 use Rattle.std.proofs.lemmas.List.{length-map, map_push}
 use Rattle.std.proofs.lemmas.List.Folds.{list_any_at}
 use Rattle.std.proofs.lemmas.List.Quantifiers.{position-Some}
@@ -17,11 +19,6 @@ pub slice_get-or : {X : Type 0} (xs : List X) (i : ℕ) (d : X) → i < length x
 slice_get-or [] i d lt = absurd (omega arith)
 slice_get-or (x ∷ xs) zero d lt = refl
 slice_get-or (x ∷ xs) (suc i) d lt = slice_get-or xs i d (omega arith)
-
-slice_get-map : {X Y : Type 0} (f : X → Y) (xs : List X) (i : ℕ) (x : X) → slice_get xs i ≡ Some x → slice_get (map f xs) i ≡ Some (f x)
-slice_get-map f [] i x at = absurd (cc)
-slice_get-map f (y ∷ xs) zero x at = let same : y ≡ x = cc in ap (λ z. Some (f z)) same
-slice_get-map f (y ∷ xs) (suc i) x at = slice_get-map f xs i x at
 
 any_there : {X : Type 0} (p : X → Bool) (xs : List X) (x : X) → Contains xs x → p x ≡ true → list_any p xs ≡ true
 any_there p xs x at passes = list_any_at p xs at.0 x at.1 (ap p at.2 ∙ passes)
@@ -60,7 +57,7 @@ pub found_place : (s : code_state.State) (keys : List code_state.State) (o : Opt
 found_place s keys None is any = absent s keys (sym any)
 found_place s keys (Some place) is any =
     let found = position-Some (state_eq s) keys place s (sym is) in
-    slice_get-map state_of keys place (get_or keys place s) (slice_get-or keys place s found.0) ∙ ap Some (sym (equal_states s (get_or keys place s) found.1))
+    slice_get-map state_of keys place ∙ ap (option_map state_of) (slice_get-or keys place s found.0) ∙ ap Some (sym (equal_states s (get_or keys place s) found.1))
 
 -- where the state was put, or found
 pub placed : (s : code_state.State) (keys after : List code_state.State) (place : ℕ) (is_new : Bool) → is_new ≡ not (list_any (state_eq s) keys) → after ≡ insert_key state_eq keys s

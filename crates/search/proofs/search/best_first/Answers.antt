@@ -3,11 +3,10 @@ use Rattle.std.specs.Prelude.{slice_get}
 use Rattle.std.specs.BinaryHeap.{heap_items}
 use Rattle.std.proofs.lemmas.List.Elements.{All-weaker}
 use Rattle.std.proofs.lemmas.List.Sums.{count_by-le-length}
-use Rattle.std.proofs.lemmas.Option.{same_Some, get_or_from_slice_get}
+use Rattle.std.proofs.lemmas.Option.{same_Some, get_or_from_slice_get, slice_get_within}
 use Rattle.model.specs.Claims.{bound}
 use Rattle.search.specs.Search.{AreFound}
 use Rattle.search.specs.SearchNodes.{nodes_of, place_of, expanded_count, Node}
-use Rattle.search.proofs.SearchLists.{get_within}
 use Rattle.search.proofs.SearchLinked.{nodes_of-get, length-nodes_of}
 use Rattle.search.proofs.SearchClosed.{descending, optimal, unsolvable}
 use Rattle.search.proofs.SearchSteps.{at_turn, none_waits}
@@ -47,7 +46,7 @@ get-requires g c =
     let id = c.in-Some.id.0 in
     let turn = at_turn t label states all origins queue search.one_reached search.one_origin search.nodes (heap_items c.next_waiting.new.self.queue) id c.in-Some.ensures.some in
     let parts = nodes_of-get states all origins id turn.0 turn.1 in
-    rw c.in-Some.ensures.store (get_within states id turn.0.state parts.0)
+    rw c.in-Some.ensures.store (slice_get_within states id turn.0.state parts.0)
 
 pub index-requires : goal.index-requires
 index-requires g c =
@@ -62,7 +61,7 @@ index-requires g c =
     let id = c.in-Some.id.0 in
     let turn = at_turn t label states all origins queue search.one_reached search.one_origin search.nodes (heap_items c.next_waiting.new.self.queue) id c.in-Some.ensures.some in
     let parts = nodes_of-get states all origins id turn.0 turn.1 in
-    omega (arith, get_within all id turn.0.reached parts.1, ap length c.in-Some.ensures.reached, c.next_waiting.new.self.reached.ok.0)
+    omega (arith, slice_get_within all id turn.0.reached parts.1, ap length c.in-Some.ensures.reached, c.next_waiting.new.self.reached.ok.0)
 
 pub into_plan-requires-clause-descending : goal.into_plan-requires-clause-descending
 into_plan-requires-clause-descending g c =
@@ -89,7 +88,7 @@ into_plan-requires-clause-found g c =
     let id = c.in-Some.id.0 in
     let turn = at_turn t label states all origins queue search.one_reached search.one_origin search.nodes (heap_items c.next_waiting.new.self.queue) id c.in-Some.ensures.some in
     let parts = nodes_of-get states all origins id turn.0 turn.1 in
-    rw c.in-Some.ensures.origins (get_within origins id turn.0.origin parts.2)
+    rw c.in-Some.ensures.origins (slice_get_within origins id turn.0.origin parts.2)
 
 pub returns-then-meets_goal : goal.returns-then-meets_goal
 returns-then-meets_goal g c =

@@ -7,7 +7,8 @@ use Rattle.validator.specs.Formulas.{state_of}
 use Rattle.task_system.specs.PlainStore.{states_of}
 use Rattle.model.specs.Meaning.{State, atom_cmp}
 use Rattle.model.specs.Certificates.{is_fluent}
-use Rattle.solver.proofs.LoopLemmas.{and_false, gathered_more}
+use Rattle.model.proofs.StaticLemmas.{and_false}
+use Rattle.solver.proofs.LoopLemmas.{gathered_more}
 use Rattle.solver.proofs.listing.fluent_atoms.Goals as goal
 
 pub loop-place-init : goal.loop-place-init

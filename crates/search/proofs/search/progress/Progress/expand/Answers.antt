@@ -2,10 +2,9 @@ use Rattle.std.proofs.Common.{◌≡◌, map, [], ap, sym, refl, ◌∙◌, arit
 use Rattle.std.specs.BinaryHeap.{heap_items}
 use Rattle.std.specs.Vec.Iter.{into_iter_items}
 use Rattle.std.proofs.lemmas.List.{nil_from_length}
-use Rattle.std.proofs.lemmas.Option.{same_Some}
+use Rattle.std.proofs.lemmas.Option.{same_Some, slice_get_within}
 use Rattle.model.proofs.ListLemmas.{Contains-here}
 use Rattle.search.specs.SearchNodes.{nodes_of, marked}
-use Rattle.search.proofs.SearchLists.{get_within}
 use Rattle.search.proofs.SearchLinked.{nodes_of-get}
 use Rattle.search.proofs.SearchMarked.{open_all}
 use Rattle.search.proofs.SearchSteps.{turn_begins, left_start, left_more, left_end, continues_same, continues_trans}
@@ -21,7 +20,7 @@ get-requires g c =
     let all = c.args.self.now.reached.items in
     let origins = c.args.self.now.origins.items in
     let parts = nodes_of-get states all origins c.args.id.0 turn.node turn.stands in
-    get_within states c.args.id.0 turn.node.state parts.0
+    slice_get_within states c.args.id.0 turn.node.state parts.0
 
 pub mark_expanded-requires : goal.mark_expanded-requires
 mark_expanded-requires g c =
@@ -33,7 +32,7 @@ mark_expanded-requires g c =
     let all = c.args.self.now.reached.items in
     let origins = c.args.self.now.origins.items in
     let parts = nodes_of-get states all origins c.args.id.0 turn.node turn.stands in
-    get_within all c.args.id.0 turn.node.reached parts.1
+    slice_get_within all c.args.id.0 turn.node.reached parts.1
 
 pub loop-successor-init : goal.loop-successor-init
 loop-successor-init g c =

@@ -1,10 +1,9 @@
 use Rattle.std.proofs.Common.{◌≡◌, ◌+◌, ◌<◌, length, map, ap, refl, ◌∙◌, arith, vec_len, Some}
 use Rattle.std.specs.Prelude.{Contains, slice_get}
 use Rattle.std.specs.BinaryHeap.{heap_items}
-use Rattle.std.proofs.lemmas.Option.{get_or_from_slice_get, slice_get_read}
+use Rattle.std.proofs.lemmas.Option.{get_or_from_slice_get, slice_get_read, slice_get_within}
 use Rattle.search.specs.SearchStore.{IsPlaced}
 use Rattle.search.specs.SearchNodes.{nodes_of}
-use Rattle.search.proofs.SearchLists.{get_within}
 use Rattle.search.proofs.SearchLinked.{nodes_of-get, length-nodes_of}
 use Rattle.search.proofs.SearchSteps.{turn_limits, placed_new, placed_old, stepped_new, stepped_cheaper, stepped_same, more_reachable}
 use Rattle.search.proofs.search.progress.Progress.reach.Goals as goal
@@ -14,7 +13,7 @@ index-requires g c =
     let e = c.requires.expanding in
     let states = map g.T.TransitionSystem.view (g.S.StateStore.states c.args.self.now.store) in
     let parts = nodes_of-get states c.args.self.now.reached.items c.args.self.now.origins.items c.args.parent.0 e.turn.node e.turn.stands in
-    omega (arith, get_within c.args.self.now.reached.items c.args.parent.0 e.turn.node.reached parts.1, c.args.self.now.reached.ok.0)
+    omega (arith, slice_get_within c.args.self.now.reached.items c.args.parent.0 e.turn.node.reached parts.1, c.args.self.now.reached.ok.0)
 
 pub overflow_add-cost : goal.overflow_add-cost
 overflow_add-cost g c =
@@ -33,7 +32,7 @@ depth-depth-requires g c =
     let e = c.requires.expanding in
     let states = map g.T.TransitionSystem.view (g.S.StateStore.states c.args.self.now.store) in
     let parts = nodes_of-get states c.args.self.now.reached.items c.args.self.now.origins.items c.args.parent.0 e.turn.node e.turn.stands in
-    get_within c.args.self.now.origins.items c.args.parent.0 e.turn.node.origin parts.2
+    slice_get_within c.args.self.now.origins.items c.args.parent.0 e.turn.node.origin parts.2
 
 pub overflow_add-depth : goal.overflow_add-depth
 overflow_add-depth g c =
@@ -70,7 +69,7 @@ index-requires-else-is_new g c =
     let s = g.T.TransitionSystem.view c.args.successor.state in
     let placed : IsPlaced states after s c.in-Some.id.0 c.in-Some.is_new = rw c.in-Some.is at c.in_ok-id.ensures.placed in
     let known = placed_old states after s c.in-Some.id.0 c.in-Some.is_new c.if-is_new.false placed in
-    let within : c.in-Some.id.0 < vec_len c.args.self.now.reached = omega (arith, get_within states c.in-Some.id.0 s known.0, e.search.one_reached, c.args.self.now.reached.ok.0) in
+    let within : c.in-Some.id.0 < vec_len c.args.self.now.reached = omega (arith, slice_get_within states c.in-Some.id.0 s known.0, e.search.one_reached, c.args.self.now.reached.ok.0) in
     within
 
 pub improve-requires-clause-reached_in : goal.improve-requires-clause-reached_in
@@ -81,7 +80,7 @@ improve-requires-clause-reached_in g c =
     let s = g.T.TransitionSystem.view c.args.successor.state in
     let placed : IsPlaced states after s c.in-Some.id.0 c.in-Some.is_new = rw c.in-Some.is at c.in_ok-id.ensures.placed in
     let known = placed_old states after s c.in-Some.id.0 c.in-Some.is_new c.if-is_new.false placed in
-    omega (arith, get_within states c.in-Some.id.0 s known.0, e.search.one_reached)
+    omega (arith, slice_get_within states c.in-Some.id.0 s known.0, e.search.one_reached)
 
 pub improve-requires-clause-origin_in : goal.improve-requires-clause-origin_in
 improve-requires-clause-origin_in g c =
@@ -91,7 +90,7 @@ improve-requires-clause-origin_in g c =
     let s = g.T.TransitionSystem.view c.args.successor.state in
     let placed : IsPlaced states after s c.in-Some.id.0 c.in-Some.is_new = rw c.in-Some.is at c.in_ok-id.ensures.placed in
     let known = placed_old states after s c.in-Some.id.0 c.in-Some.is_new c.if-is_new.false placed in
-    omega (arith, get_within states c.in-Some.id.0 s known.0, e.search.one_origin)
+    omega (arith, slice_get_within states c.in-Some.id.0 s known.0, e.search.one_origin)
 
 pub returns-in_ok-add : goal.returns-in_ok-add
 returns-in_ok-add g c =
@@ -141,7 +140,7 @@ returns-in_ok-improve g c =
     let placed : IsPlaced states after s c.in-Some.id.0 c.in-Some.is_new = rw c.in-Some.is at c.in_ok-id.ensures.placed in
     let known = placed_old states after s c.in-Some.id.0 c.in-Some.is_new c.if-is_new.false placed in
     let was : slice_get all c.in-Some.id.0 ≡ Some c.index-else-is_new.result.now =
-    slice_get_read all (length all) c.in-Some.id.0 c.index-else-is_new.result.now refl (omega (arith, get_within states c.in-Some.id.0 s known.0, e.search.one_reached)) c.index-else-is_new.ensures in
+    slice_get_read all (length all) c.in-Some.id.0 c.index-else-is_new.result.now refl (omega (arith, slice_get_within states c.in-Some.id.0 s known.0, e.search.one_reached)) c.index-else-is_new.ensures in
     let stored : map view (g.S.StateStore.states c.improve.new.self.store) ≡ after = rw c.in_ok-improve.ensures.store refl in
     let step = stepped_cheaper (g.T.TransitionSystem.means c.args.system.now) g.T.TransitionSystem.label states all origins (heap_items c.args.self.now.queue) c.args.parent.0
     e.search.one_reached e.search.one_origin e.search.nodes e.turn e.others_open s (c.index.result.now.cost + c.from.result)
@@ -177,7 +176,7 @@ returns-else-cost-index g c =
     let placed : IsPlaced states after s c.in-Some.id.0 c.in-Some.is_new = rw c.in-Some.is at c.in_ok-id.ensures.placed in
     let known = placed_old states after s c.in-Some.id.0 c.in-Some.is_new c.if-is_new.false placed in
     let was : slice_get all c.in-Some.id.0 ≡ Some c.index-else-is_new.result.now =
-    slice_get_read all (length all) c.in-Some.id.0 c.index-else-is_new.result.now refl (omega (arith, get_within states c.in-Some.id.0 s known.0, e.search.one_reached)) c.index-else-is_new.ensures in
+    slice_get_read all (length all) c.in-Some.id.0 c.index-else-is_new.result.now refl (omega (arith, slice_get_within states c.in-Some.id.0 s known.0, e.search.one_reached)) c.index-else-is_new.ensures in
     let step = stepped_same (g.T.TransitionSystem.means c.args.system.now) g.T.TransitionSystem.label states all origins (heap_items c.args.self.now.queue) c.args.parent.0
     e.search.one_reached e.search.one_origin e.search.nodes e.turn e.others_open s (c.index.result.now.cost + c.from.result)
     (record { parent = c.args.parent; action = c.args.successor.action; depth = c.depth-depth.result + 1 }) refl
