@@ -48,7 +48,7 @@ pub data IsCommand (words : List (List ℕ)) : Type 0 where
   is_validate : (domain problem plan : List ℕ) → AsksForVerdict words domain problem plan → IsCommand words
   is_solve : (domain problem : List ℕ) (states : ℕ) → AsksForPlan words domain problem states → IsCommand words
 
--- the text of the file of this name: where its contents are known, their first 16,777,217 bytes, or all that they have
+-- the text of the file of this name: where its contents are known, their first 16,777,217 bytes, or all where they are fewer
 abbrev pub IsText : (List ℕ → Option (List ℕ)) → List ℕ → List ℕ → Type 0
 IsText contents name text = IfSome (contents name) (λ bytes. text ≡ take 16777217 bytes)
 
@@ -75,14 +75,14 @@ TellsAnswer contents domain problem states instances before after status =
     (task : Task) × (a : Answer) × OnTwo contents domain problem (λ d p. IsTaskOf d p task)
     × IsTrueAnswer task states instances a × (status ≡ answer.status_of a) × Appends before after (text_of task a)
 
--- What the words ask for is told. A task has at most 1,000,000 instances.
+-- What the words ask for is told. The limit of instances is 1,000,000.
 pub data Tells (contents : List ℕ → Option (List ℕ)) (words : List (List ℕ)) (before after : Option (List ℕ)) (status : ℕ) : Type 0 where
   a_verdict : (domain problem plan : List ℕ) → AsksForVerdict words domain problem plan
       → TellsVerdict contents domain problem plan before after status → Tells contents words before after status
   an_answer : (domain problem : List ℕ) (states : ℕ) → AsksForPlan words domain problem states
       → TellsAnswer contents domain problem states 1000000 before after status → Tells contents words before after status
 
--- The texts of the files that the words name are refused, this fault is the first, and nothing stands on the standard output.
+-- The texts of the files that the words name are refused, and the standard output took nothing.
 pub data Refuses (contents : List ℕ → Option (List ℕ)) (words : List (List ℕ)) (before after : Option (List ℕ)) : Type 0 where
   a_verdict_refused : (domain problem plan : List ℕ) (fault : FileFault) → AsksForVerdict words domain problem plan
       → OnThree contents domain problem plan (λ d p l. IsFileFault d p l fault) → after ≡ before
@@ -91,7 +91,7 @@ pub data Refuses (contents : List ℕ → Option (List ℕ)) (words : List (List
       → OnTwo contents domain problem (λ d p. IsTaskFault d p fault) → after ≡ before
       → Refuses contents words before after
 
--- what this command asks for is told
+-- what this command asks for is told (`Tells`, in the code's terms)
 abbrev pub TellsFor : (List ℕ → Option (List ℕ)) → Command → (before after : Option (List ℕ)) → ℕ → Type 0
 TellsFor contents (Validate domain problem plan) before after status =
     TellsVerdict contents domain.now problem.now plan.now before after status
