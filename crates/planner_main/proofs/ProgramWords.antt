@@ -1,7 +1,7 @@
 -- What the words of the program are, and what it tells of them.
-use Rattle.std.proofs.Common.{◌≡◌, ℕ, ◌+◌, ◌^◌, ◌<◌, ◌≤◌, ◌⊎◌, inl, inr, List, [], ◌∷◌, length, codes, get_or, take, drop, sym, refl, ap, ◌∙◌, subst, arith}
+use Rattle.std.proofs.Common.{◌≡◌, ℕ, ◌^◌, ◌<◌, ◌≤◌, ◌⊎◌, inl, inr, List, [], ◌∷◌, length, codes, get_or, take, drop, sym, ap, ◌∙◌, subst, arith}
 use Rattle.std.proofs.lemmas.Bool.Decides.{nat_tests}
-use Rattle.std.specs.Prelude.{Option, None, Some, IfSome, is_some, Bool, true, ◌&&◌}
+use Rattle.std.specs.Prelude.{Option, None, Some, IfSome, is_some, true, ◌&&◌}
 use Rattle.std.specs.Str.Parse.{IsNumeral, without_leading_plus, digits_value}
 use Rattle.solver.specs.Limit.{is_limit}
 use Rattle.solver.specs.declared.limits.Limits.{Limits}
@@ -14,7 +14,7 @@ use Rattle.planner_main.specs.declared.report.Failure.{Failure}
 use Rattle.planner_main.specs.declared.report.Failure.TheVariants as failure
 use Rattle.planner_main.specs.declared.task_file.FileFault.TheVariants as refusal
 use Rattle.planner_main.specs.declared.certificate.WriteFault.TheVariants as device
-use Rattle.planner_main.specs.Program.{texts, AllowsStates, by_default, as_asked, AsksForVerdict, AsksForPlan, IsCommand, is_validate, is_solve, IsText, OnTwo, OnThree, TellsVerdict, TellsAnswer, Tells, a_verdict, an_answer, Refuses, a_verdict_refused, an_answer_refused, TellsFor, Asks, fault_in, IsFaultFor, failure_status}
+use Rattle.planner_main.specs.Program.{texts, AllowsStates, as_asked, AsksForVerdict, AsksForPlan, IsCommand, is_validate, is_solve, IsText, OnTwo, OnThree, TellsAnswer, Tells, a_verdict, an_answer, Refuses, a_verdict_refused, an_answer_refused, TellsFor, Asks, fault_in, IsFaultFor, failure_status}
 use Rattle.planner_main.specs.Report as verdict
 use Rattle.planner_main.specs.Solution as answer
 use Rattle.model.specs.Runs.{Verdict, valid, not_applicable, goal_missed}

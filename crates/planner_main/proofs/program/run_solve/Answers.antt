@@ -1,4 +1,4 @@
-use Rattle.std.proofs.Common.{rules, ◌≡◌, refl}
+use Rattle.std.proofs.Common.{rules, refl}
 use Rattle.std.proofs.lemmas.Result.{err_from_is_err_and}
 use Rattle.planner_main.proofs.ProgramWords.{text_kept, refused_on_two}
 use Rattle.validator.specs.Typing.{task_of}
