@@ -3,3 +3,4 @@ pub mod PlanWords
 pub mod PlanSteps
 pub mod FilesRead
 pub mod ProgramWords
+pub mod TableLemmas

@@ -1,5 +1,5 @@
 //! Devices over memory, and devices that fail, for tests.
-ghost use Rattle.std.specs.Prelude.{◌≡◌, ◌<◌, ◌≤◌, drop, vec_len, Some};
+ghost use Rattle.std.specs.Prelude.{◌≡◌, ◌<◌, ◌≤◌, drop, vec_len, Some, []};
 ghost use Rattle.planner_main.specs.Devices.{one_more};
 
 use super::{DeviceFault, Sink, Source, WriteFault};
@@ -15,22 +15,31 @@ pub struct Memory {
 
 impl Memory {
     /// A source of these bytes, and a sink that holds them.
-    pub fn new(bytes: Vec<u8>) -> Memory {
+    pub fn new(bytes: Vec<u8>) -> Memory
+        ensures source { ⟦<Memory as Source>⟧.remaining result ≡ Some bytes.items }
+        ensures sink { ⟦<Memory as Sink>⟧.taken result ≡ Some bytes.items }
+    {
         Memory { bytes, next: 0 }
     }
 
     /// A sink that holds nothing yet.
-    pub fn empty(alloc: Global) -> Memory {
+    pub fn empty(alloc: Global) -> Memory
+        ensures { ⟦<Memory as Sink>⟧.taken result ≡ Some [] }
+    {
         Memory::new(Vec::new(alloc))
     }
 
     /// All bytes that it holds, those that were read too.
-    pub fn as_slice(&self) -> &[u8] {
+    pub fn as_slice(&self) -> &[u8]
+        ensures { Some result.now ≡ ⟦<Memory as Sink>⟧.taken self.now }
+    {
         self.bytes.as_slice()
     }
 
     /// All bytes that it holds, those that were read too.
-    pub fn into_vec(self) -> Vec<u8> {
+    pub fn into_vec(self) -> Vec<u8>
+        ensures { Some result.items ≡ ⟦<Memory as Sink>⟧.taken self }
+    {
         self.bytes
     }
 }
@@ -104,7 +113,8 @@ impl<S: Sink> Sink for InPieces<S> {
 /// A device that fails at one call, and else does what the device in it does.
 #[derive(Drop)]
 pub struct FailsAt<D> {
-    inner: D,
+    /// The device in it.
+    pub inner: D,
     // how many calls succeed before the one that fails, and `None` where none will
     calls_before: Option<u64>,
     failures: u64,
@@ -112,7 +122,9 @@ pub struct FailsAt<D> {
 
 impl<D> FailsAt<D> {
     /// The device, failing once, at the call after so many; at `None` it never fails of itself.
-    pub fn new(inner: D, calls_before: Option<u64>) -> FailsAt<D> {
+    pub fn new(inner: D, calls_before: Option<u64>) -> FailsAt<D>
+        ensures { result.inner ≡ inner }
+    {
         FailsAt {
             inner,
             calls_before,

@@ -1,6 +1,8 @@
 //! A table of files in memory, for tests.
-ghost use Rattle.std.specs.Prelude.{◌≡◌};
+ghost use Rattle.std.specs.Prelude.{◌≡◌, Some, OnOk};
+ghost use Rattle.std.specs.Option.{option_map};
 ghost use Rattle.planner_main.specs.Devices.{one_more};
+ghost use Rattle.planner_main.specs.Table.{contents_of};
 
 use super::Files;
 use crate::certificate::{FailsAt, Memory, Sink, WriteFault};
@@ -60,7 +62,9 @@ impl Table {
     }
 
     /// The bytes of a file, and `None` where there is none of this name.
-    pub fn get(&self, name: &str) -> Option<&[u8]> {
+    pub fn get(&self, name: &str) -> Option<&[u8]>
+        ensures { option_map (λ bytes. bytes.now) result ≡ ⟦<Table as Files>⟧.contents self.now name.now }
+    {
         for entry in &self.entries {
             if entry.name.as_str() == name {
                 return Some(entry.bytes.as_slice());
@@ -101,13 +105,15 @@ impl Files for Table {
 
     ghost failures = { λ table. table.failures };
 
+    ghost contents = { λ table name. contents_of table.entries.items name };
+
     fn open(&mut self, name: &str) -> Result<FailsAt<Memory>, WriteFault> {
         for entry in &self.entries {
             if entry.name.as_str() == name {
-                let bytes = Vec::from_slice(self.alloc, entry.bytes.as_slice()).map_err(
-                    |_| WriteFault::NoMemory,
-                )?;
-                return Ok(FailsAt::new(Memory::new(bytes), entry.reads_before));
+                return match Vec::from_slice(self.alloc, entry.bytes.as_slice()) {
+                    Ok(bytes) => Ok(FailsAt::new(Memory::new(bytes), entry.reads_before)),
+                    Err(_) => Err(WriteFault::NoMemory),
+                };
             }
         }
         self.failures = self.failures.saturating_add(1);
