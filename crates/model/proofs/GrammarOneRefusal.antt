@@ -23,6 +23,7 @@ places (y ∷ b) (z ∷ c) r s w x e = by_rest (places b c r s w x (cc))
   where
     head : y ≡ z
     head = cc
+
     by_rest : Places b c w x → Places (y ∷ b) (z ∷ c) w x
     by_rest (same p q) = same (cc) q
     by_rest (first rest p) = first rest (cc)

@@ -74,7 +74,8 @@ impl Sink for Memory {
 /// A device that moves at most so many bytes at a call.
 #[derive(Drop)]
 pub struct InPieces<D> {
-    inner: D,
+    /// The device in it.
+    pub inner: D,
     length: usize,
     ghost some: { 0 < length },
 }
@@ -83,6 +84,7 @@ impl<D> InPieces<D> {
     /// The device, cut into pieces of this length.
     pub fn new(inner: D, length: usize) -> InPieces<D>
         requires { 0 < length }
+        ensures { result.inner ≡ inner }
     {
         InPieces { inner, length }
     }

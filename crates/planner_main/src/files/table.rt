@@ -1,5 +1,5 @@
 //! A table of files in memory, for tests.
-ghost use Rattle.std.specs.Prelude.{◌≡◌, Some, OnOk};
+ghost use Rattle.std.specs.Prelude.{◌≡◌, ℕ, List, None};
 ghost use Rattle.std.specs.Option.{option_map};
 ghost use Rattle.planner_main.specs.Devices.{one_more};
 ghost use Rattle.planner_main.specs.Table.{contents_of};
@@ -34,7 +34,9 @@ pub struct Draft {
 
 impl Table {
     /// No file; no call has failed yet.
-    pub fn new(alloc: Global) -> Table {
+    pub fn new(alloc: Global) -> Table
+        ensures { (name : List ℕ) → ⟦<Table as Files>⟧.contents result name ≡ None }
+    {
         Table {
             alloc,
             entries: Vec::new(alloc),
