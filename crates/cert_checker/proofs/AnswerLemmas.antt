@@ -23,11 +23,6 @@ pub on_ok : {T E : Type 0} {P : Type 0} (r : Result T E) → P → OnOk r P
 on_ok (Ok v) p = p
 on_ok (Err e) p = tt
 
--- an error that `?` hands on
-pub passed_on : {T E : Type 0} (Q : E → Type 0) (r : Result T E) (e : E) → IsErrAnd r (λ y. y ≡ e) → Q e → IfErr r Q
-passed_on Q (Ok v) e h q = tt
-passed_on Q (Err y) e h q = subst Q (sym h) q
-
 pub closed_for : (task : Task) (c : Certificate) (states : List State) → AreFluent task c.atoms → Lists task c states → IsClosed (system_of task) (λ _. 0) c.claim (lines_of task c) → IsClosedFor task c
 closed_for task c states atoms lists listing = record {
   atoms_are_fluent = atoms.fluent;

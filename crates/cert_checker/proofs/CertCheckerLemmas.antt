@@ -8,12 +8,12 @@ use Rattle.std.specs.FinSet.{from_list, insert, contains, contains-insert, from_
 use Rattle.std.specs.Ordering.{eq_by_cmp}
 use Rattle.std.proofs.lemmas.List.{take_all, take_more, map-append, length-map, append-nil}
 use Rattle.std.proofs.lemmas.List.Elements.{Contains-append_cases, filter_map-append, filter-append}
-use Rattle.std.proofs.lemmas.Option.{slice_get_within, get_or_from_slice_get}
-use Rattle.validator.specs.declared.typing.Atom as code_atom
-use Rattle.validator.specs.TaskParts.{atom_of}
-use Rattle.validator.proofs.FormulasTasks.{passes_got}
-use Rattle.cert_checker.specs.declared.certificate.cert.StateLine as code_line
-use Rattle.cert_checker.specs.CertificateParts.{line_of}
+use Rattle.std.proofs.lemmas.Option.{slice_get_within}
+use Rattle.typing.specs.declared.atoms.Atom as code_atom
+use Rattle.typing.specs.TaskParts.{atom_of}
+use Rattle.model.proofs.Tests.{passes_got}
+use Rattle.certificate.specs.declared.cert.StateLine as code_line
+use Rattle.certificate.specs.CertificateParts.{line_of}
 use Rattle.cert_checker.specs.CheckedLines.{Lists, IsListedAt, IsOpenClosed, IsCutClosed, IsLineClosed}
 use Rattle.model.specs.Task.{Task, Atom, Instance}
 use Rattle.model.specs.Runs.{cost_of_all, Solves, IsOptimal}
@@ -22,7 +22,7 @@ use Rattle.model.specs.Instances.{successors_of}
 use Rattle.model.specs.Claims.{Claim, bound, Allows, Line, IsListedWithin, IsClosed, ClaimHolds}
 use Rattle.model.specs.Certificates.{Certificate, StateLine, state_of_line, lines_of, is_number, is_state_line, rise}
 use Rattle.model.specs.CertificateRefusals.{IsListed}
-use Rattle.model.proofs.ListLemmas.{Contains-cases, Contains-none}
+use Rattle.model.proofs.ListLemmas.{Contains-cases, Contains-got, Contains-none, Contains-place}
 use Rattle.model.proofs.Atoms.{atoms_total, atoms_apart, same_state}
 use Rattle.model.proofs.ClaimsLemmas.{claim-of_closed}
 use Rattle.model.proofs.InstancesLemmas.{Contains-successors}
@@ -38,12 +38,6 @@ pub slice_get-map : {X Y : Type 0} (f : X → Y) (xs : List X) (i : ℕ) (x : X)
 slice_get-map f [] i x at = absurd (cc)
 slice_get-map f (y ∷ xs) zero x at = let same : y ≡ x = cc in ap (λ z. Some (f z)) same
 slice_get-map f (y ∷ xs) (suc i) x at = slice_get-map f xs i x at
-
-pub Contains-got : {X : Type 0} (xs : List X) (i : ℕ) (x : X) → slice_get xs i ≡ Some x → Contains xs x
-Contains-got xs i x at = (i, slice_get_within xs i x at, get_or_from_slice_get xs i x x at)
-
-pub Contains-place : {X : Type 0} (xs : List X) (x : X) → Contains xs x → (i : ℕ) × (slice_get xs i ≡ Some x)
-Contains-place xs x at = (at.0, got xs at.0 x at.1 (sym at.2))
 
 -- ---- the listing
 

@@ -4,18 +4,19 @@ use Rattle.std.specs.Prelude.{◌↔◌, Result, Ok, Err, IfErr, AllPairs, Conta
 use Rattle.std.proofs.lemmas.Bool.{cases_eq, false≢true}
 use Rattle.std.proofs.lemmas.List.{length-map, length-take, get_or-take, take-map}
 use Rattle.std.proofs.lemmas.Option.{slice_get_within, get_or_from_slice_get}
-use Rattle.validator.specs.declared.typing.Atom as code_atom
-use Rattle.validator.specs.TaskParts.{atom_of}
+use Rattle.typing.specs.declared.atoms.Atom as code_atom
+use Rattle.typing.specs.TaskParts.{atom_of}
 use Rattle.task_system.proofs.StoreLemmas.{slice_get-or}
 use Rattle.cert_checker.specs.declared.check.Refusal.{Refusal}
 use Rattle.cert_checker.specs.declared.check.Refusal.TheVariants as refusal
 use Rattle.cert_checker.specs.declared.check.code.RefusalCode.{RefusalCode}
-use Rattle.cert_checker.specs.declared.certificate.cert.StateLine as code_line
-use Rattle.cert_checker.specs.CertificateParts.{line_of}
+use Rattle.certificate.specs.declared.cert.StateLine as code_line
+use Rattle.certificate.specs.CertificateParts.{line_of}
 use Rattle.cert_checker.specs.RefusalCode.{reason_of}
 use Rattle.cert_checker.specs.CertChecker.{IsFirstRefusal, IsFirstSuccessor, IsFirstToLeave}
 use Rattle.cert_checker.specs.CheckedLines.{AreFluent, CutsAreAllowed, IsLineClosed, IsRightUpTo}
-use Rattle.cert_checker.proofs.CertCheckerLemmas.{AllListed, Contains-got, entry, listed_there, slice_get-map}
+use Rattle.model.proofs.ListLemmas.{Contains-got}
+use Rattle.cert_checker.proofs.CertCheckerLemmas.{AllListed, entry, listed_there, slice_get-map}
 use Rattle.cert_checker.proofs.RefusalsLemmas.{states_of_lines}
 use Rattle.cert_checker.proofs.OrderLemmas.{AtomsAreRight, StatesAreRight}
 use Rattle.model.specs.Task.{Task, Atom, Instance}

@@ -1,5 +1,4 @@
 pub mod CertCheckerLemmas
-pub mod FluentsLemmas
 pub mod RefusalsLemmas
 pub mod ReadingLemmas
 pub mod AnswerLemmas

@@ -11,12 +11,12 @@ use Rattle.std.proofs.lemmas.List.Quantifiers.{all_pairs_push}
 use Rattle.std.proofs.lemmas.Map.Views.{Contains-from_any}
 use Rattle.std.proofs.lemmas.Option.{get_or_from_slice_get}
 use Rattle.indexmap.specs.IndexSet.{insert_key}
-use Rattle.validator.specs.declared.typing.Atom as code_atom
-use Rattle.validator.specs.TaskParts.{atom_of}
-use Rattle.validator.proofs.FormulasEquality.{atom_eq, equal_atoms, same_atoms, one_atom}
+use Rattle.typing.specs.declared.atoms.Atom as code_atom
+use Rattle.typing.specs.TaskParts.{atom_of}
+use Rattle.formulas.proofs.Equality.{atom_eq, equal_atoms, same_atoms, one_atom}
 use Rattle.task_system.proofs.StoreLemmas.{slice_get-or}
-use Rattle.cert_checker.specs.declared.certificate.cert.StateLine as code_line
-use Rattle.cert_checker.specs.CertificateParts.{line_of}
+use Rattle.certificate.specs.declared.cert.StateLine as code_line
+use Rattle.certificate.specs.CertificateParts.{line_of}
 use Rattle.cert_checker.specs.CheckedLines.{AreFluent, Lists}
 use Rattle.cert_checker.proofs.CertCheckerLemmas.{entry, listed_there, slice_get-map, states_whole}
 use Rattle.model.specs.Task.{Task, Atom}

@@ -8,18 +8,18 @@ use Rattle.std.proofs.Math.ListN.{get_or-map}
 use Rattle.cert_checker.specs.declared.check.Refusal.{Refusal}
 use Rattle.cert_checker.specs.declared.check.Refusal.TheVariants as refusal
 use Rattle.cert_checker.specs.declared.check.code.RefusalCode.{RefusalCode}
-use Rattle.cert_checker.specs.declared.certificate.cert.StateLine as code_line
-use Rattle.cert_checker.specs.CertificateParts.{line_of}
+use Rattle.certificate.specs.declared.cert.StateLine as code_line
+use Rattle.certificate.specs.CertificateParts.{line_of}
 use Rattle.cert_checker.specs.RefusalCode.{reason_of}
 use Rattle.cert_checker.specs.CheckedLines.{Lists, HasCost, IsListedAt, IsTrueAnyway}
-use Rattle.cert_checker.proofs.CertCheckerLemmas.{slice_get-map, Contains-place, entry}
+use Rattle.cert_checker.proofs.CertCheckerLemmas.{slice_get-map, entry}
 use Rattle.model.specs.Task.{Task, Instance}
 use Rattle.model.specs.Meaning.{State, step, meets_goal}
 use Rattle.model.specs.Instances.{successors_of}
 use Rattle.model.specs.Claims.{Claim, Allows, Line, IsListedWithin}
 use Rattle.model.specs.Certificates.{Certificate, StateLine, state_of_line, lines_of}
 use Rattle.model.specs.CertificateRefusals.{goal_open, successor_missing, successor_dearer, cut_weak, IsWrongLine, IsListed, state_line}
-use Rattle.model.proofs.ListLemmas.{Contains-map}
+use Rattle.model.proofs.ListLemmas.{Contains-place, Contains-map}
 use Rattle.model.proofs.InstancesLemmas.{successors-Contains}
 use Rattle.model.proofs.CertificateRefusalsLemmas.{apart}
 

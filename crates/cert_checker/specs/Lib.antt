@@ -1,5 +1,3 @@
-pub mod CertificateParts
-pub mod Certificate
 pub mod RefusalCode
 pub mod CertChecker
 pub mod CheckedLines

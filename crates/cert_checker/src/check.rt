@@ -3,31 +3,27 @@
 ghost use Rattle.std.specs.Prelude.{◌≡◌, ◌<◌, ◌≤◌, length, IsTrue, IfErr, IfOk, OnOk};
 ghost use Rattle.std.specs.List.{list_all};
 ghost use Rattle.std.specs.Option.{ForSome, option_map};
-ghost use Rattle.validator.specs.Typing.{task_of};
-ghost use Rattle.validator.specs.Formulas.{plan_of};
+ghost use Rattle.typing.specs.Task.{task_of};
+ghost use Rattle.formulas.specs.State.{plan_of};
 ghost use Rattle.model.specs.Meaning.{is_instance};
 ghost use Rattle.model.specs.Instances.{all_instances};
 ghost use Rattle.model.specs.Certificates.{IsClosedFor};
 ghost use Rattle.model.specs.CertificateRefusals.{IsPlanWithin, atom_line, state_line};
-ghost use Rattle.cert_checker.specs.Certificate.{certificate_of};
+ghost use Rattle.certificate.specs.Certificate.{certificate_of};
 ghost use Rattle.cert_checker.specs.CertChecker.{Answers, IsFirstRefusal, IsNoFault, IsShown, IsTrueRefusal};
 
 mod answer;
 mod code;
-mod fluents;
 mod listing;
 mod steps;
-#[cfg(test)]
-mod tests;
 
-use crate::certificate::Cert;
+use certificate::Cert;
 pub use code::RefusalCode;
-pub use fluents::{is_atom, is_fluent};
+use faults::NoMemory;
+use formulas::Plan;
 use std::alloc::{AllocError, AllocFailed, Global};
 use task_system::instances_exceed;
-use tokens::NoMemory;
-use validator::formulas::Plan;
-use validator::typing::Task;
+use typing::Task;
 
 /// What an accepted certificate shows.
 #[derive(Clone, Copy, Debug, PartialEq, Eq)]

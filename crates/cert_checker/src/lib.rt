@@ -2,7 +2,6 @@
 //! every plan of the task.
 #![tactic(auto)]
 
-pub mod certificate;
 mod check;
 
-pub use check::{Accepted, Refusal, RefusalCode, check_cert, is_atom, is_fluent};
+pub use check::{Accepted, Refusal, RefusalCode, check_cert};

@@ -6,7 +6,7 @@ use Rattle.model.specs.Trees as tree
 use Rattle.model.specs.GrammarWords.{Token, opens, closes, name, keyword, free, define, domain, problem, ordinary, Keyword, domain_keyword, requirements, predicates, action, objects, init, goal, parameters}
 use Rattle.model.specs.Grammar.{no_name, no_variable, no_term, atom, no_formula, add, no_effect, Parts, parts, parameter_list, condition, change, AreParts, no_part, more_parts, whole_action, action_from, no_predicate, no_key, DomainSections, domain_sections, domain_requirements, declared_predicates, one_action, no_fact, ProblemSections, problem_sections, domain_name, problem_requirements, object_list, initial_facts, goal_formula}
 use Rattle.model.specs.Refusals.{File, domain_file, problem_file, IsWhole, Begins, is_full}
-use Rattle.model.proofs.GrammarMachine.{State, wants_open, wants_close, wants_name, wants_names, wants_variables, wants_terms, wants_formulas, wants_effects, wants_predicates, wants_facts, wants_keys, wants_formula, wants_effect, wants_atom, wants_predicate, wants_fact, wants_action, wants_parts, wants_value, wants_domain_sections, wants_domain_section, wants_problem_sections, wants_problem_section, wants_define, wants_head, wants_kind, wants_nothing, parameter_part, precondition_part, effect_part, atom_from}
+use Rattle.model.specs.GrammarMachine.{State, wants_open, wants_close, wants_name, wants_names, wants_variables, wants_terms, wants_formulas, wants_effects, wants_predicates, wants_facts, wants_keys, wants_formula, wants_effect, wants_atom, wants_predicate, wants_fact, wants_action, wants_parts, wants_value, wants_domain_sections, wants_domain_section, wants_problem_sections, wants_problem_section, wants_define, wants_head, wants_kind, wants_nothing, parameter_part, precondition_part, effect_part, atom_from}
 use Rattle.model.proofs.GrammarTold.{Before, AtDomain, at_domain, AtDomainSection, AtProblem, at_problem, AtProblemSection, at_problem_section, AtHead, AtKind, AtName, domain_grows, problem_grows, section_grows, problem_section_grows, new_of, domain_named, problem_named, defined, head_opened, domain_closed, problem_closed}
 
 -- a name that stands for any

@@ -5,7 +5,7 @@ use Rattle.model.specs.Trees.{Name, Action}
 use Rattle.model.specs.GrammarWords.{Token, opens, closes, name, keyword, reserved, left_out_name, Keyword, domain_keyword, requirements, predicates, action, objects, init, goal, parameters, precondition, effect, requirement_key, left_out_keyword}
 use Rattle.model.specs.Grammar.{Parts, parts, AreKeys, no_key, more_keys, DomainSections, domain_sections, ProblemSections, problem_sections}
 use Rattle.model.specs.Refusals.{File, domain_file, problem_file, InDomain, in_domain, InProblem, in_problem, InAction, in_action, is_domain_section, is_problem_section, is_part, stands_in_domain, stands_in_problem, stands_in_action, is_complete, is_requirement, number_of_keyword, IsLine, unknown_in_domain, unknown_in_problem, unknown_in_action, repeated_in_domain, repeated_in_problem, repeated_in_action, repeated_at_once, repeated_at_value, missing_define, missing_kind, missing_in_domain, missing_in_problem, missing_name, missing_in_action, missing_after_precondition, missing_after_effect, unknown_key_in_domain, unknown_key_in_problem, left_out_form}
-use Rattle.model.proofs.GrammarMachine.{State, stopped, run, start, wants_keys, wants_action, wants_parts, wants_domain_sections, wants_domain_section, wants_problem_sections, wants_problem_section, add_action, set_problem_requirements}
+use Rattle.model.specs.GrammarMachine.{State, stopped, run, start, wants_keys, wants_action, wants_parts, wants_domain_sections, wants_domain_section, wants_problem_sections, wants_problem_section, add_action, set_problem_requirements}
 use Rattle.model.proofs.GrammarRuns.{not_full_keys, domain_sections_run, problem_sections_run, parts_run, section_opens}
 use Rattle.model.proofs.GrammarFrames.{domain_sections_framed, problem_sections_framed, parts_framed, keys_framed}
 

@@ -4,7 +4,7 @@ use Rattle.model.specs.Trees.{Name, Term, Formula, Formulas, Effect, Effects, Pr
 use Rattle.model.specs.Trees as tree
 use Rattle.model.specs.GrammarWords.{Token, opens, closes, name, variable, keyword, Label, free, reserved, FreeName, define, domain, problem, and, not, domain_keyword, requirements, predicates, action, objects, init, goal, parameters, precondition, effect, requirement_key}
 use Rattle.model.specs.Grammar.{AreNames, no_name, more_names, AreVariables, no_variable, more_variables, AreTerms, no_term, object_first, variable_first, IsFormula, atom, conjunction, AreFormulas, no_formula, more_formulas, IsEffect, add, delete, both, AreEffects, no_effect, more_effects, Parts, parts, no_parts, IsPart, parameter_list, condition, change, AreParts, no_part, more_parts, IsAction, whole_action, action_from, ArePredicates, no_predicate, more_predicates, AreKeys, no_key, more_keys, domain_sections, no_domain_sections, domain_requirements, declared_predicates, one_action, AreDomainSections, no_domain_section, more_domain_sections, IsDomain, whole_domain, AreFacts, no_fact, more_facts, ProblemSections, problem_sections, no_problem_sections, domain_name, problem_requirements, object_list, initial_facts, goal_formula, AreProblemSections, no_problem_section, more_problem_sections, IsProblem, whole_problem}
-use Rattle.model.proofs.GrammarMachine.{State, wants_open, wants_close, wants_name, wants_names, wants_variables, wants_terms, wants_formulas, wants_effects, wants_predicates, wants_facts, wants_keys, wants_formula, wants_effect, wants_atom, wants_predicate, wants_fact, wants_action, wants_parts, wants_value, wants_domain_sections, wants_domain_section, wants_problem_sections, wants_problem_section, wants_define, wants_head, wants_kind, wants_nothing, Tree, domain_tree, problem_tree, Part, parameter_part, precondition_part, effect_part, has_part, set_parameters, set_precondition, set_effect, atom_from, go, refuse, finished, stopped, follow, run, start}
+use Rattle.model.specs.GrammarMachine.{State, wants_open, wants_close, wants_name, wants_names, wants_variables, wants_terms, wants_formulas, wants_effects, wants_predicates, wants_facts, wants_keys, wants_formula, wants_effect, wants_atom, wants_predicate, wants_fact, wants_action, wants_parts, wants_value, wants_domain_sections, wants_domain_section, wants_problem_sections, wants_problem_section, wants_define, wants_head, wants_kind, wants_nothing, Tree, domain_tree, problem_tree, Part, parameter_part, precondition_part, effect_part, has_part, set_parameters, set_precondition, set_effect, atom_from, go, refuse, finished, stopped, follow, run, start}
 use Rattle.model.specs.Refusals.{File, domain_file, problem_file, is_full}
 
 -- the words are a file of this tree

@@ -5,8 +5,8 @@ use Rattle.std.proofs.lemmas.List.{map-append, append_assoc}
 use Rattle.model.specs.Fault.{Span}
 use Rattle.model.specs.Words.{Word, end_of}
 use Rattle.model.specs.GrammarWords.{Token, token_of}
-use Rattle.model.specs.Refusals.{File, domain_file, problem_file, IsWhole, Begins, tokens_of, end_of_all, IsRefused, at_word, at_end}
-use Rattle.model.proofs.GrammarMachine.{State, wants_nothing, Tree, domain_tree, problem_tree, Step, go, refuse, step, finished, stopped, follow, run, start}
+use Rattle.model.specs.Refusals.{File, domain_file, problem_file, IsWhole, Begins, tokens_of, end_of_all, span_by, span_of_place, IsRefused, at_word, at_end}
+use Rattle.model.specs.GrammarMachine.{State, wants_nothing, Tree, domain_tree, problem_tree, Step, go, refuse, step, finished, stopped, follow, run, start}
 use Rattle.model.proofs.GrammarRuns.{domain_run, problem_run}
 use Rattle.model.proofs.GrammarStops.{dead_domain, dead_problem}
 use Rattle.model.proofs.GrammarTold.{stops_in, ends_in, true_of}
@@ -53,14 +53,6 @@ place_in (w ∷ words) (suc n) = by_rest (place_in words n)
     by_rest : IsPlace words n → IsPlace (w ∷ words) (suc n)
     by_rest (within before after word split get left) = within (w ∷ before) after word (ap (λ ws. w ∷ ws) split) get left
     by_rest (past get left) = past get left
-
--- where a word stands; past the last, the end of the words
-abbrev pub span_by : List Word → Option Word → Span
-span_by words (Some word) = record { start = word.start; end = end_of word }
-span_by words None = record { start = end_of_all words; end = end_of_all words }
-
-abbrev pub span_of_place : List Word → ℕ → Span
-span_of_place words place = span_by words (slice_get words place)
 
 refused_word : (file : File) (words before after : List Word) (word : Word) (code : ℕ) → words ≡ before ++ word ∷ after → run (tokens_of words) (start file) ≡ stopped code (token_of word ∷ tokens_of after) → IsRefused file words (record { code = code; span = record { start = word.start; end = end_of word } })
 refused_word file words before after word code split e =

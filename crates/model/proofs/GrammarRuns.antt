@@ -4,7 +4,7 @@ use Rattle.model.specs.Trees.{Name, Term, Formula, Formulas, Effect, Effects, Pr
 use Rattle.model.specs.Trees as tree
 use Rattle.model.specs.GrammarWords.{Token, opens, closes, name, keyword, free, reserved, and, not, requirements, objects, init, goal}
 use Rattle.model.specs.Grammar.{AreNames, no_name, more_names, AreVariables, no_variable, more_variables, AreTerms, no_term, object_first, variable_first, IsFormula, atom, conjunction, AreFormulas, no_formula, more_formulas, IsEffect, add, delete, both, AreEffects, no_effect, more_effects, Parts, parts, IsPart, parameter_list, condition, change, AreParts, no_part, more_parts, IsAction, whole_action, ArePredicates, no_predicate, more_predicates, AreKeys, no_key, more_keys, DomainSections, domain_sections, IsDomainSection, domain_requirements, declared_predicates, one_action, AreDomainSections, no_domain_section, more_domain_sections, IsDomain, whole_domain, AreFacts, no_fact, more_facts, ProblemSections, problem_sections, IsProblemSection, domain_name, problem_requirements, object_list, initial_facts, goal_formula, AreProblemSections, no_problem_section, more_problem_sections, IsProblem, whole_problem}
-use Rattle.model.proofs.GrammarMachine.{State, wants_open, wants_close, wants_names, wants_variables, wants_terms, wants_formulas, wants_effects, wants_predicates, wants_facts, wants_keys, wants_formula, wants_effect, wants_action, wants_parts, wants_value, wants_domain_sections, wants_problem_sections, wants_problem_section, precondition_part, effect_part, step, go, follow, run, finished, domain_tree, problem_tree, atom_from, start, refuse}
+use Rattle.model.specs.GrammarMachine.{State, wants_open, wants_close, wants_names, wants_variables, wants_terms, wants_formulas, wants_effects, wants_predicates, wants_facts, wants_keys, wants_formula, wants_effect, wants_action, wants_parts, wants_value, wants_domain_sections, wants_problem_sections, wants_problem_section, precondition_part, effect_part, step, go, follow, run, finished, domain_tree, problem_tree, atom_from, start, refuse}
 use Rattle.model.specs.Refusals.{domain_file, problem_file, is_full}
 
 pub names_run : {w r : List Token} {ns : List Name} → AreNames w ns (closes ∷ r) → (k : List Name → State) → run w (wants_names k) ≡ run r (k ns)

@@ -4,7 +4,7 @@ use Rattle.std.proofs.Common.{◌≡◌, ℕ, suc, ◌+◌, ◌≤◌, List, [],
 use Rattle.model.specs.Trees.{Domain, Problem}
 use Rattle.model.specs.GrammarWords.{Token}
 use Rattle.model.specs.Grammar.{IsDomain, IsProblem}
-use Rattle.model.proofs.GrammarMachine.{State, Step, go, refuse, step, Outcome, finished, stopped, follow, run, at_end, wants_nothing, start}
+use Rattle.model.specs.GrammarMachine.{State, Step, go, refuse, step, Outcome, finished, stopped, follow, run, at_end, wants_nothing, start}
 use Rattle.model.specs.Refusals.{domain_file, problem_file}
 use Rattle.model.proofs.GrammarRuns.{domain_run, problem_run}
 

@@ -7,7 +7,7 @@ use Rattle.model.specs.GrammarWords.{Token, opens, closes, name, variable, keywo
 use Rattle.model.specs.Grammar.{AreNames, no_name, more_names, AreVariables, no_variable, more_variables, AreTerms, no_term, object_first, variable_first, IsFormula, atom, conjunction, AreFormulas, no_formula, more_formulas, IsEffect, add, delete, both, AreEffects, no_effect, more_effects, Parts, parts, no_parts, IsPart, AreParts, no_part, more_parts, IsAction, whole_action, action_from, ArePredicates, no_predicate, more_predicates, AreKeys, no_key, more_keys, DomainSections, domain_sections, no_domain_sections, IsDomainSection, domain_requirements, declared_predicates, one_action, no_domain_section, more_domain_sections, AreFacts, no_fact, more_facts, ProblemSections, problem_sections, no_problem_sections, IsProblemSection, domain_name, problem_requirements, object_list, initial_facts, goal_formula, no_problem_section, more_problem_sections, whole_domain, whole_problem}
 use Rattle.model.specs.Refusals.{File, domain_file, problem_file, IsWhole, tokens_of, InDomain, in_domain, InProblem, in_problem, InAction, in_action, stands_in_action, is_full, is_complete, is_requirement, number_of_keyword, IsLine, unknown_in_domain, unknown_in_problem, unknown_in_action, repeated_in_domain, repeated_in_problem, repeated_in_action, repeated_at_once, repeated_at_value, missing_define, missing_kind, missing_in_domain, missing_in_problem, missing_name, missing_in_action, missing_after_precondition, missing_after_effect, unknown_key_in_domain, unknown_key_in_problem, left_out_form, IsTrueOf}
 use Rattle.model.specs.Refusals as refusals
-use Rattle.model.proofs.GrammarMachine.{State, wants_open, wants_close, wants_name, wants_names, wants_variables, wants_terms, wants_formulas, wants_effects, wants_predicates, wants_facts, wants_keys, wants_formula, wants_effect, wants_atom, wants_predicate, wants_fact, wants_action, wants_parts, wants_value, wants_domain_sections, wants_domain_section, wants_problem_sections, wants_problem_section, wants_define, wants_head, wants_kind, wants_nothing, Step, go, refuse, step, stopped, follow, run, start, Part, parameter_part, precondition_part, effect_part, has_part, is_part, set_parameters, set_precondition, set_effect, atom_from, by_word}
+use Rattle.model.specs.GrammarMachine.{State, wants_open, wants_close, wants_name, wants_names, wants_variables, wants_terms, wants_formulas, wants_effects, wants_predicates, wants_facts, wants_keys, wants_formula, wants_effect, wants_atom, wants_predicate, wants_fact, wants_action, wants_parts, wants_value, wants_domain_sections, wants_domain_section, wants_problem_sections, wants_problem_section, wants_define, wants_head, wants_kind, wants_nothing, Step, go, refuse, step, stopped, follow, run, start, Part, parameter_part, precondition_part, effect_part, has_part, is_part, set_parameters, set_precondition, set_effect, atom_from, by_word}
 use Rattle.model.proofs.GrammarMeaning.{new_parameters, new_precondition, new_effect}
 use Rattle.model.proofs.GrammarStops.{LeftWithin, left_within}
 use Rattle.model.proofs.GrammarFrames.{names_framed, variables_framed, terms_framed, formula_framed, effect_framed, parts_framed, domain_sections_framed, problem_sections_framed, parts_then, domain_sections_then, problem_sections_then}

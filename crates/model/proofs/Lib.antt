@@ -1,8 +1,8 @@
 pub mod Atoms
 pub mod ListLemmas
+pub mod Tests
 pub mod ClaimsLemmas
 pub mod InstancesLemmas
-pub mod GrammarMachine
 pub mod GrammarRuns
 pub mod GrammarMeaning
 pub mod GrammarStops
@@ -16,6 +16,5 @@ pub mod StaticLemmas
 pub mod Steps
 pub mod ExampleProofs
 pub mod CertificateRefusalsLemmas
-pub mod PlanMachine
 pub mod PlanReading
 pub mod PlanMeaning

@@ -9,7 +9,7 @@ use Rattle.model.specs.Fault.{Span}
 use Rattle.model.specs.Words.{Form, blank, comment, opening, closing, run, stray, form_of, Part, form, bytes, is_name, is_name_byte, AreParts, longest_text}
 use Rattle.model.specs.Trees.{Name}
 use Rattle.model.specs.PlanText.{Placed, placed_from, Step, IsName, AreNames, IsStep, AreSteps, HasSteps, BeginsSteps, IsFormFault, refused, open_at_end}
-use Rattle.model.proofs.PlanMachine.{Sort, an_opening, a_closing, a_name, strange, sort_by, sort_of, Place, outside, opened, inside, Turn, stops, goes, ends, turn, name_at, span_at, Outcome, reads, refuses, with_step, after_turn, outcome}
+use Rattle.model.specs.PlanMachine.{Sort, an_opening, a_closing, a_name, strange, sort_by, sort_of, Place, outside, opened, inside, Turn, stops, goes, ends, turn, name_at, span_at, Outcome, reads, refuses, with_step, after_turn, outcome}
 
 -- What a word is, by its sort.
 opens_by : (f : Form) (named : Bool) → sort_by f named ≡ an_opening → f ≡ opening

@@ -5,6 +5,7 @@ pub mod Trees
 pub mod GrammarWords
 pub mod Grammar
 pub mod Refusals
+pub mod GrammarMachine
 pub mod Task
 pub mod WellTyped
 pub mod Typing
@@ -16,4 +17,5 @@ pub mod Certificates
 pub mod CertificateRefusals
 pub mod Examples
 pub mod PlanText
+pub mod PlanMachine
 pub mod Files

@@ -1,7 +1,7 @@
 -- What is told of words that are no domain, or no problem: the first word with which no file goes on, and the line of
 -- the table of refusals that is true of it (docs/language.md, "Refusals", 7 to 12).
-use Rattle.std.specs.Prelude.{◌≡◌, ℕ, ◌⊎◌, Bool, true, false, List, [], ◌∷◌, ◌++◌, map, Option, None, Some, is_some}
-use Rattle.model.specs.Fault.{Fault}
+use Rattle.std.specs.Prelude.{◌≡◌, ℕ, ◌⊎◌, Bool, true, false, List, [], ◌∷◌, ◌++◌, map, Option, None, Some, is_some, slice_get}
+use Rattle.model.specs.Fault.{Fault, Span}
 use Rattle.model.specs.Words.{Word, end_of}
 use Rattle.model.specs.Trees.{Name, Formula, Effect, Predicate, Action, Domain, Problem}
 use Rattle.model.specs.GrammarWords.{Token, opens, closes, name, keyword, token_of, Label, free, reserved, define, domain, problem, left_out_name, Keyword, domain_keyword, requirements, predicates, action, objects, init, goal, parameters, precondition, effect, requirement_key, left_out_keyword}
@@ -132,6 +132,14 @@ abbrev pub end_of_all : List Word → ℕ
 end_of_all [] = 0
 end_of_all (word ∷ []) = end_of word
 end_of_all (word ∷ next ∷ words) = end_of_all (next ∷ words)
+
+-- where a word stands; past the last, the end of the words
+abbrev pub span_by : List Word → Option Word → Span
+span_by words (Some word) = record { start = word.start; end = end_of word }
+span_by words None = record { start = end_of_all words; end = end_of_all words }
+
+abbrev pub span_of_place : List Word → ℕ → Span
+span_of_place words place = span_by words (slice_get words place)
 
 -- what is told of words that are no file of this kind
 pub data IsRefused (file : File) (words : List Word) (fault : Fault) : Type 0 where

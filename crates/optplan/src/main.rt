@@ -1,7 +1,7 @@
 //! The program `optplan`: `planner_main` over the machine's files and streams.
 #![tactic(auto)]
 
-use planner_main::certificate::Device;
+use devices::Device;
 use planner_main::files::SystemFiles;
 use planner_main::run;
 use std::process::ExitCode;

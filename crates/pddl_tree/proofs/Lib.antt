@@ -1,4 +1,3 @@
-pub mod Here
 pub mod Looks
 pub mod ReadOn
 pub mod Rows

@@ -3,12 +3,12 @@ use Rattle.std.proofs.Common.{◌≡◌, ◌≢◌, ℕ, zero, suc, add-one, ◌
 use Rattle.model.specs.Trees.{Name, Term, Formula, Formulas, Effect, Effects, Atom, Predicate, Fact}
 use Rattle.model.specs.Trees as tree
 use Rattle.model.specs.GrammarWords.{Token, opens, closes, name, variable, free, ReservedName, reserved, and, not, left_out_name, other_reserved}
-use Rattle.model.proofs.GrammarMachine.{State, run, stopped, wants_open, wants_close, wants_name, wants_names, wants_variables, wants_terms, wants_formulas, wants_effects, wants_predicates, wants_facts, wants_formula, wants_effect, wants_atom, wants_predicate, wants_fact, atom_from}
+use Rattle.model.specs.GrammarMachine.{State, run, stopped, wants_open, wants_close, wants_name, wants_names, wants_variables, wants_terms, wants_formulas, wants_effects, wants_predicates, wants_facts, wants_formula, wants_effect, wants_atom, wants_predicate, wants_fact, atom_from}
 use Rattle.tokens.specs.declared.word.Word.{Word}
-use Rattle.pddl_tree.specs.declared.ahead.Head.{Head}
-use Rattle.pddl_tree.specs.declared.ahead.Head.TheVariants as head
-use Rattle.pddl_tree.specs.Ahead.{token, from, rest_of, opens_first, closes_first, name_first, variable_first, term_first, head_first, head_of, head_by, HeadView, and_head, not_head, predicate_head, other_head}
-use Rattle.pddl_tree.specs.Refusal.{code_first}
+use Rattle.pddl_words.specs.declared.ahead.Head.{Head}
+use Rattle.pddl_words.specs.declared.ahead.Head.TheVariants as head
+use Rattle.pddl_words.specs.Ahead.{token, from, rest_of, opens_first, closes_first, name_first, variable_first, term_first, head_first, head_of, head_by, HeadView, and_head, not_head, predicate_head, other_head}
+use Rattle.pddl_words.specs.Refusal.{code_first}
 
 rest-drop : (n : ℕ) (w : List Token) → rest_of (drop n w) ≡ drop (suc n) w
 rest-drop zero [] = refl

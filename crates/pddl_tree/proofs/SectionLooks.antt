@@ -5,9 +5,9 @@ use Rattle.model.specs.Trees.{Name, Formula, Effect, Action, Predicate, Fact}
 use Rattle.model.specs.GrammarWords.{Token, opens, closes, name, keyword, requirement_key, free, reserved, define, domain, problem}
 use Rattle.model.specs.Grammar.{Parts, parts, no_parts, action_from, DomainSections, domain_sections, ProblemSections, problem_sections}
 use Rattle.model.specs.Refusals.{File, domain_file, problem_file, is_full, is_complete}
-use Rattle.model.proofs.GrammarMachine.{State, Tree, domain_tree, problem_tree, run, finished, stopped, wants_name, wants_close, wants_nothing, wants_define, wants_head, wants_kind, at_sections, follow, go, refuse, wants_keys, wants_action, wants_parts, wants_value, wants_domain_sections, wants_domain_section, wants_problem_sections, wants_problem_section, Part, parameter_part, DomainSection, ProblemSection, has_part, is_part, has_domain_section, has_problem_section, keyword_in_action, keyword_in_domain, keyword_in_problem, after_open, after_domain_keyword, after_problem_keyword, code_at_value}
-use Rattle.pddl_tree.specs.Ahead.{rest_of, opens_first, closes_first, name_first, label_first, keyword_first}
-use Rattle.pddl_tree.specs.Refusal.{code_first, missing_code, keyword_code_first}
+use Rattle.model.specs.GrammarMachine.{State, Tree, domain_tree, problem_tree, run, finished, stopped, wants_name, wants_close, wants_nothing, wants_define, wants_head, wants_kind, at_sections, follow, go, refuse, wants_keys, wants_action, wants_parts, wants_value, wants_domain_sections, wants_domain_section, wants_problem_sections, wants_problem_section, Part, parameter_part, DomainSection, ProblemSection, has_part, is_part, has_domain_section, has_problem_section, keyword_in_action, keyword_in_domain, keyword_in_problem, after_open, after_domain_keyword, after_problem_keyword, code_at_value}
+use Rattle.pddl_words.specs.Ahead.{rest_of, opens_first, closes_first, name_first, label_first, keyword_first}
+use Rattle.pddl_words.specs.Refusal.{code_first, missing_code, keyword_code_first}
 use Rattle.pddl_tree.specs.Sections.{part_first, kind_of, value_code, domain_section_first, problem_section_first}
 
 -- keys

@@ -6,16 +6,16 @@ use Rattle.std.proofs.lemmas.List.{length-drop, length-map}
 use Rattle.std.proofs.lemmas.Option.{slice_get_past, slice_get-map}
 use Rattle.tokens.specs.declared.word.Word.{Word}
 use Rattle.tokens.specs.Word.{word_of}
-use Rattle.pddl_tree.specs.Ahead.{token, from}
-use Rattle.pddl_tree.specs.Refusal.{fault_of}
+use Rattle.pddl_words.specs.Ahead.{token, from}
+use Rattle.pddl_words.specs.Refusal.{fault_of}
 use Rattle.model.specs.Words.{end_of}
 use Rattle.model.specs.Words as text
 use Rattle.model.specs.Trees as tree
 use Rattle.model.specs.Grammar.{IsDomain, IsProblem}
-use Rattle.model.specs.Refusals.{File, domain_file, problem_file, IsWhole, IsRefused, tokens_of, end_of_all}
-use Rattle.model.proofs.GrammarMachine.{run, start, domain_tree, problem_tree, finished, stopped}
+use Rattle.model.specs.Refusals.{File, domain_file, problem_file, IsWhole, IsRefused, tokens_of, end_of_all, span_by, span_of_place}
+use Rattle.model.specs.GrammarMachine.{run, start, domain_tree, problem_tree, finished, stopped}
 use Rattle.model.proofs.GrammarMeaning.{file_meaning}
-use Rattle.model.proofs.GrammarRefusals.{span_by, span_of_place, refused_at, whole_run}
+use Rattle.model.proofs.GrammarRefusals.{refused_at, whole_run}
 
 same_tokens : (words : List Word) → map token words ≡ tokens_of (map word_of words)
 same_tokens [] = refl

@@ -2,11 +2,10 @@
 -- words left after it, or where the words stop.
 use Rattle.std.specs.Prelude.{◌≡◌, ℕ, List, IfSome}
 use Rattle.tokens.specs.declared.word.Word.{Word}
-use Rattle.pddl_tree.specs.declared.refusal.Refusal.{Refusal}
-use Rattle.pddl_tree.specs.Ahead.{from}
-use Rattle.pddl_tree.specs.Refusal.{told}
+use Rattle.pddl_words.specs.Ahead.{from}
+use Rattle.pddl_words.specs.Refusal.{WordFault, told}
 use Rattle.model.specs.GrammarWords.{Token}
-use Rattle.model.proofs.GrammarMachine.{State, run, stopped}
+use Rattle.model.specs.GrammarMachine.{State, run, stopped}
 
 -- the words begin with this tree, and these are left
 pub record IsRead {T : Type 0} (wants : (T → State) → State) (w : List Token) (tree : T) (r : List Token) : Type 0 where
@@ -17,9 +16,9 @@ pub record Leads {T : Type 0} (wants : (T → State) → State) (w : List Token)
   pub leads : (k : T → State) → run w (wants k) ≡ run r (then k)
 
 -- the words from an index on stop as this refusal tells
-abbrev pub StopsAs : List Word → ℕ → State → Refusal → Type 0
+abbrev pub StopsAs : List Word → ℕ → State → WordFault → Type 0
 StopsAs words at state refusal =
     IfSome (told refusal) (λ place. run (from words at) state ≡ stopped place.0 (from words place.1))
 
-pub record IsTold {T : Type 0} (wants : (T → State) → State) (words : List Word) (at : ℕ) (refusal : Refusal) : Type 0 where
+pub record IsTold {T : Type 0} (wants : (T → State) → State) (words : List Word) (at : ℕ) (refusal : WordFault) : Type 0 where
   pub stops : (k : T → State) → StopsAs words at (wants k) refusal

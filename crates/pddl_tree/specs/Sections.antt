@@ -12,17 +12,16 @@ use Rattle.pddl_tree.specs.declared.domain_file.DomainSections.{DomainSections}
 use Rattle.pddl_tree.specs.declared.problem_file.Section as problem_file
 use Rattle.pddl_tree.specs.declared.problem_file.Section.TheVariants as of_problem
 use Rattle.pddl_tree.specs.declared.problem_file.ProblemSections.{ProblemSections}
-use Rattle.pddl_tree.specs.declared.refusal.Refusal.{Refusal}
 use Rattle.pddl_tree.specs.Tree.{name_of, formula_of, effect_of, predicate_of, action_of, fact_of}
-use Rattle.pddl_tree.specs.Ahead.{from}
-use Rattle.pddl_tree.specs.Refusal.{code_first}
+use Rattle.pddl_words.specs.Ahead.{from}
+use Rattle.pddl_words.specs.Refusal.{WordFault, code_first}
 use Rattle.pddl_tree.specs.Reading.{StopsAs}
 use Rattle.model.specs.Trees.{Name}
 use Rattle.model.specs.GrammarWords.{Token, closes, keyword, Label, free, domain, problem}
 use Rattle.model.specs.Grammar as grammar
 use Rattle.model.specs.Refusals.{File, domain_file, problem_file}
-use Rattle.model.proofs.GrammarMachine.{State, run, wants_keys, wants_domain_sections, wants_problem_sections, after_domain_keyword, after_problem_keyword, part_of, domain_section_of, problem_section_of, code_of_close, code_at_value}
-use Rattle.model.proofs.GrammarMachine as machine
+use Rattle.model.specs.GrammarMachine.{State, run, wants_keys, wants_domain_sections, wants_problem_sections, after_domain_keyword, after_problem_keyword, part_of, domain_section_of, problem_section_of, code_of_close, code_at_value}
+use Rattle.model.specs.GrammarMachine as machine
 
 -- parts of an action
 
@@ -84,29 +83,29 @@ kind_of problem_file = free problem
 abbrev pub KeysEnd : List Word → ℕ → ℕ → Type 0
 KeysEnd words at next = (s : State) → run (from words at) (wants_keys s) ≡ run (from words next) s
 
-abbrev pub KeysStop : List Word → ℕ → Refusal → Type 0
+abbrev pub KeysStop : List Word → ℕ → WordFault → Type 0
 KeysStop words at refusal = (s : State) → StopsAs words at (wants_keys s) refusal
 
 abbrev pub DomainGoesOn : List Word → ℕ → grammar.DomainSections → ℕ → grammar.DomainSections → Type 0
 DomainGoesOn words at s next t = (n : Name) → run (from words at) (wants_domain_sections n s) ≡ run (from words next) (wants_domain_sections n t)
 
-abbrev pub DomainStops : List Word → ℕ → grammar.DomainSections → Refusal → Type 0
+abbrev pub DomainStops : List Word → ℕ → grammar.DomainSections → WordFault → Type 0
 DomainStops words at s refusal = (n : Name) → StopsAs words at (wants_domain_sections n s) refusal
 
 abbrev pub DomainSectionEnds : List Word → ℕ → machine.DomainSection → grammar.DomainSections → ℕ → grammar.DomainSections → Type 0
 DomainSectionEnds words at section s next t = (n : Name) → run (from words at) (after_domain_keyword n section s) ≡ run (from words next) (wants_domain_sections n t)
 
-abbrev pub DomainSectionStops : List Word → ℕ → machine.DomainSection → grammar.DomainSections → Refusal → Type 0
+abbrev pub DomainSectionStops : List Word → ℕ → machine.DomainSection → grammar.DomainSections → WordFault → Type 0
 DomainSectionStops words at section s refusal = (n : Name) → StopsAs words at (after_domain_keyword n section s) refusal
 
 abbrev pub ProblemGoesOn : List Word → ℕ → grammar.ProblemSections → ℕ → grammar.ProblemSections → Type 0
 ProblemGoesOn words at s next t = (n : Name) → run (from words at) (wants_problem_sections n s) ≡ run (from words next) (wants_problem_sections n t)
 
-abbrev pub ProblemStops : List Word → ℕ → grammar.ProblemSections → Refusal → Type 0
+abbrev pub ProblemStops : List Word → ℕ → grammar.ProblemSections → WordFault → Type 0
 ProblemStops words at s refusal = (n : Name) → StopsAs words at (wants_problem_sections n s) refusal
 
 abbrev pub ProblemSectionEnds : List Word → ℕ → machine.ProblemSection → grammar.ProblemSections → ℕ → grammar.ProblemSections → Type 0
 ProblemSectionEnds words at section s next t = (n : Name) → run (from words at) (after_problem_keyword n section s) ≡ run (from words next) (wants_problem_sections n t)
 
-abbrev pub ProblemSectionStops : List Word → ℕ → machine.ProblemSection → grammar.ProblemSections → Refusal → Type 0
+abbrev pub ProblemSectionStops : List Word → ℕ → machine.ProblemSection → grammar.ProblemSections → WordFault → Type 0
 ProblemSectionStops words at section s refusal = (n : Name) → StopsAs words at (after_problem_keyword n section s) refusal

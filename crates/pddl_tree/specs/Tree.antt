@@ -1,8 +1,5 @@
 -- The code's trees, in the model's terms.
 use Rattle.std.specs.Prelude.{List, [], ◌∷◌, map}
-use Rattle.pddl_tree.specs.declared.tree.Name.{Name}
-use Rattle.pddl_tree.specs.declared.tree.Term.{Term}
-use Rattle.pddl_tree.specs.declared.tree.Term.TheVariants.{Variable, Object}
 use Rattle.pddl_tree.specs.declared.tree.Atom.{Atom}
 use Rattle.pddl_tree.specs.declared.tree.Predicate.{Predicate}
 use Rattle.pddl_tree.specs.declared.tree.Action.{Action}
@@ -14,13 +11,7 @@ use Rattle.pddl_tree.specs.declared.tree.Formula as formula
 use Rattle.pddl_tree.specs.declared.tree.Effect.{Effect, Row_of-Effect, end_of-Effect, more_of-Effect}
 use Rattle.pddl_tree.specs.declared.tree.Effect as effect
 use Rattle.model.specs.Trees as tree
-
-abbrev pub name_of : Name → tree.Name
-name_of n = record { text = n.text.now; span = record { start = n.span.start; end = n.span.end } }
-
-abbrev pub term_of : Term → tree.Term
-term_of (Variable n) = tree.variable (name_of n)
-term_of (Object n) = tree.object (name_of n)
+pub use Rattle.pddl_words.specs.Name.{name_of, term_of}
 
 abbrev pub atom_of : Atom → tree.Atom
 atom_of a = record { predicate = name_of a.predicate; terms = map term_of a.terms.items }

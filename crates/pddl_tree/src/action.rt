@@ -3,23 +3,25 @@ ghost use Rattle.std.specs.Prelude.{◌≡◌, ◌<◌, ◌≤◌, IfOk, IfErr, 
 ghost use Rattle.std.specs.Option.{option_map};
 ghost use Rattle.model.specs.Grammar.{no_parts};
 ghost use Rattle.model.specs.Trees as model_tree;
-ghost use Rattle.model.proofs.GrammarMachine.{wants_action, wants_parts, wants_value, part_of, has_part, is_part, parameter_part};
-ghost use Rattle.pddl_tree.specs.Ahead.{from, opens_first, closes_first};
+ghost use Rattle.model.specs.GrammarMachine.{wants_action, wants_parts, wants_value, part_of, has_part, is_part, parameter_part};
+ghost use Rattle.pddl_words.specs.Ahead.{from, opens_first, closes_first};
 ghost use Rattle.pddl_tree.specs.Reading.{IsRead, IsTold, Leads};
-ghost use Rattle.pddl_tree.specs.Refusal.{told, code_first};
+ghost use Rattle.pddl_words.specs.Refusal.{told, code_first};
 ghost use Rattle.pddl_tree.specs.Sections.{part_view, parts_of, part_first, value_code};
-ghost use Rattle.pddl_tree.specs.Symbol.{keyword_view};
+ghost use Rattle.pddl_words.specs.Symbol.{keyword_view};
 ghost use Rattle.pddl_tree.specs.Tree.{action_of, formula_of, effect_of};
 
-use crate::ahead::{is_close, is_open, keyword_at, name_at};
 use crate::effects::effect;
 use crate::formulas::formula;
 use crate::lists::variables;
-use crate::refusal::{Refusal, refused, refused_keyword};
-use crate::symbol::Keyword;
-use crate::tree::{Action, Effect, Formula, Name};
+use crate::tree::{Action, Effect, Formula};
+use faults::{Code, Refused};
+use pddl_words::{
+    Keyword, Name, WordFault, WordRefusal, is_close, is_open, keyword_at, name_at, refused,
+    refused_keyword,
+};
 use std::alloc::Global;
-use tokens::{Code, Word};
+use tokens::Word;
 
 /// A part of an action.
 #[derive(Clone, Copy, Debug, PartialEq, Eq)]
@@ -88,7 +90,7 @@ pub(crate) fn action<'a>(
     alloc: Global,
     words: &[Word<'a>],
     at: usize,
-) -> Result<(Action<'a>, usize), Refusal>
+) -> Result<(Action<'a>, usize), WordFault>
     ensures after { IfOk result (λ r. at < r.1) }
     ensures read { IfOk result (λ r. IsRead wants_action (from words.now at) (action_of r.0) (from words.now r.1)) }
     ensures told { IfErr result (λ refusal. IsTold wants_action words.now at refusal) }
@@ -103,10 +105,10 @@ pub(crate) fn action<'a>(
         effect,
     } = parts;
     let Some(parameters) = parameters else {
-        return Err(Refusal::At {
+        return Err(Refused::At(WordRefusal {
             code: Code::MissingSection,
             at: next,
-        });
+        }));
     };
     let action = Action {
         name,
@@ -142,7 +144,7 @@ fn read_parts<'a>(
     alloc: Global,
     words: &[Word<'a>],
     at: usize,
-) -> Result<(Parts<'a>, usize), Refusal>
+) -> Result<(Parts<'a>, usize), WordFault>
     ensures after { IfOk result (λ r. at ≤ r.1) }
     ensures within { IfOk result (λ r. r.1 < length words.now) }
     ensures closes { IfOk result (λ r. closes_first (from words.now r.1) ≡ true) }
@@ -158,10 +160,10 @@ fn read_parts<'a>(
     let mut next = at;
     'parts: while let Some(part) = part_at(words, next) {
         if parts.has(part) {
-            return Err(Refusal::At {
+            return Err(Refused::At(WordRefusal {
                 code: Code::RepeatedSection,
                 at: next,
-            });
+            }));
         }
         let (more, after) = value(alloc, words, next + 1, part, parts)?;
         parts = more;
@@ -181,7 +183,7 @@ fn value<'a>(
     at: usize,
     part: Part,
     mut parts: Parts<'a>,
-) -> Result<(Parts<'a>, usize), Refusal>
+) -> Result<(Parts<'a>, usize), WordFault>
     ensures after { IfOk result (λ r. at < r.1) }
     ensures read { IfOk result (λ r. (n : model_tree.Name) →
         Leads (wants_value n (part_view part) (parts_of parts.entry)) (from words.now at) (wants_parts n (parts_of r.0)) (from words.now r.1)) }
@@ -211,20 +213,20 @@ fn value<'a>(
 }
 
 /// The refusal of a word in the list of an action: `)` where the parameters are missing, or any other.
-fn refused_in_action(words: &[Word], at: usize, has_parameters: bool) -> Refusal
+fn refused_in_action(words: &[Word], at: usize, has_parameters: bool) -> WordFault
     ensures { told result ≡ Some (cond (closes_first (from words.now at) && not has_parameters) 10 (code_first (from words.now at)), at) }
 {
     if is_close(words, at) && !has_parameters {
-        return Refusal::At {
+        return Refused::At(WordRefusal {
             code: Code::MissingSection,
             at,
-        };
+        });
     }
     refused(words, at)
 }
 
 /// The refusal of a word where the value of a part is wanted: the keyword of a part that was read, or any other.
-fn refused_value(words: &[Word], at: usize, part: Part, parts: &Parts) -> Refusal
+fn refused_value(words: &[Word], at: usize, part: Part, parts: &Parts) -> WordFault
     ensures { told result ≡ Some (value_code (parts_of parts.now) (part_view part) (from words.now at), at) }
 {
     let Some(again) = part_at(words, at) else {
@@ -235,5 +237,5 @@ fn refused_value(words: &[Word], at: usize, part: Part, parts: &Parts) -> Refusa
     } else {
         Code::BadForm
     };
-    Refusal::At { code, at }
+    Refused::At(WordRefusal { code, at })
 }

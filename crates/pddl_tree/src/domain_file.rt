@@ -2,21 +2,23 @@
 ghost use Rattle.std.specs.Prelude.{◌≡◌, ◌<◌, IfOk, IfErr, OnSome, length, map, true, false};
 ghost use Rattle.std.specs.Option.{option_map};
 ghost use Rattle.model.specs.Grammar.{no_domain_sections};
-ghost use Rattle.model.proofs.GrammarMachine.{wants_predicates, wants_predicate, domain_section_of, has_domain_section};
-ghost use Rattle.pddl_tree.specs.Ahead.{from, opens_first};
+ghost use Rattle.model.specs.GrammarMachine.{wants_predicates, wants_predicate, domain_section_of, has_domain_section};
+ghost use Rattle.pddl_words.specs.Ahead.{from, opens_first};
 ghost use Rattle.pddl_tree.specs.Reading.{IsRead, IsTold};
 ghost use Rattle.pddl_tree.specs.Sections.{domain_section_view, domain_sections_of, domain_section_first, KeysEnd, KeysStop, DomainGoesOn, DomainStops, DomainSectionEnds, DomainSectionStops};
-ghost use Rattle.pddl_tree.specs.Symbol.{keyword_view};
+ghost use Rattle.pddl_words.specs.Symbol.{keyword_view};
 ghost use Rattle.pddl_tree.specs.Tree.{predicate_of};
 
 use crate::action::action;
-use crate::ahead::{Head, head_at, is_close, is_open, keyword_at};
 use crate::lists::variables;
-use crate::refusal::{Refusal, refused, refused_keyword};
-use crate::symbol::Keyword;
 use crate::tree::{Action, Predicate};
+use faults::{Code, Refused};
+use pddl_words::{
+    Head, Keyword, WordFault, WordRefusal, head_at, is_close, is_open, keyword_at, refused,
+    refused_keyword,
+};
 use std::alloc::Global;
-use tokens::{Code, Word};
+use tokens::Word;
 
 /// A section of a domain.
 #[derive(Clone, Copy, Debug, PartialEq, Eq)]
@@ -75,7 +77,7 @@ pub(crate) fn domain_sections<'a>(
     alloc: Global,
     words: &[Word<'a>],
     at: usize,
-) -> Result<(DomainSections<'a>, usize), Refusal>
+) -> Result<(DomainSections<'a>, usize), WordFault>
     ensures ends { IfOk result (λ r. opens_first (from words.now r.1) ≡ false) }
     ensures read { IfOk result (λ r. DomainGoesOn words.now at no_domain_sections r.1 (domain_sections_of r.0)) }
     ensures told { IfErr result (λ refusal. DomainStops words.now at no_domain_sections refusal) }
@@ -91,10 +93,10 @@ pub(crate) fn domain_sections<'a>(
             return Err(refused_keyword(words, next + 1));
         };
         if sections.has(section) {
-            return Err(Refusal::At {
+            return Err(Refused::At(WordRefusal {
                 code: Code::RepeatedSection,
                 at: next + 1,
-            });
+            }));
         }
         let (more, after) = section_rest(alloc, words, next + 2, section, sections)?;
         sections = more;
@@ -110,7 +112,7 @@ fn section_rest<'a>(
     at: usize,
     section: Section,
     mut sections: DomainSections<'a>,
-) -> Result<(DomainSections<'a>, usize), Refusal>
+) -> Result<(DomainSections<'a>, usize), WordFault>
     ensures after { IfOk result (λ r. at < r.1) }
     ensures read { IfOk result (λ r. DomainSectionEnds words.now at (domain_section_view section) (domain_sections_of sections.entry) r.1 (domain_sections_of r.0)) }
     ensures told { IfErr result (λ refusal. DomainSectionStops words.now at (domain_section_view section) (domain_sections_of sections.entry) refusal) }
@@ -135,7 +137,7 @@ fn section_rest<'a>(
 }
 
 /// Keys of requirements, and `)`: the index after it. The keys switch nothing on or off.
-pub(crate) fn requirements(words: &[Word], at: usize) -> Result<usize, Refusal>
+pub(crate) fn requirements(words: &[Word], at: usize) -> Result<usize, WordFault>
     ensures after { IfOk result (λ next. at < next) }
     ensures read { IfOk result (λ next. KeysEnd words.now at next) }
     ensures told { IfErr result (λ refusal. KeysStop words.now at refusal) }
@@ -143,10 +145,10 @@ pub(crate) fn requirements(words: &[Word], at: usize) -> Result<usize, Refusal>
     let mut next = at;
     'keys: while let Some(keyword) = keyword_at(words, next) {
         if keyword != Keyword::Requirement {
-            return Err(Refusal::At {
+            return Err(Refused::At(WordRefusal {
                 code: Code::UnknownRequirement,
                 at: next,
-            });
+            }));
         }
         next += 1;
     }
@@ -162,7 +164,7 @@ fn predicates<'a>(
     alloc: Global,
     words: &[Word<'a>],
     at: usize,
-) -> Result<(Vec<Predicate<'a>>, usize), Refusal>
+) -> Result<(Vec<Predicate<'a>>, usize), WordFault>
     ensures after { IfOk result (λ r. at < r.1) }
     ensures read { IfOk result (λ r. IsRead wants_predicates (from words.now at) (map predicate_of r.0.items) (from words.now r.1)) }
     ensures told { IfErr result (λ refusal. IsTold wants_predicates words.now at refusal) }
@@ -186,7 +188,7 @@ fn predicate<'a>(
     alloc: Global,
     words: &[Word<'a>],
     at: usize,
-) -> Result<(Predicate<'a>, usize), Refusal>
+) -> Result<(Predicate<'a>, usize), WordFault>
     ensures after { IfOk result (λ r. at < r.1) }
     ensures read { IfOk result (λ r. IsRead wants_predicate (from words.now at) (predicate_of r.0) (from words.now r.1)) }
     ensures told { IfErr result (λ refusal. IsTold wants_predicate words.now at refusal) }

@@ -1,14 +1,13 @@
 //! Effects, from the word after their parenthesis on.
 ghost use Rattle.std.specs.Prelude.{◌<◌, IfOk, IfErr};
-ghost use Rattle.model.proofs.GrammarMachine.{wants_effect, wants_effects, wants_open, wants_atom, wants_close};
-ghost use Rattle.pddl_tree.specs.Ahead.{from};
+ghost use Rattle.model.specs.GrammarMachine.{wants_effect, wants_effects, wants_open, wants_atom, wants_close};
+ghost use Rattle.pddl_words.specs.Ahead.{from};
 ghost use Rattle.pddl_tree.specs.Reading.{IsRead, IsTold};
 ghost use Rattle.pddl_tree.specs.Tree.{effect_of, effects_in, atom_of};
 
-use crate::ahead::{Head, head_at, is_close, is_open};
 use crate::lists::terms;
-use crate::refusal::{Refusal, refused};
 use crate::tree::{Atom, Effect};
+use pddl_words::{Head, WordFault, head_at, is_close, is_open, refused};
 use std::alloc::Global;
 use tokens::Word;
 
@@ -18,7 +17,7 @@ pub(crate) fn effect<'a>(
     alloc: Global,
     words: &[Word<'a>],
     at: usize,
-) -> Result<(Effect<'a>, usize), Refusal>
+) -> Result<(Effect<'a>, usize), WordFault>
     ensures after { IfOk result (λ r. at < r.1) }
     ensures read { IfOk result (λ r. IsRead wants_effect (from words.now at) (effect_of r.0) (from words.now r.1)) }
     ensures told { IfErr result (λ refusal. IsTold wants_effect words.now at refusal) }
@@ -46,7 +45,7 @@ fn effects<'a>(
     alloc: Global,
     words: &[Word<'a>],
     at: usize,
-) -> Result<(Vec<Effect<'a>>, usize), Refusal>
+) -> Result<(Vec<Effect<'a>>, usize), WordFault>
     ensures after { IfOk result (λ r. at < r.1) }
     ensures read { IfOk result (λ r. IsRead wants_effects (from words.now at) (effects_in r.0.items) (from words.now r.1)) }
     ensures told { IfErr result (λ refusal. IsTold wants_effects words.now at refusal) }
@@ -66,7 +65,7 @@ fn effects<'a>(
 }
 
 /// The atom of a `(not ..)`, and the `)` of the `not`.
-fn deleted<'a>(alloc: Global, words: &[Word<'a>], at: usize) -> Result<(Atom<'a>, usize), Refusal>
+fn deleted<'a>(alloc: Global, words: &[Word<'a>], at: usize) -> Result<(Atom<'a>, usize), WordFault>
     ensures after { IfOk result (λ r. at < r.1) }
     ensures read { IfOk result (λ r. IsRead (λ k. wants_open (wants_atom (λ a. wants_close (k a)))) (from words.now at) (atom_of r.0) (from words.now r.1)) }
     ensures told { IfErr result (λ refusal. IsTold (λ k. wants_open (wants_atom (λ a. wants_close (k a)))) words.now at refusal) }

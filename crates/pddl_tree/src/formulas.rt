@@ -1,14 +1,13 @@
 //! Formulas, from the word after their parenthesis on.
 ghost use Rattle.std.specs.Prelude.{◌<◌, IfOk, IfErr};
-ghost use Rattle.model.proofs.GrammarMachine.{wants_formula, wants_formulas};
-ghost use Rattle.pddl_tree.specs.Ahead.{from};
+ghost use Rattle.model.specs.GrammarMachine.{wants_formula, wants_formulas};
+ghost use Rattle.pddl_words.specs.Ahead.{from};
 ghost use Rattle.pddl_tree.specs.Reading.{IsRead, IsTold};
 ghost use Rattle.pddl_tree.specs.Tree.{formula_of, formulas_in};
 
-use crate::ahead::{Head, head_at, is_close, is_open};
 use crate::lists::terms;
-use crate::refusal::{Refusal, refused};
 use crate::tree::{Atom, Formula};
+use pddl_words::{Head, WordFault, head_at, is_close, is_open, refused};
 use std::alloc::Global;
 use tokens::Word;
 
@@ -18,7 +17,7 @@ pub(crate) fn formula<'a>(
     alloc: Global,
     words: &[Word<'a>],
     at: usize,
-) -> Result<(Formula<'a>, usize), Refusal>
+) -> Result<(Formula<'a>, usize), WordFault>
     ensures after { IfOk result (λ r. at < r.1) }
     ensures read { IfOk result (λ r. IsRead wants_formula (from words.now at) (formula_of r.0) (from words.now r.1)) }
     ensures told { IfErr result (λ refusal. IsTold wants_formula words.now at refusal) }
@@ -42,7 +41,7 @@ fn conjuncts<'a>(
     alloc: Global,
     words: &[Word<'a>],
     at: usize,
-) -> Result<(Vec<Formula<'a>>, usize), Refusal>
+) -> Result<(Vec<Formula<'a>>, usize), WordFault>
     ensures after { IfOk result (λ r. at < r.1) }
     ensures read { IfOk result (λ r. IsRead wants_formulas (from words.now at) (formulas_in r.0.items) (from words.now r.1)) }
     ensures told { IfErr result (λ refusal. IsTold wants_formulas words.now at refusal) }

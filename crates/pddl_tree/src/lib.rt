@@ -2,18 +2,14 @@
 #![tactic(auto)]
 
 mod action;
-mod ahead;
 mod domain_file;
 mod effects;
 mod formulas;
 mod lists;
 mod problem_file;
 mod reader;
-mod refusal;
-mod symbol;
-#[cfg(test)]
-mod tests;
 mod tree;
 
+pub use pddl_words::{Name, Term};
 pub use reader::{domain, one_fault, one_reading, problem};
-pub use tree::{Action, Atom, Domain, Effect, Fact, Formula, Name, Predicate, Problem, Term};
+pub use tree::{Action, Atom, Domain, Effect, Fact, Formula, Predicate, Problem};

@@ -1,13 +1,11 @@
 //! Lists of names, of variables and of terms, up to the parenthesis that closes them.
 ghost use Rattle.std.specs.Prelude.{◌<◌, IfOk, IfErr, map};
-ghost use Rattle.model.proofs.GrammarMachine.{wants_names, wants_variables, wants_terms};
-ghost use Rattle.pddl_tree.specs.Ahead.{from};
+ghost use Rattle.model.specs.GrammarMachine.{wants_names, wants_variables, wants_terms};
+ghost use Rattle.pddl_words.specs.Ahead.{from};
 ghost use Rattle.pddl_tree.specs.Reading.{IsRead, IsTold};
 ghost use Rattle.pddl_tree.specs.Tree.{name_of, term_of};
 
-use crate::ahead::{is_close, name_at, term_at, variable_at};
-use crate::refusal::{Refusal, refused};
-use crate::tree::{Name, Term};
+use pddl_words::{Name, Term, WordFault, is_close, name_at, refused, term_at, variable_at};
 use std::alloc::Global;
 use tokens::Word;
 
@@ -16,7 +14,7 @@ pub(crate) fn names<'a>(
     alloc: Global,
     words: &[Word<'a>],
     at: usize,
-) -> Result<(Vec<Name<'a>>, usize), Refusal>
+) -> Result<(Vec<Name<'a>>, usize), WordFault>
     ensures after { IfOk result (λ r. at < r.1) }
     ensures read { IfOk result (λ r. IsRead wants_names (from words.now at) (map name_of r.0.items) (from words.now r.1)) }
     ensures told { IfErr result (λ refusal. IsTold wants_names words.now at refusal) }
@@ -39,7 +37,7 @@ pub(crate) fn variables<'a>(
     alloc: Global,
     words: &[Word<'a>],
     at: usize,
-) -> Result<(Vec<Name<'a>>, usize), Refusal>
+) -> Result<(Vec<Name<'a>>, usize), WordFault>
     ensures after { IfOk result (λ r. at < r.1) }
     ensures read { IfOk result (λ r. IsRead wants_variables (from words.now at) (map name_of r.0.items) (from words.now r.1)) }
     ensures told { IfErr result (λ refusal. IsTold wants_variables words.now at refusal) }
@@ -62,7 +60,7 @@ pub(crate) fn terms<'a>(
     alloc: Global,
     words: &[Word<'a>],
     at: usize,
-) -> Result<(Vec<Term<'a>>, usize), Refusal>
+) -> Result<(Vec<Term<'a>>, usize), WordFault>
     ensures after { IfOk result (λ r. at < r.1) }
     ensures read { IfOk result (λ r. IsRead wants_terms (from words.now at) (map term_of r.0.items) (from words.now r.1)) }
     ensures told { IfErr result (λ refusal. IsTold wants_terms words.now at refusal) }

@@ -3,22 +3,24 @@ ghost use Rattle.std.specs.Prelude.{◌≡◌, ◌<◌, IfOk, IfErr, OnSome, len
 ghost use Rattle.std.specs.Option.{option_map};
 ghost use Rattle.model.specs.Grammar.{no_problem_sections};
 ghost use Rattle.model.specs.Refusals.{is_full};
-ghost use Rattle.model.proofs.GrammarMachine.{wants_name, wants_close, wants_open, wants_formula, wants_facts, wants_fact, problem_section_of, has_problem_section};
-ghost use Rattle.pddl_tree.specs.Ahead.{from, opens_first};
+ghost use Rattle.model.specs.GrammarMachine.{wants_name, wants_close, wants_open, wants_formula, wants_facts, wants_fact, problem_section_of, has_problem_section};
+ghost use Rattle.pddl_words.specs.Ahead.{from, opens_first};
 ghost use Rattle.pddl_tree.specs.Reading.{IsRead, IsTold};
 ghost use Rattle.pddl_tree.specs.Sections.{problem_section_view, problem_sections_of, problem_section_first, ProblemGoesOn, ProblemStops, ProblemSectionEnds, ProblemSectionStops};
-ghost use Rattle.pddl_tree.specs.Symbol.{keyword_view};
+ghost use Rattle.pddl_words.specs.Symbol.{keyword_view};
 ghost use Rattle.pddl_tree.specs.Tree.{name_of, fact_of, formula_of};
 
-use crate::ahead::{Head, head_at, is_close, is_open, keyword_at, name_at};
 use crate::domain_file::requirements;
 use crate::formulas::formula;
 use crate::lists::names;
-use crate::refusal::{Refusal, refused, refused_keyword};
-use crate::symbol::Keyword;
-use crate::tree::{Fact, Formula, Name};
+use crate::tree::{Fact, Formula};
+use faults::{Code, Refused};
+use pddl_words::{
+    Head, Keyword, Name, WordFault, WordRefusal, head_at, is_close, is_open, keyword_at, name_at,
+    refused, refused_keyword,
+};
 use std::alloc::Global;
-use tokens::{Code, Word};
+use tokens::Word;
 
 /// A section of a problem.
 #[derive(Clone, Copy, Debug, PartialEq, Eq)]
@@ -96,7 +98,7 @@ pub(crate) fn problem_sections<'a>(
     alloc: Global,
     words: &[Word<'a>],
     at: usize,
-) -> Result<(ProblemSections<'a>, usize), Refusal>
+) -> Result<(ProblemSections<'a>, usize), WordFault>
     ensures ends { IfOk result (λ r. opens_first (from words.now r.1) ≡ false) }
     ensures read { IfOk result (λ r. ProblemGoesOn words.now at no_problem_sections r.1 (problem_sections_of r.0)) }
     ensures told { IfErr result (λ refusal. ProblemStops words.now at no_problem_sections refusal) }
@@ -117,10 +119,10 @@ pub(crate) fn problem_sections<'a>(
             return Err(refused_keyword(words, next + 1));
         };
         if sections.has(section) {
-            return Err(Refusal::At {
+            return Err(Refused::At(WordRefusal {
                 code: Code::RepeatedSection,
                 at: next + 1,
-            });
+            }));
         }
         let (more, after) = section_rest(alloc, words, next + 2, section, sections)?;
         sections = more;
@@ -136,7 +138,7 @@ fn section_rest<'a>(
     at: usize,
     section: Section,
     mut sections: ProblemSections<'a>,
-) -> Result<(ProblemSections<'a>, usize), Refusal>
+) -> Result<(ProblemSections<'a>, usize), WordFault>
     ensures after { IfOk result (λ r. at < r.1) }
     ensures read { IfOk result (λ r. ProblemSectionEnds words.now at (problem_section_view section) (problem_sections_of sections.entry) r.1 (problem_sections_of r.0)) }
     ensures told { IfErr result (λ refusal. ProblemSectionStops words.now at (problem_section_view section) (problem_sections_of sections.entry) refusal) }
@@ -171,7 +173,7 @@ fn section_rest<'a>(
 }
 
 /// A name, and `)`: the name, and the index after the parenthesis.
-fn domain_name<'a>(words: &[Word<'a>], at: usize) -> Result<(Name<'a>, usize), Refusal>
+fn domain_name<'a>(words: &[Word<'a>], at: usize) -> Result<(Name<'a>, usize), WordFault>
     ensures after { IfOk result (λ r. at < r.1) }
     ensures read { IfOk result (λ r. IsRead (λ k. wants_name (λ n. wants_close (k n))) (from words.now at) (name_of r.0) (from words.now r.1)) }
     ensures told { IfErr result (λ refusal. IsTold (λ k. wants_name (λ n. wants_close (k n))) words.now at refusal) }
@@ -191,7 +193,7 @@ fn facts<'a>(
     alloc: Global,
     words: &[Word<'a>],
     at: usize,
-) -> Result<(Vec<Fact<'a>>, usize), Refusal>
+) -> Result<(Vec<Fact<'a>>, usize), WordFault>
     ensures after { IfOk result (λ r. at < r.1) }
     ensures read { IfOk result (λ r. IsRead wants_facts (from words.now at) (map fact_of r.0.items) (from words.now r.1)) }
     ensures told { IfErr result (λ refusal. IsTold wants_facts words.now at refusal) }
@@ -211,7 +213,7 @@ fn facts<'a>(
 }
 
 /// A fact whose `(` was read, and the index after its `)`.
-fn fact<'a>(alloc: Global, words: &[Word<'a>], at: usize) -> Result<(Fact<'a>, usize), Refusal>
+fn fact<'a>(alloc: Global, words: &[Word<'a>], at: usize) -> Result<(Fact<'a>, usize), WordFault>
     ensures after { IfOk result (λ r. at < r.1) }
     ensures read { IfOk result (λ r. IsRead wants_fact (from words.now at) (fact_of r.0) (from words.now r.1)) }
     ensures told { IfErr result (λ refusal. IsTold wants_fact words.now at refusal) }
@@ -224,7 +226,7 @@ fn fact<'a>(alloc: Global, words: &[Word<'a>], at: usize) -> Result<(Fact<'a>, u
 }
 
 /// A formula, and `)`: the formula, and the index after the parenthesis.
-fn goal<'a>(alloc: Global, words: &[Word<'a>], at: usize) -> Result<(Formula<'a>, usize), Refusal>
+fn goal<'a>(alloc: Global, words: &[Word<'a>], at: usize) -> Result<(Formula<'a>, usize), WordFault>
     ensures after { IfOk result (λ r. at < r.1) }
     ensures read { IfOk result (λ r. IsRead (λ k. wants_open (wants_formula (λ f. wants_close (k f)))) (from words.now at) (formula_of r.0) (from words.now r.1)) }
     ensures told { IfErr result (λ refusal. IsTold (λ k. wants_open (wants_formula (λ f. wants_close (k f)))) words.now at refusal) }

@@ -1,29 +1,30 @@
 //! From words to trees.
 ghost use Rattle.std.specs.Prelude.{◌≡◌, List, map, IfOk, IfErr, IfSome, None, Some, [], unwrap_or};
 ghost use Rattle.std.specs.Option.{option_map};
-ghost use Rattle.tokens.specs.Fault.{told_by};
+ghost use Rattle.faults.specs.Fault.{told_by};
 ghost use Rattle.tokens.specs.Word.{word_of};
 ghost use Rattle.model.specs.Fault as model;
 ghost use Rattle.model.specs.Words as text;
 ghost use Rattle.model.specs.Grammar.{EachIsOneDomain, EachIsOneProblem, IsDomain, IsProblem};
 ghost use Rattle.model.specs.Refusals.{File, domain_file, problem_file, tokens_of, IsWhole, IsRefused};
-ghost use Rattle.model.proofs.GrammarMachine.{run, start, finished, Tree, wants_nothing, domain_tree, problem_tree, at_sections};
-ghost use Rattle.pddl_tree.specs.Ahead.{from};
-ghost use Rattle.model.proofs.GrammarRefusals.{span_of_place};
+ghost use Rattle.model.specs.GrammarMachine.{run, start, finished, Tree, wants_nothing, domain_tree, problem_tree, at_sections};
+ghost use Rattle.pddl_words.specs.Ahead.{from};
+ghost use Rattle.model.specs.Refusals.{span_of_place};
 ghost use Rattle.pddl_tree.specs.Reading.{StopsAs};
-ghost use Rattle.pddl_tree.specs.Refusal.{told, fault_of, missing_code};
-ghost use Rattle.pddl_tree.specs.Symbol.{label_view};
+ghost use Rattle.pddl_words.specs.Refusal.{told, fault_of, missing_code};
+ghost use Rattle.pddl_words.specs.Symbol.{label_view};
 ghost use Rattle.pddl_tree.specs.Sections.{kind_of};
 ghost use Rattle.pddl_tree.specs.Tree.{name_of, domain_of, problem_of};
 
-use crate::ahead::{is_close, is_label, is_open, name_at};
 use crate::domain_file::{DomainSections, domain_sections};
 use crate::problem_file::{ProblemSections, problem_sections};
-use crate::refusal::{Refusal, refused};
-use crate::symbol::Label;
-use crate::tree::{Domain, Name, Problem};
+use crate::tree::{Domain, Problem};
+use faults::{Code, Fault, Refusal, Refused, Span};
+use pddl_words::{
+    Label, Name, WordFault, WordRefusal, is_close, is_label, is_open, name_at, refused,
+};
 use std::alloc::Global;
-use tokens::{Code, Fault, Span, Word};
+use tokens::Word;
 
 /// The domain that the words are: the whole file, in the words of its text.
 ///
@@ -83,15 +84,15 @@ pub fn one_fault()
 {}
 
 /// What a refusal tells of the file.
-fn fault(words: &[Word], refusal: Refusal) -> Fault
+fn fault(words: &[Word], refusal: WordFault) -> Fault
     ensures { told_by result ≡ fault_of (map word_of words.now) (told refusal) }
 {
     match refusal {
-        Refusal::At { code, at } => Fault::At {
+        Refused::At(WordRefusal { code, at }) => Refused::At(Refusal {
             code,
             span: span_at(words, at),
-        },
-        Refusal::NoMemory => Fault::NoMemory,
+        }),
+        Refused::NoMemory => Refused::NoMemory,
     }
 }
 
@@ -111,7 +112,7 @@ fn span_at(words: &[Word], at: usize) -> Span
 }
 
 /// The domain that the words are, or the refused word.
-fn read_domain<'a>(alloc: Global, words: &[Word<'a>]) -> Result<Domain<'a>, Refusal>
+fn read_domain<'a>(alloc: Global, words: &[Word<'a>]) -> Result<Domain<'a>, WordFault>
     ensures read { IfOk result (λ tree. run (from words.now 0) (start domain_file) ≡ finished (domain_tree (domain_of tree))) }
     ensures told { IfErr result (λ refusal. StopsAs words.now 0 (start domain_file) refusal) }
 {
@@ -126,10 +127,10 @@ fn read_domain<'a>(alloc: Global, words: &[Word<'a>]) -> Result<Domain<'a>, Refu
         actions,
     } = sections;
     let Some(predicates) = predicates else {
-        return Err(Refusal::At {
+        return Err(Refused::At(WordRefusal {
             code: Code::MissingSection,
             at: next,
-        });
+        }));
     };
     end(words, next + 1)?;
     Ok(Domain {
@@ -140,7 +141,7 @@ fn read_domain<'a>(alloc: Global, words: &[Word<'a>]) -> Result<Domain<'a>, Refu
 }
 
 /// The problem that the words are, or the refused word.
-fn read_problem<'a>(alloc: Global, words: &[Word<'a>]) -> Result<Problem<'a>, Refusal>
+fn read_problem<'a>(alloc: Global, words: &[Word<'a>]) -> Result<Problem<'a>, WordFault>
     ensures read { IfOk result (λ tree. run (from words.now 0) (start problem_file) ≡ finished (problem_tree (problem_of tree))) }
     ensures told { IfErr result (λ refusal. StopsAs words.now 0 (start problem_file) refusal) }
 {
@@ -156,10 +157,10 @@ fn read_problem<'a>(alloc: Global, words: &[Word<'a>]) -> Result<Problem<'a>, Re
         init,
         goal,
     } = sections;
-    let missing = Refusal::At {
+    let missing = Refused::At(WordRefusal {
         code: Code::MissingSection,
         at: next,
-    };
+    });
     let Some(domain) = domain else {
         return Err(missing);
     };
@@ -190,7 +191,7 @@ fn objects_from<'a>(alloc: Global, found: Option<Vec<Name<'a>>>) -> Vec<Name<'a>
 }
 
 /// `( define ( domain NAME )`, or `problem` in place of `domain`: the name.
-fn head<'a>(words: &[Word<'a>], kind: Label) -> Result<Name<'a>, Refusal>
+fn head<'a>(words: &[Word<'a>], kind: Label) -> Result<Name<'a>, WordFault>
     ensures read { (file : File) → label_view kind ≡ kind_of file → IfOk result (λ name.
         run (from words.now 0) (start file) ≡ run (from words.now 6) (at_sections file (name_of name))) }
     ensures told { (file : File) → label_view kind ≡ kind_of file → IfErr result (λ refusal. StopsAs words.now 0 (start file) refusal) }
@@ -218,20 +219,20 @@ fn head<'a>(words: &[Word<'a>], kind: Label) -> Result<Name<'a>, Refusal>
 }
 
 /// The refusal of a word in the file's list before its sections: `)`, since they are missing, or any other.
-fn refused_in_file(words: &[Word], at: usize) -> Refusal
+fn refused_in_file(words: &[Word], at: usize) -> WordFault
     ensures { told result ≡ Some (missing_code (from words.now at), at) }
 {
     if is_close(words, at) {
-        return Refusal::At {
+        return Refused::At(WordRefusal {
             code: Code::MissingSection,
             at,
-        };
+        });
     }
     refused(words, at)
 }
 
 /// No word stands at this index.
-fn end(words: &[Word], at: usize) -> Result<(), Refusal>
+fn end(words: &[Word], at: usize) -> Result<(), WordFault>
     ensures none { IfOk result (λ _. from words.now at ≡ []) }
     ensures told { IfErr result (λ refusal. (tree : Tree) → StopsAs words.now at (wants_nothing tree) refusal) }
 {

@@ -1,23 +1,5 @@
 //! What stands in a domain and in a problem, name by name, before any name is resolved.
-use tokens::Span;
-
-/// A name or a variable: its bytes as they stand in the file, not folded, and where they stand.
-#[derive(Clone, Copy, Debug)]
-pub struct Name<'a> {
-    /// The bytes of the name. A variable's begin with its `?`.
-    pub text: &'a [u8],
-    /// Where they stand in the file.
-    pub span: Span,
-}
-
-/// An argument of an atom.
-#[derive(Clone, Copy, Debug)]
-pub enum Term<'a> {
-    /// A variable, as `?x`.
-    Variable(Name<'a>),
-    /// The name of an object.
-    Object(Name<'a>),
-}
+use pddl_words::{Name, Term};
 
 /// A predicate of some terms.
 #[derive(Debug, Drop)]

@@ -15,15 +15,14 @@ use Rattle.model.specs.Files.{the_domain, the_problem, the_plan, FileFault, IsDo
 use Rattle.model.proofs.ListLemmas.{Contains-none}
 use Rattle.model.proofs.GrammarStops.{one_domain, one_problem}
 use Rattle.model.proofs.GrammarOneRefusal.{whole_not_refused}
-use Rattle.tokens.specs.declared.fault.Fault as code
-use Rattle.tokens.specs.Fault.{told_by}
+use Rattle.faults.specs.Fault as code
+use Rattle.faults.specs.Fault.{told_by}
 use Rattle.tokens.proofs.Words.{one_reading_lem}
 use Rattle.tokens.proofs.Order.{read_is_told_nothing}
-use Rattle.validator.specs.declared.typing.TaskFault.{TaskFault}
-use Rattle.validator.specs.declared.typing.TaskFault.TheVariants as typing
-use Rattle.validator.specs.Typing.{TellsLeastFault}
+use Rattle.faults.specs.declared.refused.Refused.TheVariants.{At, NoMemory}
+use Rattle.typing.specs.Task.{TaskFault, TellsLeastFault, refusal_of}
 use Rattle.planner_main.specs.Files.{told_of_pair}
-use Rattle.planner_main.proofs.PlanSteps.{no_fault_of_plan}
+use Rattle.plan_file.proofs.PlanSteps.{no_fault_of_plan}
 
 -- what is told, where it is known
 pub told_more_in : (P Q : FileFault → Type 0) (o : Option FileFault) → ((fault : FileFault) → P fault → Q fault) → IfSome o P → IfSome o Q
@@ -103,9 +102,8 @@ module _ (domain problem : List ℕ) where
   problem_told d reads (Some fault) h = in_the_problem d reads h refl
 
   pub pair_told : (d : Domain) (p : Problem) → IsDomainText domain d → IsProblemText problem p → (fault : TaskFault) → TellsLeastFault d p fault → IfSome (told_of_pair fault) (IsTaskFault domain problem)
-  pair_told d p d_reads p_reads (typing.At file code span) (f, least, (same_file, same_fault)) =
-      in_the_pair d p f d_reads p_reads least (record { file = ap file_of same_file; fault = sym same_fault })
-  pair_told d p d_reads p_reads typing.NoMemory h = tt
+  pair_told d p d_reads p_reads (At r) least = in_the_pair d p (refusal_of r) d_reads p_reads least (record { file = refl; fault = refl })
+  pair_told d p d_reads p_reads NoMemory h = tt
 
   pub plan_told : (plan : List ℕ) (task : Task) → IsTaskOf domain problem task → (o : Option Fault) → IfSome o (IsPlanFault task plan) → IfSome (option_map (λ (f : Fault). let t : FileFault = record { file = the_plan; fault = f } in t) o) (IsFileFault domain problem plan)
   plan_told plan task is None h = tt

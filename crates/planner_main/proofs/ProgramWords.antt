@@ -13,7 +13,7 @@ use Rattle.planner_main.specs.declared.program.command.Command.TheVariants.{Vali
 use Rattle.planner_main.specs.declared.report.Failure.{Failure}
 use Rattle.planner_main.specs.declared.report.Failure.TheVariants as failure
 use Rattle.planner_main.specs.declared.task_file.FileFault.TheVariants as refusal
-use Rattle.planner_main.specs.declared.certificate.WriteFault.TheVariants as device
+use Rattle.devices.specs.declared.device.WriteFault.TheVariants as device
 use Rattle.planner_main.specs.Program.{texts, AllowsStates, as_asked, AsksForVerdict, AsksForPlan, IsCommand, is_validate, is_solve, IsText, OnTwo, OnThree, TellsAnswer, Tells, a_verdict, an_answer, Refuses, a_verdict_refused, an_answer_refused, TellsFor, Asks, fault_in, IsFaultFor, failure_status}
 use Rattle.planner_main.specs.Report as verdict
 use Rattle.planner_main.specs.Solution as answer

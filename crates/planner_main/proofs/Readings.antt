@@ -5,7 +5,7 @@ use Rattle.std.proofs.lemmas.Bool.{cases_lt}
 use Rattle.std.specs.Prelude.{Option, None, Some, IfSome, Result, Ok, Err, IfOk}
 use Rattle.std.specs.Global.{Vec}
 use Rattle.std.specs.Io.KnownBytes.{Consumes, IsAtEnd}
-use Rattle.planner_main.specs.Devices.{IsKept, IsReading}
+use Rattle.devices.specs.Devices.{IsKept, IsReading}
 
 -- what was read is the beginning of what there was: all of it where that is shorter than the limit
 beginning : (limit : ℕ) (bytes : List ℕ) (after : Option (List ℕ)) (text : List ℕ) → Consumes (Some bytes) after text

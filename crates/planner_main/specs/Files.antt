@@ -1,10 +1,9 @@
 -- The files, faults and verdicts of the code, in the model's terms.
 use Rattle.std.specs.Prelude.{Option, None, Some}
 use Rattle.std.specs.Option.{option_map}
-use Rattle.tokens.specs.Fault.{number_of}
-use Rattle.validator.specs.declared.typing.TaskFault.{TaskFault}
-use Rattle.validator.specs.declared.typing.TaskFault.TheVariants as typing
-use Rattle.validator.specs.Typing.{file_of}
+use Rattle.faults.specs.Fault.{number_of}
+use Rattle.faults.specs.declared.refused.Refused.TheVariants as refused
+use Rattle.typing.specs.Task.{TaskFault, file_of}
 use Rattle.planner_main.specs.declared.task_file.File.{File}
 use Rattle.planner_main.specs.declared.task_file.File.TheVariants.{Domain, Problem, Plan}
 use Rattle.planner_main.specs.declared.task_file.FileFault.{FileFault}
@@ -29,6 +28,6 @@ in_file file = option_map (λ (fault : told.Fault). record { file = file_view fi
 
 -- what the fault of a pair tells of its files
 abbrev pub told_of_pair : TaskFault → Option model.FileFault
-told_of_pair (typing.At file code span) =
-    Some (record { file = model.file_of (file_of file); fault = record { code = number_of code; span = record { start = span.start; end = span.end } } })
-told_of_pair typing.NoMemory = None
+told_of_pair (refused.At r) =
+    Some (record { file = model.file_of (file_of r.file); fault = record { code = number_of r.code; span = record { start = r.span.start; end = r.span.end } } })
+told_of_pair refused.NoMemory = None

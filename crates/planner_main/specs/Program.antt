@@ -10,7 +10,7 @@ use Rattle.planner_main.specs.declared.program.command.Command.TheVariants.{Vali
 use Rattle.planner_main.specs.declared.report.Failure.{Failure}
 use Rattle.planner_main.specs.declared.report.Failure.TheVariants as failure
 use Rattle.planner_main.specs.declared.task_file.FileFault.TheVariants as refusal
-use Rattle.planner_main.specs.declared.certificate.WriteFault.TheVariants as device
+use Rattle.devices.specs.declared.device.WriteFault.TheVariants as device
 use Rattle.planner_main.specs.Files.{told_in}
 use Rattle.planner_main.specs.Report.{line_of}
 use Rattle.planner_main.specs.Report as verdict

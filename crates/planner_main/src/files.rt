@@ -1,11 +1,11 @@
 //! Files by name: those of the machine, and a table of them in memory.
 ghost use Rattle.std.specs.Prelude.{◌≡◌, ℕ, List, Option, None, IfOk};
-ghost use Rattle.planner_main.specs.Devices.{CountsDevice, IsKept};
+ghost use Rattle.devices.specs.Devices.{CountsDevice, IsKept};
 
 mod system;
 mod table;
 
-use crate::certificate::{Sink, Source, WriteFault};
+use devices::{Sink, Source, WriteFault};
 pub use system::SystemFiles;
 pub use table::Table;
 

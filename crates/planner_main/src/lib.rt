@@ -1,9 +1,7 @@
 //! From files to answers: the validator over the bytes of three files, and the whole program over any files.
 #![tactic(auto)]
 
-pub mod certificate;
 pub mod files;
-pub mod plan_file;
 mod program;
 mod report;
 mod solve;

@@ -2,17 +2,17 @@
 ghost use Rattle.std.specs.Prelude.{◌≡◌, ℕ, ◌+◌, ◌↔◌, ◌⊎◌, IfErr, IfOk, IfSome, IsTrue, List, length, take, vec_len};
 ghost use Rattle.planner_main.specs.Report.{is_failure};
 ghost use Rattle.planner_main.specs.Program.{texts, IsCommand, OnTwo, OnThree, Tells, TellsVerdict, TellsAnswer, TellsFor, Refuses, IsFaultFor, fault_in};
-ghost use Rattle.planner_main.specs.Devices.{CountsDevice, IsReading, ReadsSome};
+ghost use Rattle.devices.specs.Devices.{CountsDevice, IsReading, ReadsSome};
 ghost use Rattle.model.specs.Files.{IsFileFault, IsTaskFault};
 
 mod command;
 
-use crate::certificate::{Sink, Source, WriteFault, write_all};
 use crate::files::Files;
 use crate::report::{Failure, answer, tell, tell_usage};
 use crate::solve::{answer_text, solve_files};
 use crate::verdict::validate_files;
 use command::{Command, read_command};
+use devices::{Sink, Source, WriteFault, write_all};
 use solver::Limits;
 use std::alloc::{AllocError, Global};
 
@@ -182,6 +182,3 @@ fn buffer(alloc: Global, length: usize) -> Result<Vec<u8>, AllocError>
 {
     vec![in alloc; 0u8; length]
 }
-
-#[cfg(test)]
-mod tests;

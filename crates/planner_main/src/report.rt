@@ -5,8 +5,8 @@ ghost use Rattle.validator.specs.Verdict.{verdict_of};
 ghost use Rattle.planner_main.specs.Report.{is_failure, line_of, status_of};
 ghost use Rattle.planner_main.specs.Program.{failure_status};
 
-use crate::certificate::{Sink, WriteFault, write_all};
 use crate::task_file::FileFault;
+use devices::{Sink, WriteFault, write_all};
 use std::alloc::{AllocError, Global};
 use validator::Verdict;
 
@@ -65,7 +65,7 @@ impl From<WriteFault> for Failure {
 impl From<AllocError> for Failure {
     ghost use Rattle.std.specs.Prelude.{◌≡◌};
     ghost use Rattle.planner_main.specs.declared.report.Failure.TheVariants.{Device};
-    ghost use Rattle.planner_main.specs.declared.certificate.WriteFault.TheVariants.{NoMemory};
+    ghost use Rattle.devices.specs.declared.device.WriteFault.TheVariants.{NoMemory};
 
     ghost from_gives = { λ _ failure. failure ≡ Device NoMemory };
 

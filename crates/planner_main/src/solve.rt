@@ -1,6 +1,6 @@
 //! From the bytes of a domain file and a problem file to a cheapest plan.
 ghost use Rattle.std.specs.Prelude.{◌≡◌, IfOk, IfErr, IfSome, None};
-ghost use Rattle.validator.specs.Typing.{task_of};
+ghost use Rattle.typing.specs.Task.{task_of};
 ghost use Rattle.solver.specs.Solver.{IsTrueAnswer};
 ghost use Rattle.planner_main.specs.Files.{told_in};
 ghost use Rattle.model.specs.Task as model;
@@ -12,7 +12,7 @@ use crate::task_file::{FileFault, read_task};
 use solver::{Answer, Limits, solve};
 use std::alloc::Global;
 pub(crate) use text::answer_text;
-use validator::typing::Task;
+use typing::Task;
 
 /// A task with what was found out of it.
 #[derive(Drop)]

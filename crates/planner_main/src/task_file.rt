@@ -1,17 +1,18 @@
 //! From the bytes of a domain file and a problem file to their task, and the faults of files.
 ghost use Rattle.std.specs.Prelude.{IfOk, IfErr, IfSome};
-ghost use Rattle.tokens.specs.Fault.{told_by};
+ghost use Rattle.faults.specs.Fault.{told_by};
 ghost use Rattle.pddl_tree.specs.Tree.{domain_of, problem_of};
-ghost use Rattle.validator.specs.Typing.{task_of};
+ghost use Rattle.typing.specs.Task.{task_of};
 ghost use Rattle.planner_main.specs.Files.{told_in};
 ghost use Rattle.model.specs.Refusals.{domain_file, problem_file};
 ghost use Rattle.model.specs.Files.{IsDomainText, IsProblemText, IsTextFault, IsTaskOf, IsTaskFault};
 
+use faults::{Code, Fault, NoMemory, Refusal, Refused, Span};
 use std::alloc::Global;
 use std::fmt;
 use thiserror::Error;
-use tokens::{Code, Fault, NoMemory, Span, scan};
-use validator::typing::{Task, TaskFault, TaskFile};
+use tokens::scan;
+use typing::{Task, TaskFault, TaskFile, TaskRefusal};
 
 /// One of the three files.
 #[derive(Clone, Copy, Debug, PartialEq, Eq)]
@@ -55,7 +56,7 @@ pub enum FileFault {
 
 impl FileFault {
     ghost use Rattle.std.specs.Prelude.{◌≡◌};
-    ghost use Rattle.tokens.specs.Fault.{told_by};
+    ghost use Rattle.faults.specs.Fault.{told_by};
     ghost use Rattle.planner_main.specs.Files.{told_in, in_file};
 
     /// The fault of a file's text.
@@ -63,8 +64,8 @@ impl FileFault {
         ensures { told_in result ≡ in_file file (told_by fault) }
     {
         match fault {
-            Fault::At { code, span } => FileFault::At { file, code, span },
-            Fault::NoMemory => FileFault::NoMemory,
+            Refused::At(Refusal { code, span }) => FileFault::At { file, code, span },
+            Refused::NoMemory => FileFault::NoMemory,
         }
     }
 }
@@ -77,14 +78,14 @@ impl From<TaskFault> for FileFault {
 
     fn from(fault: TaskFault) -> FileFault {
         match fault {
-            TaskFault::At { file, code, span } => {
+            Refused::At(TaskRefusal { file, code, span }) => {
                 let file = match file {
                     TaskFile::Domain => File::Domain,
                     TaskFile::Problem => File::Problem,
                 };
                 FileFault::At { file, code, span }
             }
-            TaskFault::NoMemory => FileFault::NoMemory,
+            Refused::NoMemory => FileFault::NoMemory,
         }
     }
 }

@@ -5,8 +5,8 @@ ghost use Rattle.planner_main.specs.Files.{told_in};
 ghost use Rattle.model.specs.Task as model;
 ghost use Rattle.model.specs.Files.{AreRead, IsVerdictOf, IsFileFault};
 
-use crate::plan_file::read_plan;
 use crate::task_file::{File, FileFault, read_task};
+use plan_file::read_plan;
 use std::alloc::Global;
 use validator::{Verdict, validate};
 

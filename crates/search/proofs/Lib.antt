@@ -1,7 +1,7 @@
-pub mod SearchClosed
-pub mod SearchLinked
-pub mod SearchLists
-pub mod SearchMarked
-pub mod SearchNodesLemmas
-pub mod SearchQueue
-pub mod SearchSteps
+pub mod Closed
+pub mod Linked
+pub mod Lists
+pub mod Marked
+pub mod NodesLemmas
+pub mod Queue
+pub mod Steps

@@ -1,5 +1,5 @@
-pub mod Search
-pub mod SearchClimb
-pub mod SearchNodes
-pub mod SearchProgress
-pub mod SearchStore
+pub mod Outcome
+pub mod Climb
+pub mod Nodes
+pub mod Progress
+pub mod Store

@@ -1,7 +1,12 @@
 //! Search for a cheapest plan of a transition system, over any store of its states.
 #![tactic(auto)]
 
-mod search;
-pub mod transitions;
+mod best;
+mod progress;
+mod store;
+mod transitions;
 
-pub use search::{FoundStates, MAX_STATES, Outcome, Reached, StateId, StateStore, best_first};
+pub use best::{MAX_STATES, Outcome, best_first};
+pub use progress::{FoundStates, Reached};
+pub use store::{StateId, StateStore};
+pub use transitions::{Successor, TransitionSystem};

@@ -3,8 +3,8 @@
 ghost use Rattle.std.specs.Prelude.{◌≡◌, IfOk, map};
 ghost use Rattle.model.specs.Runs.{System, AreSuccessors};
 
+use faults::NoMemory;
 use std::alloc::Global;
-use tokens::NoMemory;
 
 /// An action that is applicable in a state, and the state that it leads to.
 #[derive(Drop)]

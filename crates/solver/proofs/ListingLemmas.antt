@@ -10,13 +10,13 @@ use Rattle.std.proofs.lemmas.Bool.{and_parts, and_from, cases_lt, cases_eq, lt-l
 use Rattle.std.proofs.lemmas.List.{length-map}
 use Rattle.std.proofs.lemmas.Map.Keys.{Less-from_sorted, any_passes_from_place}
 use Rattle.std.proofs.lemmas.Option.{get_or_from_slice_get, slice_get_within}
-use Rattle.cert_checker.specs.declared.certificate.cert.StateLine as code_line
-use Rattle.cert_checker.specs.CertificateParts.{line_of}
-use Rattle.search.specs.declared.search.progress.Reached.{Reached}
-use Rattle.search.specs.Search as search
-use Rattle.search.specs.Search.{AreFound, IsReachableAt}
-use Rattle.search.specs.SearchStore.{AreDistinct}
-use Rattle.search.proofs.SearchLists.{get_exists}
+use Rattle.certificate.specs.declared.cert.StateLine as code_line
+use Rattle.certificate.specs.CertificateParts.{line_of}
+use Rattle.search.specs.declared.progress.Reached.{Reached}
+use Rattle.search.specs.Outcome as search
+use Rattle.search.specs.Outcome.{AreFound, IsReachableAt}
+use Rattle.search.specs.Store.{AreDistinct}
+use Rattle.search.proofs.Lists.{get_exists}
 use Rattle.solver.specs.Listing.{stands_in, AreFluentIn, Names, AreLinesFor, IsShownBy, AreMoreAtoms}
 use Rattle.solver.proofs.TypedLemmas.{reachable_typed}
 use Rattle.solver.proofs.NumbersLemmas.{stands_at, never_below_itself}

@@ -13,12 +13,12 @@ use Rattle.std.proofs.lemmas.List.{take_all, take_more, length-append, length-ta
 use Rattle.std.proofs.lemmas.List.Folds.{list_any-append}
 use Rattle.std.proofs.lemmas.Map.Keys.{Less-from_sorted}
 use Rattle.std.proofs.lemmas.Option.{same_Some, get_or_from_slice_get, slice_get_within}
-use Rattle.validator.specs.declared.typing.Atom as code_atom
-use Rattle.validator.specs.TaskParts.{atom_of, AreInOrder}
-use Rattle.validator.proofs.FormulasStates.{code_cmp, model_cmp, order_alike}
-use Rattle.cert_checker.specs.declared.certificate.cert.StateLine as code_line
-use Rattle.search.specs.declared.search.progress.Reached.{Reached}
-use Rattle.search.proofs.SearchLists.{get-push_new, get-push_other}
+use Rattle.typing.specs.declared.atoms.Atom as code_atom
+use Rattle.typing.specs.TaskParts.{atom_of, AreInOrder}
+use Rattle.formulas.proofs.States.{code_cmp, model_cmp, order_alike}
+use Rattle.certificate.specs.declared.cert.StateLine as code_line
+use Rattle.search.specs.declared.progress.Reached.{Reached}
+use Rattle.search.proofs.Lists.{get-push_new, get-push_other}
 use Rattle.solver.specs.Listing.{stands_in, AreFluentIn, IsLineFor, AreLinesFor}
 use Rattle.model.specs.Task.{Task, Atom}
 use Rattle.model.specs.Meaning.{State, atom_cmp}

@@ -12,7 +12,7 @@ use Rattle.std.proofs.lemmas.List.{append-nil, append_assoc}
 use Rattle.std.proofs.lemmas.List.Elements.{filter_map-append, Contains-append_cases}
 use Rattle.std.proofs.lemmas.Map.Keys.{sorted_head, sorted_tail, Less-from_sorted, any_passes_from_place}
 use Rattle.std.proofs.lemmas.Option.{get_or_from_slice_get, slice_get_within}
-use Rattle.search.proofs.SearchLists.{get_exists}
+use Rattle.search.proofs.Lists.{get_exists}
 use Rattle.solver.specs.Listing.{stands_in, Names}
 use Rattle.model.specs.Task.{Atom}
 use Rattle.model.specs.Meaning.{State, atom_cmp}

@@ -8,7 +8,7 @@ use Rattle.std.specs.FinSet.{contains, from_list, difference, contains-from_list
 use Rattle.std.proofs.lemmas.Bool.{and_parts, and_from, eqb-true, ltb-true}
 use Rattle.std.proofs.lemmas.List.{length-map}
 use Rattle.std.proofs.lemmas.List.Folds.{list_all-append}
-use Rattle.validator.proofs.FormulasTasks.{passes_index, passes_got}
+use Rattle.model.proofs.Tests.{passes_index, passes_got}
 use Rattle.model.specs.Task.{Atom, LiftedAtom, Term, variable, object, Predicate, Effect, Effects, add, delete, both, no_effect, more_effects, Schema, Task, Instance}
 use Rattle.model.specs.WellTyped.{is_object, has_arity, is_term, is_lifted_atom, is_atom, is_formula, is_effect, are_effects, is_schema, is_task, max_arguments, max_variables}
 use Rattle.model.specs.Runs.{run, IsReachable}

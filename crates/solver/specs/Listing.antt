@@ -3,9 +3,9 @@ use Rattle.std.specs.Prelude.{◌≡◌, ℕ, Bool, true, ◌&&◌, ◌<◌, if�
 use Rattle.std.specs.List.{list_any, filter_map}
 use Rattle.std.specs.Ordering.{eq_by_cmp}
 use Rattle.std.specs.FinSet.{contains}
-use Rattle.cert_checker.specs.declared.certificate.cert.StateLine.{StateLine}
-use Rattle.search.specs.declared.search.progress.Reached.{Reached}
-use Rattle.search.specs.SearchStore.{AreDistinct}
+use Rattle.certificate.specs.declared.cert.StateLine.{StateLine}
+use Rattle.search.specs.declared.progress.Reached.{Reached}
+use Rattle.search.specs.Store.{AreDistinct}
 use Rattle.model.specs.Task.{Task, Atom}
 use Rattle.model.specs.Runs.{IsReachable}
 use Rattle.model.specs.Claims.{Claim}

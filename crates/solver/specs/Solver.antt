@@ -1,9 +1,9 @@
 -- What the answers to a task say.
 use Rattle.std.specs.Prelude.{◌≡◌, ℕ, ◌<◌, ◌≤◌, IsTrue, length}
 use Rattle.std.specs.List.{list_all}
-use Rattle.validator.specs.Formulas.{plan_of}
-use Rattle.cert_checker.specs.Certificate.{certificate_of}
-use Rattle.search.specs.Search.{AreMoreReachable}
+use Rattle.formulas.specs.State.{plan_of}
+use Rattle.certificate.specs.Certificate.{certificate_of}
+use Rattle.search.specs.Outcome.{AreMoreReachable}
 use Rattle.solver.specs.declared.answer.Answer.{Answer}
 use Rattle.solver.specs.declared.answer.Answer.TheVariants.{Plan, Unsolvable, Unknown}
 use Rattle.solver.specs.declared.answer.Limit.TheVariants.{Instances, Atoms, States}

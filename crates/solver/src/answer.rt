@@ -1,17 +1,17 @@
 //! The answer to a task.
 ghost use Rattle.std.specs.Prelude.{IfOk};
-ghost use Rattle.validator.specs.Typing.{task_of};
+ghost use Rattle.typing.specs.Task.{task_of};
 ghost use Rattle.solver.specs.Solver.{IsTrueAnswer};
 
 use crate::limits::Limits;
 use crate::listing::cert_of;
-use cert_checker::certificate::{Cert, Claim};
+use certificate::{Cert, Claim};
+use faults::NoMemory;
+use formulas::Plan;
 use search::{Outcome, best_first};
 use std::alloc::Global;
 use task_system::{PlainStore, TaskSystem, instances_exceed};
-use tokens::NoMemory;
-use validator::formulas::Plan;
-use validator::typing::Task;
+use typing::Task;
 
 /// What is found out of a task.
 #[derive(Drop)]

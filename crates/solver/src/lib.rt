@@ -4,8 +4,6 @@
 mod answer;
 mod limits;
 mod listing;
-#[cfg(test)]
-mod tests;
 
 pub use answer::{Answer, Limit, solve};
 pub use limits::{Limits, MAX_LIMIT};

@@ -3,28 +3,27 @@
 ghost use Rattle.std.specs.Prelude.{◌≡◌, ◌≤◌, ◌&&◌, ◌||◌, false, length, map, slice_get, IfOk, OnOk, IsTrue, MatchOption};
 ghost use Rattle.std.specs.FinSet.{contains, from_list};
 ghost use Rattle.std.specs.Ordering.{eq_by_cmp};
-ghost use Rattle.validator.specs.TaskParts.{atom_of, AreInOrder};
-ghost use Rattle.validator.specs.Typing.{task_of};
-ghost use Rattle.validator.specs.Formulas.{state_of};
+ghost use Rattle.typing.specs.TaskParts.{atom_of, AreInOrder};
+ghost use Rattle.typing.specs.Task.{task_of};
+ghost use Rattle.formulas.specs.State.{state_of};
 ghost use Rattle.task_system.specs.PlainStore.{states_of};
-ghost use Rattle.cert_checker.specs.CertificateParts.{claim_of};
-ghost use Rattle.cert_checker.specs.Certificate.{certificate_of};
-ghost use Rattle.search.specs.Search.{AreFound};
+ghost use Rattle.certificate.specs.CertificateParts.{claim_of};
+ghost use Rattle.certificate.specs.Certificate.{certificate_of};
+ghost use Rattle.search.specs.Outcome.{AreFound};
 ghost use Rattle.solver.specs.Listing.{stands_in, AreFluentIn, Names, IsLineFor, AreLinesFor, IsShownBy, AreMoreAtoms};
 ghost use Rattle.model.specs.Task as model_task;
 ghost use Rattle.model.specs.Meaning.{atom_cmp, system_of};
 ghost use Rattle.model.specs.Certificates as certificates;
 ghost use Rattle.model.specs.Certificates.{is_claim};
-ghost use Rattle.cert_checker.specs.declared.certificate.cert.TheConstants.{MAX_STATE_LINES};
+ghost use Rattle.certificate.specs.declared.cert.TheConstants.{MAX_STATE_LINES};
 
-use cert_checker::certificate::{Cert, Claim, MAX_ATOMS, StateLine};
-use cert_checker::is_fluent;
+use certificate::{Cert, Claim, MAX_ATOMS, StateLine};
+use faults::NoMemory;
+use formulas::{Atom, State, is_fluent};
 use search::{FoundStates, Reached};
 use std::alloc::Global;
 use task_system::PlainStore;
-use tokens::NoMemory;
-use validator::formulas::{Atom, State};
-use validator::typing::Task;
+use typing::Task;
 
 /// The certificate of the found states, and `None` where more fluent atoms are true in them than a certificate may have.
 pub(crate) fn cert_of(

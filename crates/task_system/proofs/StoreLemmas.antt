@@ -8,11 +8,11 @@ use Rattle.std.proofs.lemmas.Option.{slice_get-map}
 use Rattle.std.proofs.lemmas.List.{length-map, map_push}
 use Rattle.std.proofs.lemmas.List.Folds.{list_any_at}
 use Rattle.std.proofs.lemmas.List.Quantifiers.{position-Some}
-use Rattle.validator.specs.declared.formulas.state.State as code_state
-use Rattle.validator.specs.Formulas.{state_of}
-use Rattle.validator.proofs.FormulasEquality.{state_eq, equal_states, same_states}
+use Rattle.formulas.specs.declared.state.State as code_state
+use Rattle.formulas.specs.State.{state_of}
+use Rattle.formulas.proofs.Equality.{state_eq, equal_states, same_states}
 use Rattle.indexmap.specs.IndexSet.{insert_key}
-use Rattle.search.specs.SearchStore.{IsPlaced}
+use Rattle.search.specs.Store.{IsPlaced}
 use Rattle.model.proofs.ListLemmas.{map-Contains}
 
 pub slice_get-or : {X : Type 0} (xs : List X) (i : ℕ) (d : X) → i < length xs → slice_get xs i ≡ Some (get_or xs i d)

@@ -10,15 +10,15 @@ use Rattle.std.proofs.lemmas.List.Folds.{list_all-append}
 use Rattle.std.proofs.lemmas.List.Elements.{filter_map-append}
 use Rattle.std.proofs.lemmas.Grind.{flat_map-append}
 use Rattle.std.proofs.Math.Nat.{pow-zero, pow-suc, pow-succ', zero-mul, suc-mul, le-mul_of_pos_right}
-use Rattle.validator.specs.TaskParts.{shape_of_schema}
+use Rattle.typing.specs.TaskParts.{shape_of_schema}
 use Rattle.model.specs.Task.{Schema, Task, Instance, Formula, Effect}
 use Rattle.model.specs.Runs.{AreSuccessors}
 use Rattle.model.specs.Meaning.{State, step, is_instance, fits, system_of}
 use Rattle.model.specs.Instances.{tuples, instances_of_schema, instances_from, all_instances, leading_to, successors_of}
 use Rattle.model.proofs.InstancesLemmas.{successors-AreSuccessors}
 use Rattle.search.specs.declared.transitions.Successor.{Successor}
-use Rattle.validator.specs.declared.formulas.instance.Instance as code_instance
-use Rattle.validator.specs.declared.formulas.state.State as code_state
+use Rattle.formulas.specs.declared.instance.Instance as code_instance
+use Rattle.formulas.specs.declared.state.State as code_state
 use Rattle.task_system.specs.TaskSystem.{begun_instances, is_begun, is_begun_of, successor_of}
 
 -- ---- a schema at its place

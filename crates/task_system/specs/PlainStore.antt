@@ -1,6 +1,6 @@
 -- The states of a plain store, in the model's terms.
 use Rattle.std.specs.Prelude.{List, map}
-use Rattle.validator.specs.Formulas.{state_of}
+use Rattle.formulas.specs.State.{state_of}
 use Rattle.task_system.specs.declared.store.PlainStore.{PlainStore}
 use Rattle.model.specs.Meaning as meaning
 

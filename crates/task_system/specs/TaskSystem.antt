@@ -1,9 +1,9 @@
 -- The code's successors, and instances of which some objects are chosen, in the model's terms.
 use Rattle.std.specs.Prelude.{ℕ, ◌+◌, Bool, false, ◌&&◌, ◌==◌, nat_lt, List, ◌++◌, length, map, slice_get, Option, None, Some}
 use Rattle.std.specs.List.{list_all}
-use Rattle.validator.specs.declared.formulas.state.State.{State}
-use Rattle.validator.specs.declared.formulas.instance.Instance.{Instance}
-use Rattle.validator.specs.Formulas.{state_of, instance_of}
+use Rattle.formulas.specs.declared.state.State.{State}
+use Rattle.formulas.specs.declared.instance.Instance.{Instance}
+use Rattle.formulas.specs.State.{state_of, instance_of}
 use Rattle.search.specs.declared.transitions.Successor.{Successor}
 use Rattle.model.specs.Task as task
 use Rattle.model.specs.Meaning as meaning

@@ -1,9 +1,9 @@
 //! How many instances a task has.
 ghost use Rattle.std.specs.Prelude.{◌≡◌, ℕ, ◌+◌, ◌^◌, min, nat_lt, length};
-ghost use Rattle.validator.specs.Typing.{task_of};
+ghost use Rattle.typing.specs.Task.{task_of};
 ghost use Rattle.model.specs.Instances.{all_instances};
 
-use validator::typing::{SchemaId, Task};
+use typing::{SchemaId, Task};
 
 /// Whether the task has more instances than `max`: the schemas over all objects, whether applicable somewhere or not.
 pub fn instances_exceed(task: &Task, max: u32) -> bool

@@ -1,20 +1,21 @@
 //! The successors of a state, by going through all instances.
 ghost use Rattle.std.specs.Prelude.{◌≡◌, ◌+◌, ◌≤◌, ◌<◌, [], ◌∷◌, ◌++◌, map, length, IfOk, OnOk, IsTrue};
 ghost use Rattle.std.specs.List.{filter_map};
-ghost use Rattle.validator.specs.Typing.{task_of};
-ghost use Rattle.validator.specs.TaskParts.{object_of};
-ghost use Rattle.validator.specs.Formulas.{state_of, instance_of};
+ghost use Rattle.typing.specs.Task.{task_of};
+ghost use Rattle.typing.specs.TaskParts.{object_of};
+ghost use Rattle.formulas.specs.State.{state_of, instance_of};
 ghost use Rattle.model.specs.Instances.{tuples, leading_to, successors_of};
 ghost use Rattle.task_system.specs.TaskSystem.{successor_of, begun_instances, is_begun};
 
-use search::transitions::Successor;
+use faults::NoMemory;
+use formulas::{Binding, Instance, State, apply};
+use search::Successor;
 use std::alloc::Global;
-use tokens::NoMemory;
-use validator::formulas::{Binding, Instance, State, apply};
-use validator::typing::{ObjectId, SchemaId, Task};
+use typing::{ObjectId, SchemaId, Task};
 
-/// The instances that are applicable in the state, in the order of all instances, each with what it leads to.
-pub(crate) fn successors(
+/// The instances that are applicable in the state, in the order of all instances (schema by schema in the domain's
+/// order, and within a schema by the objects' numbers, compared from the left), each with the state that it leads to.
+pub fn successors(
     alloc: Global,
     task: &Task,
     state: &State,

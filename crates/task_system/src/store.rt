@@ -2,11 +2,11 @@
 ghost use Rattle.std.specs.Prelude.{◌≡◌, ◌<◌, ◌==◌, [], ◌∷◌, ◌++◌, length, slice_get, Contains, MatchBool, MatchOption, IfOk, OnErr};
 
 use crate::system::TaskSystem;
+use faults::NoMemory;
+use formulas::State;
 use indexmap::IndexSet;
 use search::{StateId, StateStore};
 use std::alloc::Global;
-use tokens::NoMemory;
-use validator::formulas::State;
 
 /// A list of distinct states that grows at its end, and in which a state's place, from 0, can be looked up.
 #[derive(Drop)]
@@ -15,8 +15,8 @@ pub struct PlainStore {
 }
 
 impl PlainStore {
-    ghost use Rattle.validator.specs.Formulas.{state_of};
-    ghost use Rattle.search.specs.SearchStore.{IsPlaced};
+    ghost use Rattle.formulas.specs.State.{state_of};
+    ghost use Rattle.search.specs.Store.{IsPlaced};
     ghost use Rattle.task_system.specs.PlainStore.{states_of};
 
     /// A store without states.
@@ -80,8 +80,8 @@ impl PlainStore {
 }
 
 impl StateStore<TaskSystem<'_>> for PlainStore {
-    ghost use Rattle.validator.specs.Formulas.{state_of};
-    ghost use Rattle.search.specs.SearchStore.{IsPlaced};
+    ghost use Rattle.formulas.specs.State.{state_of};
+    ghost use Rattle.search.specs.Store.{IsPlaced};
     ghost use Rattle.task_system.specs.PlainStore.{states_of};
 
     ghost states = { λ s. s.states.keys };

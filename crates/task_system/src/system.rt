@@ -1,15 +1,16 @@
 //! A task as a transition system.
-ghost use Rattle.validator.specs.Typing.{task_of};
-ghost use Rattle.validator.specs.Formulas.{state_of, instance_of};
+ghost use Rattle.typing.specs.Task.{task_of};
+ghost use Rattle.formulas.specs.State.{state_of, instance_of};
 ghost use Rattle.model.specs.Meaning as meaning;
 ghost use Rattle.model.specs.Meaning.{system_of};
 ghost use Rattle.model.specs.Task as model_task;
 
-use search::transitions::{Successor, TransitionSystem};
+use crate::expand::successors;
+use faults::NoMemory;
+use formulas::{Instance, State, meets_goal};
+use search::{Successor, TransitionSystem};
 use std::alloc::Global;
-use tokens::NoMemory;
-use validator::formulas::{Instance, State, meets_goal};
-use validator::typing::Task;
+use typing::Task;
 
 /// A task as a transition system: its states, its instances, each at cost 1, and its goal.
 #[derive(Clone, Copy)]
@@ -39,7 +40,7 @@ impl TransitionSystem for TaskSystem<'_> {
         alloc: Global,
         state: &State,
     ) -> Result<Vec<Successor<Instance, State>>, NoMemory> {
-        crate::successors(alloc, self.0, state)
+        successors(alloc, self.0, state)
     }
 
     fn cost(&self, _action: &Instance) -> u32 {

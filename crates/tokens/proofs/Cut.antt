@@ -5,24 +5,7 @@ use Rattle.std.proofs.lemmas.List.{append-nil, drop_more, drop-drop}
 use Rattle.std.proofs.lemmas.Bool.{and_parts, and_from}
 use Rattle.std.proofs.lemmas.List.Folds.{length-prefix_len}
 use Rattle.model.specs.Words.{form_of, goes_on, Part, form, bytes, size, EndsBefore, AreParts}
-
--- a part of one byte
-abbrev pub alone : ℕ → Part
-alone byte = record { first = byte; others = [] }
-
--- a part, and bytes that go on with it
-abbrev pub with_more : Part → List ℕ → Part
-with_more part more = record { first = part.first; others = part.others ++ more }
-
--- the parts of what follows, where a part has begun
-abbrev pub going : Part → List ℕ → List Part
-going part [] = part ∷ []
-going part (byte ∷ rest) =
-    cond (goes_on (form part) byte) (going (with_more part (byte ∷ [])) rest) (part ∷ going (alone byte) rest)
-
-abbrev pub cut : List ℕ → List Part
-cut [] = []
-cut (byte ∷ rest) = going (alone byte) rest
+pub use Rattle.tokens.specs.Cut.{alone, with_more, going, cut}
 
 with_none : (part : Part) → with_more part [] ≡ part
 with_none part = ap (λ others. let p : Part = record { first = part.first; others = others } in p) (append-nil part.others)

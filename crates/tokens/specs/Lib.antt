@@ -1,4 +1,4 @@
-pub mod Fault
 pub mod Form
+pub mod Cut
 pub mod Word
 pub mod Scanner

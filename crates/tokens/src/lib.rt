@@ -1,14 +1,12 @@
-//! Words of a PDDL text, with their places, and the faults that the readers of texts tell.
+//! Words of a PDDL text, with their places.
 #![tactic(auto)]
 
-mod fault;
 mod form;
 mod laws;
 mod run;
 mod scanner;
 mod word;
 
-pub use fault::{Code, Fault, NoMemory, Span};
 pub use form::{Form, part_end};
 pub use laws::{one_fault, one_reading};
 pub use run::is_name;

@@ -1,11 +1,11 @@
 //! From a text to its words.
 ghost use Rattle.std.specs.Prelude.{◌≡◌, ◌+◌, ◌<◌, ◌≤◌, ◌^◌, false, length, map, IfOk, IfErr, IfSome, Some, None};
 ghost use Rattle.std.specs.Option.{option_map};
-ghost use Rattle.tokens.specs.Fault.{number_of, told_by};
+ghost use Rattle.faults.specs.Fault.{number_of, told_by};
 ghost use Rattle.tokens.specs.Word.{word_of};
 ghost use Rattle.model.specs.Words.{ReadsAs, Reads, IsTold};
 
-use crate::fault::{Code, Fault, Span};
+use faults::{Code, Fault, Refusal, Span};
 use crate::form::{Form, part_end};
 use crate::run::kind_of_run;
 use crate::word::{Kind, Word};
@@ -73,10 +73,10 @@ fn refusal(code: Code, start: usize, end: usize) -> Fault
     ensures { told_by result
         ≡ Some (record { code = number_of code; span = record { start = start; end = end } }) }
 {
-    Fault::At {
+    Fault::At(Refusal {
         code,
         span: Span { start, end },
-    }
+    })
 }
 
 /// What stands before a part, as far as faults go.
@@ -90,7 +90,7 @@ struct Nesting {
 
 impl Nesting {
     ghost use Rattle.tokens.specs.Form.{view};
-    ghost use Rattle.tokens.specs.Fault.{number_of, told_by};
+    ghost use Rattle.faults.specs.Fault.{number_of, told_by};
     ghost use Rattle.tokens.specs.Scanner.{fault_by, closed_with, word_at, fault_at};
     ghost use Rattle.tokens.specs.Word.{kind_of, word_of};
     ghost use Rattle.model.specs.Words.{opening, closing, open_with, kind_by};
@@ -180,5 +180,3 @@ impl Nesting {
     }
 }
 
-#[cfg(test)]
-mod tests;

@@ -1,7 +1,7 @@
 //! A word of a text.
 ghost use Rattle.std.specs.Prelude.{◌≡◌, ◌+◌, ◌<◌, ◌^◌, length};
 
-use crate::fault::Span;
+use faults::Span;
 
 /// What a word is, by its form.
 #[derive(Clone, Copy, Debug, PartialEq, Eq)]

@@ -1,16 +1,2 @@
-pub mod FormulasStates
-pub mod FormulasEquality
-pub mod FormulasTrees
-pub mod FormulasTasks
-pub mod FormulasChanges
-pub mod FormulasInstances
 pub mod VerdictRuns
 pub mod VerdictLaws
-pub mod TypingLeast
-pub mod TypingLists
-pub mod TypingTables
-pub mod TypingFound
-pub mod TypingTrees
-pub mod TypingTells
-pub mod TypingWellTyped
-pub mod TypingTask

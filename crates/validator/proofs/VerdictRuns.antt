@@ -5,8 +5,8 @@ use Rattle.std.specs.Option.{option_and_then, option_map}
 use Rattle.std.proofs.lemmas.List.{take_all, take_more}
 use Rattle.std.proofs.lemmas.List.Sums.{sum_by-cons}
 use Rattle.std.proofs.lemmas.Option.{none-some, same_Some, slice_get-map, slice_get_read, slice_get_within, get_or_from_slice_get}
-use Rattle.validator.specs.declared.formulas.instance.Instance.{Instance}
-use Rattle.validator.specs.Formulas.{instance_of}
+use Rattle.formulas.specs.declared.instance.Instance.{Instance}
+use Rattle.formulas.specs.State.{instance_of}
 use Rattle.model.specs.Task as task
 use Rattle.model.specs.Runs.{System, run, StopsAt, cost_of_all}
 use Rattle.model.specs.Meaning.{system_of}

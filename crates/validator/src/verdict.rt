@@ -1,20 +1,17 @@
 //! What is said of a plan.
 ghost use Rattle.std.specs.Prelude.{IsTrue, IfOk};
 ghost use Rattle.std.specs.List.{list_all};
-ghost use Rattle.validator.specs.Typing.{task_of};
-ghost use Rattle.validator.specs.Formulas.{plan_of};
+ghost use Rattle.typing.specs.Task.{task_of};
+ghost use Rattle.formulas.specs.State.{plan_of};
 ghost use Rattle.validator.specs.Verdict.{verdict_of, ExactlyOneVerdict};
 ghost use Rattle.model.specs.Runs.{IsVerdict};
 ghost use Rattle.model.specs.Meaning.{is_instance, system_of};
 ghost use Rattle.model.specs.Examples.{WorkedExamples};
 
-#[cfg(test)]
-mod tests;
-
-use crate::formulas::{Plan, State, apply, meets_goal};
-use crate::typing::Task;
+use faults::NoMemory;
+use formulas::{Plan, State, apply, meets_goal};
 use std::alloc::Global;
-use tokens::NoMemory;
+use typing::Task;
 
 /// What is said of a plan.
 #[derive(Clone, Copy, Debug, PartialEq, Eq)]

@@ -2,21 +2,21 @@
 ghost use Rattle.std.specs.Prelude.{ℕ, ◌≤◌, length, IsTrue, IfErr, IfOk};
 ghost use Rattle.std.specs.List.{list_all};
 ghost use Rattle.std.specs.Option.{ForSome, option_map};
-ghost use Rattle.validator.specs.Typing.{task_of};
-ghost use Rattle.validator.specs.Formulas.{plan_of};
-ghost use Rattle.cert_checker.specs.Certificate.{certificate_of};
+ghost use Rattle.typing.specs.Task.{task_of};
+ghost use Rattle.formulas.specs.State.{plan_of};
+ghost use Rattle.certificate.specs.Certificate.{certificate_of};
 ghost use Rattle.cert_checker.specs.CertChecker.{Answers, IsFirstRefusal, IsShown, IsTrueRefusal};
 ghost use Rattle.model.specs.Meaning.{is_instance, system_of};
 ghost use Rattle.model.specs.Instances.{all_instances};
 ghost use Rattle.model.specs.Claims.{ClaimHolds};
 ghost use Rattle.model.specs.Certificates.{IsClosedFor};
 
-use crate::certificate::{Cert, Claim};
 use crate::check::code::RefusalCode;
 use crate::check::{Accepted, Refusal};
+use certificate::{Cert, Claim};
+use formulas::Plan;
 use std::alloc::Global;
-use validator::formulas::Plan;
-use validator::typing::Task;
+use typing::Task;
 use validator::{Verdict, validate};
 
 /// What the certificate's claim, which is true, shows: of all plans, or that the plan handed in, if it costs no more,

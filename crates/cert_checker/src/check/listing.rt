@@ -2,26 +2,25 @@
 ghost use Rattle.std.specs.Prelude.{◌≡◌, ◌↔◌, List, ◌++◌, slice_get, IfErr, IfOk, IsSome, IsTrue, OnOk, length};
 ghost use Rattle.std.specs.FinSet.{from_list};
 ghost use Rattle.std.specs.List.{filter_map};
-ghost use Rattle.validator.specs.Typing.{task_of};
-ghost use Rattle.validator.specs.Formulas.{state_of};
-ghost use Rattle.cert_checker.specs.CertificateParts.{line_of};
-ghost use Rattle.cert_checker.specs.Certificate.{certificate_of};
+ghost use Rattle.typing.specs.Task.{task_of};
+ghost use Rattle.formulas.specs.State.{state_of};
+ghost use Rattle.certificate.specs.CertificateParts.{line_of};
+ghost use Rattle.certificate.specs.Certificate.{certificate_of};
 ghost use Rattle.task_system.specs.PlainStore.{states_of};
 ghost use Rattle.cert_checker.specs.CheckedLines.{AreFluent, CutsAreAllowed, IsFirstAnyway, IsTrueAnyway, Lists};
 ghost use Rattle.model.specs.Task as model_task;
 ghost use Rattle.model.specs.Claims as claims;
 ghost use Rattle.model.specs.Certificates.{lines_of, static_atoms};
 
-use crate::certificate::{Cert, Claim, StateLine};
 use crate::check::code::RefusalCode;
-use crate::check::fluents::{is_fluent, is_fluent_atom};
 use crate::check::{Refusal, atom_line, state_line};
+use certificate::{Cert, Claim, StateLine};
+use faults::NoMemory;
+use formulas::{State, is_fluent, is_fluent_atom};
 use indexmap::IndexSet;
 use std::alloc::Global;
 use task_system::PlainStore;
-use tokens::NoMemory;
-use validator::formulas::State;
-use validator::typing::Task;
+use typing::Task;
 
 /// Whether each atom is a well-typed atom of a fluent predicate, and none stood before.
 pub(super) fn check_atoms(alloc: Global, task: &Task, cert: &Cert) -> Result<(), Refusal>

@@ -1,9 +1,9 @@
 //! Whether no action leads out of the listing at less than is claimed.
 ghost use Rattle.std.specs.Prelude.{◌≡◌, ℕ, ◌+◌, ◌<◌, ◌≤◌, ◌↔◌, List, length, slice_get, Option, None, Some, IsTrue, IfErr, MatchOption, OnOk};
-ghost use Rattle.validator.specs.Typing.{task_of};
-ghost use Rattle.validator.specs.Formulas.{state_of};
-ghost use Rattle.cert_checker.specs.CertificateParts.{claim_of};
-ghost use Rattle.cert_checker.specs.Certificate.{certificate_of};
+ghost use Rattle.typing.specs.Task.{task_of};
+ghost use Rattle.formulas.specs.State.{state_of};
+ghost use Rattle.certificate.specs.CertificateParts.{claim_of};
+ghost use Rattle.certificate.specs.Certificate.{certificate_of};
 ghost use Rattle.task_system.specs.PlainStore.{states_of};
 ghost use Rattle.cert_checker.specs.CertChecker.{IsFirstRefusal};
 ghost use Rattle.cert_checker.specs.CheckedLines.{AreFluent, CutsAreAllowed, HasCost, IsCutClosed, IsLineClosed, IsListedAt, IsOpenClosed, IsRightUpTo, IsTrueAnyway, Lists};
@@ -16,13 +16,13 @@ ghost use Rattle.model.specs.Instances.{all_instances};
 ghost use Rattle.model.specs.Certificates.{lines_of};
 ghost use Rattle.model.specs.CertificateRefusals.{IsListed};
 
-use crate::certificate::{Cert, Claim};
 use crate::check::code::RefusalCode;
 use crate::check::{Refusal, state_line};
+use certificate::{Cert, Claim};
+use formulas::{State, meets_goal};
 use std::alloc::Global;
 use task_system::{PlainStore, successors};
-use validator::formulas::{State, meets_goal};
-use validator::typing::Task;
+use typing::Task;
 
 /// Whether the initial state is listed at cost 0.
 pub(super) fn check_initial(

@@ -1,9 +1,9 @@
 //! The machine's files.
 ghost use Rattle.std.specs.Prelude.{◌≡◌};
-ghost use Rattle.planner_main.specs.Devices.{CountsDevice};
+ghost use Rattle.devices.specs.Devices.{CountsDevice};
 
 use super::Files;
-use crate::certificate::{Device, WriteFault};
+use devices::{Device, WriteFault};
 use std::io::Write;
 use std::{fs, io, rt};
 

@@ -1,13 +1,13 @@
 //! A table of files in memory, for tests.
 ghost use Rattle.std.specs.Prelude.{◌≡◌, ℕ, List, None};
 ghost use Rattle.std.specs.Option.{option_map};
-ghost use Rattle.planner_main.specs.Devices.{one_more};
+ghost use Rattle.devices.specs.Devices.{one_more};
 ghost use Rattle.planner_main.specs.Table.{contents_of};
 
 use super::Files;
-use crate::certificate::{FailsAt, Memory, Sink, WriteFault};
+use devices::{FailsAt, Memory, Sink, WriteFault};
+use faults::NoMemory;
 use std::alloc::Global;
-use tokens::NoMemory;
 
 #[derive(Drop)]
 struct Entry {

@@ -1,13 +1,13 @@
 //! What an answer is told as: the text of the plan, or a line, and the status.
 ghost use Rattle.std.specs.Prelude.{◌≡◌, ◌++◌, codes, IfOk, OnOk};
-ghost use Rattle.validator.specs.Typing.{task_of};
-ghost use Rattle.validator.specs.Formulas.{instance_of, plan_of};
+ghost use Rattle.typing.specs.Task.{task_of};
+ghost use Rattle.formulas.specs.State.{instance_of, plan_of};
 ghost use Rattle.planner_main.specs.Solution.{text_of, status_of, plan_text, step_text, object_text, schema_name, object_name};
 
+use formulas::{Instance, Plan};
 use solver::{Answer, Limit};
 use std::alloc::{AllocError, Global};
-use validator::formulas::{Instance, Plan};
-use validator::typing::{ObjectId, SchemaId, Task};
+use typing::{ObjectId, SchemaId, Task};
 
 /// A plan is told.
 const PLAN: u8 = 0;

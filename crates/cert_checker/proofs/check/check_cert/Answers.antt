@@ -1,9 +1,9 @@
 use Rattle.std.proofs.Common.{◌∙◌, length, sym, arith}
 use Rattle.std.proofs.lemmas.Bool.{ltb-false}
 use Rattle.std.specs.Option.{option_map}
-use Rattle.validator.specs.Typing.{task_of}
-use Rattle.validator.specs.Formulas.{plan_of}
-use Rattle.cert_checker.specs.Certificate.{certificate_of}
+use Rattle.typing.specs.Task.{task_of}
+use Rattle.formulas.specs.State.{plan_of}
+use Rattle.certificate.specs.Certificate.{certificate_of}
 use Rattle.cert_checker.specs.CertChecker.{IsFirstRefusal, IsTrueRefusal, IsNoFault}
 use Rattle.task_system.specs.PlainStore.{states_of}
 use Rattle.model.specs.Instances.{all_instances}
@@ -11,7 +11,8 @@ use Rattle.cert_checker.proofs.OrderLemmas.{atoms_right, states_right_all, first
 use Rattle.cert_checker.proofs.FirstLemmas.{first_of}
 use Rattle.cert_checker.proofs.RefusalsLemmas.{lines_apart}
 use Rattle.cert_checker.proofs.CertCheckerLemmas.{claim_holds, closed_listing}
-use Rattle.cert_checker.proofs.AnswerLemmas.{no_fault, no_fault_of, closed_for, on_ok, passed_on}
+use Rattle.cert_checker.proofs.AnswerLemmas.{no_fault, no_fault_of, closed_for, on_ok}
+use Rattle.faults.proofs.Results.{passed_on}
 use Rattle.cert_checker.proofs.check.check_cert.Goals as goal
 
 -- the certificate is closed, so its claim is true

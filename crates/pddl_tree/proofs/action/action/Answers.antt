@@ -1,26 +1,27 @@
 use Rattle.std.proofs.Common.{◌+◌, ◌≡◌, ◌∙◌, map, sym, ap, Some, false}
 use Rattle.model.specs.Grammar.{no_parts}
-use Rattle.model.proofs.GrammarMachine.{run, wants_action, wants_parts}
-use Rattle.pddl_tree.specs.Ahead.{from}
+use Rattle.model.specs.GrammarMachine.{run, wants_action, wants_parts}
+use Rattle.pddl_words.specs.Ahead.{from}
+use Rattle.faults.proofs.Results.{passed_on}
 use Rattle.pddl_tree.specs.Reading.{IsTold}
 use Rattle.pddl_tree.specs.Sections.{parts_of}
 use Rattle.pddl_tree.specs.Tree.{name_of, formula_of}
 use Rattle.pddl_tree.proofs.Looks.{stepped}
 use Rattle.pddl_tree.proofs.SectionLooks.{action_name, parts_end, parts_missing}
-use Rattle.pddl_tree.proofs.ReadOn.{later, if_passed}
+use Rattle.pddl_tree.proofs.ReadOn.{later}
 use Rattle.pddl_tree.proofs.action.action.Goals as goal
 use Rattle.std.specs.Global.{Vec}
 use Rattle.std.specs.Option.{option_map, is_some}
 use Rattle.model.specs.Grammar.{parts, action_from}
-use Rattle.model.proofs.GrammarMachine.{has_part, parameter_part}
+use Rattle.model.specs.GrammarMachine.{has_part, parameter_part}
 use Rattle.pddl_tree.specs.Tree.{effect_of}
-use Rattle.pddl_tree.specs.declared.tree.Name as named
+use Rattle.pddl_words.specs.declared.name.Name as named
 
 pub returns-in_err-parts-clause-told : goal.returns-in_err-parts-clause-told
 returns-in_err-parts-clause-told c =
     let words = c.args.words.now in let at = c.args.at in let n = name_of c.in-Some.name in
     let refusal = c.in_err-parts.field-0.0 in
-    if_passed (λ r. IsTold wants_action words at r) c.from_residual.result refusal c.from_residual.ensures.1
+    passed_on (λ r. IsTold wants_action words at r) c.from_residual.result refusal c.from_residual.ensures.1
     (later wants_action words at (at + 1) (wants_parts n no_parts) refusal (λ k. k) (λ k. action_name (from words at) n k c.in-Some.ensures.first ∙ stepped words at (wants_parts n no_parts k)) (c.in_err-parts.ensures.told n))
 
 pub returns-in_default-parameters-clause-told : goal.returns-in_default-parameters-clause-told

@@ -1,8 +1,8 @@
 use Rattle.std.proofs.Common.{◌-◌, ◌≤◌, length}
 use Rattle.model.specs.Trees.{Name}
 use Rattle.model.specs.Grammar.{no_parts}
-use Rattle.model.proofs.GrammarMachine.{wants_parts}
-use Rattle.pddl_tree.specs.Ahead.{from}
+use Rattle.model.specs.GrammarMachine.{wants_parts}
+use Rattle.pddl_words.specs.Ahead.{from}
 use Rattle.pddl_tree.specs.Reading.{Leads}
 use Rattle.pddl_tree.specs.Sections.{parts_of}
 use Rattle.pddl_tree.proofs.action.read_parts.Given as goal

@@ -1,6 +1,6 @@
 use Rattle.std.proofs.Common.{cond, ◌&&◌, not, ◌∙◌, ap, Some}
-use Rattle.pddl_tree.specs.Ahead.{from, closes_first}
-use Rattle.pddl_tree.specs.Refusal.{code_first}
+use Rattle.pddl_words.specs.Ahead.{from, closes_first}
+use Rattle.pddl_words.specs.Refusal.{code_first}
 use Rattle.pddl_tree.specs.Sections.{part_view, parts_of}
 use Rattle.pddl_tree.proofs.SectionLooks.{value_code-other}
 use Rattle.pddl_tree.proofs.action.refused_value.Goals as goal

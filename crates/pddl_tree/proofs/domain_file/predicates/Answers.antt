@@ -1,16 +1,17 @@
 use Rattle.std.proofs.Common.{◌+◌, ◌∷◌, [], ◌∙◌, map, arith, rules}
-use Rattle.model.proofs.GrammarMachine.{wants_predicates, wants_predicate}
-use Rattle.pddl_tree.specs.Ahead.{from}
+use Rattle.model.specs.GrammarMachine.{wants_predicates, wants_predicate}
+use Rattle.pddl_words.specs.Ahead.{from}
+use Rattle.faults.proofs.Results.{passed_on}
 use Rattle.pddl_tree.specs.Reading.{IsTold}
 use Rattle.pddl_tree.specs.Tree.{predicate_of}
 use Rattle.pddl_tree.proofs.Looks.{stepped, predicates_more, predicates_end}
-use Rattle.pddl_tree.proofs.ReadOn.{on_more, on_end, on_later, if_passed, joined-list}
+use Rattle.pddl_tree.proofs.ReadOn.{on_more, on_end, on_later, joined-list}
 use Rattle.pddl_tree.proofs.domain_file.predicates.Goals as goal
 
 pub returns-in_err-predicate-clause-told : goal.returns-in_err-predicate-clause-told
 returns-in_err-predicate-clause-told c =
     let words = c.args.words.now in let at = c.args.at in let next = c.predicates.next in let refusal = c.in_err-predicate.field-0.0 in
-    if_passed (λ r. IsTold wants_predicates words at r) c.from_residual.result refusal c.from_residual.ensures.1
+    passed_on (λ r. IsTold wants_predicates words at r) c.from_residual.result refusal c.from_residual.ensures.1
     (on_later wants_predicates (λ x xs. x ∷ xs) words at next (next + 1) (map predicate_of c.predicates.predicates.items) wants_predicate refusal c.predicates.invariant.read (λ k x. wants_predicates (λ xs. k (x ∷ xs)))
     (λ k. predicates_more (from words next) k (search rules) ∙ stepped words next (wants_predicate (λ x. wants_predicates (λ xs. k (x ∷ xs))))) c.in_err-predicate.ensures.told)
 

@@ -1,11 +1,11 @@
 use Rattle.std.proofs.Common.{◌≡◌, ◌∙◌, sym, ap, arith, rules, Some}
-use Rattle.model.proofs.GrammarMachine.{wants_keys}
-use Rattle.pddl_tree.specs.Ahead.{from}
+use Rattle.model.specs.GrammarMachine.{wants_keys}
+use Rattle.pddl_words.specs.Ahead.{from}
 use Rattle.pddl_tree.proofs.Looks.{stepped}
 use Rattle.pddl_tree.proofs.SectionLooks.{keys_more, keys_end}
 use Rattle.pddl_tree.proofs.domain_file.requirements.Goals as goal
-use Rattle.pddl_tree.specs.Symbol.{keyword_view}
-use Rattle.pddl_tree.specs.declared.symbol.Keyword.TheVariants.{Requirement}
+use Rattle.pddl_words.specs.Symbol.{keyword_view}
+use Rattle.pddl_words.specs.declared.symbol.Keyword.TheVariants.{Requirement}
 
 pub keys-preserved : goal.keys-preserved
 keys-preserved c =

@@ -1,6 +1,6 @@
 use Rattle.std.proofs.Common.{◌≡◌, ◌-◌, ◌≤◌, length}
-use Rattle.model.proofs.GrammarMachine.{State, run, wants_keys}
-use Rattle.pddl_tree.specs.Ahead.{from}
+use Rattle.model.specs.GrammarMachine.{State, run, wants_keys}
+use Rattle.pddl_words.specs.Ahead.{from}
 use Rattle.pddl_tree.proofs.domain_file.requirements.Given as goal
 
 abbrev pub invariant-keys : goal.invariant-keys

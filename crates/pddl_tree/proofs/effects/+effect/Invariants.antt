@@ -1,7 +1,7 @@
 use Rattle.std.proofs.Common.{◌-◌, ◌≤◌, length, map}
 use Rattle.model.specs.Trees as tree
-use Rattle.model.proofs.GrammarMachine.{wants_effects}
-use Rattle.pddl_tree.specs.Ahead.{from}
+use Rattle.model.specs.GrammarMachine.{wants_effects}
+use Rattle.pddl_words.specs.Ahead.{from}
 use Rattle.pddl_tree.specs.Tree.{effect_of}
 use Rattle.pddl_tree.proofs.ReadOn.{IsReadOn}
 use Rattle.pddl_tree.proofs.effects.+effect.Given as goal

@@ -1,7 +1,7 @@
 use Rattle.std.proofs.Common.{◌-◌, ◌≤◌, length, map}
 use Rattle.model.specs.Trees as tree
-use Rattle.model.proofs.GrammarMachine.{wants_formulas}
-use Rattle.pddl_tree.specs.Ahead.{from}
+use Rattle.model.specs.GrammarMachine.{wants_formulas}
+use Rattle.pddl_words.specs.Ahead.{from}
 use Rattle.pddl_tree.specs.Tree.{formula_of}
 use Rattle.pddl_tree.proofs.ReadOn.{IsReadOn}
 use Rattle.pddl_tree.proofs.formulas.+formula.Given as goal

@@ -1,6 +1,6 @@
 use Rattle.std.proofs.Common.{◌-◌, ◌≤◌, ◌∷◌, length, map}
-use Rattle.model.proofs.GrammarMachine.{wants_names}
-use Rattle.pddl_tree.specs.Ahead.{from}
+use Rattle.model.specs.GrammarMachine.{wants_names}
+use Rattle.pddl_words.specs.Ahead.{from}
 use Rattle.pddl_tree.specs.Tree.{name_of}
 use Rattle.pddl_tree.proofs.ReadOn.{IsReadOn}
 use Rattle.pddl_tree.proofs.lists.names.Given as goal

@@ -1,7 +1,7 @@
 use Rattle.std.proofs.Common.{◌+◌, ◌∷◌, [], ◌∙◌, map, arith, rules}
-use Rattle.model.proofs.GrammarMachine.{wants_variables}
-use Rattle.pddl_tree.specs.Ahead.{from}
-use Rattle.pddl_tree.specs.Refusal.{code_first}
+use Rattle.model.specs.GrammarMachine.{wants_variables}
+use Rattle.pddl_words.specs.Ahead.{from}
+use Rattle.pddl_words.specs.Refusal.{code_first}
 use Rattle.pddl_tree.specs.Tree.{name_of}
 use Rattle.pddl_tree.proofs.Looks.{stepped, variables_more, variables_end, variables_stop}
 use Rattle.pddl_tree.proofs.ReadOn.{on_more, on_end, on_stop, joined-list}

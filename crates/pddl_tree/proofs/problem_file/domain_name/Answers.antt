@@ -1,7 +1,7 @@
 use Rattle.std.proofs.Common.{◌+◌, ◌∙◌, rules}
-use Rattle.model.proofs.GrammarMachine.{wants_close, wants_name}
-use Rattle.pddl_tree.specs.Ahead.{from}
-use Rattle.pddl_tree.specs.Refusal.{code_first}
+use Rattle.model.specs.GrammarMachine.{wants_close, wants_name}
+use Rattle.pddl_words.specs.Ahead.{from}
+use Rattle.pddl_words.specs.Refusal.{code_first}
 use Rattle.pddl_tree.specs.Tree.{name_of}
 use Rattle.pddl_tree.proofs.Looks.{stepped, stepped_twice, close_more, close_stop, name_more}
 use Rattle.pddl_tree.proofs.ReadOn.{on_place}

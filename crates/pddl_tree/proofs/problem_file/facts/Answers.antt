@@ -1,16 +1,17 @@
 use Rattle.std.proofs.Common.{◌+◌, ◌∷◌, [], ◌∙◌, map, arith, rules}
-use Rattle.model.proofs.GrammarMachine.{wants_facts, wants_fact}
-use Rattle.pddl_tree.specs.Ahead.{from}
+use Rattle.model.specs.GrammarMachine.{wants_facts, wants_fact}
+use Rattle.pddl_words.specs.Ahead.{from}
+use Rattle.faults.proofs.Results.{passed_on}
 use Rattle.pddl_tree.specs.Reading.{IsTold}
 use Rattle.pddl_tree.specs.Tree.{fact_of}
 use Rattle.pddl_tree.proofs.Looks.{stepped, facts_more, facts_end}
-use Rattle.pddl_tree.proofs.ReadOn.{on_more, on_end, on_later, if_passed, joined-list}
+use Rattle.pddl_tree.proofs.ReadOn.{on_more, on_end, on_later, joined-list}
 use Rattle.pddl_tree.proofs.problem_file.facts.Goals as goal
 
 pub returns-in_err-fact-clause-told : goal.returns-in_err-fact-clause-told
 returns-in_err-fact-clause-told c =
     let words = c.args.words.now in let at = c.args.at in let next = c.facts.next in let refusal = c.in_err-fact.field-0.0 in
-    if_passed (λ r. IsTold wants_facts words at r) c.from_residual.result refusal c.from_residual.ensures.1
+    passed_on (λ r. IsTold wants_facts words at r) c.from_residual.result refusal c.from_residual.ensures.1
     (on_later wants_facts (λ x xs. x ∷ xs) words at next (next + 1) (map fact_of c.facts.facts.items) wants_fact refusal c.facts.invariant.read (λ k x. wants_facts (λ xs. k (x ∷ xs)))
     (λ k. facts_more (from words next) k (search rules) ∙ stepped words next (wants_fact (λ x. wants_facts (λ xs. k (x ∷ xs))))) c.in_err-fact.ensures.told)
 

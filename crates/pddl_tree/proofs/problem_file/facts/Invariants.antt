@@ -1,6 +1,6 @@
 use Rattle.std.proofs.Common.{◌-◌, ◌≤◌, ◌∷◌, length, map}
-use Rattle.model.proofs.GrammarMachine.{wants_facts}
-use Rattle.pddl_tree.specs.Ahead.{from}
+use Rattle.model.specs.GrammarMachine.{wants_facts}
+use Rattle.pddl_words.specs.Ahead.{from}
 use Rattle.pddl_tree.specs.Tree.{fact_of}
 use Rattle.pddl_tree.proofs.ReadOn.{IsReadOn}
 use Rattle.pddl_tree.proofs.problem_file.facts.Given as goal

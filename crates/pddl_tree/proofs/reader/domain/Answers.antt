@@ -1,6 +1,6 @@
 use Rattle.std.proofs.Common.{◌∙◌}
 use Rattle.model.specs.Refusals.{domain_file}
-use Rattle.pddl_tree.specs.Refusal.{told}
+use Rattle.pddl_words.specs.Refusal.{told}
 use Rattle.pddl_tree.specs.Tree.{domain_of}
 use Rattle.pddl_tree.proofs.Told.{domain_read, refused_by, taken_by}
 use Rattle.pddl_tree.proofs.reader.domain.Goals as goal

@@ -1,6 +1,6 @@
-use Rattle.model.proofs.GrammarMachine.{wants_nothing}
-use Rattle.pddl_tree.specs.Ahead.{from}
-use Rattle.pddl_tree.specs.Refusal.{code_first}
+use Rattle.model.specs.GrammarMachine.{wants_nothing}
+use Rattle.pddl_words.specs.Ahead.{from}
+use Rattle.pddl_words.specs.Refusal.{code_first}
 use Rattle.pddl_tree.proofs.SectionLooks.{nothing_stop}
 use Rattle.pddl_tree.proofs.ReadOn.{told_here}
 use Rattle.pddl_tree.proofs.Told.{not_past}

@@ -1,8 +1,8 @@
 use Rattle.std.proofs.Common.{◌≡◌, ◌∙◌, sym, ap, rules, Some, refl}
 use Rattle.model.specs.GrammarWords.{free, define}
-use Rattle.model.proofs.GrammarMachine.{start, wants_name, wants_close, wants_define, wants_head, wants_kind, at_sections}
-use Rattle.pddl_tree.specs.Ahead.{from, label_first}
-use Rattle.pddl_tree.specs.Refusal.{code_first}
+use Rattle.model.specs.GrammarMachine.{start, wants_name, wants_close, wants_define, wants_head, wants_kind, at_sections}
+use Rattle.pddl_words.specs.Ahead.{from, label_first}
+use Rattle.pddl_words.specs.Refusal.{code_first}
 use Rattle.pddl_tree.specs.Tree.{name_of}
 use Rattle.pddl_tree.proofs.Looks.{stepped, open_more, close_stop, name_more, name_stop}
 use Rattle.pddl_tree.proofs.SectionLooks.{define_more, head_more, kind_more, kind_stop}

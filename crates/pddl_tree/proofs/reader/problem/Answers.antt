@@ -1,6 +1,6 @@
 use Rattle.std.proofs.Common.{◌∙◌}
 use Rattle.model.specs.Refusals.{problem_file}
-use Rattle.pddl_tree.specs.Refusal.{told}
+use Rattle.pddl_words.specs.Refusal.{told}
 use Rattle.pddl_tree.specs.Tree.{problem_of}
 use Rattle.pddl_tree.proofs.Told.{problem_read, refused_by, taken_by}
 use Rattle.pddl_tree.proofs.reader.problem.Goals as goal

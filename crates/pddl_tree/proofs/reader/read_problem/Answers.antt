@@ -3,17 +3,18 @@ use Rattle.std.specs.Option.{option_map, unwrap_or}
 use Rattle.std.specs.Global.{Vec}
 use Rattle.model.specs.Grammar.{problem_sections, no_problem_sections}
 use Rattle.model.specs.Refusals.{problem_file, is_complete}
-use Rattle.model.proofs.GrammarMachine.{run, start, finished, problem_tree, wants_nothing, wants_problem_sections}
-use Rattle.pddl_tree.specs.Ahead.{from}
+use Rattle.model.specs.GrammarMachine.{run, start, finished, problem_tree, wants_nothing, wants_problem_sections}
+use Rattle.pddl_words.specs.Ahead.{from}
+use Rattle.faults.proofs.Results.{passed_on}
 use Rattle.pddl_tree.specs.Reading.{StopsAs}
-use Rattle.pddl_tree.specs.Refusal.{code_first}
+use Rattle.pddl_words.specs.Refusal.{code_first}
 use Rattle.pddl_tree.specs.Sections.{problem_sections_of}
 use Rattle.pddl_tree.specs.Tree.{name_of, fact_of, formula_of}
-use Rattle.pddl_tree.specs.declared.tree.Name as named
+use Rattle.pddl_words.specs.declared.name.Name as named
 use Rattle.pddl_tree.specs.declared.tree.Fact as fact
 use Rattle.pddl_tree.proofs.Looks.{stepped}
 use Rattle.pddl_tree.proofs.SectionLooks.{problem_stop, problem_missing, problem_end, nothing_more}
-use Rattle.pddl_tree.proofs.ReadOn.{told_here, told_later, if_passed}
+use Rattle.pddl_tree.proofs.ReadOn.{told_here, told_later}
 use Rattle.pddl_tree.proofs.reader.read_problem.Goals as goal
 
 pub returns-in_err-sections-clause-told : goal.returns-in_err-sections-clause-told
@@ -21,7 +22,7 @@ returns-in_err-sections-clause-told c =
     let words = c.args.words.now in let n = name_of c.in_ok-name.name in
     let begins = c.in_ok-name.ensures.read problem_file refl in
     let refusal = c.in_err-sections.field-0.0 in
-    if_passed (λ r. StopsAs words 0 (start problem_file) r) c.from_residual-in_err-sections.result refusal c.from_residual-in_err-sections.ensures.1
+    passed_on (λ r. StopsAs words 0 (start problem_file) r) c.from_residual-in_err-sections.result refusal c.from_residual-in_err-sections.ensures.1
     (told_later words 0 6 (start problem_file) (wants_problem_sections n no_problem_sections) refusal begins (c.in_err-sections.ensures.told n))
 
 pub returns-then-not-is_close-clause-told : goal.returns-then-not-is_close-clause-told
@@ -80,7 +81,7 @@ returns-in_err-end-clause-told c =
     let d = name_of c.in-Some.domain in let facts = map fact_of c.in-Some-init.init.items in let f = formula_of c.in-Some-goal.goal in
     let whole = problem_tree (record { name = n; domain = d; objects = unwrap_or o []; init = facts; goal = f }) in
     let refusal = c.in_err-end.field-0.0 in
-    if_passed (λ r. StopsAs words 0 (start problem_file) r) c.from_residual-in_err-end.result refusal c.from_residual-in_err-end.ensures.1
+    passed_on (λ r. StopsAs words 0 (start problem_file) r) c.from_residual-in_err-end.result refusal c.from_residual-in_err-end.ensures.1
     (told_later words 0 (next + 1) (start problem_file) (wants_nothing whole) refusal
     (begins ∙ c.in_ok-sections.ensures.read n ∙ ap (λ x. run (from words next) (wants_problem_sections n (problem_sections (option_map name_of x) q o i g))) c.in-Some.is ∙ ap (λ x. run (from words next) (wants_problem_sections n (problem_sections (Some (name_of c.in-Some.domain)) q o (option_map (λ (v : Vec fact.Fact). map fact_of v.items) x) g))) c.in-Some-init.is ∙ ap (λ x. run (from words next) (wants_problem_sections n (problem_sections (Some (name_of c.in-Some.domain)) q o (Some (map fact_of c.in-Some-init.init.items)) (option_map formula_of x)))) c.in-Some-goal.is ∙ problem_end (from words next) n d q o facts f (search rules) ∙ stepped words next (wants_nothing whole)) (c.in_err-end.ensures.told whole))
 

@@ -1,7 +1,7 @@
 use Rattle.std.proofs.Common.{rules, refl}
 use Rattle.std.proofs.lemmas.Result.{err_from_is_err_and}
 use Rattle.planner_main.proofs.ProgramWords.{text_kept, refused_on_two}
-use Rattle.validator.specs.Typing.{task_of}
+use Rattle.typing.specs.Task.{task_of}
 use Rattle.planner_main.proofs.program.run_solve.Goals as goal
 
 pub returns-in_err-domain-clause-refused : goal.returns-in_err-domain-clause-refused

@@ -1,6 +1,6 @@
 use Rattle.std.proofs.Common.{IfSome, sym, subst}
 use Rattle.std.proofs.lemmas.Result.{err_from_is_err_and}
-use Rattle.tokens.specs.Fault.{told_by}
+use Rattle.faults.specs.Fault.{told_by}
 use Rattle.pddl_tree.specs.Tree.{domain_of, problem_of}
 use Rattle.model.specs.Files.{IsTaskFault}
 use Rattle.planner_main.proofs.FilesRead.{domain_told, problem_told, pair_told}

@@ -1,6 +1,6 @@
 use Rattle.std.proofs.Common.{IfSome, sym, refl, subst, ◌∙◌}
 use Rattle.std.proofs.lemmas.Result.{err_from_is_err_and}
-use Rattle.tokens.specs.Fault.{told_by}
+use Rattle.faults.specs.Fault.{told_by}
 use Rattle.model.specs.Files.{IsFileFault}
 use Rattle.planner_main.proofs.FilesRead.{task_told, plan_told, none_told}
 use Rattle.planner_main.proofs.verdict.validate_files.Goals as goal

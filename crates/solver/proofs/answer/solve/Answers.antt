@@ -1,8 +1,8 @@
 use Rattle.std.proofs.Common.{◌≡◌, sym, ap, subst, ◌∙◌, length, map, List}
 use Rattle.std.specs.Prelude.{nat_lt}
 use Rattle.std.specs.List.{list_all}
-use Rattle.validator.specs.Typing.{task_of}
-use Rattle.validator.specs.Formulas.{instance_of, plan_of}
+use Rattle.typing.specs.Task.{task_of}
+use Rattle.formulas.specs.State.{instance_of, plan_of}
 use Rattle.model.specs.Task.{Instance}
 use Rattle.model.specs.Runs.{cost_of_all, IsOptimal}
 use Rattle.model.specs.Meaning.{system_of, is_instance}

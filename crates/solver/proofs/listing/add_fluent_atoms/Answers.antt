@@ -1,8 +1,8 @@
 use Rattle.std.proofs.Common.{refl, ap, map, ◌∙◌}
 use Rattle.std.specs.FinSet.{from_list}
-use Rattle.validator.specs.Typing.{task_of}
-use Rattle.validator.specs.TaskParts.{atom_of}
-use Rattle.validator.specs.Formulas.{state_of}
+use Rattle.typing.specs.Task.{task_of}
+use Rattle.typing.specs.TaskParts.{atom_of}
+use Rattle.formulas.specs.State.{state_of}
 use Rattle.solver.proofs.LoopLemmas.{fluent_more, fluent_all}
 use Rattle.solver.proofs.listing.add_fluent_atoms.Goals as goal
 

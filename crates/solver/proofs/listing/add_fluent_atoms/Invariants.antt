@@ -1,8 +1,8 @@
 use Rattle.std.proofs.Common.{◌≡◌, ◌||◌, ◌&&◌, map}
 use Rattle.std.specs.FinSet.{contains}
-use Rattle.validator.specs.Typing.{task_of}
-use Rattle.validator.specs.TaskParts.{atom_of}
-use Rattle.validator.specs.Formulas.{state_of}
+use Rattle.typing.specs.Task.{task_of}
+use Rattle.typing.specs.TaskParts.{atom_of}
+use Rattle.formulas.specs.State.{state_of}
 use Rattle.model.specs.Task.{Atom}
 use Rattle.model.specs.Certificates.{is_fluent}
 use Rattle.solver.specs.Listing.{stands_in}

@@ -1,10 +1,10 @@
 use Rattle.std.proofs.Common.{sym, ap, ◌∙◌}
 use Rattle.std.specs.List.{each_same}
 use Rattle.std.specs.FinSet.{insert}
-use Rattle.validator.specs.Typing.{task_of}
-use Rattle.validator.specs.TaskParts.{atom_of}
-use Rattle.validator.specs.Formulas.{state_of}
-use Rattle.validator.proofs.FormulasStates.{copied}
+use Rattle.typing.specs.Task.{task_of}
+use Rattle.typing.specs.TaskParts.{atom_of}
+use Rattle.formulas.specs.State.{state_of}
+use Rattle.formulas.proofs.States.{copied}
 use Rattle.solver.proofs.LoopLemmas.{there_already, static_skipped, fluent_added}
 use Rattle.solver.proofs.listing.add_if_fluent.Goals as goal
 use Rattle.solver.proofs.listing.add_if_fluent.Goals.{then-contains-via-then-contains, then-contains-via-else-contains+then-not-is_fluent}

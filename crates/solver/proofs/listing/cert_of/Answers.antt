@@ -1,13 +1,13 @@
 use Rattle.std.proofs.Common.{◌≤◌, List, length, map, subst, ◌∙◌, arith}
 use Rattle.std.proofs.lemmas.List.{length-map}
 use Rattle.std.proofs.lemmas.Bool.{false≢true}
-use Rattle.validator.specs.declared.typing.Atom.{Atom}
-use Rattle.validator.specs.Typing.{task_of}
-use Rattle.validator.specs.TaskParts.{atom_of}
-use Rattle.validator.specs.Formulas.{state_of}
+use Rattle.typing.specs.declared.atoms.Atom.{Atom}
+use Rattle.typing.specs.Task.{task_of}
+use Rattle.typing.specs.TaskParts.{atom_of}
+use Rattle.formulas.specs.State.{state_of}
 use Rattle.task_system.specs.PlainStore.{states_of}
-use Rattle.cert_checker.specs.CertificateParts.{claim_of}
-use Rattle.cert_checker.specs.Certificate.{certificate_of}
+use Rattle.certificate.specs.CertificateParts.{claim_of}
+use Rattle.certificate.specs.Certificate.{certificate_of}
 use Rattle.solver.specs.Listing.{AreLinesFor}
 use Rattle.solver.proofs.LoopLemmas.{ascending}
 use Rattle.solver.proofs.ListingLemmas.{reached, more_atoms, shown_by, within_limits}

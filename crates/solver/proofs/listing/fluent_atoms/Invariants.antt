@@ -1,6 +1,6 @@
 use Rattle.std.proofs.Common.{take}
-use Rattle.validator.specs.Typing.{task_of}
-use Rattle.validator.specs.Formulas.{state_of}
+use Rattle.typing.specs.Task.{task_of}
+use Rattle.formulas.specs.State.{state_of}
 use Rattle.task_system.specs.PlainStore.{states_of}
 use Rattle.solver.specs.Listing.{AreFluentIn}
 use Rattle.solver.proofs.listing.fluent_atoms.Given as goal

@@ -1,8 +1,8 @@
 use Rattle.std.proofs.Common.{◌<◌, ◌+◌, Some, take, [], List, length, sym, ap, subst, map, ◌∙◌, arith}
-use Rattle.validator.specs.TaskParts.{atom_of}
-use Rattle.validator.specs.Formulas.{state_of}
+use Rattle.typing.specs.TaskParts.{atom_of}
+use Rattle.formulas.specs.State.{state_of}
 use Rattle.task_system.specs.PlainStore.{states_of}
-use Rattle.cert_checker.specs.declared.certificate.cert.StateLine.{StateLine}
+use Rattle.certificate.specs.declared.cert.StateLine.{StateLine}
 use Rattle.solver.specs.Listing.{AreLinesFor}
 use Rattle.task_system.proofs.StoreLemmas.{slice_get-or}
 use Rattle.solver.proofs.LoopLemmas.{no_lines, lines_more, lines_all}

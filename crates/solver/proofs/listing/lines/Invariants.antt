@@ -1,5 +1,5 @@
 use Rattle.std.proofs.Common.{map, take}
-use Rattle.validator.specs.TaskParts.{atom_of}
+use Rattle.typing.specs.TaskParts.{atom_of}
 use Rattle.task_system.specs.PlainStore.{states_of}
 use Rattle.solver.specs.Listing.{AreLinesFor}
 use Rattle.solver.proofs.listing.lines.Given as goal

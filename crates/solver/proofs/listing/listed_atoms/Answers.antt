@@ -1,10 +1,10 @@
 use Rattle.std.proofs.Common.{◌++◌, ◌∷◌, [], List, sym, ap, subst, map, ◌∙◌}
 use Rattle.std.specs.List.{each_same}
 use Rattle.std.specs.FinSet.{from_list}
-use Rattle.validator.specs.declared.typing.Atom.{Atom}
-use Rattle.validator.specs.TaskParts.{atom_of, AreInOrder}
-use Rattle.validator.proofs.FormulasStates.{copied, in_order}
-use Rattle.validator.proofs.FormulasEquality.{one_atom}
+use Rattle.typing.specs.declared.atoms.Atom.{Atom}
+use Rattle.typing.specs.TaskParts.{atom_of, AreInOrder}
+use Rattle.formulas.proofs.States.{copied, in_order}
+use Rattle.formulas.proofs.Equality.{one_atom}
 use Rattle.solver.proofs.LoopLemmas.{listed_more, listed_all}
 use Rattle.solver.proofs.listing.listed_atoms.Goals as goal
 

@@ -1,9 +1,9 @@
 use Rattle.std.proofs.Common.{List, ℕ, sym, ap, subst, map, ◌∙◌}
 use Rattle.std.specs.FinSet.{from_list}
-use Rattle.validator.specs.declared.typing.Atom.{Atom}
-use Rattle.validator.specs.TaskParts.{atom_of, AreInOrder}
-use Rattle.validator.specs.Formulas.{state_of}
-use Rattle.validator.proofs.FormulasStates.{in_order}
+use Rattle.typing.specs.declared.atoms.Atom.{Atom}
+use Rattle.typing.specs.TaskParts.{atom_of, AreInOrder}
+use Rattle.formulas.specs.State.{state_of}
+use Rattle.formulas.proofs.States.{in_order}
 use Rattle.solver.proofs.LoopLemmas.{ascending}
 use Rattle.solver.proofs.NumbersLemmas.{NamesSoFar, names_begin, names_more, names_skip, names_end}
 use Rattle.solver.proofs.listing.numbers.Goals as goal

@@ -1,5 +1,5 @@
 use Rattle.std.proofs.Common.{map}
-use Rattle.validator.specs.TaskParts.{atom_of}
+use Rattle.typing.specs.TaskParts.{atom_of}
 use Rattle.solver.proofs.NumbersLemmas.{NamesSoFar}
 use Rattle.solver.proofs.listing.numbers.Given as goal
 

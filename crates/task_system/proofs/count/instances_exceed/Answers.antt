@@ -1,8 +1,8 @@
 use Rattle.std.proofs.Common.{◌∙◌, ◌+◌, ◌^◌, ◌<◌, ◌≤◌, min, sym, ap, length, arith}
 use Rattle.std.specs.Prelude.{slice_get}
 use Rattle.std.proofs.lemmas.Bool.{lt-ltb}
-use Rattle.validator.specs.Typing.{task_of}
-use Rattle.validator.specs.TaskParts.{shape_of}
+use Rattle.typing.specs.Task.{task_of}
+use Rattle.typing.specs.TaskParts.{shape_of}
 use Rattle.model.specs.Instances.{all_instances}
 use Rattle.task_system.proofs.TaskSystemLemmas.{Shape, schema_found, counted}
 use Rattle.task_system.proofs.count.instances_exceed.Goals as goal

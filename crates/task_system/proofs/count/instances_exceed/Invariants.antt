@@ -1,5 +1,5 @@
 use Rattle.std.proofs.Common.{◌≡◌, ◌+◌, ◌≤◌, length, drop}
-use Rattle.validator.specs.Typing.{task_of}
+use Rattle.typing.specs.Task.{task_of}
 use Rattle.model.specs.Instances.{instances_from, all_instances}
 use Rattle.task_system.proofs.count.instances_exceed.Given as goal
 

@@ -1,7 +1,7 @@
 use Rattle.std.proofs.Common.{◌≡◌, ◌++◌, map, drop}
 use Rattle.std.specs.List.{filter_map}
-use Rattle.validator.specs.Typing.{task_of}
-use Rattle.validator.specs.Formulas.{state_of}
+use Rattle.typing.specs.Task.{task_of}
+use Rattle.formulas.specs.State.{state_of}
 use Rattle.model.specs.Instances.{instances_from, leading_to, successors_of}
 use Rattle.task_system.specs.TaskSystem.{successor_of}
 use Rattle.task_system.proofs.expand.successors.Given as goal

@@ -1,10 +1,10 @@
 use Rattle.std.proofs.Common.{◌∙◌, ap, sym, length, subst, ◌≤◌, Some}
 use Rattle.std.specs.Option.{option_map}
 use Rattle.std.proofs.Math.ListN.{length-map}
-use Rattle.validator.specs.Typing.{task_of}
-use Rattle.validator.specs.Formulas.{state_of, instance_of, plan_of}
+use Rattle.typing.specs.Task.{task_of}
+use Rattle.formulas.specs.State.{state_of, instance_of, plan_of}
 use Rattle.model.specs.Meaning.{is_instance, system_of}
-use Rattle.validator.proofs.FormulasTasks.{passes_got}
+use Rattle.model.proofs.Tests.{passes_got}
 use Rattle.validator.proofs.VerdictRuns.{stands, run_more, run_whole, stops, cost-length}
 use Rattle.validator.proofs.verdict.validate.Goals as goal
 

@@ -1,6 +1,6 @@
 use Rattle.std.proofs.Common.{◌≡◌, take, Some}
-use Rattle.validator.specs.Typing.{task_of}
-use Rattle.validator.specs.Formulas.{state_of, plan_of}
+use Rattle.typing.specs.Task.{task_of}
+use Rattle.formulas.specs.State.{state_of, plan_of}
 use Rattle.model.specs.Runs.{run}
 use Rattle.model.specs.Meaning.{system_of}
 use Rattle.validator.proofs.verdict.validate.Given as goal

@@ -1,15 +1,15 @@
 use Rattle.std.proofs.Common.{sym, subst}
 use Rattle.std.specs.Prelude.{MatchOption}
 use Rattle.std.specs.Option.{option_map}
-use Rattle.validator.specs.Typing.{task_of}
-use Rattle.validator.specs.Formulas.{plan_of}
+use Rattle.typing.specs.Task.{task_of}
+use Rattle.formulas.specs.State.{plan_of}
 use Rattle.validator.specs.Verdict.{verdict_of}
 use Rattle.model.specs.Runs.{Solves, IsVerdict}
 use Rattle.model.specs.CertificateRefusals.{plan_dearer, IsFirst}
 use Rattle.model.specs.Meaning.{system_of}
 use Rattle.model.specs.Claims.{ClaimHolds}
 use Rattle.cert_checker.proofs.AnswerLemmas.{unsolved}
-use Rattle.cert_checker.specs.Certificate.{certificate_of}
+use Rattle.certificate.specs.Certificate.{certificate_of}
 use Rattle.cert_checker.proofs.OrderLemmas.{first_invalid, first_dearer}
 use Rattle.cert_checker.proofs.check.answer.answer.Goals as goal
 

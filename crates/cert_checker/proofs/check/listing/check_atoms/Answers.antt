@@ -1,9 +1,9 @@
 use Rattle.std.proofs.Common.{sym, ◌∙◌}
 use Rattle.std.specs.List.{each_same, list_any}
-use Rattle.validator.specs.Typing.{task_of}
-use Rattle.validator.proofs.FormulasStates.{copied}
-use Rattle.validator.proofs.FormulasEquality.{atom_eq}
-use Rattle.cert_checker.specs.Certificate.{certificate_of}
+use Rattle.typing.specs.Task.{task_of}
+use Rattle.formulas.proofs.States.{copied}
+use Rattle.formulas.proofs.Equality.{atom_eq}
+use Rattle.certificate.specs.Certificate.{certificate_of}
 use Rattle.cert_checker.specs.declared.check.code.RefusalCode.TheVariants.{NotFluent, Repeated}
 use Rattle.model.specs.CertificateRefusals.{atom_line}
 use Rattle.cert_checker.proofs.RefusalsLemmas.{told}

@@ -1,6 +1,6 @@
 use Rattle.std.proofs.Common.{◌≡◌, map, take}
-use Rattle.validator.specs.TaskParts.{atom_of}
-use Rattle.validator.specs.Typing.{task_of}
+use Rattle.typing.specs.TaskParts.{atom_of}
+use Rattle.typing.specs.Task.{task_of}
 use Rattle.cert_checker.specs.CheckedLines.{AreFluent}
 use Rattle.cert_checker.proofs.check.listing.check_atoms.Given as goal
 

@@ -2,9 +2,9 @@ use Rattle.std.proofs.Common.{◌<◌, ◌≤◌, ◌∙◌, Some, length, map, 
 use Rattle.std.specs.List.{each_same}
 use Rattle.std.proofs.lemmas.List.{length-map}
 use Rattle.std.proofs.lemmas.Option.{slice_get_past}
-use Rattle.validator.specs.TaskParts.{atom_of}
-use Rattle.validator.specs.Formulas.{state_of}
-use Rattle.validator.proofs.FormulasStates.{copied}
+use Rattle.typing.specs.TaskParts.{atom_of}
+use Rattle.formulas.specs.State.{state_of}
+use Rattle.formulas.proofs.States.{copied}
 use Rattle.cert_checker.proofs.CertCheckerLemmas.{got, slice_get-map, named_more, named_none}
 use Rattle.cert_checker.proofs.check.listing.listed_state.Goals as goal
 

@@ -2,8 +2,8 @@ use Rattle.std.proofs.Common.{◌≡◌, ◌++◌, List, map, take}
 use Rattle.std.specs.Prelude.{slice_get}
 use Rattle.std.specs.List.{filter_map}
 use Rattle.std.specs.FinSet.{from_list}
-use Rattle.validator.specs.TaskParts.{atom_of}
-use Rattle.validator.specs.Formulas.{state_of}
+use Rattle.typing.specs.TaskParts.{atom_of}
+use Rattle.formulas.specs.State.{state_of}
 use Rattle.model.specs.Task.{Atom}
 use Rattle.cert_checker.proofs.check.listing.listed_state.Given as goal
 

@@ -1,9 +1,9 @@
 use Rattle.std.proofs.Common.{◌≡◌, ◌≢◌, ◌++◌, ◌∷◌, [], sym, subst}
 use Rattle.std.specs.Prelude.{AllPairs, Contains, MatchBool}
-use Rattle.validator.specs.Typing.{task_of}
-use Rattle.cert_checker.specs.Certificate.{certificate_of}
-use Rattle.validator.specs.Formulas.{state_of}
-use Rattle.cert_checker.specs.CertificateParts.{line_of}
+use Rattle.typing.specs.Task.{task_of}
+use Rattle.certificate.specs.Certificate.{certificate_of}
+use Rattle.formulas.specs.State.{state_of}
+use Rattle.certificate.specs.CertificateParts.{line_of}
 use Rattle.task_system.specs.PlainStore.{states_of}
 use Rattle.cert_checker.specs.declared.check.code.RefusalCode.TheVariants.{Repeated, CutNotAllowed}
 use Rattle.model.specs.Meaning.{State}

@@ -1,8 +1,8 @@
 use Rattle.std.proofs.Common.{◌≡◌, ◌≢◌, map, take}
 use Rattle.std.specs.Prelude.{AllPairs}
-use Rattle.validator.specs.Typing.{task_of}
-use Rattle.cert_checker.specs.CertificateParts.{line_of}
-use Rattle.cert_checker.specs.Certificate.{certificate_of}
+use Rattle.typing.specs.Task.{task_of}
+use Rattle.certificate.specs.CertificateParts.{line_of}
+use Rattle.certificate.specs.Certificate.{certificate_of}
 use Rattle.task_system.specs.PlainStore.{states_of}
 use Rattle.model.specs.Meaning.{State}
 use Rattle.model.specs.Certificates.{state_of_line}

@@ -1,9 +1,9 @@
 use Rattle.std.proofs.Common.{ap, sym, ◌∙◌}
 use Rattle.std.specs.Prelude.{not}
 use Rattle.std.specs.List.{each_same}
-use Rattle.validator.specs.Typing.{task_of}
-use Rattle.validator.specs.Formulas.{state_of}
-use Rattle.validator.proofs.FormulasStates.{copied}
+use Rattle.typing.specs.Task.{task_of}
+use Rattle.formulas.specs.State.{state_of}
+use Rattle.formulas.proofs.States.{copied}
 use Rattle.model.specs.Task.{Atom}
 use Rattle.model.specs.Certificates.{is_fluent}
 use Rattle.cert_checker.proofs.CertCheckerLemmas.{kept_more}

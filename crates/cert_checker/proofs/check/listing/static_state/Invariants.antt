@@ -1,9 +1,9 @@
 use Rattle.std.proofs.Common.{◌≡◌, map, take}
 use Rattle.std.specs.Prelude.{filter, not}
 use Rattle.std.specs.FinSet.{from_list}
-use Rattle.validator.specs.TaskParts.{atom_of}
-use Rattle.validator.specs.Typing.{task_of}
-use Rattle.validator.specs.Formulas.{state_of}
+use Rattle.typing.specs.TaskParts.{atom_of}
+use Rattle.typing.specs.Task.{task_of}
+use Rattle.formulas.specs.State.{state_of}
 use Rattle.model.specs.Task.{Atom}
 use Rattle.model.specs.Certificates.{is_fluent}
 use Rattle.cert_checker.proofs.check.listing.static_state.Given as goal

@@ -1,6 +1,6 @@
 use Rattle.std.proofs.Common.{inl, inr, refl, arith}
-use Rattle.cert_checker.specs.Certificate.{certificate_of}
-use Rattle.cert_checker.specs.CertificateParts.{claim_of}
+use Rattle.certificate.specs.Certificate.{certificate_of}
+use Rattle.certificate.specs.CertificateParts.{claim_of}
 use Rattle.cert_checker.specs.declared.check.code.RefusalCode.TheVariants.{CutWeak}
 use Rattle.model.specs.CertificateRefusals.{cut_weak, state_line}
 use Rattle.cert_checker.proofs.OrderLemmas.{first_in_line}

@@ -1,8 +1,8 @@
 use Rattle.std.proofs.Common.{sym, ◌∙◌, refl, arith}
-use Rattle.validator.specs.Typing.{task_of}
-use Rattle.cert_checker.specs.Certificate.{certificate_of}
-use Rattle.validator.specs.Formulas.{state_of}
-use Rattle.cert_checker.specs.CertificateParts.{claim_of}
+use Rattle.typing.specs.Task.{task_of}
+use Rattle.certificate.specs.Certificate.{certificate_of}
+use Rattle.formulas.specs.State.{state_of}
+use Rattle.certificate.specs.CertificateParts.{claim_of}
 use Rattle.cert_checker.specs.declared.check.code.RefusalCode.TheVariants.{GoalOpen}
 use Rattle.model.specs.CertificateRefusals.{goal_open, state_line}
 use Rattle.cert_checker.proofs.OrderLemmas.{first_in_line}

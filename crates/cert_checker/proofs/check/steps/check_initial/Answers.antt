@@ -1,6 +1,6 @@
-use Rattle.validator.specs.Typing.{task_of}
-use Rattle.validator.specs.Formulas.{state_of}
-use Rattle.cert_checker.specs.Certificate.{certificate_of}
+use Rattle.typing.specs.Task.{task_of}
+use Rattle.formulas.specs.State.{state_of}
+use Rattle.certificate.specs.Certificate.{certificate_of}
 use Rattle.task_system.specs.PlainStore.{states_of}
 use Rattle.model.specs.Meaning.{initial_state}
 use Rattle.model.specs.Certificates.{lines_of}

@@ -1,8 +1,8 @@
 use Rattle.std.proofs.Common.{ℕ, ◌<◌, List, Option, None, Some, length, ap, arith}
 use Rattle.std.proofs.lemmas.List.{length-map}
-use Rattle.validator.specs.Typing.{task_of}
-use Rattle.cert_checker.specs.CertificateParts.{line_of}
-use Rattle.cert_checker.specs.Certificate.{certificate_of}
+use Rattle.typing.specs.Task.{task_of}
+use Rattle.certificate.specs.CertificateParts.{line_of}
+use Rattle.certificate.specs.Certificate.{certificate_of}
 use Rattle.task_system.specs.PlainStore.{states_of}
 use Rattle.cert_checker.proofs.CertCheckerLemmas.{got, small_cost, line_open_if_ok, line_cut_if_ok}
 use Rattle.cert_checker.specs.CertChecker.{IsFirstRefusal}

@@ -1,13 +1,13 @@
 use Rattle.std.proofs.Common.{◌≡◌, ℕ, List, Option, Some, inl, inr, subst, arith}
 use Rattle.std.specs.Prelude.{slice_get}
 use Rattle.std.proofs.lemmas.Bool.{cases_eq}
-use Rattle.validator.specs.Typing.{task_of}
-use Rattle.cert_checker.specs.Certificate.{certificate_of}
+use Rattle.typing.specs.Task.{task_of}
+use Rattle.certificate.specs.Certificate.{certificate_of}
 use Rattle.model.specs.Certificates.{lines_of}
 use Rattle.model.specs.Task.{Instance}
 use Rattle.cert_checker.specs.CertChecker.{IsFirstRefusal}
 use Rattle.cert_checker.specs.CheckedLines.{IsRightUpTo}
-use Rattle.cert_checker.proofs.AnswerLemmas.{passed_on}
+use Rattle.faults.proofs.Results.{passed_on}
 use Rattle.cert_checker.proofs.FirstLemmas.{right_to_line}
 use Rattle.cert_checker.proofs.CertCheckerLemmas.{lines_within}
 use Rattle.cert_checker.proofs.check.steps.check_lines.Goals as goal

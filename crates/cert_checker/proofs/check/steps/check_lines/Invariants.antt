@@ -1,7 +1,7 @@
 use Rattle.std.proofs.Common.{◌≡◌, ℕ, ◌<◌, Some}
 use Rattle.std.specs.Prelude.{slice_get}
-use Rattle.validator.specs.Typing.{task_of}
-use Rattle.cert_checker.specs.Certificate.{certificate_of}
+use Rattle.typing.specs.Task.{task_of}
+use Rattle.certificate.specs.Certificate.{certificate_of}
 use Rattle.cert_checker.specs.CheckedLines.{IsLineClosed}
 use Rattle.model.specs.Meaning.{State, system_of}
 use Rattle.model.specs.Claims.{Line}

@@ -1,7 +1,7 @@
 use Rattle.std.proofs.Common.{◌∙◌, ◌+◌, ap, subst, map, None, refl}
-use Rattle.validator.specs.Typing.{task_of}
-use Rattle.validator.specs.Formulas.{state_of, instance_of}
-use Rattle.cert_checker.specs.Certificate.{certificate_of}
+use Rattle.typing.specs.Task.{task_of}
+use Rattle.formulas.specs.State.{state_of, instance_of}
+use Rattle.certificate.specs.Certificate.{certificate_of}
 use Rattle.task_system.specs.TaskSystem.{successor_of}
 use Rattle.task_system.specs.PlainStore.{states_of}
 use Rattle.cert_checker.specs.declared.check.code.RefusalCode.TheVariants.{SuccessorMissing, SuccessorDearer}

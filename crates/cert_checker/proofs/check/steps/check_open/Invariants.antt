@@ -1,6 +1,6 @@
 use Rattle.std.proofs.Common.{◌+◌, map, take}
-use Rattle.validator.specs.Typing.{task_of}
-use Rattle.cert_checker.specs.Certificate.{certificate_of}
+use Rattle.typing.specs.Task.{task_of}
+use Rattle.certificate.specs.Certificate.{certificate_of}
 use Rattle.task_system.specs.TaskSystem.{successor_of}
 use Rattle.model.specs.Certificates.{lines_of}
 use Rattle.cert_checker.proofs.CertCheckerLemmas.{AllListed}

@@ -1,7 +1,7 @@
 use Rattle.std.proofs.Common.{◌≡◌, ◌++◌, map, take}
 use Rattle.std.specs.List.{flat_map}
-use Rattle.validator.specs.Typing.{task_of}
-use Rattle.validator.specs.TaskParts.{object_of}
+use Rattle.typing.specs.Task.{task_of}
+use Rattle.typing.specs.TaskParts.{object_of}
 use Rattle.planner_main.specs.Solution.{object_text}
 use Rattle.planner_main.proofs.solve.text.add_step.Given as goal
 

@@ -1,7 +1,7 @@
 use Rattle.std.proofs.Common.{◌≡◌, ◌++◌, [], map, take}
 use Rattle.std.specs.List.{flat_map}
-use Rattle.validator.specs.Typing.{task_of}
-use Rattle.validator.specs.Formulas.{instance_of}
+use Rattle.typing.specs.Task.{task_of}
+use Rattle.formulas.specs.State.{instance_of}
 use Rattle.planner_main.specs.Solution.{step_text}
 use Rattle.planner_main.proofs.solve.text.plan_text.Given as goal
 

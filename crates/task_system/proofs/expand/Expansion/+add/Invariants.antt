@@ -1,8 +1,8 @@
 use Rattle.std.proofs.Common.{◌≡◌, ◌-◌, ◌++◌, map, length}
 use Rattle.std.specs.List.{filter_map}
-use Rattle.validator.specs.Typing.{task_of}
-use Rattle.validator.specs.TaskParts.{object_of}
-use Rattle.validator.specs.Formulas.{state_of}
+use Rattle.typing.specs.Task.{task_of}
+use Rattle.typing.specs.TaskParts.{object_of}
+use Rattle.formulas.specs.State.{state_of}
 use Rattle.model.specs.Instances.{tuples, leading_to}
 use Rattle.task_system.specs.TaskSystem.{successor_of}
 use Rattle.task_system.proofs.TaskSystemLemmas.{begun_below}

@@ -1,5 +1,5 @@
-use Rattle.validator.specs.Typing.{task_of}
-use Rattle.validator.specs.Formulas.{state_of}
+use Rattle.typing.specs.Task.{task_of}
+use Rattle.formulas.specs.State.{state_of}
 use Rattle.task_system.proofs.TaskSystemLemmas.{if_successors}
 use Rattle.task_system.proofs.system.TaskSystemTransitionSystem.successors.Goals as goal
 

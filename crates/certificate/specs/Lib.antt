@@ -1,0 +1,2 @@
+pub mod CertificateParts
+pub mod Certificate

@@ -1,0 +1,149 @@
+//! Certificates in memory.
+ghost use Rattle.std.specs.Prelude.{◌≡◌, IsTrue, length, map};
+ghost use Rattle.std.specs.List.{list_all};
+ghost use Rattle.model.specs.Certificates.{is_number, is_claim, rise, is_state_line, keeps_limits};
+ghost use Rattle.certificate.specs.CertificateParts.{claim_of, line_of, certificate_of_parts};
+
+use typing::Atom;
+
+/// The most atoms that a certificate may have.
+pub const MAX_ATOMS: usize = 1_048_576;
+
+/// The most state lines that a certificate may have.
+pub const MAX_STATE_LINES: usize = 16_777_216;
+
+/// Each cost and each bound in a certificate is below this number, 2 to the power 60.
+pub const NUMBER_LIMIT: u64 = 1_152_921_504_606_846_976;
+
+/// What a certificate claims of all plans.
+#[derive(Clone, Copy, Debug, PartialEq, Eq)]
+pub enum Claim {
+    /// Every plan that solves the task costs at least this.
+    Bound(u64),
+    /// No plan solves the task.
+    Unsolvable,
+}
+
+/// A state of the listing: open, so that all its successors are listed too, or cut.
+#[derive(Debug, Drop)]
+pub struct StateLine {
+    /// The cost at which the state is listed.
+    pub cost: u64,
+    /// Of a cut, a lower bound of what is still to pay from the state on; `None` for an open state.
+    pub cut: Option<u64>,
+    /// The state's fluent atoms, by their places, from 0, among the certificate's atoms.
+    pub atoms: Vec<u32>,
+}
+
+/// A claim with the listing of states that is to show it, within the limits of a certificate's text: at most
+/// 1,048,576 atoms and 16,777,216 state lines, each number below 2 to the power 60, and the atoms of each line
+/// strictly rising and below the count of atoms.
+#[derive(Drop)]
+pub struct Cert {
+    claim: Claim,
+    atoms: Vec<Atom>,
+    lines: Vec<StateLine>,
+    ghost within_limits: { IsTrue (keeps_limits (certificate_of_parts claim atoms.items lines.items)) },
+}
+
+impl Cert {
+    ghost use Rattle.std.specs.Prelude.{is_some, IfSome, ◌≤◌};
+    ghost use Rattle.certificate.specs.Certificate.{certificate_of};
+    ghost use Rattle.certificate.specs.declared.cert.TheConstants.{MAX_ATOMS, MAX_STATE_LINES};
+    ghost use Rattle.typing.specs.TaskParts.{atom_of};
+
+    /// The certificate of these parts, and `None` where they exceed a limit of a certificate's text.
+    pub fn new(claim: Claim, atoms: Vec<Atom>, lines: Vec<StateLine>) -> Option<Cert>
+        ensures within { is_some result ≡ keeps_limits (certificate_of_parts claim atoms.items lines.items) }
+        ensures parts { IfSome result (λ c. certificate_of c ≡ certificate_of_parts claim atoms.items lines.items) }
+    {
+        if is_claim(claim)
+            && atoms.len() <= MAX_ATOMS
+            && lines.len() <= MAX_STATE_LINES
+            && are_state_lines(&lines, atoms.len())
+        {
+            Some(Cert {
+                claim,
+                atoms,
+                lines,
+            })
+        } else {
+            None
+        }
+    }
+
+    /// What it claims of all plans.
+    pub fn claim(&self) -> Claim
+        ensures { claim_of result ≡ (certificate_of self.now).claim }
+    {
+        self.claim
+    }
+
+    /// Its atoms, which its lines name by their places here, from 0.
+    pub fn atoms(&self) -> &[Atom]
+        ensures atoms { map atom_of result.now ≡ (certificate_of self.now).atoms }
+        ensures at_most { length result.now ≤ MAX_ATOMS }
+    {
+        self.atoms.as_slice()
+    }
+
+    /// Its state lines, in order.
+    pub fn lines(&self) -> &[StateLine]
+        ensures lines { map line_of result.now ≡ (certificate_of self.now).lines }
+        ensures at_most { length result.now ≤ MAX_STATE_LINES }
+        ensures within_limits { IsTrue (list_all (is_state_line (length (certificate_of self.now).atoms)) (map line_of result.now)) }
+    {
+        self.lines.as_slice()
+    }
+}
+
+/// Whether the number may stand in a certificate.
+fn is_number(number: u64) -> bool
+    ensures { result ≡ is_number number }
+{
+    number < NUMBER_LIMIT
+}
+
+/// Whether the claim may stand in a certificate.
+fn is_claim(claim: Claim) -> bool
+    ensures { result ≡ is_claim (claim_of claim) }
+{
+    match claim {
+        Claim::Bound(least) => is_number(least),
+        Claim::Unsolvable => true,
+    }
+}
+
+/// Whether each line may stand in a certificate of this many atoms.
+fn are_state_lines(lines: &[StateLine], atom_count: usize) -> bool
+    ensures { result ≡ list_all (is_state_line atom_count) (map line_of lines.now) }
+{
+    for line in lines {
+        if !is_state_line(line, atom_count) {
+            return false;
+        }
+    }
+    true
+}
+
+/// Whether the line may stand in a certificate of this many atoms.
+fn is_state_line(line: &StateLine, atom_count: usize) -> bool
+    ensures { result ≡ is_state_line atom_count (line_of line.now) }
+{
+    is_number(line.cost) && line.cut.is_none_or(is_number) && rise(&line.atoms, atom_count)
+}
+
+/// Whether the numbers are strictly rising and below the count.
+fn rise(numbers: &[u32], atom_count: usize) -> bool
+    ensures { result ≡ rise atom_count 0 numbers.now }
+{
+    let mut least = 0;
+    for number in numbers {
+        let number = *number as usize;
+        if number < least || number >= atom_count {
+            return false;
+        }
+        least = number + 1;
+    }
+    true
+}

@@ -1,0 +1,104 @@
+//! Devices: where bytes come from, and where they go. A device may fail at any call.
+ghost use Rattle.std.specs.Prelude.{◌≡◌, ℕ, ◌<◌, List, Option, length, IfOk, OnOk, None};
+ghost use Rattle.std.specs.Io.{ReadsAtMost, WritesAtMost};
+ghost use Rattle.std.specs.Io.KnownBytes.{Appends, ReadConsumes, WriteAppends};
+ghost use Rattle.devices.specs.Devices.{AppendsBeginning, Counts, CountsDevice};
+
+use std::alloc::{AllocError, AllocFailed};
+use thiserror::Error;
+
+/// The device failed in this call.
+#[derive(Clone, Copy, Debug, PartialEq, Eq, Error)]
+#[error("device failed")]
+pub struct DeviceFault;
+
+/// Why a write, or a call on files, did not succeed.
+#[derive(Clone, Copy, Debug, PartialEq, Eq, Error)]
+pub enum WriteFault {
+    /// The device failed in this call.
+    #[error("device failed")]
+    Device,
+    /// Memory that was asked for was refused. The device did not fail.
+    #[error("out of memory")]
+    NoMemory,
+}
+
+impl From<DeviceFault> for WriteFault {
+    ghost use Rattle.std.specs.Prelude.{◌≡◌};
+    ghost use Rattle.devices.specs.declared.device.WriteFault.TheVariants.{Device as device_failed};
+
+    ghost from_gives = { λ _ fault. fault ≡ device_failed };
+
+    fn from(_fault: DeviceFault) -> WriteFault {
+        WriteFault::Device
+    }
+}
+
+impl From<AllocError> for WriteFault {
+    ghost use Rattle.std.specs.Prelude.{◌≡◌};
+    ghost use Rattle.devices.specs.declared.device.WriteFault.TheVariants.{NoMemory};
+
+    ghost from_gives = { λ _ fault. fault ≡ NoMemory };
+
+    fn from(_error: AllocError) -> WriteFault {
+        WriteFault::NoMemory
+    }
+}
+
+impl<T: Drop> From<AllocFailed<T>> for WriteFault {
+    ghost use Rattle.std.specs.Prelude.{◌≡◌};
+    ghost use Rattle.devices.specs.declared.device.WriteFault.TheVariants.{NoMemory};
+
+    ghost from_gives = { λ _ fault. fault ≡ NoMemory };
+
+    fn from(_error: AllocFailed<T>) -> WriteFault {
+        WriteFault::NoMemory
+    }
+}
+
+/// Where bytes come from.
+pub trait Source {
+    /// How often the device has failed. At 18446744073709551615 the count stays.
+    ghost failures: { Self → ℕ };
+
+    /// The bytes that reads will give from here on, where the device tells them.
+    ghost remaining: { Self → Option (List ℕ) } = { λ _. None };
+
+    /// Reads some bytes into the room that is lent, and tells how many. 0 for room that is not empty means
+    /// the end. An interrupted call has failed.
+    fn read(&mut self, into: &mut [u8]) -> Result<usize, DeviceFault>
+        ensures bound { ReadsAtMost result into.new }
+        ensures bytes { ReadConsumes (remaining self.old) (remaining self.new) result into.new }
+        ensures failures { Counts (failures self.old) (failures self.new) result };
+}
+
+/// Where bytes go.
+pub trait Sink {
+    /// How often the device has failed. At 18446744073709551615 the count stays.
+    ghost failures: { Self → ℕ };
+
+    /// The bytes that it has taken, where the device tells them.
+    ghost taken: { Self → Option (List ℕ) } = { λ _. None };
+
+    /// Takes some of the bytes, and tells how many. A device that takes nothing of a piece that is not empty
+    /// has failed, and so has an interrupted call.
+    fn write(&mut self, piece: &[u8]) -> Result<usize, WriteFault>
+        ensures bound { WritesAtMost result piece.now }
+        ensures progress { 0 < length piece.now → IfOk result (λ count. 0 < count) }
+        ensures bytes { WriteAppends (taken self.old) (taken self.new) result piece.now }
+        ensures failures { CountsDevice (failures self.old) (failures self.new) result };
+}
+
+/// Writes all of the bytes. A sink that fails has taken some beginning of them.
+pub fn write_all<S: Sink>(sink: &mut S, bytes: &[u8]) -> Result<(), WriteFault>
+    ensures ok { OnOk result (Appends (S.taken sink.old) (S.taken sink.new) bytes.now) }
+    ensures beginning { AppendsBeginning (S.taken sink.old) (S.taken sink.new) bytes.now }
+    ensures failures { CountsDevice (S.failures sink.old) (S.failures sink.new) result }
+{
+    let mut rest = bytes;
+    'writes: while !rest.is_empty() {
+        let count = sink.write(rest)?;
+        rest = &rest[count..];
+    }
+    Ok(())
+}

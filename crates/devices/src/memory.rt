@@ -1,0 +1,202 @@
+//! Devices over memory, and devices that fail, for tests.
+ghost use Rattle.std.specs.Prelude.{◌≡◌, ◌<◌, ◌≤◌, drop, vec_len, Some, []};
+ghost use Rattle.devices.specs.Devices.{one_more};
+
+use crate::device::{DeviceFault, Sink, Source, WriteFault};
+use std::alloc::Global;
+
+/// A device over bytes in memory: reads give what is left of them, and writes go to their end. It never fails.
+#[derive(Drop)]
+pub struct Memory {
+    bytes: Vec<u8>,
+    next: usize,
+    ghost in_range: { next ≤ vec_len bytes },
+}
+
+impl Memory {
+    /// A source of these bytes, and a sink that holds them.
+    pub fn new(bytes: Vec<u8>) -> Memory
+        ensures source { ⟦<Memory as Source>⟧.remaining result ≡ Some bytes.items }
+        ensures sink { ⟦<Memory as Sink>⟧.taken result ≡ Some bytes.items }
+    {
+        Memory { bytes, next: 0 }
+    }
+
+    /// A sink that holds nothing yet.
+    pub fn empty(alloc: Global) -> Memory
+        ensures { ⟦<Memory as Sink>⟧.taken result ≡ Some [] }
+    {
+        Memory::new(Vec::new(alloc))
+    }
+
+    /// All bytes that it holds, those that were read too.
+    pub fn as_slice(&self) -> &[u8]
+        ensures { Some result.now ≡ ⟦<Memory as Sink>⟧.taken self.now }
+    {
+        self.bytes.as_slice()
+    }
+
+    /// All bytes that it holds, those that were read too.
+    pub fn into_vec(self) -> Vec<u8>
+        ensures { Some result.items ≡ ⟦<Memory as Sink>⟧.taken self }
+    {
+        self.bytes
+    }
+}
+
+impl Source for Memory {
+    ghost failures = { λ device. 0 };
+
+    ghost remaining = { λ device. Some (drop device.next device.bytes.items) };
+
+    fn read(&mut self, into: &mut [u8]) -> Result<usize, DeviceFault> {
+        let rest = &self.bytes.as_slice()[self.next..];
+        let count = rest.len().min(into.len());
+        into[..count].copy_from_slice(&rest[..count]);
+        self.next += count;
+        Ok(count)
+    }
+}
+
+impl Sink for Memory {
+    ghost failures = { λ device. 0 };
+
+    ghost taken = { λ device. Some device.bytes.items };
+
+    fn write(&mut self, piece: &[u8]) -> Result<usize, WriteFault> {
+        match self.bytes.extend_from_slice(piece) {
+            Ok(()) => Ok(piece.len()),
+            Err(_) => Err(WriteFault::NoMemory),
+        }
+    }
+}
+
+/// A device that moves at most so many bytes at a call.
+#[derive(Drop)]
+pub struct InPieces<D> {
+    /// The device in it.
+    pub inner: D,
+    length: usize,
+    ghost some: { 0 < length },
+}
+
+impl<D> InPieces<D> {
+    /// The device, cut into pieces of this length.
+    pub fn new(inner: D, length: usize) -> InPieces<D>
+        requires { 0 < length }
+        ensures { result.inner ≡ inner }
+    {
+        InPieces { inner, length }
+    }
+}
+
+impl<S: Source> Source for InPieces<S> {
+    ghost failures = { λ device. S.failures device.inner };
+
+    ghost remaining = { λ device. S.remaining device.inner };
+
+    fn read(&mut self, into: &mut [u8]) -> Result<usize, DeviceFault> {
+        let count = self.length.min(into.len());
+        self.inner.read(&mut into[..count])
+    }
+}
+
+impl<S: Sink> Sink for InPieces<S> {
+    ghost failures = { λ device. S.failures device.inner };
+
+    ghost taken = { λ device. S.taken device.inner };
+
+    fn write(&mut self, piece: &[u8]) -> Result<usize, WriteFault> {
+        let count = self.length.min(piece.len());
+        self.inner.write(&piece[..count])
+    }
+}
+
+/// A device that fails at one call, and else does what the device in it does.
+#[derive(Drop)]
+pub struct FailsAt<D> {
+    /// The device in it.
+    pub inner: D,
+    // how many calls succeed before the one that fails, and `None` where none will
+    calls_before: Option<u64>,
+    failures: u64,
+}
+
+impl<D> FailsAt<D> {
+    /// The device, failing once, at the call after so many; at `None` it never fails of itself.
+    pub fn new(inner: D, calls_before: Option<u64>) -> FailsAt<D>
+        ensures { result.inner ≡ inner }
+    {
+        FailsAt {
+            inner,
+            calls_before,
+            failures: 0,
+        }
+    }
+
+    /// Whether the call that begins is the one that fails.
+    fn is_failing_call(&mut self) -> bool
+        ensures inner { self.new.inner ≡ self.old.inner }
+        ensures failures { self.new.failures ≡ self.old.failures }
+    {
+        match self.calls_before {
+            Some(0) => {
+                self.calls_before = None;
+                true
+            }
+            Some(calls) => {
+                self.calls_before = Some(calls - 1);
+                false
+            }
+            None => false,
+        }
+    }
+
+    fn count_failure(&mut self)
+        ensures inner { self.new.inner ≡ self.old.inner }
+        ensures failures { self.new.failures ≡ one_more self.old.failures }
+    {
+        self.failures = self.failures.saturating_add(1);
+    }
+}
+
+impl<S: Source> Source for FailsAt<S> {
+    ghost failures = { λ device. device.failures };
+
+    ghost remaining = { λ device. S.remaining device.inner };
+
+    fn read(&mut self, into: &mut [u8]) -> Result<usize, DeviceFault> {
+        if self.is_failing_call() {
+            self.count_failure();
+            return Err(DeviceFault);
+        }
+        match self.inner.read(into) {
+            Ok(count) => Ok(count),
+            Err(fault) => {
+                self.count_failure();
+                Err(fault)
+            }
+        }
+    }
+}
+
+impl<S: Sink> Sink for FailsAt<S> {
+    ghost failures = { λ device. device.failures };
+
+    ghost taken = { λ device. S.taken device.inner };
+
+    fn write(&mut self, piece: &[u8]) -> Result<usize, WriteFault> {
+        if self.is_failing_call() {
+            self.count_failure();
+            return Err(WriteFault::Device);
+        }
+        match self.inner.write(piece) {
+            Ok(count) => Ok(count),
+            Err(WriteFault::Device) => {
+                self.count_failure();
+                Err(WriteFault::Device)
+            }
+            Err(WriteFault::NoMemory) => Err(WriteFault::NoMemory),
+        }
+    }
+}

@@ -1,0 +1,64 @@
+//! Devices over the system's readers and writers.
+ghost use Rattle.std.specs.Prelude.{◌≡◌};
+ghost use Rattle.devices.specs.Devices.{one_more};
+
+use crate::device::{DeviceFault, Sink, Source, WriteFault};
+use std::io::{Read, Write};
+
+/// A reader or a writer of the standard library, with a count of its failures.
+#[derive(Drop)]
+pub struct Device<T> {
+    inner: T,
+    failures: u64,
+}
+
+impl<T> Device<T> {
+    /// A device that has not failed yet.
+    pub fn new(inner: T) -> Device<T> {
+        Device { inner, failures: 0 }
+    }
+
+    /// What it is over.
+    pub fn into_inner(self) -> T {
+        self.inner
+    }
+
+    fn count_failure(&mut self)
+        ensures inner { self.new.inner ≡ self.old.inner }
+        ensures failures { self.new.failures ≡ one_more self.old.failures }
+    {
+        self.failures = self.failures.saturating_add(1);
+    }
+}
+
+impl<R: Read> Source for Device<R> {
+    ghost failures = { λ device. device.failures };
+
+    ghost remaining = { λ device. R.remaining device.inner };
+
+    fn read(&mut self, into: &mut [u8]) -> Result<usize, DeviceFault> {
+        match self.inner.read(into) {
+            Ok(count) => Ok(count),
+            Err(_) => {
+                self.count_failure();
+                Err(DeviceFault)
+            }
+        }
+    }
+}
+
+impl<W: Write> Sink for Device<W> {
+    ghost failures = { λ device. device.failures };
+
+    ghost taken = { λ device. W.contents device.inner };
+
+    fn write(&mut self, piece: &[u8]) -> Result<usize, WriteFault> {
+        match self.inner.write(piece) {
+            Ok(count) if count > 0 || piece.is_empty() => Ok(count),
+            _ => {
+                self.count_failure();
+                Err(WriteFault::Device)
+            }
+        }
+    }
+}

@@ -1,0 +1,43 @@
+-- The codes' numbers, and what a fault tells in the model's terms.
+use Rattle.std.specs.Prelude.{ℕ, Option, None, Some}
+use Rattle.faults.specs.declared.code.Code.{Code}
+use Rattle.faults.specs.declared.code.Code.TheVariants.{BadByte, BadWord, Unbalanced, TooDeep, TooLong, Trailing, BadForm, UnknownSection, RepeatedSection, MissingSection, UnknownRequirement, LeftOut, Duplicate, UnknownName, WrongArity, DomainMismatch, TooMany, PlanForm, UnknownAction, StepArity, StepType}
+use Rattle.faults.specs.declared.refused.Refusal.{Refusal}
+use Rattle.faults.specs.declared.refused.Refused.{Refused}
+use Rattle.faults.specs.declared.refused.Refused.TheVariants.{At, NoMemory}
+use Rattle.model.specs.Fault as told
+
+abbrev pub number_of : Code → ℕ
+number_of BadByte = 1
+number_of BadWord = 2
+number_of Unbalanced = 3
+number_of TooDeep = 4
+number_of TooLong = 5
+number_of Trailing = 6
+number_of BadForm = 7
+number_of UnknownSection = 8
+number_of RepeatedSection = 9
+number_of MissingSection = 10
+number_of UnknownRequirement = 11
+number_of LeftOut = 12
+number_of Duplicate = 16
+number_of UnknownName = 17
+number_of WrongArity = 18
+number_of DomainMismatch = 21
+number_of TooMany = 25
+number_of PlanForm = 30
+number_of UnknownAction = 32
+number_of StepArity = 33
+number_of StepType = 34
+
+-- what a refusal tells
+abbrev pub refusal_of : Refusal → told.Fault
+refusal_of r = record { code = number_of r.code; span = record { start = r.span.start; end = r.span.end } }
+
+abbrev pub Fault : Type 0
+Fault = Refused Refusal
+
+-- the fault that is told of the text, and None where it is want of memory
+abbrev pub told_by : Fault → Option told.Fault
+told_by (At r) = Some (refusal_of r)
+told_by NoMemory = None

@@ -1,0 +1,7 @@
+pub mod States
+pub mod Equality
+pub mod Trees
+pub mod Tasks
+pub mod Changes
+pub mod Instances
+pub mod FluentPredicates

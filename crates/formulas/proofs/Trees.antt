@@ -1,0 +1,104 @@
+-- The parts of a conjunction as a list: what formulas and effects mean, part by part.
+use Rattle.std.specs.Prelude.{◌≡◌, ℕ, true, ◌&&◌, List, [], ◌∷◌, ◌++◌, IsTrue, refl}
+use Rattle.std.proofs.Common.{sym, ◌∙◌, ap}
+use Rattle.std.specs.Global.{Vec}
+use Rattle.std.specs.List.{list_all, flat_map}
+use mathlib.Core.Former.{Count}
+use Rattle.typing.specs.declared.schemas.Formula.{Formula, And', Row_of-Formula, end_of-Formula, more_of-Formula, items-the_row-Formula, items_hidden-the_row-Formula-0}
+use Rattle.typing.specs.declared.schemas.Formula as formula
+use Rattle.typing.specs.declared.schemas.Effect.{Effect, Row_of-Effect, end_of-Effect, more_of-Effect, items-the_row-Effect, items_hidden-the_row-Effect-0}
+use Rattle.typing.specs.declared.schemas.Effect as effect
+use Rattle.typing.specs.TaskParts.{formula_of, formulas_of, effect_of, effects_of}
+use Rattle.model.specs.Task as task
+use Rattle.model.specs.WellTyped.{is_formula, are_formulas, is_effect, are_effects}
+use Rattle.model.specs.Meaning.{State, holds, all_hold, changes_of, changes_of_all}
+
+-- ---- formulas
+
+abbrev pub formulas_in : List Formula → task.Formulas
+formulas_in [] = task.no_formula
+formulas_in (part ∷ rest) = task.more_formulas (formula_of part) (formulas_in rest)
+
+formulas_row : (n : _) (row : Row_of-Formula n) → formulas_of row ≡ formulas_in (items-the_row-Formula n row)
+formulas_row n end_of-Formula = refl
+formulas_row n (more_of-Formula part rest) = ap (task.more_formulas (formula_of part)) (formulas_row _ rest)
+
+abbrev formula_row : Formula → (n : Count) × Row_of-Formula n
+formula_row (formula.And' _ row) = (_, row)
+formula_row _ = (_, end_of-Formula)
+
+pub formula_of-And : (parts : Vec Formula) → formula_of (formula.And parts) ≡ task.and (formulas_in parts.items)
+formula_of-And parts =
+    let row = formula_row (formula.And parts) in
+    ap task.and (formulas_row row.0 row.1 ∙ ap formulas_in (items_hidden-the_row-Formula-0 parts))
+
+pub all_hold-list : (binding : List ℕ) (s : State) (parts : List Formula) → all_hold (formulas_in parts) binding s ≡ list_all (λ part. holds (formula_of part) binding s) parts
+all_hold-list binding s [] = refl
+all_hold-list binding s (part ∷ rest) = ap (λ b. holds (formula_of part) binding s && b) (all_hold-list binding s rest)
+
+pub are_formulas-list : (t : task.Task) (scope : ℕ) (parts : List Formula) → are_formulas t scope (formulas_in parts) ≡ list_all (λ part. is_formula t scope (formula_of part)) parts
+are_formulas-list t scope [] = refl
+are_formulas-list t scope (part ∷ rest) = ap (λ b. is_formula t scope (formula_of part) && b) (are_formulas-list t scope rest)
+
+-- a conjunction holds where each part does
+pub holds-And : (binding : List ℕ) (s : State) (parts : Vec Formula) → holds (formula_of (formula.And parts)) binding s ≡ list_all (λ part. holds (formula_of part) binding s) parts.items
+holds-And binding s parts = ap (λ f. holds f binding s) (formula_of-And parts) ∙ all_hold-list binding s parts.items
+
+pub is_formula-And : (t : task.Task) (scope : ℕ) (parts : Vec Formula) → is_formula t scope (formula_of (formula.And parts)) ≡ list_all (λ part. is_formula t scope (formula_of part)) parts.items
+is_formula-And t scope parts = ap (is_formula t scope) (formula_of-And parts) ∙ are_formulas-list t scope parts.items
+
+-- the same of a formula that is a conjunction
+pub holds_by_parts : (binding : List ℕ) (s : State) (f : Formula) (parts : Vec Formula) (items : List Formula) → f ≡ formula.And parts → items ≡ parts.items
+    → holds (formula_of f) binding s ≡ list_all (λ part. holds (formula_of part) binding s) items
+holds_by_parts binding s f parts items is same =
+    ap (λ g. holds (formula_of g) binding s) is ∙ holds-And binding s parts ∙ ap (list_all (λ part. holds (formula_of part) binding s)) (sym same)
+
+pub typed_by_parts : (t : task.Task) (scope : ℕ) (f : Formula) (parts : Vec Formula) (items : List Formula) → f ≡ formula.And parts → items ≡ parts.items
+    → IsTrue (is_formula t scope (formula_of f)) → list_all (λ part. is_formula t scope (formula_of part)) items ≡ true
+typed_by_parts t scope f parts items is same typed =
+    ap (list_all (λ part. is_formula t scope (formula_of part))) same ∙ sym (ap (λ g. is_formula t scope (formula_of g)) is ∙ is_formula-And t scope parts) ∙ typed
+
+-- ---- effects
+
+abbrev pub effects_in : List Effect → task.Effects
+effects_in [] = task.no_effect
+effects_in (part ∷ rest) = task.more_effects (effect_of part) (effects_in rest)
+
+effects_row : (n : _) (row : Row_of-Effect n) → effects_of row ≡ effects_in (items-the_row-Effect n row)
+effects_row n end_of-Effect = refl
+effects_row n (more_of-Effect part rest) = ap (task.more_effects (effect_of part)) (effects_row _ rest)
+
+abbrev effect_row : Effect → (n : Count) × Row_of-Effect n
+effect_row (effect.And' _ row) = (_, row)
+effect_row _ = (_, end_of-Effect)
+
+pub effect_of-And : (parts : Vec Effect) → effect_of (effect.And parts) ≡ task.both (effects_in parts.items)
+effect_of-And parts =
+    let row = effect_row (effect.And parts) in
+    ap task.both (effects_row row.0 row.1 ∙ ap effects_in (items_hidden-the_row-Effect-0 parts))
+
+pub are_effects-list : (t : task.Task) (scope : ℕ) (parts : List Effect) → are_effects t scope (effects_in parts) ≡ list_all (λ part. is_effect t scope (effect_of part)) parts
+are_effects-list t scope [] = refl
+are_effects-list t scope (part ∷ rest) = ap (λ b. is_effect t scope (effect_of part) && b) (are_effects-list t scope rest)
+
+pub is_effect-And : (t : task.Task) (scope : ℕ) (parts : Vec Effect) → is_effect t scope (effect_of (effect.And parts)) ≡ list_all (λ part. is_effect t scope (effect_of part)) parts.items
+is_effect-And t scope parts = ap (is_effect t scope) (effect_of-And parts) ∙ are_effects-list t scope parts.items
+
+changes_of_all-list : (binding : List ℕ) (parts : List Effect) → changes_of_all (effects_in parts) binding ≡ flat_map (λ part. changes_of (effect_of part) binding) parts
+changes_of_all-list binding [] = refl
+changes_of_all-list binding (part ∷ rest) = ap (λ l. changes_of (effect_of part) binding ++ l) (changes_of_all-list binding rest)
+
+-- the changes of a conjunction are those of its parts, one part after another
+pub changes_of-And : (binding : List ℕ) (parts : Vec Effect) → changes_of (effect_of (effect.And parts)) binding ≡ flat_map (λ part. changes_of (effect_of part) binding) parts.items
+changes_of-And binding parts = ap (λ e. changes_of e binding) (effect_of-And parts) ∙ changes_of_all-list binding parts.items
+
+-- the same of an effect that is a conjunction
+pub changes_by_parts : (binding : List ℕ) (e : Effect) (parts : Vec Effect) (items : List Effect) → e ≡ effect.And parts → items ≡ parts.items
+    → changes_of (effect_of e) binding ≡ flat_map (λ part. changes_of (effect_of part) binding) items
+changes_by_parts binding e parts items is same =
+    ap (λ g. changes_of (effect_of g) binding) is ∙ changes_of-And binding parts ∙ ap (flat_map (λ part. changes_of (effect_of part) binding)) (sym same)
+
+pub typed_by_effects : (t : task.Task) (scope : ℕ) (e : Effect) (parts : Vec Effect) (items : List Effect) → e ≡ effect.And parts → items ≡ parts.items
+    → IsTrue (is_effect t scope (effect_of e)) → list_all (λ part. is_effect t scope (effect_of part)) items ≡ true
+typed_by_effects t scope e parts items is same typed =
+    ap (list_all (λ part. is_effect t scope (effect_of part))) same ∙ sym (ap (λ g. is_effect t scope (effect_of g)) is ∙ is_effect-And t scope parts) ∙ typed

@@ -1,0 +1,62 @@
+use Rattle.std.proofs.Common.{rules, ◌∙◌, ap, sym, map, length}
+use Rattle.typing.specs.declared.schemas.Effect.{the_lemmas}
+use Rattle.typing.specs.Task.{task_of}
+use Rattle.formulas.specs.State.{state_of}
+use Rattle.typing.specs.TaskParts.{object_of, effect_of, lifted_atom_of}
+use Rattle.model.specs.Meaning.{ground_atom, changes_of}
+use Rattle.std.specs.FinSet.{insert}
+use Rattle.model.specs.WellTyped.{is_effect}
+use Rattle.model.proofs.Atoms.{union-none, union-one}
+use Rattle.formulas.proofs.Changes.{with, with_more, with_whole}
+use Rattle.formulas.proofs.Tasks.{terms_few, lifted_bound}
+use Rattle.model.proofs.Tests.{passes_at}
+use Rattle.formulas.proofs.Trees.{changes_by_parts, typed_by_effects}
+use Rattle.formulas.proofs.change.+add_atoms.Goals as goal
+
+pub ground_atom-requires : goal.ground_atom-requires
+ground_atom-requires t c =
+    let task = task_of c.args.task.now in
+    let scope = length c.args.binding.now.items in
+    let typed = ap (λ e. is_effect task scope (effect_of e)) (sym c.in-Add.is) ∙ c.requires in
+    record {
+      few = terms_few task scope c.in-Add.atom c.args.task.now.well_typed typed;
+      bound = lifted_bound task scope (lifted_atom_of c.in-Add.atom) typed;
+    }
+
+pub loop-part-init : goal.loop-part-init
+loop-part-init t c = sym (union-none (state_of c.args.state.now))
+
+pub add_atoms-requires : goal.add_atoms-requires
+add_atoms-requires t c =
+    let task = task_of c.args.task.now in
+    let scope = length c.args.binding.now.items in (
+      search (rules, the_lemmas),
+      passes_at (λ part. is_effect task scope (effect_of part)) c.deref-part-items.result.now c.loop-part.part-index c.part-item.result c.loop-part-test.true c.part-item.is
+          (typed_by_effects task scope c.args.effect.now c.in-And.parts c.deref-part-items.result.now c.in-And.is c.deref-part-items.ensures.value c.requires),
+    )
+
+pub loop-part-preserved : goal.loop-part-preserved
+loop-part-preserved t c =
+    let binding = map object_of c.args.binding.now.items in
+    with_more (λ part. changes_of (effect_of part) binding) (state_of c.args.state.now) c.deref-part-items.result.now c.loop-part.part-index c.part-item.result
+    (state_of c.loop-part.state) (state_of c.add_atoms.new.state) c.loop-part-test.true c.part-item.is c.loop-part.invariant c.in_ok-add_atoms-in-And.ensures
+
+pub returns-in_ok-insert-in-Add : goal.returns-in_ok-insert-in-Add
+returns-in_ok-insert-in-Add t c =
+    let binding = map object_of c.args.binding.now.items in
+    let s = state_of c.args.state.now in
+    c.in_ok-insert-in-Add.ensures ∙ ap (insert s) c.ground_atom.ensures
+    ∙ sym (ap (λ e. with s (changes_of (effect_of e) binding)) c.in-Add.is ∙ union-one s (ground_atom binding (lifted_atom_of c.in-Add.atom)))
+
+pub returns-in-Delete : goal.returns-in-Delete
+returns-in-Delete t c =
+    let binding = map object_of c.args.binding.now.items in
+    let s = state_of c.args.state.now in
+    sym (ap (λ e. with s (changes_of (effect_of e) binding)) c.in-Delete.is ∙ union-none s)
+
+pub returns-after-loop-part : goal.returns-after-loop-part
+returns-after-loop-part t c =
+    let binding = map object_of c.args.binding.now.items in
+    let s = state_of c.args.state.now in
+    with_whole (λ part. changes_of (effect_of part) binding) s c.deref-part-items.result.now c.loop-part.part-index (state_of c.loop-part.state) c.loop-part-test.false c.loop-part.invariant
+    ∙ ap (with s) (sym (changes_by_parts binding c.args.effect.now c.in-And.parts c.deref-part-items.result.now c.in-And.is c.deref-part-items.ensures.value))

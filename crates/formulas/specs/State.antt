@@ -1,0 +1,24 @@
+-- States, instances and plans of the code, in the model's terms.
+use Rattle.std.specs.Prelude.{ℕ, Bool, true, nat_lt, List, map}
+use Rattle.std.specs.FinSet.{from_list}
+use Rattle.formulas.specs.declared.state.State.{State}
+use Rattle.formulas.specs.declared.instance.Instance.{Instance}
+use Rattle.formulas.specs.declared.plan.Plan.{Plan}
+use Rattle.typing.specs.TaskParts.{atom_of, object_of}
+use Rattle.model.specs.Task as task
+use Rattle.model.specs.Meaning as meaning
+
+abbrev pub state_of : State → meaning.State
+state_of s = from_list (map atom_of s.atoms.keys)
+
+abbrev pub instance_of : Instance → task.Instance
+instance_of i = record { schema = i.schema.0; objects = map object_of i.objects.items }
+
+-- the plan's instances, in order
+abbrev pub plan_of : Plan → List task.Instance
+plan_of p = map instance_of p.steps.items
+
+-- a term that is a parameter is one of the first so many
+abbrev pub is_bound : ℕ → task.Term → Bool
+is_bound scope (task.variable parameter) = nat_lt parameter scope
+is_bound scope (task.object number) = true

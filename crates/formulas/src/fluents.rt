@@ -1,0 +1,61 @@
+//! Which atoms are well-typed, and which predicates the task's actions change.
+ghost use Rattle.std.specs.Prelude.{◌≡◌, ◌&&◌};
+ghost use Rattle.std.specs.List.{list_all};
+ghost use Rattle.typing.specs.TaskParts.{atom_of, object_of};
+ghost use Rattle.model.specs.WellTyped as well_typed;
+ghost use Rattle.typing.specs.Task.{task_of};
+ghost use Rattle.typing.specs.TaskParts.{effect_of};
+ghost use Rattle.model.specs.Certificates as certificates;
+ghost use Rattle.model.specs.Certificates.{touches};
+
+use crate::instance::are_objects;
+use typing::{Atom, Effect, PredicateId, SchemaId, Task};
+
+/// Whether the atom is well-typed: its predicate is the task's and has as many arguments, each an object of the task.
+pub fn is_atom(task: &Task, atom: &Atom) -> bool
+    ensures { result ≡ well_typed.is_atom (task_of task.now) (atom_of atom.now) }
+{
+    let Some(predicate) = task.predicate(atom.predicate) else {
+        return false;
+    };
+    atom.objects.len() == predicate.arity && are_objects(task, atom.objects.as_slice())
+}
+
+/// Whether the atom is well-typed, and some action of the task adds or deletes atoms of its predicate.
+pub fn is_fluent_atom(task: &Task, atom: &Atom) -> bool
+    ensures { result ≡ (well_typed.is_atom (task_of task.now) (atom_of atom.now) && certificates.is_fluent (task_of task.now) (atom_of atom.now).predicate) }
+{
+    is_atom(task, atom) && is_fluent(task, atom.predicate)
+}
+
+/// Whether some action of the task adds or deletes an atom of the predicate.
+pub fn is_fluent(task: &Task, predicate: PredicateId) -> bool
+    ensures { result ≡ certificates.is_fluent (task_of task.now) predicate.0 }
+{
+    for number in 0..task.schema_count() {
+        let Some(schema) = task.schema(SchemaId(number)) else {
+            return false;
+        };
+        if touches(&schema.effect, predicate) {
+            return true;
+        }
+    }
+    false
+}
+
+/// Whether the effect has a literal of the predicate.
+fn touches(effect: &Effect, predicate: PredicateId) -> bool
+    ensures { result ≡ touches predicate.0 (effect_of effect.now) }
+{
+    match effect {
+        Effect::Add(atom) | Effect::Delete(atom) => atom.predicate == predicate,
+        Effect::And(parts) => {
+            for part in parts {
+                if touches(part, predicate) {
+                    return true;
+                }
+            }
+            false
+        }
+    }
+}

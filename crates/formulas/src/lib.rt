@@ -1,0 +1,17 @@
+//! Truth, change and instances, over states that are sets of atoms.
+#![tactic(auto)]
+
+mod change;
+mod fluents;
+mod instance;
+mod plan;
+mod state;
+mod truth;
+
+pub use change::apply;
+pub use fluents::{is_atom, is_fluent, is_fluent_atom};
+pub use instance::{Binding, Instance, is_instance};
+pub use plan::{MAX_STEPS, Plan};
+pub use state::State;
+pub use truth::{holds, meets_goal};
+pub use typing::Atom;

@@ -1,0 +1,39 @@
+//! Plans: lists of instances.
+ghost use Rattle.std.specs.Prelude.{◌≤◌, vec_len};
+ghost use Rattle.formulas.specs.declared.plan.TheConstants.{MAX_STEPS};
+
+use crate::instance::Instance;
+
+/// The most instances that a plan may have.
+pub const MAX_STEPS: usize = 16_777_216;
+
+/// A list of at most 16,777,216 instances, run one after another.
+#[derive(Drop)]
+pub struct Plan {
+    steps: Vec<Instance>,
+    ghost at_most: { vec_len steps ≤ MAX_STEPS },
+}
+
+impl Plan {
+    ghost use Rattle.std.specs.Prelude.{◌≡◌, ◌<◌, ◌↔◌, map, IsNone, IfSome, length};
+    ghost use Rattle.formulas.specs.State.{instance_of, plan_of};
+
+    /// The plan of these instances, and `None` where there are more than 16,777,216.
+    pub fn new(steps: Vec<Instance>) -> Option<Plan>
+        ensures too_long { IsNone result ↔ (MAX_STEPS < vec_len steps) }
+        ensures steps { IfSome result (λ p. plan_of p ≡ map instance_of steps.items) }
+    {
+        if steps.len() > MAX_STEPS {
+            return None;
+        }
+        Some(Plan { steps })
+    }
+
+    /// Its instances, in order.
+    pub fn steps(&self) -> &[Instance]
+        ensures steps { map instance_of result.now ≡ plan_of self.now }
+        ensures at_most { length result.now ≤ MAX_STEPS }
+    {
+        self.steps.as_slice()
+    }
+}

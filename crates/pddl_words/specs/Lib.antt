@@ -1,0 +1,4 @@
+pub mod Name
+pub mod Symbol
+pub mod Ahead
+pub mod Refusal

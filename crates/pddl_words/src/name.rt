@@ -1,0 +1,20 @@
+//! Names and terms, with their places.
+use faults::Span;
+
+/// A name or a variable: its bytes as they stand in the file, not folded, and where they stand.
+#[derive(Clone, Copy, Debug)]
+pub struct Name<'a> {
+    /// The bytes of the name. A variable's begin with its `?`.
+    pub text: &'a [u8],
+    /// Where they stand in the file.
+    pub span: Span,
+}
+
+/// An argument of an atom.
+#[derive(Clone, Copy, Debug)]
+pub enum Term<'a> {
+    /// A variable, as `?x`.
+    Variable(Name<'a>),
+    /// The name of an object.
+    Object(Name<'a>),
+}

@@ -1,0 +1,169 @@
+-- The instances of the reader of plan texts, and the faults of steps.
+use Rattle.std.proofs.Common.{◌≡◌, ◌≢◌, ℕ, ◌+◌, ◌<◌, ◌≤◌, true, false, List, [], ◌∷◌, ◌++◌, length, map, get_or, take, drop, Option, Some, None, IfSome, sym, refl, ap, ◌∙◌, subst, ltb, nat_lt, eqb, arith}
+use Rattle.std.specs.Prelude.{slice_get}
+use Rattle.std.specs.List.{list_all, position}
+use Rattle.std.specs.Option.{option_map, option_map_or}
+use Rattle.std.proofs.lemmas.Bool.{and_from, eq-eqb, lt-ltb}
+use Rattle.std.proofs.Common.{take-append-drop}
+use Rattle.std.proofs.lemmas.List.{drop_more, take_more, map-append, length-map}
+use Rattle.std.proofs.lemmas.List.Quantifiers.{position-Some}
+use Rattle.model.specs.Fault.{Fault}
+use Rattle.model.specs.Words.{Part, AreParts}
+use Rattle.model.specs.Trees.{Name}
+use Rattle.model.specs.Task.{Task, Schema, Instance}
+use Rattle.model.specs.Typing.{folded, is_same}
+use Rattle.model.specs.Meaning.{fits}
+use Rattle.model.specs.PlanText.{Step, HasSteps, IsNumberOf, AreNumbersOf, schema_names, Means, AllMean, IsStepFault, unknown_action, wrong_count, unknown_object, IsPlanText, IsPlanFault, of_form, of_step}
+use Rattle.model.proofs.PlanMeaning.{numbers_length, numbers_push, all_mean_push, plan_length, few_steps, one_reading, no_fault}
+use Rattle.tokens.proofs.Cut.{cut_unique}
+use Rattle.plan_file.specs.PlanFile.{IsUnknownObject, IsFirstFault, IsRefusedForm}
+
+-- what is told, where it is known
+pub told_some : (P : Fault → Type 0) (o : Option Fault) (fault : Fault) → o ≡ Some fault → P fault → IfSome o P
+told_some P o fault e h = subst (λ p. IfSome p P) (sym e) h
+
+pub told_none : (P : Fault → Type 0) (o : Option Fault) → IfSome o P → ((fault : Fault) → P fault → ⊥) → o ≡ None
+told_none P None h never = refl
+told_none P (Some fault) h never = absurd (never fault h)
+
+pub told_more : (P Q : Fault → Type 0) (o : Option Fault) → ((fault : Fault) → P fault → Q fault) → IfSome o P → IfSome o Q
+told_more P Q None f h = tt
+told_more P Q (Some fault) f h = f fault h
+
+-- a list at an index
+pub split_at : {A B : Type 0} (f : A → B) (xs : List A) (i : ℕ) (x : A) → i < length xs → x ≡ get_or xs i x → map f xs ≡ map f (take i xs) ++ f x ∷ map f (drop (i + 1) xs)
+split_at f xs i x inside is =
+    ap (map f) (sym (take-append-drop i xs)) ∙ map-append f (take i xs) (drop i xs)
+    ∙ ap (λ rest. map f (take i xs) ++ map f rest) (drop_more xs i x inside ∙ ap (λ y. y ∷ drop (i + 1) xs) (sym is))
+
+pub taken_at : {A B : Type 0} (f : A → B) (xs : List A) (i : ℕ) (x : A) → i < length xs → x ≡ get_or xs i x → map f (take (i + 1) xs) ≡ map f (take i xs) ++ f x ∷ []
+taken_at f xs i x inside is =
+    ap (map f) (take_more xs i x inside ∙ ap (λ y. take i xs ++ y ∷ []) (sym is)) ∙ map-append f (take i xs) (x ∷ [])
+
+-- one element more
+pub numbers_more : {A B : Type 0} (declared : List (List ℕ)) (f : A → Name) (xs : List A) (i : ℕ) (x : A) (g : B → ℕ) (items more : List B) (y : B) → i < length xs → x ≡ get_or xs i x → more ≡ items ++ y ∷ []
+    → AreNumbersOf declared (map f (take i xs)) (map g items) → IsNumberOf declared (f x) (g y) → AreNumbersOf declared (map f (take (i + 1) xs)) (map g more)
+numbers_more declared f xs i x g items more y inside is more_is are number =
+    subst (λ ns. AreNumbersOf declared ns (map g more)) (sym (taken_at f xs i x inside is))
+    (subst (AreNumbersOf declared (map f (take i xs) ++ f x ∷ [])) (sym (ap (map g) more_is ∙ map-append g items (y ∷ [])))
+    (numbers_push declared (map f (take i xs)) (map g items) (f x) (g y) are number))
+
+pub mean_more : {A B : Type 0} (task : Task) (f : A → Step) (xs : List A) (i : ℕ) (x : A) (g : B → Instance) (items more : List B) (y : B) → i < length xs → x ≡ get_or xs i x → more ≡ items ++ y ∷ []
+    → AllMean task (map f (take i xs)) (map g items) → Means task (f x) (g y) → AllMean task (map f (take (i + 1) xs)) (map g more)
+mean_more task f xs i x g items more y inside is more_is mean means =
+    subst (λ ss. AllMean task ss (map g more)) (sym (taken_at f xs i x inside is))
+    (subst (AllMean task (map f (take i xs) ++ f x ∷ [])) (sym (ap (map g) more_is ∙ map-append g items (y ∷ [])))
+    (all_mean_push task (map f (take i xs)) (map g items) (f x) (g y) mean means))
+
+-- a number that a name has is below the count of the declared
+number_within : (declared : List (List ℕ)) (name : Name) (number : ℕ) → IsNumberOf declared name number → number < length declared
+number_within declared name number is = (position-Some (is_same (folded name)) declared number [] is).0
+
+pub schema_within : (task : Task) (name : Name) (number : ℕ) → IsNumberOf (schema_names task) name number → number < length task.schemas
+schema_within task name number is =
+    let within = number_within (schema_names task) name number is in
+    omega (arith, within, length-map task.schemas (λ (s : Schema). s.name))
+
+all_within : (declared : List (List ℕ)) (names : List Name) (numbers : List ℕ) → AreNumbersOf declared names numbers → list_all (λ number. nat_lt number (length declared)) numbers ≡ true
+all_within declared [] [] h = refl
+all_within declared [] (n ∷ ns) h = absurd h
+all_within declared (name ∷ names) [] h = absurd h
+all_within declared (name ∷ names) (n ∷ ns) h =
+    and_from (ltb n (length declared)) (list_all (λ number. nat_lt number (length declared)) ns) (lt-ltb n (length declared) (number_within declared name n h.0)) (all_within declared names ns h.1)
+
+-- the count of a schema's parameters
+abbrev pub Counts : Task → ℕ → ℕ → Type 0
+Counts task number count = option_map (λ (s : Schema). s.parameters) (slice_get task.schemas number) ≡ Some count
+
+record Counted (task : Task) (number count : ℕ) : Type 0 where
+  schema : Schema
+  here : slice_get task.schemas number ≡ Some schema
+  counts : schema.parameters ≡ count
+
+counted : (task : Task) (number count : ℕ) → Counts task number count → Counted task number count
+counted task number count e = by_schema (slice_get task.schemas number) refl e
+  where
+    by_schema : (s : Option Schema) → slice_get task.schemas number ≡ s → option_map (λ (s : Schema). s.parameters) s ≡ Some count → Counted task number count
+    by_schema None here e = absurd (cc)
+    by_schema (Some schema) here e = record { schema = schema; here = here; counts = cc }
+
+-- what is told of a step, and what it means
+module _ (task : Task) (step : Step) where
+  pub action_refused : position (is_same (folded step.action)) (schema_names task) ≡ None → (o : Option Fault) → o ≡ Some (record { code = 32; span = step.action.span }) → IfSome o (IsStepFault task step)
+  action_refused none o told =
+      told_some (IsStepFault task step) o _ told (unknown_action (λ (number, is). let both : Some number ≡ None = sym is ∙ none in cc) refl refl)
+
+  pub count_refused : (number count : ℕ) → IsNumberOf (schema_names task) step.action number → Counts task number count → length step.objects ≢ count → (o : Option Fault) → o ≡ Some (record { code = 33; span = step.action.span }) → IfSome o (IsStepFault task step)
+  count_refused number count is counts differs o told =
+      let c = counted task number count counts in
+      told_some (IsStepFault task step) o _ told (wrong_count number c.schema is c.here (λ h. differs (h ∙ c.counts)) refl refl)
+
+  pub objects_refused : (number count : ℕ) → IsNumberOf (schema_names task) step.action number → Counts task number count → length step.objects ≡ count → (o : Option Fault) → IfSome o (IsUnknownObject task.objects step.objects) → IfSome o (IsStepFault task step)
+  objects_refused number count is counts same o h =
+      let c = counted task number count counts in
+      told_more (IsUnknownObject task.objects step.objects) (IsStepFault task step) o
+      (λ fault u. unknown_object number c.schema is c.here (same ∙ sym c.counts) u.before u.after u.name u.numbers u.in_order u.declared_before u.not_declared u.code u.span) h
+
+  pub step_means : (i : Instance) (count : ℕ) → IsNumberOf (schema_names task) step.action i.schema → Counts task i.schema count → length step.objects ≡ count → AreNumbersOf task.objects step.objects i.objects → Means task step i
+  step_means i count is counts same objects =
+      let c = counted task i.schema count counts in
+      let long : length i.objects ≡ c.schema.parameters = sym (numbers_length task.objects step.objects i.objects objects) ∙ same ∙ sym c.counts in
+      record {
+        action = is;
+        objects = objects;
+        fits = ap (λ (o : Option Schema). option_map_or (λ (s : Schema). fits task s i.objects) o false) c.here
+            ∙ and_from (eqb (length i.objects) c.schema.parameters) (list_all (λ number. nat_lt number (length task.objects)) i.objects)
+            (eq-eqb (length i.objects) c.schema.parameters long) (all_within task.objects step.objects i.objects objects);
+      }
+
+-- what is told of an object
+pub object_refused : (declared : List (List ℕ)) (names before after : List Name) (name : Name) (numbers : List ℕ) → names ≡ before ++ name ∷ after → AreNumbersOf declared before numbers → position (is_same (folded name)) declared ≡ None
+    → (o : Option Fault) → o ≡ Some (record { code = 34; span = name.span }) → IfSome o (IsUnknownObject declared names)
+object_refused declared names before after name numbers in_order are none o told = told_some (IsUnknownObject declared names) o _ told (record {
+  before = before;
+  after = after;
+  name = name;
+  numbers = numbers;
+  in_order = in_order;
+  declared_before = are;
+  not_declared = λ (number, is). let both : Some number ≡ None = sym is ∙ none in cc;
+  code = refl;
+  span = refl;
+})
+
+-- what is told of steps
+pub step_refused : (task : Task) (steps before after : List Step) (step : Step) (plan : List Instance) → steps ≡ before ++ step ∷ after → AllMean task before plan → (o : Option Fault) → IfSome o (IsStepFault task step) → IfSome o (IsFirstFault task steps)
+step_refused task steps before after step plan in_order mean o h =
+    told_more (IsStepFault task step) (IsFirstFault task steps) o
+    (λ fault wrong. record { before = before; after = after; step = step; plan = plan; in_order = in_order; mean = mean; wrong = wrong }) h
+
+-- what is told of a text
+pub form_refused : (task : Task) (text : List ℕ) (o : Option Fault) → IfSome o (IsRefusedForm text) → IfSome o (IsPlanFault task text)
+form_refused task text o h = told_more (IsRefusedForm text) (IsPlanFault task text) o (λ fault (span, code). of_form span code) h
+
+pub meaning_refused : (task : Task) (text : List ℕ) (steps : List Step) → HasSteps text steps → (o : Option Fault) → IfSome o (IsFirstFault task steps) → IfSome o (IsPlanFault task text)
+meaning_refused task text steps has o h =
+    told_more (IsFirstFault task steps) (IsPlanFault task text) o
+    (λ fault first. of_step steps first.before first.after first.step first.plan has first.in_order first.mean first.wrong) h
+
+-- the laws
+one_cut : (text : List ℕ) (a b : List Part) → AreParts text a → AreParts text b → a ≡ b
+one_cut text a b are others = cut_unique text a are ∙ sym (cut_unique text b others)
+
+pub one_list_of_instances : (task : Task) (text : List ℕ) (plan other : List Instance) → IsPlanText task text plan → IsPlanText task text other → plan ≡ other
+one_list_of_instances task text plan other = one_reading text (one_cut text) task plan other
+
+pub no_fault_of_plan : (task : Task) (text : List ℕ) (plan : List Instance) (fault : Fault) → IsPlanText task text plan → IsPlanFault task text fault → ⊥
+no_fault_of_plan task text plan fault = no_fault text (one_cut text) task plan fault
+
+pub none_of_plan : (task : Task) (text : List ℕ) (o : Option Fault) → IfSome o (IsPlanFault task text) → (plan : List Instance) → IsPlanText task text plan → o ≡ None
+none_of_plan task text o h plan is =
+    told_none (IsPlanFault task text) o h
+    (λ fault. no_fault_of_plan task text plan fault is)
+
+-- a text has not too many steps for a plan
+pub few_instances : (task : Task) (text : List ℕ) (steps : List Step) (plan : List Instance) → HasSteps text steps → AllMean task steps plan → length plan ≤ 16777216
+few_instances task text steps plan has mean =
+    let few = few_steps text steps has in
+    let same = plan_length task steps plan mean in
+    omega (arith, few, same)

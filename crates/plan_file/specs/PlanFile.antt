@@ -1,0 +1,83 @@
+-- The words and steps of a plan text in the code, in the model's terms, and what is read of a text from an offset on.
+use Rattle.std.specs.Prelude.{◌≡◌, ℕ, ◌+◌, List, ◌∷◌, ◌++◌, length, map, drop, Option, None, Some}
+use Rattle.plan_file.specs.declared.word.Sort.{Sort}
+use Rattle.plan_file.specs.declared.word.Sort.TheVariants.{Open, Close, Name, Other}
+use Rattle.plan_file.specs.declared.word.Word.{Word}
+use Rattle.plan_file.specs.declared.text.Step.{Step}
+use Rattle.plan_file.specs.declared.text.Place.{Place}
+use Rattle.plan_file.specs.declared.text.Place.TheVariants.{Outside, Opened, Inside}
+use Rattle.plan_file.specs.declared.text.Turn.{Turn}
+use Rattle.plan_file.specs.declared.text.Turn.TheVariants.{Goes, Ends}
+use Rattle.tokens.specs.Cut.{cut}
+use Rattle.model.specs.Fault.{Span, Fault}
+use Rattle.model.specs.Trees as tree
+use Rattle.model.specs.PlanText as text
+use Rattle.model.specs.Task.{Task, Instance}
+use Rattle.model.specs.PlanText.{placed_from, IsFormFault, IsDeclared, AreNumbersOf, AllMean, IsStepFault}
+use Rattle.model.specs.PlanMachine as machine
+use Rattle.model.specs.PlanMachine.{Outcome, outcome, turn, at_end, after_turn}
+
+abbrev pub sort_of : Sort → machine.Sort
+sort_of Open = machine.an_opening
+sort_of Close = machine.a_closing
+sort_of Name = machine.a_name
+sort_of Other = machine.strange
+
+abbrev pub span_of : Word → Span
+span_of word = record { start = word.start; end = word.start + length word.text.now }
+
+abbrev pub name_of : Word → tree.Name
+name_of word = record { text = word.text.now; span = span_of word }
+
+abbrev pub step_of : Step → text.Step
+step_of step = record { action = name_of step.action; objects = map name_of step.objects.items }
+
+abbrev pub place_of : Place → machine.Place
+place_of Outside = machine.outside
+place_of Opened = machine.opened
+place_of (Inside step) = machine.inside (name_of step.action) (map name_of step.objects.items)
+
+abbrev pub turn_of : Turn → machine.Turn
+turn_of (Goes place) = machine.goes (place_of place)
+turn_of (Ends step) = machine.ends (step_of step)
+
+-- the word stops the reading, and its span is told
+abbrev pub TellsStop : machine.Turn → Span → Fault → Type 0
+TellsStop t span fault = (t ≡ machine.stops) × (fault.code ≡ 30) × (fault.span ≡ span)
+
+-- what is read of the text from this offset and place on
+abbrev pub read_from : List ℕ → ℕ → machine.Place → Outcome
+read_from text at = outcome (length text) (placed_from at (cut (drop at text)))
+
+-- what is read from this offset on is this word and what is read after it, or nothing
+abbrev pub GivesWord : List ℕ → ℕ → Option Word → Type 0
+GivesWord text at None = (place : machine.Place) → read_from text at place ≡ at_end (length text) place
+GivesWord text at (Some word) =
+    (place : machine.Place) → read_from text at place
+    ≡ after_turn (span_of word) (turn place (sort_of word.sort) (name_of word)) (read_from text (word.start + length word.text.now))
+
+-- the form of the text is at fault, and so is told
+abbrev pub IsRefusedForm : List ℕ → Fault → Type 0
+IsRefusedForm text fault = IsFormFault text fault.span × (fault.code ≡ 30)
+
+-- of these names the first that is not declared, and the fault that is told of it
+pub record IsUnknownObject (declared : List (List ℕ)) (names : List tree.Name) (fault : Fault) : Type 0 where
+  pub before : List tree.Name
+  pub after : List tree.Name
+  pub name : tree.Name
+  pub numbers : List ℕ
+  pub in_order : names ≡ before ++ name ∷ after
+  pub declared_before : AreNumbersOf declared before numbers
+  pub not_declared : IsDeclared declared name → ⊥
+  pub code : fault.code ≡ 34
+  pub span : fault.span ≡ name.span
+
+-- of these steps the first that is at fault, and its fault
+pub record IsFirstFault (task : Task) (steps : List text.Step) (fault : Fault) : Type 0 where
+  pub before : List text.Step
+  pub after : List text.Step
+  pub step : text.Step
+  pub plan : List Instance
+  pub in_order : steps ≡ before ++ step ∷ after
+  pub mean : AllMean task before plan
+  pub wrong : IsStepFault task step fault

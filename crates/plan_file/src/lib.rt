@@ -1,0 +1,9 @@
+//! Plan texts: a list of steps `(action object ..)`.
+#![tactic(auto)]
+
+mod reader;
+mod steps;
+mod text;
+mod word;
+
+pub use reader::{one_plan, read_plan};

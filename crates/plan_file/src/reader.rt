@@ -1,0 +1,52 @@
+//! From a plan text to the plan.
+ghost use Rattle.std.specs.Prelude.{◌≡◌, List, IsTrue, IfOk, IfErr, IfSome, None, ℕ};
+ghost use Rattle.std.specs.List.{list_all};
+ghost use Rattle.faults.specs.Fault.{told_by};
+ghost use Rattle.typing.specs.Task.{task_of};
+ghost use Rattle.formulas.specs.State.{plan_of};
+ghost use Rattle.model.specs.Meaning.{is_instance};
+ghost use Rattle.model.specs.PlanText.{IsPlanText, IsPlanFault};
+ghost use Rattle.model.specs.Task as model;
+ghost use Rattle.model.specs.Fault as told;
+
+use crate::steps::instances_of;
+use crate::text::steps_of;
+use faults::Fault;
+use formulas::Plan;
+use std::alloc::Global;
+use typing::Task;
+
+/// The plan that a text is for the task.
+///
+/// A text is a list of steps and nothing else, with blanks and comments as in a domain file. A step is `(`, the
+/// name of an action, the names of an object for each of its parameters, and `)`. Case does not matter.
+///
+/// # Errors
+/// The whole text is looked at first, and its first parenthesis, run or stray byte that no plan text goes on with is
+/// refused: code 30. A text that ends in a step is refused at its end, and one over 16,777,216 bytes at what is over.
+/// Then the steps are taken in order: 32 at an action that is not declared, 33 at the action where the count of objects
+/// is not that of its parameters, 34 at the first object that is not declared. `NoMemory` is answered only where memory
+/// that was asked for was refused.
+pub fn read_plan(alloc: Global, task: &Task, text: &[u8]) -> Result<Plan, Fault>
+    ensures plan { IfOk result (λ plan. IsPlanText (task_of task.now) text.now (plan_of plan)) }
+    ensures instances { IfOk result (λ plan. IsTrue (list_all (is_instance (task_of task.now)) (plan_of plan))) }
+    ensures refused { IfErr result (λ fault. IfSome (told_by fault) (IsPlanFault (task_of task.now) text.now)) }
+
+    // A text that is a plan for the task is never refused: the only error is want of memory.
+    ensures taken { (plan : List model.Instance) → IsPlanText (task_of task.now) text.now plan
+        → IfErr result (λ fault. told_by fault ≡ None) }
+{
+    let steps = steps_of(alloc, text)?;
+    let instances = instances_of(alloc, task, &steps)?;
+    // a step has at least three bytes, so that there are never too many
+    Ok(Plan::new(instances).unwrap())
+}
+
+/// A text is at most one plan for a task, and no fault is told of one that is a plan. It is stated of all texts, and
+/// proved; the call does nothing.
+pub fn one_plan()
+    ensures one { (task : model.Task) (text : List ℕ) (plan other : List model.Instance)
+        → IsPlanText task text plan → IsPlanText task text other → plan ≡ other }
+    ensures none { (task : model.Task) (text : List ℕ) (plan : List model.Instance) (fault : told.Fault)
+        → IsPlanText task text plan → IsPlanFault task text fault → ⊥ }
+{}

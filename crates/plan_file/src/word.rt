@@ -1,0 +1,116 @@
+//! The words of a plan text.
+ghost use Rattle.std.specs.Prelude.{◌≡◌, ◌+◌, ◌<◌, ◌≤◌, ◌^◌, length, IfSome, Some};
+ghost use Rattle.faults.specs.Fault.{told_by, number_of};
+ghost use Rattle.tokens.specs.Form.{view};
+ghost use Rattle.model.specs.PlanText.{is_gap};
+
+use faults::{Code, Fault, Refusal, Refused, Span};
+use tokens::{Form, is_name, part_end};
+
+/// What a word may be in a step.
+#[derive(Clone, Copy)]
+pub(super) enum Sort {
+    Open,
+    Close,
+    Name,
+    Other,
+}
+
+impl Sort {
+    ghost use Rattle.plan_file.specs.PlanFile.{sort_of};
+    ghost use Rattle.model.specs.Words as words;
+    ghost use Rattle.model.specs.PlanMachine.{sort_by};
+
+    /// The sort of a part of this form and these bytes.
+    fn of(form: Form, bytes: &[u8]) -> Sort
+        ensures { sort_of result ≡ sort_by (view form) (words.is_name bytes.now) }
+    {
+        match form {
+            Form::Opening => Sort::Open,
+            Form::Closing => Sort::Close,
+            Form::Run => {
+                if is_name(bytes) {
+                    Sort::Name
+                } else {
+                    Sort::Other
+                }
+            }
+            Form::Blank | Form::Comment | Form::Stray => Sort::Other,
+        }
+    }
+}
+
+/// A parenthesis, a run or a stray byte.
+#[derive(Clone, Copy)]
+pub(super) struct Word<'a> {
+    /// What it may be in a step.
+    pub sort: Sort,
+    text: &'a [u8],
+    start: usize,
+    ghost in_range: { start + length text.now < 2 ^ 64 },
+}
+
+impl<'a> Word<'a> {
+    ghost use Rattle.plan_file.specs.PlanFile.{span_of, GivesWord};
+
+    /// The first word of the text from this offset on.
+    pub(super) fn first_from(text: &'a [u8], at: usize) -> Option<Word<'a>>
+        requires { at ≤ length text.now }
+        ensures word { GivesWord text.now at result }
+        ensures after { IfSome result (λ word. at < word.start + length word.text.now) }
+        ensures within { IfSome result (λ word. word.start + length word.text.now ≤ length text.now) }
+    {
+        let mut start = at;
+        'gaps: while start < text.len() {
+            let form = Form::of(text[start]);
+            let end = part_end(text, start, form);
+            if !is_gap(form) {
+                let bytes = &text[start..end];
+                let sort = Sort::of(form, bytes);
+                return Some(Word {
+                    sort,
+                    text: bytes,
+                    start,
+                });
+            }
+            start = end;
+        }
+        None
+    }
+
+    /// Its bytes: not folded to lower case.
+    pub(super) fn text(self) -> &'a [u8]
+        ensures { result.now ≡ self.entry.text.now }
+    {
+        self.text
+    }
+
+    /// The offset after it.
+    pub(super) fn end(self) -> usize
+        ensures { result ≡ self.entry.start + length self.entry.text.now }
+    {
+        self.start + self.text.len()
+    }
+
+    /// Its refusal by this code.
+    pub(super) fn refused(self, code: Code) -> Fault
+        ensures { told_by result ≡ Some (record { code = number_of code; span = span_of self.entry }) }
+    {
+        refusal(code, self.start, self.end())
+    }
+}
+
+/// The refusal of what stands between these offsets.
+pub(super) fn refusal(code: Code, start: usize, end: usize) -> Fault
+    ensures { told_by result ≡ Some (record { code = number_of code; span = record { start = start; end = end } }) }
+{
+    let span = Span { start, end };
+    Refused::At(Refusal { code, span })
+}
+
+/// Whether a part of this form is a blank or a comment.
+fn is_gap(form: Form) -> bool
+    ensures { result ≡ is_gap (view form) }
+{
+    matches!(form, Form::Blank | Form::Comment)
+}

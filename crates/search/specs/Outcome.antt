@@ -1,0 +1,48 @@
+-- What a search tells of a transition system.
+use Rattle.std.specs.Prelude.{◌≡◌, ℕ, ◌*◌, ◌<◌, ◌≤◌, if◌then◌else◌, List, [], ◌∷◌, length, map, slice_get, Some, None, Contains}
+use Rattle.model.specs.Runs.{System, run, cost_of_all, IsReachable, IsOptimal, IsUnsolvable}
+use Rattle.model.specs.Claims.{Claim, bound, none, Line, IsClosed}
+use Rattle.search.specs.declared.progress.Reached.{Reached}
+use Rattle.search.specs.declared.best.Outcome.{Outcome}
+use Rattle.search.specs.declared.best.Outcome.TheVariants.{Found, Exhausted, States}
+use Rattle.search.specs.Store.{AreDistinct}
+
+-- some list of actions leads from the initial state to this one, at this cost
+abbrev pub IsReachableAt : {S A : Type 0} → System S A → S → ℕ → Type 0
+IsReachableAt {S} {A} t s cost = (actions : List A) × (run t t.initial actions ≡ Some s) × (cost_of_all t actions ≡ cost)
+
+-- a found state in a listing: open where it was expanded, and otherwise cut, with nothing known of what follows
+abbrev pub line_of : {S : Type 0} → S → Reached → Line S
+line_of s reached = record { state = s; cost = reached.cost; cut = if reached.is_expanded then None else Some 0 }
+
+-- the found states, in the order of the two lists
+abbrev pub lines_of : {S : Type 0} → List S → List Reached → List (Line S)
+lines_of [] all = []
+lines_of (s ∷ states) [] = []
+lines_of (s ∷ states) (reached ∷ all) = line_of s reached ∷ lines_of states all
+
+-- what is known of the states that a search found, no more than it was allowed to list
+pub record AreFound {S A : Type 0} (t : System S A) (claim : Claim) (max_states : ℕ) (states : List S) (all : List Reached) : Type 0 where
+  pub one_for_each : length all ≡ length states
+  pub within_limit : length states ≤ max_states
+  pub distinct : AreDistinct states
+  pub reachable : (k : ℕ) (s : S) (reached : Reached) → slice_get states k ≡ Some s → slice_get all k ≡ Some reached → IsReachableAt t s reached.cost
+  -- no action costs more than 32 bits can say, and a way to a state takes each other state at most once
+  pub cheap : (k : ℕ) (reached : Reached) → slice_get all k ≡ Some reached → reached.cost ≤ length states * 4294967295
+  pub closed : IsClosed t (λ _. 0) claim (lines_of states all)
+
+-- more states are reachable than the limit
+abbrev pub AreMoreReachable : {S A : Type 0} → System S A → ℕ → Type 0
+AreMoreReachable {S} t max_states =
+    (states : List S) × AreDistinct states × ((s : S) → Contains states s → IsReachable t s) × (max_states < length states)
+
+-- The outcome is true: the steps are a cheapest list that solves, or none solves, and the found states prove it;
+-- or there are more states than the limit.
+abbrev pub IsTrueOutcome : {S L Action Store : Type 0} → System S L → (Action → L) → (Store → List S) → ℕ → Outcome Action Store → Type 0
+IsTrueOutcome t label states_of max_states (Found steps cost found) =
+    IsOptimal t (map label steps.items) × (cost_of_all t (map label steps.items) ≡ cost)
+    × AreFound t (bound cost) max_states (states_of found.store) found.reached.items
+    × (length steps.items ≤ max_states)
+IsTrueOutcome t label states_of max_states (Exhausted found) =
+    IsUnsolvable t × AreFound t none max_states (states_of found.store) found.reached.items
+IsTrueOutcome t label states_of max_states States = AreMoreReachable t max_states

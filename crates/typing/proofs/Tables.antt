@@ -1,0 +1,202 @@
+-- What a look-up in a table of names says of the names.
+use Rattle.std.proofs.Common.{◌==◌, ◌≤◌, arith, slice_get, ◌≡◌, ℕ, ◌+◌, Bool, true, false, cond, List, [], ◌∷◌, ◌++◌, map, length, refl, ap, sym, subst, ◌∙◌, None, Some, if◌then◌else◌, nat_eq, not, is_some, ◌||◌, true≢false, drop, get_or, ◌<◌}
+use Rattle.std.proofs.lemmas.Bool.Decides.{nat_tests}
+use Rattle.std.specs.Option.{option_map}
+use Rattle.std.specs.Global.{Vec}
+use Rattle.std.specs.Cmp.Lexicographic.{pointwise}
+use Rattle.std.specs.List.{list_any, position, position_or_len}
+use Rattle.std.specs.Map.{lookup, keys_of}
+use Rattle.std.proofs.lemmas.List.{map-append, length-map, append_assoc, append-nil, drop_more, drop_all}
+use Rattle.std.proofs.lemmas.Option.{slice_get-map, slice_get_past}
+use Rattle.indexmap.specs.IndexSet.{insert_key}
+use Rattle.indexmap.specs.IndexMap.{insert_entry}
+use Rattle.model.specs.Task as task
+use Rattle.model.specs.Trees as tree
+use Rattle.model.specs.Typing.{File, folded, is_same, is_known, number_in, with_name, names_of, refused, unknown_faults, faults_against, predicate_faults, repeated_after}
+use Rattle.typing.specs.Scope.{names_in}
+use Rattle.typing.proofs.Lists.{position_or_len-map, position_or_len-le, list_any-map, position-found, position-missing}
+
+-- a test of the keys for a name
+abbrev pub key_is : List ℕ → Vec ℕ → Bool
+key_is q key = pointwise nat_eq q key.items
+
+pub found_in : (file : File) (name : tree.Name) (q : List ℕ) → q ≡ folded name → (keys : List (Vec ℕ)) (i : ℕ) → Some i ≡ position (key_is q) keys
+    → (i ≡ number_in (names_in keys) name) × (unknown_faults file (names_in keys) name ≡ [])
+found_in file name q is keys i e =
+    let h = position-found (key_is q) keys i e in
+    let P : List ℕ → Type 0 = λ r. (i ≡ position_or_len (is_same r) (names_in keys)) × ((if list_any (is_same r) (names_in keys) then [] else refused file 17 (name ∷ [])) ≡ []) in
+    subst P is (h.0 ∙ sym (position_or_len-map (is_same q) (λ key. key.items) keys), ap (λ b. if b then [] else refused file 17 (name ∷ [])) (list_any-map (is_same q) (λ key. key.items) keys ∙ h.1))
+
+pub missing_in : (file : File) (name : tree.Name) (q : List ℕ) → q ≡ folded name → (keys : List (Vec ℕ)) → None ≡ position (key_is q) keys
+    → (length keys ≡ number_in (names_in keys) name) × (unknown_faults file (names_in keys) name ≡ refused file 17 (name ∷ []))
+missing_in file name q is keys e =
+    let h = position-missing (key_is q) keys e in
+    let P : List ℕ → Type 0 = λ r. (length keys ≡ position_or_len (is_same r) (names_in keys)) × ((if list_any (is_same r) (names_in keys) then [] else refused file 17 (name ∷ [])) ≡ refused file 17 (name ∷ [])) in
+    subst P is (h.0 ∙ sym (position_or_len-map (is_same q) (λ key. key.items) keys), ap (λ b. if b then [] else refused file 17 (name ∷ [])) (list_any-map (is_same q) (λ key. key.items) keys ∙ h.1))
+
+-- a set of names after one more is inserted
+pub names_in-insert_key : (name : tree.Name) (key : Vec ℕ) → key.items ≡ folded name → (keys : List (Vec ℕ))
+    → names_in (insert_key (λ x y. pointwise nat_eq x.items y.items) keys key) ≡ with_name (names_in keys) name
+names_in-insert_key name key is keys = by (list_any (key_is key.items) keys) (list_any-map (is_same key.items) (λ k. k.items) keys)
+  where
+    by : (b : Bool) → list_any (is_same key.items) (names_in keys) ≡ b
+        → names_in (if b then keys else keys ++ key ∷ []) ≡ with_name (names_in keys) name
+    by true e = sym (ap (λ c. if c then names_in keys else names_in keys ++ folded name ∷ []) (ap (λ r. list_any (is_same r) (names_in keys)) (sym is) ∙ e))
+    by false e =
+        map-append (λ (k : Vec ℕ). k.items) keys (key ∷ []) ∙ ap (λ r. names_in keys ++ r ∷ []) is
+        ∙ sym (ap (λ c. if c then names_in keys else names_in keys ++ folded name ∷ []) (ap (λ r. list_any (is_same r) (names_in keys)) (sym is) ∙ e))
+
+pub number_in-le : (keys : List (Vec ℕ)) (name : tree.Name) → number_in (names_in keys) name ≤ length keys
+number_in-le keys name = omega (arith, position_or_len-le (is_same (folded name)) (names_in keys), length-map keys (λ (k : Vec ℕ). k.items))
+
+-- a table of predicates, each entry with the name of its key
+module _ {P : Type 0} (shown : Vec ℕ × P → task.Predicate) (named : (e : Vec ℕ × P) → (shown e).name ≡ e.0.items)
+    (file : File) (name : tree.Name) (q : List ℕ) (is : q ≡ folded name) (entries : List (Vec ℕ × P)) (count : ℕ) where
+  names : List task.Name
+  names = names_of (map shown entries)
+
+  place_of_key : (es : List (Vec ℕ × P)) → position_or_len (is_same q) (names_of (map shown es)) ≡ position_or_len (key_is q) (keys_of es)
+  place_of_key [] = refl
+  place_of_key (e ∷ es) = (λ i. cond (not (pointwise nat_eq q (named e i))) (1 + place_of_key es i) 0)
+
+  number_of_key : position_or_len (key_is q) (keys_of entries) ≡ number_in (names_of (map shown entries)) name
+  number_of_key = sym (place_of_key entries) ∙ ap (λ r. position_or_len (is_same r) (names_of (map shown entries))) is
+
+  pub found_predicate : (i : ℕ) (k : Vec ℕ) (v : P) → Some i ≡ position (key_is q) (keys_of entries) → slice_get entries i ≡ Some (k, v)
+      → (i ≡ number_in (names_of (map shown entries)) name)
+      × (predicate_faults file (map shown entries) name count ≡ (if count == (shown (k, v)).arity then [] else refused file 18 (name ∷ [])))
+  found_predicate i k v e at =
+      let place = (position-found (key_is q) (keys_of entries) i e).0 ∙ number_of_key in (
+        place,
+        ap (λ n. faults_against file (slice_get (map shown entries) n) name count) (sym place)
+            ∙ ap (λ o. faults_against file o name count) (slice_get-map shown entries i ∙ ap (option_map shown) at),
+      )
+
+  pub missing_predicate : None ≡ position (key_is q) (keys_of entries)
+      → (length entries ≡ number_in (names_of (map shown entries)) name)
+      × (predicate_faults file (map shown entries) name count ≡ refused file 17 (name ∷ []))
+  missing_predicate e =
+      let place = sym (length-map entries (λ (x : Vec ℕ × P). x.0)) ∙ (position-missing (key_is q) (keys_of entries) e).0 ∙ number_of_key in (
+        place,
+        ap (λ n. faults_against file (slice_get (map shown entries) n) name count) (sym place)
+            ∙ ap (λ o. faults_against file o name count) (slice_get_past (map shown entries) (length entries) (omega (arith, length-map entries shown))),
+      )
+
+-- whether a count is that of a declaration
+pub other_count : (arity count : ℕ) → (arity ≡ count → ⊥) → (count == arity) ≡ false
+other_count arity count h = grind (arith, nat_tests)
+
+pub same_count : (arity count : ℕ) → arity ≡ count → (count == arity) ≡ true
+same_count arity count h = grind (arith, nat_tests)
+
+-- whether a name is among those of a set of names
+pub is_known-keys : (name : tree.Name) (key : Vec ℕ) → key.items ≡ folded name → (keys : List (Vec ℕ)) → is_known (names_in keys) name ≡ list_any (key_is key.items) keys
+is_known-keys name key is keys = ap (λ r. list_any (is_same r) (names_in keys)) (sym is) ∙ list_any-map (is_same key.items) (λ k. k.items) keys
+
+-- the faults of one more declaration
+pub declared_before : (file : File) (name : tree.Name) (b : Bool) → (known : Bool) → known ≡ b → refused file 16 (if known then name ∷ [] else []) ≡ (if b then refused file 16 (name ∷ []) else [])
+declared_before file name true known e = ap (λ k. refused file 16 (if k then name ∷ [] else [])) e
+declared_before file name false known e = ap (λ k. refused file 16 (if k then name ∷ [] else [])) e
+
+-- whether a look-up finds something
+pub lookup-any : {K V : Type 0} (test : K → Bool) (es : List (K × V)) → is_some (lookup test es) ≡ list_any (λ e. test e.0) es
+lookup-any test [] = refl
+lookup-any test (e ∷ es) = by (test e.0) (lookup-any test es)
+  where
+    by : (b : Bool) → is_some (lookup test es) ≡ list_any (λ e. test e.0) es → is_some (cond b (Some e.1) (lookup test es)) ≡ (b || list_any (λ e. test e.0) es)
+    by true h = refl
+    by false h = h
+
+-- a table whose entries show the names of their keys, after one more entry is put in
+module _ {V S : Type 0} (shown : Vec ℕ × V → S) (label : S → List ℕ) (named : (e : Vec ℕ × V) → label (shown e) ≡ e.0.items)
+    (name : tree.Name) (key : Vec ℕ) (is : key.items ≡ folded name) (value : V) where
+  abbrev labels : List (Vec ℕ × V) → List (List ℕ)
+  labels es = map label (map shown es)
+
+  any-labels : (es : List (Vec ℕ × V)) → list_any (λ e. key_is key.items e.0) es ≡ list_any (is_same key.items) (labels es)
+  any-labels [] = refl
+  any-labels (e ∷ es) = (λ i. is_same key.items (sym (named e) i) || any-labels es i)
+
+  pub is_known-entries : (es : List (Vec ℕ × V)) → is_known (labels es) name ≡ list_any (λ e. key_is key.items e.0) es
+  is_known-entries es = ap (λ r. list_any (is_same r) (labels es)) (sym is) ∙ sym (any-labels es)
+
+  pub insert-new : (es : List (Vec ℕ × V)) → list_any (λ e. key_is key.items e.0) es ≡ false
+      → insert_entry (λ (x y : Vec ℕ). pointwise nat_eq x.items y.items) es key value ≡ es ++ (key, value) ∷ []
+  insert-new [] h = refl
+  insert-new (e ∷ es) h = by (key_is key.items e.0) refl h (insert-new es)
+    where
+      by : (b : Bool) → key_is key.items e.0 ≡ b → (b || list_any (λ e. key_is key.items e.0) es) ≡ false
+          → (list_any (λ e. key_is key.items e.0) es ≡ false → insert_entry (λ (x y : Vec ℕ). pointwise nat_eq x.items y.items) es key value ≡ es ++ (key, value) ∷ [])
+          → (if b then (e.0, value) ∷ es else e ∷ insert_entry (λ (x y : Vec ℕ). pointwise nat_eq x.items y.items) es key value) ≡ e ∷ (es ++ (key, value) ∷ [])
+      by true t f rest = absurd (true≢false f)
+      by false t f rest = ap (λ r. e ∷ r) (rest f)
+
+  -- a key that is there keeps its place, and its label
+  insert-present : (es : List (Vec ℕ × V)) → list_any (λ e. key_is key.items e.0) es ≡ true
+      → labels (insert_entry (λ (x y : Vec ℕ). pointwise nat_eq x.items y.items) es key value) ≡ labels es
+  insert-present [] h = absurd (true≢false (sym h))
+  insert-present (e ∷ es) h = by (key_is key.items e.0) h (insert-present es)
+    where
+      by : (b : Bool) → (b || list_any (λ e. key_is key.items e.0) es) ≡ true
+          → (list_any (λ e. key_is key.items e.0) es ≡ true → labels (insert_entry (λ (x y : Vec ℕ). pointwise nat_eq x.items y.items) es key value) ≡ labels es)
+          → labels (if b then (e.0, value) ∷ es else e ∷ insert_entry (λ (x y : Vec ℕ). pointwise nat_eq x.items y.items) es key value) ≡ label (shown e) ∷ labels es
+      by true f rest = ap (λ l. l ∷ labels es) (named (e.0, value) ∙ sym (named e))
+      by false f rest = ap (λ r. label (shown e) ∷ r) (rest f)
+
+  pub labels-insert : (es : List (Vec ℕ × V)) → labels (insert_entry (λ (x y : Vec ℕ). pointwise nat_eq x.items y.items) es key value) ≡ with_name (labels es) name
+  labels-insert es = by (list_any (λ e. key_is key.items e.0) es) refl
+    where
+      by : (b : Bool) → list_any (λ e. key_is key.items e.0) es ≡ b → labels (insert_entry (λ (x y : Vec ℕ). pointwise nat_eq x.items y.items) es key value) ≡ with_name (labels es) name
+      by true t = insert-present es t ∙ sym (ap (λ c. if c then labels es else labels es ++ folded name ∷ []) (is_known-entries es ∙ t))
+      by false t =
+          ap labels (insert-new es t) ∙ ap (map label) (map-append shown es ((key, value) ∷ [])) ∙ map-append label (map shown es) (shown (key, value) ∷ [])
+          ∙ ap (λ l. labels es ++ l ∷ []) (named (key, value) ∙ is)
+          ∙ sym (ap (λ c. if c then labels es else labels es ++ folded name ∷ []) (is_known-entries es ∙ t))
+
+  -- what the table shows of a new name
+  pub shown-insert : (made : S) → shown (key, value) ≡ made → (es : List (Vec ℕ × V)) → is_known (labels es) name ≡ false
+      → map shown (insert_entry (λ (x y : Vec ℕ). pointwise nat_eq x.items y.items) es key value) ≡ map shown es ++ made ∷ []
+  shown-insert made shows es new =
+      ap (map shown) (insert-new es (sym (is_known-entries es) ∙ new)) ∙ map-append shown es ((key, value) ∷ []) ∙ ap (λ s. map shown es ++ s ∷ []) shows
+
+-- a name that is not declared again: so are those after it, and it is new
+pub not_again : (before : List task.Name) (name : tree.Name) (rest : List tree.Name) → repeated_after before (name ∷ rest) ≡ []
+    → (is_known before name ≡ false) × (repeated_after (with_name before name) rest ≡ [])
+not_again before name rest e = by (is_known before name) e
+  where
+    by : (b : Bool) → (if b then name ∷ [] else []) ++ repeated_after (with_name before name) rest ≡ [] → (b ≡ false) × (repeated_after (with_name before name) rest ≡ [])
+    by true f = absurd (cc)
+    by false f = (refl, f)
+
+-- what a set says of a name that it is given
+pub was_there : (r l : Bool) → r ≡ not l → r ≡ false → l ≡ true
+was_there true true p q = refl
+was_there true false p q = absurd (true≢false q)
+was_there false true p q = refl
+was_there false false p q = absurd (true≢false (sym p))
+
+pub was_new : (r l : Bool) → r ≡ not l → r ≡ true → l ≡ false
+was_new true true p q = absurd (true≢false p)
+was_new true false p q = refl
+was_new false true p q = absurd (true≢false (sym q))
+was_new false false p q = refl
+
+-- one step of a table that is filled along a list
+pub table_step : {X S : Type 0} (named_as : X → tree.Name) (made : X → S) (label : S → task.Name) (xs : List X) (i : ℕ) (x : X) → i < length xs → x ≡ get_or xs i x
+    → (old new whole : List S)
+    → map label new ≡ with_name (map label old) (named_as x)
+    → (is_known (map label old) (named_as x) ≡ false → new ≡ old ++ made x ∷ [])
+    → (repeated_after (map label old) (map named_as (drop i xs)) ≡ []) × (old ++ map made (drop i xs) ≡ whole)
+    → (repeated_after (map label new) (map named_as (drop (i + 1) xs)) ≡ []) × (new ++ map made (drop (i + 1) xs) ≡ whole)
+table_step named_as made label xs i x l is old new whole labels added h =
+    let rest = drop_more xs i x l in
+    let split : drop i xs ≡ x ∷ drop (i + 1) xs = rest ∙ ap (λ y. y ∷ drop (i + 1) xs) (sym is) in
+    let again = not_again (map label old) (named_as x) (map named_as (drop (i + 1) xs)) (ap (λ ys. repeated_after (map label old) (map named_as ys)) (sym split) ∙ h.0) in (
+      ap (λ ks. repeated_after ks (map named_as (drop (i + 1) xs))) labels ∙ again.1,
+      ap (λ ss. ss ++ map made (drop (i + 1) xs)) (added again.0) ∙ append_assoc old (made x ∷ []) (map made (drop (i + 1) xs))
+          ∙ ap (λ ys. old ++ map made ys) (sym split) ∙ h.1,
+    )
+
+-- the whole table
+pub table_end : {X S : Type 0} (made : X → S) (xs : List X) (i : ℕ) → length xs ≤ i → (shown whole : List S) → shown ++ map made (drop i xs) ≡ whole → shown ≡ whole
+table_end made xs i l shown whole h = sym (append-nil shown) ∙ ap (λ ys. shown ++ map made ys) (sym (drop_all i xs l)) ∙ h

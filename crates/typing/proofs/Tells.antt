@@ -1,0 +1,30 @@
+-- From what a walk found to what is told.
+use Rattle.std.proofs.Common.{◌≡◌, List, [], ◌∷◌, Option, None, Some, sym, subst, arith, Result, Ok, Err, ◌∙◌, OnOk, IfErr}
+use Rattle.faults.specs.declared.refused.Refused.TheVariants.{At, NoMemory}
+use Rattle.typing.specs.Task.{TaskFault, TellsLeastOf}
+use Rattle.typing.specs.Walk.{found, TellsFound}
+use Rattle.model.specs.Typing.{TypingFault, IsLeastOf, first_filled}
+use Rattle.typing.proofs.Least.{found-Some, found-None}
+
+-- the least fault is told, where what was found is
+pub tells : (faults : List TypingFault) (least : Option TypingFault) → least ≡ found None faults → (e : TaskFault) → TellsFound least e → TellsLeastOf faults e
+tells faults least is NoMemory h = tt
+tells faults None is (At r) h = absurd h
+tells faults (Some f) is (At r) h = subst (IsLeastOf faults) (sym h) (found-Some faults f (sym is))
+
+pub tells_result : {A : Type 0} (faults : List TypingFault) (least : Option TypingFault) → least ≡ found None faults → (r : Result A TaskFault) → IfErr r (TellsFound least) → IfErr r (TellsLeastOf faults)
+tells_result faults least is (Ok x) h = tt
+tells_result faults least is (Err e) h = tells faults least is e h
+
+-- the first list with a fault is the one that is told of
+pub tells_here : (faults : List TypingFault) (later : List (List TypingFault)) (e : TaskFault) → TellsLeastOf faults e → TellsLeastOf (first_filled (faults ∷ later)) e
+tells_here [] later NoMemory h = tt
+tells_here [] later (At r) h = absurd (omega (arith, h.is_fault.1))
+tells_here (f ∷ more) later e h = h
+
+pub tells_later : (faults : List TypingFault) (later : List (List TypingFault)) → faults ≡ [] → (e : TaskFault) → TellsLeastOf (first_filled later) e → TellsLeastOf (first_filled (faults ∷ later)) e
+tells_later faults later none e h = subst (λ fs. TellsLeastOf (first_filled (fs ∷ later)) e) (sym none) h
+
+pub none_result : {A : Type 0} (faults : List TypingFault) (least : Option TypingFault) → least ≡ found None faults → (r : Result A TaskFault) → OnOk r (least ≡ None) → OnOk r (faults ≡ [])
+none_result faults least is (Ok x) h = found-None faults (sym is ∙ h)
+none_result faults least is (Err e) h = tt

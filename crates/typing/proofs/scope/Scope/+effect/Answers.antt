@@ -1,0 +1,15 @@
+use Rattle.typing.specs.Task.{file_of}
+use Rattle.typing.specs.Scope.{known_of}
+use Rattle.typing.specs.Walk.{least_of}
+use Rattle.typing.proofs.Trees.{effect_by_parts, effect_faults_by_parts}
+use Rattle.typing.proofs.scope.Scope.+effect.Goals as goal
+
+pub returns-after-loop-part-clause-value : goal.returns-after-loop-part-clause-value
+returns-after-loop-part-clause-value t c =
+    effect_by_parts (known_of c.args.self.now) c.args.effect.now c.in-And.parts c.deref-part-items.result.now c.loop-part.part-index c.loop-part.resolved
+    c.in-And.is c.deref-part-items.ensures.value c.loop-part.invariant.resolved c.loop-part-test.false
+
+pub returns-after-loop-part-clause-finds : goal.returns-after-loop-part-clause-finds
+returns-after-loop-part-clause-finds t c =
+    effect_faults_by_parts (file_of c.args.self.now.file) (known_of c.args.self.now) c.args.effect.now c.in-And.parts c.deref-part-items.result.now c.loop-part.part-index (least_of c.loop-part.walk) (least_of c.args.walk.now)
+    c.in-And.is c.deref-part-items.ensures.value c.loop-part.invariant.finds c.loop-part-test.false

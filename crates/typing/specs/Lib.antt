@@ -1,0 +1,4 @@
+pub mod TaskParts
+pub mod Task
+pub mod Walk
+pub mod Scope

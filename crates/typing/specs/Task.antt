@@ -1,0 +1,39 @@
+-- The code's task and the faults that it tells, in the model's terms.
+use Rattle.std.specs.Prelude.{◌≡◌, List}
+use Rattle.faults.specs.Fault.{number_of}
+use Rattle.typing.specs.declared.task.Task.{Task}
+use Rattle.typing.specs.declared.fault.TaskFile.{TaskFile}
+use Rattle.typing.specs.declared.fault.TaskFile.TheVariants.{Domain, Problem}
+use Rattle.typing.specs.declared.fault.TaskRefusal.{TaskRefusal}
+use Rattle.faults.specs.declared.refused.Refused.{Refused}
+use Rattle.faults.specs.declared.refused.Refused.TheVariants.{At, NoMemory}
+use Rattle.typing.specs.TaskParts.{task_of_parts}
+use Rattle.model.specs.Task as task
+use Rattle.model.specs.Trees as tree
+use Rattle.model.specs.Typing.{File, in_domain, in_problem, TypingFault, IsLeastOf, faults_of}
+
+abbrev pub task_of : Task → task.Task
+task_of t = task_of_parts t.objects.keys t.predicates.entries t.schemas.entries t.init.items t.goal
+
+abbrev pub file_of : TaskFile → File
+file_of Domain = in_domain
+file_of Problem = in_problem
+
+-- what a refusal tells
+abbrev pub refusal_of : TaskRefusal → TypingFault
+refusal_of r = record {
+  file = file_of r.file;
+  fault = record { code = number_of r.code; span = record { start = r.span.start; end = r.span.end } };
+}
+
+abbrev pub TaskFault : Type 0
+TaskFault = Refused TaskRefusal
+
+-- the least of these faults is told; want of memory says nothing of them
+abbrev pub TellsLeastOf : List TypingFault → TaskFault → Type 0
+TellsLeastOf faults NoMemory = Unit {0}
+TellsLeastOf faults (At r) = IsLeastOf faults (refusal_of r)
+
+-- the least fault of the pair is told; want of memory says nothing of the pair
+abbrev pub TellsLeastFault : tree.Domain → tree.Problem → TaskFault → Type 0
+TellsLeastFault d p = TellsLeastOf (faults_of d p)

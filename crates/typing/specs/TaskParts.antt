@@ -1,0 +1,85 @@
+-- The parts of the code's task, in the model's terms.
+use Rattle.std.specs.Prelude.{ℕ, List, map}
+use Rattle.std.specs.Global.{Vec}
+use Rattle.std.specs.List.Sorted.{IsStrictlySortedBy}
+use Rattle.typing.specs.declared.atoms.ObjectId.{ObjectId}
+use Rattle.typing.specs.declared.atoms.SchemaId.{SchemaId}
+use Rattle.typing.specs.declared.atoms.Atom.{Atom}
+use Rattle.typing.specs.declared.atoms.Term.{Term}
+use Rattle.typing.specs.declared.atoms.Term.TheVariants.{Variable, Object}
+use Rattle.typing.specs.declared.atoms.LiftedAtom.{LiftedAtom}
+use Rattle.typing.specs.declared.schemas.Formula.{Formula, Row_of-Formula, end_of-Formula, more_of-Formula}
+use Rattle.typing.specs.declared.schemas.Formula as formula
+use Rattle.typing.specs.declared.schemas.Effect.{Effect, Row_of-Effect, end_of-Effect, more_of-Effect}
+use Rattle.typing.specs.declared.schemas.Effect as effect
+use Rattle.typing.specs.declared.schemas.Predicate.{Predicate}
+use Rattle.typing.specs.declared.schemas.Schema.{Schema}
+use Rattle.model.specs.Task as task
+use Rattle.model.specs.Meaning.{atom_cmp}
+
+abbrev pub object_of : ObjectId → ℕ
+object_of o = o.0
+
+abbrev pub schema_id_of : SchemaId → ℕ
+schema_id_of s = s.0
+
+abbrev pub atom_of : Atom → task.Atom
+atom_of a = record { predicate = a.predicate.0; objects = map object_of a.objects.items }
+
+-- the atoms ascend in the model's order, so that each stands there once
+abbrev pub AreInOrder : List Atom → Type 0
+AreInOrder atoms = IsStrictlySortedBy (λ a b. atom_cmp (atom_of a) (atom_of b)) atoms
+
+abbrev pub term_of : Term → task.Term
+term_of (Variable v) = task.variable v.0
+term_of (Object o) = task.object o.0
+
+abbrev pub lifted_atom_of : LiftedAtom → task.LiftedAtom
+lifted_atom_of a = record { predicate = a.predicate.0; terms = map term_of a.terms.items }
+
+abbrev mutual
+  pub formula_of : Formula → task.Formula
+  formula_of (formula.Atom a) = task.atom (lifted_atom_of a)
+  formula_of (formula.And' shape parts) = task.and (formulas_of parts)
+
+  pub formulas_of : {m : _} → Row_of-Formula m → task.Formulas
+  formulas_of end_of-Formula = task.no_formula
+  formulas_of (more_of-Formula first rest) = task.more_formulas (formula_of first) (formulas_of rest)
+
+abbrev mutual
+  pub effect_of : Effect → task.Effect
+  effect_of (effect.Add a) = task.add (lifted_atom_of a)
+  effect_of (effect.Delete a) = task.delete (lifted_atom_of a)
+  effect_of (effect.And' shape parts) = task.both (effects_of parts)
+
+  pub effects_of : {m : _} → Row_of-Effect m → task.Effects
+  effects_of end_of-Effect = task.no_effect
+  effects_of (more_of-Effect first rest) = task.more_effects (effect_of first) (effects_of rest)
+
+-- a schema without its name: the count of its parameters, its precondition and its effect
+abbrev pub shape_of : Schema → ℕ × task.Formula × task.Effect
+shape_of s = (s.parameters, formula_of s.precondition, effect_of s.effect)
+
+abbrev pub shape_of_schema : task.Schema → ℕ × task.Formula × task.Effect
+shape_of_schema s = (s.parameters, s.precondition, s.effect)
+
+abbrev pub predicate_of : Vec ℕ × Predicate → task.Predicate
+predicate_of entry = record { name = entry.0.items; arity = entry.1.arity }
+
+abbrev pub schema_of : Vec ℕ × Schema → task.Schema
+schema_of entry = record {
+  name = entry.0.items;
+  parameters = entry.1.parameters;
+  precondition = formula_of entry.1.precondition;
+  effect = effect_of entry.1.effect;
+}
+
+-- the task of these objects, predicates and schemas by name, of these atoms at the start and this goal
+abbrev pub task_of_parts : List (Vec ℕ) → List (Vec ℕ × Predicate) → List (Vec ℕ × Schema) → List Atom → Formula → task.Task
+task_of_parts objects predicates schemas init goal = record {
+  objects = map (λ name. name.items) objects;
+  predicates = map predicate_of predicates;
+  schemas = map schema_of schemas;
+  init = map atom_of init;
+  goal = formula_of goal;
+}

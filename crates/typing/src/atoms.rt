@@ -1,0 +1,54 @@
+//! Numbers for names, and atoms made of them.
+use arrayvec::ArrayVec;
+
+/// The most arguments that a predicate may have.
+pub const MAX_ARGUMENTS: usize = 8;
+
+/// The most variables that may be in scope at once.
+pub const MAX_VARIABLES: usize = 16;
+
+/// The most objects that a task may have.
+pub const MAX_OBJECTS: usize = 65_535;
+
+/// An object: its place, from 0, among the problem's objects.
+#[derive(Clone, Copy, Debug, Default, PartialEq, Eq, PartialOrd, Ord, Hash)]
+pub struct ObjectId(pub u32);
+
+/// A predicate: its place, from 0, among the domain's predicates.
+#[derive(Clone, Copy, Debug, PartialEq, Eq, PartialOrd, Ord, Hash)]
+pub struct PredicateId(pub usize);
+
+/// An action schema: its place, from 0, among the domain's actions.
+#[derive(Clone, Copy, Debug, PartialEq, Eq, PartialOrd, Ord, Hash)]
+pub struct SchemaId(pub usize);
+
+/// A parameter of a schema: its place, from 0, among the schema's parameters.
+#[derive(Clone, Copy, Debug, PartialEq, Eq)]
+pub struct VariableId(pub usize);
+
+/// A ground atom: a predicate of some objects.
+#[derive(Clone, Debug, PartialEq, Eq, PartialOrd, Ord, Hash, Drop)]
+pub struct Atom {
+    /// The predicate.
+    pub predicate: PredicateId,
+    /// Its objects, in order.
+    pub objects: ArrayVec<ObjectId, MAX_ARGUMENTS>,
+}
+
+/// An argument of an atom in an action or a goal.
+#[derive(Clone, Copy, Debug)]
+pub enum Term {
+    /// What a parameter of the action stands for.
+    Variable(VariableId),
+    /// An object.
+    Object(ObjectId),
+}
+
+/// A predicate of some terms: an atom, once the parameters have objects.
+#[derive(Debug, Drop)]
+pub struct LiftedAtom {
+    /// The predicate.
+    pub predicate: PredicateId,
+    /// Its arguments, in order.
+    pub terms: Vec<Term>,
+}

@@ -1,0 +1,19 @@
+//! Names become numbers: a well-typed pair of a domain and a problem is a task, and of any other pair the
+//! first fault is told.
+#![tactic(auto)]
+
+mod atoms;
+mod fault;
+mod phases;
+mod schemas;
+mod scope;
+mod task;
+mod walk;
+
+pub use atoms::{
+    Atom, LiftedAtom, MAX_ARGUMENTS, MAX_OBJECTS, MAX_VARIABLES, ObjectId, PredicateId, SchemaId,
+    Term, VariableId,
+};
+pub use fault::{TaskFault, TaskFile, TaskRefusal};
+pub use schemas::{Effect, Formula, Predicate, Schema};
+pub use task::Task;

@@ -1,0 +1,140 @@
+//! The task of a domain and a problem.
+ghost use Rattle.std.specs.Prelude.{IsTrue, ◌≤◌, length};
+ghost use Rattle.typing.specs.TaskParts.{task_of_parts};
+ghost use Rattle.model.specs.WellTyped.{is_task};
+
+use crate::atoms::{Atom, MAX_VARIABLES, ObjectId, PredicateId, SchemaId};
+use crate::fault::{TaskFault, TaskFile};
+use crate::phases;
+use crate::schemas::{Formula, Predicate, Schema};
+use crate::scope::Scope;
+use indexmap::{IndexMap, IndexSet};
+use pddl_tree::{Domain, Problem};
+use std::alloc::Global;
+
+/// A planning task: a well-typed pair of a domain and a problem, with numbers for names.
+#[derive(Drop)]
+pub struct Task {
+    objects: IndexSet<Vec<u8>>,
+    predicates: IndexMap<Vec<u8>, Predicate>,
+    schemas: IndexMap<Vec<u8>, Schema>,
+    init: Vec<Atom>,
+    goal: Formula,
+    ghost few_objects: { length objects.keys ≤ 65535 },
+    ghost well_typed: { IsTrue (is_task (task_of_parts objects.keys predicates.entries schemas.entries init.items goal)) },
+}
+
+impl Task {
+    ghost use Rattle.std.specs.Prelude.{◌≡◌, length, map, position, slice_get, IfErr, IfOk, IfSome, OnOk};
+    ghost use Rattle.std.specs.Option.{option_copied, option_map};
+    ghost use Rattle.typing.specs.Task.{task_of, TellsLeastFault};
+    ghost use Rattle.pddl_tree.specs.Tree.{domain_of, problem_of};
+    ghost use Rattle.typing.specs.TaskParts.{atom_of, formula_of, object_of, schema_id_of, shape_of, shape_of_schema};
+    ghost use Rattle.model.specs.Typing.{is_same, task_of_trees, IsWellTyped};
+
+    /// The task of a domain and a problem: each name becomes its number.
+    ///
+    /// # Errors
+    /// The least fault of the pair, where it has one; [`TaskFault::NoMemory`] where memory is refused.
+    pub fn new(alloc: Global, domain: Domain<'_>, problem: Problem<'_>) -> Result<Task, TaskFault>
+        ensures well_typed { OnOk result (IsWellTyped (domain_of domain.entry) (problem_of problem.entry)) }
+        ensures task { IfOk result (λ t. task_of t ≡ task_of_trees (domain_of domain.entry) (problem_of problem.entry)) }
+        ensures least { IfErr result (TellsLeastFault (domain_of domain.entry) (problem_of problem.entry)) }
+    {
+        phases::domain_name(alloc, &domain, &problem)?;
+        let objects = phases::objects(alloc, &problem)?;
+        let predicates = phases::predicates(alloc, &domain)?;
+        let schemas = phases::schemas(alloc, &predicates, &domain)?;
+        let scope = Scope {
+            file: TaskFile::Problem,
+            predicates: &predicates,
+            variables: &IndexSet::new(alloc),
+            objects: &objects,
+        };
+        let init = phases::init(alloc, &scope, &problem)?;
+        let goal = phases::goal(alloc, &scope, &problem)?;
+        Ok(Task {
+            objects,
+            predicates,
+            schemas,
+            init,
+            goal,
+        })
+    }
+
+    /// The initial state's atoms, as they stand in the problem: one may stand there twice.
+    pub fn init(&self) -> &[Atom]
+        ensures { map atom_of result.now ≡ (task_of self.now).init }
+    {
+        self.init.as_slice()
+    }
+
+    /// What is to be reached.
+    pub fn goal(&self) -> &Formula
+        ensures { formula_of result.now ≡ (task_of self.now).goal }
+    {
+        &self.goal
+    }
+
+    /// How many objects there are.
+    pub fn object_count(&self) -> usize
+        ensures { result ≡ length (task_of self.now).objects }
+    {
+        self.objects.len()
+    }
+
+    /// How many action schemas there are.
+    pub fn schema_count(&self) -> usize
+        ensures { result ≡ length (task_of self.now).schemas }
+    {
+        self.schemas.len()
+    }
+
+    /// The schema of this number, and `None` where the number is beyond the last.
+    pub fn schema(&self, id: SchemaId) -> Option<&Schema>
+        ensures shape { option_map (λ s. shape_of s.now) result ≡ option_map shape_of_schema (slice_get (task_of self.now).schemas id.0) }
+        ensures few { IfSome result (λ s. s.now.parameters ≤ MAX_VARIABLES) }
+    {
+        let (_, schema) = self.schemas.get_index(id.0)?;
+        Some(schema)
+    }
+
+    /// The predicate of this number, and `None` where the number is beyond the last.
+    pub fn predicate(&self, id: PredicateId) -> Option<&Predicate>
+        ensures { option_map (λ p. p.now.arity) result ≡ option_map (λ p. p.arity) (slice_get (task_of self.now).predicates id.0) }
+    {
+        self.predicates.get_index(id.0).map(|entry| entry.1)
+    }
+
+    /// The object of this name, which is given in lower case.
+    pub fn object_named(&self, folded: &[u8]) -> Option<ObjectId>
+        ensures { option_map object_of result ≡ position (is_same folded.now) (task_of self.now).objects }
+    {
+        let number = self.objects.get_index_of(folded)?;
+        Some(ObjectId(number as u32))
+    }
+
+    /// The schema of this name, which is given in lower case.
+    pub fn schema_named(&self, folded: &[u8]) -> Option<SchemaId>
+        ensures { option_map schema_id_of result ≡ position (is_same folded.now) (map (λ s. s.name) (task_of self.now).schemas) }
+    {
+        let number = self.schemas.get_index_of(folded)?;
+        Some(SchemaId(number))
+    }
+
+    /// The object's name, in lower case, and `None` where the number is beyond the last.
+    pub fn object_name(&self, id: ObjectId) -> Option<&[u8]>
+        ensures { option_copied result ≡ slice_get (task_of self.now).objects id.0 }
+    {
+        let name = self.objects.get_index(id.0 as usize)?;
+        Some(name.as_slice())
+    }
+
+    /// The schema's name, in lower case, and `None` where the number is beyond the last.
+    pub fn schema_name(&self, id: SchemaId) -> Option<&[u8]>
+        ensures { option_copied result ≡ option_map (λ s. s.name) (slice_get (task_of self.now).schemas id.0) }
+    {
+        let (name, _) = self.schemas.get_index(id.0)?;
+        Some(name.as_slice())
+    }
+}
