@@ -7,6 +7,7 @@ use Rattle.pddl_tree.specs.Tree as read
 use Rattle.model.specs.Typing as typing
 use Rattle.typing.proofs.Found as finding
 use Rattle.typing.proofs.Least as least
+use Rattle.faults.proofs.Results.{passed_on}
 use Rattle.typing.proofs.Tells as telling
 use Rattle.std.proofs.lemmas.List.Folds.{flat_map-map}
 use Rattle.typing.proofs.phases.init.Goals as goal
@@ -19,7 +20,7 @@ returns-in_err-finish-clause-err c =
     let total : least_of c.atoms.new.walk ≡ found None (flat_map faults (map read.fact_of ys)) =
     c.in_ok-init.ensures.finds ∙ ap (λ o. found o (flat_map (λ f. faults (read.fact_of f)) xs)) c.new-walk.ensures
     ∙ ap (λ zs. found None (flat_map (λ f. faults (read.fact_of f)) zs)) c.as_slice-facts.ensures.value ∙ ap (found None) (sym (flat_map-map faults read.fact_of ys)) in
-    telling.passed_on (TellsLeastOf (flat_map (typing.fact_faults (file_of c.args.scope.now.file) (known_of c.args.scope.now)) (map read.fact_of c.args.problem.now.init.items))) c.from_residual-in_err-finish.result c.in_err-finish.field-0.0 c.from_residual-in_err-finish.ensures.1 (telling.tells (flat_map (typing.fact_faults (file_of c.args.scope.now.file) (known_of c.args.scope.now)) (map read.fact_of c.args.problem.now.init.items)) _ total c.in_err-finish.field-0.0 c.in_err-finish.ensures.some)
+    passed_on (TellsLeastOf (flat_map (typing.fact_faults (file_of c.args.scope.now.file) (known_of c.args.scope.now)) (map read.fact_of c.args.problem.now.init.items))) c.from_residual-in_err-finish.result c.in_err-finish.field-0.0 c.from_residual-in_err-finish.ensures.1 (telling.tells (flat_map (typing.fact_faults (file_of c.args.scope.now.file) (known_of c.args.scope.now)) (map read.fact_of c.args.problem.now.init.items)) _ total c.in_err-finish.field-0.0 c.in_err-finish.ensures.some)
 
 pub returns-clause-ok : goal.returns-clause-ok
 returns-clause-ok c =

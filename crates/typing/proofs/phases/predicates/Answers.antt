@@ -6,6 +6,7 @@ use Rattle.pddl_tree.specs.Tree as read
 use Rattle.model.specs.Typing as typing
 use Rattle.typing.proofs.Found as finding
 use Rattle.typing.proofs.Least as least
+use Rattle.faults.proofs.Results.{passed_on}
 use Rattle.typing.proofs.Tells as telling
 use Rattle.typing.proofs.WellTyped as typed
 use Rattle.pddl_tree.specs.declared.tree.Predicate.{Predicate}
@@ -24,7 +25,7 @@ returns-in_err-finish-clause-err c =
     c.limit_arguments.ensures ∙ ap (λ o. found o (many xs)) (c.in_ok-predicates.ensures.finds ∙ ap (λ o. found o (twice xs)) c.new-walk.ensures)
     ∙ sym (finding.found-append None (twice xs) (many xs)) ∙ ap (λ ys. found None (twice ys ++ many ys)) c.as_slice-declarations.ensures.value
     ∙ ap (found None) (same c.args.domain.now.predicates.items) in
-    telling.passed_on (TellsLeastOf (typing.declaration_faults (read.domain_of c.args.domain.now))) c.from_residual-in_err-finish.result c.in_err-finish.field-0.0 c.from_residual-in_err-finish.ensures.1 (telling.tells (typing.declaration_faults (read.domain_of c.args.domain.now)) _ total c.in_err-finish.field-0.0 c.in_err-finish.ensures.some)
+    passed_on (TellsLeastOf (typing.declaration_faults (read.domain_of c.args.domain.now))) c.from_residual-in_err-finish.result c.in_err-finish.field-0.0 c.from_residual-in_err-finish.ensures.1 (telling.tells (typing.declaration_faults (read.domain_of c.args.domain.now)) _ total c.in_err-finish.field-0.0 c.in_err-finish.ensures.some)
 
 pub returns-clause-ok : goal.returns-clause-ok
 returns-clause-ok c =

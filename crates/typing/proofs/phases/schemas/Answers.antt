@@ -7,6 +7,7 @@ use Rattle.pddl_tree.specs.Tree as read
 use Rattle.model.specs.Typing as typing
 use Rattle.typing.proofs.Found as finding
 use Rattle.typing.proofs.Least as least
+use Rattle.faults.proofs.Results.{passed_on}
 use Rattle.typing.proofs.Tells as telling
 use Rattle.typing.proofs.WellTyped as typed
 use Rattle.pddl_tree.specs.declared.tree.Action.{Action}
@@ -26,7 +27,7 @@ returns-in_err-finish-clause-err c =
     c.in_ok-schemas.ensures.finds ∙ ap (λ o. found o (inner xs)) (c.in_ok-declare_actions.ensures ∙ ap (λ o. found o (twice xs)) c.new-walk.ensures)
     ∙ sym (finding.found-append None (twice xs) (inner xs)) ∙ ap (λ ys. found None (twice ys ++ inner ys)) c.as_slice-actions.ensures.value
     ∙ ap (found None) (same c.args.domain.now.actions.items) in
-    telling.passed_on (TellsLeastOf (typing.action_faults (map parts.predicate_of c.args.predicates.now.entries) (read.domain_of c.args.domain.now))) c.from_residual-in_err-finish.result c.in_err-finish.field-0.0 c.from_residual-in_err-finish.ensures.1 (telling.tells (typing.action_faults (map parts.predicate_of c.args.predicates.now.entries) (read.domain_of c.args.domain.now)) _ total c.in_err-finish.field-0.0 c.in_err-finish.ensures.some)
+    passed_on (TellsLeastOf (typing.action_faults (map parts.predicate_of c.args.predicates.now.entries) (read.domain_of c.args.domain.now))) c.from_residual-in_err-finish.result c.in_err-finish.field-0.0 c.from_residual-in_err-finish.ensures.1 (telling.tells (typing.action_faults (map parts.predicate_of c.args.predicates.now.entries) (read.domain_of c.args.domain.now)) _ total c.in_err-finish.field-0.0 c.in_err-finish.ensures.some)
 
 pub returns-clause-ok : goal.returns-clause-ok
 returns-clause-ok c =
