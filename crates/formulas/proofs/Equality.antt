@@ -10,9 +10,9 @@ use Rattle.std.specs.FinSet.{contains, from_list}
 use Rattle.formulas.specs.declared.state.State as code_state
 use Rattle.typing.specs.declared.atoms.Atom.{Atom}
 use Rattle.typing.specs.declared.atoms.ObjectId.{ObjectId}
-use Rattle.validator.specs.contracts.formulas.state.StatePartialEq.TheImpl as state_impl
-use Rattle.validator.specs.contracts.typing.AtomPartialEq.TheImpl as atom_impl
-use Rattle.validator.specs.contracts.typing.ObjectIdPartialEq.TheImpl as object_impl
+use Rattle.formulas.specs.contracts.state.StatePartialEq.TheImpl as state_impl
+use Rattle.typing.specs.contracts.atoms.AtomPartialEq.TheImpl as atom_impl
+use Rattle.typing.specs.contracts.atoms.ObjectIdPartialEq.TheImpl as object_impl
 use Rattle.typing.specs.TaskParts.{atom_of, object_of}
 use Rattle.formulas.specs.State.{state_of}
 use Rattle.formulas.proofs.States.{model_cmp, contains_in_model, atom_at}

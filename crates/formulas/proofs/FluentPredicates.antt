@@ -14,7 +14,7 @@ use Rattle.formulas.proofs.Trees.{effects_in, effect_of-And}
 use Rattle.model.specs.Task.{Schema, Task, Predicate, Atom}
 use Rattle.model.specs.WellTyped.{has_arity, is_object, is_atom}
 use Rattle.model.specs.Certificates.{touches, any_touches, is_fluent}
-use Rattle.task_system.proofs.TaskSystemLemmas.{drop-here}
+use Rattle.model.proofs.ListLemmas.{drop-here}
 
 any_touches-list : (predicate : ℕ) (parts : List Effect) → any_touches predicate (effects_in parts) ≡ list_any (λ part. touches predicate (effect_of part)) parts
 any_touches-list predicate [] = refl

@@ -1,5 +1,5 @@
 -- Which elements a list has, and those made by `map`, `flat_map`, `filter_map` and a range.
-use Rattle.std.proofs.Common.{◌≡◌, ℕ, zero, suc, ◌+◌, ◌<◌, ◌≤◌, ◌⊎◌, inl, inr, List, [], ◌∷◌, length, map, Option, None, Some, refl, sym, ap, ◌∙◌, subst, arith}
+use Rattle.std.proofs.Common.{◌≡◌, ℕ, zero, suc, add-one, ◌+◌, ◌<◌, ◌≤◌, ◌⊎◌, inl, inr, List, [], ◌∷◌, length, map, drop, Option, None, Some, refl, sym, ap, ◌∙◌, subst, arith}
 use Rattle.std.specs.Prelude.{Contains, slice_get}
 use Rattle.std.specs.List.{flat_map, filter_map, range_with_len, cons_option}
 use Rattle.std.proofs.lemmas.Bool.{cases_eq}
@@ -96,3 +96,15 @@ range-Contains from (suc n) k at =
       | inl is ↦ (omega arith, omega arith)
       | inr later ↦ let rest = range-Contains (from + 1) n k later in (omega (arith, rest.0), omega (arith, rest.1))
     ]
+
+-- what is left from an element on, and past the last
+pub drop-here : {X : Type 0} (xs : List X) (k : ℕ) (x : X) → slice_get xs k ≡ Some x → drop k xs ≡ x ∷ drop (k + 1) xs
+drop-here [] k x at = absurd (cc)
+drop-here (y ∷ xs) zero x at = let same : y ≡ x = cc in ap (λ z. z ∷ xs) same
+drop-here (y ∷ xs) (suc k) x at = drop-here xs k x at ∙ ap (λ n. x ∷ drop n xs) (add-one k) ∙ ap (λ n. x ∷ drop n (y ∷ xs)) (sym (add-one (suc k)))
+
+pub drop-absent : {X : Type 0} (xs : List X) (k : ℕ) → slice_get xs k ≡ None → drop k xs ≡ []
+drop-absent [] zero at = refl
+drop-absent [] (suc k) at = refl
+drop-absent (y ∷ xs) zero at = absurd (cc)
+drop-absent (y ∷ xs) (suc k) at = drop-absent xs k at

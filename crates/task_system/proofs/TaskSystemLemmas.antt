@@ -16,34 +16,11 @@ use Rattle.model.specs.Runs.{AreSuccessors}
 use Rattle.model.specs.Meaning.{State, step, is_instance, fits, system_of}
 use Rattle.model.specs.Instances.{tuples, instances_of_schema, instances_from, all_instances, leading_to, successors_of}
 use Rattle.model.proofs.InstancesLemmas.{successors-AreSuccessors}
+use Rattle.model.proofs.ListLemmas.{drop-here}
 use Rattle.search.specs.declared.transitions.Successor.{Successor}
 use Rattle.formulas.specs.declared.instance.Instance as code_instance
 use Rattle.formulas.specs.declared.state.State as code_state
 use Rattle.task_system.specs.TaskSystem.{begun_instances, is_begun, is_begun_of, successor_of}
-
--- ---- a schema at its place
-
-abbrev pub Shape : Type 0
-Shape = ℕ × Formula × Effect
-
-pub schema_found : (o : Option Schema) (shape : Shape) → Some shape ≡ option_map shape_of_schema o → (s : Schema) × (o ≡ Some s) × (shape ≡ shape_of_schema s)
-schema_found None shape is = absurd (cc)
-schema_found (Some s) shape is = (s, refl, cc)
-
-pub schema_absent : (o : Option Schema) → None ≡ option_map shape_of_schema o → o ≡ None
-schema_absent None is = refl
-schema_absent (Some s) is = absurd (cc)
-
-pub drop-here : {X : Type 0} (xs : List X) (k : ℕ) (x : X) → slice_get xs k ≡ Some x → drop k xs ≡ x ∷ drop (k + 1) xs
-drop-here [] k x at = absurd (cc)
-drop-here (y ∷ xs) zero x at = let same : y ≡ x = cc in ap (λ z. z ∷ xs) same
-drop-here (y ∷ xs) (suc k) x at = drop-here xs k x at ∙ ap (λ n. x ∷ drop n xs) (add-one k) ∙ ap (λ n. x ∷ drop n (y ∷ xs)) (sym (add-one (suc k)))
-
-pub drop-absent : {X : Type 0} (xs : List X) (k : ℕ) → slice_get xs k ≡ None → drop k xs ≡ []
-drop-absent [] zero at = refl
-drop-absent [] (suc k) at = refl
-drop-absent (y ∷ xs) zero at = absurd (cc)
-drop-absent (y ∷ xs) (suc k) at = drop-absent xs k at
 
 -- ---- counting
 

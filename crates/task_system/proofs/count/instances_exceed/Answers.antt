@@ -4,7 +4,8 @@ use Rattle.std.proofs.lemmas.Bool.{lt-ltb}
 use Rattle.typing.specs.Task.{task_of}
 use Rattle.typing.specs.TaskParts.{shape_of}
 use Rattle.model.specs.Instances.{all_instances}
-use Rattle.task_system.proofs.TaskSystemLemmas.{Shape, schema_found, counted}
+use Rattle.typing.proofs.Shapes.{Shape, found as schema_found}
+use Rattle.task_system.proofs.TaskSystemLemmas.{counted}
 use Rattle.task_system.proofs.count.instances_exceed.Goals as goal
 
 pub returns-then-count-from : goal.returns-then-count-from

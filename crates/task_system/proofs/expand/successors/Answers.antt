@@ -6,7 +6,8 @@ use Rattle.typing.specs.TaskParts.{object_of, shape_of}
 use Rattle.formulas.specs.State.{state_of}
 use Rattle.model.specs.Instances.{tuples, leading_to}
 use Rattle.task_system.specs.TaskSystem.{successor_of, begun_instances}
-use Rattle.task_system.proofs.TaskSystemLemmas.{Shape, schema_found, found-schema}
+use Rattle.typing.proofs.Shapes.{Shape, found as schema_found}
+use Rattle.task_system.proofs.TaskSystemLemmas.{found-schema}
 use Rattle.task_system.proofs.expand.successors.Goals as goal
 
 pub add-requires-clause-room : goal.add-requires-clause-room

@@ -1,0 +1,186 @@
+//! A case: the files, the words of the command, and what is wanted of it.
+use crate::section::{Section, Turn};
+use crate::stream::Stream;
+use faults::NoMemory;
+use planner_main::files::Table;
+use std::alloc::{AllocError, AllocFailed, Global};
+
+/// Why a case could not be tried.
+#[derive(Clone, Copy, Debug)]
+pub enum CaseFault {
+    /// Memory was refused.
+    NoMemory,
+    /// A number is none, or too large.
+    Number,
+    /// The words of a section say nothing.
+    Words,
+    /// No section says what is run.
+    NothingRun,
+}
+
+impl CaseFault {
+    /// The fault in words.
+    pub fn text(&self) -> &'static str {
+        match self {
+            CaseFault::NoMemory => "memory was refused",
+            CaseFault::Number => "a number is none, or too large",
+            CaseFault::Words => "a section has words that are none",
+            CaseFault::NothingRun => "nothing is run",
+        }
+    }
+}
+
+impl From<AllocError> for CaseFault {
+    fn from(_error: AllocError) -> CaseFault {
+        CaseFault::NoMemory
+    }
+}
+
+impl<T: Drop> From<AllocFailed<T>> for CaseFault {
+    fn from(_error: AllocFailed<T>) -> CaseFault {
+        CaseFault::NoMemory
+    }
+}
+
+impl From<NoMemory> for CaseFault {
+    fn from(_error: NoMemory) -> CaseFault {
+        CaseFault::NoMemory
+    }
+}
+
+/// The number that a word is.
+pub fn number_of(word: &str) -> Result<u32, CaseFault> {
+    word.parse::<u32>().map_err(|_| CaseFault::Number)
+}
+
+/// A case.
+#[derive(Drop)]
+pub struct Case<'a> {
+    /// The files of its sections.
+    pub files: Table,
+    /// The words of the command, if one is run.
+    pub words: Option<Vec<&'a str>>,
+    /// The standard output.
+    pub out: Stream,
+    /// The standard error.
+    pub err: Stream,
+    /// The status that is wanted.
+    pub status: u32,
+}
+
+impl<'a> Case<'a> {
+    /// No file and nothing run: nothing is to be written, and the status is 0.
+    pub fn new(alloc: Global) -> Case<'a> {
+        Case {
+            files: Table::new(alloc),
+            words: None,
+            out: Stream::new(alloc),
+            err: Stream::new(alloc),
+            status: 0,
+        }
+    }
+
+    /// Takes the sections of a text. What stands before the first is a title or a comment.
+    pub fn take(
+        &mut self,
+        alloc: Global,
+        text: &'a str,
+        byte: Option<u8>,
+    ) -> Result<(), CaseFault> {
+        for text in text.split("\n--- ").skip(1) {
+            self.take_section(alloc, Section::of(text), Turn { number: 0, byte })?;
+        }
+        Ok(())
+    }
+
+    fn take_section(
+        &mut self,
+        alloc: Global,
+        section: Section<'a>,
+        turn: Turn,
+    ) -> Result<(), CaseFault> {
+        match section.name {
+            // the bytes for which the case is run
+            "each" => Ok(()),
+            "run" => {
+                self.words = Some(section.words.split_whitespace().collect(alloc)?);
+                Ok(())
+            }
+            "status" => {
+                self.status = number_of(section.words)?;
+                Ok(())
+            }
+            "stdout" => self.out.take(alloc, section, turn),
+            "stderr" => self.err.take(alloc, section, turn),
+            _ => take_file(alloc, &mut self.files, section, turn),
+        }
+    }
+}
+
+/// Takes what a section says of a file.
+fn take_file(
+    alloc: Global,
+    files: &mut Table,
+    section: Section<'_>,
+    turn: Turn,
+) -> Result<(), CaseFault> {
+    let name = section.name;
+    match section.verb() {
+        ("", _) => files.put(name, &section.bytes(alloc, turn)?)?,
+        ("more", "") => add_to(alloc, files, section, turn, 1)?,
+        ("more", count) => add_to(alloc, files, section, turn, number_of(count)?)?,
+        ("fails", count) => fail_at(alloc, files, name, number_of(count)?)?,
+        _ => return Err(CaseFault::Words),
+    }
+    Ok(())
+}
+
+/// Adds the bytes of the section to the file, so many times.
+fn add_to(
+    alloc: Global,
+    files: &mut Table,
+    section: Section<'_>,
+    turn: Turn,
+    count: u32,
+) -> Result<(), CaseFault> {
+    let mut bytes = contents(alloc, files, section.name)?;
+    if section.is_numbered() {
+        for number in 0..count {
+            section.add_bytes(alloc, Turn { number, ..turn }, &mut bytes)?;
+        }
+    } else {
+        add_repeated(alloc, &section.bytes(alloc, turn)?, count, &mut bytes)?;
+    }
+    Ok(files.put(section.name, &bytes)?)
+}
+
+/// How many repetitions are put together and added at once.
+const BLOCK: u32 = 4096;
+
+/// Adds these bytes so many times.
+fn add_repeated(
+    alloc: Global,
+    unit: &[u8],
+    count: u32,
+    bytes: &mut Vec<u8>,
+) -> Result<(), AllocError> {
+    let block = unit.repeat(alloc, BLOCK as usize)?;
+    for _ in 0..count / BLOCK {
+        bytes.extend_from_slice(&block)?;
+    }
+    for _ in 0..count % BLOCK {
+        bytes.extend_from_slice(unit)?;
+    }
+    Ok(())
+}
+
+/// Has the device of the file fail once, at the read after so many.
+fn fail_at(alloc: Global, files: &mut Table, name: &str, count: u32) -> Result<(), CaseFault> {
+    let bytes = contents(alloc, files, name)?;
+    Ok(files.put_failing(name, &bytes, u64::from(count))?)
+}
+
+/// The bytes of the file so far; none where there is no such file.
+fn contents(alloc: Global, files: &Table, name: &str) -> Result<Vec<u8>, AllocError> {
+    Vec::from_slice(alloc, files.get(name).unwrap_or(&[]))
+}

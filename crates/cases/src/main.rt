@@ -1,0 +1,124 @@
+//! The program `cases`: the worked examples of `data/`. Each is run over files in memory, and compared with what it is to
+//! give.
+#![tactic(auto)]
+
+mod case;
+mod each;
+mod outcome;
+mod section;
+mod stream;
+mod text;
+
+use std::process::ExitCode;
+use std::{fs, io};
+
+/// How the name of a file of cases ends.
+const ENDING: &str = ".cases";
+
+/// Runs each file of cases that lies in the folder, in the order of their names, and ends with status 1 where a case
+/// differs.
+///
+/// No list names the files, so that none can be forgotten.
+fn main(rt: HostRuntime) -> io::Result<ExitCode> {
+    let mut differing = 0u64;
+    for name in &case_files(&rt)? {
+        differing = differing.saturating_add(run_file(&rt, name.as_str())?);
+    }
+    Ok(ExitCode::from(u8::from(differing > 0)))
+}
+
+/// The names of the files of cases, in order.
+fn case_files(rt: &HostRuntime) -> io::Result<Vec<String>> {
+    let mut names = Vec::new(rt.alloc());
+    for entry in fs::read_dir(rt, ".")? {
+        add_name(rt, entry?.file_name(), &mut names)?;
+    }
+    names.sort()?;
+    Ok(names)
+}
+
+/// Adds the name, if it is that of a file of cases.
+fn add_name(rt: &HostRuntime, name: &str, names: &mut Vec<String>) -> io::Result<()> {
+    if name.ends_with(ENDING) {
+        names.push(String::from_str(rt.alloc(), name)?)?;
+    }
+    Ok(())
+}
+
+/// Runs the cases of one file, with a line for each that differs and one that counts them: how many differ.
+fn run_file(rt: &HostRuntime, name: &str) -> io::Result<u64> {
+    let text = fs::read_to_string(rt, name)?;
+    let mut cases = text.split("\n=== ");
+    let shared = cases.next().unwrap_or("");
+    let mut tally = Tally::default();
+    for text in cases {
+        run_each(rt, name, shared, text, &mut tally)?;
+    }
+    let Tally { cases, differing } = tally;
+    println!(rt; "{name}: {cases} cases, {differing} differ")?;
+    Ok(differing)
+}
+
+/// How many cases were run, and how many of them differ.
+#[derive(Clone, Copy, Default)]
+struct Tally {
+    cases: u64,
+    differing: u64,
+}
+
+impl Tally {
+    fn count(&mut self, is_same: bool) {
+        self.cases = self.cases.saturating_add(1);
+        self.differing = self.differing.saturating_add(u64::from(!is_same));
+    }
+}
+
+/// Runs a case for each byte that it lists, and once where it has no such list.
+fn run_each(
+    rt: &HostRuntime,
+    file: &str,
+    shared: &str,
+    text: &str,
+    tally: &mut Tally,
+) -> io::Result<()> {
+    match each::listed_bytes(rt.alloc(), text)? {
+        None => tally.count(run_case(rt, file, shared, text, None)?),
+        Some(bytes) => {
+            for &byte in &bytes {
+                tally.count(run_case(rt, file, shared, text, Some(byte))?);
+            }
+        }
+    }
+    Ok(())
+}
+
+/// Runs one case, and says where it differs: whether it does not.
+fn run_case(
+    rt: &HostRuntime,
+    file: &str,
+    shared: &str,
+    text: &str,
+    byte: Option<u8>,
+) -> io::Result<bool> {
+    let title = text.lines().next().unwrap_or("");
+    match outcome::difference(rt.alloc(), shared, text, byte) {
+        Ok(None) => return Ok(true),
+        Ok(Some(found)) => tell(rt, file, title, byte, found.as_str())?,
+        Err(fault) => tell(rt, file, title, byte, fault.text())?,
+    }
+    Ok(false)
+}
+
+/// Tells what was found of a case.
+fn tell(
+    rt: &HostRuntime,
+    file: &str,
+    title: &str,
+    byte: Option<u8>,
+    found: &str,
+) -> io::Result<()> {
+    match byte {
+        Some(byte) => println!(rt; "{file}: {title}: for the byte {byte}, {found}"),
+        None => println!(rt; "{file}: {title}: {found}"),
+    }
+}

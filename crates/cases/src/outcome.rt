@@ -1,0 +1,37 @@
+//! What a case gives, beside what it is to give.
+use crate::case::{Case, CaseFault};
+use std::alloc::{AllocError, Global};
+
+/// How a case differs from what is wanted, and `None` where it does not.
+pub fn difference(
+    alloc: Global,
+    shared: &str,
+    text: &str,
+    byte: Option<u8>,
+) -> Result<Option<String>, CaseFault> {
+    let mut case = Case::new(alloc);
+    case.take(alloc, shared, byte)?;
+    case.take(alloc, text, byte)?;
+    run(alloc, &mut case)
+}
+
+/// Runs the command of a case: how what it gives differs, and `None` where it does not.
+fn run(alloc: Global, case: &mut Case<'_>) -> Result<Option<String>, CaseFault> {
+    let Some(words) = &case.words else {
+        return Err(CaseFault::NothingRun);
+    };
+    let mut out = case.out.device(alloc);
+    let mut err = case.err.device(alloc);
+    let status = planner_main::run(alloc, words, &mut case.files, &mut out, &mut err);
+    if u32::from(status) != case.status {
+        return Ok(Some(status_text(alloc, status, case.status)?));
+    }
+    match case.err.difference(alloc, "stderr", &err)? {
+        None => Ok(case.out.difference(alloc, "stdout", &out)?),
+        found => Ok(found),
+    }
+}
+
+fn status_text(alloc: Global, status: u8, wanted: u32) -> Result<String, AllocError> {
+    format!(in alloc; "status is {status}, and not {wanted}")
+}

@@ -1,0 +1,88 @@
+//! The standard output and the standard error of a case.
+use crate::case::{CaseFault, number_of};
+use crate::section::{Section, Turn};
+use devices::{FailsAt, InPieces, Memory};
+use std::alloc::{AllocError, Global};
+
+/// A stream that may take its bytes in pieces, and fail.
+pub type Device = FailsAt<InPieces<Memory>>;
+
+/// A stream: what it is to take, and how it takes it.
+#[derive(Drop)]
+pub struct Stream {
+    wanted: Vec<u8>,
+    // whether the wanted bytes are the end alone
+    is_end: bool,
+    // the most bytes that it takes at a write
+    piece: u32,
+    // how many writes succeed before the one that fails, and `None` where none fails
+    writes_before: Option<u32>,
+}
+
+impl Stream {
+    /// A stream that is to take nothing.
+    pub fn new(alloc: Global) -> Stream {
+        Stream {
+            wanted: Vec::new(alloc),
+            is_end: false,
+            piece: u32::MAX,
+            writes_before: None,
+        }
+    }
+
+    /// Takes what a section says of the stream.
+    pub fn take(
+        &mut self,
+        alloc: Global,
+        section: Section<'_>,
+        turn: Turn,
+    ) -> Result<(), CaseFault> {
+        match section.verb() {
+            ("", _) => self.want(section.bytes(alloc, turn)?, false),
+            ("ends", _) => self.want(section.bytes(alloc, turn)?, true),
+            ("pieces", length) => self.piece = number_of(length)?,
+            ("fails", count) => self.writes_before = Some(number_of(count)?),
+            _ => return Err(CaseFault::Words),
+        }
+        Ok(())
+    }
+
+    fn want(&mut self, bytes: Vec<u8>, is_end: bool) {
+        self.wanted = bytes;
+        self.is_end = is_end;
+    }
+
+    /// The device of the stream, which holds nothing yet.
+    pub fn device(&self, alloc: Global) -> Device {
+        // a piece has at least one byte
+        let length = self.piece.max(1) as usize;
+        FailsAt::new(
+            InPieces::new(Memory::empty(alloc), length),
+            self.writes_before.map(u64::from),
+        )
+    }
+
+    /// How the bytes that it took differ from what is wanted, and `None` where they do not.
+    pub fn difference(
+        &self,
+        alloc: Global,
+        name: &str,
+        device: &Device,
+    ) -> Result<Option<String>, AllocError> {
+        let taken = device.inner.inner.as_slice();
+        if self.is_wanted(taken) {
+            return Ok(None);
+        }
+        let is = String::from_utf8_lossy(alloc, taken)?;
+        let wanted = String::from_utf8_lossy(alloc, &self.wanted)?;
+        Ok(Some(format!(in alloc; "{name} is {is:?}, and not {wanted:?}")?))
+    }
+
+    fn is_wanted(&self, taken: &[u8]) -> bool {
+        if self.is_end {
+            taken.ends_with(&self.wanted)
+        } else {
+            taken == self.wanted.as_slice()
+        }
+    }
+}
