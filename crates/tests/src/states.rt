@@ -125,16 +125,33 @@ fn lists(rt: &impl Abort, state: &State, atoms: &[(usize, &[u32])]) {
     }
 }
 
+/// Three states: of the atoms in order, of the same in another order, and of all of them but the first.
+#[derive(Drop)]
+struct Three {
+    ordered: State,
+    mixed: State,
+    fewer: State,
+}
+
+fn three_states(alloc: Global) -> Result<Three, Fail> {
+    let ordered = state(alloc, &IN_ORDER)?;
+    let mixed = state(alloc, &MIXED)?;
+    let fewer = state(alloc, &IN_ORDER[1..])?;
+    Ok(Three {
+        ordered,
+        mixed,
+        fewer,
+    })
+}
+
 #[test]
 fn states_are_sets(rt: HostRuntime) -> Result<(), Fail> {
-    let state_in_order = state(rt.alloc(), &IN_ORDER)?;
-    let mixed = state(rt.alloc(), &MIXED)?;
-    let less = state(rt.alloc(), &IN_ORDER[1..])?;
-    assert!(rt; mixed == state_in_order);
-    assert!(rt; mixed != less);
-    lists(&rt, &mixed, &IN_ORDER);
-    lists(&rt, &less, &IN_ORDER[1..]);
-    assert!(rt; mixed.try_clone()? == state_in_order);
-    assert_eq!(rt; State::new(rt.alloc()).atoms().len(), 0);
+    let states = three_states(rt.alloc())?;
+    assert!(rt; states.mixed == states.ordered);
+    assert!(rt; states.mixed != states.fewer);
+    lists(&rt, &states.mixed, &IN_ORDER);
+    lists(&rt, &states.fewer, &IN_ORDER[1..]);
+    lists(&rt, &State::new(rt.alloc()), &[]);
+    assert!(rt; states.mixed.try_clone()? == states.ordered);
     Ok(())
 }

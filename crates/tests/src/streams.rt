@@ -7,7 +7,7 @@ use planner_main::run;
 use std::alloc::Global;
 use std::process::Abort;
 use std::test::Fail;
-use std::{env, fs};
+use std::{env, fs, process};
 
 /// Five bytes, of which each read gives two.
 fn pairs(alloc: Global) -> Result<InPieces<Memory>, Fail> {
@@ -99,7 +99,8 @@ fn keeps_a_file<F: Files>(rt: &impl Abort, files: &mut F, name: &str) -> Result<
 #[test]
 fn the_machine_keeps_files(rt: HostRuntime) -> Result<(), Fail> {
     let folder = env::temp_dir(&rt)?;
-    let name = format!(in rt.alloc(); "{}/optplan-tests-a-file", folder.as_str())?;
+    let id = process::id(rt.process());
+    let name = format!(in rt.alloc(); "{}/optplan-tests-{id}", folder.as_str())?;
     let mut files = SystemFiles::new(&rt);
     keeps_a_file(&rt, &mut files, name.as_str())?;
     fs::remove_file(&rt, name.as_str())?;
@@ -207,86 +208,5 @@ fn files_are_read_in_pieces(rt: HostRuntime) -> Result<(), Fail> {
     for (name, bytes, reads_before) in &FAILING {
         fails(&rt, rt.alloc(), *name, *bytes, *reads_before)?;
     }
-    Ok(())
-}
-
-#[test]
-fn failing_files_are_told_before_faults_of_texts(rt: HostRuntime) -> Result<(), Fail> {
-    let alloc = rt.alloc();
-    let mut files = Table::new(alloc);
-    files.put("domain.pddl", b"")?;
-    files.put("problem.pddl", PROBLEM)?;
-    ends(&rt, alloc, &mut files, 21, "", FAILED);
-
-    // the first read gives the file, and the one that would find its end fails
-    files.put_failing("plan.txt", PLAN, 1)?;
-    ends(&rt, alloc, &mut files, 21, "", FAILED);
-    Ok(())
-}
-
-#[test]
-fn a_file_that_is_too_long(rt: HostRuntime) -> Result<(), Fail> {
-    let text = vec![in rt.alloc(); b' '; 16_777_218]?;
-    let mut files = three_files(rt.alloc())?;
-    files.put("domain.pddl", text.as_slice())?;
-    let told = "fault 5 TooLong in domain at 16777216..16777217\n";
-    ends(&rt, rt.alloc(), &mut files, 20, "", told);
-    Ok(())
-}
-
-/// A stream that takes five bytes at a call, and fails at the call after so many.
-fn stream(alloc: Global, calls_before: Option<u64>) -> FailsAt<InPieces<Memory>> {
-    FailsAt::new(InPieces::new(Memory::empty(alloc), 5), calls_before)
-}
-
-/// The program ends with this status where its streams fail so, and writes this to them.
-fn ends_on(
-    rt: &impl Abort,
-    alloc: Global,
-    files: &mut Table,
-    calls_before: [Option<u64>; 2],
-    status: u8,
-    streams: [&str; 2],
-) {
-    let mut out = stream(alloc, calls_before[0]);
-    let mut err = stream(alloc, calls_before[1]);
-    assert_eq!(rt; run(alloc, &VALIDATE, files, &mut out, &mut err), status);
-    assert_eq!(rt; out.inner.inner.as_slice(), streams[0].as_bytes());
-    assert_eq!(rt; err.inner.inner.as_slice(), streams[1].as_bytes());
-}
-
-#[test]
-fn streams_that_fail(rt: HostRuntime) -> Result<(), Fail> {
-    let alloc = rt.alloc();
-    let mut files = three_files(alloc)?;
-    ends_on(
-        &rt,
-        alloc,
-        &mut files,
-        [None, None],
-        0,
-        ["valid cost 2\n", ""],
-    );
-    ends_on(&rt, alloc, &mut files, [Some(0), None], 21, ["", FAILED]);
-    ends_on(
-        &rt,
-        alloc,
-        &mut files,
-        [Some(1), None],
-        21,
-        ["valid", FAILED],
-    );
-
-    // that the standard error fails changes no status
-    ends_on(
-        &rt,
-        alloc,
-        &mut files,
-        [Some(2), Some(1)],
-        21,
-        ["valid cost", "fault"],
-    );
-    files.put("domain.pddl", b"")?;
-    ends_on(&rt, alloc, &mut files, [None, Some(0)], 20, ["", ""]);
     Ok(())
 }

@@ -1,12 +1,9 @@
-//! Tasks in memory: what names and numbers lead to, and the most objects.
-use crate::helpers::{read_domain, read_problem, read_task};
-use std::alloc::Global;
+//! Tasks in memory: what names and numbers lead to.
+use crate::helpers::read_task;
 use std::process::Abort;
 use std::test::Fail;
-use tokens::{Code, Span};
 use validator::typing::{
-    Effect, Formula, LiftedAtom, ObjectId, PredicateId, Schema, SchemaId, Task, TaskFault,
-    TaskFile, Term,
+    Effect, Formula, LiftedAtom, ObjectId, PredicateId, Schema, SchemaId, Task, Term,
 };
 
 const GO_DOMAIN: &str = "(define (domain Go) (:predicates (p ?x) (Q))
@@ -112,42 +109,5 @@ fn is_task_of_go(rt: &impl Abort, task: &Task) {
 #[test]
 fn names_become_numbers(rt: HostRuntime) -> Result<(), Fail> {
     is_task_of_go(&rt, &read_task(rt.alloc(), &[GO_DOMAIN, GO_PROBLEM])?);
-    Ok(())
-}
-
-/// A domain without actions.
-const FLAT: &[u8] = b"(define (domain d) (:predicates (p)))";
-
-/// A problem's text with this many objects.
-fn crowd(alloc: Global, count: u32) -> Result<String, Fail> {
-    let mut text = format!(in alloc; "(define (problem r) (:domain d) (:objects")?;
-    for number in 0..count {
-        let object = format!(in alloc; " o{number}")?;
-        text.push_str(object.as_str())?;
-    }
-    text.push_str(") (:init) (:goal (p)))")?;
-    Ok(text)
-}
-
-/// What is told of a problem with this many objects.
-fn told_of_crowd(alloc: Global, count: u32) -> Result<Option<TaskFault>, Fail> {
-    let text = crowd(alloc, count)?;
-    let domain = read_domain(alloc, FLAT)?;
-    let problem = read_problem(alloc, text.as_bytes())?;
-    Ok(Task::new(alloc, domain, problem).err())
-}
-
-#[test]
-fn the_object_beyond_the_last(rt: HostRuntime) -> Result<(), Fail> {
-    assert_eq!(rt; told_of_crowd(rt.alloc(), 65_535)?, None);
-    let beyond = TaskFault::At {
-        file: TaskFile::Problem,
-        code: Code::TooMany,
-        span: Span {
-            start: 447_677,
-            end: 447_683,
-        },
-    };
-    assert_eq!(rt; told_of_crowd(rt.alloc(), 65_536)?, Some(beyond));
     Ok(())
 }

@@ -2,7 +2,8 @@
 use cert_checker::{Refusal, RefusalCode};
 use planner_main::certificate::{DeviceFault, WriteFault};
 use planner_main::{File, FileFault};
-use std::alloc::AllocError;
+use std::alloc::{AllocError, Global};
+use std::fmt::Display;
 use std::process::Abort;
 use std::test::Fail;
 use tokens::{Code, Fault, NoMemory, Span};
@@ -48,17 +49,22 @@ static REFUSALS: [(RefusalCode, u8, &str); 11] = [
     (RefusalCode::Limit, 55, "Limit"),
 ];
 
+/// It is told in these words.
+fn is_told<T: Display>(rt: &impl Abort, alloc: Global, it: &T, wanted: &str) -> Result<(), Fail> {
+    let words = format!(in alloc; "{it}")?;
+    assert_eq!(rt; words.as_str(), wanted);
+    Ok(())
+}
+
 #[test]
 fn codes_have_their_numbers_and_names(rt: HostRuntime) -> Result<(), Fail> {
     for (code, number, name) in &CODES {
         assert_eq!(rt; code.number(), *number);
-        let shown = format!(in rt.alloc(); "{code}")?;
-        assert_eq!(rt; shown.as_str(), *name);
+        is_told(&rt, rt.alloc(), code, *name)?;
     }
     for (code, number, name) in &REFUSALS {
         assert_eq!(rt; code.number(), *number);
-        let shown = format!(in rt.alloc(); "{code}")?;
-        assert_eq!(rt; shown.as_str(), *name);
+        is_told(&rt, rt.alloc(), code, *name)?;
     }
     Ok(())
 }
@@ -68,57 +74,45 @@ const CODE: Code = Code::BadForm;
 const SPAN: Span = Span { start: 4, end: 17 };
 
 #[test]
-fn faults_are_shown(rt: HostRuntime) -> Result<(), Fail> {
-    let alloc = rt.alloc();
+fn faults_are_told_in_words(rt: HostRuntime) -> Result<(), Fail> {
     let fault = Fault::At {
         code: CODE,
         span: SPAN,
     };
-    let shown = format!(in alloc; "{fault}, {}, {NoMemory}", Fault::NoMemory)?;
-    assert_eq!(rt;
-        shown.as_str(),
-        "BadForm at 4..17, out of memory, out of memory"
-    );
+    is_told(&rt, rt.alloc(), &fault, "BadForm at 4..17")?;
+    is_told(&rt, rt.alloc(), &Fault::NoMemory, "out of memory")?;
+    is_told(&rt, rt.alloc(), &NoMemory, "out of memory")?;
     let fault = TaskFault::At {
         file: TaskFile::Domain,
         code: CODE,
         span: SPAN,
     };
-    let shown = format!(in alloc; "{fault}, {}", TaskFault::NoMemory)?;
-    assert_eq!(rt; shown.as_str(), "BadForm at 4..17, out of memory");
-    let shown = format!(in alloc;
-        "{DeviceFault}, {}, {}",
-        WriteFault::Device,
-        WriteFault::NoMemory
-    )?;
-    assert_eq!(rt;
-        shown.as_str(),
-        "device failed, device failed, out of memory"
-    );
-    Ok(())
+    is_told(&rt, rt.alloc(), &fault, "BadForm at 4..17")?;
+    is_told(&rt, rt.alloc(), &TaskFault::NoMemory, "out of memory")?;
+    is_told(&rt, rt.alloc(), &DeviceFault, "device failed")?;
+    is_told(&rt, rt.alloc(), &WriteFault::Device, "device failed")?;
+    is_told(&rt, rt.alloc(), &WriteFault::NoMemory, "out of memory")
 }
 
-/// The files, with their names in a fault.
-static FILES: [(File, &str); 3] = [
-    (File::Domain, "BadForm in domain at 4..17"),
-    (File::Problem, "BadForm in problem at 4..17"),
-    (File::Plan, "BadForm in plan at 4..17"),
+/// The files, and how a fault in each is told.
+static FILES: [(File, &str, &str); 3] = [
+    (File::Domain, "domain", "BadForm in domain at 4..17"),
+    (File::Problem, "problem", "BadForm in problem at 4..17"),
+    (File::Plan, "plan", "BadForm in plan at 4..17"),
 ];
 
 #[test]
-fn faults_of_files_are_shown(rt: HostRuntime) -> Result<(), Fail> {
-    for (file, wanted) in &FILES {
+fn faults_of_files_are_told_in_words(rt: HostRuntime) -> Result<(), Fail> {
+    for (file, name, wanted) in &FILES {
         let fault = FileFault::At {
             file: *file,
             code: CODE,
             span: SPAN,
         };
-        let shown = format!(in rt.alloc(); "{fault}")?;
-        assert_eq!(rt; shown.as_str(), *wanted);
+        is_told(&rt, rt.alloc(), file, *name)?;
+        is_told(&rt, rt.alloc(), &fault, *wanted)?;
     }
-    let shown = format!(in rt.alloc(); "{}", FileFault::NoMemory)?;
-    assert_eq!(rt; shown.as_str(), "out of memory");
-    Ok(())
+    is_told(&rt, rt.alloc(), &FileFault::NoMemory, "out of memory")
 }
 
 /// A fault of a task stays what it is in its file.

@@ -126,28 +126,6 @@ fn files_have_their_trees(rt: HostRuntime) -> Result<(), Fail> {
     Ok(())
 }
 
-/// Domains that no fault is told of, though a task of one may be refused.
-static DOMAINS: [&[u8]; 2] = [
-    b"(define (domain d) (:predicates))",
-    b"(DEFINE (Domain D) (:Requirements :ADL :strips :strips :Action-Costs :numeric-fluents) (:ACTION A :EFFECT (AND (Not (P ?X A))) :Parameters (?X)) (:action and :precondition (and) :parameters ()) (:PREDICATES (p ?X ?y) (define) (domain) (problem)))",
-];
-
-/// Problems that no fault is told of.
-static PROBLEMS: [&[u8]; 2] = [
-    b"(define (problem q) (:domain d) (:requirements :adl) (:objects a and) (:init (p a)) (:goal (p a)))",
-    b"(define (problem q) (:GOAL (AND (P A) (and))) (:Init) (:DOMAIN D))",
-];
-
-#[test]
-fn files_that_are_read(rt: HostRuntime) {
-    for text in &DOMAINS {
-        assert!(rt; read_domain(rt.alloc(), *text).is_ok());
-    }
-    for text in &PROBLEMS {
-        assert!(rt; read_problem(rt.alloc(), *text).is_ok());
-    }
-}
-
 #[test]
 fn laws_of_trees() {
     one_reading();
