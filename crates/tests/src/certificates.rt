@@ -733,12 +733,14 @@ static WITHIN: [(Claim, Line, bool); 11] = [
 /// The certificate has its parts.
 fn has_its_parts(rt: &impl Abort, cert: &Cert, claim: Claim, line: &Line) {
     assert_eq!(rt; cert.claim(), claim);
-    assert_eq!(rt; cert.atoms().len(), 2);
-    assert!(rt; cert.atoms()[1] == atom(1, &[]));
-    assert_eq!(rt; cert.lines().len(), 1);
-    assert_eq!(rt; cert.lines()[0].cost, line.0);
-    assert_eq!(rt; cert.lines()[0].cut, line.1);
-    assert_eq!(rt; cert.lines()[0].atoms.as_slice(), line.2);
+    let atoms = cert.atoms();
+    assert_eq!(rt; atoms.len(), 2);
+    assert!(rt; atoms[1] == atom(1, &[]));
+    let lines = cert.lines();
+    assert_eq!(rt; lines.len(), 1);
+    assert_eq!(rt; lines[0].cost, line.0);
+    assert_eq!(rt; lines[0].cut, line.1);
+    assert_eq!(rt; lines[0].atoms.as_slice(), line.2);
 }
 
 #[test]

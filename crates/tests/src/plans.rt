@@ -5,36 +5,32 @@ use std::alloc::Global;
 use std::process::Abort;
 use std::test::Fail;
 use tokens::{Code, Fault, Span};
-use validator::formulas::Plan;
+use validator::formulas::{Instance, Plan};
 use validator::typing::{ObjectId, SchemaId, Task};
 use validator::{exactly_one_verdict_is_true, worked_examples_are_true};
+
+/// The step is of this action and these objects.
+fn is_step(rt: &impl Abort, step: &Instance, schema: usize, objects: &[ObjectId]) {
+    assert_eq!(rt; step.schema, SchemaId(schema));
+    assert_eq!(rt; step.objects.as_slice(), objects);
+}
 
 #[test]
 fn plans_keep_their_steps(rt: HostRuntime) -> Result<(), Fail> {
     let plan = make_plan(rt.alloc(), &[(0, &[0, 1]), (3, &[2])])?;
-    assert_eq!(rt; plan.steps().len(), 2);
-    assert_eq!(rt; plan.steps()[1].schema, SchemaId(3));
-    assert_eq!(rt;
-        plan.steps()[1].objects.as_slice(),
-        [ObjectId(2)].as_slice()
-    );
+    let steps = plan.steps();
+    assert_eq!(rt; steps.len(), 2);
+    is_step(&rt, &steps[0], 0, &[ObjectId(0), ObjectId(1)]);
+    is_step(&rt, &steps[1], 3, &[ObjectId(2)]);
     Ok(())
 }
 
 /// The steps are those of the text.
 fn are_read(rt: &impl Abort, plan: &Plan) {
-    assert_eq!(rt; plan.steps().len(), 2);
-    for step in plan.steps() {
-        assert_eq!(rt; step.schema, SchemaId(0));
-    }
-    assert_eq!(rt;
-        plan.steps()[0].objects.as_slice(),
-        [ObjectId(0), ObjectId(1)].as_slice()
-    );
-    assert_eq!(rt;
-        plan.steps()[1].objects.as_slice(),
-        [ObjectId(2), ObjectId(2)].as_slice()
-    );
+    let steps = plan.steps();
+    assert_eq!(rt; steps.len(), 2);
+    is_step(rt, &steps[0], 0, &[ObjectId(0), ObjectId(1)]);
+    is_step(rt, &steps[1], 0, &[ObjectId(2), ObjectId(2)]);
 }
 
 /// A text is read as its steps, whether they are applicable or not.

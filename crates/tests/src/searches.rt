@@ -1,5 +1,5 @@
 //! The search over a system and a store that stand here alone: what it finds, and in which order.
-ghost use Rattle.std.specs.Prelude.{ℕ};
+ghost use Rattle.std.specs.Prelude.{◌≡◌, ℕ, []};
 ghost use Rattle.tests.specs.Rooms.{rooms};
 
 use search::transitions::{Successor, TransitionSystem};

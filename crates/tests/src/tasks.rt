@@ -27,7 +27,10 @@ fn names_lead_to_numbers(rt: &impl Abort, task: &Task) {
 
 /// Whether there is a name, and it is this one.
 fn is_named(name: Option<&[u8]>, wanted: &[u8]) -> bool {
-    name.is_some_and(|name| name == wanted)
+    match name {
+        Some(name) => name == wanted,
+        None => false,
+    }
 }
 
 fn numbers_lead_to_names(rt: &impl Abort, task: &Task) {
@@ -93,9 +96,10 @@ fn is_of_first(rt: &impl Abort, atom: &LiftedAtom, is_object: bool, number: usiz
 
 /// The start is told as it stands in the file, and the goal.
 fn has_its_start_and_goal(rt: &impl Abort, task: &Task) {
-    assert_eq!(rt; task.init().len(), 2);
-    assert_eq!(rt; task.init()[1].predicate, PredicateId(0));
-    assert_eq!(rt; task.init()[1].objects.as_slice(), [ObjectId(1)].as_slice());
+    let init = task.init();
+    assert_eq!(rt; init.len(), 2);
+    assert_eq!(rt; init[1].predicate, PredicateId(0));
+    assert_eq!(rt; init[1].objects.as_slice(), [ObjectId(1)].as_slice());
     is_atom(rt, task.goal(), true, 1);
 }
 
