@@ -1,0 +1,115 @@
+//! What the tests share: tasks of two texts, and atoms and plans by numbers.
+use arrayvec::ArrayVec;
+use faults::Fault;
+use formulas::{Atom, Binding, Instance, Plan};
+use pddl_tree::{Domain, Problem, domain, problem};
+use std::alloc::Global;
+use std::test::Fail;
+use tokens::scan;
+use typing::{ObjectId, PredicateId, SchemaId, Task};
+
+/// A domain's and a problem's text.
+pub(crate) type Texts = [&'static str; 2];
+
+/// A predicate or an action, and its objects, by their numbers.
+pub(crate) type Term = (usize, &'static [u32]);
+
+const GO_DOMAIN: &str = "(define (domain go) (:predicates (p) (q))
+ (:action go :parameters () :effect (and (not (p)) (p) (q))))";
+
+/// The only action makes the goal hold.
+pub(crate) const GO: Texts = [
+    GO_DOMAIN,
+    "(define (problem g) (:domain go) (:init (p)) (:goal (and (p) (q))))",
+];
+
+/// The goal holds at the start.
+pub(crate) const DONE: Texts = [
+    GO_DOMAIN,
+    "(define (problem g) (:domain go) (:init (p)) (:goal (p)))",
+];
+
+const TIE_DOMAIN: &str = "(define (domain tie) (:predicates (link ?x ?y) (tied))
+ (:action tie :parameters (?x ?y) :precondition (link ?x ?y) :effect (tied)))";
+
+/// One object, which is linked to itself.
+pub(crate) const TIE: Texts = [
+    TIE_DOMAIN,
+    "(define (problem t) (:domain tie) (:objects a) (:init (link a a)) (:goal (tied)))",
+];
+
+/// There is no plan.
+pub(crate) const UNTIED: Texts = [
+    TIE_DOMAIN,
+    "(define (problem t) (:domain tie) (:objects a) (:init) (:goal (tied)))",
+];
+
+const PATH_DOMAIN: &str = "(define (domain path) (:predicates (at ?x) (road ?x ?y))
+ (:action go :parameters (?x ?y) :precondition (and (at ?x) (road ?x ?y))
+  :effect (and (not (at ?x)) (at ?y))))";
+
+/// Three places in a row, of which the last is to be reached.
+pub(crate) const PATH: Texts = [
+    PATH_DOMAIN,
+    "(define (problem p) (:domain path) (:objects a b c)
+ (:init (at a) (road a b) (road b c)) (:goal (at c)))",
+];
+
+/// Two places that are reached from the first one.
+pub(crate) const FORK: Texts = [
+    PATH_DOMAIN,
+    "(define (problem f) (:domain path) (:objects a b c)
+ (:init (at a) (road a b) (road a c)) (:goal (at c)))",
+];
+
+/// The tree of a domain's text.
+pub(crate) fn read_domain(alloc: Global, text: &[u8]) -> Result<Domain<'_>, Fault> {
+    let words = scan(alloc, text)?;
+    domain(alloc, words.as_slice())
+}
+
+/// The tree of a problem's text.
+pub(crate) fn read_problem(alloc: Global, text: &[u8]) -> Result<Problem<'_>, Fault> {
+    let words = scan(alloc, text)?;
+    problem(alloc, words.as_slice())
+}
+
+/// The task of a domain's and a problem's text.
+pub(crate) fn read_task(alloc: Global, texts: &Texts) -> Result<Task, Fail> {
+    let domain = read_domain(alloc, texts[0].as_bytes())?;
+    let problem = read_problem(alloc, texts[1].as_bytes())?;
+    Ok(Task::new(alloc, domain, problem)?)
+}
+
+/// The atom of a predicate and objects.
+pub(crate) fn atom(predicate: usize, numbers: &[u32]) -> Atom {
+    let mut objects = ArrayVec::new();
+    for number in numbers {
+        let _ = objects.try_push(ObjectId(*number));
+    }
+    Atom {
+        predicate: PredicateId(predicate),
+        objects,
+    }
+}
+
+/// The instance of a schema with objects.
+pub(crate) fn instance(schema: usize, numbers: &[u32]) -> Instance {
+    let mut objects = Binding::new();
+    for number in numbers {
+        let _ = objects.try_push(ObjectId(*number));
+    }
+    Instance {
+        schema: SchemaId(schema),
+        objects,
+    }
+}
+
+/// The plan of these actions with their objects.
+pub(crate) fn make_plan(alloc: Global, rows: &[Term]) -> Result<Plan, Fail> {
+    let mut steps = Vec::new(alloc);
+    for row in rows {
+        steps.push(instance(row.0, row.1))?;
+    }
+    Ok(Plan::new(steps).ok_or("too many steps")?)
+}
