@@ -6,6 +6,7 @@ ghost use Rattle.formulas.specs.State.{instance_of, plan_of};
 ghost use Rattle.model.specs.Meaning as meaning;
 
 use crate::helpers::{DONE, FORK, GO, PATH, TIE, Term, Texts, UNTIED, atom, make_plan, read_task};
+use crate::listings::{ACCEPTED, Line, Listings, Said, WRONG_ATOMS, WRONG_LINES};
 use cert_checker::{Accepted, Refusal, RefusalCode, check_cert};
 use certificate::{Cert, Claim, StateLine};
 use formulas::{Instance, Plan, is_instance};
@@ -13,26 +14,6 @@ use std::alloc::Global;
 use std::process::Abort;
 use std::test::Fail;
 use typing::{Atom, Task};
-
-/// A state line: its cost, its bound if it is a cut, and its atoms.
-type Line = (u64, Option<u64>, &'static [u32]);
-
-/// What the checker answers.
-#[derive(Clone, Copy, Debug, PartialEq, Eq)]
-enum Said {
-    /// No plan costs less than this.
-    AtLeast(u64),
-    /// The plan that was handed in costs this, and no plan costs less.
-    Optimal(u64),
-    /// There is no plan.
-    Unsolvable,
-    /// This is wrong with this line.
-    At(RefusalCode, u64),
-    /// This is wrong, and not with one line.
-    Whole(RefusalCode),
-    /// Memory was refused.
-    NoMemory,
-}
 
 fn told(answer: Result<Accepted, Refusal>) -> Said {
     match answer {
@@ -45,353 +26,6 @@ fn told(answer: Result<Accepted, Refusal>) -> Said {
     }
 }
 
-/// A task, the atoms of its certificates, and rows of claims with their lines, and with what the checker answers.
-struct Listings {
-    texts: Texts,
-    atoms: &'static [Term],
-    rows: &'static [(Claim, &'static [Line], Said)],
-}
-
-static ACCEPTED: [Listings; 6] = [
-    Listings {
-        texts: GO,
-        atoms: &[(0, &[]), (1, &[])],
-        rows: &[
-            (
-                Claim::Bound(1),
-                &[(0, None, &[0]), (1, Some(0), &[0, 1])],
-                Said::AtLeast(1),
-            ),
-            (
-                Claim::Bound(1),
-                &[(1, None, &[0, 1]), (0, None, &[0])],
-                Said::AtLeast(1),
-            ),
-            (
-                Claim::Bound(1),
-                &[(7, Some(0), &[1]), (0, None, &[0]), (1, Some(0), &[0, 1])],
-                Said::AtLeast(1),
-            ),
-            (Claim::Bound(0), &[(0, Some(0), &[0])], Said::AtLeast(0)),
-        ],
-    },
-    Listings {
-        texts: TIE,
-        atoms: &[(1, &[])],
-        rows: &[
-            (
-                Claim::Bound(1),
-                &[(0, None, &[]), (1, None, &[0])],
-                Said::AtLeast(1),
-            ),
-            (
-                Claim::Bound(1),
-                &[(0, None, &[]), (1, Some(0), &[0])],
-                Said::AtLeast(1),
-            ),
-        ],
-    },
-    Listings {
-        texts: UNTIED,
-        atoms: &[(1, &[])],
-        rows: &[
-            (Claim::Unsolvable, &[(0, None, &[])], Said::Unsolvable),
-            (Claim::Bound(9), &[(0, None, &[])], Said::AtLeast(9)),
-        ],
-    },
-    Listings {
-        texts: UNTIED,
-        atoms: &[],
-        rows: &[(Claim::Unsolvable, &[(0, None, &[])], Said::Unsolvable)],
-    },
-    Listings {
-        texts: PATH,
-        atoms: &[(0, &[0]), (0, &[1]), (0, &[2])],
-        rows: &[
-            (
-                Claim::Bound(2),
-                &[(0, None, &[0]), (1, None, &[1]), (2, Some(0), &[2])],
-                Said::AtLeast(2),
-            ),
-            (
-                Claim::Bound(2),
-                &[(0, None, &[0]), (1, None, &[1]), (2, None, &[2])],
-                Said::AtLeast(2),
-            ),
-            (
-                Claim::Bound(1),
-                &[(0, None, &[0]), (1, Some(0), &[1])],
-                Said::AtLeast(1),
-            ),
-        ],
-    },
-    Listings {
-        texts: FORK,
-        atoms: &[(0, &[0]), (0, &[1]), (0, &[2])],
-        rows: &[(
-            Claim::Bound(1),
-            &[(0, None, &[0]), (1, None, &[1]), (1, None, &[2])],
-            Said::AtLeast(1),
-        )],
-    },
-];
-
-/// Atoms are well-typed, fluent and distinct.
-static WRONG_ATOMS: [Listings; 8] = [
-    Listings {
-        texts: PATH,
-        atoms: &[(0, &[0])],
-        rows: &[(Claim::Bound(0), &[(0, Some(0), &[0])], Said::AtLeast(0))],
-    },
-    // a static atom, an unknown predicate, a count of objects that is not the predicate's, an unknown object
-    Listings {
-        texts: PATH,
-        atoms: &[(0, &[0]), (1, &[0, 1])],
-        rows: &[(
-            Claim::Bound(0),
-            &[(0, Some(0), &[0])],
-            Said::At(RefusalCode::NotFluent, 5),
-        )],
-    },
-    Listings {
-        texts: PATH,
-        atoms: &[(2, &[0])],
-        rows: &[(
-            Claim::Bound(0),
-            &[(0, Some(0), &[0])],
-            Said::At(RefusalCode::NotFluent, 4),
-        )],
-    },
-    Listings {
-        texts: PATH,
-        atoms: &[(0, &[])],
-        rows: &[(
-            Claim::Bound(0),
-            &[(0, Some(0), &[0])],
-            Said::At(RefusalCode::NotFluent, 4),
-        )],
-    },
-    Listings {
-        texts: PATH,
-        atoms: &[(0, &[0, 1])],
-        rows: &[(
-            Claim::Bound(0),
-            &[(0, Some(0), &[0])],
-            Said::At(RefusalCode::NotFluent, 4),
-        )],
-    },
-    Listings {
-        texts: PATH,
-        atoms: &[(0, &[0]), (0, &[3])],
-        rows: &[(
-            Claim::Bound(0),
-            &[(0, Some(0), &[0])],
-            Said::At(RefusalCode::NotFluent, 5),
-        )],
-    },
-    // an atom twice, and a static atom twice
-    Listings {
-        texts: PATH,
-        atoms: &[(0, &[0]), (0, &[1]), (0, &[0]), (1, &[0, 1])],
-        rows: &[(
-            Claim::Bound(0),
-            &[(0, Some(0), &[0])],
-            Said::At(RefusalCode::Repeated, 6),
-        )],
-    },
-    Listings {
-        texts: PATH,
-        atoms: &[(0, &[0]), (1, &[0, 1]), (1, &[0, 1])],
-        rows: &[(
-            Claim::Bound(0),
-            &[(0, Some(0), &[0])],
-            Said::At(RefusalCode::NotFluent, 5),
-        )],
-    },
-];
-
-static WRONG_LINES: [Listings; 5] = [
-    Listings {
-        texts: GO,
-        atoms: &[(0, &[]), (1, &[])],
-        rows: &[
-            // a state twice
-            (
-                Claim::Bound(1),
-                &[(0, None, &[0]), (1, Some(0), &[0, 1]), (5, None, &[0])],
-                Said::At(RefusalCode::Repeated, 8),
-            ),
-            // a cut where no plan is claimed, and the initial state as one
-            (
-                Claim::Unsolvable,
-                &[(0, None, &[0]), (1, Some(0), &[0, 1])],
-                Said::At(RefusalCode::CutNotAllowed, 7),
-            ),
-            (
-                Claim::Unsolvable,
-                &[(0, Some(0), &[0])],
-                Said::At(RefusalCode::CutNotAllowed, 6),
-            ),
-            // of one line that it is repeated comes first, of two the earlier line
-            (
-                Claim::Unsolvable,
-                &[(0, None, &[0]), (0, Some(0), &[0])],
-                Said::At(RefusalCode::Repeated, 7),
-            ),
-            (
-                Claim::Unsolvable,
-                &[(0, Some(0), &[0]), (0, None, &[0])],
-                Said::At(RefusalCode::CutNotAllowed, 6),
-            ),
-            // a successor missing, and listed one too dear
-            (
-                Claim::Bound(1),
-                &[(0, None, &[0])],
-                Said::At(RefusalCode::SuccessorMissing, 6),
-            ),
-            (
-                Claim::Bound(1),
-                &[(2, Some(0), &[0, 1]), (0, None, &[0])],
-                Said::At(RefusalCode::SuccessorDearer, 7),
-            ),
-            // an open goal state below the claim, and one where no plan is claimed
-            (
-                Claim::Bound(2),
-                &[(0, None, &[0]), (1, None, &[0, 1])],
-                Said::At(RefusalCode::GoalOpen, 7),
-            ),
-            (
-                Claim::Unsolvable,
-                &[(1, None, &[0, 1]), (0, None, &[0])],
-                Said::At(RefusalCode::GoalOpen, 6),
-            ),
-            // a cut with a bound of 1, which would reach the claim, and one that does not reach it
-            (
-                Claim::Bound(2),
-                &[(0, None, &[0]), (1, Some(1), &[0, 1])],
-                Said::At(RefusalCode::CutWeak, 7),
-            ),
-            (
-                Claim::Bound(2),
-                &[(0, None, &[0]), (1, Some(0), &[0, 1])],
-                Said::At(RefusalCode::CutWeak, 7),
-            ),
-            // a cut that reaches the claim, and whose bound is not 0
-            (
-                Claim::Bound(1),
-                &[(0, None, &[0]), (1, Some(1), &[0, 1])],
-                Said::At(RefusalCode::CutWeak, 7),
-            ),
-            // the initial state missing, and listed at 1
-            (
-                Claim::Bound(1),
-                &[(1, Some(0), &[0, 1])],
-                Said::Whole(RefusalCode::NoInitial),
-            ),
-            (
-                Claim::Bound(1),
-                &[(1, None, &[0]), (1, Some(0), &[0, 1])],
-                Said::Whole(RefusalCode::NoInitial),
-            ),
-            // that is told before the states are gone through, and after they are read
-            (
-                Claim::Bound(1),
-                &[(1, Some(1), &[0]), (9, None, &[])],
-                Said::Whole(RefusalCode::NoInitial),
-            ),
-            (
-                Claim::Bound(1),
-                &[(1, None, &[0]), (1, None, &[0])],
-                Said::At(RefusalCode::Repeated, 7),
-            ),
-        ],
-    },
-    Listings {
-        texts: DONE,
-        atoms: &[(0, &[]), (1, &[])],
-        rows: &[(
-            Claim::Bound(1),
-            &[(0, None, &[0]), (1, Some(0), &[0, 1])],
-            Said::At(RefusalCode::GoalOpen, 6),
-        )],
-    },
-    Listings {
-        texts: TIE,
-        atoms: &[(1, &[])],
-        rows: &[
-            (
-                Claim::Unsolvable,
-                &[(0, None, &[])],
-                Said::At(RefusalCode::SuccessorMissing, 5),
-            ),
-            (
-                Claim::Unsolvable,
-                &[(0, None, &[]), (1, None, &[0])],
-                Said::At(RefusalCode::GoalOpen, 6),
-            ),
-        ],
-    },
-    Listings {
-        texts: PATH,
-        atoms: &[(0, &[0]), (0, &[1]), (0, &[2])],
-        rows: &[
-            (
-                Claim::Bound(2),
-                &[(0, None, &[0]), (2, None, &[1]), (2, None, &[2])],
-                Said::At(RefusalCode::SuccessorDearer, 7),
-            ),
-            (
-                Claim::Bound(2),
-                &[(0, None, &[0]), (1, None, &[1])],
-                Said::At(RefusalCode::SuccessorMissing, 8),
-            ),
-            (
-                Claim::Bound(3),
-                &[(0, None, &[0]), (1, None, &[1]), (2, Some(0), &[2])],
-                Said::At(RefusalCode::CutWeak, 9),
-            ),
-            // the first of two wrong lines, and the goal before the successors
-            (
-                Claim::Bound(2),
-                &[(0, None, &[0]), (1, Some(0), &[1]), (2, Some(3), &[2])],
-                Said::At(RefusalCode::CutWeak, 8),
-            ),
-            (
-                Claim::Unsolvable,
-                &[(0, None, &[0]), (1, None, &[1]), (2, None, &[2])],
-                Said::At(RefusalCode::GoalOpen, 9),
-            ),
-        ],
-    },
-    // of two successors the first is told that is missing or dearer
-    Listings {
-        texts: FORK,
-        atoms: &[(0, &[0]), (0, &[1]), (0, &[2])],
-        rows: &[
-            (
-                Claim::Bound(1),
-                &[(0, None, &[0]), (1, None, &[1])],
-                Said::At(RefusalCode::SuccessorMissing, 7),
-            ),
-            (
-                Claim::Bound(1),
-                &[(0, None, &[0]), (1, None, &[1]), (2, None, &[2])],
-                Said::At(RefusalCode::SuccessorDearer, 7),
-            ),
-            (
-                Claim::Bound(1),
-                &[(0, None, &[0]), (2, None, &[1])],
-                Said::At(RefusalCode::SuccessorDearer, 7),
-            ),
-            (
-                Claim::Bound(1),
-                &[(0, None, &[0]), (2, None, &[2])],
-                Said::At(RefusalCode::SuccessorMissing, 7),
-            ),
-        ],
-    },
-];
-
 /// A claim with its lines, the plan that is handed in, and what the checker answers.
 type Planned = (Claim, &'static [Line], &'static [Term], Said);
 
@@ -402,90 +36,41 @@ struct WithPlans {
     rows: &'static [Planned],
 }
 
+#[rattlefmt::skip]
 static PLANNED: [WithPlans; 4] = [
     WithPlans {
         texts: GO,
         atoms: &[(0, &[]), (1, &[])],
         rows: &[
-            (
-                Claim::Bound(1),
-                &[(0, None, &[0]), (1, Some(0), &[0, 1])],
-                &[(0, &[])],
-                Said::Optimal(1),
-            ),
-            (
-                Claim::Bound(1),
-                &[(0, None, &[0]), (1, Some(0), &[0, 1])],
-                &[],
-                Said::Whole(RefusalCode::PlanInvalid),
-            ),
-            (
-                Claim::Bound(1),
-                &[(0, None, &[0]), (1, Some(0), &[0, 1])],
-                &[(0, &[]), (0, &[])],
-                Said::Whole(RefusalCode::PlanDearer),
-            ),
+            (Claim::Bound(1), &[(0, None, &[0]), (1, Some(0), &[0, 1])], &[(0, &[])], Said::Optimal(1)),
+            (Claim::Bound(1), &[(0, None, &[0]), (1, Some(0), &[0, 1])], &[], Said::Whole(RefusalCode::PlanInvalid)),
+            (Claim::Bound(1), &[(0, None, &[0]), (1, Some(0), &[0, 1])], &[(0, &[]), (0, &[])], Said::Whole(RefusalCode::PlanDearer)),
             // the listing comes before the plan
-            (
-                Claim::Bound(2),
-                &[(0, None, &[0]), (1, Some(0), &[0, 1])],
-                &[],
-                Said::At(RefusalCode::CutWeak, 7),
-            ),
+            (Claim::Bound(2), &[(0, None, &[0]), (1, Some(0), &[0, 1])], &[], Said::At(RefusalCode::CutWeak, 7)),
         ],
     },
     WithPlans {
         texts: DONE,
         atoms: &[(0, &[]), (1, &[])],
         rows: &[
-            (
-                Claim::Bound(0),
-                &[(0, None, &[0]), (1, Some(0), &[0, 1])],
-                &[],
-                Said::Optimal(0),
-            ),
-            (
-                Claim::Bound(0),
-                &[(0, Some(0), &[0])],
-                &[],
-                Said::Optimal(0),
-            ),
-            (
-                Claim::Bound(0),
-                &[(0, None, &[0]), (1, Some(0), &[0, 1])],
-                &[(0, &[])],
-                Said::Whole(RefusalCode::PlanDearer),
-            ),
+            (Claim::Bound(0), &[(0, None, &[0]), (1, Some(0), &[0, 1])], &[], Said::Optimal(0)),
+            (Claim::Bound(0), &[(0, Some(0), &[0])], &[], Said::Optimal(0)),
+            (Claim::Bound(0), &[(0, None, &[0]), (1, Some(0), &[0, 1])], &[(0, &[])], Said::Whole(RefusalCode::PlanDearer)),
         ],
     },
     WithPlans {
         texts: UNTIED,
         atoms: &[(1, &[])],
         rows: &[
-            (
-                Claim::Unsolvable,
-                &[(0, None, &[])],
-                &[(0, &[0, 0])],
-                Said::Whole(RefusalCode::PlanInvalid),
-            ),
-            (
-                Claim::Unsolvable,
-                &[(0, None, &[])],
-                &[],
-                Said::Whole(RefusalCode::PlanInvalid),
-            ),
+            (Claim::Unsolvable, &[(0, None, &[])], &[(0, &[0, 0])], Said::Whole(RefusalCode::PlanInvalid)),
+            (Claim::Unsolvable, &[(0, None, &[])], &[], Said::Whole(RefusalCode::PlanInvalid)),
         ],
     },
     WithPlans {
         texts: PATH,
         atoms: &[(0, &[0]), (0, &[1]), (0, &[2])],
         rows: &[
-            (
-                Claim::Bound(2),
-                &[(0, None, &[0]), (1, None, &[1]), (2, Some(0), &[2])],
-                &[(0, &[0, 1]), (0, &[1, 2])],
-                Said::Optimal(2),
-            ),
+            (Claim::Bound(2), &[(0, None, &[0]), (1, None, &[1]), (2, Some(0), &[2])], &[(0, &[0, 1]), (0, &[1, 2])], Said::Optimal(2)),
             // a plan that stops does not solve, also where it has more steps than the claim
             (
                 Claim::Bound(2),
@@ -507,49 +92,21 @@ static PLANNED: [WithPlans; 4] = [
 type Limited = (u32, &'static [Term], &'static [Line], Said);
 
 /// Rows of `GO`, which has one instance.
+#[rattlefmt::skip]
 static LIMITED_GO: [Limited; 5] = [
-    (
-        1,
-        &[(0, &[]), (1, &[])],
-        &[(0, None, &[0]), (1, Some(0), &[0, 1])],
-        Said::AtLeast(1),
-    ),
-    (
-        0,
-        &[(0, &[]), (1, &[])],
-        &[(0, None, &[0]), (1, Some(0), &[0, 1])],
-        Said::Whole(RefusalCode::Limit),
-    ),
+    (1, &[(0, &[]), (1, &[])], &[(0, None, &[0]), (1, Some(0), &[0, 1])], Said::AtLeast(1)),
+    (0, &[(0, &[]), (1, &[])], &[(0, None, &[0]), (1, Some(0), &[0, 1])], Said::Whole(RefusalCode::Limit)),
     // the limit comes before the initial state, and after the atoms and the states are read
-    (
-        0,
-        &[(0, &[]), (1, &[])],
-        &[],
-        Said::Whole(RefusalCode::Limit),
-    ),
+    (0, &[(0, &[]), (1, &[])], &[], Said::Whole(RefusalCode::Limit)),
     (0, &[(2, &[])], &[], Said::At(RefusalCode::NotFluent, 4)),
-    (
-        0,
-        &[(0, &[]), (1, &[])],
-        &[(0, None, &[0]), (1, None, &[0])],
-        Said::At(RefusalCode::Repeated, 7),
-    ),
+    (0, &[(0, &[]), (1, &[])], &[(0, None, &[0]), (1, None, &[0])], Said::At(RefusalCode::Repeated, 7)),
 ];
 
 /// Rows of `PATH`, which has nine instances, of which two are ever applicable.
+#[rattlefmt::skip]
 static LIMITED_PATH: [Limited; 2] = [
-    (
-        9,
-        &[(0, &[0]), (0, &[1])],
-        &[(0, None, &[0]), (1, Some(0), &[1])],
-        Said::AtLeast(1),
-    ),
-    (
-        8,
-        &[(0, &[0]), (0, &[1])],
-        &[(0, None, &[0]), (1, Some(0), &[1])],
-        Said::Whole(RefusalCode::Limit),
-    ),
+    (9, &[(0, &[0]), (0, &[1])], &[(0, None, &[0]), (1, Some(0), &[1])], Said::AtLeast(1)),
+    (8, &[(0, &[0]), (0, &[1])], &[(0, None, &[0]), (1, Some(0), &[1])], Said::Whole(RefusalCode::Limit)),
 ];
 
 fn make_atoms(alloc: Global, rows: &[Term]) -> Result<Vec<Atom>, Fail> {
@@ -715,6 +272,7 @@ fn instances_are_limited(rt: HostRuntime) -> Result<(), Fail> {
 const MOST: u64 = 1_152_921_504_606_846_975;
 
 /// A claim and a line of a certificate with two atoms, and whether they keep the limits.
+#[rattlefmt::skip]
 static WITHIN: [(Claim, Line, bool); 11] = [
     (Claim::Bound(MOST), (MOST, Some(MOST), &[0, 1]), true),
     (Claim::Bound(0), (0, Some(0), &[1]), true),

@@ -11,6 +11,8 @@ mod helpers;
 #[cfg(test)]
 mod limits;
 #[cfg(test)]
+mod listings;
+#[cfg(test)]
 mod plans;
 #[cfg(test)]
 mod searches;
