@@ -55,21 +55,22 @@ found_declared file named xs i x l is before after least new whole names finds h
     ∙ h
 
 -- a list that was made element by element, once the last is made
+pub map_to_end : {X Z : Type 0} (F : X → Z) (xs ys : List X) (i : ℕ) (zs : List Z) → zs ≡ map F (take i xs) → length xs ≤ i → xs ≡ ys → zs ≡ map F ys
+map_to_end F xs ys i zs e l s = e ∙ ap (map F) (take_all i xs l ∙ s)
+
 pub map_taken : {X Y Z : Type 0} (F : Y → Z) (g : X → Y) (xs ys : List X) (i : ℕ) (zs : List Z) → zs ≡ map (λ x. F (g x)) (take i xs) → length xs ≤ i → xs ≡ ys
     → zs ≡ map F (map g ys)
-map_taken F g xs ys i zs e l s = e ∙ ap (map (λ x. F (g x))) (take_all i xs l ∙ s) ∙ sym (map-map F g ys)
+map_taken F g xs ys i zs e l s = map_to_end (λ x. F (g x)) xs ys i zs e l s ∙ sym (map-map F g ys)
 
 -- what a walk over a list found, once it is at the end
-pub found_walked : {X Y : Type 0} (F : Y → List TypingFault) (g : X → Y) (xs ys : List X) (i : ℕ) (least before : Option TypingFault)
-    → found least (flat_map (λ x. F (g x)) (drop i xs)) ≡ found before (flat_map (λ x. F (g x)) xs) → length xs ≤ i → xs ≡ ys
-    → least ≡ found before (flat_map F (map g ys))
-found_walked F g xs ys i least before e l s =
-    sym (found_all (λ x. F (g x)) least xs i l) ∙ e ∙ ap (λ zs. found before (flat_map (λ x. F (g x)) zs)) s
-    ∙ ap (found before) (sym (flat_map-map F g ys))
+pub found_to_end : {X : Type 0} (F : X → List TypingFault) (xs ys : List X) (i : ℕ) (least before : Option TypingFault)
+    → found least (flat_map F (drop i xs)) ≡ found before (flat_map F xs) → length xs ≤ i → xs ≡ ys → least ≡ found before (flat_map F ys)
+found_to_end F xs ys i least before e l s = sym (found_all F least xs i l) ∙ e ∙ ap (λ zs. found before (flat_map F zs)) s
 
--- the same after other faults
+-- the same of a list that is read, after other faults
 pub found_walked_after : {X Y : Type 0} (F : Y → List TypingFault) (g : X → Y) (xs ys : List X) (i : ℕ) (least middle before : Option TypingFault) (faults : List TypingFault)
     → found least (flat_map (λ x. F (g x)) (drop i xs)) ≡ found middle (flat_map (λ x. F (g x)) xs) → length xs ≤ i → xs ≡ ys → middle ≡ found before faults
     → least ≡ found before (faults ++ flat_map F (map g ys))
 found_walked_after F g xs ys i least middle before faults e l s m =
-    found_after before middle least faults (flat_map F (map g ys)) m (found_walked F g xs ys i least middle e l s)
+    found_after before middle least faults (flat_map F (map g ys)) m
+    (found_to_end (λ x. F (g x)) xs ys i least middle e l s ∙ ap (found middle) (sym (flat_map-map F g ys)))
