@@ -168,18 +168,12 @@ not_again before name rest e = by (is_known before name) e
     by true f = absurd (cc)
     by false f = (refl, f)
 
--- what a set says of a name that it is given
-pub was_there : (r l : Bool) → r ≡ not l → r ≡ false → l ≡ true
-was_there true true p q = refl
-was_there true false p q = absurd (true≢false q)
-was_there false true p q = refl
-was_there false false p q = absurd (true≢false (sym p))
-
-pub was_new : (r l : Bool) → r ≡ not l → r ≡ true → l ≡ false
-was_new true true p q = absurd (true≢false p)
-was_new true false p q = refl
-was_new false true p q = absurd (true≢false (sym q))
-was_new false false p q = refl
+-- what a set says of a name that it is given: whether it is new
+pub was_there : (new there : Bool) → new ≡ not there → not new ≡ there
+was_there true true h = absurd (true≢false h)
+was_there true false h = refl
+was_there false true h = refl
+was_there false false h = absurd (true≢false (sym h))
 
 -- one step of a table that is filled along a list
 pub table_step : {X S : Type 0} (named_as : X → tree.Name) (made : X → S) (label : S → task.Name) (xs : List X) (i : ℕ) (x : X) → i < length xs → x ≡ get_or xs i x

@@ -1,13 +1,17 @@
 -- The parts that the phases make are the task of the trees, where no phase has a fault.
-use Rattle.std.proofs.Common.{◌≡◌, ℕ, ◌≤◌, true, List, [], ◌∷◌, map, length, slice_get, refl, ap, sym, subst, ◌∙◌, arith, zero, suc, nat_le, true≢false}
+use Rattle.std.proofs.Common.{◌≡◌, ℕ, ◌≤◌, true, List, [], ◌∷◌, ◌++◌, map, length, slice_get, refl, ap, sym, subst, ◌∙◌, arith, zero, suc, nat_le, true≢false}
 use Rattle.std.specs.List.{flat_map, list_all}
 use Rattle.std.proofs.lemmas.Bool.Decides.{nat_tests}
 use Rattle.std.proofs.lemmas.List.{length-map, take_all}
 use Rattle.model.specs.Task as task
 use Rattle.model.specs.Trees as tree
-use Rattle.model.specs.Typing.{File, TypingFault, in_domain, in_problem, Known, folded, number_in, names_of, one_after, refused, repeated, unknown_faults, predicate_faults, fact_faults, formula_faults, domain_name_faults, object_faults, declaration_faults, action_faults, init_faults, goal_faults, atom_in, formula_in, schema_in, predicates_of, known_in_problem, task_of_trees, first_filled, IsWellTyped}
+use Rattle.model.specs.Typing.{File, TypingFault, in_domain, in_problem, Known, number_in, names_of, one_after, refused, repeated, unknown_faults, predicate_faults, fact_faults, domain_name_faults, object_faults, declaration_faults, action_faults, init_faults, goal_faults, atom_in, formula_in, predicates_of, known_in_problem, task_of_trees, faults_of, first_filled, IsWellTyped}
 use Rattle.model.specs.WellTyped.{is_of_arity, is_task}
+use Rattle.typing.specs.declared.names.Names.{Names}
+use Rattle.typing.specs.declared.names.Start.{Start}
 use Rattle.typing.specs.Task.{TaskFault, TellsLeastOf, TellsLeastFault}
+use Rattle.typing.specs.TaskParts.{atom_of, formula_of, task_of_parts}
+use Rattle.typing.specs.Names.{declared_faults, stated_faults, known_by, AreDeclared}
 use Rattle.typing.specs.Scope.{narrow_atom_in}
 use Rattle.typing.proofs.Tells.{tells_here, tells_later}
 use Rattle.typing.proofs.WellTyped.{nil_left, nil_right, declared_arity, arities_fit, is_task-task_of_trees}
@@ -35,79 +39,83 @@ narrow_is_all file known low (f ∷ fs) e =
     let rest = narrow_is_all file known low fs (nil_right (fact_faults file known f) (flat_map (fact_faults file known) fs) e) in
     λ i. record { predicate = number; objects = whole i } ∷ rest i
 
+-- ---- the faults of the phases, phase by phase
+
+-- where the first list with a fault has none, no list has one
+pub none_filled : (faults : List TypingFault) (later : List (List TypingFault)) → first_filled (faults ∷ later) ≡ [] → (faults ≡ []) × (first_filled later ≡ [])
+none_filled [] later e = (refl, e)
+none_filled (f ∷ more) later e = absurd (cc)
+
+first_filled-later : (faults : List TypingFault) (later others : List (List TypingFault)) → first_filled later ≡ first_filled others → first_filled (faults ∷ later) ≡ first_filled (faults ∷ others)
+first_filled-later [] later others e = e
+first_filled-later (f ∷ more) later others e = refl
+
+first_filled-append : (lists later : List (List TypingFault)) → first_filled (lists ++ later) ≡ first_filled (first_filled lists ∷ later)
+first_filled-append [] later = refl
+first_filled-append ([] ∷ lists) later = first_filled-append lists later
+first_filled-append ((f ∷ more) ∷ lists) later = refl
+
+-- the pair's faults: those of the domain's name, of what is declared and of what is stated of it
+faults_by_parts : (d : tree.Domain) (p : tree.Problem)
+    → faults_of d p ≡ first_filled (domain_name_faults d p ∷ declared_faults d p ∷ stated_faults (known_in_problem (predicates_of d) p) p ∷ [])
+faults_by_parts d p =
+    let declared = object_faults p ∷ declaration_faults d ∷ action_faults (predicates_of d) d ∷ [] in
+    let stated = init_faults (predicates_of d) p ∷ goal_faults (predicates_of d) p ∷ [] in
+    first_filled-later (domain_name_faults d p) (declared ++ stated) (first_filled declared ∷ first_filled stated ∷ [])
+    (first_filled-append declared stated ∙ first_filled-later (first_filled declared) stated (first_filled stated ∷ []) (first_filled-append stated []))
+
+-- ---- the task that the phases make
+
 -- what the phases made of the pair, and that none found a fault
 pub record IsMade (d : tree.Domain) (p : tree.Problem) (made : task.Task) : Type 0 where
   pub well_typed : IsWellTyped d p
   pub same : made ≡ task_of_trees d p
   pub typed : is_task made ≡ true
 
-pub made_by_phases : (d : tree.Domain) (p : tree.Problem) (objects : List task.Name) (predicates : List task.Predicate) (schemas : List task.Schema) (variables : List task.Name) (init : List task.Atom) (goal : task.Formula)
-    → domain_name_faults d p ≡ []
-    → object_faults p ≡ [] → objects ≡ map folded p.objects
-    → declaration_faults d ≡ [] → predicates ≡ predicates_of d
-    → action_faults predicates d ≡ [] → schemas ≡ map (schema_in predicates) d.actions
-    → variables ≡ []
-    → flat_map (fact_faults in_problem (record { predicates = predicates; variables = variables; objects = objects })) p.init ≡ []
-    → init ≡ map (narrow_atom_in (record { predicates = predicates; variables = variables; objects = objects })) p.init
-    → formula_faults in_problem (record { predicates = predicates; variables = variables; objects = objects }) p.goal ≡ []
-    → goal ≡ formula_in (record { predicates = predicates; variables = variables; objects = objects }) p.goal
-    → IsMade d p (record { objects = objects; predicates = predicates; schemas = schemas; init = init; goal = goal })
-made_by_phases d p objects predicates schemas variables init goal e1 e3 o e4 q e6 s v e7 i e8 g =
-    let known : Known = record { predicates = predicates; variables = variables; objects = objects } in
-    let same_known : known ≡ known_in_problem (predicates_of d) p = λ j. record { predicates = q j; variables = v j; objects = o j } in
-    let f6 = ap (λ ps. action_faults ps d) (sym q) ∙ e6 in
-    let f7 = ap (λ k. flat_map (fact_faults in_problem k) p.init) (sym same_known) ∙ e7 in
-    let f8 = ap (λ k. formula_faults in_problem k p.goal) (sym same_known) ∙ e8 in
-    let low = arities_fit d.predicates (nil_right (refused in_domain 16 (repeated (map (λ (r : tree.Predicate). r.name) d.predicates))) (flat_map (λ (r : tree.Predicate). refused in_domain 25 (one_after 8 r.parameters)) d.predicates) e4) in
-    let same_schemas = s ∙ ap (λ ps. map (schema_in ps) d.actions) q in
-    let same_init = i ∙ ap (λ k. map (narrow_atom_in k) p.init) same_known ∙ narrow_is_all in_problem (known_in_problem (predicates_of d) p) low p.init f7 in
-    let same_goal = g ∙ ap (λ k. formula_in k p.goal) same_known in
-    let made : task.Task = record { objects = objects; predicates = predicates; schemas = schemas; init = init; goal = goal } in
-    let same : made ≡ task_of_trees d p = λ j. record { objects = o j; predicates = q j; schemas = same_schemas j; init = same_init j; goal = same_goal j } in
-    record {
-      well_typed = λ j. first_filled (e1 j ∷ e3 j ∷ e4 j ∷ f6 j ∷ f7 j ∷ f8 j ∷ []);
-      same = same;
-      typed = ap is_task same ∙ is_task-task_of_trees d p e4 f6 f7 f8;
-    }
+module _ (d : tree.Domain) (p : tree.Problem) where
+  told_by_parts : (e : TaskFault) → TellsLeastOf (first_filled (domain_name_faults d p ∷ declared_faults d p ∷ stated_faults (known_in_problem (predicates_of d) p) p ∷ [])) e
+      → TellsLeastFault d p e
+  told_by_parts e h = subst (λ fs. TellsLeastOf fs e) (sym (faults_by_parts d p)) h
 
--- ---- the fault that a phase tells is the pair's, where the phases before have none
+  -- the fault that is told of the domain's name is the pair's
+  pub told_of_name : (e : TaskFault) → TellsLeastOf (domain_name_faults d p) e → TellsLeastFault d p e
+  told_of_name e h = told_by_parts e (tells_here (domain_name_faults d p) _ e h)
 
-module _ (d : tree.Domain) (p : tree.Problem) (e : TaskFault) where
-  pub told_of_name : TellsLeastOf (domain_name_faults d p) e → TellsLeastFault d p e
-  told_of_name h = tells_here (domain_name_faults d p) _ e h
+  module _ (named : domain_name_faults d p ≡ []) where
+    -- and so is that of what is declared, where the name has none
+    pub told_of_declared : (e : TaskFault) → TellsLeastOf (declared_faults d p) e → TellsLeastFault d p e
+    told_of_declared e h = told_by_parts e (tells_later (domain_name_faults d p) _ named e (tells_here (declared_faults d p) _ e h))
 
-  module _ (e1 : domain_name_faults d p ≡ []) where
-    pub told_of_objects : TellsLeastOf (object_faults p) e → TellsLeastFault d p e
-    told_of_objects h = tells_later (domain_name_faults d p) _ e1 e (tells_here (object_faults p) _ e h)
+    module _ (declared : declared_faults d p ≡ []) (names : Names) (are : AreDeclared d p names) where
+      same_known : known_by names ≡ known_in_problem (predicates_of d) p
+      same_known = λ i. record { predicates = are.predicates i; variables = []; objects = are.objects i }
 
-    module _ (e3 : object_faults p ≡ []) where
-      pub told_of_predicates : TellsLeastOf (declaration_faults d) e → TellsLeastFault d p e
-      told_of_predicates h = tells_later (domain_name_faults d p) _ e1 e (tells_later (object_faults p) _ e3 e (tells_here (declaration_faults d) _ e h))
+      -- and that of what is stated, where what is declared has none
+      pub told_of_stated : (e : TaskFault) → TellsLeastOf (stated_faults (known_by names) p) e → TellsLeastFault d p e
+      told_of_stated e h =
+          told_by_parts e (tells_later (domain_name_faults d p) _ named e (tells_later (declared_faults d p) _ declared e
+          (tells_here (stated_faults (known_in_problem (predicates_of d) p) p) [] e (subst (λ k. TellsLeastOf (stated_faults k p) e) same_known h))))
 
-      module _ (e4 : declaration_faults d ≡ []) (predicates : List task.Predicate) (q : predicates ≡ predicates_of d) where
-        pub told_of_actions : TellsLeastOf (action_faults predicates d) e → TellsLeastFault d p e
-        told_of_actions h =
-            tells_later (domain_name_faults d p) _ e1 e (tells_later (object_faults p) _ e3 e (tells_later (declaration_faults d) _ e4 e
-            (tells_here (action_faults (predicates_of d) d) _ e (subst (λ ps. TellsLeastOf (action_faults ps d) e) q h))))
-
-        module _ (e6 : action_faults predicates d ≡ []) (objects variables : List task.Name) (o : objects ≡ map folded p.objects) (v : variables ≡ []) where
-          abbrev known : Known
-          known = record { predicates = predicates; variables = variables; objects = objects }
-
-          same_known : known ≡ known_in_problem (predicates_of d) p
-          same_known = λ j. record { predicates = q j; variables = v j; objects = o j }
-
-          later : (rest : List (List TypingFault)) → TellsLeastOf (first_filled rest) e
-              → TellsLeastOf (first_filled (domain_name_faults d p ∷ object_faults p ∷ declaration_faults d ∷ action_faults (predicates_of d) d ∷ rest)) e
-          later rest h =
-              tells_later (domain_name_faults d p) _ e1 e (tells_later (object_faults p) _ e3 e (tells_later (declaration_faults d) _ e4 e
-              (tells_later (action_faults (predicates_of d) d) rest (ap (λ ps. action_faults ps d) (sym q) ∙ e6) e h)))
-
-          pub told_of_init : TellsLeastOf (flat_map (fact_faults in_problem known) p.init) e → TellsLeastFault d p e
-          told_of_init h =
-              later _ (tells_here (init_faults (predicates_of d) p) _ e (subst (λ k. TellsLeastOf (flat_map (fact_faults in_problem k) p.init) e) same_known h))
-
-          pub told_of_goal : flat_map (fact_faults in_problem known) p.init ≡ [] → TellsLeastOf (formula_faults in_problem known p.goal) e → TellsLeastFault d p e
-          told_of_goal e7 h =
-              later _ (tells_later (init_faults (predicates_of d) p) _ (ap (λ k. flat_map (fact_faults in_problem k) p.init) (sym same_known) ∙ e7) e
-              (tells_here (goal_faults (predicates_of d) p) _ e (subst (λ k. TellsLeastOf (formula_faults in_problem k p.goal) e) same_known h)))
+      pub made_by_phases : (start : Start) → stated_faults (known_by names) p ≡ []
+          → map atom_of start.init.items ≡ map (narrow_atom_in (known_by names)) p.init → formula_of start.goal ≡ formula_in (known_by names) p.goal
+          → IsMade d p (task_of_parts names.objects.keys names.predicates.entries names.schemas.entries start.init.items start.goal)
+      made_by_phases start stated init goal =
+          let known = known_in_problem (predicates_of d) p in
+          let no_stated = ap (λ k. stated_faults k p) (sym same_known) ∙ stated in
+          let after_objects = (none_filled (object_faults p) _ declared).1 in
+          let no_declaration = (none_filled (declaration_faults d) _ after_objects).0 in
+          let no_action = (none_filled (action_faults (predicates_of d) d) _ (none_filled (declaration_faults d) _ after_objects).1).0 in
+          let no_init = (none_filled (init_faults (predicates_of d) p) _ no_stated).0 in
+          let no_goal = (none_filled (goal_faults (predicates_of d) p) _ (none_filled (init_faults (predicates_of d) p) _ no_stated).1).0 in
+          let twice = refused in_domain 16 (repeated (map (λ (r : tree.Predicate). r.name) d.predicates)) in
+          let low = arities_fit d.predicates (nil_right twice (flat_map (λ (r : tree.Predicate). refused in_domain 25 (one_after 8 r.parameters)) d.predicates) no_declaration) in
+          let same_init = init ∙ ap (λ k. map (narrow_atom_in k) p.init) same_known ∙ narrow_is_all in_problem known low p.init no_init in
+          let same_goal = goal ∙ ap (λ k. formula_in k p.goal) same_known in
+          let made : task.Task = task_of_parts names.objects.keys names.predicates.entries names.schemas.entries start.init.items start.goal in
+          let same : made ≡ task_of_trees d p =
+          λ i. record { objects = are.objects i; predicates = are.predicates i; schemas = are.schemas i; init = same_init i; goal = same_goal i } in
+          record {
+            well_typed = faults_by_parts d p ∙ (λ i. first_filled (named i ∷ declared i ∷ no_stated i ∷ []));
+            same = same;
+            typed = ap is_task same ∙ is_task-task_of_trees d p no_declaration no_action no_init no_goal;
+          }

@@ -1,5 +1,5 @@
 -- From what a walk found to what is told.
-use Rattle.std.proofs.Common.{◌≡◌, List, [], ◌∷◌, Option, None, Some, sym, subst, arith, Result, Ok, Err, ◌∙◌, OnOk, IfErr}
+use Rattle.std.proofs.Common.{◌≡◌, List, [], ◌∷◌, Option, None, Some, sym, subst, arith, Result, Ok, Err, ◌∙◌, OnOk, IfOk, IfErr}
 use Rattle.faults.specs.declared.refused.Refused.TheVariants.{At, NoMemory}
 use Rattle.typing.specs.Task.{TaskFault, TellsLeastOf}
 use Rattle.typing.specs.Walk.{found, TellsFound}
@@ -25,6 +25,16 @@ tells_here (f ∷ more) later e h = h
 pub tells_later : (faults : List TypingFault) (later : List (List TypingFault)) → faults ≡ [] → (e : TaskFault) → TellsLeastOf (first_filled later) e → TellsLeastOf (first_filled (faults ∷ later)) e
 tells_later faults later none e h = subst (λ fs. TellsLeastOf (first_filled (fs ∷ later)) e) (sym none) h
 
-pub none_result : {A : Type 0} (faults : List TypingFault) (least : Option TypingFault) → least ≡ found None faults → (r : Result A TaskFault) → OnOk r (least ≡ None) → OnOk r (faults ≡ [])
-none_result faults least is (Ok x) h = found-None faults (sym is ∙ h)
-none_result faults least is (Err e) h = tt
+-- a walk that ends with what was made found no fault
+pub none_result : {T : Type 0} (made : T) (faults : List TypingFault) (least : Option TypingFault) → least ≡ found None faults
+    → (r : Result T TaskFault) → IfOk r (λ t. (t ≡ made) × (least ≡ None)) → OnOk r (faults ≡ [])
+none_result made faults least is (Ok t) h = found-None faults (sym is ∙ h.1)
+none_result made faults least is (Err e) h = tt
+
+-- and what was made is as it is where there is no fault
+pub given : {T : Type 0} (P : T → Type 0) (made : T) (faults : List TypingFault) (least : Option TypingFault) → least ≡ found None faults → (faults ≡ [] → P made)
+    → (r : Result T TaskFault) → IfOk r (λ t. (t ≡ made) × (least ≡ None)) → IfOk r (λ t. (faults ≡ []) × P t)
+given P made faults least is p (Ok t) h =
+    let none = found-None faults (sym is ∙ h.1) in
+    (none, subst P (sym h.0) (p none))
+given P made faults least is p (Err e) h = tt

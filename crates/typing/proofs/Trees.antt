@@ -10,22 +10,18 @@ use Rattle.typing.specs.declared.schemas.Effect as effect
 use Rattle.pddl_tree.specs.declared.tree.Formula as read_formula
 use Rattle.pddl_tree.specs.declared.tree.Effect as read_effect
 use Rattle.pddl_tree.specs.Tree as read
+use Rattle.pddl_tree.proofs.Rows as rows
 use Rattle.typing.specs.TaskParts.{formula_of, formulas_of, effect_of, effects_of}
 use Rattle.model.specs.Task as task
-use Rattle.model.specs.Trees as tree
 use Rattle.model.specs.Typing.{File, Known, TypingFault, formula_in, formulas_in, effect_in, effects_in, formula_faults, formulas_faults, effect_faults, effects_faults}
 use Rattle.typing.specs.Walk.{found}
-use Rattle.typing.proofs.Found.{map_taken, found_walked}
+use Rattle.typing.proofs.Found.{map_to_end, found_to_end}
 
 -- ---- formulas
 
 abbrev pub joined_formulas : List task.Formula → task.Formulas
 joined_formulas [] = task.no_formula
 joined_formulas (part ∷ rest) = task.more_formulas part (joined_formulas rest)
-
-abbrev pub joined_formula_trees : List tree.Formula → tree.Formulas
-joined_formula_trees [] = tree.no_formula
-joined_formula_trees (part ∷ rest) = tree.more_formulas part (joined_formula_trees rest)
 
 formulas_row : (n : _) (row : Row_of-Formula n) → formulas_of row ≡ joined_formulas (map formula_of (items-the_row-Formula n row))
 formulas_row n end_of-Formula = refl
@@ -40,26 +36,13 @@ formula_of-And parts =
     let row = formula_row (formula.And parts) in
     ap task.and (formulas_row row.0 row.1 ∙ ap (λ items. joined_formulas (map formula_of items)) (items_hidden-the_row-Formula-0 parts))
 
-formula_trees_row : (n : _) (row : read_formula.Row_of-Formula n) → read.formulas_of row ≡ joined_formula_trees (map read.formula_of (read_formula.items-the_row-Formula n row))
-formula_trees_row n read_formula.end_of-Formula = refl
-formula_trees_row n (read_formula.more_of-Formula part rest) = ap (tree.more_formulas (read.formula_of part)) (formula_trees_row _ rest)
-
-abbrev formula_tree_row : read_formula.Formula → (n : Count) × read_formula.Row_of-Formula n
-formula_tree_row (read_formula.And' _ row) = (_, row)
-formula_tree_row _ = (_, read_formula.end_of-Formula)
-
-formula_tree_of-And : (parts : Vec read_formula.Formula) → read.formula_of (read_formula.And parts) ≡ tree.and (joined_formula_trees (map read.formula_of parts.items))
-formula_tree_of-And parts =
-    let row = formula_tree_row (read_formula.And parts) in
-    ap tree.and (formula_trees_row row.0 row.1 ∙ ap (λ items. joined_formula_trees (map read.formula_of items)) (read_formula.items_hidden-the_row-Formula-0 parts))
-
-formulas_in-joined : (known : Known) (parts : List tree.Formula) → formulas_in known (joined_formula_trees parts) ≡ joined_formulas (map (formula_in known) parts)
+formulas_in-joined : (known : Known) (parts : List read_formula.Formula) → formulas_in known (read.formulas_in parts) ≡ joined_formulas (map (λ x. formula_in known (read.formula_of x)) parts)
 formulas_in-joined known [] = refl
-formulas_in-joined known (part ∷ rest) = ap (task.more_formulas (formula_in known part)) (formulas_in-joined known rest)
+formulas_in-joined known (part ∷ rest) = ap (task.more_formulas (formula_in known (read.formula_of part))) (formulas_in-joined known rest)
 
-formulas_faults-joined : (file : File) (known : Known) (parts : List tree.Formula) → formulas_faults file known (joined_formula_trees parts) ≡ flat_map (formula_faults file known) parts
+formulas_faults-joined : (file : File) (known : Known) (parts : List read_formula.Formula) → formulas_faults file known (read.formulas_in parts) ≡ flat_map (λ x. formula_faults file known (read.formula_of x)) parts
 formulas_faults-joined file known [] = refl
-formulas_faults-joined file known (part ∷ rest) = ap (λ faults. formula_faults file known part ++ faults) (formulas_faults-joined file known rest)
+formulas_faults-joined file known (part ∷ rest) = ap (λ faults. formula_faults file known (read.formula_of part) ++ faults) (formulas_faults-joined file known rest)
 
 -- the parts that were resolved, once the last is, are those of the whole
 pub formula_by_parts : (known : Known) (whole : read_formula.Formula) (parts : Vec read_formula.Formula) (items : List read_formula.Formula) (i : ℕ) (resolved : Vec Formula)
@@ -67,9 +50,8 @@ pub formula_by_parts : (known : Known) (whole : read_formula.Formula) (parts : V
     → formula_of (formula.And resolved) ≡ formula_in known (read.formula_of whole)
 formula_by_parts known whole parts items i resolved is same done end =
     formula_of-And resolved
-    ∙ ap (λ fs. task.and (joined_formulas fs)) (map_taken (formula_in known) read.formula_of items parts.items i (map formula_of resolved.items) done end same)
-    ∙ ap task.and (sym (formulas_in-joined known (map read.formula_of parts.items)))
-    ∙ ap (formula_in known) (sym (formula_tree_of-And parts)) ∙ ap (λ x. formula_in known (read.formula_of x)) (sym is)
+    ∙ ap (λ fs. task.and (joined_formulas fs)) (map_to_end (λ x. formula_in known (read.formula_of x)) items parts.items i (map formula_of resolved.items) done end same)
+    ∙ ap task.and (sym (formulas_in-joined known parts.items)) ∙ ap (formula_in known) (sym (ap read.formula_of is ∙ rows.formula_of-And parts))
 
 -- and what was found in them is found in the whole
 pub formula_faults_by_parts : (file : File) (known : Known) (whole : read_formula.Formula) (parts : Vec read_formula.Formula) (items : List read_formula.Formula) (i : ℕ) (least before : Option TypingFault)
@@ -77,18 +59,14 @@ pub formula_faults_by_parts : (file : File) (known : Known) (whole : read_formul
     → found least (flat_map (λ x. formula_faults file known (read.formula_of x)) (drop i items)) ≡ found before (flat_map (λ x. formula_faults file known (read.formula_of x)) items) → length items ≤ i
     → least ≡ found before (formula_faults file known (read.formula_of whole))
 formula_faults_by_parts file known whole parts items i least before is same done end =
-    found_walked (formula_faults file known) read.formula_of items parts.items i least before done end same
-    ∙ ap (found before) (sym (formulas_faults-joined file known (map read.formula_of parts.items)) ∙ ap (formula_faults file known) (sym (formula_tree_of-And parts)) ∙ ap (λ x. formula_faults file known (read.formula_of x)) (sym is))
+    found_to_end (λ x. formula_faults file known (read.formula_of x)) items parts.items i least before done end same
+    ∙ ap (found before) (sym (formulas_faults-joined file known parts.items) ∙ ap (formula_faults file known) (sym (ap read.formula_of is ∙ rows.formula_of-And parts)))
 
 -- ---- effects
 
 abbrev pub joined_effects : List task.Effect → task.Effects
 joined_effects [] = task.no_effect
 joined_effects (part ∷ rest) = task.more_effects part (joined_effects rest)
-
-abbrev pub joined_effect_trees : List tree.Effect → tree.Effects
-joined_effect_trees [] = tree.no_effect
-joined_effect_trees (part ∷ rest) = tree.more_effects part (joined_effect_trees rest)
 
 effects_row : (n : _) (row : Row_of-Effect n) → effects_of row ≡ joined_effects (map effect_of (items-the_row-Effect n row))
 effects_row n end_of-Effect = refl
@@ -103,26 +81,13 @@ effect_of-And parts =
     let row = effect_row (effect.And parts) in
     ap task.both (effects_row row.0 row.1 ∙ ap (λ items. joined_effects (map effect_of items)) (items_hidden-the_row-Effect-0 parts))
 
-effect_trees_row : (n : _) (row : read_effect.Row_of-Effect n) → read.effects_of row ≡ joined_effect_trees (map read.effect_of (read_effect.items-the_row-Effect n row))
-effect_trees_row n read_effect.end_of-Effect = refl
-effect_trees_row n (read_effect.more_of-Effect part rest) = ap (tree.more_effects (read.effect_of part)) (effect_trees_row _ rest)
-
-abbrev effect_tree_row : read_effect.Effect → (n : Count) × read_effect.Row_of-Effect n
-effect_tree_row (read_effect.And' _ row) = (_, row)
-effect_tree_row _ = (_, read_effect.end_of-Effect)
-
-effect_tree_of-And : (parts : Vec read_effect.Effect) → read.effect_of (read_effect.And parts) ≡ tree.both (joined_effect_trees (map read.effect_of parts.items))
-effect_tree_of-And parts =
-    let row = effect_tree_row (read_effect.And parts) in
-    ap tree.both (effect_trees_row row.0 row.1 ∙ ap (λ items. joined_effect_trees (map read.effect_of items)) (read_effect.items_hidden-the_row-Effect-0 parts))
-
-effects_in-joined : (known : Known) (parts : List tree.Effect) → effects_in known (joined_effect_trees parts) ≡ joined_effects (map (effect_in known) parts)
+effects_in-joined : (known : Known) (parts : List read_effect.Effect) → effects_in known (read.effects_in parts) ≡ joined_effects (map (λ x. effect_in known (read.effect_of x)) parts)
 effects_in-joined known [] = refl
-effects_in-joined known (part ∷ rest) = ap (task.more_effects (effect_in known part)) (effects_in-joined known rest)
+effects_in-joined known (part ∷ rest) = ap (task.more_effects (effect_in known (read.effect_of part))) (effects_in-joined known rest)
 
-effects_faults-joined : (file : File) (known : Known) (parts : List tree.Effect) → effects_faults file known (joined_effect_trees parts) ≡ flat_map (effect_faults file known) parts
+effects_faults-joined : (file : File) (known : Known) (parts : List read_effect.Effect) → effects_faults file known (read.effects_in parts) ≡ flat_map (λ x. effect_faults file known (read.effect_of x)) parts
 effects_faults-joined file known [] = refl
-effects_faults-joined file known (part ∷ rest) = ap (λ faults. effect_faults file known part ++ faults) (effects_faults-joined file known rest)
+effects_faults-joined file known (part ∷ rest) = ap (λ faults. effect_faults file known (read.effect_of part) ++ faults) (effects_faults-joined file known rest)
 
 -- the parts that were resolved, once the last is, are those of the whole
 pub effect_by_parts : (known : Known) (whole : read_effect.Effect) (parts : Vec read_effect.Effect) (items : List read_effect.Effect) (i : ℕ) (resolved : Vec Effect)
@@ -130,9 +95,8 @@ pub effect_by_parts : (known : Known) (whole : read_effect.Effect) (parts : Vec 
     → effect_of (effect.And resolved) ≡ effect_in known (read.effect_of whole)
 effect_by_parts known whole parts items i resolved is same done end =
     effect_of-And resolved
-    ∙ ap (λ fs. task.both (joined_effects fs)) (map_taken (effect_in known) read.effect_of items parts.items i (map effect_of resolved.items) done end same)
-    ∙ ap task.both (sym (effects_in-joined known (map read.effect_of parts.items)))
-    ∙ ap (effect_in known) (sym (effect_tree_of-And parts)) ∙ ap (λ x. effect_in known (read.effect_of x)) (sym is)
+    ∙ ap (λ es. task.both (joined_effects es)) (map_to_end (λ x. effect_in known (read.effect_of x)) items parts.items i (map effect_of resolved.items) done end same)
+    ∙ ap task.both (sym (effects_in-joined known parts.items)) ∙ ap (effect_in known) (sym (ap read.effect_of is ∙ rows.effect_of-And parts))
 
 -- and what was found in them is found in the whole
 pub effect_faults_by_parts : (file : File) (known : Known) (whole : read_effect.Effect) (parts : Vec read_effect.Effect) (items : List read_effect.Effect) (i : ℕ) (least before : Option TypingFault)
@@ -140,5 +104,5 @@ pub effect_faults_by_parts : (file : File) (known : Known) (whole : read_effect.
     → found least (flat_map (λ x. effect_faults file known (read.effect_of x)) (drop i items)) ≡ found before (flat_map (λ x. effect_faults file known (read.effect_of x)) items) → length items ≤ i
     → least ≡ found before (effect_faults file known (read.effect_of whole))
 effect_faults_by_parts file known whole parts items i least before is same done end =
-    found_walked (effect_faults file known) read.effect_of items parts.items i least before done end same
-    ∙ ap (found before) (sym (effects_faults-joined file known (map read.effect_of parts.items)) ∙ ap (effect_faults file known) (sym (effect_tree_of-And parts)) ∙ ap (λ x. effect_faults file known (read.effect_of x)) (sym is))
+    found_to_end (λ x. effect_faults file known (read.effect_of x)) items parts.items i least before done end same
+    ∙ ap (found before) (sym (effects_faults-joined file known parts.items) ∙ ap (effect_faults file known) (sym (ap read.effect_of is ∙ rows.effect_of-And parts)))

@@ -4,6 +4,7 @@
 
 mod atoms;
 mod fault;
+mod names;
 mod phases;
 mod schemas;
 mod scope;

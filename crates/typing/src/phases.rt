@@ -9,7 +9,7 @@ ghost use Rattle.model.specs.Typing as typing;
 ghost use Rattle.std.specs.List.{flat_map};
 
 use crate::scope::Scope;
-use crate::walk::{Walk, lower_case};
+use crate::walk::Walk;
 use crate::{
     Atom, Formula, MAX_ARGUMENTS, MAX_OBJECTS, MAX_VARIABLES, Predicate, Schema, TaskFault,
     TaskFile,
@@ -20,20 +20,13 @@ use pddl_tree::{Action, Domain, Fact, Name, Predicate as Declaration, Problem};
 use std::alloc::Global;
 
 /// The name of the domain that the problem is for is this one. Another is refused.
-fn compare(
-    alloc: Global,
-    walk: &mut Walk,
-    domain: &Name<'_>,
-    wanted: &Name<'_>,
-) -> Result<(), NoMemory>
-    ensures { OnOk result (Finds walk.old walk.new (if typing.is_same (typing.folded (read.name_of wanted.now)) (typing.folded (read.name_of domain.now)) then [] else typing.refused typing.in_problem 21 (read.name_of wanted.now ∷ []))) }
+fn compare(walk: &mut Walk, domain: &Name<'_>, wanted: &Name<'_>)
+    ensures { Finds walk.old walk.new (if typing.is_same (typing.folded (read.name_of wanted.now)) (typing.folded (read.name_of domain.now)) then [] else typing.refused typing.in_problem 21 (read.name_of wanted.now ∷ [])) }
 {
-    let name = lower_case(alloc, domain)?;
-    let same = lower_case(alloc, wanted)? == name;
+    let same = wanted.text.eq_ignore_ascii_case(domain.text);
     if !same {
         walk.refuse(TaskFile::Problem, Code::DomainMismatch, wanted);
     }
-    Ok(())
 }
 
 /// The problem is for this domain.
@@ -46,8 +39,17 @@ pub(crate) fn domain_name(
     ensures err { IfErr result (TellsLeastOf (typing.domain_name_faults (read.domain_of domain.now) (read.problem_of problem.now))) }
 {
     let mut walk = Walk::new(alloc);
-    compare(alloc, &mut walk, &domain.name, &problem.domain)?;
-    walk.finish()
+    compare(&mut walk, &domain.name, &problem.domain);
+    walk.finish(())
+}
+
+/// Refuses a name that is declared again.
+fn refuse_again(walk: &mut Walk, file: TaskFile, name: &Name<'_>, again: bool)
+    ensures { Finds walk.old walk.new (typing.refused (file_of file) 16 (if again then read.name_of name.now ∷ [] else [])) }
+{
+    if again {
+        walk.refuse(file, Code::Duplicate, name);
+    }
 }
 
 /// Declares a name. One that is declared before is refused.
@@ -61,9 +63,9 @@ fn declare(
     ensures names { OnOk result (names_in names.new.keys ≡ typing.with_name (names_in names.old.keys) (read.name_of name.now)) }
     ensures finds { OnOk result (Finds walk.old walk.new (typing.refused (file_of file) 16 (if typing.is_known (names_in names.old.keys) (read.name_of name.now) then read.name_of name.now ∷ [] else []))) }
 {
-    if !names.insert(lower_case(alloc, name)?)? {
-        walk.refuse(file, Code::Duplicate, name);
-    }
+    let key = name.text.to_ascii_lowercase(alloc)?;
+    let is_new = names.insert(key)?;
+    refuse_again(walk, file, name, !is_new);
     Ok(())
 }
 
@@ -97,16 +99,14 @@ fn limit(walk: &mut Walk, file: TaskFile, names: &[Name<'_>], most: usize)
 pub(crate) fn objects(alloc: Global, problem: &Problem<'_>) -> Result<IndexSet<Vec<u8>>, TaskFault>
     ensures ok { IfOk result
         (λ s. (typing.object_faults (read.problem_of problem.now) ≡ [])
-        × (names_in s.keys ≡ map typing.folded (read.problem_of problem.now).objects)
-        × (length s.keys ≤ 65535)) }
+        × ((names_in s.keys ≡ map typing.folded (read.problem_of problem.now).objects) × (length s.keys ≤ 65535))) }
     ensures err { IfErr result (TellsLeastOf (typing.object_faults (read.problem_of problem.now))) }
 {
     let mut walk = Walk::new(alloc);
     let names = problem.objects.as_slice();
     let objects = declared(alloc, &mut walk, TaskFile::Problem, names)?;
     limit(&mut walk, TaskFile::Problem, names, MAX_OBJECTS);
-    walk.finish()?;
-    Ok(objects)
+    walk.finish(objects)
 }
 
 /// Declares a predicate. One that is declared before is refused.
@@ -125,12 +125,9 @@ fn declare_predicate(
         (if typing.is_known (typing.names_of (map parts.predicate_of predicates.old.entries)) (read.name_of declaration.now.name) then read.name_of declaration.now.name ∷ [] else []))) }
 {
     let arity = declaration.parameters.len();
-    let key = lower_case(alloc, &declaration.name)?;
+    let key = declaration.name.text.to_ascii_lowercase(alloc)?;
     let before = predicates.insert(key, Predicate { arity })?;
-    let again = before.is_some();
-    if again {
-        walk.refuse(TaskFile::Domain, Code::Duplicate, &declaration.name);
-    }
+    refuse_again(walk, TaskFile::Domain, &declaration.name, before.is_some());
     Ok(())
 }
 
@@ -180,8 +177,47 @@ pub(crate) fn predicates(
     let declarations = domain.predicates.as_slice();
     let predicates = declared_predicates(alloc, &mut walk, declarations)?;
     limit_arguments(&mut walk, declarations);
-    walk.finish()?;
-    Ok(predicates)
+    walk.finish(predicates)
+}
+
+/// The parameters of an action.
+fn parameters(
+    alloc: Global,
+    walk: &mut Walk,
+    names: &[Name<'_>],
+) -> Result<IndexSet<Vec<u8>>, NoMemory>
+    ensures names { IfOk result (λ s. names_in s.keys ≡ typing.declared (map read.name_of names.now)) }
+    ensures finds { OnOk result (Finds walk.old walk.new
+        (typing.refused typing.in_domain 16 (typing.repeated (map read.name_of names.now)) ++ typing.refused typing.in_domain 25 (typing.one_after 16 (map read.name_of names.now)))) }
+{
+    let variables = declared(alloc, walk, TaskFile::Domain, names)?;
+    limit(walk, TaskFile::Domain, names, MAX_VARIABLES);
+    Ok(variables)
+}
+
+/// What an action declares, where this may be named in it.
+fn schema_in(
+    alloc: Global,
+    walk: &mut Walk,
+    scope: &Scope<'_>,
+    action: &Action<'_>,
+) -> Result<Schema, NoMemory>
+    ensures shape { IfOk result (λ s. parts.shape_of s ≡ (
+      length action.now.parameters.items,
+      typing.formula_in (known_of scope.now) (read.formula_of action.now.precondition),
+      typing.effect_in (known_of scope.now) (read.effect_of action.now.effect),
+    )) }
+    ensures finds { OnOk result (Finds walk.old walk.new
+        (typing.formula_faults (file_of scope.now.file) (known_of scope.now) (read.formula_of action.now.precondition)
+        ++ typing.effect_faults (file_of scope.now.file) (known_of scope.now) (read.effect_of action.now.effect))) }
+{
+    let precondition = scope.formula(alloc, walk, &action.precondition)?;
+    let effect = scope.effect(alloc, walk, &action.effect)?;
+    Ok(Schema {
+        parameters: action.parameters.len(),
+        precondition,
+        effect,
+    })
 }
 
 /// What an action declares.
@@ -194,23 +230,14 @@ fn schema(
     ensures shape { IfOk result (λ s. parts.shape_of s ≡ parts.shape_of_schema (typing.schema_in (map parts.predicate_of predicates.now.entries) (read.action_of action.now))) }
     ensures finds { OnOk result (Finds walk.old walk.new (typing.schema_faults (map parts.predicate_of predicates.now.entries) (read.action_of action.now))) }
 {
-    let names = action.parameters.as_slice();
-    let variables = declared(alloc, walk, TaskFile::Domain, names)?;
-    limit(walk, TaskFile::Domain, names, MAX_VARIABLES);
-    let objects = IndexSet::new(alloc);
+    let variables = parameters(alloc, walk, action.parameters.as_slice())?;
     let scope = Scope {
         file: TaskFile::Domain,
         predicates,
         variables: &variables,
-        objects: &objects,
+        objects: &IndexSet::new(alloc),
     };
-    let precondition = scope.formula(alloc, walk, &action.precondition)?;
-    let effect = scope.effect(alloc, walk, &action.effect)?;
-    Ok(Schema {
-        parameters: action.parameters.len(),
-        precondition,
-        effect,
-    })
+    schema_in(alloc, walk, &scope, action)
 }
 
 /// The actions that are declared before are refused.
@@ -221,6 +248,27 @@ fn declare_actions(alloc: Global, walk: &mut Walk, actions: &[Action<'_>]) -> Re
     for action in actions {
         declare(alloc, walk, TaskFile::Domain, &mut names, &action.name)?;
     }
+    Ok(())
+}
+
+/// Declares an action. That one of its name is declared before is not told here.
+fn declare_schema(
+    alloc: Global,
+    walk: &mut Walk,
+    predicates: &IndexMap<Vec<u8>, Predicate>,
+    schemas: &mut IndexMap<Vec<u8>, Schema>,
+    action: &Action<'_>,
+) -> Result<(), NoMemory>
+    ensures names { OnOk result (map (λ s. s.name) (map parts.schema_of schemas.new.entries)
+        ≡ typing.with_name (map (λ s. s.name) (map parts.schema_of schemas.old.entries)) (read.name_of action.now.name)) }
+    ensures added { OnOk result (typing.is_known (map (λ s. s.name) (map parts.schema_of schemas.old.entries)) (read.name_of action.now.name) ≡ false
+        → map parts.schema_of schemas.new.entries
+        ≡ map parts.schema_of schemas.old.entries ++ typing.schema_in (map parts.predicate_of predicates.now.entries) (read.action_of action.now) ∷ []) }
+    ensures finds { OnOk result (Finds walk.old walk.new (typing.schema_faults (map parts.predicate_of predicates.now.entries) (read.action_of action.now))) }
+{
+    let key = action.name.text.to_ascii_lowercase(alloc)?;
+    let schema = schema(alloc, walk, predicates, action)?;
+    schemas.insert(key, schema)?;
     Ok(())
 }
 
@@ -237,9 +285,7 @@ fn schema_table(
 {
     let mut schemas = IndexMap::new(alloc);
     for action in actions {
-        let schema = schema(alloc, walk, predicates, action)?;
-        let key = lower_case(alloc, &action.name)?;
-        schemas.insert(key, schema)?;
+        declare_schema(alloc, walk, predicates, &mut schemas, action)?;
     }
     Ok(schemas)
 }
@@ -259,8 +305,7 @@ pub(crate) fn schemas(
     let actions = domain.actions.as_slice();
     declare_actions(alloc, &mut walk, actions)?;
     let schemas = schema_table(alloc, &mut walk, predicates, actions)?;
-    walk.finish()?;
-    Ok(schemas)
+    walk.finish(schemas)
 }
 
 /// The atoms of a list, as they stand.
@@ -294,8 +339,7 @@ pub(crate) fn init(
     let mut walk = Walk::new(alloc);
     let facts = problem.init.as_slice();
     let init = atoms(alloc, &mut walk, scope, facts)?;
-    walk.finish()?;
-    Ok(init)
+    walk.finish(init)
 }
 
 /// The goal.
@@ -311,6 +355,5 @@ pub(crate) fn goal(
 {
     let mut walk = Walk::new(alloc);
     let goal = scope.formula(alloc, &mut walk, &problem.goal)?;
-    walk.finish()?;
-    Ok(goal)
+    walk.finish(goal)
 }

@@ -4,10 +4,10 @@ ghost use Rattle.typing.specs.TaskParts.{task_of_parts};
 ghost use Rattle.model.specs.WellTyped.{is_task};
 
 use crate::atoms::{Atom, MAX_VARIABLES, ObjectId, PredicateId, SchemaId};
-use crate::fault::{TaskFault, TaskFile};
+use crate::fault::TaskFault;
+use crate::names::Names;
 use crate::phases;
 use crate::schemas::{Formula, Predicate, Schema};
-use crate::scope::Scope;
 use indexmap::{IndexMap, IndexSet};
 use pddl_tree::{Domain, Problem};
 use std::alloc::Global;
@@ -41,24 +41,28 @@ impl Task {
         ensures task { IfOk result (λ t. task_of t ≡ task_of_trees (domain_of domain.entry) (problem_of problem.entry)) }
         ensures least { IfErr result (TellsLeastFault (domain_of domain.entry) (problem_of problem.entry)) }
     {
-        phases::domain_name(alloc, &domain, &problem)?;
-        let objects = phases::objects(alloc, &problem)?;
-        let predicates = phases::predicates(alloc, &domain)?;
-        let schemas = phases::schemas(alloc, &predicates, &domain)?;
-        let scope = Scope {
-            file: TaskFile::Problem,
-            predicates: &predicates,
-            variables: &IndexSet::new(alloc),
-            objects: &objects,
-        };
-        let init = phases::init(alloc, &scope, &problem)?;
-        let goal = phases::goal(alloc, &scope, &problem)?;
+        Task::of_trees(alloc, &domain, &problem)
+    }
+
+    /// The task of a domain and a problem, which are kept.
+    fn of_trees(
+        alloc: Global,
+        domain: &Domain<'_>,
+        problem: &Problem<'_>,
+    ) -> Result<Task, TaskFault>
+        ensures well_typed { OnOk result (IsWellTyped (domain_of domain.now) (problem_of problem.now)) }
+        ensures task { IfOk result (λ t. task_of t ≡ task_of_trees (domain_of domain.now) (problem_of problem.now)) }
+        ensures least { IfErr result (TellsLeastFault (domain_of domain.now) (problem_of problem.now)) }
+    {
+        phases::domain_name(alloc, domain, problem)?;
+        let names = Names::declared(alloc, domain, problem)?;
+        let start = names.stated(alloc, problem)?;
         Ok(Task {
-            objects,
-            predicates,
-            schemas,
-            init,
-            goal,
+            objects: names.objects,
+            predicates: names.predicates,
+            schemas: names.schemas,
+            init: start.init,
+            goal: start.goal,
         })
     }
 

@@ -55,31 +55,19 @@ impl Walk {
         ensures least { self.new.least ≡ self.old.least }
     {
         self.folded.clear();
-        for byte in name.text {
-            self.folded.push(byte.to_ascii_lowercase())?;
-        }
+        self.folded.extend_from_slice(name.text)?;
+        self.folded.make_ascii_lowercase();
         Ok(())
     }
 
-    /// Tells the least fault, if one was found.
-    pub(crate) fn finish(self) -> Result<(), TaskFault>
-        ensures none { OnOk result (least_of self ≡ None) }
+    /// Ends the walk: what was made on it, if no fault was found, and else the least fault.
+    pub(crate) fn finish<T: Drop>(self, made: T) -> Result<T, TaskFault>
+        ensures none { IfOk result (λ t. (t ≡ made) × (least_of self ≡ None)) }
         ensures some { IfErr result (TellsFound (least_of self)) }
     {
         match self.least {
-            None => Ok(()),
+            None => Ok(made),
             Some(refusal) => Err(TaskFault::At(refusal)),
         }
     }
-}
-
-/// The name in lower case.
-pub(crate) fn lower_case(alloc: Global, name: &Name<'_>) -> Result<Vec<u8>, NoMemory>
-    ensures { IfOk result (λ v. v.items ≡ folded (name_of name.now)) }
-{
-    let mut folded = Vec::with_capacity(alloc, name.text.len())?;
-    for byte in name.text {
-        folded.push(byte.to_ascii_lowercase())?;
-    }
-    Ok(folded)
 }

@@ -1,41 +1,48 @@
-use Rattle.std.proofs.Common.{◌∙◌, ap, sym, refl, [], ◌∷◌, if◌then◌else◌, List, Bool}
+use Rattle.std.proofs.Common.{◌≡◌, ◌==◌, ◌∙◌, map, ap, sym, refl, [], ◌∷◌, if◌then◌else◌, List, Bool}
 use Rattle.std.specs.Option.{option_map}
 use Rattle.pddl_tree.specs.Tree.{name_of}
-use Rattle.model.specs.Typing.{refused, TypingFault}
-use Rattle.typing.specs.TaskParts as parts
-use Rattle.typing.specs.Task.{file_of}
-use Rattle.typing.specs.Task.{refusal_of}
+use Rattle.model.specs.Typing.{refused, number_in, names_of, predicate_faults, TypingFault}
+use Rattle.typing.specs.TaskParts.{predicate_of}
+use Rattle.typing.specs.Task.{file_of, refusal_of}
 use Rattle.typing.specs.Walk.{found, least_of}
 use Rattle.typing.proofs.Tables.{found_predicate, missing_predicate, other_count, same_count}
+use Rattle.typing.proofs.scope.Scope.predicate.Goals.{In-Some}
 use Rattle.typing.proofs.scope.Scope.predicate.Goals as goal
 
-pub returns-then-predicate-count-clause-value : goal.returns-then-predicate-count-clause-value
-returns-then-predicate-count-clause-value c =
-    (found_predicate parts.predicate_of (λ e. refl) (file_of c.args.self.now.file) (name_of c.args.name.now) _ (c.as_slice.ensures.value ∙ c.in_ok-fold.ensures.folded) c.args.self.now.predicates.now.entries c.args.count c.in-Some.number _ _ c.in-Some.ensures.index c.in-Some.ensures.entry).0
+-- the faults, by whether the count is that of the declaration
+told : In-Some → Bool → List TypingFault
+told c fits = if fits then [] else refused (file_of c.args.self.now.file) 18 (name_of c.args.name.now ∷ [])
 
-pub returns-then-predicate-count-clause-finds : goal.returns-then-predicate-count-clause-finds
-returns-then-predicate-count-clause-finds c =
-    let faults : (b : Bool) → List TypingFault = λ b. if b then [] else refused (file_of c.args.self.now.file) 18 (name_of c.args.name.now ∷ []) in
-    let h = (found_predicate parts.predicate_of (λ e. refl) (file_of c.args.self.now.file) (name_of c.args.name.now) _ (c.as_slice.ensures.value ∙ c.in_ok-fold.ensures.folded) c.args.self.now.predicates.now.entries c.args.count c.in-Some.number _ _ c.in-Some.ensures.index c.in-Some.ensures.entry).1 ∙ ap faults (other_count c.in-Some.predicate.now.arity c.args.count c.if-predicate-count.true) in
-    c.refuse.ensures ∙ ap (λ o. found (option_map refusal_of o) (refused (file_of c.args.self.now.file) 18 (name_of c.args.name.now ∷ []))) c.fold.ensures.least
-    ∙ ap (found (least_of c.args.walk.now)) (sym h)
+-- what the look-up says of the number and of the faults
+there : (c : In-Some) → (c.in-Some.number ≡ number_in (names_of (map predicate_of c.args.self.now.predicates.now.entries)) (name_of c.args.name.now))
+    × (predicate_faults (file_of c.args.self.now.file) (map predicate_of c.args.self.now.predicates.now.entries) (name_of c.args.name.now) c.args.count ≡ told c (c.args.count == c.in-Some.predicate.now.arity))
+unfolding told
+there c =
+    found_predicate predicate_of (λ e. refl) (file_of c.args.self.now.file) (name_of c.args.name.now) _ (c.as_slice.ensures.value ∙ c.in_ok-fold.ensures.folded) c.args.self.now.predicates.now.entries c.args.count c.in-Some.number _ _ c.in-Some.ensures.index c.in-Some.ensures.entry
 
-pub returns-else-predicate-count-clause-value : goal.returns-else-predicate-count-clause-value
-returns-else-predicate-count-clause-value c =
-    (found_predicate parts.predicate_of (λ e. refl) (file_of c.args.self.now.file) (name_of c.args.name.now) _ (c.as_slice.ensures.value ∙ c.in_ok-fold.ensures.folded) c.args.self.now.predicates.now.entries c.args.count c.in-Some.number _ _ c.in-Some.ensures.index c.in-Some.ensures.entry).0
+pub returns-then-predicate-count : goal.returns-then-predicate-count
+unfolding told
+returns-then-predicate-count c =
+    let s = (goal.at.returns-then-predicate-count c).In-Some in
+    let faults = (there s).1 ∙ ap (told s) (other_count c.in-Some.predicate.now.arity c.args.count c.if-predicate-count.true) in
+    record {
+      value = (there s).0;
+      finds = c.refuse.ensures ∙ ap (λ o. found (option_map refusal_of o) (refused (file_of c.args.self.now.file) 18 (name_of c.args.name.now ∷ []))) c.fold.ensures.least
+          ∙ ap (found (least_of c.args.walk.now)) (sym faults);
+    }
 
-pub returns-else-predicate-count-clause-finds : goal.returns-else-predicate-count-clause-finds
-returns-else-predicate-count-clause-finds c =
-    let faults : (b : Bool) → List TypingFault = λ b. if b then [] else refused (file_of c.args.self.now.file) 18 (name_of c.args.name.now ∷ []) in
-    let h = (found_predicate parts.predicate_of (λ e. refl) (file_of c.args.self.now.file) (name_of c.args.name.now) _ (c.as_slice.ensures.value ∙ c.in_ok-fold.ensures.folded) c.args.self.now.predicates.now.entries c.args.count c.in-Some.number _ _ c.in-Some.ensures.index c.in-Some.ensures.entry).1 ∙ ap faults (same_count c.in-Some.predicate.now.arity c.args.count c.if-predicate-count.false) in
-    ap (option_map refusal_of) c.fold.ensures.least ∙ ap (found (least_of c.args.walk.now)) (sym h)
+pub returns-else-predicate-count : goal.returns-else-predicate-count
+unfolding told
+returns-else-predicate-count c =
+    let s = (goal.at.returns-else-predicate-count c).In-Some in
+    let faults = (there s).1 ∙ ap (told s) (same_count c.in-Some.predicate.now.arity c.args.count c.if-predicate-count.false) in
+    record { value = (there s).0; finds = ap (option_map refusal_of) c.fold.ensures.least ∙ ap (found (least_of c.args.walk.now)) (sym faults) }
 
-pub returns-in-None-clause-value : goal.returns-in-None-clause-value
-returns-in-None-clause-value c =
-    c.len.ensures.len ∙ (missing_predicate parts.predicate_of (λ e. refl) (file_of c.args.self.now.file) (name_of c.args.name.now) _ (c.as_slice.ensures.value ∙ c.in_ok-fold.ensures.folded) c.args.self.now.predicates.now.entries c.args.count c.in-None.ensures.index).0
-
-pub returns-in-None-clause-finds : goal.returns-in-None-clause-finds
-returns-in-None-clause-finds c =
-    let h = (missing_predicate parts.predicate_of (λ e. refl) (file_of c.args.self.now.file) (name_of c.args.name.now) _ (c.as_slice.ensures.value ∙ c.in_ok-fold.ensures.folded) c.args.self.now.predicates.now.entries c.args.count c.in-None.ensures.index).1 in
-    c.refuse-in-None.ensures ∙ ap (λ o. found (option_map refusal_of o) (refused (file_of c.args.self.now.file) 17 (name_of c.args.name.now ∷ []))) c.fold.ensures.least
-    ∙ ap (found (least_of c.args.walk.now)) (sym h)
+pub returns-in-None : goal.returns-in-None
+returns-in-None c =
+    let file = file_of c.args.self.now.file in let name = name_of c.args.name.now in
+    let h = missing_predicate predicate_of (λ e. refl) file name _ (c.as_slice.ensures.value ∙ c.in_ok-fold.ensures.folded) c.args.self.now.predicates.now.entries c.args.count c.in-None.ensures.index in
+    record {
+      value = c.len.ensures.len ∙ h.0;
+      finds = c.refuse-in-None.ensures ∙ ap (λ o. found (option_map refusal_of o) (refused file 17 (name ∷ []))) c.fold.ensures.least ∙ ap (found (least_of c.args.walk.now)) (sym h.1);
+    }

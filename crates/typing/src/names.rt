@@ -1,0 +1,73 @@
+//! The names that a domain and a problem declare, and what the problem says in them.
+ghost use Rattle.std.specs.Prelude.{◌≡◌, ◌≤◌, [], length, map, IfErr, IfOk};
+
+use crate::scope::Scope;
+use crate::{Atom, Formula, Predicate, Schema, TaskFault, TaskFile, phases};
+use indexmap::{IndexMap, IndexSet};
+use pddl_tree::{Domain, Problem};
+use std::alloc::Global;
+
+/// What a domain and a problem declare, by name: each in the place of its number.
+#[derive(Drop)]
+pub(crate) struct Names {
+    pub(crate) objects: IndexSet<Vec<u8>>,
+    pub(crate) predicates: IndexMap<Vec<u8>, Predicate>,
+    pub(crate) schemas: IndexMap<Vec<u8>, Schema>,
+    ghost few_objects: { length objects.keys ≤ 65535 },
+}
+
+/// Where a problem begins and ends.
+#[derive(Drop)]
+pub(crate) struct Start {
+    pub(crate) init: Vec<Atom>,
+    pub(crate) goal: Formula,
+}
+
+impl Names {
+    ghost use Rattle.typing.specs.Task.{TellsLeastOf};
+    ghost use Rattle.typing.specs.Scope.{narrow_atom_in};
+    ghost use Rattle.typing.specs.Names.{declared_faults, known_by, stated_faults, AreDeclared};
+    ghost use Rattle.typing.specs.TaskParts as parts;
+    ghost use Rattle.pddl_tree.specs.Tree.{domain_of, problem_of};
+    ghost use Rattle.model.specs.Typing as typing;
+
+    /// The names that a domain and a problem declare.
+    pub(crate) fn declared(
+        alloc: Global,
+        domain: &Domain<'_>,
+        problem: &Problem<'_>,
+    ) -> Result<Names, TaskFault>
+        ensures ok { IfOk result
+            (λ n. (declared_faults (domain_of domain.now) (problem_of problem.now) ≡ [])
+            × AreDeclared (domain_of domain.now) (problem_of problem.now) n) }
+        ensures err { IfErr result (TellsLeastOf (declared_faults (domain_of domain.now) (problem_of problem.now))) }
+    {
+        let objects = phases::objects(alloc, problem)?;
+        let predicates = phases::predicates(alloc, domain)?;
+        let schemas = phases::schemas(alloc, &predicates, domain)?;
+        Ok(Names {
+            objects,
+            predicates,
+            schemas,
+        })
+    }
+
+    /// What the problem states of the names: where it begins, and its goal.
+    pub(crate) fn stated(&self, alloc: Global, problem: &Problem<'_>) -> Result<Start, TaskFault>
+        ensures ok { IfOk result
+            (λ s. (stated_faults (known_by self.now) (problem_of problem.now) ≡ [])
+            × ((map parts.atom_of s.init.items ≡ map (narrow_atom_in (known_by self.now)) (problem_of problem.now).init)
+            × (parts.formula_of s.goal ≡ typing.formula_in (known_by self.now) (problem_of problem.now).goal))) }
+        ensures err { IfErr result (TellsLeastOf (stated_faults (known_by self.now) (problem_of problem.now))) }
+    {
+        let scope = Scope {
+            file: TaskFile::Problem,
+            predicates: &self.predicates,
+            variables: &IndexSet::new(alloc),
+            objects: &self.objects,
+        };
+        let init = phases::init(alloc, &scope, problem)?;
+        let goal = phases::goal(alloc, &scope, problem)?;
+        Ok(Start { init, goal })
+    }
+}
