@@ -8,17 +8,18 @@ use Rattle.std.proofs.lemmas.List.Elements.{Contains-push_cases, All-cons, All-n
 use Rattle.std.proofs.lemmas.List.Sorted.{Contains-permutation, All-permutation}
 use Rattle.std.proofs.lemmas.List.Sums.{count_by-le-length}
 use Rattle.model.proofs.ListLemmas.{Contains-here, Contains-there, Contains-cases, Contains-none, Contains-got, Contains-place}
-use Rattle.model.specs.Runs.{System, IsReachable, AreSuccessors}
+use Rattle.model.specs.Runs.{System, CostsAtLeast, AreSuccessors}
 use Rattle.search.specs.declared.progress.Reached.{Reached}
 use Rattle.search.specs.declared.progress.Origin.{Origin}
-use Rattle.search.specs.Outcome.{IsReachableAt, AreMoreReachable}
+use Rattle.search.specs.Outcome.{IsReachableAt, PrecedesPlans, is_initial, is_next, AreMoreReachable}
 use Rattle.search.specs.Store.{IsPlaced}
 use Rattle.search.specs.Nodes.{Waiting, place_of, cost_of, entry, depth_of, Node, nodes_of, expanded_count, dearest, Leads, AreNodes, IsFoundWithin, IsOpen, AreOpen, AreOpenBut, IsTurn, IsCurrent, marked}
 use Rattle.search.specs.Progress.{Continues, IsListed, TakesNext}
 use Rattle.search.proofs.Lists.{get-push_new, get-push_other, get-set_here, get-set_other, get_exists}
 use Rattle.search.proofs.Linked.{length-nodes_of, nodes_of-get, get-nodes_of, nodes_of-push, nodes_of-set, nodes_of-mark, count-mark, updates-push, updates-set}
+use Rattle.search.proofs.Closed.{no_plan_cheaper}
 use Rattle.search.proofs.Marked.{nodes_marked, turn_marked, open_but_marked}
-use Rattle.search.proofs.NodesLemmas.{Stepped, stepped, run-push}
+use Rattle.search.proofs.NodesLemmas.{Stepped, stepped}
 
 module _ {S L Action : Type 0} (t : System S L) (label : Action → L) (states : List S) (all : List Reached) (origins : List (Option (Origin Action))) (queue : List Waiting) (i : ℕ)
     (one_each : length all ≡ length states) (other : length origins ≡ length states)
@@ -138,10 +139,8 @@ module _ {S L Action : Type 0} (t : System S L) (label : Action → L) (states :
         ]),
     (λ x at.
         elim (Contains-push_cases states s x at) [
-          | inl among ↦ let there = Contains-place states x among in reachable there.0 x there.1
-          | inr is ↦
-              let (actions, runs, _) = nodes.reachable i turn.node turn.stands in
-              (actions ++ label origin.action ∷ [], run-push t t.initial actions (label origin.action) turn.node.state x runs (step ∙ ap Some is))
+          | inl among ↦ let there = Contains-place states x among in precedes there.0 x there.1
+          | inr is ↦ from_expanded i turn.node turn.stands turn.is_expanded (label origin.action) x (step ∙ ap Some is)
         ]),
     omega (arith, length-append states (s ∷ []), full),
   )
@@ -152,11 +151,28 @@ module _ {S L Action : Type 0} (t : System S L) (label : Action → L) (states :
           let o = get_exists origins k (omega (arith, slice_get_within states k x at)) in
           (record { state = x; reached = r.0; origin = o.0 }, get-nodes_of states all origins k x r.0 o.0 at r.1 o.1, refl)
 
-      reachable : (k : ℕ) (x : S) → slice_get states k ≡ Some x → IsReachable t x
-      reachable k x at =
+      -- an action leads to the state from an expanded one
+      from_expanded : (k : ℕ) (n : Node S Action) → slice_get (nodes_of states all origins) k ≡ Some n → n.reached.is_expanded ≡ true → (a : L) (x : S) → t.step n.state a ≡ Some x → PrecedesPlans t x
+      from_expanded k n there expanded a x leads =
+          let (actions, runs, costs) = nodes.reachable k n there in
+          is_next actions n.state a runs (nodes.no_goal k n there expanded) (subst (λ c. CostsAtLeast t c) (sym costs) (nodes.no_dearer k n there expanded)) leads
+
+      from_origin : (k : ℕ) (n : Node S Action) → slice_get (nodes_of states all origins) k ≡ Some n → PrecedesPlans t n.state
+      from_origin k n there =
+          elim n.origin as (λ o. n.origin ≡ o → PrecedesPlans t n.state) [
+            | None ↦ λ none.
+                let first : k ≡ 0 = nodes.only_root k n there none in
+                let same : nodes.root.0 ≡ n = same_Some nodes.root.0 n (sym nodes.root.1 ∙ ap (slice_get (nodes_of states all origins)) (sym first) ∙ there) in
+                is_initial (sym (ap (λ (y : Node S Action). y.state) same) ∙ nodes.root.2)
+            | Some o ↦ λ some.
+                let leads = nodes.linked k n o there some in
+                from_expanded o.parent.0 leads.parent leads.stands leads.is_expanded (label o.action) n.state leads.step
+          ] refl
+
+      precedes : (k : ℕ) (x : S) → slice_get states k ≡ Some x → PrecedesPlans t x
+      precedes k x at =
           let (n, there, same) = node_there k x at in
-          let (actions, runs, _) = nodes.reachable k n there in
-          (actions, runs ∙ ap Some same)
+          subst (λ y. PrecedesPlans t y) same (from_origin k n there)
 
       distinct : (j k : ℕ) (x : S) → slice_get states j ≡ Some x → slice_get states k ≡ Some x → j ≡ k
       distinct j k x at_j at_k =
@@ -215,6 +231,7 @@ module _ {S L Action : Type 0} (t : System S L) (label : Action → L) (states :
           shallow = each (λ k n. depth_of n.origin ≤ expanded_count (one_node ∷ [])) (omega arith);
           reachable = each (λ k n. IsReachableAt t n.state n.reached.cost) ([], ap Some (sym initial), refl);
           no_goal = each (λ k n. n.reached.is_expanded ≡ true → t.meets_goal n.state ≡ false) (λ expanded. absurd (false≢true expanded));
+          no_dearer = each (λ k n. n.reached.is_expanded ≡ true → CostsAtLeast t n.reached.cost) (λ expanded. absurd (false≢true expanded));
           ordered = λ j k m n at_j at_k expanded _. absurd (false≢true (ap (λ (x : Node S Action). x.reached.is_expanded) (only j m at_j).1 ∙ expanded));
           queued = each (λ k n. n.reached.is_expanded ≡ false → Contains queue' (entry n.reached.cost k)) (λ _. Contains-permutation (entry 0 0 ∷ []) queue' (entry 0 0) joins' (Contains-here (entry 0 0) []));
           in_range = All-permutation (λ w. place_of w < 1) (entry 0 0 ∷ []) queue' joins' (All-cons (λ w. place_of w < 1) (entry 0 0) [] (omega arith) (All-nil (λ w. place_of w < 1)));
@@ -325,7 +342,8 @@ module _ {S L Action : Type 0} (t : System S L) (label : Action → L) (states :
       let count_origins : length origins' ≡ length origins = ap length is_origins in (
         omega (arith, count_states, count_all, one_each),
         omega (arith, count_states, count_origins, other),
-        nodes_marked (nodes_of states all origins) after i one stands waits here others count t label queue queue' nodes cheapest no_goal rest all_in,
+        nodes_marked (nodes_of states all origins) after i one stands waits here others count t label queue queue' nodes cheapest no_goal
+            (no_plan_cheaper t label states all origins one_each other queue nodes one are_open cheapest) rest all_in,
         turn_marked (nodes_of states all origins) after i one stands waits here others count t label queue queue' nodes cheapest,
         open_but_marked (nodes_of states all origins) after i one stands waits here others count t label queue queue' nodes cheapest are_open,
         here,
