@@ -1,12 +1,12 @@
 -- What the found states prove once no state waits that is cheaper than a goal state.
-use Rattle.std.proofs.Common.{◌≡◌, ℕ, zero, suc, ◌+◌, ◌*◌, ◌≤◌, inl, inr, List, [], ◌∷◌, ◌++◌, map, length, Bool, Option, Some, None, true, false, refl, sym, ap, ◌∙◌, subst, arith}
+use Rattle.std.proofs.Common.{◌≡◌, ℕ, zero, suc, ◌+◌, ◌≤◌, inl, inr, List, [], ◌∷◌, ◌++◌, map, length, Bool, Option, Some, None, true, false, refl, sym, ap, ◌∙◌, subst, arith}
 use Rattle.std.specs.Prelude.{slice_get, Contains, if◌then◌else◌}
 use Rattle.std.proofs.lemmas.Bool.{false≢true}
 use Rattle.std.proofs.lemmas.Option.{same_Some, slice_get_within}
 use Rattle.std.proofs.lemmas.List.{map_push, length-append}
 use Rattle.std.proofs.lemmas.List.Sums.{sum_by-append, count_by-le-length}
 use Rattle.std.proofs.Math.Nat.{mul-le-mul_right}
-use Rattle.model.specs.Runs.{System, run, cost_of_all, IsOptimal, IsUnsolvable}
+use Rattle.model.specs.Runs.{System, run, cost_of_all, CostsAtLeast, IsOptimal, IsUnsolvable}
 use Rattle.model.specs.Claims.{Claim, bound, none, Allows, Line, IsListedWithin, IsLowerBound, IsClosed}
 use Rattle.model.proofs.ClaimsLemmas.{claim-of_closed}
 use Rattle.model.proofs.ListLemmas.{Contains-here, Contains-there, Contains-cases, Contains-none}
@@ -156,6 +156,14 @@ module _ {S L Action : Type 0} (t : System S L) (label : Action → L) (states :
     zero_lower : IsLowerBound t (λ _. 0)
     zero_lower s end plan runs goal = omega arith
 
+    -- no list that solves costs less than the node whose turn came: each has to pass through one that waits
+    pub no_plan_cheaper : (one : Node S Action) → AreOpen t (nodes_of states all origins)
+        → ((k : ℕ) (n : Node S Action) → slice_get (nodes_of states all origins) k ≡ Some n → n.reached.is_expanded ≡ false → one.reached.cost ≤ n.reached.cost)
+        → CostsAtLeast t one.reached.cost
+    no_plan_cheaper one are_open cheapest =
+        claim-of_closed t (λ _. 0) (bound one.reached.cost) (lines_of states all) zero_lower
+        (closed (bound one.reached.cost) are_open (λ k n at waits. omega (arith, cheapest k n at waits)))
+
     -- a goal state whose turn came is reached by a cheapest list
     pub optimal : (i : ℕ) (one : Node S Action) (steps : List Action) (max_states : ℕ) → AreOpen t (nodes_of states all origins) → slice_get (nodes_of states all origins) i ≡ Some one
         → ((k : ℕ) (n : Node S Action) → slice_get (nodes_of states all origins) k ≡ Some n → n.reached.is_expanded ≡ false → one.reached.cost ≤ n.reached.cost)
@@ -164,7 +172,7 @@ module _ {S L Action : Type 0} (t : System S L) (label : Action → L) (states :
         × (length steps ≤ max_states)
     optimal i one steps max_states are_open stands cheapest goal path within =
         let is_closed = closed (bound one.reached.cost) are_open (λ k n at waits. omega (arith, cheapest k n at waits)) in
-        let holds = claim-of_closed t (λ _. 0) (bound one.reached.cost) (lines_of states all) zero_lower is_closed in
+        let holds = no_plan_cheaper one are_open cheapest in
         let (runs, costs) = path_runs i steps one path stands in (
           ((one.state, runs, goal), λ plan solves. subst (λ c. c ≤ cost_of_all t plan) (sym costs) (holds plan solves)),
           costs,

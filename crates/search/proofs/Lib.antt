@@ -1,4 +1,5 @@
 pub mod Closed
+pub mod Limit
 pub mod Linked
 pub mod Lists
 pub mod Marked

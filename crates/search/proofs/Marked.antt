@@ -3,7 +3,7 @@ use Rattle.std.proofs.Common.{◌≡◌, ℕ, ◌+◌, ◌*◌, ◌<◌, ◌≤�
 use Rattle.std.specs.Prelude.{slice_get, Contains, All}
 use Rattle.std.proofs.lemmas.Bool.{cases_eq, false≢true}
 use Rattle.std.proofs.lemmas.Option.{same_Some}
-use Rattle.model.specs.Runs.{System}
+use Rattle.model.specs.Runs.{System, CostsAtLeast}
 use Rattle.search.specs.declared.progress.Origin.{Origin}
 use Rattle.search.specs.Nodes.{Waiting, place_of, entry, depth_of, Node, expanded_count, Leads, dearest, AreNodes, IsFoundWithin, IsOpen, AreOpen, AreOpenBut, IsTurn, marked}
 use Rattle.search.specs.Outcome.{IsReachableAt}
@@ -48,10 +48,10 @@ module _ {S Action : Type 0} (nodes after : List (Node S Action)) (i : ℕ) (one
       step = leads.step ∙ ap Some (sym same_state);
     }
 
-    pub nodes_marked : t.meets_goal one.state ≡ false
+    pub nodes_marked : t.meets_goal one.state ≡ false → CostsAtLeast t one.reached.cost
         → ((k : ℕ) (n : Node S Action) → slice_get nodes k ≡ Some n → n.reached.is_expanded ≡ false → k ≢ i → Contains queue' (entry n.reached.cost k))
         → All (λ w. place_of w < length after) queue' → AreNodes t label after queue'
-    nodes_marked no_goal queued in_range = record {
+    nodes_marked no_goal no_dearer queued in_range = record {
       root =
           elim (cases_eq 0 i) [
             | inl e ↦
@@ -74,6 +74,7 @@ module _ {S Action : Type 0} (nodes after : List (Node S Action)) (i : ℕ) (one
       shallow = rw count (each_marked (λ k n. depth_of n.origin ≤ expanded_count nodes + 1) (omega (arith, old.shallow i one stood)) (λ k n _ at. omega (arith, old.shallow k n at)));
       reachable = each_marked (λ k n. IsReachableAt t n.state n.reached.cost) (old.reachable i one stood) (λ k n _ at. old.reachable k n at);
       no_goal = each_marked (λ k n. n.reached.is_expanded ≡ true → t.meets_goal n.state ≡ false) (λ _. no_goal) (λ k n _ at. old.no_goal k n at);
+      no_dearer = each_marked (λ k n. n.reached.is_expanded ≡ true → CostsAtLeast t n.reached.cost) (λ _. no_dearer) (λ k n _ at. old.no_dearer k n at);
       ordered = λ p k x n at_p at_k expanded waits.
           each_marked (λ k n. n.reached.is_expanded ≡ false → x.reached.cost ≤ n.reached.cost)
           (λ waits. absurd (false≢true (sym waits)))

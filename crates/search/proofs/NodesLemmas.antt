@@ -8,7 +8,7 @@ use Rattle.std.specs.Option.{option_and_then}
 use Rattle.std.proofs.lemmas.Bool.{cases_eq, false≢true}
 use Rattle.std.proofs.lemmas.Option.{same_Some}
 use Rattle.std.proofs.lemmas.List.Sums.{sum_by-append}
-use Rattle.model.specs.Runs.{System, run}
+use Rattle.model.specs.Runs.{System, run, CostsAtLeast}
 use Rattle.search.specs.declared.progress.Origin.{Origin}
 use Rattle.search.specs.Outcome.{IsReachableAt}
 use Rattle.search.specs.Nodes.{Waiting, place_of, entry, depth_of, Node, expanded_count, Leads, dearest, AreNodes, IsFoundWithin, IsOpen, AreOpenBut, IsTurn, Updates}
@@ -154,6 +154,9 @@ module _ {S Action : Type 0} (nodes after : List (Node S Action)) (j : ℕ) (m :
           no_goal = each_after (λ k n. n.reached.is_expanded ≡ true → t.meets_goal n.state ≡ false)
               (λ expanded. absurd (false≢true (sym updates.waits ∙ expanded)))
               (λ k n other at. old.no_goal k n at);
+          no_dearer = each_after (λ k n. n.reached.is_expanded ≡ true → CostsAtLeast t n.reached.cost)
+              (λ expanded. absurd (false≢true (sym updates.waits ∙ expanded)))
+              (λ k n other at. old.no_dearer k n at);
           ordered = λ p k x n at_p at_k expanded waits.
               each_after (λ p x. x.reached.is_expanded ≡ true → x.reached.cost ≤ n.reached.cost)
               (λ expanded. absurd (false≢true (sym updates.waits ∙ expanded)))

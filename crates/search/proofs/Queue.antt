@@ -20,9 +20,13 @@ use Rattle.search.proofs.Lists.{get-set_other, get_exists}
 cost-le : (x w : Waiting) → is_lt (by_cost x w) ≡ false → cost_of x ≤ cost_of w
 cost-le x w above = grind (arith, nat_tests)
 
-cheapest-of : (x : Waiting) (queue : List Waiting) → IsUpperBound by_cost x queue → (w : Waiting) → Contains queue w → cost_of x ≤ cost_of w
-cheapest-of x queue greatest w at =
-    cost-le x w (All-contains (λ y. is_lt (by_cost x y) ≡ false) queue w (All-from_recursion (λ y. is_lt (by_cost x y) ≡ false) queue greatest) at)
+-- and of equal cost it comes no later
+place-le : (x w : Waiting) → is_lt (by_cost x w) ≡ false → cost_of w ≡ cost_of x → place_of x ≤ place_of w
+place-le x w above same = grind (arith, nat_tests)
+
+greatest-of : (x : Waiting) (queue : List Waiting) → IsUpperBound by_cost x queue → (w : Waiting) → Contains queue w → is_lt (by_cost x w) ≡ false
+greatest-of x queue greatest w at =
+    All-contains (λ y. is_lt (by_cost x y) ≡ false) queue w (All-from_recursion (λ y. is_lt (by_cost x y) ≡ false) queue greatest) at
 
 -- the queue, from which only entries that are stale have gone
 pub record KeepsCurrent (initial now : List Waiting) (all : List Reached) : Type 0 where
@@ -51,7 +55,8 @@ takes-popped initial old new all x keeps moved greatest now = record {
   next = x;
   stands = refl;
   current = now;
-  cheapest = λ w at current. cheapest-of x old greatest w (keeps.current w at current);
+  cheapest = λ w at current. cost-le x w (greatest-of x old greatest w (keeps.current w at current));
+  first = λ w at current same. place-le x w (greatest-of x old greatest w (keeps.current w at current)) same;
   rest = λ w at current other.
       elim (popped-cases old new x w moved (keeps.current w at current)) [
         | inl is ↦ absurd (other (ap place_of (sym is)))

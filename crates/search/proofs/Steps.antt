@@ -1,24 +1,25 @@
 -- The steps of an expansion, over the lists of a search.
 use Rattle.std.proofs.Common.{◌≡◌, ℕ, zero, suc, ◌+◌, ◌*◌, ◌<◌, ◌≤◌, ◌≢◌, ◌⊎◌, inl, inr, List, [], ◌∷◌, ◌++◌, length, set, Bool, Option, Some, None, true, false, refl, sym, ap, ◌∙◌, subst, arith}
 use Rattle.std.specs.Prelude.{slice_get, Contains, All, IsPermutation}
-use Rattle.std.proofs.lemmas.Bool.{false≢true, cases_eq}
+use Rattle.std.proofs.lemmas.Bool.{false≢true}
 use Rattle.std.proofs.lemmas.Option.{same_Some, slice_get_within}
 use Rattle.std.proofs.lemmas.List.{length-set, length-append}
-use Rattle.std.proofs.lemmas.List.Elements.{Contains-push_cases, All-cons, All-nil, All-weaker}
+use Rattle.std.proofs.lemmas.List.Elements.{All-cons, All-nil, All-weaker}
 use Rattle.std.proofs.lemmas.List.Sorted.{Contains-permutation, All-permutation}
 use Rattle.std.proofs.lemmas.List.Sums.{count_by-le-length}
-use Rattle.model.proofs.ListLemmas.{Contains-here, Contains-there, Contains-cases, Contains-none, Contains-got, Contains-place}
-use Rattle.model.specs.Runs.{System, IsReachable, AreSuccessors}
+use Rattle.model.proofs.ListLemmas.{Contains-here, Contains-there, Contains-cases, Contains-none, Contains-got}
+use Rattle.model.specs.Runs.{System, CostsAtLeast, AreSuccessors}
 use Rattle.search.specs.declared.progress.Reached.{Reached}
 use Rattle.search.specs.declared.progress.Origin.{Origin}
-use Rattle.search.specs.Outcome.{IsReachableAt, AreMoreReachable}
+use Rattle.search.specs.Outcome.{IsReachableAt}
 use Rattle.search.specs.Store.{IsPlaced}
 use Rattle.search.specs.Nodes.{Waiting, place_of, cost_of, entry, depth_of, Node, nodes_of, expanded_count, dearest, Leads, AreNodes, IsFoundWithin, IsOpen, AreOpen, AreOpenBut, IsTurn, IsCurrent, marked}
 use Rattle.search.specs.Progress.{Continues, IsListed, TakesNext}
-use Rattle.search.proofs.Lists.{get-push_new, get-push_other, get-set_here, get-set_other, get_exists}
+use Rattle.search.proofs.Lists.{get-set_here, get-set_other, get_exists}
 use Rattle.search.proofs.Linked.{length-nodes_of, nodes_of-get, get-nodes_of, nodes_of-push, nodes_of-set, nodes_of-mark, count-mark, updates-push, updates-set}
+use Rattle.search.proofs.Closed.{no_plan_cheaper}
 use Rattle.search.proofs.Marked.{nodes_marked, turn_marked, open_but_marked}
-use Rattle.search.proofs.NodesLemmas.{Stepped, stepped, run-push}
+use Rattle.search.proofs.NodesLemmas.{Stepped, stepped}
 
 module _ {S L Action : Type 0} (t : System S L) (label : Action → L) (states : List S) (all : List Reached) (origins : List (Option (Origin Action))) (queue : List Waiting) (i : ℕ)
     (one_each : length all ≡ length states) (other : length origins ≡ length states)
@@ -115,55 +116,6 @@ module _ {S L Action : Type 0} (t : System S L) (label : Action → L) (states :
     subst (λ ss. Stepped t label (nodes_of states all origins) (nodes_of ss all origins) queue i (label origin.action) s) (sym is_states) (stepped_known j reached is_s is_reached no_dearer),
   )
 
-  -- the state is new, and the listed ones are as many as the limit allows
-  pub more_reachable : (¬ Contains states s) → (max_states : ℕ) → length states ≡ max_states → AreMoreReachable t max_states
-  more_reachable is_new max_states full = (
-    states ++ s ∷ [],
-    (λ j k x at_j at_k.
-        elim (cases_eq j (length states)) [
-          | inl j_last ↦
-              let is_s : s ≡ x = same_Some s x (sym (get-push_new states s) ∙ ap (slice_get (states ++ s ∷ [])) (sym j_last) ∙ at_j) in
-              elim (cases_eq k (length states)) [
-                | inl k_last ↦ j_last ∙ sym k_last
-                | inr k_other ↦ absurd (is_new (subst (λ y. Contains states y) (sym is_s) (Contains-got states k x (sym (get-push_other states s k k_other) ∙ at_k))))
-              ]
-          | inr j_other ↦
-              let was : slice_get states j ≡ Some x = sym (get-push_other states s j j_other) ∙ at_j in
-              elim (cases_eq k (length states)) [
-                | inl k_last ↦
-                    let is_s : s ≡ x = same_Some s x (sym (get-push_new states s) ∙ ap (slice_get (states ++ s ∷ [])) (sym k_last) ∙ at_k) in
-                    absurd (is_new (subst (λ y. Contains states y) (sym is_s) (Contains-got states j x was)))
-                | inr k_other ↦ distinct j k x was (sym (get-push_other states s k k_other) ∙ at_k)
-              ]
-        ]),
-    (λ x at.
-        elim (Contains-push_cases states s x at) [
-          | inl among ↦ let there = Contains-place states x among in reachable there.0 x there.1
-          | inr is ↦
-              let (actions, runs, _) = nodes.reachable i turn.node turn.stands in
-              (actions ++ label origin.action ∷ [], run-push t t.initial actions (label origin.action) turn.node.state x runs (step ∙ ap Some is))
-        ]),
-    omega (arith, length-append states (s ∷ []), full),
-  )
-    where
-      node_there : (k : ℕ) (x : S) → slice_get states k ≡ Some x → (n : Node S Action) × (slice_get (nodes_of states all origins) k ≡ Some n) × (n.state ≡ x)
-      node_there k x at =
-          let r = get_exists all k (omega (arith, slice_get_within states k x at)) in
-          let o = get_exists origins k (omega (arith, slice_get_within states k x at)) in
-          (record { state = x; reached = r.0; origin = o.0 }, get-nodes_of states all origins k x r.0 o.0 at r.1 o.1, refl)
-
-      reachable : (k : ℕ) (x : S) → slice_get states k ≡ Some x → IsReachable t x
-      reachable k x at =
-          let (n, there, same) = node_there k x at in
-          let (actions, runs, _) = nodes.reachable k n there in
-          (actions, runs ∙ ap Some same)
-
-      distinct : (j k : ℕ) (x : S) → slice_get states j ≡ Some x → slice_get states k ≡ Some x → j ≡ k
-      distinct j k x at_j at_k =
-          let (m, there_m, same_m) = node_there j x at_j in
-          let (n, there_n, same_n) = node_there k x at_k in
-          nodes.distinct j k m n there_m there_n (same_m ∙ sym same_n)
-
 -- the sums fit
 pub turn_limits : {S Action : Type 0} (nodes : List (Node S Action)) (i max_states : ℕ) (turn : IsTurn nodes i) → length nodes ≤ max_states → max_states ≤ 16777216
     → (turn.node.reached.cost + 4294967295 ≤ 72057594021150720) × (depth_of turn.node.origin + 1 ≤ 16777216)
@@ -215,6 +167,7 @@ module _ {S L Action : Type 0} (t : System S L) (label : Action → L) (states :
           shallow = each (λ k n. depth_of n.origin ≤ expanded_count (one_node ∷ [])) (omega arith);
           reachable = each (λ k n. IsReachableAt t n.state n.reached.cost) ([], ap Some (sym initial), refl);
           no_goal = each (λ k n. n.reached.is_expanded ≡ true → t.meets_goal n.state ≡ false) (λ expanded. absurd (false≢true expanded));
+          no_dearer = each (λ k n. n.reached.is_expanded ≡ true → CostsAtLeast t n.reached.cost) (λ expanded. absurd (false≢true expanded));
           ordered = λ j k m n at_j at_k expanded _. absurd (false≢true (ap (λ (x : Node S Action). x.reached.is_expanded) (only j m at_j).1 ∙ expanded));
           queued = each (λ k n. n.reached.is_expanded ≡ false → Contains queue' (entry n.reached.cost k)) (λ _. Contains-permutation (entry 0 0 ∷ []) queue' (entry 0 0) joins' (Contains-here (entry 0 0) []));
           in_range = All-permutation (λ w. place_of w < 1) (entry 0 0 ∷ []) queue' joins' (All-cons (λ w. place_of w < 1) (entry 0 0) [] (omega arith) (All-nil (λ w. place_of w < 1)));
@@ -325,7 +278,8 @@ module _ {S L Action : Type 0} (t : System S L) (label : Action → L) (states :
       let count_origins : length origins' ≡ length origins = ap length is_origins in (
         omega (arith, count_states, count_all, one_each),
         omega (arith, count_states, count_origins, other),
-        nodes_marked (nodes_of states all origins) after i one stands waits here others count t label queue queue' nodes cheapest no_goal rest all_in,
+        nodes_marked (nodes_of states all origins) after i one stands waits here others count t label queue queue' nodes cheapest no_goal
+            (no_plan_cheaper t label states all origins one_each other queue nodes one are_open cheapest) rest all_in,
         turn_marked (nodes_of states all origins) after i one stands waits here others count t label queue queue' nodes cheapest,
         open_but_marked (nodes_of states all origins) after i one stands waits here others count t label queue queue' nodes cheapest are_open,
         here,

@@ -1,7 +1,7 @@
 -- What a search keeps true of the states that it has found.
 use Rattle.std.specs.Prelude.{◌≡◌, ℕ, ◌+◌, ◌*◌, ◌≤◌, ◌<◌, ◌≢◌, true, false, List, [], ◌∷◌, ◌++◌, length, slice_get, Some, None, Option, Contains, count_by, All}
 use Rattle.std.specs.declared.cmp.Reverse.{Reverse}
-use Rattle.model.specs.Runs.{System}
+use Rattle.model.specs.Runs.{System, CostsAtLeast}
 use Rattle.search.specs.declared.store.StateId.{StateId}
 use Rattle.search.specs.declared.progress.Reached.{Reached}
 use Rattle.search.specs.declared.progress.Origin.{Origin}
@@ -70,6 +70,7 @@ module _ {S L Action : Type 0} (t : System S L) (label : Action → L) (nodes : 
     pub shallow : (k : ℕ) (n : Node S Action) → slice_get nodes k ≡ Some n → depth_of n.origin ≤ expanded_count nodes
     pub reachable : (k : ℕ) (n : Node S Action) → slice_get nodes k ≡ Some n → IsReachableAt t n.state n.reached.cost
     pub no_goal : (k : ℕ) (n : Node S Action) → slice_get nodes k ≡ Some n → n.reached.is_expanded ≡ true → t.meets_goal n.state ≡ false
+    pub no_dearer : (k : ℕ) (n : Node S Action) → slice_get nodes k ≡ Some n → n.reached.is_expanded ≡ true → CostsAtLeast t n.reached.cost
     pub ordered : (j k : ℕ) (m n : Node S Action) → slice_get nodes j ≡ Some m → slice_get nodes k ≡ Some n → m.reached.is_expanded ≡ true → n.reached.is_expanded ≡ false → m.reached.cost ≤ n.reached.cost
     pub queued : (k : ℕ) (n : Node S Action) → slice_get nodes k ≡ Some n → n.reached.is_expanded ≡ false → Contains queue (entry n.reached.cost k)
     pub in_range : All (λ w. place_of w < length nodes) queue

@@ -1,6 +1,6 @@
 -- What a search tells of a transition system.
-use Rattle.std.specs.Prelude.{◌≡◌, ℕ, ◌*◌, ◌<◌, ◌≤◌, if◌then◌else◌, List, [], ◌∷◌, length, map, slice_get, Some, None, Contains}
-use Rattle.model.specs.Runs.{System, run, cost_of_all, IsReachable, IsOptimal, IsUnsolvable}
+use Rattle.std.specs.Prelude.{◌≡◌, ℕ, ◌*◌, ◌<◌, ◌≤◌, false, if◌then◌else◌, List, [], ◌∷◌, length, map, slice_get, Some, None, Contains}
+use Rattle.model.specs.Runs.{System, run, cost_of_all, CostsAtLeast, IsOptimal, IsUnsolvable}
 use Rattle.model.specs.Claims.{Claim, bound, none, Line, IsClosed}
 use Rattle.search.specs.declared.progress.Reached.{Reached}
 use Rattle.search.specs.declared.best.Outcome.{Outcome}
@@ -31,10 +31,19 @@ pub record AreFound {S A : Type 0} (t : System S A) (claim : Claim) (max_states 
   pub cheap : (k : ℕ) (reached : Reached) → slice_get all k ≡ Some reached → reached.cost ≤ length states * 4294967295
   pub closed : IsClosed t (λ _. 0) claim (lines_of states all)
 
--- more states are reachable than the limit
+-- A search in the order of cost may have to find the state before any plan is sure to be cheapest: the state is the
+-- initial one, or an action leads to it from one that does not meet the goal, at the end of a list that costs no more than
+-- any list that solves. (Russell & Norvig, Artificial Intelligence, on search contours, here with no estimate: no state is
+-- expanded that costs more than a cheapest plan. Some that cost as much may be; this leaves open which.)
+pub data PrecedesPlans {S A : Type 0} (t : System S A) (s : S) : Type 0 where
+  is_initial : s ≡ t.initial → PrecedesPlans t s
+  is_next : (actions : List A) (before : S) (a : A) → run t t.initial actions ≡ Some before → t.meets_goal before ≡ false
+      → CostsAtLeast t (cost_of_all t actions) → t.step before a ≡ Some s → PrecedesPlans t s
+
+-- More states than the limit are reachable, and may have to be found before any plan is sure to be cheapest.
 abbrev pub AreMoreReachable : {S A : Type 0} → System S A → ℕ → Type 0
 AreMoreReachable {S} t max_states =
-    (states : List S) × AreDistinct states × ((s : S) → Contains states s → IsReachable t s) × (max_states < length states)
+    (states : List S) × AreDistinct states × ((s : S) → Contains states s → PrecedesPlans t s) × (max_states < length states)
 
 -- The outcome is true: the steps are a cheapest list that solves, or none solves, and the found states prove it;
 -- or there are more states than the limit.

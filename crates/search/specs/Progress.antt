@@ -12,12 +12,14 @@ use Rattle.search.specs.Nodes.{Waiting, cost_of, place_of, entry, IsCurrent, Nod
 abbrev pub by_cost : Waiting → Waiting → Ordering
 by_cost x y = ordering_then (nat_cmp y.0.0 x.0.0) (nat_cmp y.0.1.0 x.0.1.0)
 
--- The place has the least cost of those that wait; it leaves the queue, and the others stay in it.
+-- The place has the least cost of those that wait, and of equal cost it comes first; it leaves the queue, and the others
+-- stay in it.
 pub record TakesNext (old new : List Waiting) (all : List Reached) (place : ℕ) : Type 0 where
   pub next : Waiting
   pub stands : place_of next ≡ place
   pub current : IsCurrent all next
   pub cheapest : (w : Waiting) → Contains old w → IsCurrent all w → cost_of next ≤ cost_of w
+  pub first : (w : Waiting) → Contains old w → IsCurrent all w → cost_of w ≡ cost_of next → place_of next ≤ place_of w
   pub rest : (w : Waiting) → Contains old w → IsCurrent all w → place_of w ≢ place → Contains new w
 
 -- an entry joins the queue

@@ -28,13 +28,28 @@ pub enum Outcome<A, S> {
         /// The states that were found: all that are reachable.
         states: FoundStates<S>,
     },
-    /// More states are reachable than may be listed.
+    /// More states would have to be listed than may be, before any plan is sure to be a cheapest one.
     States,
 }
 
-/// Searches for a cheapest plan. The state that is expanded next is one of the least cost so far, and among these
-/// the one that was found first. A goal state is answered when its turn comes. At most `max_states` states are
-/// listed, in the store.
+/// Searches for a cheapest plan, by uniform-cost search (Russell & Norvig, Artificial Intelligence, section 3.4.2):
+/// Dijkstra's algorithm (A Note on Two Problems in Connexion with Graphs, 1959, problem 2) from the initial state to
+/// a nearest goal state, over states that are listed only as they are found. The state that is expanded next is one
+/// of the least cost so far, and among these the one that was found first. A goal state is answered when its turn
+/// comes.
+///
+/// What differs from these: the states stand in a store, in the order in which they were found, and are named by
+/// their places there. Where a cheaper way to a waiting state is found, the old entry stays in the queue beside the
+/// new one, and is passed over when it comes up (lazy deletion). At most `max_states` states are listed: where one
+/// more would have to be, the answer is `States`.
+///
+/// The clause promises what costs decide. A plan that is found is a cheapest one. `States` is told only where more
+/// states than the limit are next to one that is no dearer than any plan (`PrecedesPlans`): where there are no more of
+/// these, the answer is a plan, or that there is none. The clause leaves open which of several cheapest plans is
+/// answered, which states that cost as much as these are expanded before, and the order of the states in the store.
+/// Of that order, the contract of `next_waiting` says that it gives the state found first of those that cost least;
+/// that this is the one to be expanded or answered, and that states are found in the order of the successors, is
+/// shown by tests alone.
 pub fn best_first<T: TransitionSystem, S: StateStore<T>>(
     alloc: Global,
     system: &T,

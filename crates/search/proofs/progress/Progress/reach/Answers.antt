@@ -4,8 +4,9 @@ use Rattle.std.specs.BinaryHeap.{heap_items}
 use Rattle.std.proofs.lemmas.Option.{get_or_from_slice_get, slice_get_read, slice_get_within}
 use Rattle.search.specs.Store.{IsPlaced}
 use Rattle.search.specs.Nodes.{nodes_of}
+use Rattle.search.proofs.Limit.{more_reachable}
 use Rattle.search.proofs.Linked.{nodes_of-get, length-nodes_of}
-use Rattle.search.proofs.Steps.{turn_limits, placed_new, placed_old, stepped_new, stepped_cheaper, stepped_same, more_reachable}
+use Rattle.search.proofs.Steps.{turn_limits, placed_new, placed_old, stepped_new, stepped_cheaper, stepped_same}
 use Rattle.search.proofs.progress.Progress.reach.Goals as goal
 
 pub index-requires : goal.index-requires
@@ -52,13 +53,9 @@ returns-in_default g c =
     let origins = c.args.self.now.origins.items in
     let s = g.T.TransitionSystem.view c.args.successor.state in
     let parts = nodes_of-get states all origins c.args.parent.0 e.turn.node e.turn.stands in
-    let read : c.index.result.now ≡ e.turn.node.reached = c.index.ensures ∙ get_or_from_slice_get all c.args.parent.0 e.turn.node.reached c.index.result.now parts.1 in
-    let same : c.index.result.now.cost ≡ e.turn.node.reached.cost = cc in
     let full : (¬ Contains states s) × (length states ≡ c.args.max_states) = rw c.in_default.is at c.in_ok-id.ensures.placed in
-    more_reachable (g.T.TransitionSystem.means c.args.system.now) g.T.TransitionSystem.label states all origins (heap_items c.args.self.now.queue) c.args.parent.0
-    e.search.one_reached e.search.one_origin e.search.nodes e.turn e.others_open s (c.index.result.now.cost + c.from.result)
-    (record { parent = c.args.parent; action = c.args.successor.action; depth = c.depth-depth.result + 1 }) refl
-    (ap (λ d. d + 1) (c.depth-depth.ensures e.turn.node.origin parts.2)) (omega (arith, same, c.from.ensures, c.cost.ensures)) (omega (arith, c.cost.ensures))
+    more_reachable (g.T.TransitionSystem.means c.args.system.now) g.T.TransitionSystem.label states all origins (heap_items c.args.self.now.queue)
+    e.search.one_reached e.search.one_origin e.search.nodes c.args.parent.0 e.turn (g.T.TransitionSystem.label c.args.successor.action) s
     (c.requires.leads e.turn.node.state parts.0) full.0 c.args.max_states full.1
 
 pub index-requires-else-is_new : goal.index-requires-else-is_new
