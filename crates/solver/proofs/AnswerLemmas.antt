@@ -1,9 +1,9 @@
 -- What a list of instances that solves says of them.
-use Rattle.std.proofs.Common.{◌≡◌, ℕ, ◌≤◌, Bool, true, false, List, [], ◌∷◌, length, map, None, Some, refl, sym, ◌∙◌, arith}
-use Rattle.std.specs.Prelude.{nat_lt, nat_le}
+use Rattle.std.proofs.Common.{◌≡◌, ℕ, ◌≤◌, true, List, [], ◌∷◌, length, map, None, Some, refl, ◌∙◌, arith}
+use Rattle.std.specs.Prelude.{nat_le}
 use Rattle.std.specs.Option.{option_and_then}
 use Rattle.std.specs.List.{list_all}
-use Rattle.std.proofs.lemmas.Bool.{and_parts, and_from, lt-ltb, ltb-false, leb-true}
+use Rattle.std.proofs.lemmas.Bool.{and_parts, and_from, lt-ltb, leb-true}
 use Rattle.std.proofs.lemmas.List.{length-map}
 use Rattle.std.proofs.lemmas.List.Sums.{sum_by-cons}
 use Rattle.solver.specs.Limit.{is_limit}
@@ -32,16 +32,10 @@ pub cost_is_length : (task : Task) (plan : List Instance) → cost_of_all (syste
 cost_is_length task [] = refl
 cost_is_length task (i ∷ plan) = sum_by-cons (system_of task).cost i plan ∙ omega (arith, cost_is_length task plan)
 
-pub small_claim : (cost : ℕ) → cost ≤ 16777216 → is_claim (bound cost) ≡ true
-small_claim cost le = lt-ltb cost 1152921504606846976 (omega arith)
+pub most_of_limit : (limit : ℕ) → is_limit limit ≡ true → limit ≤ 16777216
+most_of_limit limit within = leb-true limit 16777216 (and_parts (nat_le 1 limit) (nat_le limit 16777216) within).1
 
 -- a plan of so few steps is cheap
-pub cheap_plan : {X : Type 0} (task : Task) (view : X → Instance) (steps : List X) (cost most limit : ℕ) → cost_of_all (system_of task) (map view steps) ≡ cost → length steps ≤ most → most ≡ limit
-    → is_limit limit ≡ true → is_claim (bound cost) ≡ true
-cheap_plan task view steps cost most limit costs few is within =
-    let parts = and_parts (nat_le 1 limit) (nat_le limit 16777216) within in
-    small_claim cost (omega (arith, costs, cost_is_length task (map view steps), length-map steps view, leb-true limit 16777216 parts.1))
-
--- the instances are no more than the limit
-pub within_limit : (exceeds : Bool) (most count : ℕ) → exceeds ≡ nat_lt most count → exceeds ≡ false → count ≤ most
-within_limit exceeds most count is within = ltb-false most count (sym is ∙ within)
+pub cheap_plan : {X : Type 0} (task : Task) (view : X → Instance) (steps : List X) (cost : ℕ) → cost_of_all (system_of task) (map view steps) ≡ cost → length steps ≤ 16777216
+    → is_claim (bound cost) ≡ true
+cheap_plan task view steps cost costs few = lt-ltb cost 1152921504606846976 (omega (arith, costs, cost_is_length task (map view steps), length-map steps view))

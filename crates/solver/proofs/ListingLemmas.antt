@@ -1,15 +1,16 @@
 -- The lines of the found states make a closed certificate.
 use Rattle.std.proofs.Common.{◌≡◌, ◌≢◌, ℕ, zero, suc, ◌*◌, ◌<◌, ◌≤◌, Bool, true, false, ◌&&◌, ◌||◌, List, [], ◌∷◌, ◌++◌, length, map, get_or, Option, None, Some, inl, inr, refl, sym, ap, ◌∙◌, subst, arith}
-use Rattle.std.specs.Prelude.{nat_le, slice_get, All, AllPairs, IsTrue, if◌then◌else◌}
+use Rattle.std.specs.Prelude.{nat_le, slice_get, All, AllPairs, IsTrue, Contains, if◌then◌else◌}
 use Rattle.std.specs.List.{list_any, list_all, filter_map}
 use Rattle.std.specs.List.Sorted.{IsStrictlySortedBy}
 use Rattle.std.specs.Option.{option_map_or}
 use Rattle.std.specs.declared.cmp.Ordering.TheVariants.{Less}
-use Rattle.std.specs.FinSet.{contains, from_list, contains-from_list}
+use Rattle.std.specs.FinSet.{contains, from_list, intersection, contains-from_list, contains-intersection}
 use Rattle.std.proofs.lemmas.Bool.{and_parts, and_from, cases_lt, cases_eq, lt-ltb, le-leb}
 use Rattle.std.proofs.lemmas.List.{length-map}
+use Rattle.std.proofs.lemmas.Simd.{map-map}
 use Rattle.std.proofs.lemmas.Map.Keys.{Less-from_sorted, any_passes_from_place}
-use Rattle.std.proofs.lemmas.Option.{get_or_from_slice_get, slice_get_within}
+use Rattle.std.proofs.lemmas.Option.{get_or_from_slice_get, slice_get-get_or, slice_get_within}
 use Rattle.certificate.specs.declared.cert.StateLine as code_line
 use Rattle.certificate.specs.CertificateParts.{line_of}
 use Rattle.search.specs.declared.progress.Reached.{Reached}
@@ -17,9 +18,9 @@ use Rattle.search.specs.Outcome as search
 use Rattle.search.specs.Outcome.{AreFound, IsReachableAt}
 use Rattle.search.specs.Store.{AreDistinct}
 use Rattle.search.proofs.Lists.{get_exists}
-use Rattle.solver.specs.Listing.{stands_in, AreFluentIn, Names, AreLinesFor, IsShownBy, AreMoreAtoms}
+use Rattle.solver.specs.Listing.{is_true_in_one, AreFluentIn, Names, AreLinesFor, IsShownBy, AreMoreAtoms}
 use Rattle.solver.proofs.TypedLemmas.{reachable_typed}
-use Rattle.solver.proofs.NumbersLemmas.{stands_at, never_below_itself}
+use Rattle.solver.proofs.NumbersLemmas.{stands_in-state, stands_at, never_below_itself}
 use Rattle.model.specs.Task.{Task, Atom}
 use Rattle.model.specs.WellTyped.{is_task, is_atom}
 use Rattle.model.specs.Runs.{IsReachable}
@@ -27,7 +28,7 @@ use Rattle.model.specs.Claims.{Claim, Line, IsClosed}
 use Rattle.model.specs.Meaning.{State, atom_cmp, system_of}
 use Rattle.model.specs.Certificates.{Certificate, StateLine, is_fluent, is_number, is_claim, is_state_line, keeps_limits, rise, static_atoms, state_of_line, lines_of}
 use Rattle.model.proofs.Atoms.{atoms_total}
-use Rattle.model.proofs.StaticLemmas.{state_of_fluent}
+use Rattle.model.proofs.StaticLemmas.{stands_in, state_of_fluent, and_false}
 
 -- ---- lists
 
@@ -39,26 +40,33 @@ some_at {X} p (y ∷ xs) any =
       | false ↦ λ _ later. let (k, x, at, passes) = some_at p xs later in (suc k, x, at, passes)
     ] refl any
 
+at_place : {X : Type 0} (xs : List X) (x : X) (among : Contains xs x) → slice_get xs among.0 ≡ Some x
+at_place xs x among = slice_get-get_or xs among.0 x among.1 ∙ ap Some among.2
+
 -- ---- the atoms
 
-module _ (task : Task) (well : is_task task ≡ true) (states : List State) (reachable : (k : ℕ) (s : State) → slice_get states k ≡ Some s → IsReachable (system_of task) s)
-    (fluent : State) (are : AreFluentIn task states fluent) (atoms : List Atom) (same : from_list atoms ≡ fluent) (sorted : IsStrictlySortedBy atom_cmp atoms) where
-  pub stands_fluent : (q : Atom) → stands_in atoms q ≡ (is_fluent task q.predicate && list_any (λ (s : State). contains s q) states)
-  stands_fluent q = sym (contains-from_list atoms_total atoms q) ∙ ap (λ (s : State). contains s q) same ∙ are q
+abbrev AllReachable : Task → List State → Type 0
+AllReachable task states = (k : ℕ) (s : State) → slice_get states k ≡ Some s → IsReachable (system_of task) s
 
-  -- an atom of the list is true in a found state
-  pub found_atom : (k : ℕ) (a : Atom) → slice_get atoms k ≡ Some a → (is_fluent task a.predicate ≡ true) × ((s : State) × IsReachable (system_of task) s × (contains s a ≡ true))
-  found_atom k a at =
-      let parts = and_parts (is_fluent task a.predicate) (list_any (λ (s : State). contains s a) states) (sym (stands_fluent a) ∙ stands_at atoms k a at) in
-      let (i, s, at_i, there) = some_at (λ (s : State). contains s a) states parts.1 in
-      (parts.0, (s, reachable i s at_i, there))
+module _ (task : Task) (well : is_task task ≡ true) (states : List State) (reachable : AllReachable task states)
+    (fluent : State) (are : AreFluentIn task states fluent) (atoms : List Atom) (same : from_list atoms ≡ fluent) (sorted : IsStrictlySortedBy atom_cmp atoms) where
+  stands_fluent : (q : Atom) → stands_in atoms q ≡ (is_fluent task q.predicate && is_true_in_one states q)
+  stands_fluent q = stands_in-state atoms fluent q same ∙ are q
+
+  -- an atom of the list is fluent, and true in a found state
+  found_atom : (k : ℕ) (a : Atom) → slice_get atoms k ≡ Some a → (is_fluent task a.predicate ≡ true) × (is_true_in_one states a ≡ true)
+  found_atom k a at = and_parts (is_fluent task a.predicate) (is_true_in_one states a) (sym (stands_fluent a) ∙ stands_at atoms k a at)
+
+  is_typed : (a : Atom) → is_true_in_one states a ≡ true → is_atom task a ≡ true
+  is_typed a there =
+      let (k, s, at, is) = some_at (λ (s : State). contains s a) states there in
+      reachable_typed task s a well (reachable k s at) is
 
   pub all_fluent : All (λ (a : Atom). IsTrue (is_atom task a && is_fluent task a.predicate)) atoms
   all_fluent k d lt =
-      let (a, at) = get_exists atoms k lt in
-      let (is, found) = found_atom k a at in
-      subst (λ (b : Atom). IsTrue (is_atom task b && is_fluent task b.predicate)) (sym (get_or_from_slice_get atoms k a d at))
-      (and_from (is_atom task a) (is_fluent task a.predicate) (reachable_typed task found.0 a well found.1 found.2) is)
+      let a = get_or atoms k d in
+      let (is, there) = found_atom k a (slice_get-get_or atoms k d lt) in
+      and_from (is_atom task a) (is_fluent task a.predicate) (is_typed a there) is
 
   pub apart : AllPairs (λ (a b : Atom). a ≢ b) atoms
   apart i j d lt within is =
@@ -75,37 +83,37 @@ module _ (task : Task) (well : is_task task ≡ true) (states : List State) (rea
         ]
       ]
 
-  pub more_atoms : (most : ℕ) → most < length atoms → AreMoreAtoms task most
-  more_atoms most more = (
-    atoms,
-    no_two,
-    (λ q among. found_atom among.0 q (at_place atoms among.0 q among.1 among.2)),
-    more,
-  )
-    where
-      at_place : (xs : List Atom) (k : ℕ) (q : Atom) → k < length xs → get_or xs k q ≡ q → slice_get xs k ≡ Some q
-      at_place [] k q lt is = absurd (omega arith)
-      at_place (x ∷ xs) zero q lt is = ap Some is
-      at_place (x ∷ xs) (suc k) q lt is = at_place xs k q (omega arith) is
+  pub more_atoms : (most : ℕ) → most < length atoms → AreMoreAtoms task (length states) most
+  more_atoms most more = record {
+    states = states;
+    reachable = λ s among. reachable among.0 s (at_place states s among);
+    within_limit = omega arith;
+    atoms = atoms;
+    distinct = no_two;
+    fluent = λ q among. (found_atom among.0 q (at_place atoms q among)).0;
+    true_in_one = λ q among. (found_atom among.0 q (at_place atoms q among)).1;
+    more = more;
+  }
 
   -- a line's atoms, with the static ones, are the state's
   pub listed_state : (k : ℕ) (s : State) (numbers : List ℕ) → slice_get states k ≡ Some s → Names atoms s numbers
       → from_list (filter_map (slice_get atoms) numbers ++ static_atoms task) ≡ s
   listed_state k s numbers at names =
       state_of_fluent task s (filter_map (slice_get atoms) numbers) (reachable k s at) (record {
-        same = λ q is. sym (names.named q ∙ whole (contains s q) (stands_in atoms q)
-            (λ there. stands_fluent q ∙ and_from (is_fluent task q.predicate) (list_any (λ (t : State). contains t q) states) is (any_passes_from_place (λ (t : State). contains t q) states k s at there)));
-        none_static = λ q is.
-            names.named q ∙ ap (λ v. contains s q && v) (stands_fluent q ∙ ap (λ v. v && list_any (λ (t : State). contains t q) states) is) ∙ none (contains s q);
+        same = λ q is. sym (there q ∙ whole (contains s q) (stands_in atoms q)
+            (λ here. stands_fluent q ∙ and_from (is_fluent task q.predicate) (is_true_in_one states q) is (any_passes_from_place (λ (t : State). contains t q) states k s at here)));
+        none_static = λ q is. there q ∙ ap (λ v. contains s q && v) (stands_fluent q ∙ ap (λ v. v && is_true_in_one states q) is) ∙ and_false (contains s q);
       })
     where
+      there : (q : Atom) → stands_in (filter_map (slice_get atoms) numbers) q ≡ (contains s q && stands_in atoms q)
+      there q =
+          stands_in-state (filter_map (slice_get atoms) numbers) (intersection s (from_list atoms)) q names.named
+          ∙ contains-intersection atoms_total s (from_list atoms) q
+          ∙ ap (λ v. contains s q && v) (contains-from_list atoms_total atoms q)
+
       whole : (c a : Bool) → (c ≡ true → a ≡ true) → (c && a) ≡ c
       whole true a known = known refl
       whole false a known = refl
-
-      none : (c : Bool) → (c && false) ≡ false
-      none true = refl
-      none false = refl
 
 -- ---- the lines
 
@@ -118,10 +126,6 @@ lines_same entry (s ∷ states) [] lines one each alike = absurd (omega arith)
 lines_same entry (s ∷ states) (r ∷ all) [] one each alike = absurd (omega arith)
 lines_same entry (s ∷ states) (r ∷ all) (l ∷ lines) one each alike =
     λ i. alike 0 s r l refl refl refl i ∷ lines_same entry states all lines (omega arith) (omega arith) (λ k. alike (suc k)) i
-
-map_twice : {X Y Z : Type 0} (g : Y → Z) (f : X → Y) (xs : List X) → map g (map f xs) ≡ map (λ x. g (f x)) xs
-map_twice g f [] = refl
-map_twice g f (x ∷ xs) = ap (λ rest. g (f x) ∷ rest) (map_twice g f xs)
 
 line_at : {S : Type 0} (states : List S) (all : List Reached) (k : ℕ) (d : Line S) → length all ≡ length states → k < length (search.lines_of states all)
     → (s : S) × (slice_get states k ≡ Some s) × ((get_or (search.lines_of states all) k d).state ≡ s)
@@ -138,8 +142,7 @@ states_apart states all one distinct i j d lt within is =
     let place = distinct i j s at_i (at_j ∙ ap Some same) in
     absurd (omega arith)
 
-pub reached : (task : Task) (claim : Claim) (most : ℕ) (states : List State) (all : List Reached) → AreFound (system_of task) claim most states all
-    → (k : ℕ) (s : State) → slice_get states k ≡ Some s → IsReachable (system_of task) s
+pub reached : (task : Task) (claim : Claim) (most : ℕ) (states : List State) (all : List Reached) → AreFound (system_of task) claim most states all → AllReachable task states
 reached task claim most states all found k s at =
     let (r, at_r) = get_exists all k (omega (arith, slice_get_within states k s at, found.one_for_each)) in
     let there = found.reachable k s r at at_r in
@@ -147,9 +150,9 @@ reached task claim most states all found k s at =
 
 pub shown_by : (task : Task) (well : is_task task ≡ true) (claim : Claim) (most : ℕ) (states : List State) (all : List Reached) (fluent : State) (atoms : List Atom) (lines : List code_line.StateLine) (certificate : Certificate)
     → AreFound (system_of task) claim most states all → AreFluentIn task states fluent → from_list atoms ≡ fluent → IsStrictlySortedBy atom_cmp atoms → AreLinesFor atoms states all lines
-    → certificate ≡ record { claim = claim; atoms = atoms; lines = map line_of lines } → IsShownBy task claim certificate
+    → certificate ≡ record { claim = claim; atoms = atoms; lines = map line_of lines } → IsShownBy task claim (length states) certificate
 shown_by task well claim most states all fluent atoms lines certificate found are same sorted each is =
-    subst (λ (c : Certificate). IsShownBy task claim c) (sym is) (record {
+    subst (IsShownBy task claim (length states)) (sym is) (record {
       claims = refl;
       closed = record {
         atoms_are_fluent = all_fluent task well states reachable fluent are atoms same sorted;
@@ -157,12 +160,13 @@ shown_by task well claim most states all fluent atoms lines certificate found ar
         states_are_distinct = subst (AllPairs (λ (k l : Line State). k.state ≢ l.state)) (sym listing) (states_apart states all found.one_for_each found.distinct);
         listing_is_closed = subst (IsClosed (system_of task) (λ _. 0) claim) (sym listing) found.closed;
       };
+      within_limit = omega (arith, length-map lines line_of, each.one_for_each);
     })
   where
     made : Certificate
     made = record { claim = claim; atoms = atoms; lines = map line_of lines }
 
-    reachable : (k : ℕ) (s : State) → slice_get states k ≡ Some s → IsReachable (system_of task) s
+    reachable : AllReachable task states
     reachable = reached task claim most states all found
 
     entry : StateLine → Line State
@@ -170,7 +174,7 @@ shown_by task well claim most states all fluent atoms lines certificate found ar
 
     listing : lines_of task made ≡ search.lines_of states all
     listing =
-        map_twice entry line_of lines
+        map-map entry line_of lines
         ∙ lines_same (λ l. entry (line_of l)) states all lines found.one_for_each each.one_for_each
         (λ k s r l at_s at_r at_l.
         let line = each.each k s r l at_s at_r at_l in
@@ -181,6 +185,22 @@ shown_by task well claim most states all fluent atoms lines certificate found ar
         })
 
 -- ---- limits
+
+-- what is shown with so many states is shown with more
+pub more_allowed : {task : Task} {claim : Claim} {count most : ℕ} {certificate : Certificate} → IsShownBy task claim count certificate → count ≤ most → IsShownBy task claim most certificate
+more_allowed shown le = record { claims = shown.claims; closed = shown.closed; within_limit = omega arith }
+
+pub more_allowed_atoms : {task : Task} {count most max_atoms : ℕ} → AreMoreAtoms task count max_atoms → count ≤ most → AreMoreAtoms task most max_atoms
+more_allowed_atoms more le = record {
+  states = more.states;
+  reachable = more.reachable;
+  within_limit = omega arith;
+  atoms = more.atoms;
+  distinct = more.distinct;
+  fluent = more.fluent;
+  true_in_one = more.true_in_one;
+  more = more.more;
+}
 
 pub within_limits : (claim : Claim) (atoms : List Atom) (lines : List code_line.StateLine) (states : List State) (all : List Reached) → is_claim claim ≡ true → length atoms ≤ 1048576 → length states ≤ 16777216
     → length all ≡ length states → ((k : ℕ) (r : Reached) → slice_get all k ≡ Some r → r.cost ≤ length states * 4294967295) → AreLinesFor atoms states all lines

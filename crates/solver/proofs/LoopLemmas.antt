@@ -1,12 +1,12 @@
 -- The atoms of found states, gathered one after another, and the lines for them.
 use Rattle.std.proofs.Common.{◌≡◌, ℕ, zero, suc, ◌+◌, ◌<◌, ◌≤◌, Bool, true, false, ◌&&◌, ◌||◌, List, [], ◌∷◌, ◌++◌, length, map, take, get_or, Some, inl, inr, refl, sym, ap, ◌∙◌, subst, arith}
 use Rattle.std.specs.Prelude.{slice_get}
-use Rattle.std.specs.List.{list_any, AllByRecursion}
+use Rattle.std.specs.List.{list_any, AllByRecursion, AllZip, each_same}
 use Rattle.std.specs.List.Sorted.{IsStrictlySortedBy, IsNonDecreasingBy, IsPartitionPoint}
 use Rattle.std.specs.declared.cmp.Ordering.{Ordering}
 use Rattle.std.specs.declared.cmp.Ordering.TheVariants.{Less, Equal, Greater}
 use Rattle.std.specs.Ordering.{eq_by_cmp, ordering_index}
-use Rattle.std.specs.FinSet.{contains, insert, contains-insert, from_list, contains-from_list}
+use Rattle.std.specs.FinSet.{contains, insert, contains-insert, from_list}
 use Rattle.std.proofs.lemmas.Bool.{cases_lt, cases_eq, or_from, false_from_ne_true}
 use Rattle.std.proofs.lemmas.Cmp.{tied_itself}
 use Rattle.std.proofs.lemmas.List.{take_all, take_more, length-append, length-take-le, append-nil, append_assoc}
@@ -15,16 +15,18 @@ use Rattle.std.proofs.lemmas.Map.Keys.{Less-from_sorted}
 use Rattle.std.proofs.lemmas.Option.{same_Some, get_or_from_slice_get, slice_get_within}
 use Rattle.typing.specs.declared.atoms.Atom as code_atom
 use Rattle.typing.specs.TaskParts.{atom_of, AreInOrder}
-use Rattle.formulas.proofs.States.{code_cmp, model_cmp, order_alike}
+use Rattle.formulas.proofs.States.{code_cmp, model_cmp, order_alike, in_order, copied}
+use Rattle.formulas.proofs.Equality.{one_atom}
 use Rattle.certificate.specs.declared.cert.StateLine as code_line
 use Rattle.search.specs.declared.progress.Reached.{Reached}
 use Rattle.search.proofs.Lists.{get-push_new, get-push_other}
-use Rattle.solver.specs.Listing.{stands_in, AreFluentIn, IsLineFor, AreLinesFor}
+use Rattle.solver.specs.Listing.{AreFluentIn, IsLineFor, AreLinesFor}
+use Rattle.solver.proofs.NumbersLemmas.{stands_in-state}
 use Rattle.model.specs.Task.{Task, Atom}
 use Rattle.model.specs.Meaning.{State, atom_cmp}
 use Rattle.model.specs.Certificates.{is_fluent}
 use Rattle.model.proofs.Atoms.{atoms_total, atoms_apart}
-use Rattle.model.proofs.StaticLemmas.{same_atom, and_false, or_false}
+use Rattle.model.proofs.StaticLemmas.{stands_in, same_atom, and_false, or_false}
 
 -- ---- one atom
 
@@ -61,7 +63,17 @@ fluent_added task s after x q fluent is =
     ap (λ (t : State). contains t q) is ∙ contains-insert atoms_total s x q
     ∙ joins (contains s q) (is_fluent task q.predicate) (eq_by_cmp atom_cmp q x) (λ same. ap (λ (a : Atom). is_fluent task a.predicate) (same_atom q x same) ∙ sym fluent)
 
+pub cloned : (atom copy : code_atom.Atom) → copy.predicate ≡ atom.predicate → AllZip (λ x y. y ≡ x) atom.objects.items copy.objects.items → copy ≡ atom
+cloned atom copy predicate objects = one_atom copy atom (copied atom copy predicate (each_same atom.objects.items copy.objects.items objects))
+
 -- ---- the atoms of a state
+
+-- a walk over a state's atoms gives them all, in order
+pub walked_all : {given keys : List code_atom.Atom} {s : State} → given ≡ keys → from_list (map atom_of keys) ≡ s → from_list (map atom_of given) ≡ s
+walked_all is same = ap (λ (l : List code_atom.Atom). from_list (map atom_of l)) is ∙ same
+
+pub walked_in_order : {given keys : List code_atom.Atom} → given ≡ keys → IsStrictlySortedBy code_cmp keys → AreInOrder given
+walked_in_order {given} {keys} is ordered = subst AreInOrder (sym is) (in_order keys ordered)
 
 one_more : (c f e r : Bool) → ((c || (f && e)) || (f && r)) ≡ (c || (f && (e || r)))
 one_more true f e r = refl
@@ -83,7 +95,7 @@ pub fluent_all : (task : Task) (before s now : State) (left whole : List Atom) (
 fluent_all task before s now left whole q so is same =
     sym (or_false (contains now q)) ∙ ap (λ v. contains now q || v) (sym (and_false (is_fluent task q.predicate)))
     ∙ ap (λ l. contains now q || (is_fluent task q.predicate && stands_in l q)) (sym is) ∙ so
-    ∙ ap (λ v. contains before q || (is_fluent task q.predicate && v)) (sym (contains-from_list atoms_total whole q) ∙ ap (λ (t : State). contains t q) same)
+    ∙ ap (λ v. contains before q || (is_fluent task q.predicate && v)) (stands_in-state whole s q same)
 
 -- ---- the states
 
@@ -132,11 +144,6 @@ in_order_rises atoms x sorted i j d le within =
 
 pub rises_in_code : (atoms : List code_atom.Atom) (x : code_atom.Atom) → AreInOrder atoms → IsNonDecreasingBy (λ y. ordering_index (code_cmp y x)) atoms
 rises_in_code atoms x sorted = subst (λ R. IsNonDecreasingBy (λ y. ordering_index (R y x)) atoms) (sym orders_alike) (in_order_rises atoms x sorted)
-
-get_or-map : {X Y : Type 0} (f : X → Y) (xs : List X) (k : ℕ) (d : X) → get_or (map f xs) k (f d) ≡ f (get_or xs k d)
-get_or-map f [] k d = refl
-get_or-map f (x ∷ xs) zero d = refl
-get_or-map f (x ∷ xs) (suc k) d = get_or-map f xs k d
 
 -- what a search found
 pub found_there : (atoms : List code_atom.Atom) (x : code_atom.Atom) (k : ℕ) → k < length atoms → ((d : code_atom.Atom) → code_cmp (get_or atoms k d) x ≡ Equal)
@@ -195,6 +202,13 @@ no_lines atoms = record { one_for_each = refl; each = λ k s r l at_s at_r at_l.
     none_at zero s at = absurd (cc)
     none_at (suc k) s at = absurd (cc)
 
+-- what stands at a place of a list with one more: the new one at its end, and otherwise what stood there
+pushed_at : {X : Type 0} (xs : List X) (x : X) (k i : ℕ) (y : X) → length xs ≡ k → slice_get (xs ++ x ∷ []) i ≡ Some y → (i ≡ k → x ≡ y) × ((i ≡ k → ⊥) → slice_get xs i ≡ Some y)
+pushed_at xs x k i y long at = (
+  (λ is. same_Some x y (sym (ap (slice_get (xs ++ x ∷ [])) (is ∙ sym long) ∙ get-push_new xs x) ∙ at)),
+  (λ other. sym (get-push_other xs x i (λ e. other (e ∙ long))) ∙ at),
+)
+
 pub lines_more : (atoms : List Atom) (states : List State) (all : List Reached) (lines : List code_line.StateLine) (k : ℕ) (s : State) (r : Reached) (line : code_line.StateLine)
     → slice_get states k ≡ Some s → slice_get all k ≡ Some r → AreLinesFor atoms (take k states) (take k all) lines → IsLineFor atoms s r line
     → AreLinesFor atoms (take (k + 1) states) (take (k + 1) all) (lines ++ line ∷ [])
@@ -214,20 +228,14 @@ lines_more atoms states all lines k s r line at_s at_r so here =
     pushed : (i : ℕ) (t : State) (q : Reached) (l : code_line.StateLine) → slice_get (take k states ++ s ∷ []) i ≡ Some t → slice_get (take k all ++ r ∷ []) i ≡ Some q
         → slice_get (lines ++ line ∷ []) i ≡ Some l → IsLineFor atoms t q l
     pushed i t q l at_t at_q at_l =
+        let states_at = pushed_at (take k states) s k i t long at_t in
+        let all_at = pushed_at (take k all) r k i q as_long at_q in
+        let lines_at = pushed_at lines line k i l (so.one_for_each ∙ long) at_l in
         elim (cases_eq i k) [
           | inl is ↦
-              let here_t : slice_get (take k states ++ s ∷ []) i ≡ Some s = ap (slice_get (take k states ++ s ∷ [])) (is ∙ sym long) ∙ get-push_new (take k states) s in
-              let here_q : slice_get (take k all ++ r ∷ []) i ≡ Some r = ap (slice_get (take k all ++ r ∷ [])) (is ∙ sym as_long) ∙ get-push_new (take k all) r in
-              let here_l : slice_get (lines ++ line ∷ []) i ≡ Some line = ap (slice_get (lines ++ line ∷ [])) (is ∙ sym long ∙ sym so.one_for_each) ∙ get-push_new lines line in
-              let same_t : s ≡ t = same_Some s t (sym here_t ∙ at_t) in
-              let same_q : r ≡ q = same_Some r q (sym here_q ∙ at_q) in
-              let same_l : line ≡ l = same_Some line l (sym here_l ∙ at_l) in
-              subst (λ (x : code_line.StateLine). IsLineFor atoms t q x) same_l (subst (λ (x : Reached). IsLineFor atoms t x line) same_q (subst (λ (x : State). IsLineFor atoms x r line) same_t here))
-          | inr other ↦
-              so.each i t q l
-              (sym (get-push_other (take k states) s i (λ e. other (e ∙ long))) ∙ at_t)
-              (sym (get-push_other (take k all) r i (λ e. other (e ∙ as_long))) ∙ at_q)
-              (sym (get-push_other lines line i (λ e. other (e ∙ so.one_for_each ∙ long))) ∙ at_l)
+              subst (λ (x : code_line.StateLine). IsLineFor atoms t q x) (lines_at.0 is)
+              (subst (λ (x : Reached). IsLineFor atoms t x line) (all_at.0 is) (subst (λ (x : State). IsLineFor atoms x r line) (states_at.0 is) here))
+          | inr other ↦ so.each i t q l (states_at.1 other) (all_at.1 other) (lines_at.1 other)
         ]
 
 pub lines_all : (atoms : List Atom) (states : List State) (all : List Reached) (lines : List code_line.StateLine) (k : ℕ) → length all ≡ length states → length all ≤ k

@@ -1,11 +1,12 @@
 -- The places, among atoms in order, of the atoms of a state, found one after another.
-use Rattle.std.proofs.Common.{◌≡◌, ℕ, ◌+◌, ◌<◌, ◌≤◌, Bool, true, false, ◌&&◌, List, [], ◌∷◌, ◌++◌, inl, inr, length, Some, refl, sym, ap, ◌∙◌, subst, arith}
+use Rattle.std.proofs.Common.{◌≡◌, ℕ, ◌+◌, ◌<◌, ◌≤◌, true, false, ◌&&◌, List, [], ◌∷◌, ◌++◌, inl, inr, length, Some, refl, sym, ap, ◌∙◌, subst, arith}
 use Rattle.std.specs.Prelude.{nat_lt, nat_le, filter, slice_get, Contains, if◌then◌else◌}
 use Rattle.std.specs.List.{filter_map, cons_option, AllByRecursion}
 use Rattle.std.specs.List.Sorted.{IsStrictlySortedBy}
 use Rattle.std.specs.declared.cmp.Ordering.TheVariants.{Less, Equal}
 use Rattle.std.specs.Ordering.{eq_by_cmp, is_eq}
-use Rattle.std.specs.FinSet.{contains, from_list, contains-from_list}
+use Rattle.std.specs.FinSet.{contains, from_list, intersection, contains-from_list, contains-intersection}
+use Rattle.std.proofs.Math.Bool.{and_comm}
 use Rattle.std.proofs.lemmas.Bool.{and_parts, and_from, cases_lt, cases_eq, ltb-true, lt-ltb, le-leb}
 use Rattle.std.proofs.lemmas.Cmp.{tied_itself}
 use Rattle.std.proofs.lemmas.List.{append-nil, append_assoc}
@@ -13,12 +14,12 @@ use Rattle.std.proofs.lemmas.List.Elements.{filter_map-append, Contains-append_c
 use Rattle.std.proofs.lemmas.Map.Keys.{sorted_head, sorted_tail, Less-from_sorted, any_passes_from_place}
 use Rattle.std.proofs.lemmas.Option.{get_or_from_slice_get, slice_get_within}
 use Rattle.search.proofs.Lists.{get_exists}
-use Rattle.solver.specs.Listing.{stands_in, Names}
+use Rattle.solver.specs.Listing.{Names}
 use Rattle.model.specs.Task.{Atom}
 use Rattle.model.specs.Meaning.{State, atom_cmp}
 use Rattle.model.specs.Certificates.{rise}
-use Rattle.model.proofs.Atoms.{atoms_total}
-use Rattle.model.proofs.StaticLemmas.{stands_in-filter}
+use Rattle.model.proofs.Atoms.{atoms_total, same_state}
+use Rattle.model.proofs.StaticLemmas.{stands_in, stands_in-filter}
 use Rattle.model.proofs.ListLemmas.{Contains-cases, Contains-none, Contains-there, Contains-here}
 
 -- ---- the order of atoms
@@ -146,19 +147,25 @@ names_skip atoms whole left rest numbers x so is absent =
       ascending = sorted_tail atom_cmp x rest old.ascending;
     }
 
-pub and_swap : (b c : Bool) → (b && c) ≡ (c && b)
-and_swap true true = refl
-and_swap true false = refl
-and_swap false true = refl
-and_swap false false = refl
+-- the atoms that stand in a list are those of its state
+pub stands_in-state : (atoms : List Atom) (s : State) (q : Atom) → from_list atoms ≡ s → stands_in atoms q ≡ contains s q
+stands_in-state atoms s q same = sym (contains-from_list atoms_total atoms q) ∙ ap (λ (t : State). contains t q) same
 
 pub names_end : (atoms whole left : List Atom) (numbers : List ℕ) (s : State) → NamesSoFar atoms whole left numbers → left ≡ [] → from_list whole ≡ s → Names atoms s numbers
-names_end atoms whole left numbers s so is same =
-    let old = subst (λ l. NamesSoFar atoms whole l numbers) is so in
-    let all : filter_map (slice_get atoms) numbers ≡ filter (stands_in atoms) whole = sym (append-nil (filter_map (slice_get atoms) numbers)) ∙ old.named in
-    record {
-      rising = old.rising;
-      named = λ q.
-          ap (λ l. stands_in l q) all ∙ stands_in-filter (stands_in atoms) whole q ∙ and_swap (stands_in atoms q) (stands_in whole q)
-          ∙ ap (λ v. v && stands_in atoms q) (sym (contains-from_list atoms_total whole q) ∙ ap (λ (t : State). contains t q) same);
-    }
+names_end atoms whole left numbers s so is same = record {
+  rising = old.rising;
+  named = ap (λ l. from_list l) all ∙ same_state (from_list (filter (stands_in atoms) whole)) (intersection s (from_list atoms)) each;
+}
+  where
+    old : NamesSoFar atoms whole [] numbers
+    old = subst (λ l. NamesSoFar atoms whole l numbers) is so
+
+    all : filter_map (slice_get atoms) numbers ≡ filter (stands_in atoms) whole
+    all = sym (append-nil (filter_map (slice_get atoms) numbers)) ∙ old.named
+
+    each : (q : Atom) → contains (from_list {R = atom_cmp} (filter (stands_in atoms) whole)) q ≡ contains (intersection s (from_list atoms)) q
+    each q =
+        contains-from_list atoms_total (filter (stands_in atoms) whole) q ∙ stands_in-filter (stands_in atoms) whole q ∙ and_comm (stands_in atoms q) (stands_in whole q)
+        ∙ ap (λ v. v && stands_in atoms q) (stands_in-state whole s q same)
+        ∙ ap (λ v. contains s q && v) (sym (contains-from_list atoms_total atoms q))
+        ∙ sym (contains-intersection atoms_total s (from_list atoms) q)

@@ -14,8 +14,7 @@ use Rattle.model.specs.WellTyped.{is_object, has_arity, is_term, is_lifted_atom,
 use Rattle.model.specs.Runs.{run, IsReachable}
 use Rattle.model.specs.Meaning.{State, atom_cmp, object_of, ground_atom, changes_of, changes_of_all, added_by, deleted_by, after_changes, step, holds, fits, system_of, initial_state}
 use Rattle.model.proofs.Atoms.{atoms_total, added_by-append}
-use Rattle.model.proofs.StaticLemmas.{same_atom}
-use Rattle.solver.specs.Listing.{stands_in}
+use Rattle.model.proofs.StaticLemmas.{stands_in, same_atom}
 
 -- an atom of a list of which each passes
 typed_there : (p : Atom → Bool) (atoms : List Atom) (q : Atom) → stands_in atoms q ≡ true → list_all p atoms ≡ true → p q ≡ true
@@ -103,17 +102,13 @@ effect_typed task schema objects typed fit =
 abbrev arities : Task → Bool
 arities task = list_all (λ (p : Predicate). nat_le p.arity max_arguments) task.predicates
 
-schemas_typed : (task : Task) → is_task task ≡ true → list_all (is_schema task) task.schemas ≡ true
-schemas_typed task typed =
+-- the schemas and the initial atoms of a well-typed task are
+parts_typed : (task : Task) → is_task task ≡ true → (list_all (is_schema task) task.schemas ≡ true) × (list_all (is_atom task) task.init ≡ true)
+parts_typed task typed =
     let schemas = list_all (is_schema task) task.schemas in
     let init = list_all (is_atom task) task.init in
-    (and_parts (arities task) schemas (and_parts (arities task && schemas) init (and_parts (arities task && schemas && init) (is_formula task 0 task.goal) typed).0).0).1
-
-init_typed : (task : Task) → is_task task ≡ true → list_all (is_atom task) task.init ≡ true
-init_typed task typed =
-    let schemas = list_all (is_schema task) task.schemas in
-    let init = list_all (is_atom task) task.init in
-    (and_parts (arities task && schemas) init (and_parts (arities task && schemas && init) (is_formula task 0 task.goal) typed).0).1
+    let before_goal = and_parts (arities task && schemas) init (and_parts (arities task && schemas && init) (is_formula task 0 task.goal) typed).0 in
+    ((and_parts (arities task) schemas before_goal.0).1, before_goal.1)
 
 step_typed : (task : Task) (s next : State) (i : Instance) → is_task task ≡ true → AllTyped task s → step task s i ≡ Some next → AllTyped task next
 step_typed task s next i well typed leads =
@@ -123,7 +118,7 @@ step_typed task s next i well typed leads =
           let here = given (fits task schema i.objects) (holds schema.precondition i.objects s) _ next some in
           subst (λ (t : State). AllTyped task t) here.1
           (after_typed task s schema.effect i.objects typed
-          (effect_typed task schema i.objects (passes_got (is_schema task) task.schemas i.schema schema at (schemas_typed task well)) here.0))
+          (effect_typed task schema i.objects (passes_got (is_schema task) task.schemas i.schema schema at (parts_typed task well).0) here.0))
     ] refl leads
   where
     next_by : Schema → Option State
@@ -140,4 +135,4 @@ run_typed task well (a ∷ actions) s end typed runs =
 pub reachable_typed : (task : Task) (s : State) (q : Atom) → is_task task ≡ true → IsReachable (system_of task) s → contains s q ≡ true → is_atom task q ≡ true
 reachable_typed task s q well reached there =
     run_typed task well reached.0 (initial_state task) s
-    (λ a in_init. typed_there (is_atom task) task.init a (sym (contains-from_list atoms_total task.init a) ∙ in_init) (init_typed task well)) reached.1 q there
+    (λ a in_init. typed_there (is_atom task) task.init a (sym (contains-from_list atoms_total task.init a) ∙ in_init) (parts_typed task well).1) reached.1 q there

@@ -15,16 +15,17 @@ use Rattle.model.specs.Meaning.{system_of, is_instance}
 use Rattle.model.specs.Instances.{all_instances}
 
 -- The answer is true: the steps are instances of the task, solve it at this cost, and no list of whatever length that
--- solves costs less; or no list solves; and the certificate shows it. Or a limit is exceeded. That of the instances is
--- told exactly where the task has more.
+-- solves costs less; or no list solves; and the certificate shows it, by at most `states` states. Or a limit is
+-- exceeded: that of the atoms by the atoms of at most `states` reachable states, and that of the instances exactly where
+-- the task has more than `instances`.
 abbrev pub IsTrueAnswer : Task → ℕ → ℕ → Answer → Type 0
 IsTrueAnswer task states instances (Plan steps cost cert) =
     IsOptimal (system_of task) (plan_of steps) × (cost_of_all (system_of task) (plan_of steps) ≡ cost)
     × IsTrue (list_all (is_instance task) (plan_of steps))
-    × IsShownBy task (bound cost) (certificate_of cert)
+    × IsShownBy task (bound cost) states (certificate_of cert)
     × (length (all_instances task) ≤ instances)
 IsTrueAnswer task states instances (Unsolvable cert) =
-    IsUnsolvable (system_of task) × IsShownBy task none (certificate_of cert) × (length (all_instances task) ≤ instances)
+    IsUnsolvable (system_of task) × IsShownBy task none states (certificate_of cert) × (length (all_instances task) ≤ instances)
 IsTrueAnswer task states instances (Unknown Instances) = instances < length (all_instances task)
-IsTrueAnswer task states instances (Unknown Atoms) = AreMoreAtoms task 1048576 × (length (all_instances task) ≤ instances)
+IsTrueAnswer task states instances (Unknown Atoms) = AreMoreAtoms task states 1048576 × (length (all_instances task) ≤ instances)
 IsTrueAnswer task states instances (Unknown States) = AreMoreReachable (system_of task) states × (length (all_instances task) ≤ instances)

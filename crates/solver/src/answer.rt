@@ -46,6 +46,18 @@ pub enum Limit {
 }
 
 /// A cheapest plan of the task, or that it has none, with the certificate that shows it.
+///
+/// ```text
+/// let Some(limits) = Limits::new(100_000, 10_000) else { .. };
+/// match solve(alloc, &task, limits)? {
+///     Answer::Plan { steps, cost, cert } => ..,
+///     Answer::Unsolvable { cert } => ..,
+///     Answer::Unknown(limit) => ..,
+/// }
+/// ```
+///
+/// A certificate then lists at most 100,000 states. `Unknown(Limit::Instances)` comes before any search, exactly where
+/// the task has more than 10,000 instances.
 pub fn solve(alloc: Global, task: &Task, limits: Limits) -> Result<Answer, NoMemory>
     ensures { IfOk result (IsTrueAnswer (task_of task.now) limits.states limits.instances) }
 {

@@ -18,6 +18,13 @@ impl Limits {
     ghost use Rattle.std.specs.Prelude.{◌&&◌, is_some, IfSome};
 
     /// These limits, and `None` where one of them is out of range.
+    ///
+    /// ```text
+    /// Limits::new(100_000, 10_000)        // Some: 100,000 states and 10,000 instances
+    /// Limits::new(MAX_LIMIT, MAX_LIMIT)   // Some: the most that there may be
+    /// Limits::new(0, 10_000)              // None
+    /// Limits::new(100_000, MAX_LIMIT + 1) // None
+    /// ```
     pub fn new(states: u32, instances: u32) -> Option<Limits>
         ensures within { is_some result ≡ (is_limit states && is_limit instances) }
         ensures states { IfSome result (λ l. l.states ≡ states) }

@@ -1,6 +1,12 @@
 //! The certificate that the found states of a search make: each is a line, open where it was expanded and cut where it
 //! waits.
+//!
+//! That an optimal planner shows its cost by a certificate is from Mugdan, Christen and Eriksson, "Optimality Certificates
+//! for Classical Planning" (ICAPS 2023). What differs is the form: here a certificate lists single states, each with the
+//! cost at which it was reached. An open line's successors are listed too, at no more than what they cost from there; a cut
+//! line goes no further, and its value, a lower bound on what is still to be paid from its state, is always 0.
 ghost use Rattle.std.specs.Prelude.{◌≡◌, ◌≤◌, ◌&&◌, ◌||◌, false, length, map, slice_get, IfOk, OnOk, IsTrue, MatchOption};
+ghost use Rattle.std.specs.List.{list_any};
 ghost use Rattle.std.specs.FinSet.{contains, from_list};
 ghost use Rattle.std.specs.Ordering.{eq_by_cmp};
 ghost use Rattle.typing.specs.TaskParts.{atom_of, AreInOrder};
@@ -10,7 +16,7 @@ ghost use Rattle.task_system.specs.PlainStore.{states_of};
 ghost use Rattle.certificate.specs.CertificateParts.{claim_of};
 ghost use Rattle.certificate.specs.Certificate.{certificate_of};
 ghost use Rattle.search.specs.Outcome.{AreFound};
-ghost use Rattle.solver.specs.Listing.{stands_in, AreFluentIn, Names, IsLineFor, AreLinesFor, IsShownBy, AreMoreAtoms};
+ghost use Rattle.solver.specs.Listing.{AreFluentIn, Names, IsLineFor, AreLinesFor, IsShownBy, AreMoreAtoms};
 ghost use Rattle.model.specs.Task as model_task;
 ghost use Rattle.model.specs.Meaning.{atom_cmp, system_of};
 ghost use Rattle.model.specs.Certificates as certificates;
@@ -34,7 +40,9 @@ pub(crate) fn cert_of(
 ) -> Result<Option<Cert>, NoMemory>
     requires claim { IsTrue (is_claim (claim_of claim)) }
     requires found { AreFound (system_of (task_of task.now)) (claim_of claim) MAX_STATE_LINES (states_of found.now.store) found.now.reached.items }
-    ensures { IfOk result (λ cert. MatchOption cert (AreMoreAtoms (task_of task.now) 1048576) (λ c. IsShownBy (task_of task.now) (claim_of claim) (certificate_of c))) }
+    ensures { IfOk result (λ cert. MatchOption cert
+        (AreMoreAtoms (task_of task.now) (length (states_of found.now.store)) 1048576)
+        (λ c. IsShownBy (task_of task.now) (claim_of claim) (length (states_of found.now.store)) (certificate_of c))) }
 {
     let atoms = listed_atoms(alloc, &fluent_atoms(alloc, task, &found.store)?)?;
     if atoms.len() > MAX_ATOMS {
@@ -161,7 +169,7 @@ fn place_of(atoms: &[Atom], atom: &Atom) -> Option<u32>
     requires few { length atoms.now ≤ MAX_ATOMS }
     requires ordered { AreInOrder atoms.now }
     ensures { MatchOption result
-        (stands_in (map atom_of atoms.now) (atom_of atom.now) ≡ false)
+        (list_any (eq_by_cmp atom_cmp (atom_of atom.now)) (map atom_of atoms.now) ≡ false)
         (λ place. slice_get (map atom_of atoms.now) place ≡ Some (atom_of atom.now)) }
 {
     match atoms.binary_search(atom) {

@@ -1,19 +1,19 @@
-use Rattle.std.proofs.Common.{◌≡◌, sym, ap, subst, ◌∙◌, length, map, List}
-use Rattle.std.specs.Prelude.{nat_lt}
+use Rattle.std.proofs.Common.{◌≡◌, sym, ap, subst, ◌∙◌, map, List, arith, rules}
 use Rattle.std.specs.List.{list_all}
 use Rattle.typing.specs.Task.{task_of}
 use Rattle.formulas.specs.State.{instance_of, plan_of}
+use Rattle.search.specs.Outcome.{AreMoreReachable}
 use Rattle.model.specs.Task.{Instance}
 use Rattle.model.specs.Runs.{cost_of_all, IsOptimal}
 use Rattle.model.specs.Meaning.{system_of, is_instance}
-use Rattle.model.specs.Instances.{all_instances}
-use Rattle.solver.proofs.AnswerLemmas.{all_instances_of_plan, cheap_plan, within_limit}
+use Rattle.solver.proofs.AnswerLemmas.{all_instances_of_plan, most_of_limit, cheap_plan}
+use Rattle.solver.proofs.ListingLemmas.{more_allowed, more_allowed_atoms}
 use Rattle.solver.proofs.answer.solve.Goals as goal
 
 pub cert_of-requires-clause-claim : goal.cert_of-requires-clause-claim
 cert_of-requires-clause-claim c =
     let found = rw c.in-Found.is at c.in_ok-steps.ensures in
-    cheap_plan (task_of c.args.task.now) instance_of c.in-Found.steps.items c.in-Found.cost c.states.result c.args.limits.states found.1 found.3 c.states.ensures c.args.limits.states_within
+    cheap_plan (task_of c.args.task.now) instance_of c.in-Found.steps.items c.in-Found.cost found.1 (omega (arith, found.3, most_of_limit c.args.limits.states c.args.limits.states_within))
 
 pub returns-in-Some-new : goal.returns-in-Some-new
 returns-in-Some-new c =
@@ -23,7 +23,25 @@ returns-in-Some-new c =
       subst (λ (p : List Instance). IsOptimal (system_of task) p) (sym is) found.0,
       ap (cost_of_all (system_of task)) is ∙ found.1,
       ap (list_all (is_instance task)) is ∙ all_instances_of_plan task (map instance_of c.in-Found.steps.items) found.0.0,
-      rw c.in-Some.is at c.in_ok-cert-in-Found.ensures,
-      within_limit c.instances_exceed.result c.args.limits.instances (length (all_instances task))
-          (c.instances_exceed.ensures ∙ ap (λ most. nat_lt most (length (all_instances task))) c.instances.ensures) c.if-instances_exceed.false,
+      more_allowed (rw c.in-Some.is at c.in_ok-cert-in-Found.ensures) (omega (arith, found.2.within_limit)),
+      search rules,
     )
+
+pub returns-in-Found : goal.returns-in-Found
+returns-in-Found c =
+    let found = rw c.in-Found.is at c.in_ok-steps.ensures in
+    (more_allowed_atoms (rw c.in-None.is at c.in_ok-cert-in-Found.ensures) (omega (arith, found.2.within_limit)), search rules)
+
+pub returns-in-Some-2 : goal.returns-in-Some-2
+returns-in-Some-2 c =
+    let found = rw c.in-Exhausted.is at c.in_ok-steps.ensures in
+    (found.0, more_allowed (rw c.in-Some-2.is at c.in_ok-cert-in-Exhausted.ensures) (omega (arith, found.1.within_limit)), search rules)
+
+pub returns-in-Exhausted : goal.returns-in-Exhausted
+returns-in-Exhausted c =
+    let found = rw c.in-Exhausted.is at c.in_ok-steps.ensures in
+    (more_allowed_atoms (rw c.in-None-2.is at c.in_ok-cert-in-Exhausted.ensures) (omega (arith, found.1.within_limit)), search rules)
+
+-- whatever it is that a search tells at its limit
+pub returns : goal.returns
+returns c = (subst (AreMoreReachable (system_of (task_of c.args.task.now))) c.states.ensures (rw c.in-States.is at c.in_ok-steps.ensures), search rules)

@@ -1,9 +1,8 @@
-use Rattle.std.proofs.Common.{refl, ap, map, ◌∙◌}
-use Rattle.std.specs.FinSet.{from_list}
+use Rattle.std.proofs.Common.{refl, ap, map}
 use Rattle.typing.specs.Task.{task_of}
 use Rattle.typing.specs.TaskParts.{atom_of}
 use Rattle.formulas.specs.State.{state_of}
-use Rattle.solver.proofs.LoopLemmas.{fluent_more, fluent_all}
+use Rattle.solver.proofs.LoopLemmas.{walked_all, fluent_more, fluent_all}
 use Rattle.solver.proofs.listing.add_fluent_atoms.Goals as goal
 
 pub loop-atom-init : goal.loop-atom-init
@@ -19,6 +18,6 @@ pub returns : goal.returns
 returns c =
     λ q.
     let whole = map atom_of c.into_iter-atom-iterator.result in
-    let same = ap (λ ks. from_list (map atom_of ks)) c.into_iter-atom-iterator.ensures.into_iter_gives.0 ∙ c.atoms-atom-items.ensures in
+    let same = walked_all c.into_iter-atom-iterator.ensures.into_iter_gives.0 c.atoms-atom-items.ensures in
     fluent_all (task_of c.args.task.now) (state_of c.args.atoms.now) (state_of c.args.state.now) (state_of c.loop-atom.atoms) (map atom_of c.loop-atom.atom-iterator) whole q
     (c.loop-atom.invariant q) (ap (map atom_of) c.in-None.ensures.steps.0) same

@@ -1,11 +1,9 @@
 use Rattle.std.proofs.Common.{sym, ap, ◌∙◌}
-use Rattle.std.specs.List.{each_same}
 use Rattle.std.specs.FinSet.{insert}
 use Rattle.typing.specs.Task.{task_of}
 use Rattle.typing.specs.TaskParts.{atom_of}
 use Rattle.formulas.specs.State.{state_of}
-use Rattle.formulas.proofs.States.{copied}
-use Rattle.solver.proofs.LoopLemmas.{there_already, static_skipped, fluent_added}
+use Rattle.solver.proofs.LoopLemmas.{cloned, there_already, static_skipped, fluent_added}
 use Rattle.solver.proofs.listing.add_if_fluent.Goals as goal
 use Rattle.solver.proofs.listing.add_if_fluent.Goals.{then-contains-via-then-contains, then-contains-via-else-contains+then-not-is_fluent}
 
@@ -27,5 +25,5 @@ returns c =
     let state = state_of c.args.atoms.now in
     let atom = c.args.atom.now in
     let copy = c.in_ok-clone.field-0 in
-    let same = copied atom copy c.in_ok-clone.ensures.cases.0 (each_same atom.objects.items copy.objects.items c.in_ok-clone.ensures.cases.1) in
-    fluent_added task state (state_of c.insert.new.self) (atom_of atom) q (sym c.if-not-is_fluent.false ∙ c.is_fluent.ensures) (c.in_ok-insert.ensures ∙ ap (insert state) same)
+    let same = cloned atom copy c.in_ok-clone.ensures.cases.0 c.in_ok-clone.ensures.cases.1 in
+    fluent_added task state (state_of c.insert.new.self) (atom_of atom) q (sym c.if-not-is_fluent.false ∙ c.is_fluent.ensures) (c.in_ok-insert.ensures ∙ ap (λ a. insert state (atom_of a)) same)

@@ -1,10 +1,7 @@
-use Rattle.std.proofs.Common.{List, ℕ, sym, ap, subst, map, ◌∙◌}
-use Rattle.std.specs.FinSet.{from_list}
-use Rattle.typing.specs.declared.atoms.Atom.{Atom}
-use Rattle.typing.specs.TaskParts.{atom_of, AreInOrder}
+use Rattle.std.proofs.Common.{List, ℕ, sym, ap, subst, map}
+use Rattle.typing.specs.TaskParts.{atom_of}
 use Rattle.formulas.specs.State.{state_of}
-use Rattle.formulas.proofs.States.{in_order}
-use Rattle.solver.proofs.LoopLemmas.{ascending}
+use Rattle.solver.proofs.LoopLemmas.{walked_all, walked_in_order, ascending}
 use Rattle.solver.proofs.NumbersLemmas.{NamesSoFar, names_begin, names_more, names_skip, names_end}
 use Rattle.solver.proofs.listing.numbers.Goals as goal
 
@@ -12,8 +9,7 @@ pub loop-atom-init : goal.loop-atom-init
 loop-atom-init c =
     let atoms = map atom_of c.args.atoms.now in
     let whole = map atom_of c.into_iter-atom-iterator.result in
-    let keys = c.atoms-atom-items.result.now.keys in
-    let sorted = subst AreInOrder (sym c.into_iter-atom-iterator.ensures.into_iter_gives.0) (in_order keys c.into_iter-atom-iterator.ensures.into_iter_gives.4) in
+    let sorted = walked_in_order c.into_iter-atom-iterator.ensures.into_iter_gives.0 c.into_iter-atom-iterator.ensures.into_iter_gives.4 in
     subst (λ (ns : List ℕ). NamesSoFar atoms whole whole ns) (sym c.new-numbers.ensures.items) (names_begin atoms whole (ascending c.into_iter-atom-iterator.result sorted))
 
 pub loop-atom-preserved-in-Continue-1 : goal.loop-atom-preserved-in-Continue-1
@@ -34,4 +30,4 @@ pub returns : goal.returns
 returns c =
     names_end (map atom_of c.args.atoms.now) (map atom_of c.into_iter-atom-iterator.result) (map atom_of c.loop-atom.atom-iterator) c.loop-atom.numbers.items (state_of c.args.state.now)
     c.loop-atom.invariant (ap (map atom_of) c.in-None.ensures.steps.0)
-    (ap (λ (ks : List Atom). from_list (map atom_of ks)) c.into_iter-atom-iterator.ensures.into_iter_gives.0 ∙ c.atoms-atom-items.ensures)
+    (walked_all c.into_iter-atom-iterator.ensures.into_iter_gives.0 c.atoms-atom-items.ensures)
