@@ -1,5 +1,5 @@
 -- From texts to their task: what is told of two texts, and that nothing is told of two that are a task.
-use Rattle.std.proofs.Common.{◌≡◌, ℕ, List, [], ◌∷◌, Option, Some, None, IfSome, sym, refl, ap, ◌∙◌, subst}
+use Rattle.std.proofs.Common.{◌≡◌, ℕ, List, [], Option, Some, None, IfSome, sym, refl, ap, ◌∙◌, subst}
 use Rattle.std.specs.Prelude.{Contains, Result, Ok, Err, IfErr}
 use Rattle.std.specs.Option.{option_map}
 use Rattle.model.specs.Fault.{Fault}
@@ -11,7 +11,7 @@ use Rattle.model.specs.Refusals as refusals
 use Rattle.model.specs.Task.{Task, Instance}
 use Rattle.model.specs.Typing.{TypingFault, faults_of, task_of_trees}
 use Rattle.model.specs.PlanText.{IsPlanText, IsPlanFault}
-use Rattle.model.specs.Files.{the_domain, the_problem, the_plan, FileFault, IsDomainText, IsProblemText, IsTextFault, of_words, of_tree, IsTaskOf, file_of, IsTaskFault, in_the_domain, in_the_problem, in_the_pair, IsFileFault, in_the_task, in_the_plan, AreRead}
+use Rattle.model.specs.Files.{the_domain, the_problem, the_plan, FileFault, IsDomainText, IsProblemText, IsTextFault, of_words, of_tree, IsTaskOf, IsTaskFault, in_the_domain, in_the_problem, in_the_pair, IsFileFault, in_the_task, in_the_plan, AreRead}
 use Rattle.model.proofs.ListLemmas.{Contains-none}
 use Rattle.model.proofs.GrammarStops.{one_domain, one_problem}
 use Rattle.model.proofs.GrammarOneRefusal.{whole_not_refused}
@@ -21,7 +21,8 @@ use Rattle.tokens.proofs.Words.{one_reading_lem}
 use Rattle.tokens.proofs.Order.{read_is_told_nothing}
 use Rattle.faults.specs.declared.refused.Refused.TheVariants.{At, NoMemory}
 use Rattle.typing.specs.Task.{TaskFault, TellsLeastFault, refusal_of}
-use Rattle.planner_main.specs.Files.{told_of_pair}
+use Rattle.planner_main.specs.declared.task_file.FileFault as file
+use Rattle.planner_main.specs.Files.{told_in, told_of_pair}
 use Rattle.plan_file.proofs.PlanSteps.{no_fault_of_plan}
 
 -- what is told, where it is known
@@ -89,6 +90,11 @@ module _ (domain problem : List ℕ) where
   -- in the code's terms
   pub none_told : (plan : List ℕ) (o : Option FileFault) → IfSome o (IsFileFault domain problem plan) → (task : Task) (steps : List Instance) → AreRead domain problem plan task steps → o ≡ None
   none_told plan o h task steps are = told_none_in (IsFileFault domain problem plan) o h (λ told. no_file_fault plan task steps told are)
+
+  -- the same of what a call answered
+  pub none_told_in : {T : Type 0} (plan : List ℕ) (r : Result T file.FileFault) → IfErr r (λ fault. IfSome (told_in fault) (IsFileFault domain problem plan)) → (task : Task) (steps : List Instance) → AreRead domain problem plan task steps → IfErr r (λ fault. told_in fault ≡ None)
+  none_told_in plan (Ok verdict) h task steps are = tt
+  none_told_in plan (Err fault) h task steps are = none_told plan (told_in fault) h task steps are
 
   pub none_told_of_task : (o : Option FileFault) → IfSome o (IsTaskFault domain problem) → (task : Task) → IsTaskOf domain problem task → o ≡ None
   none_told_of_task o h task is = told_none_in (IsTaskFault domain problem) o h (λ told. no_task_fault task told is)

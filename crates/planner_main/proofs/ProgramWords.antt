@@ -1,7 +1,7 @@
 -- What the words of the program are, and what it tells of them.
-use Rattle.std.proofs.Common.{◌≡◌, ℕ, ◌^◌, ◌<◌, ◌≤◌, ◌⊎◌, inl, inr, List, [], ◌∷◌, length, codes, get_or, take, drop, sym, ap, ◌∙◌, subst, arith}
+use Rattle.std.proofs.Common.{◌≡◌, ℕ, ◌^◌, ◌<◌, ◌≤◌, ◌⊎◌, inl, inr, List, [], ◌∷◌, length, codes, get_or, take, drop, refl, sym, ap, ◌∙◌, subst, arith}
 use Rattle.std.proofs.lemmas.Bool.Decides.{nat_tests}
-use Rattle.std.specs.Prelude.{Option, None, Some, IfSome, is_some, true, ◌&&◌}
+use Rattle.std.specs.Prelude.{Option, None, Some, IfSome, is_some, true, false, ◌&&◌}
 use Rattle.std.specs.Str.Parse.{IsNumeral, without_leading_plus, digits_value}
 use Rattle.solver.specs.Limit.{is_limit}
 use Rattle.solver.specs.declared.limits.Limits.{Limits}
@@ -14,7 +14,8 @@ use Rattle.planner_main.specs.declared.report.Failure.{Failure}
 use Rattle.planner_main.specs.declared.report.Failure.TheVariants as failure
 use Rattle.planner_main.specs.declared.task_file.FileFault.TheVariants as refusal
 use Rattle.devices.specs.declared.device.WriteFault.TheVariants as device
-use Rattle.planner_main.specs.Program.{texts, AllowsStates, as_asked, AsksForVerdict, AsksForPlan, IsCommand, is_validate, is_solve, IsText, OnTwo, OnThree, TellsAnswer, Tells, a_verdict, an_answer, Refuses, a_verdict_refused, an_answer_refused, TellsFor, Asks, fault_in, IsFaultFor, failure_status}
+use Rattle.planner_main.specs.Program.{texts, AllowsStates, as_asked, AsksForVerdict, AsksForPlan, IsCommand, is_validate, is_solve, IsText, OnTwo, OnThree, IsAnswerText, IsAnswerFor, IsAnswer, Tells, a_verdict, an_answer, Refuses, a_verdict_refused, an_answer_refused, TellsFor, Asks, fault_in, IsFaultFor, failure_status}
+use Rattle.planner_main.specs.Report.{is_failure}
 use Rattle.planner_main.specs.Report as verdict
 use Rattle.planner_main.specs.Solution as answer
 use Rattle.model.specs.Runs.{Verdict, valid, not_applicable, goal_missed}
@@ -48,40 +49,48 @@ pub text_kept : (before after : List ℕ → Option (List ℕ)) → ((other : Li
     → IsText after name text → IsText before name text
 text_kept before after kept name text is = subst (λ (known : Option (List ℕ)). IfSome known (λ bytes. text ≡ take 16777217 bytes)) (kept name) is
 
--- What is told for a command is told for the words that ask for it.
-module _ (contents : List ℕ → Option (List ℕ)) (words : List (List ℕ)) (before after : Option (List ℕ)) where
-  pub told_of_words : (command : Command) (status : ℕ) → Asks words command → TellsFor contents command before after status
-      → Tells contents words before after status
-  told_of_words (Validate domain problem plan) status asks tells = a_verdict domain.now problem.now plan.now asks tells
-  told_of_words (Solve domain problem limits) status asks tells =
+-- What answers a command answers the words that ask for it, and so with what is refused.
+module _ (contents : List ℕ → Option (List ℕ)) (words : List (List ℕ)) where
+  pub answer_of_words : (command : Command) (text : List ℕ) (status : ℕ) → Asks words command → IsAnswerFor contents command text status
+      → IsAnswer contents words text status
+  answer_of_words (Validate domain problem plan) text status asks is = a_verdict domain.now problem.now plan.now asks is
+  answer_of_words (Solve domain problem limits) text status asks is =
       an_answer domain.now problem.now limits.states asks.0
-      (subst (λ instances. TellsAnswer contents domain.now problem.now limits.states instances before after status) asks.1 tells)
+      (subst (λ instances. IsAnswerText contents domain.now problem.now limits.states instances text status) asks.1 is)
 
-  pub refused_of_words : (command : Command) (fault : FileFault) → Asks words command → IsFaultFor contents command fault → after ≡ before
+  pub told_of_words : (before after : Option (List ℕ)) (command : Command) (status : ℕ) → Asks words command → TellsFor contents command before after status
+      → Tells contents words before after status
+  told_of_words before after command status asks (text, is, appended) = (text, answer_of_words command text status asks is, appended)
+
+  pub refused_of_words : (before after : Option (List ℕ)) (command : Command) (fault : FileFault) → Asks words command → IsFaultFor contents command fault → after ≡ before
       → Refuses contents words before after
-  refused_of_words (Validate domain problem plan) fault asks is same = a_verdict_refused domain.now problem.now plan.now fault asks is same
-  refused_of_words (Solve domain problem limits) fault asks is same = an_answer_refused domain.now problem.now limits.states fault asks.0 is same
+  refused_of_words before after (Validate domain problem plan) fault asks is same = a_verdict_refused domain.now problem.now plan.now fault asks is same
+  refused_of_words before after (Solve domain problem limits) fault asks is same = an_answer_refused domain.now problem.now limits.states fault asks.0 is same
 
 pub asked_is_command : (words : List (List ℕ)) (command : Command) → Asks words command → IsCommand words
 asked_is_command words (Validate domain problem plan) asks = is_validate domain.now problem.now plan.now asks
 asked_is_command words (Solve domain problem limits) asks = is_solve domain.now problem.now limits.states asks.0
 
--- The statuses of verdicts and answers are none of words that are no command.
-verdict_status : (v : Verdict) → verdict.status_of v ≡ 2 → ⊥
-verdict_status (valid cost) same = absurd (omega arith)
-verdict_status (not_applicable step) same = absurd (omega arith)
-verdict_status goal_missed same = absurd (omega arith)
+-- The statuses of verdicts and answers are none of a failure.
+verdict_status : (v : Verdict) → is_failure (verdict.status_of v) ≡ false
+verdict_status (valid cost) = refl
+verdict_status (not_applicable step) = refl
+verdict_status goal_missed = refl
 
-answer_status : (a : Answer) → answer.status_of a ≡ 2 → ⊥
-answer_status (Plan steps cost cert) same = absurd (omega arith)
-answer_status (Unsolvable cert) same = absurd (omega arith)
-answer_status (Unknown limit) same = absurd (omega arith)
+answer_status : (a : Answer) → is_failure (answer.status_of a) ≡ false
+answer_status (Plan steps cost cert) = refl
+answer_status (Unsolvable cert) = refl
+answer_status (Unknown limit) = refl
 
 pub told_status : (contents : List ℕ → Option (List ℕ)) (command : Command) (before after : Option (List ℕ)) (status : ℕ)
-    → TellsFor contents command before after status → status ≡ 2 → ⊥
-told_status contents (Validate domain problem plan) before after status (v, texts_are, is_status, told) same = verdict_status v (sym is_status ∙ same)
-told_status contents (Solve domain problem limits) before after status (task, a, texts_are, is_true, is_status, told) same =
-    answer_status a (sym is_status ∙ same)
+    → TellsFor contents command before after status → is_failure status ≡ false
+told_status contents (Validate domain problem plan) before after status (text, (d, p, l, d_is, p_is, l_is, (v, is_true, is_line, is_status)), appended) =
+    ap is_failure is_status ∙ verdict_status v
+told_status contents (Solve domain problem limits) before after status (text, (d, p, d_is, p_is, (task, a, is_task, is_true, is_text, is_status)), appended) =
+    ap is_failure is_status ∙ answer_status a
+
+pub no_failure : (n status : ℕ) → is_failure status ≡ false → is_failure n ≡ true → status ≡ n → ⊥
+no_failure n status answers fails same = absurd (cc (ap is_failure same))
 
 -- A failure has neither the status of words that are no command, nor that of a text where no text is refused.
 pub failed_status : (f : Failure) (status : ℕ) → (status ≡ failure_status f) ⊎ (status ≡ 22) → status ≡ 2 → ⊥
@@ -101,19 +110,19 @@ fault_of_status P (failure.Text refusal.NoMemory) status (inr is) same h = absur
 fault_of_status P (failure.Device device.Device) status (inr is) same h = absurd (omega arith)
 fault_of_status P (failure.Device device.NoMemory) status (inr is) same h = absurd (omega arith)
 
--- What is told of the texts of files.
-module _ (contents : List ℕ → Option (List ℕ)) (before after : Option (List ℕ)) (same : after ≡ before) where
+-- What is refused of the texts of files.
+module _ (contents : List ℕ → Option (List ℕ)) where
   pub refused_on_two : (domain problem d p : List ℕ) → IsText contents domain d → IsText contents problem p
       → (o : Option FileFault) → IfSome o (IsTaskFault d p)
-      → IfSome o (λ fault. OnTwo contents domain problem (λ d p. IsTaskFault d p fault) × (after ≡ before))
+      → IfSome o (λ fault. OnTwo contents domain problem (λ d p. IsTaskFault d p fault))
   refused_on_two domain problem d p d_is p_is None h = tt
-  refused_on_two domain problem d p d_is p_is (Some fault) h = ((d, p, d_is, p_is, h), same)
+  refused_on_two domain problem d p d_is p_is (Some fault) h = (d, p, d_is, p_is, h)
 
   pub refused_on_three : (domain problem plan d p l : List ℕ) → IsText contents domain d → IsText contents problem p → IsText contents plan l
       → (o : Option FileFault) → IfSome o (IsFileFault d p l)
-      → IfSome o (λ fault. OnThree contents domain problem plan (λ d p l. IsFileFault d p l fault) × (after ≡ before))
+      → IfSome o (λ fault. OnThree contents domain problem plan (λ d p l. IsFileFault d p l fault))
   refused_on_three domain problem plan d p l d_is p_is l_is None h = tt
-  refused_on_three domain problem plan d p l d_is p_is l_is (Some fault) h = ((d, p, l, d_is, p_is, l_is, h), same)
+  refused_on_three domain problem plan d p l d_is p_is l_is (Some fault) h = (d, p, l, d_is, p_is, l_is, h)
 
 -- the lists of a first word and the rest are equal in both
 first_same : (x y : List ℕ) (xs ys : List (List ℕ)) → x ∷ xs ≡ y ∷ ys → x ≡ y

@@ -62,25 +62,36 @@ abbrev pub OnThree : (List ℕ → Option (List ℕ)) → (domain problem plan :
 OnThree contents domain problem plan Holds =
     (d : List ℕ) × (p : List ℕ) × (l : List ℕ) × IsText contents domain d × IsText contents problem p × IsText contents plan l × Holds d p l
 
--- the standard output grew by the line of the verdict that is true of the texts of these files, and the status is the verdict's
-abbrev pub TellsVerdict : (List ℕ → Option (List ℕ)) → (domain problem plan : List ℕ) → (before after : Option (List ℕ)) → ℕ → Type 0
-TellsVerdict contents domain problem plan before after status =
-    (v : Verdict) × OnThree contents domain problem plan (λ d p l. IsVerdictOf d p l v)
-    × (status ≡ verdict.status_of v) × Appends before after (line_of v)
+-- this text is the line of the verdict that is true of three texts, and the status is the verdict's
+abbrev pub IsVerdictLine : (domain problem plan text : List ℕ) → (status : ℕ) → Type 0
+IsVerdictLine domain problem plan text status =
+    (v : Verdict) × IsVerdictOf domain problem plan v × (text ≡ line_of v) × (status ≡ verdict.status_of v)
 
--- The standard output grew by the text of an answer to the task of the texts of these files that is true within these
--- limits, and the status is the answer's.
-abbrev pub TellsAnswer : (List ℕ → Option (List ℕ)) → (domain problem : List ℕ) → (states instances : ℕ) → (before after : Option (List ℕ)) → ℕ → Type 0
-TellsAnswer contents domain problem states instances before after status =
-    (task : Task) × (a : Answer) × OnTwo contents domain problem (λ d p. IsTaskOf d p task)
-    × IsTrueAnswer task states instances a × (status ≡ answer.status_of a) × Appends before after (text_of task a)
+-- This text is that of an answer to the task of two texts that is true within these limits, and the status is the answer's.
+abbrev pub IsSolutionText : (domain problem : List ℕ) → (states instances : ℕ) → (text : List ℕ) → (status : ℕ) → Type 0
+IsSolutionText domain problem states instances text status =
+    (task : Task) × (a : Answer) × IsTaskOf domain problem task × IsTrueAnswer task states instances a
+    × (text ≡ text_of task a) × (status ≡ answer.status_of a)
 
--- What the words ask for is told. The limit of instances is 1,000,000.
-pub data Tells (contents : List ℕ → Option (List ℕ)) (words : List (List ℕ)) (before after : Option (List ℕ)) (status : ℕ) : Type 0 where
+-- the same of the texts of these files
+abbrev pub IsVerdictText : (List ℕ → Option (List ℕ)) → (domain problem plan text : List ℕ) → (status : ℕ) → Type 0
+IsVerdictText contents domain problem plan text status =
+    OnThree contents domain problem plan (λ d p l. IsVerdictLine d p l text status)
+
+abbrev pub IsAnswerText : (List ℕ → Option (List ℕ)) → (domain problem : List ℕ) → (states instances : ℕ) → (text : List ℕ) → (status : ℕ) → Type 0
+IsAnswerText contents domain problem states instances text status =
+    OnTwo contents domain problem (λ d p. IsSolutionText d p states instances text status)
+
+-- This text, with this status, is a true answer to what the words ask for. The limit of instances is 1,000,000.
+pub data IsAnswer (contents : List ℕ → Option (List ℕ)) (words : List (List ℕ)) (text : List ℕ) (status : ℕ) : Type 0 where
   a_verdict : (domain problem plan : List ℕ) → AsksForVerdict words domain problem plan
-      → TellsVerdict contents domain problem plan before after status → Tells contents words before after status
+      → IsVerdictText contents domain problem plan text status → IsAnswer contents words text status
   an_answer : (domain problem : List ℕ) (states : ℕ) → AsksForPlan words domain problem states
-      → TellsAnswer contents domain problem states 1000000 before after status → Tells contents words before after status
+      → IsAnswerText contents domain problem states 1000000 text status → IsAnswer contents words text status
+
+-- The standard output grew by the text of a true answer to what the words ask for, and the status is the answer's.
+abbrev pub Tells : (List ℕ → Option (List ℕ)) → List (List ℕ) → (before after : Option (List ℕ)) → ℕ → Type 0
+Tells contents words before after status = (text : List ℕ) × IsAnswer contents words text status × Appends before after text
 
 -- The texts of the files that the words name are refused, and the standard output took nothing.
 pub data Refuses (contents : List ℕ → Option (List ℕ)) (words : List (List ℕ)) (before after : Option (List ℕ)) : Type 0 where
@@ -91,12 +102,15 @@ pub data Refuses (contents : List ℕ → Option (List ℕ)) (words : List (List
       → OnTwo contents domain problem (λ d p. IsTaskFault d p fault) → after ≡ before
       → Refuses contents words before after
 
--- what this command asks for is told (`Tells`, in the code's terms)
+-- the same of what a command asks for, in the code's terms
+abbrev pub IsAnswerFor : (List ℕ → Option (List ℕ)) → Command → (text : List ℕ) → ℕ → Type 0
+IsAnswerFor contents (Validate domain problem plan) text status =
+    IsVerdictText contents domain.now problem.now plan.now text status
+IsAnswerFor contents (Solve domain problem limits) text status =
+    IsAnswerText contents domain.now problem.now limits.states limits.instances text status
+
 abbrev pub TellsFor : (List ℕ → Option (List ℕ)) → Command → (before after : Option (List ℕ)) → ℕ → Type 0
-TellsFor contents (Validate domain problem plan) before after status =
-    TellsVerdict contents domain.now problem.now plan.now before after status
-TellsFor contents (Solve domain problem limits) before after status =
-    TellsAnswer contents domain.now problem.now limits.states limits.instances before after status
+TellsFor contents command before after status = (text : List ℕ) × IsAnswerFor contents command text status × Appends before after text
 
 -- the words are this command
 abbrev pub Asks : List (List ℕ) → Command → Type 0

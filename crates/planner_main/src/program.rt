@@ -1,7 +1,8 @@
 //! The program.
 ghost use Rattle.std.specs.Prelude.{◌≡◌, ℕ, ◌+◌, ◌↔◌, ◌⊎◌, IfErr, IfOk, IfSome, IsTrue, List, length, take, vec_len};
+ghost use Rattle.planner_main.specs.Files.{told_in};
 ghost use Rattle.planner_main.specs.Report.{is_failure};
-ghost use Rattle.planner_main.specs.Program.{texts, IsCommand, OnTwo, OnThree, Tells, TellsVerdict, TellsAnswer, TellsFor, Refuses, IsFaultFor, fault_in};
+ghost use Rattle.planner_main.specs.Program.{texts, IsCommand, IsText, OnTwo, OnThree, IsVerdictLine, IsSolutionText, IsVerdictText, IsAnswerText, IsAnswerFor, Tells, TellsFor, Refuses, IsFaultFor, fault_in};
 ghost use Rattle.devices.specs.Devices.{CountsDevice, IsReading, ReadsSome};
 ghost use Rattle.model.specs.Files.{IsFileFault, IsTaskFault};
 
@@ -10,6 +11,7 @@ mod command;
 use crate::files::Files;
 use crate::report::{Failure, answer, tell, tell_usage};
 use crate::solve::{answer_text, solve_files};
+use crate::task_file::FileFault;
 use crate::verdict::validate_files;
 use command::{Command, read_command};
 use devices::{Sink, Source, WriteFault, write_all};
@@ -75,69 +77,123 @@ fn carry_out<F: Files, O: Sink>(
     ensures refused { IfErr result (λ failure. IfSome (fault_in failure) (λ fault.
         IsFaultFor (F.contents files.old) command.entry fault × (O.taken out.new ≡ O.taken out.old))) }
 {
+    let (text, status) = answer_command(alloc, command, files)?;
+    write_all(out, &text)?;
+    Ok(status)
+}
+
+/// The text that answers what is asked for, and its status.
+fn answer_command<F: Files>(
+    alloc: Global,
+    command: Command<'_>,
+    files: &mut F,
+) -> Result<(Vec<u8>, u8), Failure>
+    ensures answer { IfOk result (λ told. IsAnswerFor (F.contents files.old) command.entry told.0.items told.1) }
+    ensures refused { IfErr result (λ failure. IfSome (fault_in failure) (IsFaultFor (F.contents files.old) command.entry)) }
+{
     match command {
         Command::Validate {
             domain,
             problem,
             plan,
-        } => run_validate(alloc, domain, problem, plan, files, out),
+        } => answer_validate(alloc, domain, problem, plan, files),
         Command::Solve {
             domain,
             problem,
             limits,
-        } => run_solve(alloc, domain, problem, limits, files, out),
+        } => answer_solve(alloc, domain, problem, limits, files),
     }
 }
 
-/// Says whether the plan solves the task: the status.
-fn run_validate<F: Files, O: Sink>(
+/// The line of whether the plan solves the task, and its status.
+fn answer_validate<F: Files>(
     alloc: Global,
     domain: &str,
     problem: &str,
     plan: &str,
     files: &mut F,
-    out: &mut O,
-) -> Result<u8, Failure>
-    ensures told { IfOk result (TellsVerdict (F.contents files.old) domain.now problem.now plan.now (O.taken out.old) (O.taken out.new)) }
+) -> Result<(Vec<u8>, u8), Failure>
+    ensures answer { IfOk result (λ told. IsVerdictText (F.contents files.old) domain.now problem.now plan.now told.0.items told.1) }
     ensures refused { IfErr result (λ failure. IfSome (fault_in failure) (λ fault.
-        OnThree (F.contents files.old) domain.now problem.now plan.now (λ d p l. IsFileFault d p l fault)
-        × (O.taken out.new ≡ O.taken out.old))) }
+        OnThree (F.contents files.old) domain.now problem.now plan.now (λ d p l. IsFileFault d p l fault))) }
 {
-    let domain = read_file(alloc, files, domain)?;
-    let problem = read_file(alloc, files, problem)?;
+    let task = read_pair(alloc, files, domain, problem)?;
     let plan = read_file(alloc, files, plan)?;
-    let verdict = validate_files(alloc, &domain, &problem, &plan)?;
-    let (line, status) = answer(alloc, verdict)?;
-    write_all(out, line.as_bytes())?;
-    Ok(status)
+    Ok(verdict_text(alloc, &task.domain, &task.problem, &plan)?)
 }
 
-/// Tells a cheapest plan, or that there is none: the status.
-fn run_solve<F: Files, O: Sink>(
+/// The text of a cheapest plan, or that there is none, and its status.
+fn answer_solve<F: Files>(
     alloc: Global,
     domain: &str,
     problem: &str,
     limits: Limits,
     files: &mut F,
-    out: &mut O,
-) -> Result<u8, Failure>
-    ensures told { IfOk result (TellsAnswer (F.contents files.old) domain.now problem.now limits.states limits.instances
-        (O.taken out.old) (O.taken out.new)) }
+) -> Result<(Vec<u8>, u8), Failure>
+    ensures answer { IfOk result (λ told. IsAnswerText (F.contents files.old) domain.now problem.now limits.states limits.instances
+        told.0.items told.1) }
     ensures refused { IfErr result (λ failure. IfSome (fault_in failure) (λ fault.
-        OnTwo (F.contents files.old) domain.now problem.now (λ d p. IsTaskFault d p fault)
-        × (O.taken out.new ≡ O.taken out.old))) }
+        OnTwo (F.contents files.old) domain.now problem.now (λ d p. IsTaskFault d p fault))) }
+{
+    let task = read_pair(alloc, files, domain, problem)?;
+    Ok(solution_text(alloc, &task.domain, &task.problem, limits)?)
+}
+
+/// The line of the verdict on three texts, and its status.
+fn verdict_text(
+    alloc: Global,
+    domain: &[u8],
+    problem: &[u8],
+    plan: &[u8],
+) -> Result<(Vec<u8>, u8), FileFault>
+    ensures verdict { IfOk result (λ told. IsVerdictLine domain.now problem.now plan.now told.0.items told.1) }
+    ensures refused { IfErr result (λ fault. IfSome (told_in fault) (IsFileFault domain.now problem.now plan.now)) }
+{
+    let verdict = validate_files(alloc, domain, problem, plan)?;
+    let (line, status) = answer(alloc, verdict)?;
+    Ok((line.into_bytes(), status))
+}
+
+/// The text of what was found out of two texts, and its status.
+fn solution_text(
+    alloc: Global,
+    domain: &[u8],
+    problem: &[u8],
+    limits: Limits,
+) -> Result<(Vec<u8>, u8), FileFault>
+    ensures answer { IfOk result (λ told. IsSolutionText domain.now problem.now limits.states limits.instances told.0.items told.1) }
+    ensures refused { IfErr result (λ fault. IfSome (told_in fault) (IsTaskFault domain.now problem.now)) }
+{
+    let solved = solve_files(alloc, domain, problem, limits)?;
+    Ok(answer_text(alloc, &solved.task, &solved.answer)?)
+}
+
+/// The texts of a domain file and a problem file.
+#[derive(Drop)]
+struct Pair {
+    domain: Vec<u8>,
+    problem: Vec<u8>,
+}
+
+/// The texts of two files.
+fn read_pair<F: Files>(
+    alloc: Global,
+    files: &mut F,
+    domain: &str,
+    problem: &str,
+) -> Result<Pair, WriteFault>
+    ensures domain { IfOk result (λ pair. IsText (F.contents files.old) domain.now pair.domain.items) }
+    ensures problem { IfOk result (λ pair. IsText (F.contents files.old) problem.now pair.problem.items) }
+    ensures kept { (other : List ℕ) → F.contents files.new other ≡ F.contents files.old other }
 {
     let domain = read_file(alloc, files, domain)?;
     let problem = read_file(alloc, files, problem)?;
-    let solved = solve_files(alloc, &domain, &problem, limits)?;
-    let (text, status) = answer_text(alloc, &solved.task, &solved.answer)?;
-    write_all(out, &text)?;
-    Ok(status)
+    Ok(Pair { domain, problem })
 }
 
 /// The first 16,777,217 bytes of a file, or all that it has.
 fn read_file<F: Files>(alloc: Global, files: &mut F, name: &str) -> Result<Vec<u8>, WriteFault>
-    ensures bytes { IfOk result (λ text. IfSome (F.contents files.old name.now) (λ bytes. text.items ≡ take MAX_READ bytes)) }
+    ensures bytes { IfOk result (λ text. IsText (F.contents files.old) name.now text.items) }
     ensures kept { (other : List ℕ) → F.contents files.new other ≡ F.contents files.old other }
 {
     let mut input = files.open(name)?;

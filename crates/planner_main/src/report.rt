@@ -62,18 +62,6 @@ impl From<WriteFault> for Failure {
     }
 }
 
-impl From<AllocError> for Failure {
-    ghost use Rattle.std.specs.Prelude.{◌≡◌};
-    ghost use Rattle.planner_main.specs.declared.report.Failure.TheVariants.{Device};
-    ghost use Rattle.devices.specs.declared.device.WriteFault.TheVariants.{NoMemory};
-
-    ghost from_gives = { λ _ failure. failure ≡ Device NoMemory };
-
-    fn from(_error: AllocError) -> Failure {
-        Failure::Device(WriteFault::NoMemory)
-    }
-}
-
 /// The line of a verdict, and its status.
 pub(crate) fn answer(alloc: Global, verdict: Verdict) -> Result<(String, u8), AllocError>
     ensures line { IfOk result (λ told. string_bytes told.0 ≡ line_of (verdict_of verdict)) }

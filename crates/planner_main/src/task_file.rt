@@ -8,7 +8,7 @@ ghost use Rattle.model.specs.Refusals.{domain_file, problem_file};
 ghost use Rattle.model.specs.Files.{IsDomainText, IsProblemText, IsTextFault, IsTaskOf, IsTaskFault};
 
 use faults::{Code, Fault, NoMemory, Refusal, Refused, Span};
-use std::alloc::Global;
+use std::alloc::{AllocError, Global};
 use std::fmt;
 use thiserror::Error;
 use tokens::scan;
@@ -87,6 +87,17 @@ impl From<TaskFault> for FileFault {
             }
             Refused::NoMemory => FileFault::NoMemory,
         }
+    }
+}
+
+impl From<AllocError> for FileFault {
+    ghost use Rattle.std.specs.Prelude.{◌≡◌};
+    ghost use Rattle.planner_main.specs.declared.task_file.FileFault.TheVariants.{NoMemory};
+
+    ghost from_gives = { λ _ e. e ≡ NoMemory };
+
+    fn from(_error: AllocError) -> FileFault {
+        FileFault::NoMemory
     }
 }
 

@@ -1,13 +1,15 @@
 //! From the bytes of three files to the verdict.
-ghost use Rattle.std.specs.Prelude.{◌≡◌, List, IfOk, IfErr, IfSome, None};
+ghost use Rattle.std.specs.Prelude.{◌≡◌, ℕ, List, IfOk, IfErr, IfSome, None};
+ghost use Rattle.typing.specs.Task.{task_of};
 ghost use Rattle.validator.specs.Verdict.{verdict_of};
 ghost use Rattle.planner_main.specs.Files.{told_in};
 ghost use Rattle.model.specs.Task as model;
-ghost use Rattle.model.specs.Files.{AreRead, IsVerdictOf, IsFileFault};
+ghost use Rattle.model.specs.Files.{AreRead, IsTaskOf, IsVerdictOf, IsFileFault};
 
 use crate::task_file::{File, FileFault, read_task};
 use plan_file::read_plan;
 use std::alloc::Global;
+use typing::Task;
 use validator::{Verdict, validate};
 
 /// What is true of the plan, from the bytes of the three files.
@@ -28,9 +30,19 @@ pub fn validate_files(
         → AreRead domain.now problem.now plan.now task steps → IfErr result (λ fault. told_in fault ≡ None) }
 {
     let task = read_task(alloc, domain, problem)?;
-    let plan = match read_plan(alloc, &task, plan) {
+    verdict_on(alloc, &task, plan)
+}
+
+/// What is true of the plan for this task, from the bytes of the plan's file.
+fn verdict_on(alloc: Global, task: &Task, plan: &[u8]) -> Result<Verdict, FileFault>
+    ensures verdict { (domain problem : List ℕ) → IsTaskOf domain problem (task_of task.now)
+        → IfOk result (λ verdict. IsVerdictOf domain problem plan.now (verdict_of verdict)) }
+    ensures refused { (domain problem : List ℕ) → IsTaskOf domain problem (task_of task.now)
+        → IfErr result (λ fault. IfSome (told_in fault) (IsFileFault domain problem plan.now)) }
+{
+    let plan = match read_plan(alloc, task, plan) {
         Ok(plan) => plan,
         Err(fault) => return Err(FileFault::of(File::Plan, fault)),
     };
-    Ok(validate(alloc, &task, &plan)?)
+    Ok(validate(alloc, task, &plan)?)
 }

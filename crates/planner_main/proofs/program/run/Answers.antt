@@ -1,5 +1,5 @@
-use Rattle.std.proofs.Common.{inr}
-use Rattle.planner_main.proofs.ProgramWords.{told_of_words, refused_of_words, asked_is_command, told_status, failed_status, fault_of_status}
+use Rattle.std.proofs.Common.{inr, refl}
+use Rattle.planner_main.proofs.ProgramWords.{told_of_words, refused_of_words, asked_is_command, told_status, no_failure, failed_status, fault_of_status}
 use Rattle.planner_main.proofs.program.run.Goals as goal
 
 pub returns-in-Ok-clause-status : goal.returns-in-Ok-clause-status
@@ -7,7 +7,7 @@ returns-in-Ok-clause-status g c = inr (told_of_words _ _ _ _ c.in-Some.command _
 
 pub returns-in-Ok-clause-words : goal.returns-in-Ok-clause-words
 returns-in-Ok-clause-words g c = (
-  λ same. absurd (told_status _ c.in-Some.command _ _ _ c.in-Ok.ensures.told same),
+  λ same. absurd (no_failure 2 _ (told_status _ c.in-Some.command _ _ _ c.in-Ok.ensures.told) refl same),
   λ none. absurd (none (asked_is_command _ c.in-Some.command c.in-Some.ensures.asks)),
 )
 

@@ -1,8 +1,5 @@
-use Rattle.std.proofs.Common.{IfSome, sym, refl, subst, ◌∙◌}
 use Rattle.std.proofs.lemmas.Result.{err_from_is_err_and}
-use Rattle.faults.specs.Fault.{told_by}
-use Rattle.model.specs.Files.{IsFileFault}
-use Rattle.planner_main.proofs.FilesRead.{task_told, plan_told, none_told}
+use Rattle.planner_main.proofs.FilesRead.{task_told, none_told, none_told_in}
 use Rattle.planner_main.proofs.verdict.validate_files.Goals as goal
 
 pub returns-in_err-task-clause-refused : goal.returns-in_err-task-clause-refused
@@ -16,18 +13,13 @@ returns-in_err-task-clause-taken c = λ task steps are.
     rw (p.1, p.2)
     (none_told c.args.domain.now c.args.problem.now c.args.plan.now _ (task_told c.args.domain.now c.args.problem.now c.args.plan.now _ c.in_err-task.ensures.refused) task steps are)
 
-pub returns-in-Err-clause-refused : goal.returns-in-Err-clause-refused
-returns-in-Err-clause-refused c =
-    subst (λ o. IfSome o (IsFileFault c.args.domain.now c.args.problem.now c.args.plan.now)) (sym c.of.ensures)
-    (plan_told c.args.domain.now c.args.problem.now c.args.plan.now _ c.in_ok-task.ensures.task (told_by c.in-Err.fault) c.in-Err.ensures.refused)
+pub returns-clause-verdict : goal.returns-clause-verdict
+returns-clause-verdict c = c.verdict_on.ensures.verdict c.args.domain.now c.args.problem.now c.in_ok-task.ensures.task
 
-pub returns-in-Err-clause-taken : goal.returns-in-Err-clause-taken
-returns-in-Err-clause-taken c = λ task steps are.
-    c.of.ensures
-    ∙ none_told c.args.domain.now c.args.problem.now c.args.plan.now _
-    (plan_told c.args.domain.now c.args.problem.now c.args.plan.now _ c.in_ok-task.ensures.task (told_by c.in-Err.fault) c.in-Err.ensures.refused) task steps are
+pub returns-clause-refused : goal.returns-clause-refused
+returns-clause-refused c = c.verdict_on.ensures.refused c.args.domain.now c.args.problem.now c.in_ok-task.ensures.task
 
-pub returns-in_err-validate-clause-taken : goal.returns-in_err-validate-clause-taken
-returns-in_err-validate-clause-taken c = λ task steps are.
-    let p = err_from_is_err_and c.from_residual-in_err-validate.result c.from_residual-in_err-validate.ensures.1 in
-    rw (p.1, p.2) refl
+pub returns-clause-taken : goal.returns-clause-taken
+returns-clause-taken c = λ task steps are.
+    none_told_in c.args.domain.now c.args.problem.now c.args.plan.now c.verdict_on.result
+    (c.verdict_on.ensures.refused c.args.domain.now c.args.problem.now c.in_ok-task.ensures.task) task steps are
