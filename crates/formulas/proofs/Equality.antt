@@ -10,11 +10,11 @@ use Rattle.std.specs.FinSet.{contains, from_list}
 use Rattle.formulas.specs.declared.state.State as code_state
 use Rattle.typing.specs.declared.atoms.Atom.{Atom}
 use Rattle.typing.specs.declared.atoms.ObjectId.{ObjectId}
-use Rattle.formulas.specs.contracts.state.StatePartialEq.TheImpl as state_impl
 use Rattle.typing.specs.contracts.atoms.AtomPartialEq.TheImpl as atom_impl
 use Rattle.typing.specs.contracts.atoms.ObjectIdPartialEq.TheImpl as object_impl
 use Rattle.typing.specs.TaskParts.{atom_of, object_of}
 use Rattle.formulas.specs.State.{state_of}
+use Rattle.formulas.specs.Equality.{are_equal}
 use Rattle.formulas.proofs.States.{model_cmp, contains_in_model, atom_at}
 use Rattle.model.proofs.Atoms.{atoms_total, atoms_apart}
 
@@ -24,7 +24,7 @@ atom_eq = (atom_impl.ghosts).eq
 
 -- `==` of the code's states
 abbrev pub state_eq : code_state.State → code_state.State → Bool
-state_eq = (state_impl.ghosts).eq
+state_eq = are_equal
 
 -- ---- what passes the code's test is one in the model
 

@@ -1,16 +1,14 @@
 -- What it means that an instance is the task's, and where it leads.
-use Rattle.std.specs.Prelude.{◌≡◌, ℕ, ◌≤◌, true, false, ◌&&◌, ◌==◌, nat_le, List, length, map, slice_get, IsTrue, Option, None, Some, if◌then◌else◌, cond, refl}
-use Rattle.std.proofs.Common.{sym, ◌∙◌, ap, subst, arith, eq-eqb}
+use Rattle.std.specs.Prelude.{◌≡◌, ℕ, true, false, ◌&&◌, ◌==◌, List, length, map, slice_get, IsTrue, None, Some, if◌then◌else◌, cond}
+use Rattle.std.proofs.Common.{sym, ◌∙◌, ap, subst, eq-eqb}
 use Rattle.std.specs.Cmp.{first_so, second_so, unsigned_Decides}
 use Rattle.std.specs.List.{list_all}
 use Rattle.std.specs.Option.{option_map, option_map_or, option_and_then}
-use Rattle.std.proofs.lemmas.Bool.Decides.{nat_tests}
-use Rattle.std.proofs.lemmas.Option.{none-some, same_Some}
 use Rattle.std.proofs.Math.ListN.{length-map}
 use Rattle.typing.specs.declared.atoms.ObjectId.{ObjectId}
 use Rattle.typing.specs.TaskParts.{object_of, shape_of_schema}
 use Rattle.model.specs.Task as task
-use Rattle.model.specs.WellTyped.{max_variables, is_object, is_task, is_schema, is_formula, is_effect}
+use Rattle.model.specs.WellTyped.{is_object, is_task, is_formula, is_effect}
 use Rattle.model.specs.Meaning.{State, fits, is_instance, step, holds, after_changes, changes_of}
 use Rattle.typing.proofs.Shapes.{Shape, found, typed_schema}
 use Rattle.model.proofs.Tests.{passes_map}

@@ -1,12 +1,10 @@
 -- What a well-typed task says of its parts.
-use Rattle.std.specs.Prelude.{◌≡◌, ℕ, ◌+◌, ◌≤◌, ◌<◌, Bool, true, false, ◌&&◌, nat_le, ◌==◌, List, [], ◌∷◌, ◌++◌, length, map, take, slice_get, IsTrue, Some, refl}
+use Rattle.std.specs.Prelude.{◌≡◌, ℕ, ◌+◌, ◌≤◌, ◌<◌, true, nat_le, ◌==◌, List, [], ◌∷◌, ◌++◌, length, map, take, IsTrue, refl}
 use Rattle.std.proofs.Common.{zero, suc, sym, ◌∙◌, ap, subst, get_or, arith, true≢false}
 use Rattle.std.specs.Cmp.{first_so, second_so}
 use Rattle.std.specs.List.{list_all}
 use Rattle.std.proofs.lemmas.Bool.Decides.{nat_tests}
-use Rattle.std.proofs.lemmas.Option.{none-some, same_Some}
 use Rattle.std.proofs.lemmas.List.{take_all, take_more, map-append}
-use Rattle.std.proofs.lemmas.List.Folds.{list_all_more, list_all_at}
 use Rattle.std.proofs.Math.ListN.{length-map}
 use Rattle.typing.specs.declared.atoms.ObjectId.{ObjectId}
 use Rattle.typing.specs.declared.atoms.Term.{Term}

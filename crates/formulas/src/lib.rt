@@ -4,6 +4,7 @@
 mod change;
 mod fluents;
 mod instance;
+mod laws;
 mod plan;
 mod state;
 mod truth;
@@ -11,6 +12,7 @@ mod truth;
 pub use change::apply;
 pub use fluents::{is_atom, is_fluent, is_fluent_atom};
 pub use instance::{Binding, Instance, is_instance};
+pub use laws::one_state;
 pub use plan::{MAX_STEPS, Plan};
 pub use state::State;
 pub use truth::{holds, meets_goal};

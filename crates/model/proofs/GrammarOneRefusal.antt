@@ -1,6 +1,6 @@
 -- At most one fault is told of words, and none of a file: the first word with which no file goes on is one, and one
 -- number is true of it.
-use Rattle.std.proofs.Common.{◌≡◌, ℕ, ◌⊎◌, inl, inr, Bool, true, false, List, [], ◌∷◌, ◌++◌, refl, sym, ◌∙◌, ap, subst}
+use Rattle.std.proofs.Common.{◌≡◌, ℕ, inl, inr, Bool, true, false, List, [], ◌∷◌, ◌++◌, refl, sym, ◌∙◌, ap, subst}
 use Rattle.std.proofs.lemmas.List.{map-append, append_assoc, append-nil}
 use Rattle.model.specs.Fault.{Fault}
 use Rattle.model.specs.Words.{Word, end_of}
@@ -8,26 +8,7 @@ use Rattle.model.specs.GrammarWords.{Token, token_of}
 use Rattle.model.specs.Refusals.{File, IsWhole, Begins, tokens_of, IsLine, left_out_form, IsTrueOf, IsRefused, at_word, at_end}
 use Rattle.model.proofs.GrammarLines.{is_left_out, line_stops}
 use Rattle.model.proofs.GrammarBegins.{fewer}
-
--- two places in one list: the same, or one before the other
-data Places (b c : List Word) (w x : Word) : Type 0 where
-  same : b ≡ c → w ≡ x → Places b c w x
-  first : (rest : List Word) → c ≡ b ++ w ∷ rest → Places b c w x
-  second : (rest : List Word) → b ≡ c ++ x ∷ rest → Places b c w x
-
-places : (b c r s : List Word) (w x : Word) → b ++ w ∷ r ≡ c ++ x ∷ s → Places b c w x
-places [] [] r s w x e = same refl (cc)
-places [] (y ∷ c) r s w x e = first c (let head : w ≡ y = cc in ap (λ z. z ∷ c) (sym head))
-places (y ∷ b) [] r s w x e = second b (let head : y ≡ x = cc in ap (λ z. z ∷ b) head)
-places (y ∷ b) (z ∷ c) r s w x e = by_rest (places b c r s w x (cc))
-  where
-    head : y ≡ z
-    head = cc
-
-    by_rest : Places b c w x → Places (y ∷ b) (z ∷ c) w x
-    by_rest (same p q) = same (cc) q
-    by_rest (first rest p) = first rest (cc)
-    by_rest (second rest p) = second rest (cc)
+use Rattle.model.proofs.Places.{Places, at_one, stands_before, stands_after, places}
 
 -- words with which a file begins have no word before their end with which none goes on
 goes_on : (file : File) (all before after : List Word) (word : Word) → all ≡ before ++ word ∷ after → Begins file (tokens_of all) → Begins file (tokens_of before ++ token_of word ∷ [])
@@ -58,11 +39,11 @@ pub one_refusal : (file : File) (words : List Word) (f g : Fault) → IsRefused 
 one_refusal file words f g (at_word b r w split begins dead line span) (at_word c s x other begin die rule place) = by_places (places b c r s w x (sym split ∙ other))
   where
     by_places : Places b c w x → f ≡ g
-    by_places (same p q) =
+    by_places (at_one p q) =
         let numbers : f.code ≡ g.code = one_number line (subst (λ y. IsTrueOf file (tokens_of y) (token_of w) g.code) (sym p) (subst (λ y. IsTrueOf file (tokens_of c) (token_of y) g.code) (sym q) rule)) in
         same_fault f g numbers (span ∙ ap (λ y. record { start = y.start; end = end_of y }) q ∙ sym place)
-    by_places (first rest p) = absurd (dead (goes_on file c b rest w p begin))
-    by_places (second rest p) = absurd (die (goes_on file b c rest x p begins))
+    by_places (stands_before rest p) = absurd (dead (goes_on file c b rest w p begin))
+    by_places (stands_after rest p) = absurd (die (goes_on file b c rest x p begins))
 one_refusal file words f g (at_word b r w split begins dead line span) (at_end all whole code place) = absurd (dead (goes_on file words b r w split all))
 one_refusal file words f g (at_end all whole code place) (at_word c s x other begin die rule span) = absurd (die (goes_on file words c s x other all))
 one_refusal file words f g (at_end all whole code span) (at_end other none number place) = same_fault f g (code ∙ sym number) (span ∙ sym place)

@@ -18,3 +18,4 @@ pub mod ExampleProofs
 pub mod CertificateRefusalsLemmas
 pub mod PlanReading
 pub mod PlanMeaning
+pub mod Places

@@ -10,8 +10,9 @@ use Rattle.model.specs.Words.{Part, form, bytes, size, AreParts, longest_text}
 use Rattle.model.specs.Trees.{Name}
 use Rattle.model.specs.Task.{Task, Schema, Instance}
 use Rattle.model.specs.Meaning.{is_instance, fits}
-use Rattle.model.specs.PlanText.{Placed, placed_from, is_gap, Step, AreSteps, HasSteps, IsFormFault, too_long, refused, open_at_end, IsNumberOf, IsDeclared, AreNumbersOf, schema_names, Means, AllMean, IsPlanText, IsStepFault, unknown_action, wrong_count, unknown_object, IsPlanFault, of_form, of_step}
+use Rattle.model.specs.PlanText.{Placed, placed_from, is_gap, Step, AreSteps, HasSteps, BeginsSteps, IsFormFault, too_long, refused, open_at_end, IsNumberOf, IsDeclared, AreNumbersOf, schema_names, Means, AllMean, IsPlanText, IsStepFault, unknown_action, wrong_count, unknown_object, IsPlanFault, of_form, of_step}
 use Rattle.model.proofs.PlanReading.{one_list}
+use Rattle.model.proofs.Places.{Places, at_one, stands_before, stands_after, places}
 
 -- A name has one number.
 one_number : (declared : List (List ℕ)) (name : Name) (a b : ℕ) → IsNumberOf declared name a → IsNumberOf declared name b → a ≡ b
@@ -132,6 +133,68 @@ few_steps text steps h =
     let c = h.short in
     omega (arith, a, b, c)
 
+-- What is told of a step, and of the form of a text, is one fault.
+same_fault : (f g : Fault) → f.code ≡ g.code → f.span ≡ g.span → f ≡ g
+same_fault f g code span = ap (λ c. let k : Fault = record { code = c; span = f.span } in k) code ∙ ap (λ s. let k : Fault = record { code = g.code; span = s } in k) span
+
+same_span : (a b : Span) → a.start ≡ b.start → a.end ≡ b.end → a ≡ b
+same_span a b start end = ap (λ n. let s : Span = record { start = n; end = a.end } in s) start ∙ ap (λ n. let s : Span = record { start = b.start; end = n } in s) end
+
+one_schema : (task : Task) (a b : ℕ) (s t : Schema) → a ≡ b → slice_get task.schemas a ≡ Some s → slice_get task.schemas b ≡ Some t → s ≡ t
+one_schema task a b s t same at there = let both : Some s ≡ Some t = sym at ∙ ap (slice_get task.schemas) same ∙ there in cc
+
+-- names that are declared have none among them that is not
+all_declared : (declared : List (List ℕ)) (all before after : List Name) (name : Name) (numbers : List ℕ) → AreNumbersOf declared all numbers → all ≡ before ++ name ∷ after → IsDeclared declared name
+all_declared declared all before after name numbers are split = each_declared declared before after name numbers (subst (λ names. AreNumbersOf declared names numbers) split are)
+
+one_name : (declared : List (List ℕ)) (b c r s : List Name) (w x : Name) (m n : List ℕ) → b ++ w ∷ r ≡ c ++ x ∷ s → AreNumbersOf declared b m → AreNumbersOf declared c n
+    → (IsDeclared declared w → ⊥) → (IsDeclared declared x → ⊥) → w ≡ x
+one_name declared b c r s w x m n e are be unknown not_known = by_places (places b c r s w x e)
+  where
+    by_places : Places b c w x → w ≡ x
+    by_places (at_one p q) = q
+    by_places (stands_before rest p) = absurd (unknown (all_declared declared c b rest w n be p))
+    by_places (stands_after rest p) = absurd (not_known (all_declared declared b c rest x m are p))
+
+one_step_fault : (task : Task) (step : Step) (f g : Fault) → IsStepFault task step f → IsStepFault task step g → f ≡ g
+one_step_fault task step f g (unknown_action none code span) (unknown_action never number place) = same_fault f g (code ∙ sym number) (span ∙ sym place)
+one_step_fault task step f g (unknown_action none code span) (wrong_count k s is at differs number place) = absurd (none (k, is))
+one_step_fault task step f g (unknown_action none code span) (unknown_object k s is at counts b a name ns split are never number place) = absurd (none (k, is))
+one_step_fault task step f g (wrong_count k s is at differs code span) (unknown_action none number place) = absurd (none (k, is))
+one_step_fault task step f g (wrong_count k s is at differs code span) (wrong_count l t be there counted number place) = same_fault f g (code ∙ sym number) (span ∙ sym place)
+one_step_fault task step f g (wrong_count k s is at differs code span) (unknown_object l t be there counts b a name ns split are never number place) =
+    let schemas = one_schema task l k t s (one_number (schema_names task) step.action l k be is) there at in
+    absurd (differs (counts ∙ ap (λ (x : Schema). x.parameters) schemas))
+one_step_fault task step f g (unknown_object k s is at counts b a name ns split are never code span) (unknown_action none number place) = absurd (none (k, is))
+one_step_fault task step f g (unknown_object k s is at counts b a name ns split are never code span) (wrong_count l t be there differs number place) =
+    let schemas = one_schema task k l s t (one_number (schema_names task) step.action k l is be) at there in
+    absurd (differs (counts ∙ ap (λ (x : Schema). x.parameters) schemas))
+one_step_fault task step f g (unknown_object k s is at counts b a name ns split are never code span) (unknown_object l t be there count c d other ms parts were none number place) =
+    let names = one_name task.objects b c a d name other ns ms (sym split ∙ parts) are were never none in
+    same_fault f g (code ∙ sym number) (span ∙ ap (λ (n : Name). n.span) names ∙ sym place)
+
+-- steps that mean instances have none among them that is at fault
+all_mean : (task : Task) (all before after : List Step) (step : Step) (plan : List Instance) (fault : Fault) → AllMean task all plan → all ≡ before ++ step ∷ after → IsStepFault task step fault → ⊥
+all_mean task all before after step plan fault mean split wrong =
+    let here = each_means task before after step plan (subst (λ steps. AllMean task steps plan) split mean) in
+    means_no_fault task step here.0 fault here.1 wrong
+
+one_first_fault : (task : Task) (b c r s : List Step) (w x : Step) (m n : List Instance) (f g : Fault) → b ++ w ∷ r ≡ c ++ x ∷ s → AllMean task b m → AllMean task c n
+    → IsStepFault task w f → IsStepFault task x g → f ≡ g
+one_first_fault task b c r s w x m n f g e mean meant wrong bad = by_places (places b c r s w x e)
+  where
+    by_places : Places b c w x → f ≡ g
+    by_places (at_one p q) = one_step_fault task w f g wrong (subst (λ y. IsStepFault task y g) (sym q) bad)
+    by_places (stands_before rest p) = absurd (all_mean task c b rest w n f meant p wrong)
+    by_places (stands_after rest p) = absurd (all_mean task b c rest x m g mean p bad)
+
+-- words with which a plan text begins have no word before their end with which none goes on
+goes_on : (all before after : List Placed) (word : Placed) → all ≡ before ++ word ∷ after → BeginsSteps all → BeginsSteps (before ++ word ∷ [])
+goes_on all before after word split (more, steps, are) =
+    let shorter : all ++ more ≡ (before ++ word ∷ []) ++ (after ++ more) =
+    ap (λ ws. ws ++ more) (split ∙ sym (append_assoc before (word ∷ []) after)) ∙ append_assoc (before ++ word ∷ []) after more in
+    (after ++ more, steps, subst (λ ws. AreSteps ws steps) shorter are)
+
 -- Laws of plan texts, where a text is cut into parts in one way.
 module _ (text : List ℕ) (one_cut : (a b : List Part) → AreParts text a → AreParts text b → a ≡ b) where
   pub one_steps : (steps others : List Step) → HasSteps text steps → HasSteps text others → steps ≡ others
@@ -160,3 +223,31 @@ module _ (text : List ℕ) (one_cut : (a b : List Part) → AreParts text a → 
       let same = one_steps steps others has had ∙ are in
       let here = each_means task before after step plan (subst (λ ss. AllMean task ss plan) same mean) in
       means_no_fault task step here.0 fault here.1 wrong
+
+  -- of the form one fault is told
+  one_form_fault : (a b : Span) → IsFormFault text a → IsFormFault text b → a ≡ b
+  one_form_fault a b (too_long long start end) (too_long over from to) = same_span a b (start ∙ sym from) (end ∙ sym to)
+  one_form_fault a b (too_long long start end) (refused short parts cut before after word split begins dead from to) = absurd (omega arith)
+  one_form_fault a b (too_long long start end) (open_at_end short parts cut begins none from to) = absurd (omega arith)
+  one_form_fault a b (refused short parts cut before after word split begins dead start end) (too_long over from to) = absurd (omega arith)
+  one_form_fault a b (refused short parts cut before after word split begins dead start end) (refused brief others cuts earlier later other is begin die from to) =
+      by_places (places before earlier after later word other (sym split ∙ ap (placed_from 0) (one_cut parts others cut cuts) ∙ is))
+    where
+      by_places : Places before earlier word other → a ≡ b
+      by_places (at_one p q) = same_span a b (start ∙ ap (λ (w : Placed). w.start) q ∙ sym from) (end ∙ ap (λ (w : Placed). w.start + size w.part) q ∙ sym to)
+      by_places (stands_before rest p) = absurd (dead (goes_on earlier before rest word p begin))
+      by_places (stands_after rest p) = absurd (die (goes_on before earlier rest other p begins))
+  one_form_fault a b (refused short parts cut before after word split begins dead start end) (open_at_end brief others cuts begin none from to) =
+      absurd (dead (goes_on (placed_from 0 others) before after word (ap (placed_from 0) (one_cut others parts cuts cut) ∙ split) begin))
+  one_form_fault a b (open_at_end short parts cut begins none start end) (too_long over from to) = absurd (omega arith)
+  one_form_fault a b (open_at_end short parts cut begins none start end) (refused brief others cuts earlier later other is begin die from to) =
+      absurd (die (goes_on (placed_from 0 parts) earlier later other (ap (placed_from 0) (one_cut parts others cut cuts) ∙ is) begins))
+  one_form_fault a b (open_at_end short parts cut begins none start end) (open_at_end brief others cuts begin never from to) = same_span a b (start ∙ sym from) (end ∙ sym to)
+
+  -- at most one fault is told of a text
+  pub one_fault : (task : Task) (fault other : Fault) → IsPlanFault task text fault → IsPlanFault task text other → fault ≡ other
+  one_fault task fault other (of_form span code) (of_form place number) = same_fault fault other (code ∙ sym number) (one_form_fault fault.span other.span span place)
+  one_fault task fault other (of_form span code) (of_step steps b r step plan has are mean wrong) = absurd (no_form_fault steps fault.span has span)
+  one_fault task fault other (of_step steps b r step plan has are mean wrong) (of_form span code) = absurd (no_form_fault steps other.span has span)
+  one_fault task fault other (of_step steps b r step plan has are mean wrong) (of_step others c s last list had be meant bad) =
+      one_first_fault task b c r s step last plan list fault other (sym are ∙ one_steps steps others has had ∙ be) mean meant wrong bad

@@ -14,7 +14,7 @@ use Rattle.model.specs.Task.{Task, Schema, Instance}
 use Rattle.model.specs.Typing.{folded, is_same}
 use Rattle.model.specs.Meaning.{fits}
 use Rattle.model.specs.PlanText.{Step, HasSteps, IsNumberOf, AreNumbersOf, schema_names, Means, AllMean, IsStepFault, unknown_action, wrong_count, unknown_object, IsPlanText, IsPlanFault, of_form, of_step}
-use Rattle.model.proofs.PlanMeaning.{numbers_length, numbers_push, all_mean_push, plan_length, few_steps, one_reading, no_fault}
+use Rattle.model.proofs.PlanMeaning.{numbers_length, numbers_push, all_mean_push, plan_length, few_steps, one_reading, no_fault, one_fault}
 use Rattle.tokens.proofs.Cut.{cut_unique}
 use Rattle.plan_file.specs.PlanFile.{IsUnknownObject, IsFirstFault, IsRefusedForm}
 
@@ -155,6 +155,9 @@ one_list_of_instances task text plan other = one_reading text (one_cut text) tas
 
 pub no_fault_of_plan : (task : Task) (text : List ℕ) (plan : List Instance) (fault : Fault) → IsPlanText task text plan → IsPlanFault task text fault → ⊥
 no_fault_of_plan task text plan fault = no_fault text (one_cut text) task plan fault
+
+pub one_fault_of_text : (task : Task) (text : List ℕ) (fault other : Fault) → IsPlanFault task text fault → IsPlanFault task text other → fault ≡ other
+one_fault_of_text task text fault other = one_fault text (one_cut text) task fault other
 
 pub none_of_plan : (task : Task) (text : List ℕ) (o : Option Fault) → IfSome o (IsPlanFault task text) → (plan : List Instance) → IsPlanText task text plan → o ≡ None
 none_of_plan task text o h plan is =

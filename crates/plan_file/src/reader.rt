@@ -1,11 +1,12 @@
 //! From a plan text to the plan.
-ghost use Rattle.std.specs.Prelude.{◌≡◌, List, IsTrue, IfOk, IfErr, IfSome, None, ℕ};
+ghost use Rattle.std.specs.Prelude.{◌≡◌, ◌<◌, List, IsTrue, IfOk, IfErr, IsErrAnd, IfSome, None, Some, ℕ, length};
 ghost use Rattle.std.specs.List.{list_all};
 ghost use Rattle.faults.specs.Fault.{told_by};
 ghost use Rattle.typing.specs.Task.{task_of};
 ghost use Rattle.formulas.specs.State.{plan_of};
 ghost use Rattle.model.specs.Meaning.{is_instance};
 ghost use Rattle.model.specs.PlanText.{IsPlanText, IsPlanFault};
+ghost use Rattle.model.specs.Words.{longest_text};
 ghost use Rattle.model.specs.Task as model;
 ghost use Rattle.model.specs.Fault as told;
 
@@ -26,7 +27,19 @@ use typing::Task;
 /// refused: code 30. A text that ends in a step is refused at its end, and one over 16,777,216 bytes at what is over.
 /// Then the steps are taken in order: 32 at an action that is not declared, 33 at the action where the count of objects
 /// is not that of its parameters, 34 at the first object that is not declared. `NoMemory` is answered only where memory
-/// that was asked for was refused.
+/// that was asked for was refused; a text over 16,777,216 bytes is refused before any is asked for.
+///
+/// # Examples
+/// For a task with the action `go` of two parameters and the objects `a` and `b`, the text `(go a b) ; there` is a plan
+/// of one step, and `(go a B)(GO b a)` one of two:
+///
+/// ```
+/// let plan = read_plan(alloc, &task, b"(go a B)(GO b a)")?;
+/// assert_eq!(rt; plan.steps().len(), 2);
+/// ```
+///
+/// `(go a b` is refused by `PlanForm` at `7..7`, `(fly a b)` by `UnknownAction` at `1..4`, `(go a)` by `StepArity` at
+/// `1..3`, and `(go a c)` by `StepType` at `6..7`.
 pub fn read_plan(alloc: Global, task: &Task, text: &[u8]) -> Result<Plan, Fault>
     ensures plan { IfOk result (λ plan. IsPlanText (task_of task.now) text.now (plan_of plan)) }
     ensures instances { IfOk result (λ plan. IsTrue (list_all (is_instance (task_of task.now)) (plan_of plan))) }
@@ -35,6 +48,10 @@ pub fn read_plan(alloc: Global, task: &Task, text: &[u8]) -> Result<Plan, Fault>
     // A text that is a plan for the task is never refused: the only error is want of memory.
     ensures taken { (plan : List model.Instance) → IsPlanText (task_of task.now) text.now plan
         → IfErr result (λ fault. told_by fault ≡ None) }
+
+    // A text that is too long is refused for that, and never for want of memory.
+    ensures too_long { longest_text < length text.now → IsErrAnd result (λ fault. told_by fault
+        ≡ Some (record { code = 30; span = record { start = longest_text; end = length text.now } })) }
 {
     let steps = steps_of(alloc, text)?;
     let instances = instances_of(alloc, task, &steps)?;
@@ -49,4 +66,10 @@ pub fn one_plan()
         → IsPlanText task text plan → IsPlanText task text other → plan ≡ other }
     ensures none { (task : model.Task) (text : List ℕ) (plan : List model.Instance) (fault : told.Fault)
         → IsPlanText task text plan → IsPlanFault task text fault → ⊥ }
+{}
+
+/// Of a text at most one fault is told for a task. It is stated of all texts, and proved; the call does nothing.
+pub fn one_fault()
+    ensures { (task : model.Task) (text : List ℕ) (fault other : told.Fault)
+        → IsPlanFault task text fault → IsPlanFault task text other → fault ≡ other }
 {}

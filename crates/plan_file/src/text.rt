@@ -1,8 +1,9 @@
 //! The form of a plan text.
-ghost use Rattle.std.specs.Prelude.{◌≡◌, map, IfOk, IfErr, IfSome};
+ghost use Rattle.std.specs.Prelude.{◌≡◌, ◌<◌, map, length, IfOk, IfErr, IsErrAnd, IfSome, Some};
 ghost use Rattle.faults.specs.Fault.{told_by};
 ghost use Rattle.plan_file.specs.PlanFile.{step_of, IsRefusedForm};
 ghost use Rattle.model.specs.PlanText.{HasSteps};
+ghost use Rattle.model.specs.Words.{longest_text};
 
 use crate::word::{Sort, Word, refusal};
 use faults::{Code, Fault};
@@ -97,6 +98,8 @@ impl<'a> Step<'a> {
 pub(super) fn steps_of<'a>(alloc: Global, text: &'a [u8]) -> Result<Vec<Step<'a>>, Fault>
     ensures steps { IfOk result (λ steps. HasSteps text.now (map step_of steps.items)) }
     ensures refused { IfErr result (λ fault. IfSome (told_by fault) (IsRefusedForm text.now)) }
+    ensures too_long { longest_text < length text.now → IsErrAnd result (λ fault. told_by fault
+        ≡ Some (record { code = 30; span = record { start = longest_text; end = length text.now } })) }
 {
     if text.len() > LONGEST_TEXT {
         return Err(refusal(Code::PlanForm, LONGEST_TEXT, text.len()));

@@ -1,14 +1,14 @@
 //! From a text to its words.
-ghost use Rattle.std.specs.Prelude.{◌≡◌, ◌+◌, ◌<◌, ◌≤◌, ◌^◌, false, length, map, IfOk, IfErr, IfSome, Some, None};
+ghost use Rattle.std.specs.Prelude.{◌≡◌, ◌+◌, ◌<◌, ◌≤◌, ◌^◌, false, length, map, IfOk, IfErr, IsErrAnd, IfSome, Some, None};
 ghost use Rattle.std.specs.Option.{option_map};
 ghost use Rattle.faults.specs.Fault.{number_of, told_by};
 ghost use Rattle.tokens.specs.Word.{word_of};
-ghost use Rattle.model.specs.Words.{ReadsAs, Reads, IsTold};
+ghost use Rattle.model.specs.Words.{longest_text, ReadsAs, Reads, IsTold};
 
-use faults::{Code, Fault, Refusal, Span};
 use crate::form::{Form, part_end};
 use crate::run::kind_of_run;
 use crate::word::{Kind, Word};
+use faults::{Code, Fault, Refusal, Span};
 use std::alloc::Global;
 
 /// How many bytes a text may have.
@@ -37,13 +37,31 @@ const DEEPEST: usize = 64;
 /// - `TooLong`: a run over 255 bytes.
 /// - `Trailing`: a word after the parenthesis that closed the first list.
 ///
-/// `NoMemory` is answered only where memory that was asked for was refused.
+/// `NoMemory` is answered only where memory that was asked for was refused; a text over 16,777,216 bytes is refused before
+/// any is asked for.
+///
+/// # Examples
+/// `(at ?x) ; here` has four words:
+///
+/// ```
+/// let words = scan(alloc, b"(at ?x) ; here")?;
+/// assert_eq!(rt; words.len(), 4);
+/// assert_eq!(rt; words[2].kind(), Kind::Variable);
+/// assert_eq!(rt; words[2].text(), b"?x");
+/// assert_eq!(rt; words[2].span(), Span { start: 4, end: 6 });
+/// ```
+///
+/// `(at a) b` is refused by `Trailing` at `7..8`, and `(at` by `Unbalanced` at `3..3`.
 pub fn scan(alloc: Global, text: &[u8]) -> Result<Vec<Word<'_>>, Fault>
     ensures words { IfOk result (λ words. ReadsAs text.now (map word_of words.items)) }
     ensures refused { IfErr result (λ fault. IfSome (told_by fault) (IsTold text.now)) }
 
     // A text that reads as words is never refused: the only error is want of memory.
     ensures taken { Reads text.now → IfErr result (λ fault. told_by fault ≡ None) }
+
+    // A text that is too long is refused for that, and never for want of memory.
+    ensures too_long { longest_text < length text.now → IsErrAnd result (λ fault. told_by fault
+        ≡ Some (record { code = 5; span = record { start = longest_text; end = length text.now } })) }
 {
     if text.len() > LONGEST_TEXT {
         return Err(refusal(Code::TooLong, LONGEST_TEXT, text.len()));
@@ -179,4 +197,3 @@ impl Nesting {
         }
     }
 }
-

@@ -51,4 +51,5 @@ returns c =
     record {
       steps = tt;
       refused = end_refused c.args.text.now c.words.at (place_of c.words.place) (map step_of c.words.steps.items) short (c.in_default.ensures.word (place_of c.words.place)) c.words.invariant.keeps left (told_by c.refusal-in-Opened.result) c.refusal-in-Opened.ensures;
+      too_long = λ long. absurd (omega (arith, short));
     }
