@@ -1,5 +1,5 @@
 -- The code's task and the faults that it tells, in the model's terms.
-use Rattle.std.specs.Prelude.{◌≡◌, List}
+use Rattle.std.specs.Prelude.{List}
 use Rattle.faults.specs.Fault.{number_of}
 use Rattle.typing.specs.declared.task.Task.{Task}
 use Rattle.typing.specs.declared.fault.TaskFile.{TaskFile}

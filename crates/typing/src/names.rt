@@ -16,7 +16,7 @@ pub(crate) struct Names {
     ghost few_objects: { length objects.keys ≤ 65535 },
 }
 
-/// Where a problem begins and ends.
+/// What a problem states: where it begins, and what is to be reached.
 #[derive(Drop)]
 pub(crate) struct Start {
     pub(crate) init: Vec<Atom>,
@@ -52,7 +52,7 @@ impl Names {
         })
     }
 
-    /// What the problem states of the names: where it begins, and its goal.
+    /// What the problem states, with numbers for the names.
     pub(crate) fn stated(&self, alloc: Global, problem: &Problem<'_>) -> Result<Start, TaskFault>
         ensures ok { IfOk result
             (λ s. (stated_faults (known_by self.now) (problem_of problem.now) ≡ [])
