@@ -50,6 +50,14 @@ pub enum Outcome<A, S> {
 /// Of that order, the contract of `next_waiting` says that it gives the state found first of those that cost least;
 /// that this is the one to be expanded or answered, and that states are found in the order of the successors, is
 /// shown by tests alone.
+///
+/// ```text
+/// match best_first(alloc, &system, store, 1_000_000)? {
+///     Outcome::Found { steps, cost, states } => ..,
+///     Outcome::Exhausted { states } => ..,
+///     Outcome::States => ..,
+/// }
+/// ```
 pub fn best_first<T: TransitionSystem, S: StateStore<T>>(
     alloc: Global,
     system: &T,
