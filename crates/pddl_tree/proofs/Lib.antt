@@ -3,3 +3,4 @@ pub mod ReadOn
 pub mod Rows
 pub mod SectionLooks
 pub mod Told
+pub mod Heads

@@ -10,7 +10,7 @@ use Rattle.pddl_words.specs.declared.ahead.Head.TheVariants as head
 use Rattle.pddl_words.specs.Ahead.{token, from, rest_of, opens_first, closes_first, name_first, variable_first, term_first, head_first, head_of, head_by, HeadView, and_head, not_head, predicate_head, other_head}
 use Rattle.pddl_words.specs.Refusal.{code_first}
 
-rest-drop : (n : ℕ) (w : List Token) → rest_of (drop n w) ≡ drop (suc n) w
+pub rest-drop : (n : ℕ) (w : List Token) → rest_of (drop n w) ≡ drop (suc n) w
 rest-drop zero [] = refl
 rest-drop zero (t ∷ w) = refl
 rest-drop (suc n) [] = refl

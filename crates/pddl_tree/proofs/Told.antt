@@ -17,7 +17,7 @@ use Rattle.model.specs.GrammarMachine.{run, start, domain_tree, problem_tree, fi
 use Rattle.model.proofs.GrammarMeaning.{file_meaning}
 use Rattle.model.proofs.GrammarRefusals.{refused_at, whole_run}
 
-same_tokens : (words : List Word) → map token words ≡ tokens_of (map word_of words)
+pub same_tokens : (words : List Word) → map token words ≡ tokens_of (map word_of words)
 same_tokens [] = refl
 same_tokens (w ∷ words) = ap (λ ts. token w ∷ ts) (same_tokens words)
 

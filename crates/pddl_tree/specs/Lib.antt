@@ -1,3 +1,4 @@
 pub mod Tree
 pub mod Reading
 pub mod Sections
+pub mod Head

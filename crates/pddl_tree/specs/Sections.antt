@@ -12,6 +12,8 @@ use Rattle.pddl_tree.specs.declared.domain_file.DomainSections.{DomainSections}
 use Rattle.pddl_tree.specs.declared.problem_file.Section as problem_file
 use Rattle.pddl_tree.specs.declared.problem_file.Section.TheVariants as of_problem
 use Rattle.pddl_tree.specs.declared.problem_file.ProblemSections.{ProblemSections}
+use Rattle.pddl_tree.specs.declared.problem_file.SectionRead.{SectionRead}
+use Rattle.pddl_tree.specs.declared.problem_file.SectionRead.TheVariants as of_reading
 use Rattle.pddl_tree.specs.Tree.{name_of, formula_of, effect_of, predicate_of, action_of, fact_of}
 use Rattle.pddl_words.specs.Ahead.{from}
 use Rattle.pddl_words.specs.Refusal.{WordFault, code_first}
@@ -73,6 +75,14 @@ abbrev pub problem_section_first : List Token → Option machine.ProblemSection
 problem_section_first (keyword k ∷ w) = problem_section_of k
 problem_section_first _ = None
 
+-- the sections with what was read of one more
+abbrev pub with_section : SectionRead → grammar.ProblemSections → grammar.ProblemSections
+with_section (of_reading.Domain n) s = machine.set_domain s (name_of n)
+with_section of_reading.Requirements s = machine.set_problem_requirements s
+with_section (of_reading.Objects v) s = machine.set_objects s (map name_of v.items)
+with_section (of_reading.Init v) s = machine.set_init s (map fact_of v.items)
+with_section (of_reading.Goal f) s = machine.set_goal s (formula_of f)
+
 -- the name that says which file it is
 abbrev pub kind_of : File → Label
 kind_of domain_file = free domain
@@ -104,8 +114,8 @@ ProblemGoesOn words at s next t = (n : Name) → run (from words at) (wants_prob
 abbrev pub ProblemStops : List Word → ℕ → grammar.ProblemSections → WordFault → Type 0
 ProblemStops words at s refusal = (n : Name) → StopsAs words at (wants_problem_sections n s) refusal
 
-abbrev pub ProblemSectionEnds : List Word → ℕ → machine.ProblemSection → grammar.ProblemSections → ℕ → grammar.ProblemSections → Type 0
-ProblemSectionEnds words at section s next t = (n : Name) → run (from words at) (after_problem_keyword n section s) ≡ run (from words next) (wants_problem_sections n t)
+abbrev pub ProblemSectionEnds : List Word → ℕ → machine.ProblemSection → ℕ → (grammar.ProblemSections → grammar.ProblemSections) → Type 0
+ProblemSectionEnds words at section next with = (n : Name) (s : grammar.ProblemSections) → run (from words at) (after_problem_keyword n section s) ≡ run (from words next) (wants_problem_sections n (with s))
 
-abbrev pub ProblemSectionStops : List Word → ℕ → machine.ProblemSection → grammar.ProblemSections → WordFault → Type 0
-ProblemSectionStops words at section s refusal = (n : Name) → StopsAs words at (after_problem_keyword n section s) refusal
+abbrev pub ProblemSectionStops : List Word → ℕ → machine.ProblemSection → WordFault → Type 0
+ProblemSectionStops words at section refusal = (n : Name) (s : grammar.ProblemSections) → StopsAs words at (after_problem_keyword n section s) refusal

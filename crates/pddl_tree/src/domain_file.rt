@@ -1,6 +1,7 @@
 //! The file of a domain.
 ghost use Rattle.std.specs.Prelude.{◌≡◌, ◌<◌, IfOk, IfErr, OnSome, length, map, true, false};
 ghost use Rattle.std.specs.Option.{option_map};
+ghost use Rattle.faults.specs.declared.refused.Refused.TheVariants.{At};
 ghost use Rattle.model.specs.Grammar.{no_domain_sections};
 ghost use Rattle.model.specs.GrammarMachine.{wants_predicates, wants_predicate, domain_section_of, has_domain_section};
 ghost use Rattle.pddl_words.specs.Ahead.{from, opens_first};
@@ -11,6 +12,7 @@ ghost use Rattle.pddl_tree.specs.Tree.{predicate_of};
 
 use crate::action::action;
 use crate::lists::variables;
+use crate::refusal::refusal_at;
 use crate::tree::{Action, Predicate};
 use faults::{Code, Refused};
 use pddl_words::{
@@ -118,11 +120,13 @@ fn section_rest<'a>(
     ensures told { IfErr result (λ refusal. DomainSectionStops words.now at (domain_section_view section) (domain_sections_of sections.entry) refusal) }
 {
     match section {
-        Section::Requirements => {
-            let next = requirements(words, at)?;
-            sections.requirements = true;
-            Ok((sections, next))
-        }
+        Section::Requirements => match requirements(words, at) {
+            Ok(next) => {
+                sections.requirements = true;
+                Ok((sections, next))
+            }
+            Err(refusal) => Err(Refused::At(refusal)),
+        },
         Section::Predicates => {
             let (predicates, next) = predicates(alloc, words, at)?;
             sections.predicates = Some(predicates);
@@ -137,25 +141,25 @@ fn section_rest<'a>(
 }
 
 /// Keys of requirements, and `)`: the index after it. The keys switch nothing on or off.
-pub(crate) fn requirements(words: &[Word], at: usize) -> Result<usize, WordFault>
+pub(crate) fn requirements(words: &[Word], at: usize) -> Result<usize, WordRefusal>
     ensures after { IfOk result (λ next. at < next) }
     ensures read { IfOk result (λ next. KeysEnd words.now at next) }
-    ensures told { IfErr result (λ refusal. KeysStop words.now at refusal) }
+    ensures told { IfErr result (λ refusal. KeysStop words.now at (At refusal)) }
 {
     let mut next = at;
     'keys: while let Some(keyword) = keyword_at(words, next) {
         if keyword != Keyword::Requirement {
-            return Err(Refused::At(WordRefusal {
+            return Err(WordRefusal {
                 code: Code::UnknownRequirement,
                 at: next,
-            }));
+            });
         }
         next += 1;
     }
     if is_close(words, next) {
         Ok(next + 1)
     } else {
-        Err(refused(words, next))
+        Err(refusal_at(words, next))
     }
 }
 

@@ -8,6 +8,7 @@ mod formulas;
 mod lists;
 mod problem_file;
 mod reader;
+mod refusal;
 mod tree;
 
 pub use pddl_words::{Name, Term};

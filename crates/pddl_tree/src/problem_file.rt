@@ -1,18 +1,20 @@
 //! The file of a problem.
 ghost use Rattle.std.specs.Prelude.{◌≡◌, ◌<◌, IfOk, IfErr, OnSome, length, map, true, false};
 ghost use Rattle.std.specs.Option.{option_map};
+ghost use Rattle.faults.specs.declared.refused.Refused.TheVariants.{At};
 ghost use Rattle.model.specs.Grammar.{no_problem_sections};
 ghost use Rattle.model.specs.Refusals.{is_full};
 ghost use Rattle.model.specs.GrammarMachine.{wants_name, wants_close, wants_open, wants_formula, wants_facts, wants_fact, problem_section_of, has_problem_section};
 ghost use Rattle.pddl_words.specs.Ahead.{from, opens_first};
 ghost use Rattle.pddl_tree.specs.Reading.{IsRead, IsTold};
-ghost use Rattle.pddl_tree.specs.Sections.{problem_section_view, problem_sections_of, problem_section_first, ProblemGoesOn, ProblemStops, ProblemSectionEnds, ProblemSectionStops};
+ghost use Rattle.pddl_tree.specs.Sections.{problem_section_view, problem_sections_of, problem_section_first, with_section, ProblemGoesOn, ProblemStops, ProblemSectionEnds, ProblemSectionStops};
 ghost use Rattle.pddl_words.specs.Symbol.{keyword_view};
 ghost use Rattle.pddl_tree.specs.Tree.{name_of, fact_of, formula_of};
 
 use crate::domain_file::requirements;
 use crate::formulas::formula;
 use crate::lists::names;
+use crate::refusal::refusal_at;
 use crate::tree::{Fact, Formula};
 use faults::{Code, Refused};
 use pddl_words::{
@@ -48,6 +50,16 @@ impl Section {
     }
 }
 
+/// What was read of a section.
+#[derive(Drop)]
+enum SectionRead<'a> {
+    Domain(Name<'a>),
+    Requirements,
+    Objects(Vec<Name<'a>>),
+    Init(Vec<Fact<'a>>),
+    Goal(Formula<'a>),
+}
+
 /// The sections of a problem that were read so far.
 #[derive(Drop)]
 pub(crate) struct ProblemSections<'a> {
@@ -58,7 +70,20 @@ pub(crate) struct ProblemSections<'a> {
     pub(crate) goal: Option<Formula<'a>>,
 }
 
-impl ProblemSections<'_> {
+impl<'a> ProblemSections<'a> {
+    /// Takes in what was read of a section.
+    fn add(&mut self, read: SectionRead<'a>)
+        ensures { problem_sections_of self.new ≡ with_section read.entry (problem_sections_of self.old) }
+    {
+        match read {
+            SectionRead::Domain(domain) => self.domain = Some(domain),
+            SectionRead::Requirements => self.requirements = true,
+            SectionRead::Objects(objects) => self.objects = Some(objects),
+            SectionRead::Init(init) => self.init = Some(init),
+            SectionRead::Goal(goal) => self.goal = Some(goal),
+        }
+    }
+
     /// Whether this section was read.
     fn has(&self, section: Section) -> bool
         ensures { result ≡ has_problem_section (problem_sections_of self.now) (problem_section_view section) }
@@ -124,67 +149,61 @@ pub(crate) fn problem_sections<'a>(
                 at: next + 1,
             }));
         }
-        let (more, after) = section_rest(alloc, words, next + 2, section, sections)?;
-        sections = more;
+        let (read, after) = section_rest(alloc, words, next + 2, section)?;
+        sections.add(read);
         next = after;
     }
     Ok((sections, next))
 }
 
-/// A section whose keyword was read: the sections with it, and the index after it.
+/// A section whose keyword was read: what was read of it, and the index after it.
 fn section_rest<'a>(
     alloc: Global,
     words: &[Word<'a>],
     at: usize,
     section: Section,
-    mut sections: ProblemSections<'a>,
-) -> Result<(ProblemSections<'a>, usize), WordFault>
+) -> Result<(SectionRead<'a>, usize), WordFault>
     ensures after { IfOk result (λ r. at < r.1) }
-    ensures read { IfOk result (λ r. ProblemSectionEnds words.now at (problem_section_view section) (problem_sections_of sections.entry) r.1 (problem_sections_of r.0)) }
-    ensures told { IfErr result (λ refusal. ProblemSectionStops words.now at (problem_section_view section) (problem_sections_of sections.entry) refusal) }
+    ensures read { IfOk result (λ r. ProblemSectionEnds words.now at (problem_section_view section) r.1 (with_section r.0)) }
+    ensures told { IfErr result (λ refusal. ProblemSectionStops words.now at (problem_section_view section) refusal) }
 {
     match section {
-        Section::Domain => {
-            let (domain, next) = domain_name(words, at)?;
-            sections.domain = Some(domain);
-            Ok((sections, next))
-        }
-        Section::Requirements => {
-            let next = requirements(words, at)?;
-            sections.requirements = true;
-            Ok((sections, next))
-        }
+        Section::Domain => match domain_name(words, at) {
+            Ok((domain, next)) => Ok((SectionRead::Domain(domain), next)),
+            Err(refusal) => Err(Refused::At(refusal)),
+        },
+        Section::Requirements => match requirements(words, at) {
+            Ok(next) => Ok((SectionRead::Requirements, next)),
+            Err(refusal) => Err(Refused::At(refusal)),
+        },
         Section::Objects => {
             let (objects, next) = names(alloc, words, at)?;
-            sections.objects = Some(objects);
-            Ok((sections, next))
+            Ok((SectionRead::Objects(objects), next))
         }
         Section::Init => {
             let (init, next) = facts(alloc, words, at)?;
-            sections.init = Some(init);
-            Ok((sections, next))
+            Ok((SectionRead::Init(init), next))
         }
         Section::Goal => {
             let (goal, next) = goal(alloc, words, at)?;
-            sections.goal = Some(goal);
-            Ok((sections, next))
+            Ok((SectionRead::Goal(goal), next))
         }
     }
 }
 
 /// A name, and `)`: the name, and the index after the parenthesis.
-fn domain_name<'a>(words: &[Word<'a>], at: usize) -> Result<(Name<'a>, usize), WordFault>
+fn domain_name<'a>(words: &[Word<'a>], at: usize) -> Result<(Name<'a>, usize), WordRefusal>
     ensures after { IfOk result (λ r. at < r.1) }
     ensures read { IfOk result (λ r. IsRead (λ k. wants_name (λ n. wants_close (k n))) (from words.now at) (name_of r.0) (from words.now r.1)) }
-    ensures told { IfErr result (λ refusal. IsTold (λ k. wants_name (λ n. wants_close (k n))) words.now at refusal) }
+    ensures told { IfErr result (λ refusal. IsTold (λ k. wants_name (λ n. wants_close (k n))) words.now at (At refusal)) }
 {
     let Some(name) = name_at(words, at) else {
-        return Err(refused(words, at));
+        return Err(refusal_at(words, at));
     };
     if is_close(words, at + 1) {
         Ok((name, at + 2))
     } else {
-        Err(refused(words, at + 1))
+        Err(refusal_at(words, at + 1))
     }
 }
 

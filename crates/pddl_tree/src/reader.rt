@@ -1,7 +1,16 @@
 //! From words to trees.
-ghost use Rattle.std.specs.Prelude.{◌≡◌, List, map, IfOk, IfErr, IfSome, None, Some, [], unwrap_or};
+//!
+//! A file is read as by a deterministic pushdown automaton, with the calls of the reader for its stack: the next word
+//! alone decides what is done, and none is looked at twice. It has the viable-prefix property: the words that were gone
+//! through begin a file, so the first word that is refused is the first with which no file goes on
+//! (`model/specs/GrammarMachine.antt` is the automaton, `GrammarBegins` in its proofs the property). Two things differ from
+//! the textbook's. A state holds what was read beside what is wanted: it is a function from the tree that comes next to
+//! the state after it, so that the run ends in the tree; and which sections stand already is part of it, since they stand
+//! at most once and in any order. And a stop tells which line of a table of refusals is true of the word.
+ghost use Rattle.std.specs.Prelude.{◌≡◌, List, map, IfOk, IfErr, IsErrAnd, IfSome, IsSome, None, Some, [], unwrap_or};
 ghost use Rattle.std.specs.Option.{option_map};
 ghost use Rattle.faults.specs.Fault.{told_by};
+ghost use Rattle.faults.specs.declared.refused.Refused.TheVariants.{At};
 ghost use Rattle.tokens.specs.Word.{word_of};
 ghost use Rattle.model.specs.Fault as model;
 ghost use Rattle.model.specs.Words as text;
@@ -11,6 +20,7 @@ ghost use Rattle.model.specs.GrammarMachine.{run, start, finished, Tree, wants_n
 ghost use Rattle.pddl_words.specs.Ahead.{from};
 ghost use Rattle.model.specs.Refusals.{span_of_place};
 ghost use Rattle.pddl_tree.specs.Reading.{StopsAs};
+ghost use Rattle.pddl_tree.specs.Head.{HasHead, HasNoHead};
 ghost use Rattle.pddl_words.specs.Refusal.{told, fault_of, missing_code};
 ghost use Rattle.pddl_words.specs.Symbol.{label_view};
 ghost use Rattle.pddl_tree.specs.Sections.{kind_of};
@@ -18,6 +28,7 @@ ghost use Rattle.pddl_tree.specs.Tree.{name_of, domain_of, problem_of};
 
 use crate::domain_file::{DomainSections, domain_sections};
 use crate::problem_file::{ProblemSections, problem_sections};
+use crate::refusal::refusal_at;
 use crate::tree::{Domain, Problem};
 use faults::{Code, Fault, Refusal, Refused, Span};
 use pddl_words::{
@@ -39,15 +50,35 @@ use tokens::Word;
 /// - `MissingSection`: the `)` of the file without `:predicates`, or of an action without `:parameters`.
 /// - `BadForm`: any other word.
 ///
-/// `NoMemory` says nothing about the words.
+/// `NoMemory` says nothing about the words. The head, `( define ( domain NAME )`, is read before any memory is asked for.
+///
+/// # Examples
+/// The words of `(define (domain d) (:predicates (at ?x)))` are a domain of one predicate and no action:
+///
+/// ```
+/// let words = scan(alloc, b"(define (domain d) (:predicates (at ?x)))")?;
+/// let tree = domain(alloc, &words)?;
+/// assert_eq!(rt; tree.name.text, b"d");
+/// assert_eq!(rt; tree.predicates.len(), 1);
+/// ```
+///
+/// `(define (domain d))` is refused by `MissingSection` at its last `)`, `18..19`, and `(define (domain))` by `BadForm`
+/// at `15..16`.
 pub fn domain<'a>(alloc: Global, words: &[Word<'a>]) -> Result<Domain<'a>, Fault>
     ensures tree { IfOk result (λ tree. IsDomain (tokens_of (map word_of words.now)) (domain_of tree)) }
     ensures refused { IfErr result (λ fault. IfSome (told_by fault) (IsRefused domain_file (map word_of words.now))) }
 
     // Words that are a domain are never refused: the only error is want of memory.
     ensures taken { IsWhole domain_file (tokens_of (map word_of words.now)) → IfErr result (λ fault. told_by fault ≡ None) }
+
+    // Words that stop within the head are refused for that, and never for want of memory.
+    ensures head { HasNoHead domain_file (tokens_of (map word_of words.now)) → IsErrAnd result (λ fault. IsSome (told_by fault)) }
 {
-    match read_domain(alloc, words) {
+    let name = match head(words, Label::Domain) {
+        Ok(name) => name,
+        Err(refusal) => return Err(fault(words, Refused::At(refusal))),
+    };
+    match read_domain(alloc, words, name) {
         Ok(domain) => Ok(domain),
         Err(refusal) => Err(fault(words, refusal)),
     }
@@ -56,14 +87,32 @@ pub fn domain<'a>(alloc: Global, words: &[Word<'a>]) -> Result<Domain<'a>, Fault
 /// The problem that the words are: the whole file, in the words of its text.
 ///
 /// Refusals are those of [`domain`]; `MissingSection` is told at the `)` of a file without `:domain`, `:init` or `:goal`.
+///
+/// # Examples
+/// The words of `(define (problem p) (:domain d) (:init (at a)) (:goal (at a)))` are a problem of one fact:
+///
+/// ```
+/// let words = scan(alloc, b"(define (problem p) (:domain d) (:init (at a)) (:goal (at a)))")?;
+/// let tree = problem(alloc, &words)?;
+/// assert_eq!(rt; tree.init.len(), 1);
+/// ```
+///
+/// `(define (problem p) (:domain d) (:domain d))` is refused by `RepeatedSection` at the second `:domain`, `33..40`.
 pub fn problem<'a>(alloc: Global, words: &[Word<'a>]) -> Result<Problem<'a>, Fault>
     ensures tree { IfOk result (λ tree. IsProblem (tokens_of (map word_of words.now)) (problem_of tree)) }
     ensures refused { IfErr result (λ fault. IfSome (told_by fault) (IsRefused problem_file (map word_of words.now))) }
 
     // Words that are a problem are never refused: the only error is want of memory.
     ensures taken { IsWhole problem_file (tokens_of (map word_of words.now)) → IfErr result (λ fault. told_by fault ≡ None) }
+
+    // Words that stop within the head are refused for that, and never for want of memory.
+    ensures head { HasNoHead problem_file (tokens_of (map word_of words.now)) → IsErrAnd result (λ fault. IsSome (told_by fault)) }
 {
-    match read_problem(alloc, words) {
+    let name = match head(words, Label::Problem) {
+        Ok(name) => name,
+        Err(refusal) => return Err(fault(words, Refused::At(refusal))),
+    };
+    match read_problem(alloc, words, name) {
         Ok(problem) => Ok(problem),
         Err(refusal) => Err(fault(words, refusal)),
     }
@@ -111,12 +160,15 @@ fn span_at(words: &[Word], at: usize) -> Span
     Span { start: end, end }
 }
 
-/// The domain that the words are, or the refused word.
-fn read_domain<'a>(alloc: Global, words: &[Word<'a>]) -> Result<Domain<'a>, WordFault>
-    ensures read { IfOk result (λ tree. run (from words.now 0) (start domain_file) ≡ finished (domain_tree (domain_of tree))) }
-    ensures told { IfErr result (λ refusal. StopsAs words.now 0 (start domain_file) refusal) }
+/// The domain of this name that the words after the head are, or the refused word.
+fn read_domain<'a>(
+    alloc: Global,
+    words: &[Word<'a>],
+    name: Name<'a>,
+) -> Result<Domain<'a>, WordFault>
+    ensures read { IfOk result (λ tree. run (from words.now 6) (at_sections domain_file (name_of name.entry)) ≡ finished (domain_tree (domain_of tree))) }
+    ensures told { IfErr result (λ refusal. StopsAs words.now 6 (at_sections domain_file (name_of name.entry)) refusal) }
 {
-    let name = head(words, Label::Domain)?;
     let (sections, next) = domain_sections(alloc, words, 6)?;
     if !is_close(words, next) {
         return Err(refused(words, next));
@@ -132,20 +184,25 @@ fn read_domain<'a>(alloc: Global, words: &[Word<'a>]) -> Result<Domain<'a>, Word
             at: next,
         }));
     };
-    end(words, next + 1)?;
-    Ok(Domain {
-        name,
-        predicates,
-        actions,
-    })
+    match end(words, next + 1) {
+        Ok(()) => Ok(Domain {
+            name,
+            predicates,
+            actions,
+        }),
+        Err(refusal) => Err(Refused::At(refusal)),
+    }
 }
 
-/// The problem that the words are, or the refused word.
-fn read_problem<'a>(alloc: Global, words: &[Word<'a>]) -> Result<Problem<'a>, WordFault>
-    ensures read { IfOk result (λ tree. run (from words.now 0) (start problem_file) ≡ finished (problem_tree (problem_of tree))) }
-    ensures told { IfErr result (λ refusal. StopsAs words.now 0 (start problem_file) refusal) }
+/// The problem of this name that the words after the head are, or the refused word.
+fn read_problem<'a>(
+    alloc: Global,
+    words: &[Word<'a>],
+    name: Name<'a>,
+) -> Result<Problem<'a>, WordFault>
+    ensures read { IfOk result (λ tree. run (from words.now 6) (at_sections problem_file (name_of name.entry)) ≡ finished (problem_tree (problem_of tree))) }
+    ensures told { IfErr result (λ refusal. StopsAs words.now 6 (at_sections problem_file (name_of name.entry)) refusal) }
 {
-    let name = head(words, Label::Problem)?;
     let (sections, next) = problem_sections(alloc, words, 6)?;
     if !is_close(words, next) {
         return Err(refused(words, next));
@@ -170,14 +227,16 @@ fn read_problem<'a>(alloc: Global, words: &[Word<'a>]) -> Result<Problem<'a>, Wo
     let Some(goal) = goal else {
         return Err(missing);
     };
-    end(words, next + 1)?;
-    Ok(Problem {
-        name,
-        domain,
-        objects: objects_from(alloc, objects),
-        init,
-        goal,
-    })
+    match end(words, next + 1) {
+        Ok(()) => Ok(Problem {
+            name,
+            domain,
+            objects: objects_from(alloc, objects),
+            init,
+            goal,
+        }),
+        Err(refusal) => Err(Refused::At(refusal)),
+    }
 }
 
 /// The objects of a problem; none where `:objects` does not stand there.
@@ -191,13 +250,14 @@ fn objects_from<'a>(alloc: Global, found: Option<Vec<Name<'a>>>) -> Vec<Name<'a>
 }
 
 /// `( define ( domain NAME )`, or `problem` in place of `domain`: the name.
-fn head<'a>(words: &[Word<'a>], kind: Label) -> Result<Name<'a>, WordFault>
+fn head<'a>(words: &[Word<'a>], kind: Label) -> Result<Name<'a>, WordRefusal>
+    ensures head { (file : File) → label_view kind ≡ kind_of file → IfOk result (λ _. HasHead file (from words.now 0)) }
     ensures read { (file : File) → label_view kind ≡ kind_of file → IfOk result (λ name.
         run (from words.now 0) (start file) ≡ run (from words.now 6) (at_sections file (name_of name))) }
-    ensures told { (file : File) → label_view kind ≡ kind_of file → IfErr result (λ refusal. StopsAs words.now 0 (start file) refusal) }
+    ensures told { (file : File) → label_view kind ≡ kind_of file → IfErr result (λ refusal. StopsAs words.now 0 (start file) (At refusal)) }
 {
     if !is_open(words, 0) {
-        return Err(refused(words, 0));
+        return Err(refusal_at(words, 0));
     }
     if !is_label(words, 1, Label::Define) {
         return Err(refused_in_file(words, 1));
@@ -206,38 +266,38 @@ fn head<'a>(words: &[Word<'a>], kind: Label) -> Result<Name<'a>, WordFault>
         return Err(refused_in_file(words, 2));
     }
     if !is_label(words, 3, kind) {
-        return Err(refused(words, 3));
+        return Err(refusal_at(words, 3));
     }
     let Some(name) = name_at(words, 4) else {
-        return Err(refused(words, 4));
+        return Err(refusal_at(words, 4));
     };
     if is_close(words, 5) {
         Ok(name)
     } else {
-        Err(refused(words, 5))
+        Err(refusal_at(words, 5))
     }
 }
 
 /// The refusal of a word in the file's list before its sections: `)`, since they are missing, or any other.
-fn refused_in_file(words: &[Word], at: usize) -> WordFault
-    ensures { told result ≡ Some (missing_code (from words.now at), at) }
+fn refused_in_file(words: &[Word], at: usize) -> WordRefusal
+    ensures { told (At result) ≡ Some (missing_code (from words.now at), at) }
 {
     if is_close(words, at) {
-        return Refused::At(WordRefusal {
+        return WordRefusal {
             code: Code::MissingSection,
             at,
-        });
+        };
     }
-    refused(words, at)
+    refusal_at(words, at)
 }
 
 /// No word stands at this index.
-fn end(words: &[Word], at: usize) -> Result<(), WordFault>
+fn end(words: &[Word], at: usize) -> Result<(), WordRefusal>
     ensures none { IfOk result (λ _. from words.now at ≡ []) }
-    ensures told { IfErr result (λ refusal. (tree : Tree) → StopsAs words.now at (wants_nothing tree) refusal) }
+    ensures told { IfErr result (λ refusal. (tree : Tree) → StopsAs words.now at (wants_nothing tree) (At refusal)) }
 {
     if at < words.len() {
-        Err(refused(words, at))
+        Err(refusal_at(words, at))
     } else {
         Ok(())
     }

@@ -17,5 +17,5 @@ pub returns-else-is_close-clause-told : goal.returns-else-is_close-clause-told
 returns-else-is_close-clause-told c =
     let words = c.args.words.now in let at = c.args.at in
     let n = name_of c.in-Some.name in
-    on_place (λ k. wants_name (λ n. wants_close (k n))) words at (at + 1) _ (code_first (from words (at + 1))) c.refused-else-is_close.ensures
+    on_place (λ k. wants_name (λ n. wants_close (k n))) words at (at + 1) _ (code_first (from words (at + 1))) c.refusal_at-else-is_close.ensures
     (λ k. name_more (from words at) n (λ m. wants_close (k m)) c.in-Some.ensures.first ∙ stepped words at (wants_close (k n)) ∙ close_stop (from words (at + 1)) (k n) (search rules))

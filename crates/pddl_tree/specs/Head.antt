@@ -1,0 +1,16 @@
+-- The head of a file: `( define ( domain NAME )`, or `problem` in place of `domain`.
+use Rattle.std.specs.Prelude.{ℕ, ◌<◌, ◌≤◌, ◌⊎◌, List, length, take}
+use Rattle.model.specs.GrammarWords.{Token}
+use Rattle.model.specs.Refusals.{File, Begins}
+
+-- the words of a head
+abbrev pub head_length : ℕ
+head_length = 6
+
+-- a file of this kind begins with so many of the words
+abbrev pub HasHead : File → List Token → Type 0
+HasHead file w = (head_length ≤ length w) × Begins file (take head_length w)
+
+-- the words end within the head, or no file of this kind begins with so many of them
+abbrev pub HasNoHead : File → List Token → Type 0
+HasNoHead file w = (length w < head_length) ⊎ (Begins file (take head_length w) → ⊥)
