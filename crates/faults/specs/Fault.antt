@@ -1,5 +1,5 @@
 -- The codes' numbers, and what a fault tells in the model's terms.
-use Rattle.std.specs.Prelude.{ℕ, Option, None, Some}
+use Rattle.std.specs.Prelude.{ℕ, ◌==◌, if◌then◌else◌, List, [], ◌∷◌, codes, Option, None, Some}
 use Rattle.faults.specs.declared.code.Code.{Code}
 use Rattle.faults.specs.declared.code.Code.TheVariants.{BadByte, BadWord, Unbalanced, TooDeep, TooLong, Trailing, BadForm, UnknownSection, RepeatedSection, MissingSection, UnknownRequirement, LeftOut, Duplicate, UnknownName, WrongArity, DomainMismatch, TooMany, PlanForm, UnknownAction, StepArity, StepType}
 use Rattle.faults.specs.declared.refused.Refusal.{Refusal}
@@ -29,6 +29,37 @@ number_of PlanForm = 30
 number_of UnknownAction = 32
 number_of StepArity = 33
 number_of StepType = 34
+
+-- the names of the codes, by their numbers
+abbrev pub names : List (ℕ × List ℕ)
+names =
+    (1, codes "BadByte") ∷
+    (2, codes "BadWord") ∷
+    (3, codes "Unbalanced") ∷
+    (4, codes "TooDeep") ∷
+    (5, codes "TooLong") ∷
+    (6, codes "Trailing") ∷
+    (7, codes "BadForm") ∷
+    (8, codes "UnknownSection") ∷
+    (9, codes "RepeatedSection") ∷
+    (10, codes "MissingSection") ∷
+    (11, codes "UnknownRequirement") ∷
+    (12, codes "LeftOut") ∷
+    (16, codes "Duplicate") ∷
+    (17, codes "UnknownName") ∷
+    (18, codes "WrongArity") ∷
+    (21, codes "DomainMismatch") ∷
+    (25, codes "TooMany") ∷
+    (30, codes "PlanForm") ∷
+    (32, codes "UnknownAction") ∷
+    (33, codes "StepArity") ∷
+    (34, codes "StepType") ∷
+    []
+
+-- the name of this number in a list of names
+abbrev pub name_in : List (ℕ × List ℕ) → ℕ → List ℕ
+name_in [] number = codes ""
+name_in ((n, name) ∷ rest) number = if n == number then name else name_in rest number
 
 -- what a refusal tells
 abbrev pub refusal_of : Refusal → told.Fault
