@@ -160,6 +160,27 @@ impl<D> FailsAt<D> {
     }
 }
 
+impl<S: Source> FailsAt<S> {
+    /// The same as a source of which no read has failed yet.
+    pub fn source(inner: S, reads_before: Option<u64>) -> FailsAt<S>
+        ensures failures { ⟦<FailsAt<S> as Source>⟧.failures result ≡ 0 }
+        ensures remaining { ⟦<FailsAt<S> as Source>⟧.remaining result ≡ S.remaining inner }
+    {
+        FailsAt {
+            inner,
+            calls_before: reads_before,
+            failures: 0,
+        }
+    }
+
+    /// How often a read of it has failed.
+    pub fn failed_reads(&self) -> u64
+        ensures { result ≡ ⟦<FailsAt<S> as Source>⟧.failures self.now }
+    {
+        self.failures
+    }
+}
+
 impl<S: Source> Source for FailsAt<S> {
     ghost failures = { λ device. device.failures };
 

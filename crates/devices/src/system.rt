@@ -31,6 +31,26 @@ impl<T> Device<T> {
     }
 }
 
+impl<R: Read> Device<R> {
+    /// A source of which no read has failed yet.
+    pub fn source(reader: R) -> Device<R>
+        ensures failures { ⟦<Device<R> as Source>⟧.failures result ≡ 0 }
+        ensures remaining { ⟦<Device<R> as Source>⟧.remaining result ≡ R.remaining reader }
+    {
+        Device {
+            inner: reader,
+            failures: 0,
+        }
+    }
+
+    /// How often a read of it has failed.
+    pub fn failed_reads(&self) -> u64
+        ensures { result ≡ ⟦<Device<R> as Source>⟧.failures self.now }
+    {
+        self.failures
+    }
+}
+
 impl<R: Read> Source for Device<R> {
     ghost failures = { λ device. device.failures };
 

@@ -1,7 +1,7 @@
 -- What the words of the program are, and what it tells of them.
 use Rattle.std.proofs.Common.{◌≡◌, ℕ, ◌^◌, ◌<◌, ◌≤◌, ◌⊎◌, inl, inr, List, [], ◌∷◌, length, codes, get_or, take, drop, refl, sym, ap, ◌∙◌, subst, arith}
 use Rattle.std.proofs.lemmas.Bool.Decides.{nat_tests}
-use Rattle.std.specs.Prelude.{Option, None, Some, IfSome, is_some, true, false, ◌&&◌}
+use Rattle.std.specs.Prelude.{Result, Ok, Err, Option, None, Some, IfSome, is_some, true, false, ◌&&◌}
 use Rattle.std.specs.Str.Parse.{IsNumeral, without_leading_plus, digits_value}
 use Rattle.solver.specs.Limit.{is_limit}
 use Rattle.solver.specs.declared.limits.Limits.{Limits}
@@ -14,7 +14,15 @@ use Rattle.planner_main.specs.declared.report.Failure.{Failure}
 use Rattle.planner_main.specs.declared.report.Failure.TheVariants as failure
 use Rattle.planner_main.specs.declared.task_file.FileFault.TheVariants as refusal
 use Rattle.devices.specs.declared.device.WriteFault.TheVariants as device
-use Rattle.planner_main.specs.Program.{texts, AllowsStates, as_asked, AsksForVerdict, AsksForPlan, IsCommand, is_validate, is_solve, IsText, OnTwo, OnThree, IsAnswerText, IsAnswerFor, IsAnswer, Tells, a_verdict, an_answer, Refuses, a_verdict_refused, an_answer_refused, TellsFor, Asks, fault_in, IsFaultFor, failure_status}
+use Rattle.planner_main.specs.Program.{texts, AllowsStates, as_asked, AsksForVerdict, AsksForPlan, IsCommand, is_validate, is_solve, IsText, OnTwo, OnThree, IsAnswerText, IsAnswerFor, IsAnswer, Tells, TellsPartly, a_verdict, an_answer, Refuses, IsRefusedFor, a_verdict_refused, an_answer_refused, TellsFor, TellsPartlyFor, Asks, fault_in, IsFaultFor, failure_status, IsToldOn}
+use Rattle.planner_main.specs.declared.task_file.File.{File}
+use Rattle.planner_main.specs.declared.task_file.FileFault as file
+use Rattle.faults.specs.declared.code.Code.{Code}
+use Rattle.faults.specs.declared.refused.Span.{Span}
+use Rattle.planner_main.specs.Failures.{device_line, line_of_fault, no_memory_line}
+use Rattle.planner_main.specs.Files.{fault_at}
+use Rattle.devices.specs.declared.device.WriteFault.{WriteFault}
+use Rattle.devices.specs.Devices.{AppendsBeginning, CountsDevice, one_more}
 use Rattle.planner_main.specs.Report.{is_failure}
 use Rattle.planner_main.specs.Report as verdict
 use Rattle.planner_main.specs.Solution as answer
@@ -62,10 +70,25 @@ module _ (contents : List ℕ → Option (List ℕ)) (words : List (List ℕ)) w
       → Tells contents words before after status
   told_of_words before after command status asks (text, is, appended) = (text, answer_of_words command text status asks is, appended)
 
-  pub refused_of_words : (before after : Option (List ℕ)) (command : Command) (fault : FileFault) → Asks words command → IsFaultFor contents command fault → after ≡ before
-      → Refuses contents words before after
-  refused_of_words before after (Validate domain problem plan) fault asks is same = a_verdict_refused domain.now problem.now plan.now fault asks is same
-  refused_of_words before after (Solve domain problem limits) fault asks is same = an_answer_refused domain.now problem.now limits.states fault asks.0 is same
+  pub partly_of_words : (before after : Option (List ℕ)) (command : Command) → Asks words command → TellsPartlyFor contents command before after
+      → TellsPartly contents words before after
+  partly_of_words before after command asks (inl same) = inl same
+  partly_of_words before after command asks (inr (text, status, is, told)) = inr (text, status, answer_of_words command text status asks is, told)
+
+  refused_of_words : (command : Command) (fault : FileFault) → Asks words command → IsFaultFor contents command fault → IsRefusedFor contents words fault
+  refused_of_words (Validate domain problem plan) fault asks is = a_verdict_refused domain.now problem.now plan.now asks is
+  refused_of_words (Solve domain problem limits) fault asks is = an_answer_refused domain.now problem.now limits.states asks.0 is
+
+  -- The status of a text is told with the line of the fault that the failure is.
+  pub refuses_of_words : (out out_after err err_after : Option (List ℕ)) (command : Command) (f : Failure) (status : ℕ) → Asks words command
+      → IsToldOn f err err_after status → status ≡ 20 → IfSome (fault_in f) (λ fault. IsFaultFor contents command fault × (out_after ≡ out))
+      → Refuses contents words out out_after err err_after
+  refuses_of_words out out_after err err_after command (failure.Text (refusal.At file code span)) status asks (inl (is, line)) same (fault, kept) =
+      (fault_at file code span, refused_of_words command _ asks fault, kept, line)
+  refuses_of_words out out_after err err_after command (failure.Text refusal.NoMemory) status asks (inl (is, line)) same h = absurd (omega arith)
+  refuses_of_words out out_after err err_after command (failure.Device device.Device) status asks (inl (is, line)) same h = absurd (omega arith)
+  refuses_of_words out out_after err err_after command (failure.Device device.NoMemory) status asks (inl (is, line)) same h = absurd (omega arith)
+  refuses_of_words out out_after err err_after command f status asks (inr (is, line)) same h = absurd (omega arith)
 
 pub asked_is_command : (words : List (List ℕ)) (command : Command) → Asks words command → IsCommand words
 asked_is_command words (Validate domain problem plan) asks = is_validate domain.now problem.now plan.now asks
@@ -92,23 +115,53 @@ told_status contents (Solve domain problem limits) before after status (text, (d
 pub no_failure : (n status : ℕ) → is_failure status ≡ false → is_failure n ≡ true → status ≡ n → ⊥
 no_failure n status answers fails same = absurd (cc (ap is_failure same))
 
--- A failure has neither the status of words that are no command, nor that of a text where no text is refused.
-pub failed_status : (f : Failure) (status : ℕ) → (status ≡ failure_status f) ⊎ (status ≡ 22) → status ≡ 2 → ⊥
-failed_status (failure.Text (refusal.At file code span)) status (inl is) same = absurd (omega arith)
-failed_status (failure.Text refusal.NoMemory) status (inl is) same = absurd (omega arith)
-failed_status (failure.Device device.Device) status (inl is) same = absurd (omega arith)
-failed_status (failure.Device device.NoMemory) status (inl is) same = absurd (omega arith)
-failed_status f status (inr is) same = absurd (omega arith)
+-- What is told of a failure has its status: not that of words that are no command, and that of a device or of memory with its line.
+module _ (before after : Option (List ℕ)) (status : ℕ) where
+  pub failed_status : (f : Failure) → IsToldOn f before after status → status ≡ 2 → ⊥
+  failed_status (failure.Text (refusal.At file code span)) (inl (is, line)) same = absurd (omega arith)
+  failed_status (failure.Text refusal.NoMemory) (inl (is, line)) same = absurd (omega arith)
+  failed_status (failure.Device device.Device) (inl (is, line)) same = absurd (omega arith)
+  failed_status (failure.Device device.NoMemory) (inl (is, line)) same = absurd (omega arith)
+  failed_status f (inr (is, line)) same = absurd (omega arith)
 
-pub fault_of_status : (P : FileFault → Type 0) (f : Failure) (status : ℕ) → (status ≡ failure_status f) ⊎ (status ≡ 22) → status ≡ 20
-    → IfSome (fault_in f) P → (fault : FileFault) × P fault
-fault_of_status P (failure.Text (refusal.At file code span)) status is same h = (_, h)
-fault_of_status P (failure.Text refusal.NoMemory) status (inl is) same h = absurd (omega arith)
-fault_of_status P (failure.Device device.Device) status (inl is) same h = absurd (omega arith)
-fault_of_status P (failure.Device device.NoMemory) status (inl is) same h = absurd (omega arith)
-fault_of_status P (failure.Text refusal.NoMemory) status (inr is) same h = absurd (omega arith)
-fault_of_status P (failure.Device device.Device) status (inr is) same h = absurd (omega arith)
-fault_of_status P (failure.Device device.NoMemory) status (inr is) same h = absurd (omega arith)
+  pub device_told : (f : Failure) → IsToldOn f before after status → status ≡ 21
+      → (failure_status f ≡ 21) × AppendsBeginning before after device_line
+  device_told (failure.Text (refusal.At file code span)) (inl (is, line)) same = absurd (omega arith)
+  device_told (failure.Text refusal.NoMemory) (inl (is, line)) same = absurd (omega arith)
+  device_told (failure.Device device.Device) (inl (is, line)) same = (refl, line)
+  device_told (failure.Device device.NoMemory) (inl (is, line)) same = absurd (omega arith)
+  device_told f (inr (is, line)) same = absurd (omega arith)
+
+  pub memory_told : (f : Failure) → IsToldOn f before after status → status ≡ 22 → AppendsBeginning before after no_memory_line
+  memory_told (failure.Text (refusal.At file code span)) (inl (is, line)) same = absurd (omega arith)
+  memory_told (failure.Text refusal.NoMemory) (inl (is, line)) same = line
+  memory_told (failure.Device device.Device) (inl (is, line)) same = absurd (omega arith)
+  memory_told (failure.Device device.NoMemory) (inl (is, line)) same = line
+  memory_told f (inr (is, line)) same = line
+
+  -- The fault of a text is told as the failure that it is.
+  pub fault_told : (f : Failure) (t : file.FileFault) (named : File) (code : Code) (span : Span) → f ≡ failure.Text t → t ≡ refusal.At named code span
+      → ((status ≡ 20) × AppendsBeginning before after (line_of_fault (fault_at named code span))) ⊎ ((status ≡ 22) × AppendsBeginning before after no_memory_line)
+      → IsToldOn f before after status
+  fault_told f t named code span first second told = subst (λ f. IsToldOn f before after status) (sym (first ∙ ap failure.Text second)) told
+
+-- Only a device that failed has the status of one, and then the failure is counted.
+pub device_counted : (T : Type 0) (before after : ℕ) (fault : WriteFault) → CountsDevice {T = T} before after (Err fault)
+    → failure_status (failure.Device fault) ≡ 21 → after ≡ one_more before
+device_counted T before after device.Device counted same = counted
+device_counted T before after device.NoMemory counted same = absurd (omega arith)
+
+pub text_is_no_device : (fault : file.FileFault) → failure_status (failure.Text fault) ≡ 21 → ⊥
+text_is_no_device (refusal.At file code span) same = absurd (omega arith)
+text_is_no_device refusal.NoMemory same = absurd (omega arith)
+
+-- A failed read of a file that was opened counts once among the failures of the files.
+pub reading_counted : {T : Type 0} (before opened after input input_after : ℕ) (r : Result T WriteFault) → opened ≡ before → input ≡ 0
+    → CountsDevice input input_after r → (input_after ≡ 0 → after ≡ opened) → (0 < input_after → after ≡ one_more opened) → CountsDevice before after r
+reading_counted before opened after input input_after (Ok text) same fresh counted unfailed failed = unfailed (counted ∙ fresh) ∙ same
+reading_counted before opened after input input_after (Err device.Device) same fresh counted unfailed failed =
+    failed (omega (arith, counted, fresh)) ∙ ap one_more same
+reading_counted before opened after input input_after (Err device.NoMemory) same fresh counted unfailed failed = unfailed (counted ∙ fresh) ∙ same
 
 -- What is refused of the texts of files.
 module _ (contents : List ℕ → Option (List ℕ)) where

@@ -2,6 +2,8 @@
 use Rattle.std.specs.Prelude.{Option, None, Some}
 use Rattle.std.specs.Option.{option_map}
 use Rattle.faults.specs.Fault.{number_of}
+use Rattle.faults.specs.declared.code.Code.{Code}
+use Rattle.faults.specs.declared.refused.Span.{Span}
 use Rattle.faults.specs.declared.refused.Refused.TheVariants as refused
 use Rattle.typing.specs.Task.{TaskFault, file_of}
 use Rattle.planner_main.specs.declared.task_file.File.{File}
@@ -16,10 +18,13 @@ file_view Domain = model.the_domain
 file_view Problem = model.the_problem
 file_view Plan = model.the_plan
 
+-- this code, of what stands at this place of this file
+abbrev pub fault_at : File → Code → Span → model.FileFault
+fault_at file code span = record { file = file_view file; fault = record { code = number_of code; span = record { start = span.start; end = span.end } } }
+
 -- the fault that is told of the files, and None where it is want of memory
 abbrev pub told_in : FileFault → Option model.FileFault
-told_in (At file code span) =
-    Some (record { file = file_view file; fault = record { code = number_of code; span = record { start = span.start; end = span.end } } })
+told_in (At file code span) = Some (fault_at file code span)
 told_in NoMemory = None
 
 -- what is told of this file

@@ -1,4 +1,5 @@
 pub mod Report
+pub mod Failures
 pub mod Solution
 pub mod Files
 pub mod Program

@@ -1,5 +1,5 @@
 -- What the program does: what its words ask for, which texts its files have, and what it tells of them with which status.
-use Rattle.std.specs.Prelude.{◌≡◌, ℕ, ◌≤◌, List, [], ◌∷◌, codes, map, take, Option, None, IfSome}
+use Rattle.std.specs.Prelude.{◌≡◌, ℕ, ◌≤◌, ◌⊎◌, List, [], ◌∷◌, codes, map, take, Option, None, IfSome}
 use Rattle.std.specs.Borrow.{Bor}
 use Rattle.std.specs.Str.Parse.{IsNumeral, without_leading_plus, digits_value}
 use Rattle.std.specs.Io.KnownBytes.{Appends}
@@ -11,7 +11,9 @@ use Rattle.planner_main.specs.declared.report.Failure.{Failure}
 use Rattle.planner_main.specs.declared.report.Failure.TheVariants as failure
 use Rattle.planner_main.specs.declared.task_file.FileFault.TheVariants as refusal
 use Rattle.devices.specs.declared.device.WriteFault.TheVariants as device
-use Rattle.planner_main.specs.Files.{told_in}
+use Rattle.devices.specs.Devices.{AppendsBeginning, one_more}
+use Rattle.planner_main.specs.Failures.{line_of_fault, device_line, no_memory_line}
+use Rattle.planner_main.specs.Files.{fault_at, told_in}
 use Rattle.planner_main.specs.Report.{line_of}
 use Rattle.planner_main.specs.Report as verdict
 use Rattle.planner_main.specs.Solution.{text_of}
@@ -93,14 +95,26 @@ pub data IsAnswer (contents : List ℕ → Option (List ℕ)) (words : List (Lis
 abbrev pub Tells : (List ℕ → Option (List ℕ)) → List (List ℕ) → (before after : Option (List ℕ)) → ℕ → Type 0
 Tells contents words before after status = (text : List ℕ) × IsAnswer contents words text status × Appends before after text
 
--- The texts of the files that the words name are refused, and the standard output took nothing.
-pub data Refuses (contents : List ℕ → Option (List ℕ)) (words : List (List ℕ)) (before after : Option (List ℕ)) : Type 0 where
-  a_verdict_refused : (domain problem plan : List ℕ) (fault : FileFault) → AsksForVerdict words domain problem plan
-      → OnThree contents domain problem plan (λ d p l. IsFileFault d p l fault) → after ≡ before
-      → Refuses contents words before after
-  an_answer_refused : (domain problem : List ℕ) (states : ℕ) (fault : FileFault) → AsksForPlan words domain problem states
-      → OnTwo contents domain problem (λ d p. IsTaskFault d p fault) → after ≡ before
-      → Refuses contents words before after
+-- The standard output took nothing, or a beginning of the text of a true answer to what the words ask for.
+abbrev pub TellsPartly : (List ℕ → Option (List ℕ)) → List (List ℕ) → (before after : Option (List ℕ)) → Type 0
+TellsPartly contents words before after =
+    (after ≡ before) ⊎ ((text : List ℕ) × (status : ℕ) × IsAnswer contents words text status × AppendsBeginning before after text)
+
+-- The texts of the files that the words name are refused, and this fault is the first.
+pub data IsRefusedFor (contents : List ℕ → Option (List ℕ)) (words : List (List ℕ)) (fault : FileFault) : Type 0 where
+  a_verdict_refused : (domain problem plan : List ℕ) → AsksForVerdict words domain problem plan
+      → OnThree contents domain problem plan (λ d p l. IsFileFault d p l fault) → IsRefusedFor contents words fault
+  an_answer_refused : (domain problem : List ℕ) (states : ℕ) → AsksForPlan words domain problem states
+      → OnTwo contents domain problem (λ d p. IsTaskFault d p fault) → IsRefusedFor contents words fault
+
+-- The texts are refused: the standard output took nothing, and the standard error a beginning of the line of the fault.
+abbrev pub Refuses : (List ℕ → Option (List ℕ)) → List (List ℕ) → (out out_after err err_after : Option (List ℕ)) → Type 0
+Refuses contents words out out_after err err_after =
+    (fault : FileFault) × IsRefusedFor contents words fault × (out_after ≡ out) × AppendsBeginning err err_after (line_of_fault fault)
+
+-- a failure was counted of the files, or of the standard output
+abbrev pub HasFailed : (files files_after out out_after : ℕ) → Type 0
+HasFailed files files_after out out_after = (files_after ≡ one_more files) ⊎ (out_after ≡ one_more out)
 
 -- the same of what a command asks for, in the code's terms
 abbrev pub IsAnswerFor : (List ℕ → Option (List ℕ)) → Command → (text : List ℕ) → ℕ → Type 0
@@ -111,6 +125,10 @@ IsAnswerFor contents (Solve domain problem limits) text status =
 
 abbrev pub TellsFor : (List ℕ → Option (List ℕ)) → Command → (before after : Option (List ℕ)) → ℕ → Type 0
 TellsFor contents command before after status = (text : List ℕ) × IsAnswerFor contents command text status × Appends before after text
+
+abbrev pub TellsPartlyFor : (List ℕ → Option (List ℕ)) → Command → (before after : Option (List ℕ)) → Type 0
+TellsPartlyFor contents command before after =
+    (after ≡ before) ⊎ ((text : List ℕ) × (status : ℕ) × IsAnswerFor contents command text status × AppendsBeginning before after text)
 
 -- the words are this command
 abbrev pub Asks : List (List ℕ) → Command → Type 0
@@ -134,3 +152,17 @@ failure_status (failure.Text (refusal.At file code span)) = 20
 failure_status (failure.Text refusal.NoMemory) = 22
 failure_status (failure.Device device.Device) = 21
 failure_status (failure.Device device.NoMemory) = 22
+
+-- the line of a failure
+abbrev pub line_of_failure : Failure → List ℕ
+line_of_failure (failure.Text (refusal.At file code span)) = line_of_fault (fault_at file code span)
+line_of_failure (failure.Text refusal.NoMemory) = no_memory_line
+line_of_failure (failure.Device device.Device) = device_line
+line_of_failure (failure.Device device.NoMemory) = no_memory_line
+
+-- A failure is told with its status: known bytes grew by a beginning of its line. Where there was no memory for the line,
+-- that is told in its place.
+abbrev pub IsToldOn : Failure → (before after : Option (List ℕ)) → ℕ → Type 0
+IsToldOn failure before after status =
+    ((status ≡ failure_status failure) × AppendsBeginning before after (line_of_failure failure))
+    ⊎ ((status ≡ 22) × AppendsBeginning before after no_memory_line)

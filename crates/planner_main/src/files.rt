@@ -1,6 +1,6 @@
 //! Files by name: those of the machine, and a table of them in memory.
-ghost use Rattle.std.specs.Prelude.{◌≡◌, ℕ, List, Option, None, IfOk};
-ghost use Rattle.devices.specs.Devices.{CountsDevice, IsKept};
+ghost use Rattle.std.specs.Prelude.{◌≡◌, ℕ, ◌<◌, List, Option, None, IfOk};
+ghost use Rattle.devices.specs.Devices.{CountsDevice, IsKept, one_more};
 
 mod system;
 mod table;
@@ -23,10 +23,17 @@ pub trait Files {
     /// The bytes of the file of a name, where they are known.
     ghost contents: { Self → List ℕ → Option (List ℕ) } = { λ _ _. None };
 
-    /// Opens the file of this name for reading, from its first byte on.
+    /// Opens the file of this name for reading, from its first byte on. No read of it has failed yet.
     fn open(&mut self, name: &str) -> Result<Self::Input, WriteFault>
         ensures failures { CountsDevice (failures self.old) (failures self.new) result }
+        ensures fresh { IfOk result (λ input. Self.Input.failures input ≡ 0) }
         ensures bytes { IfOk result (λ input. IsKept (contents self.old name.now) (Self.Input.remaining input)) }
+        ensures kept { (other : List ℕ) → contents self.new other ≡ contents self.old other };
+
+    /// Ends the reading of a file. A file of which a read has failed is one failure.
+    fn finish(&mut self, input: Self::Input)
+        ensures unfailed { Self.Input.failures input ≡ 0 → failures self.new ≡ failures self.old }
+        ensures failed { 0 < Self.Input.failures input → failures self.new ≡ one_more (failures self.old) }
         ensures kept { (other : List ℕ) → contents self.new other ≡ contents self.old other };
 
     /// Makes an empty file of this name, in place of one that is there, and opens it for writing.

@@ -1,9 +1,10 @@
 //! The program.
-ghost use Rattle.std.specs.Prelude.{◌≡◌, ℕ, ◌+◌, ◌↔◌, ◌⊎◌, IfErr, IfOk, IfSome, IsTrue, List, length, take, vec_len};
+ghost use Rattle.std.specs.Prelude.{◌≡◌, ℕ, ◌+◌, ◌↔◌, ◌⊎◌, IfErr, IfOk, IfSome, IsTrue, List, false, length, vec_len};
+ghost use Rattle.planner_main.specs.Failures.{device_line, no_memory_line, usage};
 ghost use Rattle.planner_main.specs.Files.{told_in};
 ghost use Rattle.planner_main.specs.Report.{is_failure};
-ghost use Rattle.planner_main.specs.Program.{texts, IsCommand, IsText, OnTwo, OnThree, IsVerdictLine, IsSolutionText, IsVerdictText, IsAnswerText, IsAnswerFor, Tells, TellsFor, Refuses, IsFaultFor, fault_in};
-ghost use Rattle.devices.specs.Devices.{CountsDevice, IsReading, ReadsSome};
+ghost use Rattle.planner_main.specs.Program.{texts, IsCommand, IsText, OnTwo, OnThree, IsVerdictLine, IsSolutionText, IsVerdictText, IsAnswerText, IsAnswerFor, Tells, TellsFor, TellsPartly, TellsPartlyFor, Refuses, HasFailed, IsFaultFor, failure_status, fault_in};
+ghost use Rattle.devices.specs.Devices.{AppendsBeginning, CountsDevice, IsReading, ReadsSome, one_more};
 ghost use Rattle.model.specs.Files.{IsFileFault, IsTaskFault};
 
 mod command;
@@ -53,9 +54,20 @@ pub fn run<F: Files, O: Sink, E: Sink>(
     // What the words ask for is told, or the status says why not.
     ensures status { IsTrue (is_failure result)
         ⊎ Tells (F.contents files.old) (texts words.now) (O.taken out.old) (O.taken out.new) result }
+    ensures quiet { is_failure result ≡ false → E.taken err.new ≡ E.taken err.old }
+
     // The status of words that are no command is told exactly of these, and that of texts only where they are refused.
     ensures words { (result ≡ 2) ↔ (IsCommand (texts words.now) → ⊥) }
-    ensures refused { result ≡ 20 → Refuses (F.contents files.old) (texts words.now) (O.taken out.old) (O.taken out.new) }
+    ensures usage { result ≡ 2 → (O.taken out.new ≡ O.taken out.old) × AppendsBeginning (E.taken err.old) (E.taken err.new) usage }
+    ensures refused { result ≡ 20 → Refuses (F.contents files.old) (texts words.now)
+        (O.taken out.old) (O.taken out.new) (E.taken err.old) (E.taken err.new) }
+
+    // The status of a device is told only where one failed. An answer may have been told in part.
+    ensures device { result ≡ 21 → HasFailed (F.failures files.old) (F.failures files.new) (O.failures out.old) (O.failures out.new)
+        × TellsPartly (F.contents files.old) (texts words.now) (O.taken out.old) (O.taken out.new)
+        × AppendsBeginning (E.taken err.old) (E.taken err.new) device_line }
+    ensures memory { result ≡ 22 → TellsPartly (F.contents files.old) (texts words.now) (O.taken out.old) (O.taken out.new)
+        × AppendsBeginning (E.taken err.old) (E.taken err.new) no_memory_line }
 {
     let Some(command) = read_command(words) else {
         return tell_usage(err);
@@ -76,6 +88,9 @@ fn carry_out<F: Files, O: Sink>(
     ensures told { IfOk result (TellsFor (F.contents files.old) command.entry (O.taken out.old) (O.taken out.new)) }
     ensures refused { IfErr result (λ failure. IfSome (fault_in failure) (λ fault.
         IsFaultFor (F.contents files.old) command.entry fault × (O.taken out.new ≡ O.taken out.old))) }
+    ensures partly { IfErr result (λ failure. TellsPartlyFor (F.contents files.old) command.entry (O.taken out.old) (O.taken out.new)) }
+    ensures failures { IfErr result (λ failure. failure_status failure ≡ 21
+        → HasFailed (F.failures files.old) (F.failures files.new) (O.failures out.old) (O.failures out.new)) }
 {
     let (text, status) = answer_command(alloc, command, files)?;
     write_all(out, &text)?;
@@ -90,6 +105,7 @@ fn answer_command<F: Files>(
 ) -> Result<(Vec<u8>, u8), Failure>
     ensures answer { IfOk result (λ told. IsAnswerFor (F.contents files.old) command.entry told.0.items told.1) }
     ensures refused { IfErr result (λ failure. IfSome (fault_in failure) (IsFaultFor (F.contents files.old) command.entry)) }
+    ensures failures { IfErr result (λ failure. failure_status failure ≡ 21 → F.failures files.new ≡ one_more (F.failures files.old)) }
 {
     match command {
         Command::Validate {
@@ -116,6 +132,7 @@ fn answer_validate<F: Files>(
     ensures answer { IfOk result (λ told. IsVerdictText (F.contents files.old) domain.now problem.now plan.now told.0.items told.1) }
     ensures refused { IfErr result (λ failure. IfSome (fault_in failure) (λ fault.
         OnThree (F.contents files.old) domain.now problem.now plan.now (λ d p l. IsFileFault d p l fault))) }
+    ensures failures { IfErr result (λ failure. failure_status failure ≡ 21 → F.failures files.new ≡ one_more (F.failures files.old)) }
 {
     let task = read_pair(alloc, files, domain, problem)?;
     let plan = read_file(alloc, files, plan)?;
@@ -134,6 +151,7 @@ fn answer_solve<F: Files>(
         told.0.items told.1) }
     ensures refused { IfErr result (λ failure. IfSome (fault_in failure) (λ fault.
         OnTwo (F.contents files.old) domain.now problem.now (λ d p. IsTaskFault d p fault))) }
+    ensures failures { IfErr result (λ failure. failure_status failure ≡ 21 → F.failures files.new ≡ one_more (F.failures files.old)) }
 {
     let task = read_pair(alloc, files, domain, problem)?;
     Ok(solution_text(alloc, &task.domain, &task.problem, limits)?)
@@ -185,6 +203,7 @@ fn read_pair<F: Files>(
     ensures domain { IfOk result (λ pair. IsText (F.contents files.old) domain.now pair.domain.items) }
     ensures problem { IfOk result (λ pair. IsText (F.contents files.old) problem.now pair.problem.items) }
     ensures kept { (other : List ℕ) → F.contents files.new other ≡ F.contents files.old other }
+    ensures failures { CountsDevice (F.failures files.old) (F.failures files.new) result }
 {
     let domain = read_file(alloc, files, domain)?;
     let problem = read_file(alloc, files, problem)?;
@@ -195,9 +214,12 @@ fn read_pair<F: Files>(
 fn read_file<F: Files>(alloc: Global, files: &mut F, name: &str) -> Result<Vec<u8>, WriteFault>
     ensures bytes { IfOk result (λ text. IsText (F.contents files.old) name.now text.items) }
     ensures kept { (other : List ℕ) → F.contents files.new other ≡ F.contents files.old other }
+    ensures failures { CountsDevice (F.failures files.old) (F.failures files.new) result }
 {
     let mut input = files.open(name)?;
-    read_text(alloc, &mut input)
+    let text = read_text(alloc, &mut input);
+    files.finish(input);
+    text
 }
 
 /// The first 16,777,217 bytes of a source, or all that it has.

@@ -3,10 +3,15 @@ ghost use Rattle.std.specs.Prelude.{◌≡◌, ◌⊎◌, IfOk, IsTrue};
 ghost use Rattle.std.specs.String.{string_bytes};
 ghost use Rattle.validator.specs.Verdict.{verdict_of};
 ghost use Rattle.planner_main.specs.Report.{is_failure, line_of, status_of};
-ghost use Rattle.planner_main.specs.Program.{failure_status};
+ghost use Rattle.planner_main.specs.Failures.{line_of_fault, name_in, names, no_memory_line, usage};
+ghost use Rattle.planner_main.specs.Files.{fault_at};
+ghost use Rattle.planner_main.specs.Program.{IsToldOn};
+ghost use Rattle.faults.specs.Fault.{number_of};
+ghost use Rattle.devices.specs.Devices.{AppendsBeginning};
 
-use crate::task_file::FileFault;
+use crate::task_file::{File, FileFault};
 use devices::{Sink, WriteFault, write_all};
+use faults::{Code, Span};
 use std::alloc::{AllocError, Global};
 use validator::Verdict;
 
@@ -80,19 +85,11 @@ pub(crate) fn answer(alloc: Global, verdict: Verdict) -> Result<(String, u8), Al
 pub(crate) fn tell<E: Sink>(alloc: Global, failure: Failure, err: &mut E) -> u8
     ensures failure { IsTrue (is_failure result) }
     // Where memory for the line is refused, that is told.
-    ensures status { (result ≡ failure_status failure) ⊎ (result ≡ NO_MEMORY) }
+    ensures told { IsToldOn failure (E.taken err.old) (E.taken err.new) result }
 {
     match failure {
         Failure::Text(FileFault::At { file, code, span }) => {
-            let number = code.number();
-            let (start, end) = (span.start, span.end);
-            match format!(in alloc; "fault {number} {code} in {file} at {start}..{end}\n") {
-                Ok(line) => {
-                    let _ = write_all(err, line.as_bytes());
-                    REFUSED
-                }
-                Err(AllocError) => tell_no_memory(err),
-            }
+            tell_fault(alloc, file, code, span, err)
         }
         Failure::Device(WriteFault::Device) => {
             let _ = write_all(err, b"fault 61 Device\n");
@@ -104,8 +101,62 @@ pub(crate) fn tell<E: Sink>(alloc: Global, failure: Failure, err: &mut E) -> u8
     }
 }
 
+/// Tells the fault of a file's text.
+fn tell_fault<E: Sink>(alloc: Global, file: File, code: Code, span: Span, err: &mut E) -> u8
+    ensures { ((result ≡ REFUSED) × AppendsBeginning (E.taken err.old) (E.taken err.new) (line_of_fault (fault_at file code span)))
+        ⊎ ((result ≡ NO_MEMORY) × AppendsBeginning (E.taken err.old) (E.taken err.new) no_memory_line) }
+{
+    match fault_line(alloc, file, code, span) {
+        Ok(line) => {
+            let _ = write_all(err, line.as_bytes());
+            REFUSED
+        }
+        Err(AllocError) => tell_no_memory(err),
+    }
+}
+
+/// The line of a fault.
+fn fault_line(alloc: Global, file: File, code: Code, span: Span) -> Result<String, AllocError>
+    ensures { IfOk result (λ line. string_bytes line ≡ line_of_fault (fault_at file code span)) }
+{
+    let number = code.number();
+    let name = name_of(code);
+    let (start, end) = (span.start, span.end);
+    format!(in alloc; "fault {number} {name} in {file} at {start}..{end}\n")
+}
+
+/// The name of a code.
+fn name_of(code: Code) -> &'static str
+    ensures { result.now ≡ name_in names (number_of code) }
+{
+    match code {
+        Code::BadByte => "BadByte",
+        Code::BadWord => "BadWord",
+        Code::Unbalanced => "Unbalanced",
+        Code::TooDeep => "TooDeep",
+        Code::TooLong => "TooLong",
+        Code::Trailing => "Trailing",
+        Code::BadForm => "BadForm",
+        Code::UnknownSection => "UnknownSection",
+        Code::RepeatedSection => "RepeatedSection",
+        Code::MissingSection => "MissingSection",
+        Code::UnknownRequirement => "UnknownRequirement",
+        Code::LeftOut => "LeftOut",
+        Code::Duplicate => "Duplicate",
+        Code::UnknownName => "UnknownName",
+        Code::WrongArity => "WrongArity",
+        Code::DomainMismatch => "DomainMismatch",
+        Code::TooMany => "TooMany",
+        Code::PlanForm => "PlanForm",
+        Code::UnknownAction => "UnknownAction",
+        Code::StepArity => "StepArity",
+        Code::StepType => "StepType",
+    }
+}
+
 fn tell_no_memory<E: Sink>(err: &mut E) -> u8
-    ensures { result ≡ NO_MEMORY }
+    ensures status { result ≡ NO_MEMORY }
+    ensures line { AppendsBeginning (E.taken err.old) (E.taken err.new) no_memory_line }
 {
     let _ = write_all(err, b"fault 60 NoMemory\n");
     NO_MEMORY
@@ -113,7 +164,8 @@ fn tell_no_memory<E: Sink>(err: &mut E) -> u8
 
 /// Tells how the program is used.
 pub(crate) fn tell_usage<E: Sink>(err: &mut E) -> u8
-    ensures { result ≡ WRONG_WORDS }
+    ensures status { result ≡ WRONG_WORDS }
+    ensures line { AppendsBeginning (E.taken err.old) (E.taken err.new) usage }
 {
     let _ = write_all(err, USAGE.as_bytes());
     WRONG_WORDS

@@ -26,6 +26,12 @@ pub enum File {
 }
 
 impl fmt::Display for File {
+    ghost use Rattle.std.specs.Prelude.{Some};
+    ghost use Rattle.planner_main.specs.Files.{file_view};
+    ghost use Rattle.planner_main.specs.Failures.{name_of_file};
+
+    ghost output = { λ file. Some (name_of_file (file_view file)) };
+
     fn fmt<W: fmt::Write>(&self, f: &mut fmt::Formatter<W>) -> fmt::Result {
         let name = match self {
             File::Domain => "domain",

@@ -46,7 +46,12 @@ impl<R: rt::Files> Files for SystemFiles<'_, R> {
 
     fn open(&mut self, name: &str) -> Result<Device<R::File>, WriteFault> {
         let opened = fs::open(self.runtime, name);
-        Ok(Device::new(self.counted(opened)?))
+        Ok(Device::source(self.counted(opened)?))
+    }
+
+    fn finish(&mut self, input: Device<R::File>) {
+        let failed = input.failed_reads().min(1);
+        self.failures = self.failures.saturating_add(failed);
     }
 
     fn create(&mut self, name: &str) -> Result<Device<R::File>, WriteFault> {

@@ -113,13 +113,18 @@ impl Files for Table {
         for entry in &self.entries {
             if entry.name.as_str() == name {
                 return match Vec::from_slice(self.alloc, entry.bytes.as_slice()) {
-                    Ok(bytes) => Ok(FailsAt::new(Memory::new(bytes), entry.reads_before)),
+                    Ok(bytes) => Ok(FailsAt::source(Memory::new(bytes), entry.reads_before)),
                     Err(_) => Err(WriteFault::NoMemory),
                 };
             }
         }
         self.failures = self.failures.saturating_add(1);
         Err(WriteFault::Device)
+    }
+
+    fn finish(&mut self, input: FailsAt<Memory>) {
+        let failed = input.failed_reads().min(1);
+        self.failures = self.failures.saturating_add(failed);
     }
 
     fn create(&mut self, name: &str) -> Result<Draft, WriteFault> {

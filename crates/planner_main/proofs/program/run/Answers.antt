@@ -1,5 +1,5 @@
 use Rattle.std.proofs.Common.{inr, refl}
-use Rattle.planner_main.proofs.ProgramWords.{told_of_words, refused_of_words, asked_is_command, told_status, no_failure, failed_status, fault_of_status}
+use Rattle.planner_main.proofs.ProgramWords.{told_of_words, partly_of_words, refuses_of_words, asked_is_command, told_status, no_failure, failed_status, device_told, memory_told}
 use Rattle.planner_main.proofs.program.run.Goals as goal
 
 pub returns-in-Ok-clause-status : goal.returns-in-Ok-clause-status
@@ -11,13 +11,36 @@ returns-in-Ok-clause-words g c = (
   λ none. absurd (none (asked_is_command _ c.in-Some.command c.in-Some.ensures.asks)),
 )
 
+pub returns-in-Ok-clause-usage : goal.returns-in-Ok-clause-usage
+returns-in-Ok-clause-usage g c = λ same. absurd (no_failure 2 _ (told_status _ c.in-Some.command _ _ _ c.in-Ok.ensures.told) refl same)
+
+pub returns-in-Ok-clause-refused : goal.returns-in-Ok-clause-refused
+returns-in-Ok-clause-refused g c = λ same. absurd (no_failure 20 _ (told_status _ c.in-Some.command _ _ _ c.in-Ok.ensures.told) refl same)
+
+pub returns-in-Ok-clause-device : goal.returns-in-Ok-clause-device
+returns-in-Ok-clause-device g c = λ same. absurd (no_failure 21 _ (told_status _ c.in-Some.command _ _ _ c.in-Ok.ensures.told) refl same)
+
+pub returns-in-Ok-clause-memory : goal.returns-in-Ok-clause-memory
+returns-in-Ok-clause-memory g c = λ same. absurd (no_failure 22 _ (told_status _ c.in-Some.command _ _ _ c.in-Ok.ensures.told) refl same)
+
 pub returns-in-Err-clause-words : goal.returns-in-Err-clause-words
 returns-in-Err-clause-words g c = (
-  λ same. absurd (failed_status c.in-Err.failure _ c.tell.ensures.status same),
+  λ same. absurd (failed_status _ _ _ c.in-Err.failure c.tell.ensures.told same),
   λ none. absurd (none (asked_is_command _ c.in-Some.command c.in-Some.ensures.asks)),
 )
 
+pub returns-in-Err-clause-usage : goal.returns-in-Err-clause-usage
+returns-in-Err-clause-usage g c = λ same. absurd (failed_status _ _ _ c.in-Err.failure c.tell.ensures.told same)
+
 pub returns-in-Err-clause-refused : goal.returns-in-Err-clause-refused
 returns-in-Err-clause-refused g c = λ same.
-    let (fault, (is, kept)) = fault_of_status _ c.in-Err.failure _ c.tell.ensures.status same c.in-Err.ensures.refused in
-    refused_of_words _ _ _ _ c.in-Some.command fault c.in-Some.ensures.asks is kept
+    refuses_of_words _ _ _ _ _ _ c.in-Some.command c.in-Err.failure _ c.in-Some.ensures.asks c.tell.ensures.told same c.in-Err.ensures.refused
+
+pub returns-in-Err-clause-device : goal.returns-in-Err-clause-device
+returns-in-Err-clause-device g c = λ same.
+    let (is, line) = device_told _ _ _ c.in-Err.failure c.tell.ensures.told same in
+    (c.in-Err.ensures.failures is, partly_of_words _ _ _ _ c.in-Some.command c.in-Some.ensures.asks c.in-Err.ensures.partly, line)
+
+pub returns-in-Err-clause-memory : goal.returns-in-Err-clause-memory
+returns-in-Err-clause-memory g c = λ same.
+    (partly_of_words _ _ _ _ c.in-Some.command c.in-Some.ensures.asks c.in-Err.ensures.partly, memory_told _ _ _ c.in-Err.failure c.tell.ensures.told same)
