@@ -3,10 +3,9 @@ ghost use Rattle.std.specs.Prelude.{◌≡◌, ◌⊎◌, IfOk, IsTrue};
 ghost use Rattle.std.specs.String.{string_bytes};
 ghost use Rattle.validator.specs.Verdict.{verdict_of};
 ghost use Rattle.planner_main.specs.Report.{is_failure, line_of, status_of};
-ghost use Rattle.planner_main.specs.Failures.{line_of_fault, name_in, names, no_memory_line, usage};
+ghost use Rattle.planner_main.specs.Failures.{line_of_fault, no_memory_line, usage};
 ghost use Rattle.planner_main.specs.Files.{fault_at};
 ghost use Rattle.planner_main.specs.Program.{IsToldOn};
-ghost use Rattle.faults.specs.Fault.{number_of};
 ghost use Rattle.devices.specs.Devices.{AppendsBeginning};
 
 use crate::task_file::{File, FileFault};
@@ -120,38 +119,9 @@ fn fault_line(alloc: Global, file: File, code: Code, span: Span) -> Result<Strin
     ensures { IfOk result (λ line. string_bytes line ≡ line_of_fault (fault_at file code span)) }
 {
     let number = code.number();
-    let name = name_of(code);
+    let name = code.name();
     let (start, end) = (span.start, span.end);
     format!(in alloc; "fault {number} {name} in {file} at {start}..{end}\n")
-}
-
-/// The name of a code.
-fn name_of(code: Code) -> &'static str
-    ensures { result.now ≡ name_in names (number_of code) }
-{
-    match code {
-        Code::BadByte => "BadByte",
-        Code::BadWord => "BadWord",
-        Code::Unbalanced => "Unbalanced",
-        Code::TooDeep => "TooDeep",
-        Code::TooLong => "TooLong",
-        Code::Trailing => "Trailing",
-        Code::BadForm => "BadForm",
-        Code::UnknownSection => "UnknownSection",
-        Code::RepeatedSection => "RepeatedSection",
-        Code::MissingSection => "MissingSection",
-        Code::UnknownRequirement => "UnknownRequirement",
-        Code::LeftOut => "LeftOut",
-        Code::Duplicate => "Duplicate",
-        Code::UnknownName => "UnknownName",
-        Code::WrongArity => "WrongArity",
-        Code::DomainMismatch => "DomainMismatch",
-        Code::TooMany => "TooMany",
-        Code::PlanForm => "PlanForm",
-        Code::UnknownAction => "UnknownAction",
-        Code::StepArity => "StepArity",
-        Code::StepType => "StepType",
-    }
 }
 
 fn tell_no_memory<E: Sink>(err: &mut E) -> u8

@@ -164,6 +164,10 @@ impl Files for Pieces {
         Ok(InPieces::new(input, 3))
     }
 
+    fn finish(&mut self, input: InPieces<FailsAt<Memory>>) {
+        self.table.finish(input.inner);
+    }
+
     fn create(&mut self, name: &str) -> Result<<Table as Files>::Output, WriteFault> {
         self.table.create(name)
     }
