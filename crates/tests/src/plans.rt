@@ -1,8 +1,8 @@
 //! Plans in memory, and plan texts.
 use crate::helpers::{PATH, make_plan, read_task};
 use faults::{Code, Fault, Refusal, Span};
-use formulas::{Instance, Plan};
-use plan_file::{one_plan, read_plan};
+use formulas::{Instance, Plan, one_state};
+use plan_file::{one_fault, one_plan, read_plan};
 use std::alloc::Global;
 use std::process::Abort;
 use std::test::Fail;
@@ -53,6 +53,8 @@ fn a_text_is_its_plan(rt: HostRuntime) -> Result<(), Fail> {
 #[test]
 fn laws_of_plans() {
     one_plan();
+    one_fault();
+    one_state();
     exactly_one_verdict_is_true();
     worked_examples_are_true();
 }
