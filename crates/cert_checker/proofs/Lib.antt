@@ -4,3 +4,4 @@ pub mod ReadingLemmas
 pub mod AnswerLemmas
 pub mod OrderLemmas
 pub mod FirstLemmas
+pub mod StaysLemmas

@@ -1,3 +1,4 @@
 pub mod RefusalCode
 pub mod CertChecker
 pub mod CheckedLines
+pub mod OnListing

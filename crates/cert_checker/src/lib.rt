@@ -3,5 +3,7 @@
 #![tactic(auto)]
 
 mod check;
+mod laws;
 
 pub use check::{Accepted, Refusal, RefusalCode, check_cert};
+pub use laws::{closed_claim_holds, solving_list_stays_listed};

@@ -1,0 +1,109 @@
+-- A list of actions that runs stays on open states of a closed listing, to its end or until it comes to a cut.
+use Rattle.std.proofs.Common.{◌≡◌, ℕ, zero, suc, ◌+◌, ◌<◌, ◌≤◌, List, [], ◌∷◌, length, take, Option, None, Some, refl, sym, ap, ◌∙◌, subst, arith}
+use Rattle.std.specs.Prelude.{Contains}
+use Rattle.std.specs.Option.{option_and_then}
+use Rattle.std.proofs.lemmas.List.Sums.{sum_by-cons}
+use Rattle.model.specs.Runs.{System, run, cost_of_all, Solves}
+use Rattle.model.specs.Task.{Task, Instance}
+use Rattle.model.specs.Meaning.{system_of}
+use Rattle.model.specs.Claims.{Claim, Line, IsClosed, ClaimHolds}
+use Rattle.model.specs.Certificates.{Certificate, lines_of, IsClosedFor}
+use Rattle.model.proofs.ClaimsLemmas.{claim-of_closed}
+use Rattle.cert_checker.specs.OnListing.{IsOpenWithin, IsCutWithin, StaysListed, to_its_end, to_a_cut}
+
+module _ {S A : Type 0} (t : System S A) (lines : List (Line S)) where
+  open_at_more : (s : S) (m n : ℕ) → IsOpenWithin lines s m → m ≤ n → IsOpenWithin lines s n
+  open_at_more s m n at le = (at.0, at.1, at.2, omega (arith, at.3), at.4)
+
+  cut_at_more : (s : S) (m n : ℕ) → IsCutWithin lines s m → m ≤ n → IsCutWithin lines s n
+  cut_at_more s m n at le = (at.0, at.1, at.2, omega (arith, at.3), at.4, at.5)
+
+  -- the first n actions lead from this state, at this cost, to an open state, or to a cut
+  abbrev OpenFrom : S → ℕ → List A → ℕ → Type 0
+  OpenFrom from cost plan n = (s : S) × (run t from (take n plan) ≡ Some s) × IsOpenWithin lines s (cost + cost_of_all t (take n plan))
+
+  abbrev CutFrom : S → ℕ → List A → ℕ → Type 0
+  CutFrom from cost plan n = (s : S) × (run t from (take n plan) ≡ Some s) × IsCutWithin lines s (cost + cost_of_all t (take n plan))
+
+  data StaysFrom (from : S) (cost : ℕ) (plan : List A) : Type 0 where
+    all_open : ((n : ℕ) → n ≤ length plan → OpenFrom from cost plan n) → StaysFrom from cost plan
+    open_to : (n : ℕ) → n ≤ length plan → ((k : ℕ) → k < n → OpenFrom from cost plan k) → CutFrom from cost plan n → StaysFrom from cost plan
+
+  -- one action before
+  runs_before : (a : A) (plan : List A) (from next s : S) → t.step from a ≡ Some next → run t next plan ≡ Some s → run t from (a ∷ plan) ≡ Some s
+  runs_before a plan from next s leads runs = ap (λ (o : Option S). option_and_then (λ u. run t u plan) o) leads ∙ runs
+
+  costs_before : (a : A) (plan : List A) (cost there : ℕ) → there ≤ cost + t.cost a → there + cost_of_all t plan ≤ cost + cost_of_all t (a ∷ plan)
+  costs_before a plan cost there le = omega (arith, sum_by-cons t.cost a plan)
+
+  module _ (a : A) (plan : List A) (from next : S) (cost there : ℕ) (leads : t.step from a ≡ Some next) (le : there ≤ cost + t.cost a) where
+    open_before : (n : ℕ) → OpenFrom next there plan n → OpenFrom from cost (a ∷ plan) (suc n)
+    open_before n at =
+        (at.0, runs_before a (take n plan) from next at.0 leads at.1, open_at_more at.0 _ _ at.2 (costs_before a (take n plan) cost there le))
+
+    cut_before : (n : ℕ) → CutFrom next there plan n → CutFrom from cost (a ∷ plan) (suc n)
+    cut_before n at =
+        (at.0, runs_before a (take n plan) from next at.0 leads at.1, cut_at_more at.0 _ _ at.2 (costs_before a (take n plan) cost there le))
+
+    stays_before : IsOpenWithin lines from cost → StaysFrom next there plan → StaysFrom from cost (a ∷ plan)
+    stays_before here (all_open each) = all_open each_one
+      where
+        each_one : (n : ℕ) → n ≤ length (a ∷ plan) → OpenFrom from cost (a ∷ plan) n
+        each_one zero within = (from, refl, open_at_more from cost _ here (omega arith))
+        each_one (suc n) within = open_before n (each n (omega arith))
+    stays_before here (open_to m within each cut) = open_to (suc m) (omega arith) each_one (cut_before m cut)
+      where
+        each_one : (k : ℕ) → k < suc m → OpenFrom from cost (a ∷ plan) k
+        each_one zero below = (from, refl, open_at_more from cost _ here (omega arith))
+        each_one (suc k) below = open_before k (each k (omega arith))
+
+module _ {S A : Type 0} (t : System S A) (value : S → ℕ) (claim : Claim) (lines : List (Line S)) (closed : IsClosed t value claim lines) where
+  at_cut : (plan : List A) (line : Line S) (rest : ℕ) → Contains lines line → line.cut ≡ Some rest → StaysFrom t lines line.state line.cost plan
+  at_cut plan line rest listed cut = open_to 0 (omega arith) (λ k below. absurd (omega arith)) (line.state, refl, (line, listed, refl, omega arith, rest, cut))
+
+  at_end : (line : Line S) → Contains lines line → line.cut ≡ None → StaysFrom t lines line.state line.cost []
+  at_end line listed is_open = all_open each
+    where
+      each : (n : ℕ) → n ≤ 0 → OpenFrom t lines line.state line.cost [] n
+      each zero within = (line.state, refl, (line, listed, refl, omega arith, is_open))
+      each (suc n) within = absurd (omega arith)
+
+  -- from a listed state on
+  from_line : (plan : List A) (line : Line S) (end : S) → Contains lines line → run t line.state plan ≡ Some end → StaysFrom t lines line.state line.cost plan
+  from_line [] line end listed runs =
+      elim line.cut as (λ c. line.cut ≡ c → StaysFrom t lines line.state line.cost []) [
+        | None ↦ λ is_open. at_end line listed is_open
+        | Some rest ↦ λ cut. at_cut [] line rest listed cut
+      ] refl
+  from_line (a ∷ plan) line end listed runs =
+      elim line.cut as (λ c. line.cut ≡ c → StaysFrom t lines line.state line.cost (a ∷ plan)) [
+        | None ↦ λ is_open.
+            elim (t.step line.state a) as (λ o. t.step line.state a ≡ o → option_and_then (λ next. run t next plan) o ≡ Some end → StaysFrom t lines line.state line.cost (a ∷ plan)) [
+              | None ↦ λ _ none_runs. absurd (cc)
+              | Some next ↦ λ leads runs_on.
+                  let there = closed.successors_listed line a next listed is_open leads in
+                  let stays = from_line plan there.0 end there.1 (subst (λ (s : S). run t s plan ≡ Some end) (sym there.2) runs_on) in
+                  stays_before t lines a plan line.state next line.cost there.0.cost leads there.3 (line, listed, refl, omega arith, is_open)
+                  (subst (λ (s : S). StaysFrom t lines s there.0.cost plan) there.2 stays)
+            ] refl runs
+        | Some rest ↦ λ cut. at_cut (a ∷ plan) line rest listed cut
+      ] refl
+
+  pub stays_listed : (plan : List A) → Solves t plan → StaysListed t lines plan
+  stays_listed plan solves =
+      let there = closed.initial_listed in
+      by_stay there.3
+      (subst (λ (s : S). StaysFrom t lines s there.0.cost plan) there.2
+      (from_line plan there.0 solves.0 there.1 (subst (λ (s : S). run t s plan ≡ Some solves.0) (sym there.2) solves.1)))
+    where
+      by_stay : {cost : ℕ} → cost ≤ 0 → StaysFrom t lines t.initial cost plan → StaysListed t lines plan
+      by_stay {cost} low (all_open each) = to_its_end (λ n within. let at = each n within in (at.0, at.1, open_at_more t lines at.0 _ _ at.2 (omega arith)))
+      by_stay {cost} low (open_to m within each cut) =
+          to_a_cut m within (λ k below. let at = each k below in (at.0, at.1, open_at_more t lines at.0 _ _ at.2 (omega arith))) (cut.0, cut.1, cut_at_more t lines cut.0 _ _ cut.2 (omega arith))
+
+-- of a certificate that is closed for a task
+pub closed_holds : (task : Task) (c : Certificate) → IsClosedFor task c → ClaimHolds (system_of task) c.claim
+closed_holds task c closed = claim-of_closed (system_of task) (λ _. 0) c.claim (lines_of task c) (λ s end plan runs goal. omega arith) closed.listing_is_closed
+
+pub solving_stays : (task : Task) (c : Certificate) (plan : List Instance) → IsClosedFor task c → Solves (system_of task) plan → StaysListed (system_of task) (lines_of task c) plan
+solving_stays task c plan closed = stays_listed (system_of task) (λ _. 0) c.claim (lines_of task c) closed.listing_is_closed plan

@@ -1,0 +1,25 @@
+-- Where a list of actions stands in a listing of states, over any transition system.
+use Rattle.std.specs.Prelude.{◌≡◌, ℕ, ◌<◌, ◌≤◌, List, length, take, Contains, None, Some}
+use Rattle.model.specs.Runs.{System, run, cost_of_all}
+use Rattle.model.specs.Claims.{Line}
+
+-- the state is listed open at no more than this cost
+abbrev pub IsOpenWithin : {S : Type 0} → List (Line S) → S → ℕ → Type 0
+IsOpenWithin {S} lines s cost = (line : Line S) × Contains lines line × (line.state ≡ s) × (line.cost ≤ cost) × (line.cut ≡ None)
+
+-- the state is listed as a cut at no more than this cost
+abbrev pub IsCutWithin : {S : Type 0} → List (Line S) → S → ℕ → Type 0
+IsCutWithin {S} lines s cost = (line : Line S) × Contains lines line × (line.state ≡ s) × (line.cost ≤ cost) × (rest : ℕ) × (line.cut ≡ Some rest)
+
+-- the first n actions lead to an open state, listed at no more than they cost
+abbrev pub IsOnOpen : {S A : Type 0} → System S A → List (Line S) → List A → ℕ → Type 0
+IsOnOpen {S} {A} t lines plan n = (s : S) × (run t t.initial (take n plan) ≡ Some s) × IsOpenWithin lines s (cost_of_all t (take n plan))
+
+-- the first n actions lead to a cut, listed at no more than they cost
+abbrev pub IsOnCut : {S A : Type 0} → System S A → List (Line S) → List A → ℕ → Type 0
+IsOnCut {S} {A} t lines plan n = (s : S) × (run t t.initial (take n plan) ≡ Some s) × IsCutWithin lines s (cost_of_all t (take n plan))
+
+-- the list stays on open states, listed at no more than its cost so far, to its end, or until it comes to a cut
+pub data StaysListed {S A : Type 0} (t : System S A) (lines : List (Line S)) (plan : List A) : Type 0 where
+  to_its_end : ((n : ℕ) → n ≤ length plan → IsOnOpen t lines plan n) → StaysListed t lines plan
+  to_a_cut : (n : ℕ) → n ≤ length plan → ((k : ℕ) → k < n → IsOnOpen t lines plan k) → IsOnCut t lines plan n → StaysListed t lines plan

@@ -1,0 +1,20 @@
+//! Laws of certificates, over all tasks and all certificates. They are proved; the calls do nothing.
+ghost use Rattle.std.specs.Prelude.{List};
+ghost use Rattle.model.specs.Task.{Task, Instance};
+ghost use Rattle.model.specs.Runs.{Solves};
+ghost use Rattle.model.specs.Meaning.{system_of};
+ghost use Rattle.model.specs.Claims.{ClaimHolds};
+ghost use Rattle.model.specs.Certificates.{Certificate, lines_of, IsClosedFor};
+ghost use Rattle.cert_checker.specs.OnListing.{StaysListed};
+
+/// What a certificate that is closed for a task claims is true of all lists of instances, whatever their length.
+pub fn closed_claim_holds()
+    ensures { (task : Task) (c : Certificate) → IsClosedFor task c → ClaimHolds (system_of task) c.claim }
+{}
+
+/// Why it is: a list that solves stays on open states that are listed at no more than its cost so far, to its end or
+/// until it comes to a cut that is listed so.
+pub fn solving_list_stays_listed()
+    ensures { (task : Task) (c : Certificate) (plan : List Instance) → IsClosedFor task c
+        → Solves (system_of task) plan → StaysListed (system_of task) (lines_of task c) plan }
+{}
