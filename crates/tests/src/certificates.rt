@@ -7,7 +7,9 @@ ghost use Rattle.model.specs.Meaning as meaning;
 
 use crate::helpers::{DONE, FORK, GO, PATH, TIE, Term, Texts, UNTIED, atom, make_plan, read_task};
 use crate::listings::{ACCEPTED, Line, Listings, Said, WRONG_ATOMS, WRONG_LINES};
-use cert_checker::{Accepted, Refusal, RefusalCode, check_cert};
+use cert_checker::{
+    Accepted, Refusal, RefusalCode, check_cert, closed_claim_holds, solving_list_stays_listed,
+};
 use certificate::{Cert, Claim, StateLine};
 use formulas::{Instance, Plan, is_instance};
 use std::alloc::Global;
@@ -311,4 +313,10 @@ fn certificates_keep_their_limits(rt: HostRuntime) -> Result<(), Fail> {
         }
     }
     Ok(())
+}
+
+#[test]
+fn laws_of_certificates() {
+    closed_claim_holds();
+    solving_list_stays_listed();
 }

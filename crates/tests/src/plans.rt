@@ -3,6 +3,7 @@ use crate::helpers::{PATH, make_plan, read_task};
 use faults::{Code, Fault, Refusal, Span};
 use formulas::{Instance, Plan, one_state};
 use plan_file::{one_fault, one_plan, read_plan};
+use planner_main::one_task;
 use std::alloc::Global;
 use std::process::Abort;
 use std::test::Fail;
@@ -55,6 +56,7 @@ fn laws_of_plans() {
     one_plan();
     one_fault();
     one_state();
+    one_task();
     exactly_one_verdict_is_true();
     worked_examples_are_true();
 }
