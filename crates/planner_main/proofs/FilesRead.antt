@@ -72,7 +72,7 @@ module _ (domain problem : List ℕ) where
       ∙ ap (task_of_trees g.domain_tree) (problem_of_text problem h.problem_tree g.problem_tree h.problem_reads g.problem_reads)
       ∙ sym g.resolved
 
-  no_task_fault : (task : Task) (told : FileFault) → IsTaskOf domain problem task → IsTaskFault domain problem told → ⊥
+  pub no_task_fault : (task : Task) (told : FileFault) → IsTaskOf domain problem task → IsTaskFault domain problem told → ⊥
   no_task_fault task told h (in_the_domain fault file) =
       text_not_refused domain_file domain h.domain_reads.words told.fault h.domain_reads.reads (h.domain_tree, h.domain_reads.tree) fault
   no_task_fault task told h (in_the_problem d reads fault file) =

@@ -14,7 +14,7 @@ use Rattle.planner_main.specs.declared.report.Failure.{Failure}
 use Rattle.planner_main.specs.declared.report.Failure.TheVariants as failure
 use Rattle.planner_main.specs.declared.task_file.FileFault.TheVariants as refusal
 use Rattle.devices.specs.declared.device.WriteFault.TheVariants as device
-use Rattle.planner_main.specs.Program.{texts, AllowsStates, as_asked, AsksForVerdict, AsksForPlan, IsCommand, is_validate, is_solve, IsText, OnTwo, OnThree, IsAnswerText, IsAnswerFor, IsAnswer, Tells, TellsPartly, a_verdict, an_answer, Refuses, IsRefusedFor, a_verdict_refused, an_answer_refused, TellsFor, TellsPartlyFor, Asks, fault_in, IsFaultFor, failure_status, IsToldOn}
+use Rattle.planner_main.specs.Program.{texts, AllowsStates, as_asked, AsksForVerdict, AsksForPlan, IsCommand, is_validate, is_solve, IsText, OnTwo, OnThree, IsAnswerText, IsAnswerFor, IsAnswer, Tells, TellsPartly, a_verdict, an_answer, Refuses, IsRefusedFor, a_verdict_refused, an_answer_refused, TellsFor, TellsPartlyFor, Asks, fault_in, IsFaultFor, IsToldOn, NamesDomain, in_validate, in_solve, device_failure, domain_of}
 use Rattle.planner_main.specs.declared.task_file.File.{File}
 use Rattle.planner_main.specs.declared.task_file.FileFault as file
 use Rattle.faults.specs.declared.code.Code.{Code}
@@ -57,6 +57,13 @@ pub text_kept : (before after : List ℕ → Option (List ℕ)) → ((other : Li
     → IsText after name text → IsText before name text
 text_kept before after kept name text is = subst (λ (known : Option (List ℕ)). IfSome known (λ bytes. text ≡ take 16777217 bytes)) (kept name) is
 
+-- the lists of a first word and the rest are equal in both
+first_same : (x y : List ℕ) (xs ys : List (List ℕ)) → x ∷ xs ≡ y ∷ ys → x ≡ y
+first_same x y xs ys same = cc
+
+rest_same : (x y : List ℕ) (xs ys : List (List ℕ)) → x ∷ xs ≡ y ∷ ys → xs ≡ ys
+rest_same x y xs ys same = cc
+
 -- What answers a command answers the words that ask for it, and so with what is refused.
 module _ (contents : List ℕ → Option (List ℕ)) (words : List (List ℕ)) where
   pub answer_of_words : (command : Command) (text : List ℕ) (status : ℕ) → Asks words command → IsAnswerFor contents command text status
@@ -85,10 +92,21 @@ module _ (contents : List ℕ → Option (List ℕ)) (words : List (List ℕ)) w
       → Refuses contents words out out_after err err_after
   refuses_of_words out out_after err err_after command (failure.Text (refusal.At file code span)) status asks (inl (is, line)) same (fault, kept) =
       (fault_at file code span, refused_of_words command _ asks fault, kept, line)
-  refuses_of_words out out_after err err_after command (failure.Text refusal.NoMemory) status asks (inl (is, line)) same h = absurd (omega arith)
-  refuses_of_words out out_after err err_after command (failure.Device device.Device) status asks (inl (is, line)) same h = absurd (omega arith)
-  refuses_of_words out out_after err err_after command (failure.Device device.NoMemory) status asks (inl (is, line)) same h = absurd (omega arith)
-  refuses_of_words out out_after err err_after command f status asks (inr (is, line)) same h = absurd (omega arith)
+  refuses_of_words out out_after err err_after command (failure.Text (refusal.At file code span)) status asks (inr (is, line)) same h = absurd (omega arith)
+  refuses_of_words out out_after err err_after command (failure.Text refusal.NoMemory) status asks (is, line) same h = absurd (omega arith)
+  refuses_of_words out out_after err err_after command (failure.Device device.Device) status asks (is, line) same h = absurd (omega arith)
+  refuses_of_words out out_after err err_after command (failure.Device device.NoMemory) status asks (is, line) same h = absurd (omega arith)
+
+  -- The words name the domain file that the command has.
+  pub domain_named : (command : Command) (name : List ℕ) → Asks words command → NamesDomain words name → name ≡ domain_of command
+  domain_named (Validate domain problem plan) name asks (in_validate p l named) = first_same _ _ _ _ (rest_same _ _ _ _ (sym named ∙ asks))
+  domain_named (Validate domain problem plan) name asks (in_solve p states named) = first_same _ _ _ _ (rest_same _ _ _ _ (sym named.in_order ∙ asks))
+  domain_named (Solve domain problem limits) name asks (in_validate p l named) = first_same _ _ _ _ (rest_same _ _ _ _ (sym named ∙ asks.0.in_order))
+  domain_named (Solve domain problem limits) name asks (in_solve p states named) = first_same _ _ _ _ (rest_same _ _ _ _ (sym named.in_order ∙ asks.0.in_order))
+
+  pub names_command : (name : List ℕ) → NamesDomain words name → IsCommand words
+  names_command name (in_validate p l named) = is_validate name p l named
+  names_command name (in_solve p states named) = is_solve name p states named
 
 pub asked_is_command : (words : List (List ℕ)) (command : Command) → Asks words command → IsCommand words
 asked_is_command words (Validate domain problem plan) asks = is_validate domain.now problem.now plan.now asks
@@ -119,41 +137,48 @@ no_failure n status answers fails same = absurd (cc (ap is_failure same))
 module _ (before after : Option (List ℕ)) (status : ℕ) where
   pub failed_status : (f : Failure) → IsToldOn f before after status → status ≡ 2 → ⊥
   failed_status (failure.Text (refusal.At file code span)) (inl (is, line)) same = absurd (omega arith)
-  failed_status (failure.Text refusal.NoMemory) (inl (is, line)) same = absurd (omega arith)
-  failed_status (failure.Device device.Device) (inl (is, line)) same = absurd (omega arith)
-  failed_status (failure.Device device.NoMemory) (inl (is, line)) same = absurd (omega arith)
-  failed_status f (inr (is, line)) same = absurd (omega arith)
+  failed_status (failure.Text (refusal.At file code span)) (inr (is, line)) same = absurd (omega arith)
+  failed_status (failure.Text refusal.NoMemory) (is, line) same = absurd (omega arith)
+  failed_status (failure.Device device.Device) (is, line) same = absurd (omega arith)
+  failed_status (failure.Device device.NoMemory) (is, line) same = absurd (omega arith)
 
-  pub device_told : (f : Failure) → IsToldOn f before after status → status ≡ 21
-      → (failure_status f ≡ 21) × AppendsBeginning before after device_line
+  pub device_told : (f : Failure) → IsToldOn f before after status → status ≡ 21 → (f ≡ device_failure) × AppendsBeginning before after device_line
   device_told (failure.Text (refusal.At file code span)) (inl (is, line)) same = absurd (omega arith)
-  device_told (failure.Text refusal.NoMemory) (inl (is, line)) same = absurd (omega arith)
-  device_told (failure.Device device.Device) (inl (is, line)) same = (refl, line)
-  device_told (failure.Device device.NoMemory) (inl (is, line)) same = absurd (omega arith)
-  device_told f (inr (is, line)) same = absurd (omega arith)
+  device_told (failure.Text (refusal.At file code span)) (inr (is, line)) same = absurd (omega arith)
+  device_told (failure.Text refusal.NoMemory) (is, line) same = absurd (omega arith)
+  device_told (failure.Device device.Device) (is, line) same = (refl, line)
+  device_told (failure.Device device.NoMemory) (is, line) same = absurd (omega arith)
 
   pub memory_told : (f : Failure) → IsToldOn f before after status → status ≡ 22 → AppendsBeginning before after no_memory_line
   memory_told (failure.Text (refusal.At file code span)) (inl (is, line)) same = absurd (omega arith)
-  memory_told (failure.Text refusal.NoMemory) (inl (is, line)) same = line
-  memory_told (failure.Device device.Device) (inl (is, line)) same = absurd (omega arith)
-  memory_told (failure.Device device.NoMemory) (inl (is, line)) same = line
-  memory_told f (inr (is, line)) same = line
+  memory_told (failure.Text (refusal.At file code span)) (inr (is, line)) same = line
+  memory_told (failure.Text refusal.NoMemory) (is, line) same = line
+  memory_told (failure.Device device.Device) (is, line) same = absurd (omega arith)
+  memory_told (failure.Device device.NoMemory) (is, line) same = line
 
-  -- The fault of a text is told as the failure that it is.
+  -- The failure of a device has the status of one, and that of a text is told as the failure that it is.
+  pub device_status : (f : Failure) → f ≡ device_failure → IsToldOn f before after status → status ≡ 21
+  device_status f is told = (subst (λ f. IsToldOn f before after status) is told).0
+
   pub fault_told : (f : Failure) (t : file.FileFault) (named : File) (code : Code) (span : Span) → f ≡ failure.Text t → t ≡ refusal.At named code span
       → ((status ≡ 20) × AppendsBeginning before after (line_of_fault (fault_at named code span))) ⊎ ((status ≡ 22) × AppendsBeginning before after no_memory_line)
       → IsToldOn f before after status
   fault_told f t named code span first second told = subst (λ f. IsToldOn f before after status) (sym (first ∙ ap failure.Text second)) told
 
--- Only a device that failed has the status of one, and then the failure is counted.
+-- Only a device that failed is told as one, and then the failure is counted.
 pub device_counted : (T : Type 0) (before after : ℕ) (fault : WriteFault) → CountsDevice {T = T} before after (Err fault)
-    → failure_status (failure.Device fault) ≡ 21 → after ≡ one_more before
+    → failure.Device fault ≡ device_failure → after ≡ one_more before
 device_counted T before after device.Device counted same = counted
-device_counted T before after device.NoMemory counted same = absurd (omega arith)
+device_counted T before after device.NoMemory counted same = absurd (cc)
 
-pub text_is_no_device : (fault : file.FileFault) → failure_status (failure.Text fault) ≡ 21 → ⊥
-text_is_no_device (refusal.At file code span) same = absurd (omega arith)
-text_is_no_device refusal.NoMemory same = absurd (omega arith)
+pub text_counts_none : (before after : ℕ) (fault : file.FileFault) → failure.Text fault ≡ device_failure → after ≡ one_more before
+text_counts_none before after fault same = absurd (cc)
+
+pub answer_is_no_failure : (status : ℕ) (f : Failure) → ◌≡◌ {A = Result ℕ Failure} (Ok status) (Err f) → ⊥
+answer_is_no_failure status f same = absurd (cc)
+
+pub failure_is_same : (f other : Failure) → ◌≡◌ {A = Result ℕ Failure} (Err f) (Err other) → f ≡ other
+failure_is_same f other same = cc
 
 -- A failed read of a file that was opened counts once among the failures of the files.
 pub reading_counted : {T : Type 0} (before opened after input input_after : ℕ) (r : Result T WriteFault) → opened ≡ before → input ≡ 0
@@ -176,13 +201,6 @@ module _ (contents : List ℕ → Option (List ℕ)) where
       → IfSome o (λ fault. OnThree contents domain problem plan (λ d p l. IsFileFault d p l fault))
   refused_on_three domain problem plan d p l d_is p_is l_is None h = tt
   refused_on_three domain problem plan d p l d_is p_is l_is (Some fault) h = (d, p, l, d_is, p_is, l_is, h)
-
--- the lists of a first word and the rest are equal in both
-first_same : (x y : List ℕ) (xs ys : List (List ℕ)) → x ∷ xs ≡ y ∷ ys → x ≡ y
-first_same x y xs ys same = cc
-
-rest_same : (x y : List ℕ) (xs ys : List (List ℕ)) → x ∷ xs ≡ y ∷ ys → xs ≡ ys
-rest_same x y xs ys same = cc
 
 validate_is_not_solve : codes "solve" ≡ codes "validate" → ⊥
 validate_is_not_solve same = absurd (cc)

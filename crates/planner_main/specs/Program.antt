@@ -50,6 +50,11 @@ pub data IsCommand (words : List (List ℕ)) : Type 0 where
   is_validate : (domain problem plan : List ℕ) → AsksForVerdict words domain problem plan → IsCommand words
   is_solve : (domain problem : List ℕ) (states : ℕ) → AsksForPlan words domain problem states → IsCommand words
 
+-- The words are a command whose domain file has this name.
+pub data NamesDomain (words : List (List ℕ)) (domain : List ℕ) : Type 0 where
+  in_validate : (problem plan : List ℕ) → AsksForVerdict words domain problem plan → NamesDomain words domain
+  in_solve : (problem : List ℕ) (states : ℕ) → AsksForPlan words domain problem states → NamesDomain words domain
+
 -- the text of the file of this name: where its contents are known, their first 16,777,217 bytes, or all where they are fewer
 abbrev pub IsText : (List ℕ → Option (List ℕ)) → List ℕ → List ℕ → Type 0
 IsText contents name text = IfSome (contents name) (λ bytes. text ≡ take 16777217 bytes)
@@ -146,23 +151,21 @@ IsFaultFor contents (Validate domain problem plan) fault =
     OnThree contents domain.now problem.now plan.now (λ d p l. IsFileFault d p l fault)
 IsFaultFor contents (Solve domain problem limits) fault = OnTwo contents domain.now problem.now (λ d p. IsTaskFault d p fault)
 
--- the status of a failure: 20 of a text that is refused, 21 of a device, 22 of memory
-abbrev pub failure_status : Failure → ℕ
-failure_status (failure.Text (refusal.At file code span)) = 20
-failure_status (failure.Text refusal.NoMemory) = 22
-failure_status (failure.Device device.Device) = 21
-failure_status (failure.Device device.NoMemory) = 22
+-- the failure of a device
+abbrev pub device_failure : Failure
+device_failure = failure.Device device.Device
 
--- the line of a failure
-abbrev pub line_of_failure : Failure → List ℕ
-line_of_failure (failure.Text (refusal.At file code span)) = line_of_fault (fault_at file code span)
-line_of_failure (failure.Text refusal.NoMemory) = no_memory_line
-line_of_failure (failure.Device device.Device) = device_line
-line_of_failure (failure.Device device.NoMemory) = no_memory_line
-
--- A failure is told with its status: known bytes grew by a beginning of its line. Where there was no memory for the line,
--- that is told in its place.
+-- A failure is told: known bytes grow by a beginning of its line, and the status is 20 of a text that is refused, 21 of a
+-- device and 22 of memory. Where there is no memory for the line of a fault, that is told in its place.
 abbrev pub IsToldOn : Failure → (before after : Option (List ℕ)) → ℕ → Type 0
-IsToldOn failure before after status =
-    ((status ≡ failure_status failure) × AppendsBeginning before after (line_of_failure failure))
+IsToldOn (failure.Text (refusal.At file code span)) before after status =
+    ((status ≡ 20) × AppendsBeginning before after (line_of_fault (fault_at file code span)))
     ⊎ ((status ≡ 22) × AppendsBeginning before after no_memory_line)
+IsToldOn (failure.Text refusal.NoMemory) before after status = (status ≡ 22) × AppendsBeginning before after no_memory_line
+IsToldOn (failure.Device device.Device) before after status = (status ≡ 21) × AppendsBeginning before after device_line
+IsToldOn (failure.Device device.NoMemory) before after status = (status ≡ 22) × AppendsBeginning before after no_memory_line
+
+-- the name of the file that is opened first
+abbrev pub domain_of : Command → List ℕ
+domain_of (Validate domain problem plan) = domain.now
+domain_of (Solve domain problem limits) = domain.now

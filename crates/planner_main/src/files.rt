@@ -1,5 +1,6 @@
 //! Files by name: those of the machine, and a table of them in memory.
-ghost use Rattle.std.specs.Prelude.{◌≡◌, ℕ, ◌<◌, List, Option, None, IfOk};
+ghost use Rattle.std.specs.Prelude.{◌≡◌, ℕ, ◌<◌, Bool, false, List, Option, None, Err, IfOk, IsTrue};
+ghost use Rattle.devices.specs.declared.device.WriteFault.TheVariants.{Device};
 ghost use Rattle.devices.specs.Devices.{CountsDevice, IsKept, one_more};
 
 mod system;
@@ -23,9 +24,13 @@ pub trait Files {
     /// The bytes of the file of a name, where they are known.
     ghost contents: { Self → List ℕ → Option (List ℕ) } = { λ _ _. None };
 
+    /// Whether there is no file of a name, where that is known.
+    ghost is_missing: { Self → List ℕ → Bool } = { λ _ _. false };
+
     /// Opens the file of this name for reading, from its first byte on. No read of it has failed yet.
     fn open(&mut self, name: &str) -> Result<Self::Input, WriteFault>
         ensures failures { CountsDevice (failures self.old) (failures self.new) result }
+        ensures missing { IsTrue (is_missing self.old name.now) → result ≡ Err Device }
         ensures fresh { IfOk result (λ input. Self.Input.failures input ≡ 0) }
         ensures bytes { IfOk result (λ input. IsKept (contents self.old name.now) (Self.Input.remaining input)) }
         ensures kept { (other : List ℕ) → contents self.new other ≡ contents self.old other };

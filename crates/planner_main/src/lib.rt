@@ -11,5 +11,5 @@ mod verdict;
 pub use files::Files;
 pub use program::run;
 pub use solve::{Solved, solve_files};
-pub use task_file::{File, FileFault};
+pub use task_file::{File, FileFault, one_task};
 pub use verdict::validate_files;

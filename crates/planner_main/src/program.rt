@@ -1,9 +1,10 @@
 //! The program.
-ghost use Rattle.std.specs.Prelude.{◌≡◌, ℕ, ◌+◌, ◌↔◌, ◌⊎◌, IfErr, IfOk, IfSome, IsTrue, List, false, length, vec_len};
+ghost use Rattle.std.specs.Prelude.{◌≡◌, ℕ, ◌+◌, ◌↔◌, ◌⊎◌, Err, IfErr, IfOk, IfSome, IsTrue, List, false, length, vec_len};
 ghost use Rattle.planner_main.specs.Failures.{device_line, no_memory_line, usage};
 ghost use Rattle.planner_main.specs.Files.{told_in};
 ghost use Rattle.planner_main.specs.Report.{is_failure};
-ghost use Rattle.planner_main.specs.Program.{texts, IsCommand, IsText, OnTwo, OnThree, IsVerdictLine, IsSolutionText, IsVerdictText, IsAnswerText, IsAnswerFor, Tells, TellsFor, TellsPartly, TellsPartlyFor, Refuses, HasFailed, IsFaultFor, failure_status, fault_in};
+ghost use Rattle.planner_main.specs.Program.{texts, IsCommand, IsText, OnTwo, OnThree, IsVerdictLine, IsSolutionText, IsVerdictText, IsAnswerText, IsAnswerFor, Tells, TellsFor, TellsPartly, TellsPartlyFor, Refuses, HasFailed, NamesDomain, IsFaultFor, device_failure, domain_of, fault_in};
+ghost use Rattle.devices.specs.declared.device.WriteFault.TheVariants.{Device};
 ghost use Rattle.devices.specs.Devices.{AppendsBeginning, CountsDevice, IsReading, ReadsSome, one_more};
 ghost use Rattle.model.specs.Files.{IsFileFault, IsTaskFault};
 
@@ -66,6 +67,7 @@ pub fn run<F: Files, O: Sink, E: Sink>(
     ensures device { result ≡ 21 → HasFailed (F.failures files.old) (F.failures files.new) (O.failures out.old) (O.failures out.new)
         × TellsPartly (F.contents files.old) (texts words.now) (O.taken out.old) (O.taken out.new)
         × AppendsBeginning (E.taken err.old) (E.taken err.new) device_line }
+    ensures missing { (name : List ℕ) → NamesDomain (texts words.now) name → IsTrue (F.is_missing files.old name) → result ≡ 21 }
     ensures memory { result ≡ 22 → TellsPartly (F.contents files.old) (texts words.now) (O.taken out.old) (O.taken out.new)
         × AppendsBeginning (E.taken err.old) (E.taken err.new) no_memory_line }
 {
@@ -89,8 +91,9 @@ fn carry_out<F: Files, O: Sink>(
     ensures refused { IfErr result (λ failure. IfSome (fault_in failure) (λ fault.
         IsFaultFor (F.contents files.old) command.entry fault × (O.taken out.new ≡ O.taken out.old))) }
     ensures partly { IfErr result (λ failure. TellsPartlyFor (F.contents files.old) command.entry (O.taken out.old) (O.taken out.new)) }
-    ensures failures { IfErr result (λ failure. failure_status failure ≡ 21
+    ensures failures { IfErr result (λ failure. failure ≡ device_failure
         → HasFailed (F.failures files.old) (F.failures files.new) (O.failures out.old) (O.failures out.new)) }
+    ensures missing { IsTrue (F.is_missing files.old (domain_of command.entry)) → result ≡ Err device_failure }
 {
     let (text, status) = answer_command(alloc, command, files)?;
     write_all(out, &text)?;
@@ -105,7 +108,8 @@ fn answer_command<F: Files>(
 ) -> Result<(Vec<u8>, u8), Failure>
     ensures answer { IfOk result (λ told. IsAnswerFor (F.contents files.old) command.entry told.0.items told.1) }
     ensures refused { IfErr result (λ failure. IfSome (fault_in failure) (IsFaultFor (F.contents files.old) command.entry)) }
-    ensures failures { IfErr result (λ failure. failure_status failure ≡ 21 → F.failures files.new ≡ one_more (F.failures files.old)) }
+    ensures failures { IfErr result (λ failure. failure ≡ device_failure → F.failures files.new ≡ one_more (F.failures files.old)) }
+    ensures missing { IsTrue (F.is_missing files.old (domain_of command.entry)) → result ≡ Err device_failure }
 {
     match command {
         Command::Validate {
@@ -132,7 +136,8 @@ fn answer_validate<F: Files>(
     ensures answer { IfOk result (λ told. IsVerdictText (F.contents files.old) domain.now problem.now plan.now told.0.items told.1) }
     ensures refused { IfErr result (λ failure. IfSome (fault_in failure) (λ fault.
         OnThree (F.contents files.old) domain.now problem.now plan.now (λ d p l. IsFileFault d p l fault))) }
-    ensures failures { IfErr result (λ failure. failure_status failure ≡ 21 → F.failures files.new ≡ one_more (F.failures files.old)) }
+    ensures failures { IfErr result (λ failure. failure ≡ device_failure → F.failures files.new ≡ one_more (F.failures files.old)) }
+    ensures missing { IsTrue (F.is_missing files.old domain.now) → result ≡ Err device_failure }
 {
     let task = read_pair(alloc, files, domain, problem)?;
     let plan = read_file(alloc, files, plan)?;
@@ -151,7 +156,8 @@ fn answer_solve<F: Files>(
         told.0.items told.1) }
     ensures refused { IfErr result (λ failure. IfSome (fault_in failure) (λ fault.
         OnTwo (F.contents files.old) domain.now problem.now (λ d p. IsTaskFault d p fault))) }
-    ensures failures { IfErr result (λ failure. failure_status failure ≡ 21 → F.failures files.new ≡ one_more (F.failures files.old)) }
+    ensures failures { IfErr result (λ failure. failure ≡ device_failure → F.failures files.new ≡ one_more (F.failures files.old)) }
+    ensures missing { IsTrue (F.is_missing files.old domain.now) → result ≡ Err device_failure }
 {
     let task = read_pair(alloc, files, domain, problem)?;
     Ok(solution_text(alloc, &task.domain, &task.problem, limits)?)
@@ -204,6 +210,7 @@ fn read_pair<F: Files>(
     ensures problem { IfOk result (λ pair. IsText (F.contents files.old) problem.now pair.problem.items) }
     ensures kept { (other : List ℕ) → F.contents files.new other ≡ F.contents files.old other }
     ensures failures { CountsDevice (F.failures files.old) (F.failures files.new) result }
+    ensures missing { IsTrue (F.is_missing files.old domain.now) → result ≡ Err Device }
 {
     let domain = read_file(alloc, files, domain)?;
     let problem = read_file(alloc, files, problem)?;
@@ -215,6 +222,7 @@ fn read_file<F: Files>(alloc: Global, files: &mut F, name: &str) -> Result<Vec<u
     ensures bytes { IfOk result (λ text. IsText (F.contents files.old) name.now text.items) }
     ensures kept { (other : List ℕ) → F.contents files.new other ≡ F.contents files.old other }
     ensures failures { CountsDevice (F.failures files.old) (F.failures files.new) result }
+    ensures missing { IsTrue (F.is_missing files.old name.now) → result ≡ Err Device }
 {
     let mut input = files.open(name)?;
     let text = read_text(alloc, &mut input);

@@ -1,9 +1,11 @@
 //! From the bytes of a domain file and a problem file to their task, and the faults of files.
-ghost use Rattle.std.specs.Prelude.{IfOk, IfErr, IfSome};
+ghost use Rattle.std.specs.Prelude.{◌≡◌, ℕ, List, IfOk, IfErr, IfSome};
 ghost use Rattle.faults.specs.Fault.{told_by};
 ghost use Rattle.pddl_tree.specs.Tree.{domain_of, problem_of};
 ghost use Rattle.typing.specs.Task.{task_of};
 ghost use Rattle.planner_main.specs.Files.{told_in};
+ghost use Rattle.model.specs.Task as model;
+ghost use Rattle.model.specs.Files as told;
 ghost use Rattle.model.specs.Refusals.{domain_file, problem_file};
 ghost use Rattle.model.specs.Files.{IsDomainText, IsProblemText, IsTextFault, IsTaskOf, IsTaskFault};
 
@@ -151,3 +153,12 @@ fn read_problem(alloc: Global, text: &[u8]) -> Result<pddl_tree::Problem<'_>, Fa
     let words = scan(alloc, text)?;
     pddl_tree::problem(alloc, &words)
 }
+
+/// Says that two texts are at most one task, and that no fault is told of two that are one. It is stated of all texts,
+/// and proved; the call does nothing.
+pub fn one_task()
+    ensures one { (domain problem : List ℕ) (task other : model.Task)
+        → IsTaskOf domain problem task → IsTaskOf domain problem other → task ≡ other }
+    ensures none { (domain problem : List ℕ) (task : model.Task) (fault : told.FileFault)
+        → IsTaskOf domain problem task → IsTaskFault domain problem fault → ⊥ }
+{}

@@ -1,5 +1,5 @@
 //! A table of files in memory, for tests.
-ghost use Rattle.std.specs.Prelude.{◌≡◌, ℕ, List, None};
+ghost use Rattle.std.specs.Prelude.{◌≡◌, ℕ, List, None, is_none};
 ghost use Rattle.std.specs.Option.{option_map};
 ghost use Rattle.devices.specs.Devices.{one_more};
 ghost use Rattle.planner_main.specs.Table.{contents_of};
@@ -108,6 +108,8 @@ impl Files for Table {
     ghost failures = { λ table. table.failures };
 
     ghost contents = { λ table name. contents_of table.entries.items name };
+
+    ghost is_missing = { λ table name. is_none (contents_of table.entries.items name) };
 
     fn open(&mut self, name: &str) -> Result<FailsAt<Memory>, WriteFault> {
         for entry in &self.entries {

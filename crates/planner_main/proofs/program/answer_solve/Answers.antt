@@ -1,6 +1,6 @@
 use Rattle.std.proofs.lemmas.Result.{err_from_is_err_and}
 use Rattle.planner_main.specs.declared.program.Pair.{Pair}
-use Rattle.planner_main.proofs.ProgramWords.{refused_on_two, device_counted, text_is_no_device}
+use Rattle.planner_main.proofs.ProgramWords.{refused_on_two, device_counted, text_counts_none}
 use Rattle.planner_main.proofs.program.answer_solve.Goals as goal
 
 pub returns-in_err-task-clause-refused : goal.returns-in_err-task-clause-refused
@@ -28,4 +28,4 @@ returns-in_err-task-clause-failures g c =
 pub returns-in_err-solution_text-clause-failures : goal.returns-in_err-solution_text-clause-failures
 returns-in_err-solution_text-clause-failures g c =
     let p = err_from_is_err_and c.from_residual-in_err-solution_text.result c.from_residual-in_err-solution_text.ensures.1 in
-    rw (p.1, p.2) (λ same. absurd (text_is_no_device _ same))
+    rw (p.1, p.2) (text_counts_none _ _ _)

@@ -2,7 +2,7 @@ use Rattle.std.proofs.Common.{ℕ, ap, ◌∙◌}
 use Rattle.std.specs.Global.{Vec}
 use Rattle.std.proofs.lemmas.Result.{err_from_is_err_and}
 use Rattle.planner_main.specs.declared.program.Pair.{Pair}
-use Rattle.planner_main.proofs.ProgramWords.{text_kept, refused_on_three, device_counted, text_is_no_device}
+use Rattle.planner_main.proofs.ProgramWords.{text_kept, refused_on_three, device_counted, text_counts_none}
 use Rattle.devices.specs.Devices.{one_more}
 use Rattle.planner_main.proofs.program.answer_validate.Goals as goal
 
@@ -42,4 +42,4 @@ returns-in_err-plan-clause-failures g c =
 pub returns-in_err-verdict_text-clause-failures : goal.returns-in_err-verdict_text-clause-failures
 returns-in_err-verdict_text-clause-failures g c =
     let p = err_from_is_err_and c.from_residual-in_err-verdict_text.result c.from_residual-in_err-verdict_text.ensures.1 in
-    rw (p.1, p.2) (λ same. absurd (text_is_no_device _ same))
+    rw (p.1, p.2) (text_counts_none _ _ _)

@@ -1,5 +1,5 @@
-use Rattle.std.proofs.Common.{inr, refl}
-use Rattle.planner_main.proofs.ProgramWords.{told_of_words, partly_of_words, refuses_of_words, asked_is_command, told_status, no_failure, failed_status, device_told, memory_told}
+use Rattle.std.proofs.Common.{inr, refl, subst, IsTrue, None}
+use Rattle.planner_main.proofs.ProgramWords.{told_of_words, partly_of_words, refuses_of_words, asked_is_command, told_status, no_failure, failed_status, device_told, memory_told, device_status, domain_named, names_command, answer_is_no_failure, failure_is_same}
 use Rattle.planner_main.proofs.program.run.Goals as goal
 
 pub returns-in-Ok-clause-status : goal.returns-in-Ok-clause-status
@@ -44,3 +44,16 @@ returns-in-Err-clause-device g c = λ same.
 pub returns-in-Err-clause-memory : goal.returns-in-Err-clause-memory
 returns-in-Err-clause-memory g c = λ same.
     (partly_of_words _ _ _ _ c.in-Some.command c.in-Some.ensures.asks c.in-Err.ensures.partly, memory_told _ _ _ c.in-Err.failure c.tell.ensures.told same)
+
+pub returns-in_default-clause-missing : goal.returns-in_default-clause-missing
+returns-in_default-clause-missing g c = λ name named missing. absurd (c.in_default.ensures.none (names_command (λ _. None) _ name named))
+
+pub returns-in-Ok-clause-missing : goal.returns-in-Ok-clause-missing
+returns-in-Ok-clause-missing g c = λ name named missing.
+    absurd (answer_is_no_failure _ _ (c.in-Ok.ensures.missing
+    (subst (λ n. IsTrue (g.F.Files.is_missing c.args.files.now n)) (domain_named (λ _. None) _ c.in-Some.command name c.in-Some.ensures.asks named) missing)))
+
+pub returns-in-Err-clause-missing : goal.returns-in-Err-clause-missing
+returns-in-Err-clause-missing g c = λ name named missing.
+    device_status _ _ _ c.in-Err.failure (failure_is_same _ _ (c.in-Err.ensures.missing
+    (subst (λ n. IsTrue (g.F.Files.is_missing c.args.files.now n)) (domain_named (λ _. None) _ c.in-Some.command name c.in-Some.ensures.asks named) missing))) c.tell.ensures.told
