@@ -45,6 +45,18 @@ const PIECE: usize = 65_536;
 /// | a file's text is refused | | `fault CODE Name in FILE at S..E` | 20 |
 /// | a file, or the standard output, fails | | `fault 61 Device` | 21 |
 /// | memory is refused | | `fault 60 NoMemory` | 22 |
+///
+/// Where a stream fails, a beginning of what is told stands on it; that the standard error fails changes no status.
+///
+/// ```
+/// let mut files = Table::new(alloc);
+/// files.put("domain.pddl", b"(define (domain path) ..)")?;
+/// files.put("problem.pddl", b"(define (problem p) (:domain path) ..)")?;
+/// let (mut out, mut err) = (Memory::empty(alloc), Memory::empty(alloc));
+/// let words = ["solve", "domain.pddl", "problem.pddl"];
+/// let status = run(alloc, &words, &mut files, &mut out, &mut err);
+/// // 0, and `out` has the plan: "(go a b)\n(go b c)\n; cost = 2\n"
+/// ```
 pub fn run<F: Files, O: Sink, E: Sink>(
     alloc: Global,
     words: &[&str],
