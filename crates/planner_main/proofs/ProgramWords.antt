@@ -14,7 +14,7 @@ use Rattle.planner_main.specs.declared.report.Failure.{Failure}
 use Rattle.planner_main.specs.declared.report.Failure.TheVariants as failure
 use Rattle.planner_main.specs.declared.task_file.FileFault.TheVariants as refusal
 use Rattle.devices.specs.declared.device.WriteFault.TheVariants as device
-use Rattle.planner_main.specs.Program.{texts, AllowsStates, as_asked, AsksForVerdict, AsksForPlan, IsCommand, is_validate, is_solve, IsText, OnTwo, OnThree, IsAnswerText, IsAnswerFor, IsAnswer, Tells, TellsPartly, a_verdict, an_answer, Refuses, IsRefusedFor, a_verdict_refused, an_answer_refused, TellsFor, TellsPartlyFor, Asks, fault_in, IsFaultFor, IsToldOn, NamesDomain, in_validate, in_solve, device_failure, domain_of}
+use Rattle.planner_main.specs.Program.{texts, AllowsStates, as_asked, AsksForVerdict, AsksForPlan, IsCommand, is_validate, is_solve, IsText, OnTwo, OnThree, IsAnswerText, IsAnswerFor, IsAnswer, Tells, TellsPartly, a_verdict, an_answer, Refuses, IsRefusedFor, a_verdict_refused, an_answer_refused, TellsFor, TellsPartlyFor, Asks, fault_in, IsFaultFor, IsToldOn, NamesDomain, in_validate, in_solve, HasFailed, HasNotFailed, CountsFailure, CountsEither, device_failure, domain_of}
 use Rattle.planner_main.specs.declared.task_file.File.{File}
 use Rattle.planner_main.specs.declared.task_file.FileFault as file
 use Rattle.faults.specs.declared.code.Code.{Code}
@@ -165,14 +165,21 @@ module _ (before after : Option (List ℕ)) (status : ℕ) where
       → IsToldOn f before after status
   fault_told f t named code span first second told = subst (λ f. IsToldOn f before after status) (sym (first ∙ ap failure.Text second)) told
 
--- Only a device that failed is told as one, and then the failure is counted.
-pub device_counted : (T : Type 0) (before after : ℕ) (fault : WriteFault) → CountsDevice {T = T} before after (Err fault)
-    → failure.Device fault ≡ device_failure → after ≡ one_more before
-device_counted T before after device.Device counted same = counted
-device_counted T before after device.NoMemory counted same = absurd (cc)
+-- What counts as a failure of a device, in a call of the files after another that counted none.
+pub device_counted : (T : Type 0) (before opened after : ℕ) (fault : WriteFault) → opened ≡ before → CountsDevice {T = T} opened after (Err fault)
+    → CountsFailure before after (failure.Device fault)
+device_counted T before opened after device.Device same counted = counted ∙ ap one_more same
+device_counted T before opened after device.NoMemory same counted = counted ∙ same
 
-pub text_counts_none : (before after : ℕ) (fault : file.FileFault) → failure.Text fault ≡ device_failure → after ≡ one_more before
-text_counts_none before after fault same = absurd (cc)
+module _ (files files_after out out_after : ℕ) where
+  pub device_has_failed : (f : Failure) → f ≡ device_failure → CountsEither files files_after out out_after f → HasFailed files files_after out out_after
+  device_has_failed f is counted = subst (CountsEither files files_after out out_after) is counted
+
+  pub others_have_not_failed : (before after : Option (List ℕ)) (status : ℕ) (f : Failure) → IsToldOn f before after status
+      → CountsEither files files_after out out_after f → (status ≡ 21 → ⊥) → HasNotFailed files files_after out out_after
+  others_have_not_failed before after status (failure.Text fault) told counted other = counted
+  others_have_not_failed before after status (failure.Device device.Device) told counted other = absurd (other told.0)
+  others_have_not_failed before after status (failure.Device device.NoMemory) told counted other = counted
 
 pub answer_is_no_failure : (status : ℕ) (f : Failure) → ◌≡◌ {A = Result ℕ Failure} (Ok status) (Err f) → ⊥
 answer_is_no_failure status f same = absurd (cc)

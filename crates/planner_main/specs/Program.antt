@@ -121,6 +121,10 @@ Refuses contents words out out_after err err_after =
 abbrev pub HasFailed : (files files_after out out_after : ℕ) → Type 0
 HasFailed files files_after out out_after = (files_after ≡ one_more files) ⊎ (out_after ≡ one_more out)
 
+-- no failure was counted of either
+abbrev pub HasNotFailed : (files files_after out out_after : ℕ) → Type 0
+HasNotFailed files files_after out out_after = (files_after ≡ files) × (out_after ≡ out)
+
 -- the same of what a command asks for, in the code's terms
 abbrev pub IsAnswerFor : (List ℕ → Option (List ℕ)) → Command → (text : List ℕ) → ℕ → Type 0
 IsAnswerFor contents (Validate domain problem plan) text status =
@@ -154,6 +158,17 @@ IsFaultFor contents (Solve domain problem limits) fault = OnTwo contents domain.
 -- the failure of a device
 abbrev pub device_failure : Failure
 device_failure = failure.Device device.Device
+
+-- A failure of a device counts one failure, another none: of the files, and of the files or the standard output.
+abbrev pub CountsFailure : (before after : ℕ) → Failure → Type 0
+CountsFailure before after (failure.Text fault) = after ≡ before
+CountsFailure before after (failure.Device device.Device) = after ≡ one_more before
+CountsFailure before after (failure.Device device.NoMemory) = after ≡ before
+
+abbrev pub CountsEither : (files files_after out out_after : ℕ) → Failure → Type 0
+CountsEither files files_after out out_after (failure.Text fault) = HasNotFailed files files_after out out_after
+CountsEither files files_after out out_after (failure.Device device.Device) = HasFailed files files_after out out_after
+CountsEither files files_after out out_after (failure.Device device.NoMemory) = HasNotFailed files files_after out out_after
 
 -- A failure is told: known bytes grow by a beginning of its line, and the status is 20 of a text that is refused, 21 of a
 -- device and 22 of memory. Where there is no memory for the line of a fault, that is told in its place.

@@ -3,9 +3,9 @@ ghost use Rattle.std.specs.Prelude.{◌≡◌, ℕ, ◌+◌, ◌↔◌, ◌⊎�
 ghost use Rattle.planner_main.specs.Failures.{device_line, no_memory_line, usage};
 ghost use Rattle.planner_main.specs.Files.{told_in};
 ghost use Rattle.planner_main.specs.Report.{is_failure};
-ghost use Rattle.planner_main.specs.Program.{texts, IsCommand, IsText, OnTwo, OnThree, IsVerdictLine, IsSolutionText, IsVerdictText, IsAnswerText, IsAnswerFor, Tells, TellsFor, TellsPartly, TellsPartlyFor, Refuses, HasFailed, NamesDomain, IsFaultFor, device_failure, domain_of, fault_in};
+ghost use Rattle.planner_main.specs.Program.{texts, IsCommand, IsText, OnTwo, OnThree, IsVerdictLine, IsSolutionText, IsVerdictText, IsAnswerText, IsAnswerFor, Tells, TellsFor, TellsPartly, TellsPartlyFor, Refuses, HasFailed, HasNotFailed, CountsFailure, CountsEither, NamesDomain, IsFaultFor, device_failure, domain_of, fault_in};
 ghost use Rattle.devices.specs.declared.device.WriteFault.TheVariants.{Device};
-ghost use Rattle.devices.specs.Devices.{AppendsBeginning, CountsDevice, IsReading, ReadsSome, one_more};
+ghost use Rattle.devices.specs.Devices.{AppendsBeginning, CountsDevice, IsReading, ReadsSome};
 ghost use Rattle.model.specs.Files.{IsFileFault, IsTaskFault};
 
 mod command;
@@ -45,6 +45,18 @@ const PIECE: usize = 65_536;
 /// | a file's text is refused | | `fault CODE Name in FILE at S..E` | 20 |
 /// | a file, or the standard output, fails | | `fault 61 Device` | 21 |
 /// | memory is refused | | `fault 60 NoMemory` | 22 |
+///
+/// Where a stream fails, a beginning of what is told stands on it; that the standard error fails changes no status.
+///
+/// ```
+/// let mut files = Table::new(alloc);
+/// files.put("domain.pddl", b"(define (domain path) ..)")?;
+/// files.put("problem.pddl", b"(define (problem p) (:domain path) ..)")?;
+/// let (mut out, mut err) = (Memory::empty(alloc), Memory::empty(alloc));
+/// let words = ["solve", "domain.pddl", "problem.pddl"];
+/// let status = run(alloc, &words, &mut files, &mut out, &mut err);
+/// // 0, and `out` has the plan: "(go a b)\n(go b c)\n; cost = 2\n"
+/// ```
 pub fn run<F: Files, O: Sink, E: Sink>(
     alloc: Global,
     words: &[&str],
@@ -63,7 +75,8 @@ pub fn run<F: Files, O: Sink, E: Sink>(
     ensures refused { result ≡ 20 → Refuses (F.contents files.old) (texts words.now)
         (O.taken out.old) (O.taken out.new) (E.taken err.old) (E.taken err.new) }
 
-    // The status of a device is told only where one failed. An answer may have been told in part.
+    // The status of a device is told exactly where one failed. An answer may have been told in part.
+    ensures unfailed { (result ≡ 21 → ⊥) → HasNotFailed (F.failures files.old) (F.failures files.new) (O.failures out.old) (O.failures out.new) }
     ensures device { result ≡ 21 → HasFailed (F.failures files.old) (F.failures files.new) (O.failures out.old) (O.failures out.new)
         × TellsPartly (F.contents files.old) (texts words.now) (O.taken out.old) (O.taken out.new)
         × AppendsBeginning (E.taken err.old) (E.taken err.new) device_line }
@@ -91,8 +104,8 @@ fn carry_out<F: Files, O: Sink>(
     ensures refused { IfErr result (λ failure. IfSome (fault_in failure) (λ fault.
         IsFaultFor (F.contents files.old) command.entry fault × (O.taken out.new ≡ O.taken out.old))) }
     ensures partly { IfErr result (λ failure. TellsPartlyFor (F.contents files.old) command.entry (O.taken out.old) (O.taken out.new)) }
-    ensures failures { IfErr result (λ failure. failure ≡ device_failure
-        → HasFailed (F.failures files.old) (F.failures files.new) (O.failures out.old) (O.failures out.new)) }
+    ensures unfailed { IfOk result (λ _. HasNotFailed (F.failures files.old) (F.failures files.new) (O.failures out.old) (O.failures out.new)) }
+    ensures failures { IfErr result (CountsEither (F.failures files.old) (F.failures files.new) (O.failures out.old) (O.failures out.new)) }
     ensures missing { IsTrue (F.is_missing files.old (domain_of command.entry)) → result ≡ Err device_failure }
 {
     let (text, status) = answer_command(alloc, command, files)?;
@@ -108,7 +121,8 @@ fn answer_command<F: Files>(
 ) -> Result<(Vec<u8>, u8), Failure>
     ensures answer { IfOk result (λ told. IsAnswerFor (F.contents files.old) command.entry told.0.items told.1) }
     ensures refused { IfErr result (λ failure. IfSome (fault_in failure) (IsFaultFor (F.contents files.old) command.entry)) }
-    ensures failures { IfErr result (λ failure. failure ≡ device_failure → F.failures files.new ≡ one_more (F.failures files.old)) }
+    ensures unfailed { IfOk result (λ _. F.failures files.new ≡ F.failures files.old) }
+    ensures failures { IfErr result (CountsFailure (F.failures files.old) (F.failures files.new)) }
     ensures missing { IsTrue (F.is_missing files.old (domain_of command.entry)) → result ≡ Err device_failure }
 {
     match command {
@@ -136,7 +150,8 @@ fn answer_validate<F: Files>(
     ensures answer { IfOk result (λ told. IsVerdictText (F.contents files.old) domain.now problem.now plan.now told.0.items told.1) }
     ensures refused { IfErr result (λ failure. IfSome (fault_in failure) (λ fault.
         OnThree (F.contents files.old) domain.now problem.now plan.now (λ d p l. IsFileFault d p l fault))) }
-    ensures failures { IfErr result (λ failure. failure ≡ device_failure → F.failures files.new ≡ one_more (F.failures files.old)) }
+    ensures unfailed { IfOk result (λ _. F.failures files.new ≡ F.failures files.old) }
+    ensures failures { IfErr result (CountsFailure (F.failures files.old) (F.failures files.new)) }
     ensures missing { IsTrue (F.is_missing files.old domain.now) → result ≡ Err device_failure }
 {
     let task = read_pair(alloc, files, domain, problem)?;
@@ -156,7 +171,8 @@ fn answer_solve<F: Files>(
         told.0.items told.1) }
     ensures refused { IfErr result (λ failure. IfSome (fault_in failure) (λ fault.
         OnTwo (F.contents files.old) domain.now problem.now (λ d p. IsTaskFault d p fault))) }
-    ensures failures { IfErr result (λ failure. failure ≡ device_failure → F.failures files.new ≡ one_more (F.failures files.old)) }
+    ensures unfailed { IfOk result (λ _. F.failures files.new ≡ F.failures files.old) }
+    ensures failures { IfErr result (CountsFailure (F.failures files.old) (F.failures files.new)) }
     ensures missing { IsTrue (F.is_missing files.old domain.now) → result ≡ Err device_failure }
 {
     let task = read_pair(alloc, files, domain, problem)?;

@@ -26,6 +26,15 @@ pub struct Solved {
 /// A cheapest plan, or that there is none, from the bytes of the two files.
 ///
 /// The domain is scanned and read, then the problem, then both are typed together; the first fault ends the call.
+///
+/// ```
+/// let Some(limits) = Limits::new(1_000_000, 1_000_000) else { return Ok(()) };
+/// match solve_files(alloc, domain, problem, limits)?.answer {
+///     Answer::Plan { cost, .. } => println!(rt; "no plan costs less than {cost}")?,
+///     Answer::Unsolvable { .. } => println!(rt; "there is no plan")?,
+///     Answer::Unknown(_) => println!(rt; "a limit is exceeded")?,
+/// }
+/// ```
 pub fn solve_files(
     alloc: Global,
     domain: &[u8],

@@ -16,6 +16,14 @@ use validator::{Verdict, validate};
 ///
 /// The domain is scanned and read, then the problem, then both are typed together, then the plan is read; the first
 /// fault ends the call.
+///
+/// ```
+/// match validate_files(alloc, domain, problem, b"(go a b)\n(go b c)\n")? {
+///     Verdict::Valid { cost } => println!(rt; "a plan of cost {cost}")?,
+///     Verdict::NotApplicable { step } => println!(rt; "step {step} is not applicable")?,
+///     Verdict::GoalMissed => println!(rt; "the goal is missed")?,
+/// }
+/// ```
 pub fn validate_files(
     alloc: Global,
     domain: &[u8],

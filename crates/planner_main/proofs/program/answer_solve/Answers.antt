@@ -1,6 +1,7 @@
+use Rattle.std.proofs.Common.{refl}
 use Rattle.std.proofs.lemmas.Result.{err_from_is_err_and}
 use Rattle.planner_main.specs.declared.program.Pair.{Pair}
-use Rattle.planner_main.proofs.ProgramWords.{refused_on_two, device_counted, text_counts_none}
+use Rattle.planner_main.proofs.ProgramWords.{refused_on_two, device_counted}
 use Rattle.planner_main.proofs.program.answer_solve.Goals as goal
 
 pub returns-in_err-task-clause-refused : goal.returns-in_err-task-clause-refused
@@ -23,9 +24,9 @@ returns-clause-answer g c =
 pub returns-in_err-task-clause-failures : goal.returns-in_err-task-clause-failures
 returns-in_err-task-clause-failures g c =
     let p = err_from_is_err_and c.from_residual.result c.from_residual.ensures.1 in
-    rw (p.1, p.2) (device_counted Pair _ _ _ c.in_err-task.ensures.failures)
+    rw (p.1, p.2) (device_counted Pair _ _ _ _ refl c.in_err-task.ensures.failures)
 
 pub returns-in_err-solution_text-clause-failures : goal.returns-in_err-solution_text-clause-failures
 returns-in_err-solution_text-clause-failures g c =
     let p = err_from_is_err_and c.from_residual-in_err-solution_text.result c.from_residual-in_err-solution_text.ensures.1 in
-    rw (p.1, p.2) (text_counts_none _ _ _)
+    rw (p.1, p.2) c.in_ok-task.ensures.failures

@@ -1,9 +1,8 @@
-use Rattle.std.proofs.Common.{ℕ, ap, ◌∙◌}
+use Rattle.std.proofs.Common.{ℕ, refl, ◌∙◌}
 use Rattle.std.specs.Global.{Vec}
 use Rattle.std.proofs.lemmas.Result.{err_from_is_err_and}
 use Rattle.planner_main.specs.declared.program.Pair.{Pair}
-use Rattle.planner_main.proofs.ProgramWords.{text_kept, refused_on_three, device_counted, text_counts_none}
-use Rattle.devices.specs.Devices.{one_more}
+use Rattle.planner_main.proofs.ProgramWords.{text_kept, refused_on_three, device_counted}
 use Rattle.planner_main.proofs.program.answer_validate.Goals as goal
 
 pub returns-in_err-task-clause-refused : goal.returns-in_err-task-clause-refused
@@ -32,14 +31,14 @@ returns-clause-answer g c =
 pub returns-in_err-task-clause-failures : goal.returns-in_err-task-clause-failures
 returns-in_err-task-clause-failures g c =
     let p = err_from_is_err_and c.from_residual.result c.from_residual.ensures.1 in
-    rw (p.1, p.2) (device_counted Pair _ _ _ c.in_err-task.ensures.failures)
+    rw (p.1, p.2) (device_counted Pair _ _ _ _ refl c.in_err-task.ensures.failures)
 
 pub returns-in_err-plan-clause-failures : goal.returns-in_err-plan-clause-failures
 returns-in_err-plan-clause-failures g c =
     let p = err_from_is_err_and c.from_residual-in_err-plan.result c.from_residual-in_err-plan.ensures.1 in
-    rw (p.1, p.2) (λ same. device_counted (Vec ℕ) _ _ _ c.in_err-plan.ensures.failures same ∙ ap one_more c.in_ok-task.ensures.failures)
+    rw (p.1, p.2) (device_counted (Vec ℕ) _ _ _ _ c.in_ok-task.ensures.failures c.in_err-plan.ensures.failures)
 
 pub returns-in_err-verdict_text-clause-failures : goal.returns-in_err-verdict_text-clause-failures
 returns-in_err-verdict_text-clause-failures g c =
     let p = err_from_is_err_and c.from_residual-in_err-verdict_text.result c.from_residual-in_err-verdict_text.ensures.1 in
-    rw (p.1, p.2) (text_counts_none _ _ _)
+    rw (p.1, p.2) (c.in_ok-plan.ensures.failures ∙ c.in_ok-task.ensures.failures)

@@ -1,5 +1,5 @@
 use Rattle.std.proofs.Common.{inr, refl, subst, IsTrue, None}
-use Rattle.planner_main.proofs.ProgramWords.{told_of_words, partly_of_words, refuses_of_words, asked_is_command, told_status, no_failure, failed_status, device_told, memory_told, device_status, domain_named, names_command, answer_is_no_failure, failure_is_same}
+use Rattle.planner_main.proofs.ProgramWords.{told_of_words, partly_of_words, refuses_of_words, asked_is_command, told_status, no_failure, failed_status, device_told, memory_told, device_status, domain_named, names_command, answer_is_no_failure, failure_is_same, device_has_failed, others_have_not_failed}
 use Rattle.planner_main.proofs.program.run.Goals as goal
 
 pub returns-in-Ok-clause-status : goal.returns-in-Ok-clause-status
@@ -39,7 +39,7 @@ returns-in-Err-clause-refused g c = λ same.
 pub returns-in-Err-clause-device : goal.returns-in-Err-clause-device
 returns-in-Err-clause-device g c = λ same.
     let (is, line) = device_told _ _ _ c.in-Err.failure c.tell.ensures.told same in
-    (c.in-Err.ensures.failures is, partly_of_words _ _ _ _ c.in-Some.command c.in-Some.ensures.asks c.in-Err.ensures.partly, line)
+    (device_has_failed _ _ _ _ c.in-Err.failure is c.in-Err.ensures.failures, partly_of_words _ _ _ _ c.in-Some.command c.in-Some.ensures.asks c.in-Err.ensures.partly, line)
 
 pub returns-in-Err-clause-memory : goal.returns-in-Err-clause-memory
 returns-in-Err-clause-memory g c = λ same.
@@ -57,3 +57,6 @@ pub returns-in-Err-clause-missing : goal.returns-in-Err-clause-missing
 returns-in-Err-clause-missing g c = λ name named missing.
     device_status _ _ _ c.in-Err.failure (failure_is_same _ _ (c.in-Err.ensures.missing
     (subst (λ n. IsTrue (g.F.Files.is_missing c.args.files.now n)) (domain_named (λ _. None) _ c.in-Some.command name c.in-Some.ensures.asks named) missing))) c.tell.ensures.told
+
+pub returns-in-Err-clause-unfailed : goal.returns-in-Err-clause-unfailed
+returns-in-Err-clause-unfailed g c = others_have_not_failed _ _ _ _ _ _ _ c.in-Err.failure c.tell.ensures.told c.in-Err.ensures.failures

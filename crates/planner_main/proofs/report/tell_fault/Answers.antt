@@ -1,7 +1,5 @@
 use Rattle.std.proofs.Common.{inl, refl, subst, ◌∙◌}
 use Rattle.devices.specs.Devices.{AppendsBeginning}
-use Rattle.planner_main.specs.Failures.{line_of_fault}
-use Rattle.planner_main.specs.Files.{fault_at}
 use Rattle.planner_main.proofs.report.tell_fault.Goals as goal
 
 pub returns-in-Ok : goal.returns-in-Ok
