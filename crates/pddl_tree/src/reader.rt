@@ -1,12 +1,12 @@
 //! From words to trees.
 //!
-//! A file is read as by a deterministic pushdown automaton, with the calls of the reader for its stack: the next word
-//! alone decides what is done, and none is looked at twice. It has the viable-prefix property: the words that were gone
-//! through begin a file, so the first word that is refused is the first with which no file goes on
-//! (`model/specs/GrammarMachine.antt` is the automaton, `GrammarBegins` in its proofs the property). Two things differ from
-//! the textbook's. A state holds what was read beside what is wanted: it is a function from the tree that comes next to
-//! the state after it, so that the run ends in the tree; and which sections stand already is part of it, since they stand
-//! at most once and in any order. And a stop tells which line of a table of refusals is true of the word.
+//! A file is read as by a deterministic pushdown automaton, whose stack are the calls that are open: the next word alone
+//! decides what is done, and the reader never goes back. It has the viable-prefix property: the words that it went
+//! through begin a file, so the first word that it refuses is the first with which no file goes on. The automaton is
+//! crates/model/specs/GrammarMachine.antt, and the property is proved in crates/model/proofs/GrammarBegins.antt. It differs
+//! from the textbook's in three things. A state is a function from the tree that comes next to the state after it, so
+//! that a run ends in the file's tree and not in a yes. Which sections and parts stand already belongs to the state, since
+//! each stands at most once and their order is free. And where it stops, it says by a number why.
 ghost use Rattle.std.specs.Prelude.{◌≡◌, List, map, IfOk, IfErr, IsErrAnd, IfSome, IsSome, None, Some, [], unwrap_or};
 ghost use Rattle.std.specs.Option.{option_map};
 ghost use Rattle.faults.specs.Fault.{told_by};
@@ -58,7 +58,7 @@ use tokens::Word;
 /// ```
 /// let words = scan(alloc, b"(define (domain d) (:predicates (at ?x)))")?;
 /// let tree = domain(alloc, &words)?;
-/// assert_eq!(rt; tree.name.text, b"d");
+/// assert_eq!(rt; tree.name.text, b"d".as_slice());
 /// assert_eq!(rt; tree.predicates.len(), 1);
 /// ```
 ///

@@ -47,7 +47,7 @@ const DEEPEST: usize = 64;
 /// let words = scan(alloc, b"(at ?x) ; here")?;
 /// assert_eq!(rt; words.len(), 4);
 /// assert_eq!(rt; words[2].kind(), Kind::Variable);
-/// assert_eq!(rt; words[2].text(), b"?x");
+/// assert_eq!(rt; words[2].text(), b"?x".as_slice());
 /// assert_eq!(rt; words[2].span(), Span { start: 4, end: 6 });
 /// ```
 ///
