@@ -1,5 +1,5 @@
 -- What the checker finds out of a certificate's lines, one after another.
-use Rattle.std.specs.Prelude.{◌≡◌, ◌≢◌, ℕ, ◌+◌, ◌<◌, ◌≤◌, ◌&&◌, IsTrue, List, length, map, All, AllPairs, Contains, slice_get, Option, None, Some}
+use Rattle.std.specs.Prelude.{◌≡◌, ◌≢◌, ℕ, ◌+◌, ◌<◌, ◌≤◌, Bool, ◌&&◌, IsTrue, MatchBool, List, [], ◌∷◌, ◌++◌, length, map, All, AllPairs, Contains, slice_get, Option, None, Some}
 use Rattle.cert_checker.specs.declared.check.Refusal.{Refusal}
 use Rattle.cert_checker.specs.CertChecker.{IsFirstRefusal, IsTrueRefusal}
 use Rattle.model.specs.Task.{Atom, Task, Instance}
@@ -19,6 +19,10 @@ pub record AreFluent (task : Task) (atoms : List Atom) : Type 0 where
 pub record Lists (task : Task) (certificate : Certificate) (states : List State) : Type 0 where
   pub listed : states ≡ map (state_of_line task certificate) certificate.lines
   pub distinct : AllPairs (λ (s t : State). s ≢ t) states
+
+-- the states before and after one is to stand among them: it comes to the end if it is new, and else nothing changes
+abbrev pub IsAdded : List State → List State → State → Bool → Type 0
+IsAdded old new state is_new = MatchBool is_new ((¬ Contains old state) × (new ≡ old ++ state ∷ [])) (Contains old state × (new ≡ old))
 
 -- the refusal is true, whatever plan is handed in and whatever the limit of instances
 abbrev pub IsTrueAnyway : Task → Certificate → Refusal → Type 0

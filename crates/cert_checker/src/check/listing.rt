@@ -1,13 +1,14 @@
 //! The listing of a certificate: its atoms and its states, read in the order of their lines.
-ghost use Rattle.std.specs.Prelude.{◌≡◌, ◌↔◌, List, ◌++◌, slice_get, IfErr, IfOk, IsSome, IsTrue, OnOk, length};
+ghost use Rattle.std.specs.Prelude.{◌≡◌, ◌↔◌, List, ◌++◌, not, slice_get, IfErr, IfOk, IsSome, IsTrue, OnOk, length};
 ghost use Rattle.std.specs.FinSet.{from_list};
-ghost use Rattle.std.specs.List.{filter_map};
+ghost use Rattle.std.specs.List.{filter_map, list_any};
+ghost use Rattle.indexmap.specs.IndexSet.{insert_key};
 ghost use Rattle.typing.specs.Task.{task_of};
 ghost use Rattle.formulas.specs.State.{state_of};
 ghost use Rattle.certificate.specs.CertificateParts.{line_of};
 ghost use Rattle.certificate.specs.Certificate.{certificate_of};
 ghost use Rattle.task_system.specs.PlainStore.{states_of};
-ghost use Rattle.cert_checker.specs.CheckedLines.{AreFluent, CutsAreAllowed, IsFirstAnyway, IsTrueAnyway, Lists};
+ghost use Rattle.cert_checker.specs.CheckedLines.{AreFluent, CutsAreAllowed, IsAdded, IsFirstAnyway, IsTrueAnyway, Lists};
 ghost use Rattle.model.specs.Task as model_task;
 ghost use Rattle.model.specs.Claims as claims;
 ghost use Rattle.model.specs.Certificates.{lines_of, static_atoms};
@@ -20,7 +21,7 @@ use formulas::{State, is_fluent, is_fluent_atom};
 use indexmap::IndexSet;
 use std::alloc::Global;
 use task_system::PlainStore;
-use typing::Task;
+use typing::{Atom, Task};
 
 /// Whether each atom is a well-typed atom of a fluent predicate, and none stood before.
 pub(super) fn check_atoms(alloc: Global, task: &Task, cert: &Cert) -> Result<(), Refusal>
@@ -33,11 +34,19 @@ pub(super) fn check_atoms(alloc: Global, task: &Task, cert: &Cert) -> Result<(),
         if !is_fluent_atom(task, atom) {
             return Err(atom_line(RefusalCode::NotFluent, place));
         }
-        if !seen.insert(atom.clone()?)? {
+        if !see(&mut seen, atom)? {
             return Err(atom_line(RefusalCode::Repeated, place));
         }
     }
     Ok(())
+}
+
+/// Puts the atom among those that were seen, and answers `true`, if it is not among them.
+fn see(seen: &mut IndexSet<Atom>, atom: &Atom) -> Result<bool, NoMemory>
+    ensures added { IfOk result (λ is_new. is_new ≡ not (list_any (⟦<Atom as PartialEq>⟧.eq atom.now) seen.old.keys)) }
+    ensures keys { OnOk result (seen.new.keys ≡ insert_key ⟦<Atom as PartialEq>⟧.eq seen.old.keys atom.now) }
+{
+    Ok(seen.insert(atom.clone()?)?)
 }
 
 /// The states that the lines list, in order. None stands twice, and none is cut where no cut is allowed.
@@ -50,8 +59,7 @@ pub(super) fn listed_states(alloc: Global, task: &Task, cert: &Cert) -> Result<P
     let statics = static_state(alloc, task)?;
     let mut states = PlainStore::new(alloc);
     for (place, line) in cert.lines().iter().enumerate() {
-        let state = listed_state(&statics, cert, line)?;
-        if !states.insert_if_new(state)? {
+        if !add_listed(&mut states, &statics, cert, line)? {
             return Err(state_line(RefusalCode::Repeated, cert, place));
         }
         if is_cut_not_allowed(cert, line) {
@@ -59,6 +67,20 @@ pub(super) fn listed_states(alloc: Global, task: &Task, cert: &Cert) -> Result<P
         }
     }
     Ok(states)
+}
+
+/// Puts the state that a line lists at the end of the states, and answers `true`, if it is not among them.
+fn add_listed(
+    states: &mut PlainStore,
+    statics: &State,
+    cert: &Cert,
+    line: &StateLine,
+) -> Result<bool, NoMemory>
+    ensures { IfOk result (λ is_new. (fixed : List model_task.Atom) → state_of statics.now ≡ from_list fixed
+        → IsAdded (states_of states.old) (states_of states.new) (from_list (filter_map (slice_get (certificate_of cert.now).atoms) (line_of line.now).atoms ++ fixed)) is_new) }
+{
+    let state = listed_state(statics, cert, line)?;
+    Ok(states.insert_if_new(state)?)
 }
 
 /// Whether the line is a cut, and it is claimed that no plan solves the task.

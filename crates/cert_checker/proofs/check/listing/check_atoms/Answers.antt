@@ -1,7 +1,6 @@
-use Rattle.std.proofs.Common.{sym, ◌∙◌}
-use Rattle.std.specs.List.{each_same, list_any}
+use Rattle.std.proofs.Common.{refl, sym, ◌∙◌}
+use Rattle.std.specs.List.{list_any}
 use Rattle.typing.specs.Task.{task_of}
-use Rattle.formulas.proofs.States.{copied}
 use Rattle.formulas.proofs.Equality.{atom_eq}
 use Rattle.certificate.specs.Certificate.{certificate_of}
 use Rattle.cert_checker.specs.declared.check.code.RefusalCode.TheVariants.{NotFluent, Repeated}
@@ -25,11 +24,9 @@ returns-then-not-branch-clause-wrong c =
     let task = task_of c.args.task.now in
     let cert = certificate_of c.args.cert.now in
     let atom = c.atom-item.result in
-    let copy = c.in_ok-clone.field-0 in
-    let same = copied atom copy c.in_ok-clone.ensures.cases.0 (each_same atom.objects.items copy.objects.items c.in_ok-clone.ensures.cases.1) in
     told task cert c.atom_line-then-not-branch.result Repeated (atom_line c.loop-place.place) c.atom_line-then-not-branch.ensures
-    (wrong_repeated_atom task cert c.atoms-atom-items.result.now c.loop-place.place atom copy c.loop-place.seen.keys c.loop-place-test.true c.atom-item.is c.atoms-atom-items.ensures.atoms same
-    c.loop-place.invariant.0 (was_there c.in_ok-insert.field-0 (list_any (atom_eq copy) c.loop-place.seen.keys) c.in_ok-insert.ensures.added c.if-not-branch.true))
+    (wrong_repeated_atom task cert c.atoms-atom-items.result.now c.loop-place.place atom atom c.loop-place.seen.keys c.loop-place-test.true c.atom-item.is c.atoms-atom-items.ensures.atoms refl
+    c.loop-place.invariant.0 (was_there c.in_ok-see.field-0 (list_any (atom_eq atom) c.loop-place.seen.keys) c.in_ok-see.ensures.added c.if-not-branch.true))
 
 pub loop-place-preserved : goal.loop-place-preserved
 loop-place-preserved c =
@@ -38,12 +35,10 @@ loop-place-preserved c =
     let place = c.loop-place.place in
     let seen = c.loop-place.seen.keys in
     let atom = c.atom-item.result in
-    let copy = c.in_ok-clone.field-0 in
-    let same = copied atom copy c.in_ok-clone.ensures.cases.0 (each_same atom.objects.items copy.objects.items c.in_ok-clone.ensures.cases.1) in
-    let new = was_new c.in_ok-insert.field-0 (list_any (atom_eq copy) seen) c.in_ok-insert.ensures.added c.if-not-branch.false in (
-      seen_more atoms place atom copy seen c.insert.new.self.keys c.loop-place-test.true c.atom-item.is same c.loop-place.invariant.0 c.in_ok-insert.ensures.keys new,
+    let new = was_new c.in_ok-see.field-0 (list_any (atom_eq atom) seen) c.in_ok-see.ensures.added c.if-not-branch.false in (
+      seen_more atoms place atom atom seen c.see.new.seen.keys c.loop-place-test.true c.atom-item.is refl c.loop-place.invariant.0 c.in_ok-see.ensures.keys new,
       fluent_more task atoms place atom c.loop-place-test.true c.atom-item.is c.loop-place.invariant.1 (sym c.is_fluent_atom.ensures ∙ c.if-not-is_fluent_atom.false)
-          (new_one atoms place atom copy seen same c.loop-place.invariant.0 new),
+          (new_one atoms place atom atom seen refl c.loop-place.invariant.0 new),
     )
 
 pub returns-then-not-is_fluent_atom-clause-first : goal.returns-then-not-is_fluent_atom-clause-first

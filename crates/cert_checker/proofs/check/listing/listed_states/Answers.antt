@@ -1,8 +1,8 @@
-use Rattle.std.proofs.Common.{◌≡◌, ◌≢◌, ◌++◌, ◌∷◌, [], sym, subst}
-use Rattle.std.specs.Prelude.{AllPairs, Contains, MatchBool}
+use Rattle.std.proofs.Common.{◌≢◌, refl, sym, subst}
+use Rattle.std.specs.Prelude.{AllPairs}
+use Rattle.cert_checker.specs.CheckedLines.{IsAdded}
 use Rattle.typing.specs.Task.{task_of}
 use Rattle.certificate.specs.Certificate.{certificate_of}
-use Rattle.formulas.specs.State.{state_of}
 use Rattle.certificate.specs.CertificateParts.{line_of}
 use Rattle.task_system.specs.PlainStore.{states_of}
 use Rattle.cert_checker.specs.declared.check.code.RefusalCode.TheVariants.{Repeated, CutNotAllowed}
@@ -21,12 +21,12 @@ loop-place-preserved c =
     let task = task_of c.args.task.now in
     let cert = certificate_of c.args.cert.now in
     let old = states_of c.loop-place.states in
-    let new = states_of c.insert_if_new.new.self in
-    let state = state_of c.in_ok-state.state in
-    let here = subst (λ b. MatchBool b ((¬ Contains old state) × (new ≡ old ++ state ∷ [])) (Contains old state × (new ≡ old))) c.if-not-branch.false c.in_ok-insert_if_new.ensures.ok in (
+    let new = states_of c.add_listed.new.states in
+    let state = state_of_line task cert (line_of c.line-item.result) in
+    let here = subst (IsAdded old new state) c.if-not-branch.false (c.in_ok-add_listed.ensures (static_atoms task) c.in_ok-statics.ensures) in (
       states_more (λ line. state_of_line task cert (line_of line)) c.lines-line-items.result.now c.loop-place.place c.line-item.result
           old new state c.loop-place-test.true c.line-item.is c.loop-place.invariant.0 here.1
-          (c.in_ok-state.ensures (static_atoms task) c.in_ok-statics.ensures),
+          refl,
       subst (AllPairs (λ (s t : State). s ≢ t)) (sym here.1) (distinct_more old state c.loop-place.invariant.1 here.0),
       cuts_more task cert c.lines-line-items.result.now c.lines-line-items.ensures.lines c.loop-place.place c.line-item.result c.is_cut_not_allowed.result c.loop-place-test.true c.line-item.is
           c.loop-place.invariant.2 c.is_cut_not_allowed.ensures c.if-is_cut_not_allowed.false,
@@ -42,12 +42,12 @@ returns-then-not-branch-clause-wrong c =
     let task = task_of c.args.task.now in
     let cert = certificate_of c.args.cert.now in
     let old = states_of c.loop-place.states in
-    let new = states_of c.insert_if_new.new.self in
-    let state = state_of c.in_ok-state.state in
-    let there = subst (λ b. MatchBool b ((¬ Contains old state) × (new ≡ old ++ state ∷ [])) (Contains old state × (new ≡ old))) c.if-not-branch.true c.in_ok-insert_if_new.ensures.ok in
+    let new = states_of c.add_listed.new.states in
+    let state = state_of_line task cert (line_of c.line-item.result) in
+    let there = subst (IsAdded old new state) c.if-not-branch.true (c.in_ok-add_listed.ensures (static_atoms task) c.in_ok-statics.ensures) in
     told task cert c.state_line.result Repeated (state_line cert c.loop-place.place) c.state_line.ensures
     (wrong_repeated task cert c.lines-line-items.result.now c.loop-place.place c.line-item.result old state c.loop-place-test.true c.line-item.is c.lines-line-items.ensures.lines
-    c.loop-place.invariant.0 (c.in_ok-state.ensures (static_atoms task) c.in_ok-statics.ensures) there.0)
+    c.loop-place.invariant.0 refl there.0)
 
 pub returns-then-is_cut_not_allowed-clause-wrong : goal.returns-then-is_cut_not_allowed-clause-wrong
 returns-then-is_cut_not_allowed-clause-wrong c =
@@ -79,11 +79,11 @@ returns-then-is_cut_not_allowed-clause-first c =
     let lines = c.lines-line-items.result.now in
     let place = c.loop-place.place in
     let old = states_of c.loop-place.states in
-    let new = states_of c.insert_if_new.new.self in
-    let state = state_of c.in_ok-state.state in
-    let here = subst (λ b. MatchBool b ((¬ Contains old state) × (new ≡ old ++ state ∷ [])) (Contains old state × (new ≡ old))) c.if-not-branch.false c.in_ok-insert_if_new.ensures.ok in
+    let new = states_of c.add_listed.new.states in
+    let state = state_of_line task cert (line_of c.line-item.result) in
+    let here = subst (IsAdded old new state) c.if-not-branch.false (c.in_ok-add_listed.ensures (static_atoms task) c.in_ok-statics.ensures) in
     told_first task cert plan most c.state_line-then-is_cut_not_allowed.result CutNotAllowed (state_line cert place) c.state_line-then-is_cut_not_allowed.ensures
     (first_not_allowed task cert plan most place (atoms_right task cert atoms)
     (states_upto task cert lines c.lines-line-items.ensures.lines place old c.loop-place.invariant.0 c.loop-place.invariant.1 c.loop-place.invariant.2)
     (new_state task cert lines c.lines-line-items.ensures.lines place c.line-item.result old state c.loop-place-test.true c.line-item.is c.loop-place.invariant.0
-    (c.in_ok-state.ensures (static_atoms task) c.in_ok-statics.ensures) here.0)) tt
+    refl here.0)) tt
