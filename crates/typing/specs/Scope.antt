@@ -1,6 +1,7 @@
 -- What the names of formulas, effects and atoms stand for, in the model's terms.
-use Rattle.std.specs.Prelude.{ℕ, List, map, take}
+use Rattle.std.specs.Prelude.{ℕ, List, [], map, take}
 use Rattle.std.specs.Global.{Vec}
+use Rattle.typing.specs.declared.schemas.Predicate.{Predicate}
 use Rattle.typing.specs.declared.scope.Scope.{Scope}
 use Rattle.typing.specs.TaskParts.{predicate_of}
 use Rattle.model.specs.Task as task
@@ -17,6 +18,10 @@ known_of s = record {
   variables = names_in s.variables.now.keys;
   objects = names_in s.objects.now.keys;
 }
+
+-- what is known in an action of these predicates and variables
+abbrev pub over : List (Vec ℕ × Predicate) → List (Vec ℕ) → Known
+over predicates variables = record { predicates = map predicate_of predicates; variables = names_in variables; objects = [] }
 
 -- an atom with as many of its objects as a predicate may have
 abbrev pub narrow_atom_in : Known → tree.Fact → task.Atom

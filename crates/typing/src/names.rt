@@ -1,5 +1,5 @@
 //! The names that a domain and a problem declare, and what the problem says in them.
-ghost use Rattle.std.specs.Prelude.{◌≡◌, ◌≤◌, [], length, map, IfErr, IfOk};
+ghost use Rattle.std.specs.Prelude.{◌≡◌, ◌≤◌, [], length, IfErr, IfOk};
 
 use crate::scope::Scope;
 use crate::{Atom, Formula, Predicate, Schema, TaskFault, TaskFile, phases};
@@ -25,11 +25,9 @@ pub(crate) struct Start {
 
 impl Names {
     ghost use Rattle.typing.specs.Task.{TellsLeastOf};
-    ghost use Rattle.typing.specs.Scope.{narrow_atom_in};
-    ghost use Rattle.typing.specs.Names.{declared_faults, known_by, stated_faults, AreDeclared};
-    ghost use Rattle.typing.specs.TaskParts as parts;
+    ghost use Rattle.typing.specs.Names.{declared_faults, domain_faults, known_by, stated_faults, AreDeclared, AreOfDomain, Starts};
     ghost use Rattle.pddl_tree.specs.Tree.{domain_of, problem_of};
-    ghost use Rattle.model.specs.Typing as typing;
+    ghost use Rattle.model.specs.Typing.{in_problem};
 
     /// The names that a domain and a problem declare.
     pub(crate) fn declared(
@@ -43,6 +41,19 @@ impl Names {
         ensures err { IfErr result (TellsLeastOf (declared_faults (domain_of domain.now) (problem_of problem.now))) }
     {
         let objects = phases::objects(alloc, problem)?;
+        Names::of_objects(alloc, objects, domain)
+    }
+
+    /// These objects, and the names that a domain declares.
+    fn of_objects(
+        alloc: Global,
+        objects: IndexSet<Vec<u8>>,
+        domain: &Domain<'_>,
+    ) -> Result<Names, TaskFault>
+        requires { length objects.keys ≤ 65535 }
+        ensures ok { IfOk result (AreOfDomain (domain_of domain.now) objects.keys) }
+        ensures err { IfErr result (TellsLeastOf (domain_faults (domain_of domain.now))) }
+    {
         let predicates = phases::predicates(alloc, domain)?;
         let schemas = phases::schemas(alloc, &predicates, domain)?;
         Ok(Names {
@@ -54,10 +65,7 @@ impl Names {
 
     /// What the problem states, with numbers for the names.
     pub(crate) fn stated(&self, alloc: Global, problem: &Problem<'_>) -> Result<Start, TaskFault>
-        ensures ok { IfOk result
-            (λ s. (stated_faults (known_by self.now) (problem_of problem.now) ≡ [])
-            × ((map parts.atom_of s.init.items ≡ map (narrow_atom_in (known_by self.now)) (problem_of problem.now).init)
-            × (parts.formula_of s.goal ≡ typing.formula_in (known_by self.now) (problem_of problem.now).goal))) }
+        ensures ok { IfOk result (Starts in_problem (known_by self.now) (problem_of problem.now)) }
         ensures err { IfErr result (TellsLeastOf (stated_faults (known_by self.now) (problem_of problem.now))) }
     {
         let scope = Scope {
@@ -66,8 +74,27 @@ impl Names {
             variables: &IndexSet::new(alloc),
             objects: &self.objects,
         };
-        let init = phases::init(alloc, &scope, problem)?;
-        let goal = phases::goal(alloc, &scope, problem)?;
+        Start::stated_in(alloc, &scope, problem)
+    }
+}
+
+impl Start {
+    ghost use Rattle.typing.specs.Task.{file_of, TellsLeastOf};
+    ghost use Rattle.typing.specs.Scope.{known_of};
+    ghost use Rattle.typing.specs.Names.{stated_faults_in, Starts};
+    ghost use Rattle.pddl_tree.specs.Tree.{problem_of};
+
+    /// What the problem states, where this may be named in it.
+    pub(crate) fn stated_in(
+        alloc: Global,
+        scope: &Scope<'_>,
+        problem: &Problem<'_>,
+    ) -> Result<Start, TaskFault>
+        ensures ok { IfOk result (Starts (file_of scope.now.file) (known_of scope.now) (problem_of problem.now)) }
+        ensures err { IfErr result (TellsLeastOf (stated_faults_in (file_of scope.now.file) (known_of scope.now) (problem_of problem.now))) }
+    {
+        let init = phases::init(alloc, scope, problem)?;
+        let goal = phases::goal(alloc, scope, problem)?;
         Ok(Start { init, goal })
     }
 }

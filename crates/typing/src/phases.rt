@@ -2,7 +2,7 @@
 ghost use Rattle.std.specs.Prelude.{◌≡◌, ◌≤◌, [], ◌∷◌, ◌++◌, false, if◌then◌else◌, length, map, IfErr, IfOk, OnOk};
 ghost use Rattle.typing.specs.TaskParts as parts;
 ghost use Rattle.typing.specs.Task.{file_of, TellsLeastOf};
-ghost use Rattle.typing.specs.Scope.{known_of, names_in, narrow_atom_in};
+ghost use Rattle.typing.specs.Scope.{known_of, names_in, narrow_atom_in, over};
 ghost use Rattle.typing.specs.Walk.{Finds};
 ghost use Rattle.pddl_tree.specs.Tree as read;
 ghost use Rattle.model.specs.Typing as typing;
@@ -220,6 +220,32 @@ fn schema_in(
     })
 }
 
+/// What an action declares, where these are its variables.
+fn schema_over(
+    alloc: Global,
+    walk: &mut Walk,
+    predicates: &IndexMap<Vec<u8>, Predicate>,
+    variables: &IndexSet<Vec<u8>>,
+    action: &Action<'_>,
+) -> Result<Schema, NoMemory>
+    ensures shape { IfOk result (λ s. parts.shape_of s ≡ (
+      length action.now.parameters.items,
+      typing.formula_in (over predicates.now.entries variables.now.keys) (read.formula_of action.now.precondition),
+      typing.effect_in (over predicates.now.entries variables.now.keys) (read.effect_of action.now.effect),
+    )) }
+    ensures finds { OnOk result (Finds walk.old walk.new
+        (typing.formula_faults typing.in_domain (over predicates.now.entries variables.now.keys) (read.formula_of action.now.precondition)
+        ++ typing.effect_faults typing.in_domain (over predicates.now.entries variables.now.keys) (read.effect_of action.now.effect))) }
+{
+    let scope = Scope {
+        file: TaskFile::Domain,
+        predicates,
+        variables,
+        objects: &IndexSet::new(alloc),
+    };
+    schema_in(alloc, walk, &scope, action)
+}
+
 /// What an action declares.
 fn schema(
     alloc: Global,
@@ -231,13 +257,7 @@ fn schema(
     ensures finds { OnOk result (Finds walk.old walk.new (typing.schema_faults (map parts.predicate_of predicates.now.entries) (read.action_of action.now))) }
 {
     let variables = parameters(alloc, walk, action.parameters.as_slice())?;
-    let scope = Scope {
-        file: TaskFile::Domain,
-        predicates,
-        variables: &variables,
-        objects: &IndexSet::new(alloc),
-    };
-    schema_in(alloc, walk, &scope, action)
+    schema_over(alloc, walk, predicates, &variables, action)
 }
 
 /// The actions that are declared before are refused.

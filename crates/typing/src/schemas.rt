@@ -2,7 +2,7 @@
 use crate::atoms::LiftedAtom;
 
 /// A precondition or a goal.
-#[derive(Debug, Drop)]
+#[derive(Drop)]
 pub enum Formula {
     /// An atom.
     Atom(LiftedAtom),
@@ -11,7 +11,7 @@ pub enum Formula {
 }
 
 /// An effect of an action.
-#[derive(Debug, Drop)]
+#[derive(Drop)]
 pub enum Effect {
     /// An atom that becomes true.
     Add(LiftedAtom),
@@ -22,14 +22,14 @@ pub enum Effect {
 }
 
 /// A predicate's declaration.
-#[derive(Debug, Drop)]
+#[derive(Drop)]
 pub struct Predicate {
     /// How many arguments it has.
     pub arity: usize,
 }
 
 /// An action schema.
-#[derive(Debug, Drop)]
+#[derive(Drop)]
 pub struct Schema {
     /// How many parameters it has.
     pub parameters: usize,

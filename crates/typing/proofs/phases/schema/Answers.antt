@@ -1,7 +1,7 @@
-use Rattle.std.proofs.Common.{◌≡◌, ◌∙◌, ℕ, map, IfOk, ap, sym, subst}
+use Rattle.std.proofs.Common.{◌≡◌, ◌∙◌, ℕ, [], map, IfOk, ap, sym, subst}
 use Rattle.std.proofs.lemmas.List.{length-map}
 use Rattle.typing.specs.TaskParts as parts
-use Rattle.typing.specs.Scope.{names_in}
+use Rattle.typing.specs.Scope.{over}
 use Rattle.pddl_tree.specs.Tree as read
 use Rattle.model.specs.Typing as typing
 use Rattle.typing.proofs.Shapes.{Shape}
@@ -12,9 +12,8 @@ returns-clause-shape c =
     let action = c.args.action.now in
     let names = action.parameters.items in
     let preds = map parts.predicate_of c.args.predicates.now.entries in
-    let known : typing.Known = record { predicates = preds; variables = names_in c.in_ok-variables.variables.keys; objects = names_in c.new.result.keys } in
     let variables = c.in_ok-variables.ensures.names ∙ ap (λ zs. typing.declared (map read.name_of zs)) c.as_slice.ensures.value in
-    let same : known ≡ typing.known_in_action preds (read.action_of action) =
-    λ j. record { predicates = preds; variables = variables j; objects = ap names_in c.new.ensures.empty j } in
+    let same : over c.args.predicates.now.entries c.in_ok-variables.variables.keys ≡ typing.known_in_action preds (read.action_of action) =
+    λ j. record { predicates = preds; variables = variables j; objects = [] } in
     let shape : ℕ → typing.Known → Shape = λ n k. (n, typing.formula_in k (read.formula_of action.precondition), typing.effect_in k (read.effect_of action.effect)) in
-    subst (λ (m : Shape). IfOk c.schema_in.result (λ s. parts.shape_of s ≡ m)) (λ j. shape (sym (length-map names read.name_of) j) (same j)) c.schema_in.ensures.shape
+    subst (λ (m : Shape). IfOk c.schema_over.result (λ s. parts.shape_of s ≡ m)) (λ j. shape (sym (length-map names read.name_of) j) (same j)) c.schema_over.ensures.shape

@@ -1,8 +1,10 @@
-use Rattle.std.proofs.Common.{[], ◌∷◌, ◌∙◌, map, ap, sym, subst}
+use Rattle.std.proofs.Common.{◌≡◌, [], ◌∷◌, ◌∙◌, ap}
+use Rattle.std.proofs.lemmas.Result.{IfOk-weaker, MatchResult-weaker}
 use Rattle.pddl_tree.specs.Tree.{domain_of, problem_of}
 use Rattle.typing.specs.Task.{TellsLeastOf}
-use Rattle.typing.specs.Names.{declared_faults}
-use Rattle.model.specs.Typing.{object_faults, declaration_faults, action_faults, predicates_of, schema_in, first_filled}
+use Rattle.typing.specs.Scope.{names_in}
+use Rattle.typing.specs.Names.{declared_faults, domain_faults, AreDeclared, AreOfDomain}
+use Rattle.model.specs.Typing.{object_faults, declaration_faults, action_faults, predicates_of, first_filled}
 use Rattle.typing.proofs.Tells.{tells_here, tells_later}
 use Rattle.faults.proofs.Results.{passed_on}
 use Rattle.typing.proofs.names.Names.declared.Goals as goal
@@ -13,31 +15,21 @@ returns-in_err-objects-clause-err c =
     passed_on (TellsLeastOf (declared_faults d p)) c.from_residual.result e c.from_residual.ensures.1
     (tells_here (object_faults p) _ e c.in_err-objects.ensures.err)
 
-pub returns-in_err-predicates-clause-err : goal.returns-in_err-predicates-clause-err
-returns-in_err-predicates-clause-err c =
-    let d = domain_of c.args.domain.now in let p = problem_of c.args.problem.now in let e = c.in_err-predicates.field-0.0 in
-    passed_on (TellsLeastOf (declared_faults d p)) c.from_residual-in_err-predicates.result e c.from_residual-in_err-predicates.ensures.1
-    (tells_later (object_faults p) _ c.in_ok-objects.ensures.ok.0 e (tells_here (declaration_faults d) _ e c.in_err-predicates.ensures.err))
-
-pub returns-in_err-schemas-clause-err : goal.returns-in_err-schemas-clause-err
-returns-in_err-schemas-clause-err c =
-    let d = domain_of c.args.domain.now in let p = problem_of c.args.problem.now in let e = c.in_err-schemas.field-0.0 in
-    let told = subst (λ ps. TellsLeastOf (action_faults ps d) e) c.in_ok-predicates.ensures.ok.1 c.in_err-schemas.ensures.err in
-    passed_on (TellsLeastOf (declared_faults d p)) c.from_residual-in_err-schemas.result e c.from_residual-in_err-schemas.ensures.1
-    (tells_later (object_faults p) _ c.in_ok-objects.ensures.ok.0 e (tells_later (declaration_faults d) _ c.in_ok-predicates.ensures.ok.0 e (tells_here (action_faults (predicates_of d) d) _ e told)))
-
-pub invariant_of-result : goal.invariant_of-result
-invariant_of-result c = record { few_objects = c.in_ok-objects.ensures.ok.1.1 }
+pub of_objects-requires : goal.of_objects-requires
+of_objects-requires c = c.in_ok-objects.ensures.ok.1.1
 
 pub returns-clause-ok : goal.returns-clause-ok
 returns-clause-ok c =
-    let d = domain_of c.args.domain.now in
-    let predicates = c.in_ok-predicates.ensures.ok.1 in
-    let actions = ap (λ ps. action_faults ps d) (sym predicates) ∙ c.in_ok-schemas.ensures.ok.0 in (
-      (λ i. first_filled (c.in_ok-objects.ensures.ok.0 i ∷ c.in_ok-predicates.ensures.ok.0 i ∷ actions i ∷ [])),
-      record {
-        objects = c.in_ok-objects.ensures.ok.1.0;
-        predicates = predicates;
-        schemas = c.in_ok-schemas.ensures.ok.1 ∙ ap (λ ps. map (schema_in ps) d.actions) predicates;
-      },
-    )
+    let d = domain_of c.args.domain.now in let p = problem_of c.args.problem.now in
+    let found = c.in_ok-objects.ensures.ok in
+    IfOk-weaker c.of_objects.result (AreOfDomain d c.in_ok-objects.objects.keys) (λ n. (declared_faults d p ≡ []) × AreDeclared d p n)
+    (λ n are. (
+      ap (λ fs. first_filled (fs ∷ declaration_faults d ∷ action_faults (predicates_of d) d ∷ [])) found.0 ∙ are.right,
+      record { objects = ap names_in are.objects ∙ found.1.0; predicates = are.predicates; schemas = are.schemas },
+    ))
+    c.of_objects.ensures.ok
+
+pub returns-clause-err : goal.returns-clause-err
+returns-clause-err c =
+    let d = domain_of c.args.domain.now in let p = problem_of c.args.problem.now in
+    MatchResult-weaker c.of_objects.result c.of_objects.ensures.err (λ n is. is) (λ e told. tells_later (object_faults p) (declaration_faults d ∷ action_faults (predicates_of d) d ∷ []) c.in_ok-objects.ensures.ok.0 e told)
