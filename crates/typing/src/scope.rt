@@ -32,6 +32,7 @@ impl Scope<'_> {
     ghost use Rattle.typing.specs.Walk.{Finds};
     ghost use Rattle.typing.specs.TaskParts as parts;
     ghost use Rattle.pddl_tree.specs.Tree as read;
+    ghost use Rattle.model.specs.Task.{add, delete};
     ghost use Rattle.model.specs.Typing.{atom_faults, effect_faults, effect_in, fact_faults, formula_faults, formula_in, lifted_atom_in, names_of, number_in, predicate_faults, term_faults, term_in, unknown_faults};
 
     /// The predicate of this name, which stands with this count of terms.
@@ -142,6 +143,32 @@ impl Scope<'_> {
         }
     }
 
+    /// The effect that makes the atom true.
+    fn added(
+        &self,
+        alloc: Global,
+        walk: &mut Walk,
+        atom: &tree::Atom<'_>,
+    ) -> Result<Effect, NoMemory>
+        ensures value { IfOk result (λ e. parts.effect_of e ≡ add (lifted_atom_in (known_of self.now) (read.atom_of atom.now))) }
+        ensures finds { OnOk result (Finds walk.old walk.new (atom_faults (file_of self.now.file) (known_of self.now) (read.atom_of atom.now))) }
+    {
+        Ok(Effect::Add(self.lifted_atom(alloc, walk, atom)?))
+    }
+
+    /// The effect that makes the atom false.
+    fn deleted(
+        &self,
+        alloc: Global,
+        walk: &mut Walk,
+        atom: &tree::Atom<'_>,
+    ) -> Result<Effect, NoMemory>
+        ensures value { IfOk result (λ e. parts.effect_of e ≡ delete (lifted_atom_in (known_of self.now) (read.atom_of atom.now))) }
+        ensures finds { OnOk result (Finds walk.old walk.new (atom_faults (file_of self.now.file) (known_of self.now) (read.atom_of atom.now))) }
+    {
+        Ok(Effect::Delete(self.lifted_atom(alloc, walk, atom)?))
+    }
+
     /// An effect.
     pub(crate) fn effect(
         &self,
@@ -153,8 +180,8 @@ impl Scope<'_> {
         ensures finds { OnOk result (Finds walk.old walk.new (effect_faults (file_of self.now.file) (known_of self.now) (read.effect_of effect.now))) }
     {
         match effect {
-            tree::Effect::Add(atom) => Ok(Effect::Add(self.lifted_atom(alloc, walk, atom)?)),
-            tree::Effect::Delete(atom) => Ok(Effect::Delete(self.lifted_atom(alloc, walk, atom)?)),
+            tree::Effect::Add(atom) => self.added(alloc, walk, atom),
+            tree::Effect::Delete(atom) => self.deleted(alloc, walk, atom),
             tree::Effect::And(parts) => {
                 let mut resolved = Vec::with_capacity(alloc, parts.len())?;
                 for part in parts {
