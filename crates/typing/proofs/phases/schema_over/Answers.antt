@@ -1,4 +1,4 @@
-use Rattle.std.proofs.Common.{◌≡◌, ◌++◌, ℕ, map, length, IfOk, OnOk, ap, subst}
+use Rattle.std.proofs.Common.{◌≡◌, ◌++◌, map, length, IfOk, OnOk, ap, subst}
 use Rattle.typing.specs.TaskParts as parts
 use Rattle.typing.specs.Scope.{names_in, over}
 use Rattle.typing.specs.Walk.{Finds}

@@ -3,7 +3,7 @@ use Rattle.std.proofs.lemmas.Result.{IfOk-weaker, MatchResult-weaker}
 use Rattle.pddl_tree.specs.Tree.{domain_of, problem_of}
 use Rattle.typing.specs.Task.{TellsLeastOf}
 use Rattle.typing.specs.Scope.{names_in}
-use Rattle.typing.specs.Names.{declared_faults, domain_faults, AreDeclared, AreOfDomain}
+use Rattle.typing.specs.Names.{declared_faults, AreDeclared, AreOfDomain}
 use Rattle.model.specs.Typing.{object_faults, declaration_faults, action_faults, predicates_of, first_filled}
 use Rattle.typing.proofs.Tells.{tells_here, tells_later}
 use Rattle.faults.proofs.Results.{passed_on}
