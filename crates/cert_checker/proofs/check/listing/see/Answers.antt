@@ -1,7 +1,6 @@
 use Rattle.std.proofs.Common.{◌≡◌, not, subst}
 use Rattle.std.specs.List.{each_same, list_any}
 use Rattle.indexmap.specs.IndexSet.{insert_key}
-use Rattle.typing.specs.declared.atoms.Atom as code_atom
 use Rattle.formulas.proofs.States.{copied}
 use Rattle.formulas.proofs.Equality.{atom_eq, one_atom}
 use Rattle.cert_checker.proofs.check.listing.see.Goals.{In_ok-clone}
