@@ -106,6 +106,8 @@ impl<S: Sink> Sink for InPieces<S> {
 
     ghost taken = { λ device. S.taken device.inner };
 
+    ghost wants_memory = { S.wants_memory };
+
     fn write(&mut self, piece: &[u8]) -> Result<usize, WriteFault> {
         let count = self.length.min(piece.len());
         self.inner.write(&piece[..count])
@@ -205,6 +207,8 @@ impl<S: Sink> Sink for FailsAt<S> {
     ghost failures = { λ device. device.failures };
 
     ghost taken = { λ device. S.taken device.inner };
+
+    ghost wants_memory = { S.wants_memory };
 
     fn write(&mut self, piece: &[u8]) -> Result<usize, WriteFault> {
         if self.is_failing_call() {

@@ -1,5 +1,5 @@
 //! Devices over the system's readers and writers.
-ghost use Rattle.std.specs.Prelude.{◌≡◌};
+ghost use Rattle.std.specs.Prelude.{◌≡◌, false};
 ghost use Rattle.devices.specs.Devices.{one_more};
 
 use crate::device::{DeviceFault, Sink, Source, WriteFault};
@@ -71,6 +71,8 @@ impl<W: Write> Sink for Device<W> {
     ghost failures = { λ device. device.failures };
 
     ghost taken = { λ device. W.contents device.inner };
+
+    ghost wants_memory = { false };
 
     fn write(&mut self, piece: &[u8]) -> Result<usize, WriteFault> {
         match self.inner.write(piece) {
