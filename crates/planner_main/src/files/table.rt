@@ -1,9 +1,10 @@
 //! A table of files in memory, for tests.
 ghost use Rattle.std.specs.Prelude.{◌≡◌, ℕ, List, None, IfOk, IfSome, IsOkUnless, IsTrue, OnErr, OnOk, Some, [], false, is_none, position};
 ghost use Rattle.std.specs.Option.{option_map};
-ghost use Rattle.devices.specs.Devices.{CountsDevice, one_more};
+ghost use Rattle.devices.specs.Devices.{CountsDevice, IsKept, one_more};
+ghost use Rattle.devices.specs.Failing.{calls_left};
 ghost use Rattle.std.specs.String.{string_bytes};
-ghost use Rattle.planner_main.specs.Table.{contents_of, draft_name, is_named, Keeps, Puts};
+ghost use Rattle.planner_main.specs.Table.{contents_of, draft_name, is_named, KeepsFiles, PutsFile, reads_before};
 
 use super::Files;
 use devices::{FailsAt, Memory, Sink, Source, WriteFault};
@@ -48,8 +49,8 @@ impl Table {
 
     /// Puts a file into the table, in place of one of that name.
     pub fn put(&mut self, name: &str, bytes: &[u8]) -> Result<(), NoMemory>
-        ensures put { OnOk result (Puts (⟦<Table as Files>⟧.contents self.old) (⟦<Table as Files>⟧.contents self.new) name.now bytes.now) }
-        ensures refused { OnErr result (Keeps (⟦<Table as Files>⟧.contents self.old) (⟦<Table as Files>⟧.contents self.new)) }
+        ensures put { OnOk result (PutsFile self.old self.new name.now bytes.now None) }
+        ensures refused { OnErr result (KeepsFiles self.old self.new) }
         ensures failures { ⟦<Table as Files>⟧.failures self.new ≡ ⟦<Table as Files>⟧.failures self.old }
     {
         let name = String::from_str(self.alloc, name)?;
@@ -64,8 +65,8 @@ impl Table {
         bytes: &[u8],
         reads_before: u64,
     ) -> Result<(), NoMemory>
-        ensures put { OnOk result (Puts (⟦<Table as Files>⟧.contents self.old) (⟦<Table as Files>⟧.contents self.new) name.now bytes.now) }
-        ensures refused { OnErr result (Keeps (⟦<Table as Files>⟧.contents self.old) (⟦<Table as Files>⟧.contents self.new)) }
+        ensures put { OnOk result (PutsFile self.old self.new name.now bytes.now (Some reads_before)) }
+        ensures refused { OnErr result (KeepsFiles self.old self.new) }
         ensures failures { ⟦<Table as Files>⟧.failures self.new ≡ ⟦<Table as Files>⟧.failures self.old }
     {
         let name = String::from_str(self.alloc, name)?;
@@ -91,8 +92,8 @@ impl Table {
         bytes: Vec<u8>,
         reads_before: Option<u64>,
     ) -> Result<(), NoMemory>
-        ensures put { OnOk result (Puts (contents_of self.old.entries.items) (contents_of self.new.entries.items) (string_bytes name) bytes.items) }
-        ensures refused { OnErr result (Keeps (contents_of self.old.entries.items) (contents_of self.new.entries.items)) }
+        ensures put { OnOk result (PutsFile self.old self.new (string_bytes name) bytes.items reads_before) }
+        ensures refused { OnErr result (KeepsFiles self.old self.new) }
         ensures failures { self.new.failures ≡ self.old.failures }
     {
         let entry = Entry {
@@ -133,8 +134,10 @@ impl Files for Table {
         ensures missing { IsTrue (⟦<Table as Files>⟧.is_missing self.old name.now) → result ≡ Err WriteFault.Device }
         ensures there { ⟦<Table as Files>⟧.is_missing self.old name.now ≡ false → IsOkUnless result WriteFault.NoMemory }
         ensures fresh { IfOk result (λ input. ⟦<FailsAt<Memory> as Source>⟧.failures input ≡ 0) }
-        ensures bytes { IfOk result (λ input. ⟦<FailsAt<Memory> as Source>⟧.remaining input ≡ ⟦<Table as Files>⟧.contents self.old name.now) }
-        ensures kept { Keeps (⟦<Table as Files>⟧.contents self.old) (⟦<Table as Files>⟧.contents self.new) }
+        ensures bytes { IfOk result (λ input. IsKept (⟦<Table as Files>⟧.contents self.old name.now) (⟦<FailsAt<Memory> as Source>⟧.remaining input)) }
+        ensures reads { IfOk result (λ input. calls_left input ≡ reads_before self.old name.now) }
+        ensures kept { (other : List ℕ) → ⟦<Table as Files>⟧.contents self.new other ≡ ⟦<Table as Files>⟧.contents self.old other }
+        ensures unchanged { KeepsFiles self.old self.new }
     {
         for entry in &self.entries {
             if entry.name.as_str() == name {
@@ -158,7 +161,7 @@ impl Files for Table {
         ensures only { IsOkUnless result WriteFault.NoMemory }
         ensures named { IfOk result (λ draft. draft_name draft ≡ name.now) }
         ensures empty { IfOk result (λ draft. ⟦<Draft as Sink>⟧.taken draft ≡ Some []) }
-        ensures kept { Keeps (⟦<Table as Files>⟧.contents self.old) (⟦<Table as Files>⟧.contents self.new) }
+        ensures unchanged { KeepsFiles self.old self.new }
     {
         match String::from_str(self.alloc, name) {
             Ok(name) => Ok(Draft {
@@ -172,9 +175,9 @@ impl Files for Table {
     fn close(&mut self, output: Draft) -> Result<(), WriteFault>
         ensures failures { CountsDevice (⟦<Table as Files>⟧.failures self.old) (⟦<Table as Files>⟧.failures self.new) result }
         ensures only { IsOkUnless result WriteFault.NoMemory }
-        ensures put { OnOk result (IfSome (⟦<Draft as Sink>⟧.taken output)
-            (Puts (⟦<Table as Files>⟧.contents self.old) (⟦<Table as Files>⟧.contents self.new) (draft_name output))) }
-        ensures refused { OnErr result (Keeps (⟦<Table as Files>⟧.contents self.old) (⟦<Table as Files>⟧.contents self.new)) }
+        ensures put { OnOk result (IfSome (⟦<Draft as Sink>⟧.taken output) (λ bytes.
+            PutsFile self.old self.new (draft_name output) bytes None)) }
+        ensures refused { OnErr result (KeepsFiles self.old self.new) }
     {
         let Draft { name, bytes } = output;
         match self.insert(name, bytes.into_vec(), None) {
