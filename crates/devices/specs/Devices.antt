@@ -1,5 +1,5 @@
 -- What calls of a device do to its count of failures.
-use Rattle.std.specs.Prelude.{◌≡◌, ℕ, ◌+◌, ◌-◌, ◌^◌, ◌<◌, ◌≤◌, min, List, ◌++◌, length, Option, None, Some, Result, Ok, Err}
+use Rattle.std.specs.Prelude.{◌≡◌, ◌⊎◌, ℕ, Bool, IsTrue, ◌+◌, ◌-◌, ◌^◌, ◌<◌, ◌≤◌, min, List, ◌++◌, length, Option, None, Some, Result, Ok, Err}
 use Rattle.std.specs.Io.KnownBytes.{Appends, Consumes, IsAtEnd}
 use Rattle.devices.specs.declared.device.WriteFault.{WriteFault}
 use Rattle.devices.specs.declared.device.WriteFault.TheVariants.{Device, NoMemory}
@@ -22,6 +22,13 @@ CountsDevice before after (Err NoMemory) = after ≡ before
 -- known bytes grow by a beginning of these
 abbrev pub AppendsBeginning : Option (List ℕ) → Option (List ℕ) → List ℕ → Type 0
 AppendsBeginning before after bytes = (front rest : List ℕ) × (bytes ≡ front ++ rest) × Appends before after front
+
+-- Bytes were written to a sink: known bytes grow by all of these; or by a beginning, and the sink counted a failure, or is
+-- one that may want memory.
+abbrev pub IsWritten : (wants_memory : Bool) → (failures failures_after : ℕ) → (before after : Option (List ℕ)) → List ℕ → Type 0
+IsWritten wants_memory failures failures_after before after bytes =
+    AppendsBeginning before after bytes
+    × (Appends before after bytes ⊎ ((failures_after ≡ one_more failures) ⊎ IsTrue wants_memory))
 
 -- what is known stays known
 abbrev pub IsKept : Option (List ℕ) → Option (List ℕ) → Type 0

@@ -1,5 +1,5 @@
 //! Devices: where bytes come from, and where they go. A device may fail at any call.
-ghost use Rattle.std.specs.Prelude.{◌≡◌, ℕ, ◌<◌, List, Option, length, IfOk, OnOk, None};
+ghost use Rattle.std.specs.Prelude.{◌≡◌, ℕ, ◌<◌, Bool, true, List, Option, length, Err, IfOk, IsTrue, OnOk, None};
 ghost use Rattle.std.specs.Io.{ReadsAtMost, WritesAtMost};
 ghost use Rattle.std.specs.Io.KnownBytes.{Appends, ReadConsumes, WriteAppends};
 ghost use Rattle.devices.specs.Devices.{AppendsBeginning, Counts, CountsDevice};
@@ -80,12 +80,16 @@ pub trait Sink {
     /// The bytes that it has taken, where the device tells them.
     ghost taken: { Self → Option (List ℕ) } = { λ _. None };
 
+    /// Whether a write may be refused for want of memory.
+    ghost wants_memory: { Bool } = { true };
+
     /// Takes some of the bytes, and tells how many. A device that takes nothing of a piece that is not empty
     /// has failed, and so has an interrupted call.
     fn write(&mut self, piece: &[u8]) -> Result<usize, WriteFault>
         ensures bound { WritesAtMost result piece.now }
         ensures progress { 0 < length piece.now → IfOk result (λ count. 0 < count) }
         ensures bytes { WriteAppends (taken self.old) (taken self.new) result piece.now }
+        ensures memory { result ≡ Err WriteFault.NoMemory → IsTrue wants_memory }
         ensures failures { CountsDevice (failures self.old) (failures self.new) result };
 }
 
@@ -94,6 +98,7 @@ pub fn write_all<S: Sink>(sink: &mut S, bytes: &[u8]) -> Result<(), WriteFault>
     ensures ok { OnOk result (Appends (S.taken sink.old) (S.taken sink.new) bytes.now) }
     ensures beginning { AppendsBeginning (S.taken sink.old) (S.taken sink.new) bytes.now }
     ensures failures { CountsDevice (S.failures sink.old) (S.failures sink.new) result }
+    ensures memory { result ≡ Err WriteFault.NoMemory → IsTrue S.wants_memory }
 {
     let mut rest = bytes;
     'writes: while !rest.is_empty() {

@@ -106,6 +106,8 @@ impl<S: Sink> Sink for InPieces<S> {
 
     ghost taken = { λ device. S.taken device.inner };
 
+    ghost wants_memory = { S.wants_memory };
+
     fn write(&mut self, piece: &[u8]) -> Result<usize, WriteFault> {
         let count = self.length.min(piece.len());
         self.inner.write(&piece[..count])
@@ -123,9 +125,12 @@ pub struct FailsAt<D> {
 }
 
 impl<D> FailsAt<D> {
+    ghost use Rattle.devices.specs.Failing.{after_a_call, calls_left, fails_now};
+
     /// The device, failing once, at the call after so many; at `None` it never fails of itself.
     pub fn new(inner: D, calls_before: Option<u64>) -> FailsAt<D>
-        ensures { result.inner ≡ inner }
+        ensures inner { result.inner ≡ inner }
+        ensures calls { calls_left result ≡ calls_before }
     {
         FailsAt {
             inner,
@@ -136,6 +141,8 @@ impl<D> FailsAt<D> {
 
     /// Whether the call that begins is the one that fails.
     fn is_failing_call(&mut self) -> bool
+        ensures fails { result ≡ fails_now (calls_left self.old) }
+        ensures calls { calls_left self.new ≡ after_a_call (calls_left self.old) }
         ensures inner { self.new.inner ≡ self.old.inner }
         ensures failures { self.new.failures ≡ self.old.failures }
     {
@@ -153,6 +160,7 @@ impl<D> FailsAt<D> {
     }
 
     fn count_failure(&mut self)
+        ensures calls { calls_left self.new ≡ calls_left self.old }
         ensures inner { self.new.inner ≡ self.old.inner }
         ensures failures { self.new.failures ≡ one_more self.old.failures }
     {
@@ -161,10 +169,14 @@ impl<D> FailsAt<D> {
 }
 
 impl<S: Source> FailsAt<S> {
+    ghost use Rattle.devices.specs.Failing.{calls_left};
+
     /// The same as a source of which no read has failed yet.
     pub fn source(inner: S, reads_before: Option<u64>) -> FailsAt<S>
         ensures failures { ⟦<FailsAt<S> as Source>⟧.failures result ≡ 0 }
         ensures remaining { ⟦<FailsAt<S> as Source>⟧.remaining result ≡ S.remaining inner }
+        ensures inner { result.inner ≡ inner }
+        ensures calls { calls_left result ≡ reads_before }
     {
         FailsAt {
             inner,
@@ -182,11 +194,24 @@ impl<S: Source> FailsAt<S> {
 }
 
 impl<S: Source> Source for FailsAt<S> {
+    ghost use Rattle.std.specs.Prelude.{IsErr, IsTrue, false};
+    ghost use Rattle.std.specs.Io.{ReadsAtMost};
+    ghost use Rattle.std.specs.Io.KnownBytes.{ReadConsumes};
+    ghost use Rattle.devices.specs.Devices.{Counts};
+    ghost use Rattle.devices.specs.Failing.{after_a_call, calls_left, fails_now};
+
     ghost failures = { λ device. device.failures };
 
     ghost remaining = { λ device. S.remaining device.inner };
 
-    fn read(&mut self, into: &mut [u8]) -> Result<usize, DeviceFault> {
+    fn read(&mut self, into: &mut [u8]) -> Result<usize, DeviceFault>
+        ensures bound { ReadsAtMost result into.new }
+        ensures bytes { ReadConsumes (S.remaining self.old.inner) (S.remaining self.new.inner) result into.new }
+        ensures failures { Counts (⟦<FailsAt<S> as Source>⟧.failures self.old) (⟦<FailsAt<S> as Source>⟧.failures self.new) result }
+        ensures fails { IsTrue (fails_now (calls_left self.old)) → IsErr result × (self.new.inner ≡ self.old.inner) }
+        ensures passes { fails_now (calls_left self.old) ≡ false → Counts (S.failures self.old.inner) (S.failures self.new.inner) result }
+        ensures calls { calls_left self.new ≡ after_a_call (calls_left self.old) }
+    {
         if self.is_failing_call() {
             self.count_failure();
             return Err(DeviceFault);
@@ -202,11 +227,28 @@ impl<S: Source> Source for FailsAt<S> {
 }
 
 impl<S: Sink> Sink for FailsAt<S> {
+    ghost use Rattle.std.specs.Prelude.{Err, IfOk, IsTrue, false, length};
+    ghost use Rattle.std.specs.Io.{WritesAtMost};
+    ghost use Rattle.std.specs.Io.KnownBytes.{WriteAppends};
+    ghost use Rattle.devices.specs.Devices.{CountsDevice};
+    ghost use Rattle.devices.specs.Failing.{after_a_call, calls_left, fails_now};
+
     ghost failures = { λ device. device.failures };
 
     ghost taken = { λ device. S.taken device.inner };
 
-    fn write(&mut self, piece: &[u8]) -> Result<usize, WriteFault> {
+    ghost wants_memory = { S.wants_memory };
+
+    fn write(&mut self, piece: &[u8]) -> Result<usize, WriteFault>
+        ensures bound { WritesAtMost result piece.now }
+        ensures progress { 0 < length piece.now → IfOk result (λ count. 0 < count) }
+        ensures bytes { WriteAppends (S.taken self.old.inner) (S.taken self.new.inner) result piece.now }
+        ensures memory { result ≡ Err WriteFault.NoMemory → IsTrue S.wants_memory }
+        ensures failures { CountsDevice (⟦<FailsAt<S> as Sink>⟧.failures self.old) (⟦<FailsAt<S> as Sink>⟧.failures self.new) result }
+        ensures fails { IsTrue (fails_now (calls_left self.old)) → (result ≡ Err WriteFault.Device) × (self.new.inner ≡ self.old.inner) }
+        ensures passes { fails_now (calls_left self.old) ≡ false → CountsDevice (S.failures self.old.inner) (S.failures self.new.inner) result }
+        ensures calls { calls_left self.new ≡ after_a_call (calls_left self.old) }
+    {
         if self.is_failing_call() {
             self.count_failure();
             return Err(WriteFault::Device);

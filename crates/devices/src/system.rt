@@ -1,5 +1,5 @@
 //! Devices over the system's readers and writers.
-ghost use Rattle.std.specs.Prelude.{◌≡◌};
+ghost use Rattle.std.specs.Prelude.{◌≡◌, false};
 ghost use Rattle.devices.specs.Devices.{one_more};
 
 use crate::device::{DeviceFault, Sink, Source, WriteFault};
@@ -12,22 +12,20 @@ pub struct Device<T> {
     failures: u64,
 }
 
-impl<T> Device<T> {
-    /// A device that has not failed yet.
-    pub fn new(inner: T) -> Device<T> {
+impl<W: Write> Device<W> {
+    /// A sink of which no write has failed yet.
+    pub fn new(inner: W) -> Device<W>
+        ensures failures { ⟦<Device<W> as Sink>⟧.failures result ≡ 0 }
+        ensures taken { ⟦<Device<W> as Sink>⟧.taken result ≡ W.contents inner }
+    {
         Device { inner, failures: 0 }
     }
 
     /// What it is over.
-    pub fn into_inner(self) -> T {
-        self.inner
-    }
-
-    fn count_failure(&mut self)
-        ensures inner { self.new.inner ≡ self.old.inner }
-        ensures failures { self.new.failures ≡ one_more self.old.failures }
+    pub fn into_inner(self) -> W
+        ensures { W.contents result ≡ ⟦<Device<W> as Sink>⟧.taken self }
     {
-        self.failures = self.failures.saturating_add(1);
+        self.inner
     }
 }
 
@@ -51,6 +49,15 @@ impl<R: Read> Device<R> {
     }
 }
 
+impl<T> Device<T> {
+    fn count_failure(&mut self)
+        ensures inner { self.new.inner ≡ self.old.inner }
+        ensures failures { self.new.failures ≡ one_more self.old.failures }
+    {
+        self.failures = self.failures.saturating_add(1);
+    }
+}
+
 impl<R: Read> Source for Device<R> {
     ghost failures = { λ device. device.failures };
 
@@ -71,6 +78,8 @@ impl<W: Write> Sink for Device<W> {
     ghost failures = { λ device. device.failures };
 
     ghost taken = { λ device. W.contents device.inner };
+
+    ghost wants_memory = { false };
 
     fn write(&mut self, piece: &[u8]) -> Result<usize, WriteFault> {
         match self.inner.write(piece) {

@@ -1,7 +1,8 @@
 -- What the words of the program are, and what it tells of them.
 use Rattle.std.proofs.Common.{◌≡◌, ℕ, ◌^◌, ◌<◌, ◌≤◌, ◌⊎◌, inl, inr, List, [], ◌∷◌, length, codes, get_or, take, drop, refl, sym, ap, ◌∙◌, subst, arith}
 use Rattle.std.proofs.lemmas.Bool.Decides.{nat_tests}
-use Rattle.std.specs.Prelude.{Result, Ok, Err, Option, None, Some, IfSome, is_some, true, false, ◌&&◌}
+use Rattle.std.specs.Prelude.{Result, Ok, Err, Option, None, Some, IfSome, OnOk, IsTrue, Bool, is_some, true, false, ◌&&◌}
+use Rattle.std.specs.Io.KnownBytes.{Appends}
 use Rattle.std.specs.Str.Parse.{IsNumeral, without_leading_plus, digits_value}
 use Rattle.solver.specs.Limit.{is_limit}
 use Rattle.solver.specs.declared.limits.Limits.{Limits}
@@ -22,7 +23,7 @@ use Rattle.faults.specs.declared.refused.Span.{Span}
 use Rattle.planner_main.specs.Failures.{device_line, line_of_fault, no_memory_line}
 use Rattle.planner_main.specs.Files.{fault_at}
 use Rattle.devices.specs.declared.device.WriteFault.{WriteFault}
-use Rattle.devices.specs.Devices.{AppendsBeginning, CountsDevice, one_more}
+use Rattle.devices.specs.Devices.{AppendsBeginning, CountsDevice, IsWritten, one_more}
 use Rattle.planner_main.specs.Report.{is_failure}
 use Rattle.planner_main.specs.Report as verdict
 use Rattle.planner_main.specs.Solution as answer
@@ -87,15 +88,15 @@ module _ (contents : List ℕ → Option (List ℕ)) (words : List (List ℕ)) w
   refused_of_words (Solve domain problem limits) fault asks is = an_answer_refused domain.now problem.now limits.states asks.0 is
 
   -- The status of a text is told with the line of the fault that the failure is.
-  pub refuses_of_words : (out out_after err err_after : Option (List ℕ)) (command : Command) (f : Failure) (status : ℕ) → Asks words command
-      → IsToldOn f err err_after status → status ≡ 20 → IfSome (fault_in f) (λ fault. IsFaultFor contents command fault × (out_after ≡ out))
-      → Refuses contents words out out_after err err_after
-  refuses_of_words out out_after err err_after command (failure.Text (refusal.At file code span)) status asks (inl (is, line)) same (fault, kept) =
+  pub refuses_of_words : (out out_after : Option (List ℕ)) (Says : List ℕ → Type 0) (command : Command) (f : Failure) (status : ℕ) → Asks words command
+      → IsToldOn f Says status → status ≡ 20 → IfSome (fault_in f) (λ fault. IsFaultFor contents command fault × (out_after ≡ out))
+      → Refuses contents words out out_after Says
+  refuses_of_words out out_after Says command (failure.Text (refusal.At file code span)) status asks (inl (is, line)) same (fault, kept) =
       (fault_at file code span, refused_of_words command _ asks fault, kept, line)
-  refuses_of_words out out_after err err_after command (failure.Text (refusal.At file code span)) status asks (inr (is, line)) same h = absurd (omega arith)
-  refuses_of_words out out_after err err_after command (failure.Text refusal.NoMemory) status asks (is, line) same h = absurd (omega arith)
-  refuses_of_words out out_after err err_after command (failure.Device device.Device) status asks (is, line) same h = absurd (omega arith)
-  refuses_of_words out out_after err err_after command (failure.Device device.NoMemory) status asks (is, line) same h = absurd (omega arith)
+  refuses_of_words out out_after Says command (failure.Text (refusal.At file code span)) status asks (inr (is, line)) same h = absurd (omega arith)
+  refuses_of_words out out_after Says command (failure.Text refusal.NoMemory) status asks (is, line) same h = absurd (omega arith)
+  refuses_of_words out out_after Says command (failure.Device device.Device) status asks (is, line) same h = absurd (omega arith)
+  refuses_of_words out out_after Says command (failure.Device device.NoMemory) status asks (is, line) same h = absurd (omega arith)
 
   -- The words name the domain file that the command has.
   pub domain_named : (command : Command) (name : List ℕ) → Asks words command → NamesDomain words name → name ≡ domain_of command
@@ -134,22 +135,22 @@ pub no_failure : (n status : ℕ) → is_failure status ≡ false → is_failure
 no_failure n status answers fails same = absurd (cc (ap is_failure same))
 
 -- What is told of a failure has its status: not that of words that are no command, and that of a device or of memory with its line.
-module _ (before after : Option (List ℕ)) (status : ℕ) where
-  pub failed_status : (f : Failure) → IsToldOn f before after status → status ≡ 2 → ⊥
+module _ (Says : List ℕ → Type 0) (status : ℕ) where
+  pub failed_status : (f : Failure) → IsToldOn f Says status → status ≡ 2 → ⊥
   failed_status (failure.Text (refusal.At file code span)) (inl (is, line)) same = absurd (omega arith)
   failed_status (failure.Text (refusal.At file code span)) (inr (is, line)) same = absurd (omega arith)
   failed_status (failure.Text refusal.NoMemory) (is, line) same = absurd (omega arith)
   failed_status (failure.Device device.Device) (is, line) same = absurd (omega arith)
   failed_status (failure.Device device.NoMemory) (is, line) same = absurd (omega arith)
 
-  pub device_told : (f : Failure) → IsToldOn f before after status → status ≡ 21 → (f ≡ device_failure) × AppendsBeginning before after device_line
+  pub device_told : (f : Failure) → IsToldOn f Says status → status ≡ 21 → (f ≡ device_failure) × Says device_line
   device_told (failure.Text (refusal.At file code span)) (inl (is, line)) same = absurd (omega arith)
   device_told (failure.Text (refusal.At file code span)) (inr (is, line)) same = absurd (omega arith)
   device_told (failure.Text refusal.NoMemory) (is, line) same = absurd (omega arith)
   device_told (failure.Device device.Device) (is, line) same = (refl, line)
   device_told (failure.Device device.NoMemory) (is, line) same = absurd (omega arith)
 
-  pub memory_told : (f : Failure) → IsToldOn f before after status → status ≡ 22 → AppendsBeginning before after no_memory_line
+  pub memory_told : (f : Failure) → IsToldOn f Says status → status ≡ 22 → Says no_memory_line
   memory_told (failure.Text (refusal.At file code span)) (inl (is, line)) same = absurd (omega arith)
   memory_told (failure.Text (refusal.At file code span)) (inr (is, line)) same = line
   memory_told (failure.Text refusal.NoMemory) (is, line) same = line
@@ -157,13 +158,13 @@ module _ (before after : Option (List ℕ)) (status : ℕ) where
   memory_told (failure.Device device.NoMemory) (is, line) same = line
 
   -- The failure of a device has the status of one, and that of a text is told as the failure that it is.
-  pub device_status : (f : Failure) → f ≡ device_failure → IsToldOn f before after status → status ≡ 21
-  device_status f is told = (subst (λ f. IsToldOn f before after status) is told).0
+  pub device_status : (f : Failure) → f ≡ device_failure → IsToldOn f Says status → status ≡ 21
+  device_status f is told = (subst (λ f. IsToldOn f Says status) is told).0
 
   pub fault_told : (f : Failure) (t : file.FileFault) (named : File) (code : Code) (span : Span) → f ≡ failure.Text t → t ≡ refusal.At named code span
-      → ((status ≡ 20) × AppendsBeginning before after (line_of_fault (fault_at named code span))) ⊎ ((status ≡ 22) × AppendsBeginning before after no_memory_line)
-      → IsToldOn f before after status
-  fault_told f t named code span first second told = subst (λ f. IsToldOn f before after status) (sym (first ∙ ap failure.Text second)) told
+      → ((status ≡ 20) × Says (line_of_fault (fault_at named code span))) ⊎ ((status ≡ 22) × Says no_memory_line)
+      → IsToldOn f Says status
+  fault_told f t named code span first second told = subst (λ f. IsToldOn f Says status) (sym (first ∙ ap failure.Text second)) told
 
 -- What counts as a failure of a device, in a call of the files after another that counted none.
 pub device_counted : (T : Type 0) (before opened after : ℕ) (fault : WriteFault) → opened ≡ before → CountsDevice {T = T} opened after (Err fault)
@@ -175,11 +176,11 @@ module _ (files files_after out out_after : ℕ) where
   pub device_has_failed : (f : Failure) → f ≡ device_failure → CountsEither files files_after out out_after f → HasFailed files files_after out out_after
   device_has_failed f is counted = subst (CountsEither files files_after out out_after) is counted
 
-  pub others_have_not_failed : (before after : Option (List ℕ)) (status : ℕ) (f : Failure) → IsToldOn f before after status
+  pub others_have_not_failed : (Says : List ℕ → Type 0) (status : ℕ) (f : Failure) → IsToldOn f Says status
       → CountsEither files files_after out out_after f → (status ≡ 21 → ⊥) → HasNotFailed files files_after out out_after
-  others_have_not_failed before after status (failure.Text fault) told counted other = counted
-  others_have_not_failed before after status (failure.Device device.Device) told counted other = absurd (other told.0)
-  others_have_not_failed before after status (failure.Device device.NoMemory) told counted other = counted
+  others_have_not_failed Says status (failure.Text fault) told counted other = counted
+  others_have_not_failed Says status (failure.Device device.Device) told counted other = absurd (other told.0)
+  others_have_not_failed Says status (failure.Device device.NoMemory) told counted other = counted
 
 pub answer_is_no_failure : (status : ℕ) (f : Failure) → ◌≡◌ {A = Result ℕ Failure} (Ok status) (Err f) → ⊥
 answer_is_no_failure status f same = absurd (cc)
@@ -241,3 +242,11 @@ number_asked (a ∷ b ∷ []) d states None least most first numeral value withi
 number_asked (a ∷ b ∷ []) d states (Some l) least most first numeral value within are =
     let (least_limit, most_limit) = limit_is states within in
     as_asked b.now (ap (λ word. word ∷ b.now ∷ []) first) (numeral.0, are ∙ value) (omega arith) (omega arith)
+
+-- what a call says that writes all of the bytes or tells why not
+pub written_by : {T : Type 0} (wants_memory : Bool) (failures failures_after : ℕ) (before after : Option (List ℕ)) (bytes : List ℕ) (r : Result T WriteFault)
+    → OnOk r (Appends before after bytes) → AppendsBeginning before after bytes → CountsDevice failures failures_after r
+    → (r ≡ Err device.NoMemory → IsTrue wants_memory) → IsWritten wants_memory failures failures_after before after bytes
+written_by wants_memory failures failures_after before after bytes (Ok done) all beginning counted wants = (beginning, inl all)
+written_by wants_memory failures failures_after before after bytes (Err device.Device) all beginning counted wants = (beginning, inr (inl counted))
+written_by wants_memory failures failures_after before after bytes (Err device.NoMemory) all beginning counted wants = (beginning, inr (inr (wants refl)))

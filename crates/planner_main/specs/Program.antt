@@ -112,10 +112,10 @@ pub data IsRefusedFor (contents : List ℕ → Option (List ℕ)) (words : List 
   an_answer_refused : (domain problem : List ℕ) (states : ℕ) → AsksForPlan words domain problem states
       → OnTwo contents domain problem (λ d p. IsTaskFault d p fault) → IsRefusedFor contents words fault
 
--- The texts are refused: the standard output took nothing, and the standard error a beginning of the line of the fault.
-abbrev pub Refuses : (List ℕ → Option (List ℕ)) → List (List ℕ) → (out out_after err err_after : Option (List ℕ)) → Type 0
-Refuses contents words out out_after err err_after =
-    (fault : FileFault) × IsRefusedFor contents words fault × (out_after ≡ out) × AppendsBeginning err err_after (line_of_fault fault)
+-- The texts are refused: the standard output took nothing, and the standard error says the line of the fault.
+abbrev pub Refuses : (List ℕ → Option (List ℕ)) → List (List ℕ) → (out out_after : Option (List ℕ)) → (Says : List ℕ → Type 0) → Type 0
+Refuses contents words out out_after Says =
+    (fault : FileFault) × IsRefusedFor contents words fault × (out_after ≡ out) × Says (line_of_fault fault)
 
 -- a failure was counted of the files, or of the standard output
 abbrev pub HasFailed : (files files_after out out_after : ℕ) → Type 0
@@ -170,15 +170,14 @@ CountsEither files files_after out out_after (failure.Text fault) = HasNotFailed
 CountsEither files files_after out out_after (failure.Device device.Device) = HasFailed files files_after out out_after
 CountsEither files files_after out out_after (failure.Device device.NoMemory) = HasNotFailed files files_after out out_after
 
--- A failure is told: known bytes grow by a beginning of its line, and the status is 20 of a text that is refused, 21 of a
--- device and 22 of memory. Where there is no memory for the line of a fault, that is told in its place.
-abbrev pub IsToldOn : Failure → (before after : Option (List ℕ)) → ℕ → Type 0
-IsToldOn (failure.Text (refusal.At file code span)) before after status =
-    ((status ≡ 20) × AppendsBeginning before after (line_of_fault (fault_at file code span)))
-    ⊎ ((status ≡ 22) × AppendsBeginning before after no_memory_line)
-IsToldOn (failure.Text refusal.NoMemory) before after status = (status ≡ 22) × AppendsBeginning before after no_memory_line
-IsToldOn (failure.Device device.Device) before after status = (status ≡ 21) × AppendsBeginning before after device_line
-IsToldOn (failure.Device device.NoMemory) before after status = (status ≡ 22) × AppendsBeginning before after no_memory_line
+-- A failure is told: its line is said, and the status is 20 of a text that is refused, 21 of a device and 22 of memory.
+-- Where there is no memory for the line of a fault, that is told in its place.
+abbrev pub IsToldOn : Failure → (Says : List ℕ → Type 0) → ℕ → Type 0
+IsToldOn (failure.Text (refusal.At file code span)) Says status =
+    ((status ≡ 20) × Says (line_of_fault (fault_at file code span))) ⊎ ((status ≡ 22) × Says no_memory_line)
+IsToldOn (failure.Text refusal.NoMemory) Says status = (status ≡ 22) × Says no_memory_line
+IsToldOn (failure.Device device.Device) Says status = (status ≡ 21) × Says device_line
+IsToldOn (failure.Device device.NoMemory) Says status = (status ≡ 22) × Says no_memory_line
 
 -- the name of the file that is opened first
 abbrev pub domain_of : Command → List ℕ

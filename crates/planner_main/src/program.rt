@@ -5,7 +5,7 @@ ghost use Rattle.planner_main.specs.Files.{told_in};
 ghost use Rattle.planner_main.specs.Report.{is_failure};
 ghost use Rattle.planner_main.specs.Program.{texts, IsCommand, IsText, OnTwo, OnThree, IsVerdictLine, IsSolutionText, IsVerdictText, IsAnswerText, IsAnswerFor, Tells, TellsFor, TellsPartly, TellsPartlyFor, Refuses, HasFailed, HasNotFailed, CountsFailure, CountsEither, NamesDomain, IsFaultFor, device_failure, domain_of, fault_in};
 ghost use Rattle.devices.specs.declared.device.WriteFault.TheVariants.{Device};
-ghost use Rattle.devices.specs.Devices.{AppendsBeginning, CountsDevice, IsReading, ReadsSome};
+ghost use Rattle.devices.specs.Devices.{CountsDevice, IsReading, IsWritten, ReadsSome};
 ghost use Rattle.model.specs.Files.{IsFileFault, IsTaskFault};
 
 mod command;
@@ -71,18 +71,18 @@ pub fn run<F: Files, O: Sink, E: Sink>(
 
     // The status of words that are no command is told exactly of these, and that of texts only where they are refused.
     ensures words { (result ≡ 2) ↔ (IsCommand (texts words.now) → ⊥) }
-    ensures usage { result ≡ 2 → (O.taken out.new ≡ O.taken out.old) × AppendsBeginning (E.taken err.old) (E.taken err.new) usage }
+    ensures usage { result ≡ 2 → (O.taken out.new ≡ O.taken out.old) × IsWritten E.wants_memory (E.failures err.old) (E.failures err.new) (E.taken err.old) (E.taken err.new) usage }
     ensures refused { result ≡ 20 → Refuses (F.contents files.old) (texts words.now)
-        (O.taken out.old) (O.taken out.new) (E.taken err.old) (E.taken err.new) }
+        (O.taken out.old) (O.taken out.new) (IsWritten E.wants_memory (E.failures err.old) (E.failures err.new) (E.taken err.old) (E.taken err.new)) }
 
     // The status of a device is told exactly where one failed. An answer may have been told in part.
     ensures unfailed { (result ≡ 21 → ⊥) → HasNotFailed (F.failures files.old) (F.failures files.new) (O.failures out.old) (O.failures out.new) }
     ensures device { result ≡ 21 → HasFailed (F.failures files.old) (F.failures files.new) (O.failures out.old) (O.failures out.new)
         × TellsPartly (F.contents files.old) (texts words.now) (O.taken out.old) (O.taken out.new)
-        × AppendsBeginning (E.taken err.old) (E.taken err.new) device_line }
+        × IsWritten E.wants_memory (E.failures err.old) (E.failures err.new) (E.taken err.old) (E.taken err.new) device_line }
     ensures missing { (name : List ℕ) → NamesDomain (texts words.now) name → IsTrue (F.is_missing files.old name) → result ≡ 21 }
     ensures memory { result ≡ 22 → TellsPartly (F.contents files.old) (texts words.now) (O.taken out.old) (O.taken out.new)
-        × AppendsBeginning (E.taken err.old) (E.taken err.new) no_memory_line }
+        × IsWritten E.wants_memory (E.failures err.old) (E.failures err.new) (E.taken err.old) (E.taken err.new) no_memory_line }
 {
     let Some(command) = read_command(words) else {
         return tell_usage(err);

@@ -6,7 +6,7 @@ ghost use Rattle.planner_main.specs.Report.{is_failure, line_of, status_of};
 ghost use Rattle.planner_main.specs.Failures.{line_of_fault, no_memory_line, usage};
 ghost use Rattle.planner_main.specs.Files.{fault_at};
 ghost use Rattle.planner_main.specs.Program.{IsToldOn};
-ghost use Rattle.devices.specs.Devices.{AppendsBeginning};
+ghost use Rattle.devices.specs.Devices.{IsWritten};
 
 use crate::task_file::{File, FileFault};
 use devices::{Sink, WriteFault, write_all};
@@ -84,14 +84,14 @@ pub(crate) fn answer(alloc: Global, verdict: Verdict) -> Result<(String, u8), Al
 pub(crate) fn tell<E: Sink>(alloc: Global, failure: Failure, err: &mut E) -> u8
     ensures failure { IsTrue (is_failure result) }
     // Where memory for the line is refused, that is told.
-    ensures told { IsToldOn failure (E.taken err.old) (E.taken err.new) result }
+    ensures told { IsToldOn failure (IsWritten E.wants_memory (E.failures err.old) (E.failures err.new) (E.taken err.old) (E.taken err.new)) result }
 {
     match failure {
         Failure::Text(FileFault::At { file, code, span }) => {
             tell_fault(alloc, file, code, span, err)
         }
         Failure::Device(WriteFault::Device) => {
-            let _ = write_all(err, b"fault 61 Device\n");
+            say(err, b"fault 61 Device\n");
             DEVICE
         }
         Failure::Text(FileFault::NoMemory) | Failure::Device(WriteFault::NoMemory) => {
@@ -102,12 +102,12 @@ pub(crate) fn tell<E: Sink>(alloc: Global, failure: Failure, err: &mut E) -> u8
 
 /// Tells the fault of a file's text.
 fn tell_fault<E: Sink>(alloc: Global, file: File, code: Code, span: Span, err: &mut E) -> u8
-    ensures { ((result ≡ REFUSED) × AppendsBeginning (E.taken err.old) (E.taken err.new) (line_of_fault (fault_at file code span)))
-        ⊎ ((result ≡ NO_MEMORY) × AppendsBeginning (E.taken err.old) (E.taken err.new) no_memory_line) }
+    ensures { ((result ≡ REFUSED) × IsWritten E.wants_memory (E.failures err.old) (E.failures err.new) (E.taken err.old) (E.taken err.new) (line_of_fault (fault_at file code span)))
+        ⊎ ((result ≡ NO_MEMORY) × IsWritten E.wants_memory (E.failures err.old) (E.failures err.new) (E.taken err.old) (E.taken err.new) no_memory_line) }
 {
     match fault_line(alloc, file, code, span) {
         Ok(line) => {
-            let _ = write_all(err, line.as_bytes());
+            say(err, line.as_bytes());
             REFUSED
         }
         Err(AllocError) => tell_no_memory(err),
@@ -126,17 +126,24 @@ fn fault_line(alloc: Global, file: File, code: Code, span: Span) -> Result<Strin
 
 fn tell_no_memory<E: Sink>(err: &mut E) -> u8
     ensures status { result ≡ NO_MEMORY }
-    ensures line { AppendsBeginning (E.taken err.old) (E.taken err.new) no_memory_line }
+    ensures line { IsWritten E.wants_memory (E.failures err.old) (E.failures err.new) (E.taken err.old) (E.taken err.new) no_memory_line }
 {
-    let _ = write_all(err, b"fault 60 NoMemory\n");
+    say(err, b"fault 60 NoMemory\n");
     NO_MEMORY
+}
+
+/// Writes these bytes, as far as the stream takes them.
+fn say<E: Sink>(err: &mut E, bytes: &[u8])
+    ensures { IsWritten E.wants_memory (E.failures err.old) (E.failures err.new) (E.taken err.old) (E.taken err.new) bytes.now }
+{
+    let _ = write_all(err, bytes);
 }
 
 /// Tells how the program is used.
 pub(crate) fn tell_usage<E: Sink>(err: &mut E) -> u8
     ensures status { result ≡ WRONG_WORDS }
-    ensures line { AppendsBeginning (E.taken err.old) (E.taken err.new) usage }
+    ensures line { IsWritten E.wants_memory (E.failures err.old) (E.failures err.new) (E.taken err.old) (E.taken err.new) usage }
 {
-    let _ = write_all(err, USAGE.as_bytes());
+    say(err, USAGE.as_bytes());
     WRONG_WORDS
 }

@@ -14,15 +14,19 @@ pub struct SystemFiles<'a, R> {
     failures: u64,
 }
 
-impl<'a, R> SystemFiles<'a, R> {
+impl<'a, R: rt::Files> SystemFiles<'a, R> {
     /// The runtime's files; no call has failed yet.
-    pub fn new(runtime: &'a R) -> SystemFiles<'a, R> {
+    pub fn new(runtime: &'a R) -> SystemFiles<'a, R>
+        ensures { ⟦<SystemFiles<'a, R> as Files>⟧.failures result ≡ 0 }
+    {
         SystemFiles {
             runtime,
             failures: 0,
         }
     }
+}
 
+impl<R> SystemFiles<'_, R> {
     /// What a call of the system gave, its failure counted.
     fn counted<T: Drop>(&mut self, outcome: io::Result<T>) -> Result<T, WriteFault>
         ensures { CountsDevice self.old.failures self.new.failures result }

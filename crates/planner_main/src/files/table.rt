@@ -1,11 +1,13 @@
 //! A table of files in memory, for tests.
-ghost use Rattle.std.specs.Prelude.{◌≡◌, ℕ, List, None, is_none};
+ghost use Rattle.std.specs.Prelude.{◌≡◌, ℕ, List, None, IfOk, IfSome, IsOkUnless, IsTrue, OnErr, OnOk, Some, [], false, is_none, position};
 ghost use Rattle.std.specs.Option.{option_map};
-ghost use Rattle.devices.specs.Devices.{one_more};
-ghost use Rattle.planner_main.specs.Table.{contents_of};
+ghost use Rattle.devices.specs.Devices.{CountsDevice, IsKept, one_more};
+ghost use Rattle.devices.specs.Failing.{calls_left};
+ghost use Rattle.std.specs.String.{string_bytes};
+ghost use Rattle.planner_main.specs.Table.{contents_of, draft_name, is_named, KeepsFiles, PutsFile, reads_before};
 
 use super::Files;
-use devices::{FailsAt, Memory, Sink, WriteFault};
+use devices::{FailsAt, Memory, Sink, Source, WriteFault};
 use faults::NoMemory;
 use std::alloc::Global;
 
@@ -35,7 +37,8 @@ pub struct Draft {
 impl Table {
     /// No file; no call has failed yet.
     pub fn new(alloc: Global) -> Table
-        ensures { (name : List ℕ) → ⟦<Table as Files>⟧.contents result name ≡ None }
+        ensures empty { (name : List ℕ) → ⟦<Table as Files>⟧.contents result name ≡ None }
+        ensures failures { ⟦<Table as Files>⟧.failures result ≡ 0 }
     {
         Table {
             alloc,
@@ -45,7 +48,11 @@ impl Table {
     }
 
     /// Puts a file into the table, in place of one of that name.
-    pub fn put(&mut self, name: &str, bytes: &[u8]) -> Result<(), NoMemory> {
+    pub fn put(&mut self, name: &str, bytes: &[u8]) -> Result<(), NoMemory>
+        ensures put { OnOk result (PutsFile self.old self.new name.now bytes.now None) }
+        ensures refused { OnErr result (KeepsFiles self.old self.new) }
+        ensures failures { ⟦<Table as Files>⟧.failures self.new ≡ ⟦<Table as Files>⟧.failures self.old }
+    {
         let name = String::from_str(self.alloc, name)?;
         let bytes = Vec::from_slice(self.alloc, bytes)?;
         self.insert(name, bytes, None)
@@ -57,7 +64,11 @@ impl Table {
         name: &str,
         bytes: &[u8],
         reads_before: u64,
-    ) -> Result<(), NoMemory> {
+    ) -> Result<(), NoMemory>
+        ensures put { OnOk result (PutsFile self.old self.new name.now bytes.now (Some reads_before)) }
+        ensures refused { OnErr result (KeepsFiles self.old self.new) }
+        ensures failures { ⟦<Table as Files>⟧.failures self.new ≡ ⟦<Table as Files>⟧.failures self.old }
+    {
         let name = String::from_str(self.alloc, name)?;
         let bytes = Vec::from_slice(self.alloc, bytes)?;
         self.insert(name, bytes, Some(reads_before))
@@ -81,22 +92,29 @@ impl Table {
         bytes: Vec<u8>,
         reads_before: Option<u64>,
     ) -> Result<(), NoMemory>
-        ensures { self.new.failures ≡ self.old.failures }
+        ensures put { OnOk result (PutsFile self.old self.new (string_bytes name) bytes.items reads_before) }
+        ensures refused { OnErr result (KeepsFiles self.old self.new) }
+        ensures failures { self.new.failures ≡ self.old.failures }
     {
         let entry = Entry {
             name,
             bytes,
             reads_before,
         };
-        let place = self
-            .entries
-            .iter()
-            .position(|old| old.name.as_str() == entry.name.as_str());
-        match place {
+        match self.place_of(entry.name.as_str()) {
             Some(i) => self.entries[i] = entry,
             None => self.entries.push(entry)?,
         }
         Ok(())
+    }
+
+    /// Where the first file of this name stands.
+    fn place_of(&self, name: &str) -> Option<usize>
+        ensures { result ≡ position (is_named name.now) self.now.entries.items }
+    {
+        self.entries
+            .iter()
+            .position(|entry| entry.name.as_str() == name)
     }
 }
 
@@ -111,7 +129,16 @@ impl Files for Table {
 
     ghost is_missing = { λ table name. is_none (contents_of table.entries.items name) };
 
-    fn open(&mut self, name: &str) -> Result<FailsAt<Memory>, WriteFault> {
+    fn open(&mut self, name: &str) -> Result<FailsAt<Memory>, WriteFault>
+        ensures failures { CountsDevice (⟦<Table as Files>⟧.failures self.old) (⟦<Table as Files>⟧.failures self.new) result }
+        ensures missing { IsTrue (⟦<Table as Files>⟧.is_missing self.old name.now) → result ≡ Err WriteFault.Device }
+        ensures there { ⟦<Table as Files>⟧.is_missing self.old name.now ≡ false → IsOkUnless result WriteFault.NoMemory }
+        ensures fresh { IfOk result (λ input. ⟦<FailsAt<Memory> as Source>⟧.failures input ≡ 0) }
+        ensures bytes { IfOk result (λ input. IsKept (⟦<Table as Files>⟧.contents self.old name.now) (⟦<FailsAt<Memory> as Source>⟧.remaining input)) }
+        ensures reads { IfOk result (λ input. calls_left input ≡ reads_before self.old name.now) }
+        ensures kept { (other : List ℕ) → ⟦<Table as Files>⟧.contents self.new other ≡ ⟦<Table as Files>⟧.contents self.old other }
+        ensures unchanged { KeepsFiles self.old self.new }
+    {
         for entry in &self.entries {
             if entry.name.as_str() == name {
                 return match Vec::from_slice(self.alloc, entry.bytes.as_slice()) {
@@ -129,7 +156,13 @@ impl Files for Table {
         self.failures = self.failures.saturating_add(failed);
     }
 
-    fn create(&mut self, name: &str) -> Result<Draft, WriteFault> {
+    fn create(&mut self, name: &str) -> Result<Draft, WriteFault>
+        ensures failures { CountsDevice (⟦<Table as Files>⟧.failures self.old) (⟦<Table as Files>⟧.failures self.new) result }
+        ensures only { IsOkUnless result WriteFault.NoMemory }
+        ensures named { IfOk result (λ draft. draft_name draft ≡ name.now) }
+        ensures empty { IfOk result (λ draft. ⟦<Draft as Sink>⟧.taken draft ≡ Some []) }
+        ensures unchanged { KeepsFiles self.old self.new }
+    {
         match String::from_str(self.alloc, name) {
             Ok(name) => Ok(Draft {
                 name,
@@ -139,7 +172,13 @@ impl Files for Table {
         }
     }
 
-    fn close(&mut self, output: Draft) -> Result<(), WriteFault> {
+    fn close(&mut self, output: Draft) -> Result<(), WriteFault>
+        ensures failures { CountsDevice (⟦<Table as Files>⟧.failures self.old) (⟦<Table as Files>⟧.failures self.new) result }
+        ensures only { IsOkUnless result WriteFault.NoMemory }
+        ensures put { OnOk result (IfSome (⟦<Draft as Sink>⟧.taken output) (λ bytes.
+            PutsFile self.old self.new (draft_name output) bytes None)) }
+        ensures refused { OnErr result (KeepsFiles self.old self.new) }
+    {
         let Draft { name, bytes } = output;
         match self.insert(name, bytes.into_vec(), None) {
             Ok(()) => Ok(()),

@@ -25,25 +25,25 @@ returns-in-Ok-clause-memory g c = λ same. absurd (no_failure 22 _ (told_status 
 
 pub returns-in-Err-clause-words : goal.returns-in-Err-clause-words
 returns-in-Err-clause-words g c = (
-  λ same. absurd (failed_status _ _ _ c.in-Err.failure c.tell.ensures.told same),
+  λ same. absurd (failed_status _ _ c.in-Err.failure c.tell.ensures.told same),
   λ none. absurd (none (asked_is_command _ c.in-Some.command c.in-Some.ensures.asks)),
 )
 
 pub returns-in-Err-clause-usage : goal.returns-in-Err-clause-usage
-returns-in-Err-clause-usage g c = λ same. absurd (failed_status _ _ _ c.in-Err.failure c.tell.ensures.told same)
+returns-in-Err-clause-usage g c = λ same. absurd (failed_status _ _ c.in-Err.failure c.tell.ensures.told same)
 
 pub returns-in-Err-clause-refused : goal.returns-in-Err-clause-refused
 returns-in-Err-clause-refused g c = λ same.
-    refuses_of_words _ _ _ _ _ _ c.in-Some.command c.in-Err.failure _ c.in-Some.ensures.asks c.tell.ensures.told same c.in-Err.ensures.refused
+    refuses_of_words _ _ _ _ _ c.in-Some.command c.in-Err.failure _ c.in-Some.ensures.asks c.tell.ensures.told same c.in-Err.ensures.refused
 
 pub returns-in-Err-clause-device : goal.returns-in-Err-clause-device
 returns-in-Err-clause-device g c = λ same.
-    let (is, line) = device_told _ _ _ c.in-Err.failure c.tell.ensures.told same in
+    let (is, line) = device_told _ _ c.in-Err.failure c.tell.ensures.told same in
     (device_has_failed _ _ _ _ c.in-Err.failure is c.in-Err.ensures.failures, partly_of_words _ _ _ _ c.in-Some.command c.in-Some.ensures.asks c.in-Err.ensures.partly, line)
 
 pub returns-in-Err-clause-memory : goal.returns-in-Err-clause-memory
 returns-in-Err-clause-memory g c = λ same.
-    (partly_of_words _ _ _ _ c.in-Some.command c.in-Some.ensures.asks c.in-Err.ensures.partly, memory_told _ _ _ c.in-Err.failure c.tell.ensures.told same)
+    (partly_of_words _ _ _ _ c.in-Some.command c.in-Some.ensures.asks c.in-Err.ensures.partly, memory_told _ _ c.in-Err.failure c.tell.ensures.told same)
 
 pub returns-in_default-clause-missing : goal.returns-in_default-clause-missing
 returns-in_default-clause-missing g c = λ name named missing. absurd (c.in_default.ensures.none (names_command (λ _. None) _ name named))
@@ -55,8 +55,8 @@ returns-in-Ok-clause-missing g c = λ name named missing.
 
 pub returns-in-Err-clause-missing : goal.returns-in-Err-clause-missing
 returns-in-Err-clause-missing g c = λ name named missing.
-    device_status _ _ _ c.in-Err.failure (failure_is_same _ _ (c.in-Err.ensures.missing
+    device_status _ _ c.in-Err.failure (failure_is_same _ _ (c.in-Err.ensures.missing
     (subst (λ n. IsTrue (g.F.Files.is_missing c.args.files.now n)) (domain_named (λ _. None) _ c.in-Some.command name c.in-Some.ensures.asks named) missing))) c.tell.ensures.told
 
 pub returns-in-Err-clause-unfailed : goal.returns-in-Err-clause-unfailed
-returns-in-Err-clause-unfailed g c = others_have_not_failed _ _ _ _ _ _ _ c.in-Err.failure c.tell.ensures.told c.in-Err.ensures.failures
+returns-in-Err-clause-unfailed g c = others_have_not_failed _ _ _ _ _ _ c.in-Err.failure c.tell.ensures.told c.in-Err.ensures.failures
