@@ -1,4 +1,5 @@
 //! A case: the files, the words of the command, and what is wanted of it.
+use crate::files::CaseFiles;
 use crate::section::{Section, Turn};
 use crate::stream::Stream;
 use faults::NoMemory;
@@ -57,7 +58,7 @@ pub fn number_of(word: &str) -> Result<u32, CaseFault> {
 #[derive(Drop)]
 pub struct Case<'a> {
     /// The files of its sections.
-    pub files: Table,
+    pub files: CaseFiles,
     /// The words of the command, if one is run.
     pub words: Option<Vec<&'a str>>,
     /// The standard output.
@@ -72,7 +73,7 @@ impl<'a> Case<'a> {
     /// No file and nothing run: nothing is to be written, and the status is 0.
     pub fn new(alloc: Global) -> Case<'a> {
         Case {
-            files: Table::new(alloc),
+            files: CaseFiles::new(alloc),
             words: None,
             out: Stream::new(alloc),
             err: Stream::new(alloc),
@@ -110,9 +111,13 @@ impl<'a> Case<'a> {
                 self.status = number_of(section.words)?;
                 Ok(())
             }
+            "reads" => {
+                self.files.piece = number_of(section.words)?;
+                Ok(())
+            }
             "stdout" => self.out.take(alloc, section, turn),
             "stderr" => self.err.take(alloc, section, turn),
-            _ => take_file(alloc, &mut self.files, section, turn),
+            _ => take_file(alloc, &mut self.files.table, section, turn),
         }
     }
 }

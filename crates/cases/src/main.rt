@@ -4,6 +4,7 @@
 
 mod case;
 mod each;
+mod files;
 mod outcome;
 mod section;
 mod stream;

@@ -1,5 +1,5 @@
 //! Answers to tasks, and that the checker accepts their certificates.
-use crate::helpers::{DONE, GO, TIE, Texts, UNTIED, read_task};
+use crate::helpers::{DONE, GO, TIE, Texts, UNTIED, on_task};
 use cert_checker::{Accepted, check_cert};
 use solver::{Answer, Limit, Limits, solve};
 use std::alloc::Global;
@@ -43,46 +43,38 @@ const FOUR_BALLS: Texts = [
  (:goal (and (at b1 b) (at b2 b) (at b3 b) (at b4 b))))",
 ];
 
-/// What is found out of a task.
-#[derive(Clone, Copy, Debug, PartialEq, Eq)]
-enum Outcome {
-    /// A plan of this cost.
-    Plan(u64),
-    /// There is no plan.
-    NoPlan,
-    /// This limit is exceeded.
-    Beyond(Limit),
-}
+/// What is found out of a task: what a plan costs, or that there is none, or the limit that is exceeded.
+type Found = Result<Option<u64>, Limit>;
 
 /// Tasks with the most states and the most instances, and what is found out.
-static ANSWERS: [(Texts, u32, u32, Outcome); 9] = [
-    (DONE, 1, 1, Outcome::Plan(0)),
-    (GO, 1, 1, Outcome::Beyond(Limit::States)),
-    (GO, 2, 1, Outcome::Plan(1)),
-    (TIE, 100, 1, Outcome::Plan(1)),
-    (UNTIED, 1, 1, Outcome::NoPlan),
-    (FOUR_BLOCKS, 1000, 40, Outcome::Plan(8)),
-    (FOUR_BLOCKS, 1000, 39, Outcome::Beyond(Limit::Instances)),
-    (FOUR_BALLS, 1000, 1088, Outcome::Plan(11)),
-    (FOUR_BALLS, 1000, 1087, Outcome::Beyond(Limit::Instances)),
+static ANSWERS: [(Texts, u32, u32, Found); 9] = [
+    (DONE, 1, 1, Ok(Some(0))),
+    (GO, 1, 1, Err(Limit::States)),
+    (GO, 2, 1, Ok(Some(1))),
+    (TIE, 100, 1, Ok(Some(1))),
+    (UNTIED, 1, 1, Ok(None)),
+    (FOUR_BLOCKS, 1000, 40, Ok(Some(8))),
+    (FOUR_BLOCKS, 1000, 39, Err(Limit::Instances)),
+    (FOUR_BALLS, 1000, 1088, Ok(Some(11))),
+    (FOUR_BALLS, 1000, 1087, Err(Limit::Instances)),
 ];
 
 /// What is found out of the task. A certificate is accepted with the plan and without.
-fn found(rt: &impl Abort, alloc: Global, task: &Task, limits: Limits) -> Result<Outcome, Fail> {
+fn found(rt: &impl Abort, alloc: Global, task: &Task, limits: Limits) -> Result<Found, Fail> {
     match solve(alloc, task, limits)? {
         Answer::Plan { steps, cost, cert } => {
-            let shown = check_cert(alloc, task, &cert, Some(&steps), 1_000_000);
-            assert_eq!(rt; shown, Ok(Accepted::Optimal { cost }));
-            let shown = check_cert(alloc, task, &cert, None, 1_000_000);
-            assert_eq!(rt; shown, Ok(Accepted::AtLeast { cost }));
-            Ok(Outcome::Plan(cost))
+            let with_plan = check_cert(alloc, task, &cert, Some(&steps), 1_000_000);
+            let without = check_cert(alloc, task, &cert, None, 1_000_000);
+            let wanted = (Accepted::Optimal { cost }, Accepted::AtLeast { cost });
+            assert_eq!(rt; (with_plan, without), (Ok(wanted.0), Ok(wanted.1)));
+            Ok(Ok(Some(cost)))
         }
         Answer::Unsolvable { cert } => {
             let shown = check_cert(alloc, task, &cert, None, 1_000_000);
             assert_eq!(rt; shown, Ok(Accepted::Unsolvable));
-            Ok(Outcome::NoPlan)
+            Ok(Ok(None))
         }
-        Answer::Unknown(limit) => Ok(Outcome::Beyond(limit)),
+        Answer::Unknown(limit) => Ok(Err(limit)),
     }
 }
 
@@ -90,8 +82,10 @@ fn found(rt: &impl Abort, alloc: Global, task: &Task, limits: Limits) -> Result<
 fn answers_are_shown_by_their_certificates(rt: HostRuntime) -> Result<(), Fail> {
     for (texts, states, instances, wanted) in &ANSWERS {
         let limits = Limits::new(*states, *instances).ok_or("no limits")?;
-        let task = read_task(rt.alloc(), texts)?;
-        assert_eq!(rt; found(&rt, rt.alloc(), &task, limits)?, *wanted);
+        on_task(&rt, rt.alloc(), texts, |rt, alloc, task| {
+            assert_eq!(rt; found(rt, alloc, task, limits)?, *wanted);
+            Ok(())
+        })?;
     }
     Ok(())
 }

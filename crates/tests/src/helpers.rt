@@ -1,9 +1,10 @@
-//! What the tests share: tasks of two texts, and atoms and plans by numbers.
+//! What the tests share: tasks of two texts, and atoms and instances by numbers.
 use arrayvec::ArrayVec;
-use faults::Fault;
-use formulas::{Atom, Binding, Instance, Plan};
+use faults::{Fault, NoMemory};
+use formulas::{Atom, Instance};
 use pddl_tree::{Domain, Problem, domain, problem};
 use std::alloc::Global;
+use std::process::Abort;
 use std::test::Fail;
 use tokens::scan;
 use typing::{ObjectId, PredicateId, SchemaId, Task};
@@ -18,16 +19,12 @@ const GO_DOMAIN: &str = "(define (domain go) (:predicates (p) (q))
  (:action go :parameters () :effect (and (not (p)) (p) (q))))";
 
 /// The only action makes the goal hold.
-pub(crate) const GO: Texts = [
-    GO_DOMAIN,
-    "(define (problem g) (:domain go) (:init (p)) (:goal (and (p) (q))))",
-];
+#[rattlefmt::skip]
+pub(crate) const GO: Texts = [GO_DOMAIN, "(define (problem g) (:domain go) (:init (p)) (:goal (and (p) (q))))"];
 
 /// The goal holds at the start.
-pub(crate) const DONE: Texts = [
-    GO_DOMAIN,
-    "(define (problem g) (:domain go) (:init (p)) (:goal (p)))",
-];
+#[rattlefmt::skip]
+pub(crate) const DONE: Texts = [GO_DOMAIN, "(define (problem g) (:domain go) (:init (p)) (:goal (p)))"];
 
 const TIE_DOMAIN: &str = "(define (domain tie) (:predicates (link ?x ?y) (tied))
  (:action tie :parameters (?x ?y) :precondition (link ?x ?y) :effect (tied)))";
@@ -75,41 +72,61 @@ pub(crate) fn read_problem(alloc: Global, text: &[u8]) -> Result<Problem<'_>, Fa
 }
 
 /// The task of a domain's and a problem's text.
-pub(crate) fn read_task(alloc: Global, texts: &Texts) -> Result<Task, Fail> {
+fn read_task(alloc: Global, texts: &[&str; 2]) -> Result<Task, Fail> {
     let domain = read_domain(alloc, texts[0].as_bytes())?;
     let problem = read_problem(alloc, texts[1].as_bytes())?;
     Ok(Task::new(alloc, domain, problem)?)
 }
 
-/// The atom of a predicate and objects.
-pub(crate) fn atom(predicate: usize, numbers: &[u32]) -> Atom {
+/// Does this with the task of the texts.
+pub(crate) fn on_task<R: Abort, F: FnOnce(&R, Global, &Task) -> Result<(), Fail> + Drop>(
+    rt: &R,
+    alloc: Global,
+    texts: &[&str; 2],
+    act: F,
+) -> Result<(), Fail>
+    requires { F.IsAlwaysCallable act }
+{
+    let task = read_task(alloc, texts)?;
+    act(rt, alloc, &task)
+}
+
+/// The objects of these numbers.
+fn objects<const N: usize>(numbers: &[u32]) -> ArrayVec<ObjectId, N> {
     let mut objects = ArrayVec::new();
     for number in numbers {
         let _ = objects.try_push(ObjectId(*number));
     }
+    objects
+}
+
+/// The atom of a predicate and objects.
+pub(crate) fn atom(predicate: usize, numbers: &[u32]) -> Atom {
     Atom {
         predicate: PredicateId(predicate),
-        objects,
+        objects: objects(numbers),
     }
+}
+
+/// The atoms of these predicates and objects.
+pub(crate) fn atoms(alloc: Global, rows: &[Term]) -> Result<Vec<Atom>, NoMemory> {
+    let mut atoms = Vec::new(alloc);
+    for row in rows {
+        atoms.push(atom(row.0, row.1))?;
+    }
+    Ok(atoms)
 }
 
 /// The instance of a schema with objects.
 pub(crate) fn instance(schema: usize, numbers: &[u32]) -> Instance {
-    let mut objects = Binding::new();
-    for number in numbers {
-        let _ = objects.try_push(ObjectId(*number));
-    }
     Instance {
         schema: SchemaId(schema),
-        objects,
+        objects: objects(numbers),
     }
 }
 
-/// The plan of these actions with their objects.
-pub(crate) fn make_plan(alloc: Global, rows: &[Term]) -> Result<Plan, Fail> {
-    let mut steps = Vec::new(alloc);
-    for row in rows {
-        steps.push(instance(row.0, row.1))?;
-    }
-    Ok(Plan::new(steps).ok_or("too many steps")?)
+/// Whether the instance is of this schema and these objects.
+pub(crate) fn is_of(found: &Instance, wanted: &Term) -> bool {
+    let objects = objects(wanted.1);
+    found.schema == SchemaId(wanted.0) && found.objects == objects
 }

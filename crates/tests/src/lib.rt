@@ -9,11 +9,9 @@ mod certificates;
 #[cfg(test)]
 mod helpers;
 #[cfg(test)]
-mod limits;
+mod laws;
 #[cfg(test)]
 mod listings;
-#[cfg(test)]
-mod plans;
 #[cfg(test)]
 mod searches;
 #[cfg(test)]

@@ -1,5 +1,6 @@
 //! The system that a task is, its count of instances, and the plain store of its states.
-use crate::helpers::{GO, Term, Texts, instance, read_task};
+use crate::helpers::{GO, Term, Texts, is_of, on_task};
+use faults::NoMemory;
 use formulas::{Instance, State};
 use search::{Successor, TransitionSystem};
 use std::alloc::Global;
@@ -19,26 +20,22 @@ const PAIRS: Texts = [
 
 /// The instances that are applicable at the start of `PAIRS`: by the actions' numbers, and then by those of the objects
 /// from the left.
-static IN_ORDER: [Term; 5] = [
-    (0, &[0]),
-    (0, &[1]),
-    (1, &[0, 0]),
-    (1, &[0, 1]),
-    (1, &[1, 0]),
-];
+#[rattlefmt::skip]
+static IN_ORDER: [Term; 5] = [(0, &[0]), (0, &[1]), (1, &[0, 0]), (1, &[0, 1]), (1, &[1, 0])];
 
-/// The successors are by these instances, in this order, and in each the goal holds.
+/// Whether the successor is by this instance, at cost 1, and the goal holds in it.
+fn is_by(task: &Task, found: &Successor<Instance, State>, wanted: &Term) -> bool {
+    let system = TaskSystem(task);
+    is_of(&found.action, wanted)
+        && system.meets_goal(&found.state)
+        && system.cost(&found.action) == 1
+}
+
+/// The successors are by these instances, in this order.
 fn are_in_order(rt: &impl Abort, task: &Task, found: &[Successor<Instance, State>]) {
     assert_eq!(rt; found.len(), IN_ORDER.len());
-    for (successor, (schema, objects)) in found.iter().zip(&IN_ORDER) {
-        let wanted = instance(*schema, *objects);
-        assert_eq!(rt; successor.action.schema, wanted.schema);
-        assert_eq!(rt;
-            successor.action.objects.as_slice(),
-            wanted.objects.as_slice()
-        );
-        assert!(rt; TaskSystem(task).meets_goal(&successor.state));
-        assert_eq!(rt; TaskSystem(task).cost(&successor.action), 1);
+    for (successor, wanted) in found.iter().zip(&IN_ORDER) {
+        assert!(rt; is_by(task, successor, wanted));
     }
 }
 
@@ -52,92 +49,83 @@ fn has_its_successors(rt: &impl Abort, alloc: Global, task: &Task) -> Result<(),
 
 #[test]
 fn successors_are_in_order(rt: HostRuntime) -> Result<(), Fail> {
-    let task = read_task(rt.alloc(), &PAIRS)?;
-    has_its_successors(&rt, rt.alloc(), &task)
+    on_task(&rt, rt.alloc(), &PAIRS, has_its_successors)
 }
 
 const WIDE_DOMAIN: &str = "(define (domain wide) (:predicates (p))
  (:action go :parameters (?a ?b ?c ?d ?e ?f ?g ?h ?i ?j ?k ?l ?m ?n ?o ?p) :effect (p)))";
 
 /// Three objects for each of sixteen parameters: 43,046,721 instances.
-const WIDE_3: Texts = [
-    WIDE_DOMAIN,
-    "(define (problem w) (:domain wide) (:objects a b c) (:init) (:goal (p)))",
-];
+#[rattlefmt::skip]
+const WIDE_3: Texts = [WIDE_DOMAIN, "(define (problem w) (:domain wide) (:objects a b c) (:init) (:goal (p)))"];
 
 /// Four objects for each of sixteen parameters: 4,294,967,296 instances.
-const WIDE_4: Texts = [
-    WIDE_DOMAIN,
-    "(define (problem w) (:domain wide) (:objects a b c d) (:init) (:goal (p)))",
-];
+#[rattlefmt::skip]
+const WIDE_4: Texts = [WIDE_DOMAIN, "(define (problem w) (:domain wide) (:objects a b c d) (:init) (:goal (p)))"];
 
 /// No object for the parameters: no instance.
-const WIDE_0: Texts = [
-    WIDE_DOMAIN,
-    "(define (problem w) (:domain wide) (:init) (:goal (p)))",
-];
+#[rattlefmt::skip]
+const WIDE_0: Texts = [WIDE_DOMAIN, "(define (problem w) (:domain wide) (:init) (:goal (p)))"];
 
 /// A task, a number, and whether the task has more instances.
+#[rattlefmt::skip]
 static COUNTS: [(Texts, u32, bool); 10] = [
-    (GO, 0, true),
-    (GO, 1, false),
-    (PAIRS, 0, true),
-    (PAIRS, 5, true),
-    (PAIRS, 6, false),
+    (GO, 0, true), (GO, 1, false),
+    (PAIRS, 0, true), (PAIRS, 5, true), (PAIRS, 6, false),
     (WIDE_0, 0, false),
-    (WIDE_3, 43_046_720, true),
-    (WIDE_3, 43_046_721, false),
-    (WIDE_4, 16_777_216, true),
-    (WIDE_4, 4_294_967_295, true),
+    (WIDE_3, 43_046_720, true), (WIDE_3, 43_046_721, false),
+    (WIDE_4, 16_777_216, true), (WIDE_4, 4_294_967_295, true),
 ];
 
 #[test]
 fn instances_are_counted(rt: HostRuntime) -> Result<(), Fail> {
     for (texts, max, exceeds) in &COUNTS {
-        let task = read_task(rt.alloc(), texts)?;
-        assert_eq!(rt; instances_exceed(&task, *max), *exceeds, "{max}");
+        on_task(&rt, rt.alloc(), texts, |rt, _alloc, task| {
+            assert_eq!(rt; instances_exceed(task, *max), *exceeds, "{max}");
+            Ok(())
+        })?;
     }
     Ok(())
 }
 
-/// The start and the state after it, each at most once in the store.
-fn keeps(rt: &impl Abort, store: &mut PlainStore, start: &State, next: &State) -> Result<(), Fail> {
-    assert!(rt; store.is_empty());
-    assert_eq!(rt; store.find(start), None);
-    assert!(rt; store.insert_if_new(start.try_clone()?)?);
-    assert!(rt; !store.insert_if_new(start.try_clone()?)?);
-    assert_eq!(rt; store.place(next.try_clone()?)?, (1, true));
-    Ok(())
+/// Puts the states into the store, the first one three times: what is told of each.
+fn put(store: &mut PlainStore, [start, next]: [&State; 2]) -> Result<[(usize, bool); 4], NoMemory> {
+    let is_new = store.insert_if_new(start.try_clone()?)?;
+    let is_new_again = store.insert_if_new(start.try_clone()?)?;
+    let of_next = store.place(next.try_clone()?)?;
+    let of_start = store.place(start.try_clone()?)?;
+    Ok([(0, is_new), (0, is_new_again), of_next, of_start])
 }
 
-/// The store has the two states in this order.
-fn has_kept(rt: &impl Abort, store: &PlainStore, start: &State, next: &State) {
-    assert!(rt; !store.is_empty());
-    assert_eq!(rt; store.len(), 2);
-    assert!(rt; store.get(0) == start);
-    assert!(rt; store.get(1) == next);
-    assert_eq!(rt; store.find(start), Some(0));
-    assert_eq!(rt; store.find(next), Some(1));
+/// Whether the store has the two states in this order.
+fn has(store: &PlainStore, [start, next]: [&State; 2]) -> bool {
+    store.len() == 2
+        && (store.get(0), store.get(1)) == (start, next)
+        && (store.find(start), store.find(next)) == (Some(0), Some(1))
 }
 
-fn is_kept(rt: &impl Abort, alloc: Global, start: &State, next: &State) -> Result<(), Fail> {
+/// A store keeps the two states in their order, each once.
+fn is_kept(rt: &impl Abort, alloc: Global, two: [&State; 2]) -> Result<(), Fail> {
     let mut store = PlainStore::new(alloc);
-    keeps(rt, &mut store, start, next)?;
-    has_kept(rt, &store, start, next);
-    assert_eq!(rt; store.place(start.try_clone()?)?, (0, false));
-    has_kept(rt, &store, start, next);
+    assert!(rt; store.is_empty() && store.find(two[0]).is_none());
+    assert_eq!(rt;
+        put(&mut store, two)?,
+        [(0, true), (0, false), (1, true), (0, false)]
+    );
+    assert!(rt; !store.is_empty() && has(&store, two));
     Ok(())
 }
 
 fn keeps_each_once(rt: &impl Abort, alloc: Global, task: &Task) -> Result<(), Fail> {
     let start = State::initial(alloc, task)?;
-    let next = successors(alloc, task, &start)?;
-    assert_eq!(rt; next.len(), 1);
-    is_kept(rt, alloc, &start, &next[0].state)
+    let found = successors(alloc, task, &start)?;
+    match found.as_slice() {
+        [only] => is_kept(rt, alloc, [&start, &only.state]),
+        _ => Err(Fail::new("not one successor")),
+    }
 }
 
 #[test]
 fn a_store_keeps_each_state_once(rt: HostRuntime) -> Result<(), Fail> {
-    let task = read_task(rt.alloc(), &GO)?;
-    keeps_each_once(&rt, rt.alloc(), &task)
+    on_task(&rt, rt.alloc(), &GO, keeps_each_once)
 }

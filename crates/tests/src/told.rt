@@ -1,102 +1,125 @@
-//! Numbers, names and texts of what is told.
+//! Numbers, names and texts of what is told, and the numbers that the contracts name.
 use cert_checker::RefusalCode;
+use certificate::{MAX_ATOMS, MAX_STATE_LINES, NUMBER_LIMIT};
 use devices::{DeviceFault, WriteFault};
 use faults::{Code, NoMemory, Span};
+use formulas::MAX_STEPS;
 use planner_main::{File, FileFault};
-use std::alloc::Global;
-use std::fmt::Display;
-use std::process::Abort;
+use search::MAX_STATES;
+use solver::{Limits, MAX_LIMIT};
+use std::alloc::{AllocError, Global};
 use std::test::Fail;
+use tokens::LONGEST_TEXT;
+use typing::{MAX_ARGUMENTS, MAX_OBJECTS, MAX_VARIABLES};
 
-/// The codes of refused texts, with their numbers and names.
-static CODES: [(Code, u8, &str); 21] = [
-    (Code::BadByte, 1, "BadByte"),
-    (Code::BadWord, 2, "BadWord"),
-    (Code::Unbalanced, 3, "Unbalanced"),
-    (Code::TooDeep, 4, "TooDeep"),
-    (Code::TooLong, 5, "TooLong"),
-    (Code::Trailing, 6, "Trailing"),
-    (Code::BadForm, 7, "BadForm"),
-    (Code::UnknownSection, 8, "UnknownSection"),
-    (Code::RepeatedSection, 9, "RepeatedSection"),
-    (Code::MissingSection, 10, "MissingSection"),
-    (Code::UnknownRequirement, 11, "UnknownRequirement"),
-    (Code::LeftOut, 12, "LeftOut"),
-    (Code::Duplicate, 16, "Duplicate"),
-    (Code::UnknownName, 17, "UnknownName"),
-    (Code::WrongArity, 18, "WrongArity"),
-    (Code::DomainMismatch, 21, "DomainMismatch"),
-    (Code::TooMany, 25, "TooMany"),
-    (Code::PlanForm, 30, "PlanForm"),
-    (Code::UnknownAction, 32, "UnknownAction"),
-    (Code::StepArity, 33, "StepArity"),
-    (Code::StepType, 34, "StepType"),
+/// The codes of refused texts.
+#[rattlefmt::skip]
+static CODES: [Code; 21] = [
+    Code::BadByte, Code::BadWord, Code::Unbalanced, Code::TooDeep, Code::TooLong, Code::Trailing, Code::BadForm,
+    Code::UnknownSection, Code::RepeatedSection, Code::MissingSection, Code::UnknownRequirement, Code::LeftOut,
+    Code::Duplicate, Code::UnknownName, Code::WrongArity, Code::DomainMismatch, Code::TooMany, Code::PlanForm,
+    Code::UnknownAction, Code::StepArity, Code::StepType,
 ];
 
-/// The codes of refused certificates, with their numbers and names.
-static REFUSALS: [(RefusalCode, u8, &str); 11] = [
-    (RefusalCode::NotFluent, 43, "NotFluent"),
-    (RefusalCode::Repeated, 44, "Repeated"),
-    (RefusalCode::NoInitial, 45, "NoInitial"),
-    (RefusalCode::GoalOpen, 48, "GoalOpen"),
-    (RefusalCode::SuccessorMissing, 49, "SuccessorMissing"),
-    (RefusalCode::SuccessorDearer, 50, "SuccessorDearer"),
-    (RefusalCode::CutWeak, 51, "CutWeak"),
-    (RefusalCode::CutNotAllowed, 52, "CutNotAllowed"),
-    (RefusalCode::PlanInvalid, 53, "PlanInvalid"),
-    (RefusalCode::PlanDearer, 54, "PlanDearer"),
-    (RefusalCode::Limit, 55, "Limit"),
+/// The codes of refused certificates.
+#[rattlefmt::skip]
+static REFUSALS: [RefusalCode; 11] = [
+    RefusalCode::NotFluent, RefusalCode::Repeated, RefusalCode::NoInitial, RefusalCode::GoalOpen,
+    RefusalCode::SuccessorMissing, RefusalCode::SuccessorDearer, RefusalCode::CutWeak, RefusalCode::CutNotAllowed,
+    RefusalCode::PlanInvalid, RefusalCode::PlanDearer, RefusalCode::Limit,
 ];
 
-/// It is told in these words.
-fn is_told<T: Display>(rt: &impl Abort, alloc: Global, it: &T, wanted: &str) -> Result<(), Fail> {
-    let words = format!(in alloc; "{it}")?;
-    assert_eq!(rt; words.as_str(), wanted);
-    Ok(())
+/// The numbers and names of all codes.
+const NAMES: &str = "1 BadByte, 2 BadWord, 3 Unbalanced, 4 TooDeep, 5 TooLong, 6 Trailing, \
+7 BadForm, 8 UnknownSection, 9 RepeatedSection, 10 MissingSection, 11 UnknownRequirement, \
+12 LeftOut, 16 Duplicate, 17 UnknownName, 18 WrongArity, 21 DomainMismatch, 25 TooMany, \
+30 PlanForm, 32 UnknownAction, 33 StepArity, 34 StepType, \
+43 NotFluent, 44 Repeated, 45 NoInitial, 48 GoalOpen, 49 SuccessorMissing, 50 SuccessorDearer, \
+51 CutWeak, 52 CutNotAllowed, 53 PlanInvalid, 54 PlanDearer, 55 Limit, ";
+
+/// The numbers and names as they are told.
+fn told_names(alloc: Global) -> Result<String, Fail> {
+    let mut told = String::new(alloc);
+    for code in &CODES {
+        write!(told, "{} {code}, ", code.number())?;
+    }
+    for code in &REFUSALS {
+        write!(told, "{} {code}, ", code.number())?;
+    }
+    Ok(told)
 }
 
 #[test]
 fn codes_have_their_numbers_and_names(rt: HostRuntime) -> Result<(), Fail> {
-    for (code, number, name) in &CODES {
-        assert_eq!(rt; code.number(), *number);
-        is_told(&rt, rt.alloc(), code, *name)?;
-    }
-    for (code, number, name) in &REFUSALS {
-        assert_eq!(rt; code.number(), *number);
-        is_told(&rt, rt.alloc(), code, *name)?;
-    }
+    assert_eq!(rt; told_names(rt.alloc())?.as_str(), NAMES);
     Ok(())
 }
 
-const CODE: Code = Code::BadForm;
+/// Each file with a fault in it, as they are told.
+fn told_files(alloc: Global) -> Result<String, Fail> {
+    let mut told = String::new(alloc);
+    for file in [File::Domain, File::Problem, File::Plan] {
+        let fault = FileFault::At {
+            file,
+            code: Code::BadForm,
+            span: Span { start: 4, end: 17 },
+        };
+        write!(told, "{file}: {fault}; ")?;
+    }
+    Ok(told)
+}
 
-const SPAN: Span = Span { start: 4, end: 17 };
+/// What is told where memory or a device fails.
+fn told_failures(alloc: Global) -> Result<String, AllocError> {
+    let (of_memory, of_device) = (WriteFault::NoMemory, WriteFault::Device);
+    let of_file = FileFault::NoMemory;
+    format!(in alloc; "{NoMemory}, {of_memory}, {of_file}, {DeviceFault}, {of_device}")
+}
 
 #[test]
 fn faults_are_told_in_words(rt: HostRuntime) -> Result<(), Fail> {
-    is_told(&rt, rt.alloc(), &NoMemory, "out of memory")?;
-    is_told(&rt, rt.alloc(), &DeviceFault, "device failed")?;
-    is_told(&rt, rt.alloc(), &WriteFault::Device, "device failed")?;
-    is_told(&rt, rt.alloc(), &WriteFault::NoMemory, "out of memory")
+    let wanted = "domain: BadForm in domain at 4..17; problem: BadForm in problem at 4..17; \
+plan: BadForm in plan at 4..17; ";
+    assert_eq!(rt; told_files(rt.alloc())?.as_str(), wanted);
+    let wanted = "out of memory, out of memory, out of memory, device failed, device failed";
+    assert_eq!(rt; told_failures(rt.alloc())?.as_str(), wanted);
+    Ok(())
 }
 
-/// The files, and how a fault in each is told.
-static FILES: [(File, &str, &str); 3] = [
-    (File::Domain, "domain", "BadForm in domain at 4..17"),
-    (File::Problem, "problem", "BadForm in problem at 4..17"),
-    (File::Plan, "plan", "BadForm in plan at 4..17"),
-];
+/// The largest limit.
+const MOST: u32 = 16_777_216;
+
+/// Numbers of states and of instances that may be limits.
+static LIMITS: [(u32, u32); 4] = [(1, 1), (1, MOST), (MOST, 1), (MOST, MOST)];
+
+/// Numbers that may not.
+static NO_LIMITS: [(u32, u32); 4] = [(0, 1), (1, 0), (MOST + 1, 1), (1, MOST + 1)];
+
+/// The limits of these numbers, as they are told.
+fn limits(states: u32, instances: u32) -> Option<(u32, u32)> {
+    let limits = Limits::new(states, instances)?;
+    Some((limits.states(), limits.instances()))
+}
 
 #[test]
-fn faults_of_files_are_told_in_words(rt: HostRuntime) -> Result<(), Fail> {
-    for (file, name, wanted) in &FILES {
-        let fault = FileFault::At {
-            file: *file,
-            code: CODE,
-            span: SPAN,
-        };
-        is_told(&rt, rt.alloc(), file, *name)?;
-        is_told(&rt, rt.alloc(), &fault, *wanted)?;
+fn limits_are_from_1_to_16777216(rt: HostRuntime) {
+    for (states, instances) in &LIMITS {
+        assert_eq!(rt; limits(*states, *instances), Some((*states, *instances)));
     }
-    is_told(&rt, rt.alloc(), &FileFault::NoMemory, "out of memory")
+    for (states, instances) in &NO_LIMITS {
+        assert_eq!(rt; limits(*states, *instances), None);
+    }
 }
+
+// The numbers that the contracts name.
+const _: () = prove!(
+    LONGEST_TEXT == 16_777_216 && MAX_STEPS == 16_777_216 && MAX_OBJECTS == 65_535
+);
+
+const _: () = prove!(MAX_ARGUMENTS == 8 && MAX_VARIABLES == 16);
+
+const _: () = prove!(MAX_STATES == 16_777_216 && MAX_LIMIT == 16_777_216);
+
+const _: () = prove!(MAX_ATOMS == 1_048_576 && MAX_STATE_LINES == 16_777_216);
+
+const _: () = prove!(NUMBER_LIMIT == 1_152_921_504_606_846_976);

@@ -1,16 +1,17 @@
 //! Words of texts, with their kinds and places, and parts of texts.
+use std::alloc::Global;
 use std::process::Abort;
 use std::test::Fail;
-use tokens::{Form, Kind, is_name, one_fault, one_reading, part_end, scan};
+use tokens::{Form, is_name, part_end, scan};
 
-/// The words of a text, each with its kind and its span.
-fn told(rt: &HostRuntime, text: &[u8]) -> Result<String, Fail> {
-    let words = scan(rt.alloc(), text)?;
-    let mut out = String::new(rt.alloc());
+/// The words of a text, each with its kind and its span, which is where its bytes stand.
+fn told(rt: &impl Abort, alloc: Global, text: &[u8]) -> Result<String, Fail> {
+    let words = scan(alloc, text)?;
+    let mut out = String::new(alloc);
     for word in &words {
         let kind = word.kind();
-        let start = word.span().start;
-        let end = word.span().end;
+        let (start, end) = (word.span().start, word.span().end);
+        assert_eq!(rt; text.get(start..end), Some(word.text()));
         write!(out, "{kind:?} {start}..{end} ")?;
     }
     Ok(out)
@@ -34,18 +35,8 @@ static TEXTS: [(&[u8], &str); 8] = [
 #[test]
 fn words_of_texts(rt: HostRuntime) -> Result<(), Fail> {
     for (text, wanted) in &TEXTS {
-        let told = told(&rt, *text)?;
-        assert_eq!(rt; told.as_str(), *wanted);
+        assert_eq!(rt; told(&rt, rt.alloc(), *text)?.as_str(), *wanted);
     }
-    Ok(())
-}
-
-#[test]
-fn a_word_is_its_slice(rt: HostRuntime) -> Result<(), Fail> {
-    let words = scan(rt.alloc(), b" (Hop) ")?;
-    assert_eq!(rt; words.len(), 3);
-    assert_eq!(rt; words[1].text(), b"Hop".as_slice());
-    assert_eq!(rt; words[1].kind(), Kind::Name);
     Ok(())
 }
 
@@ -53,16 +44,12 @@ fn a_word_is_its_slice(rt: HostRuntime) -> Result<(), Fail> {
 fn parts_of_texts(rt: HostRuntime) {
     let text = b"; a\n(go2)";
     assert_eq!(rt; Form::of(text[0]), Form::Comment);
-    assert_eq!(rt; part_end(text, 0, Form::Comment), 3);
-    assert_eq!(rt; part_end(text, 5, Form::Run), 8);
-    assert_eq!(rt; part_end(text, 8, Form::Closing), 9);
-    assert!(rt; is_name(b"go-2_"));
-    assert!(rt; !is_name(b"2go"));
-    assert!(rt; !is_name(b""));
-}
-
-#[test]
-fn laws_of_words() {
-    one_reading();
-    one_fault();
+    let ends = [
+        part_end(text, 0, Form::Comment),
+        part_end(text, 5, Form::Run),
+        part_end(text, 8, Form::Closing),
+    ];
+    assert_eq!(rt; ends, [3, 8, 9]);
+    let are_names = [is_name(b"go-2_"), is_name(b"2go"), is_name(b"")];
+    assert_eq!(rt; are_names, [true, false, false]);
 }

@@ -1,0 +1,50 @@
+//! The files of a case.
+use devices::{FailsAt, InPieces, Memory, WriteFault};
+use planner_main::files::{Files, Table};
+use std::alloc::Global;
+
+/// A table of files, and how their bytes are given.
+#[derive(Drop)]
+pub struct CaseFiles {
+    /// The files.
+    pub table: Table,
+    /// The most bytes that a read gives; 0 is taken for 1.
+    pub piece: u32,
+}
+
+impl CaseFiles {
+    /// No file, and reads that give what they are asked for.
+    pub fn new(alloc: Global) -> CaseFiles {
+        CaseFiles {
+            table: Table::new(alloc),
+            piece: u32::MAX,
+        }
+    }
+}
+
+impl Files for CaseFiles {
+    type Input = InPieces<FailsAt<Memory>>;
+
+    type Output = <Table as Files>::Output;
+
+    ghost failures = { λ files. ⟦<Table as Files>⟧.failures files.table };
+
+    ghost contents = { λ files name. ⟦<Table as Files>⟧.contents files.table name };
+
+    fn open(&mut self, name: &str) -> Result<InPieces<FailsAt<Memory>>, WriteFault> {
+        let input = self.table.open(name)?;
+        Ok(InPieces::new(input, self.piece.max(1) as usize))
+    }
+
+    fn finish(&mut self, input: InPieces<FailsAt<Memory>>) {
+        self.table.finish(input.inner);
+    }
+
+    fn create(&mut self, name: &str) -> Result<<Table as Files>::Output, WriteFault> {
+        self.table.create(name)
+    }
+
+    fn close(&mut self, output: <Table as Files>::Output) -> Result<(), WriteFault> {
+        self.table.close(output)
+    }
+}

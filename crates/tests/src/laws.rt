@@ -1,0 +1,21 @@
+//! The laws that are stated of all values, and proved: each is called once.
+use cert_checker::{closed_claim_holds, solving_list_stays_listed};
+use formulas::one_state;
+use planner_main::one_task;
+use validator::{exactly_one_verdict_is_true, worked_examples_are_true};
+
+#[test]
+fn laws_are_called() {
+    tokens::one_reading();
+    tokens::one_fault();
+    pddl_tree::one_reading();
+    pddl_tree::one_fault();
+    one_task();
+    plan_file::one_plan();
+    plan_file::one_fault();
+    one_state();
+    exactly_one_verdict_is_true();
+    worked_examples_are_true();
+    closed_claim_holds();
+    solving_list_stays_listed();
+}
