@@ -1,12 +1,12 @@
 -- A file begins with the words that the machine goes through: from each nonterminal some words are derived.
-use Rattle.std.proofs.Common.{◌≡◌, ℕ, Bool, true, false, cond, ◌&&◌, ◌||◌, List, [], ◌∷◌, ◌++◌, Option, None, Some, refl, sym, ◌∙◌, ap, subst}
+use Rattle.std.proofs.Common.{◌≡◌, ℕ, Bool, true, false, cond, ◌&&◌, ◌||◌, List, [], ◌∷◌, ◌++◌, fold, Option, None, Some, refl, sym, ◌∙◌, ap, subst}
 use Rattle.std.proofs.lemmas.List.{append_assoc, append-nil}
 use Rattle.model.specs.Trees.{Name, no_name, formulas, effects}
 use Rattle.model.specs.Trees as tree
 use Rattle.model.specs.GrammarWords.{File, domain_file, problem_file, Token, opens, closes, free, ordinary, define, reserved, variable, keyword, SectionKeyword, of_section, PartKeyword, of_part, requirement_key}
 use Rattle.model.specs.GrammarWords as words
 use Rattle.model.specs.Grammar
-use Rattle.model.specs.Grammar.{Sort, Value, Phrase, gives, ◌>>=◌, Section, Part, after, Derives, by, Follows, nothing, next, Tree, file, sections, section, parts, section_after, section_of, seen_with, keyword_in, left_of, sections_of, has_all, required_of, has_section, has_part, is_section, IsFile, tree_from, action_from}
+use Rattle.model.specs.Grammar.{Sort, Value, Phrase, gives, ◌>>=◌, Section, Part, after, Derives, by, Follows, nothing, next, Tree, file, sections, section, parts, section_after, section_of, seen_with, keyword_in, left_of, sections_of, has_all, required_of, has_section, has_part, is_section, IsFile, tree_from, action_from, with_section, no_contents}
 use Rattle.model.specs.Refusals.{IsWhole, Begins}
 use Rattle.model.specs.GrammarMachine.{finished, stopped, step, go_on, number_after, run, after_all, start}
 use Rattle.model.proofs.GrammarMeaning.{phrase_run, file_run, run_file}
@@ -40,6 +40,23 @@ same_section words.init words.init e = refl
 same_section words.goal words.goal e = refl
 same_section j k e = absurd (cc)
 
+-- what was seen with one more
+seen_before : (seen : List SectionKeyword) (j k : SectionKeyword) → has_section seen k ≡ true → has_section (seen ++ j ∷ []) k ≡ true
+seen_before [] j k e = absurd (cc)
+seen_before (i ∷ seen) j k e = by_first (is_section k i) (seen_before seen j k) e
+  where
+    by_first : (b : Bool) → (has_section seen k ≡ true → has_section (seen ++ j ∷ []) k ≡ true) → b || has_section seen k ≡ true → b || has_section (seen ++ j ∷ []) k ≡ true
+    by_first true rest e = refl
+    by_first false rest e = rest e
+
+seen_now : (seen : List SectionKeyword) (k : SectionKeyword) → has_section (seen ++ k ∷ []) k ≡ true
+seen_now [] k = ap (λ b. b || false) (is_section-self k)
+seen_now (i ∷ seen) k = by_first (is_section k i) (seen_now seen k)
+  where
+    by_first : (b : Bool) → has_section (seen ++ k ∷ []) k ≡ true → b || has_section (seen ++ k ∷ []) k ≡ true
+    by_first true e = refl
+    by_first false e = e
+
 -- a section that was not seen is left
 is_left : (k : SectionKeyword) (all seen : List SectionKeyword) → has_section all k ≡ true → has_section seen k ≡ false → has_section (left_of all seen) k ≡ true
 is_left k [] seen e n = absurd (cc)
@@ -56,8 +73,8 @@ abbrev IsRest : File → SectionKeyword → List Token → Section → Type 0
 IsRest f k u x = (j : SectionKeyword) (others : List SectionKeyword) (r : List Token) → Follows (section f j others) (section_after k) (u ++ r) x r
 
 -- one section more
-with_section : (f : File) (seen : List SectionKeyword) (k : SectionKeyword) (u : List Token) (x : Section) → keyword_in x ≡ k → has_section (sections_of f) k ≡ true → has_section seen k ≡ false → IsRest f k u x → Shortest (sections f (seen_with k seen)) → Shortest (sections f seen)
-with_section f seen k u x is here new rest (short w xs d) = short (opens ∷ keyword (of_section k) ∷ u ++ w) (x ∷ xs) (λ r. by_left r (left_of (sections_of f) seen) refl (is_left k (sections_of f) seen here new))
+one_more : (f : File) (seen : List SectionKeyword) (k : SectionKeyword) (u : List Token) (x : Section) → keyword_in x ≡ k → has_section (sections_of f) k ≡ true → has_section seen k ≡ false → IsRest f k u x → Shortest (sections f (seen_with seen k)) → Shortest (sections f seen)
+one_more f seen k u x is here new rest (short w xs d) = short (opens ∷ keyword (of_section k) ∷ u ++ w) (x ∷ xs) (λ r. by_left r (left_of (sections_of f) seen) refl (is_left k (sections_of f) seen here new))
   where
     by_left : (r : List Token) (l : List SectionKeyword) → left_of (sections_of f) seen ≡ l → has_section l k ≡ true → Derives (sections f seen) (opens ∷ keyword (of_section k) ∷ (u ++ w) ++ r) (x ∷ xs) r
     by_left r [] is_empty has = absurd (cc)
@@ -65,7 +82,7 @@ with_section f seen k u x is here new rest (short w xs d) = short (opens ∷ key
         let among : after (section f j others) (keyword (of_section k)) ≡ Some (section_after k) = ap (λ b. cond b (Some (section_after k)) None) has in
         let words : List Token → Type 0 = λ v. Derives (section f j others) (keyword (of_section k) ∷ v) x (w ++ r) in
         let first : Derives (section f j others) (keyword (of_section k) ∷ (u ++ w) ++ r) x (w ++ r) = subst words (sym (append_assoc u w r)) (by among (rest j others (w ++ r))) in
-        let after_it : (q : SectionKeyword) → keyword_in x ≡ q → k ≡ q → Derives (sections f (seen_with q seen)) (w ++ r) xs r = λ q a b. subst (λ y. Derives (sections f (seen_with y seen)) (w ++ r) xs r) b (d r) in
+        let after_it : (q : SectionKeyword) → keyword_in x ≡ q → k ≡ q → Derives (sections f (seen_with seen q)) (w ++ r) xs r = λ q a b. subst (λ y. Derives (sections f (seen_with seen y)) (w ++ r) xs r) b (d r) in
         by (ap (section_of f seen) are) (next first (next (after_it (keyword_in x) refl (sym is)) nothing))
 
 closed : (f : File) (seen : List SectionKeyword) → has_all (required_of f) seen ≡ true → Shortest (sections f seen)
@@ -73,26 +90,26 @@ closed f seen all = short (closes ∷ []) [] (λ r. by (ap (λ b. cond b (Some (
 
 domain_sections : (seen : List SectionKeyword) (b : Bool) → has_section seen words.predicates ≡ b → Shortest (sections domain_file seen)
 domain_sections seen true e = closed domain_file seen (ap (λ b. b && true) e)
-domain_sections seen false e = with_section domain_file seen words.predicates (closes ∷ []) (Grammar.predicates []) refl refl e (λ j others r. next (by refl nothing) nothing) (closed domain_file (words.predicates ∷ seen) refl)
+domain_sections seen false e = one_more domain_file seen words.predicates (closes ∷ []) (Grammar.predicates []) refl refl e (λ j others r. next (by refl nothing) nothing) (closed domain_file (seen ++ words.predicates ∷ []) (ap (λ b. b && true) (seen_now seen words.predicates)))
 
 with_goal : (seen : List SectionKeyword) → has_section seen words.domain_keyword ≡ true → has_section seen words.init ≡ true → (b : Bool) → has_section seen words.goal ≡ b → Shortest (sections problem_file seen)
 with_goal seen d i true g = closed problem_file seen (λ n. d n && (i n && (g n && true)))
 with_goal seen d i false g =
-    with_section problem_file seen words.goal (opens ∷ word ∷ closes ∷ closes ∷ []) (Grammar.goal (tree.atom (record { predicate = no_name; terms = [] }))) refl refl g
+    one_more problem_file seen words.goal (opens ∷ word ∷ closes ∷ closes ∷ []) (Grammar.goal (tree.atom (record { predicate = no_name; terms = [] }))) refl refl g
     (λ j others r. next (by refl (next (by refl (next (by refl nothing) nothing)) nothing)) (next (by refl nothing) nothing))
-    (closed problem_file (words.goal ∷ seen) (λ n. d n && (i n && true)))
+    (closed problem_file (seen ++ words.goal ∷ []) (λ n. seen_before seen words.goal words.domain_keyword d n && (seen_before seen words.goal words.init i n && (seen_now seen words.goal n && true))))
 
 with_init : (seen : List SectionKeyword) → has_section seen words.domain_keyword ≡ true → (b : Bool) → has_section seen words.init ≡ b → Shortest (sections problem_file seen)
 with_init seen d true i = with_goal seen d i (has_section seen words.goal) refl
 with_init seen d false i =
-    with_section problem_file seen words.init (closes ∷ []) (Grammar.init []) refl refl i (λ j others r. next (by refl nothing) nothing)
-    (with_goal (words.init ∷ seen) d refl (has_section seen words.goal) refl)
+    one_more problem_file seen words.init (closes ∷ []) (Grammar.init []) refl refl i (λ j others r. next (by refl nothing) nothing)
+    (with_goal (seen ++ words.init ∷ []) (seen_before seen words.init words.domain_keyword d) (seen_now seen words.init) (has_section (seen ++ words.init ∷ []) words.goal) refl)
 
 problem_sections : (seen : List SectionKeyword) (b : Bool) → has_section seen words.domain_keyword ≡ b → Shortest (sections problem_file seen)
 problem_sections seen true d = with_init seen d (has_section seen words.init) refl
 problem_sections seen false d =
-    with_section problem_file seen words.domain_keyword (word ∷ closes ∷ []) (Grammar.domain no_name) refl refl d (λ j others r. next (by refl nothing) (next (by refl nothing) nothing))
-    (with_init (words.domain_keyword ∷ seen) refl (has_section seen words.init) refl)
+    one_more problem_file seen words.domain_keyword (word ∷ closes ∷ []) (Grammar.domain no_name) refl refl d (λ j others r. next (by refl nothing) (next (by refl nothing) nothing))
+    (with_init (seen ++ words.domain_keyword ∷ []) (seen_now seen words.domain_keyword) (has_section (seen ++ words.domain_keyword ∷ []) words.init) refl)
 
 some_sections : (f : File) (seen : List SectionKeyword) → Shortest (sections f seen)
 some_sections domain_file seen = domain_sections seen (has_section seen words.predicates) refl
@@ -122,7 +139,12 @@ some_parts : (seen : List PartKeyword) (b : Bool) → has_part seen words.parame
 some_parts seen true e = short (closes ∷ []) [] (λ r. by (ap (λ b. cond b (Some (gives [])) None) e) nothing)
 some_parts seen false e =
     short (keyword (of_part words.parameters) ∷ opens ∷ closes ∷ closes ∷ []) (Grammar.parameters [] ∷ [])
-    (λ r. by (ap (λ b. cond b None (Some (Grammar.parts_after seen words.parameters))) e) (next (by refl nothing) (next (by refl nothing) (next (by refl nothing) nothing))))
+    (λ r. by (ap (λ b. cond b None (Some (Grammar.parts_after seen words.parameters))) e) (next (by refl nothing) (next (by refl nothing) (next (by (ap (λ b. cond b (Some (gives [])) None) (parameters_seen seen)) nothing) nothing))))
+  where
+    parameters_seen : (seen : List PartKeyword) → has_part (seen ++ words.parameters ∷ []) words.parameters ≡ true
+    parameters_seen [] = refl
+    parameters_seen (words.parameters ∷ seen) = refl
+    parameters_seen (k ∷ seen) = parameters_seen seen
 
 shortest : (s : Sort) → Shortest s
 shortest Grammar.close = short (closes ∷ []) tt (λ r. by refl nothing)
@@ -153,7 +175,7 @@ shortest (file f) = in_file (some_sections f []) (shortest_kind f)
     in_file : Shortest (sections f []) → Shortest (Grammar.kind_word f) → Shortest (file f)
     in_file (short w x d) (short v y e) =
         let k : List Token = opens ∷ free define no_name ∷ opens ∷ (v ++ word ∷ closes ∷ w) in
-        short k (tree_from f no_name x) (λ r. by refl (next (by refl nothing) (next (by refl nothing) (next (subst (λ u. Derives (Grammar.kind_word f) u y (word ∷ closes ∷ w ++ r)) (sym (append_assoc v (word ∷ closes ∷ w) r)) (e (word ∷ closes ∷ w ++ r))) (next (by refl nothing) (next (by refl nothing) (next (d r) nothing)))))))
+        short k (tree_from f no_name (fold with_section no_contents x)) (λ r. by refl (next (by refl nothing) (next (by refl nothing) (next (subst (λ u. Derives (Grammar.kind_word f) u y (word ∷ closes ∷ w ++ r)) (sym (append_assoc v (word ∷ closes ∷ w) r)) (e (word ∷ closes ∷ w ++ r))) (next (by refl nothing) (next (by refl nothing) (next (d r) nothing)))))))
 shortest Grammar.define_word = short (free define no_name ∷ []) tt (λ r. by refl nothing)
 shortest Grammar.kind_list = short (opens ∷ []) tt (λ r. by refl nothing)
 shortest (Grammar.kind_word domain_file) = short (free words.domain no_name ∷ []) tt (λ r. by refl nothing)

@@ -2,7 +2,7 @@
 -- types"). It is a simple one in the sense of Korenjak and Hopcroft (1966): each production begins with a word, and no
 -- two productions of a nonterminal begin with the same one. So it is given as a function, `after`: where this is wanted
 -- and this word comes, what has to follow, and of which tree.
-use Rattle.std.specs.Prelude.{◌≡◌, Bool, true, false, List, [], ◌∷◌, Option, None, Some, cond, ⊤}
+use Rattle.std.specs.Prelude.{◌≡◌, Bool, true, false, List, [], ◌∷◌, ◌++◌, fold, Option, None, Some, cond, ⊤}
 use Rattle.std.specs.List.{list_all, list_any}
 use Rattle.std.specs.Option.{option_map}
 use Rattle.model.specs.Trees.{Name, Term, Atom, Formula, Effect, Predicate, Action, Domain, Fact, Problem, formulas, effects, no_name}
@@ -33,69 +33,48 @@ pub data Tree : Type 0 where
   domain_tree : Domain → Tree
   problem_tree : Problem → Tree
 
--- Each of them stands at most once, save actions, so the first is the only one. What may be left out is empty then.
-abbrev pub parameters_in : List Part → List Name
-parameters_in [] = []
-parameters_in (parameters ns ∷ _) = ns
-parameters_in (_ ∷ parts) = parameters_in parts
+-- an action with one part more; what may be left out is empty, `(and)` for a formula or an effect
+abbrev pub bare_action : Name → Action
+bare_action n = record { name = n; parameters = []; precondition = tree.and (formulas []); effect = tree.both (effects []) }
 
-abbrev pub precondition_in : List Part → Formula
-precondition_in [] = tree.and (formulas [])
-precondition_in (precondition f ∷ _) = f
-precondition_in (_ ∷ parts) = precondition_in parts
-
-abbrev pub effect_in : List Part → Effect
-effect_in [] = tree.both (effects [])
-effect_in (effect e ∷ _) = e
-effect_in (_ ∷ parts) = effect_in parts
+abbrev pub with_part : Action → Part → Action
+with_part a (parameters ns) = record a { parameters = ns }
+with_part a (precondition f) = record a { precondition = f }
+with_part a (effect e) = record a { effect = e }
 
 abbrev pub action_from : Name → List Part → Action
-action_from n parts = record {
-  name = n;
-  parameters = parameters_in parts;
-  precondition = precondition_in parts;
-  effect = effect_in parts;
-}
+action_from n parts = fold with_part (bare_action n) parts
 
-abbrev pub predicates_in : List Section → List Predicate
-predicates_in [] = []
-predicates_in (predicates ps ∷ _) = ps
-predicates_in (_ ∷ sections) = predicates_in sections
+-- what stands in a file's sections, and with one section more
+pub record Contents : Type 0 where
+  pub predicates : List Predicate
+  pub actions : List Action
+  pub domain : Name
+  pub objects : List Name
+  pub init : List Fact
+  pub goal : Formula
 
-abbrev pub actions_in : List Section → List Action
-actions_in [] = []
-actions_in (action a ∷ sections) = a ∷ actions_in sections
-actions_in (_ ∷ sections) = actions_in sections
+abbrev pub no_contents : Contents
+no_contents = record { predicates = []; actions = []; domain = no_name; objects = []; init = []; goal = tree.and (formulas []) }
 
-abbrev pub domain_in : List Section → Name
-domain_in [] = no_name
-domain_in (domain n ∷ _) = n
-domain_in (_ ∷ sections) = domain_in sections
+abbrev pub with_section : Contents → Section → Contents
+with_section c requirements = c
+with_section c (predicates ps) = record c { predicates = ps }
+with_section c (action a) = record c { actions = c.actions ++ a ∷ [] }
+with_section c (domain n) = record c { domain = n }
+with_section c (objects ns) = record c { objects = ns }
+with_section c (init fs) = record c { init = fs }
+with_section c (goal f) = record c { goal = f }
 
-abbrev pub objects_in : List Section → List Name
-objects_in [] = []
-objects_in (objects ns ∷ _) = ns
-objects_in (_ ∷ sections) = objects_in sections
+abbrev pub domain_from : Name → Contents → Domain
+domain_from n c = record { name = n; predicates = c.predicates; actions = c.actions }
 
-abbrev pub init_in : List Section → List Fact
-init_in [] = []
-init_in (init fs ∷ _) = fs
-init_in (_ ∷ sections) = init_in sections
+abbrev pub problem_from : Name → Contents → Problem
+problem_from n c = record { name = n; domain = c.domain; objects = c.objects; init = c.init; goal = c.goal }
 
-abbrev pub goal_in : List Section → Formula
-goal_in [] = tree.and (formulas [])
-goal_in (goal f ∷ _) = f
-goal_in (_ ∷ sections) = goal_in sections
-
-abbrev pub tree_from : File → Name → List Section → Tree
-tree_from domain_file n sections = domain_tree (record { name = n; predicates = predicates_in sections; actions = actions_in sections })
-tree_from problem_file n sections = problem_tree (record {
-  name = n;
-  domain = domain_in sections;
-  objects = objects_in sections;
-  init = init_in sections;
-  goal = goal_in sections;
-})
+abbrev pub tree_from : File → Name → Contents → Tree
+tree_from domain_file n c = domain_tree (domain_from n c)
+tree_from problem_file n c = problem_tree (problem_from n c)
 
 -- the keyword of a section
 abbrev pub keyword_in : Section → SectionKeyword
@@ -141,9 +120,9 @@ required_of domain_file = words.predicates ∷ []
 required_of problem_file = words.domain_keyword ∷ words.init ∷ words.goal ∷ []
 
 -- what may stand no more once it was seen: each section but an action
-abbrev pub seen_with : SectionKeyword → List SectionKeyword → List SectionKeyword
-seen_with words.action seen = seen
-seen_with k seen = k ∷ seen
+abbrev pub seen_with : List SectionKeyword → SectionKeyword → List SectionKeyword
+seen_with seen words.action = seen
+seen_with seen k = seen ++ k ∷ []
 
 -- those of some sections that were not seen
 abbrev pub left_of : List SectionKeyword → List SectionKeyword → List SectionKeyword
@@ -242,22 +221,27 @@ section_after words.goal = do f ← listed formula; close; gives (goal f)
 -- after the `(` of a file's section, where these may stand: none, or one of them
 abbrev pub section_of : File → List SectionKeyword → List SectionKeyword → Option (Phrase (List Section))
 section_of f seen [] = None
-section_of f seen (k ∷ others) = Some do x ← section f k others; xs ← sections f (seen_with (keyword_in x) seen); gives (x ∷ xs)
+section_of f seen (k ∷ others) = Some do x ← section f k others; xs ← sections f (seen_with seen (keyword_in x)); gives (x ∷ xs)
 
 -- the part of this keyword, and those after it
 abbrev pub parts_after : List PartKeyword → PartKeyword → Phrase (List Part)
-parts_after seen k = and_then (part_after (k ∷ seen) k) (λ x. do xs ← parts (k ∷ seen); gives (x ∷ xs))
+parts_after seen k = and_then (part_after (seen ++ k ∷ []) k) (λ x. do xs ← parts (seen ++ k ∷ []); gives (x ∷ xs))
 
 -- one of a list, and those after it
 abbrev pub more : (s : Sort) → Phrase (Value s) → Phrase (List (Value s))
 more s first = and_then first (λ x. do xs ← many s; gives (x ∷ xs))
 
+-- a name may be any
+abbrev pub name_in : Token → Option Name
+name_in (free f n) = Some n
+name_in (reserved r n) = Some n
+name_in _ = None
+
 abbrev pub after : (s : Sort) → Token → Option (Phrase (Value s))
 after close closes = Some (gives tt)
 
 -- NAME, which may be any; VARIABLE; NAME | VARIABLE; KEY
-after a_name (free f n) = Some (gives n)
-after a_name (reserved r n) = Some (gives n)
+after a_name t = option_map gives (name_in t)
 after a_variable (variable n) = Some (gives n)
 after term (free f n) = Some (gives (tree.object n))
 after term (reserved r n) = Some (gives (tree.object n))
@@ -287,8 +271,7 @@ after declaration (free f n) = Some do ns ← many a_variable; gives (record { n
 after fact (free f n) = Some do ns ← many a_name; gives (record { predicate = n; objects = ns })
 
 -- action  ::= ( :action NAME part* ), each part at most once, `:parameters` among them
-after action_name (free f n) = Some (gives n)
-after action_name (reserved r n) = Some (gives n)
+after action_name t = option_map gives (name_in t)
 after (parts seen) closes = cond (has_part seen words.parameters) (Some (gives [])) None
 after (parts seen) (keyword (of_part k)) = cond (has_part seen k) None (Some (parts_after seen k))
 after (value seen) opens = Some (gives tt)
@@ -299,7 +282,7 @@ after (sections f seen) opens = section_of f seen (left_of (sections_of f) seen)
 after (section f k others) (keyword (of_section j)) = cond (has_section (k ∷ others) j) (Some (section_after j)) None
 
 -- file  ::= ( define ( domain NAME ) section* ), or `problem` in place of `domain`
-after (file f) opens = Some do define_word; kind_list; kind_word f; n ← a_name; close; ss ← sections f []; gives (tree_from f n ss)
+after (file f) opens = Some do define_word; kind_list; kind_word f; n ← a_name; close; ss ← sections f []; gives (tree_from f n (fold with_section no_contents ss))
 after define_word (free words.define n) = Some (gives tt)
 after kind_list opens = Some (gives tt)
 after (kind_word domain_file) (free words.domain n) = Some (gives tt)

@@ -2,7 +2,7 @@
 -- to follow. It stops at the first word with which no file goes on, by the number that is told of it there.
 use Rattle.std.specs.Prelude.{◌≡◌, ℕ, Bool, List, [], ◌∷◌, Option, None, Some, cond}
 use Rattle.std.specs.Option.{option_map, option_and_then}
-use Rattle.model.specs.GrammarWords.{File, Token, closes, reserved, left_out_name, keyword, Keyword, of_section, of_part, parameters, left_out_keyword}
+use Rattle.model.specs.GrammarWords.{File, Token, closes, reserved, left_out_name, keyword, Keyword, of_section, PartKeyword, of_part, parameters, left_out_keyword}
 use Rattle.model.specs.Grammar.{Tree, Sort, many, key, action_name, parts, value, sections, section, define_word, kind_list, file, Value, Phrase, gives, ◌>>=◌, and_then, after, has_section, has_part, sections_of}
 
 pub data Outcome (T : Type 0) : Type 0 where
@@ -10,20 +10,36 @@ pub data Outcome (T : Type 0) : Type 0 where
   -- by this number, at the first of these words, or at their end
   stopped : ℕ → List Token → Outcome T
 
--- The number of a word that stands where this is wanted, and may not (docs/language.md, "Refusals", 7 to 12).
--- the keyword of a section or part that is none of the language's
+-- The number of a word that may not stand where this is wanted (docs/language.md, "Refusals", 7 to 12).
+
+-- wherever it stands: the name of a form that is left out, or any other word
+abbrev pub by_word : Token → ℕ
+by_word (reserved left_out_name n) = 12
+by_word _ = 7
+
+-- a keyword that is none of the language's, where that of a section or part is wanted
 abbrev pub number_of_keyword : Keyword → ℕ
 number_of_keyword left_out_keyword = 12
 number_of_keyword _ = 8
 
--- a keyword where a section's is wanted: one that stands already, or one that is no section of the file
+-- a keyword where that of a section is wanted: one that stands already, or that is no section of the file
 abbrev pub number_in_file : File → Keyword → ℕ
 number_in_file f (of_section k) = cond (has_section (sections_of f) k) 9 8
 number_in_file f k = number_of_keyword k
 
+-- a keyword where that of a part is wanted: one that stands already, or that is no part
+abbrev pub number_in_action : Keyword → ℕ
+number_in_action (of_part k) = 9
+number_in_action k = number_of_keyword k
+
+-- a keyword where the value of a part is wanted, which are seen
+abbrev pub number_at_value : List PartKeyword → Keyword → ℕ
+number_at_value seen (of_part k) = cond (has_part seen k) 9 7
+number_at_value seen _ = 7
+
 abbrev pub number_at : Sort → Token → ℕ
--- a name that heads a form that is left out
-number_at s (reserved left_out_name n) = 12
+-- a list's words are those of what is listed
+number_at (many s) t = number_at s t
 -- the parenthesis that closes the file's list or an action, before what is required stands in it
 number_at define_word closes = 10
 number_at kind_list closes = 10
@@ -31,20 +47,16 @@ number_at (sections f seen) closes = 10
 number_at action_name closes = 10
 number_at (parts seen) closes = 10
 number_at (value seen) closes = cond (has_part seen parameters) 7 10
--- the keyword of a part that stands already, also where the value of another one is wanted
-number_at (parts seen) (keyword (of_part k)) = 9
-number_at (value seen) (keyword (of_part k)) = cond (has_part seen k) 9 7
--- any other keyword where that of a section or part is wanted
+-- a keyword
 number_at (section f k others) (keyword j) = number_in_file f j
-number_at (parts seen) (keyword k) = number_of_keyword k
--- a keyword in `:requirements`
-number_at (many key) (keyword k) = 11
+number_at (parts seen) (keyword k) = number_in_action k
+number_at (value seen) (keyword k) = number_at_value seen k
+number_at key (keyword k) = 11
 -- any other word
-number_at _ _ = 7
+number_at _ t = by_word t
 
 abbrev pub number_after : {T : Type 0} → Phrase T → Token → ℕ
-number_after (gives x) (reserved left_out_name n) = 12
-number_after (gives x) t = 7
+number_after (gives x) t = by_word t
 number_after (s >>= k) t = number_at s t
 
 -- what has to follow after one more word

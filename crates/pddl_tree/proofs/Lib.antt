@@ -1,6 +1,2 @@
-pub mod Looks
+pub mod Seen
 pub mod ReadOn
-pub mod Rows
-pub mod SectionLooks
-pub mod Told
-pub mod Heads

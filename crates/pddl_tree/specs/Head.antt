@@ -1,7 +1,7 @@
 -- The head of a file: `( define ( domain NAME )`, or `problem` in place of `domain`.
 use Rattle.std.specs.Prelude.{ℕ, ◌<◌, ◌≤◌, ◌⊎◌, List, length, take}
-use Rattle.model.specs.GrammarWords.{Token}
-use Rattle.model.specs.Refusals.{File, Begins}
+use Rattle.model.specs.GrammarWords.{File, Token}
+use Rattle.model.specs.Refusals.{Begins}
 
 -- the words of a head
 abbrev pub head_length : ℕ

@@ -1,4 +1,4 @@
 pub mod Tree
 pub mod Reading
-pub mod Sections
+pub mod Place
 pub mod Head
