@@ -57,7 +57,7 @@ no_memory p words at refusal e =
     record { stops = λ k. (let P : Option (ℕ × ℕ) → Type 0 = λ o. IfSome o (λ x. run (from words at) (and_then p k) ≡ stopped x.0 (from words x.1)) in subst P (sym e) tt) }
 
 -- what stops later stops from the start on
-told_later : (words : List Word) (at next : ℕ) (p q : Phrase Tree) (refusal : WordFault) → run (from words at) p ≡ run (from words next) q → StopsAs words next q refusal → StopsAs words at p refusal
+pub told_later : (words : List Word) (at next : ℕ) (p q : Phrase Tree) (refusal : WordFault) → run (from words at) p ≡ run (from words next) q → StopsAs words next q refusal → StopsAs words at p refusal
 told_later words at next p q refusal e h =
     let P : Outcome Tree → Type 0 = λ x. IfSome (told refusal) (λ o. x ≡ stopped o.0 (from words o.1)) in
     subst P (sym e) h

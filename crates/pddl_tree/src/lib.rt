@@ -1,6 +1,7 @@
 //! The trees of a domain file and of a problem file, read from their words.
 #![tactic(auto)]
 
+mod lists;
 mod look;
 mod refusal;
 mod tree;

@@ -12,3 +12,14 @@ pub struct WordRefusal {
 
 /// Why words were not read.
 pub type WordFault = Refused<WordRefusal>;
+
+impl From<WordRefusal> for Refused<WordRefusal> {
+    ghost use Rattle.std.specs.Prelude.{◌≡◌};
+    ghost use Rattle.faults.specs.declared.refused.Refused.TheVariants.{At};
+
+    ghost from_gives = { λ refusal e. e ≡ At refusal };
+
+    fn from(refusal: WordRefusal) -> Refused<WordRefusal> {
+        Refused::At(refusal)
+    }
+}
