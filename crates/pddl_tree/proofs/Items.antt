@@ -5,10 +5,10 @@ use Rattle.std.proofs.lemmas.List.{map-append, append_assoc, append-nil}
 use Rattle.tokens.specs.declared.word.Word.{Word}
 use Rattle.pddl_words.specs.Token.{from, first}
 use Rattle.pddl_words.specs.Refusal.{WordFault}
-use Rattle.pddl_tree.specs.Reading.{the, IsRead, IsTold, closes_first, opens_first}
+use Rattle.pddl_tree.specs.Reading.{the, IsRead, IsTold, closes_first, keys_dropped}
 use Rattle.pddl_tree.proofs.ReadOn.{from_first, told_later}
 use Rattle.model.specs.GrammarWords.{Token, opens, closes, free, reserved, variable, keyword, other}
-use Rattle.model.specs.Grammar.{Tree, Sort, listed, many, Value, Phrase, gives, ◌>>=◌, and_then, more, after}
+use Rattle.model.specs.Grammar.{Tree, Sort, key, listed, many, Value, Phrase, gives, ◌>>=◌, ◌>>◌, and_then, more, after}
 use Rattle.model.specs.GrammarMachine.{stopped, run, go_on, number_at}
 
 -- phrases in turn
@@ -58,4 +58,23 @@ on_told s words at next done refusal h more_come told =
     record {
       stops = λ k. told_later words at next (many s >>= k) (s >>= λ x. many s >>= λ xs. k (done ++ x ∷ xs)) refusal
           (h.goes k ∙ item s (from words next) (λ xs. k (done ++ xs)) more_come) (told.stops (λ x. many s >>= λ xs. k (done ++ x ∷ xs)));
+    }
+
+-- keys, of which nothing is kept
+pub one_key : (words : List Word) (next after : ℕ) (p : Phrase Tree) → closes_first (first (from words next)) ≡ false → IsRead (the key) words next tt after → run (from words next) (many key >> p) ≡ run (from words after) (many key >> p)
+one_key words next after p more_come one = item key (from words next) (λ xs. p) more_come ∙ one.runs (λ x. many key >> p)
+
+pub keys_end : (words : List Word) (next : ℕ) (p : Phrase Tree) → closes_first (first (from words next)) ≡ true → run (from words next) (many key >> p) ≡ run (from words (next + 1)) p
+keys_end words next p e = by_first (first (from words next)) refl e
+  where
+    by_first : (o : Option Token) → first (from words next) ≡ o → closes_first o ≡ true → run (from words next) (many key >> p) ≡ run (from words (next + 1)) p
+    by_first (Some closes) is e = ap (λ w. run w (many key >> p)) (from_first words next closes is)
+    by_first o is e = absurd (cc)
+
+-- the keys' loop ends at a word that is none, whatever follows
+pub keys_told : (words : List Word) (at next : ℕ) (refusal : WordFault) → ((p : Phrase Tree) → run (from words at) (many key >> p) ≡ run (from words next) (many key >> p)) → closes_first (first (from words next)) ≡ false → IsTold (the key) words next refusal → IsTold keys_dropped words at refusal
+keys_told words at next refusal h more_come told =
+    record {
+      stops = λ k. told_later words at next (many key >> k tt) (key >>= λ x. many key >> k tt) refusal
+          (h (k tt) ∙ item key (from words next) (λ xs. k tt) more_come) (told.stops (λ x. many key >> k tt));
     }

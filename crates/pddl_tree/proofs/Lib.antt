@@ -1,3 +1,4 @@
 pub mod Seen
 pub mod ReadOn
 pub mod Items
+pub mod Rows

@@ -10,7 +10,7 @@ use Rattle.pddl_tree.specs.declared.refusal.Place.{Place}
 use Rattle.pddl_tree.specs.Place.{wanted}
 use Rattle.model.specs.Trees.{Name}
 use Rattle.model.specs.GrammarWords.{Token, opens, closes, FreeName, free}
-use Rattle.model.specs.Grammar.{Tree, Sort, close, Value, Phrase, gives, ◌>>=◌, and_then, after}
+use Rattle.model.specs.Grammar.{Tree, Sort, many, key, close, Value, Phrase, gives, ◌>>=◌, ◌>>◌, and_then, after}
 use Rattle.model.specs.GrammarMachine.{run, stopped, number_at}
 
 -- one thing that is wanted
@@ -73,3 +73,7 @@ free_first _ = false
 abbrev pub IsNoPredicate : List Word → ℕ → WordRefusal → Type 0
 IsNoPredicate words at refusal =
     (free_first (first (from words at)) ≡ false) × (told (At refusal) ≡ Some (number_seen close (first (from words at)), at))
+
+-- keys up to `)`: they switch nothing on or off, and nothing is kept of them
+abbrev pub keys_dropped : Phrase (Value close)
+keys_dropped = many key >> gives tt

@@ -1,6 +1,9 @@
 //! The trees of a domain file and of a problem file, read from their words.
 #![tactic(auto)]
 
+mod declared;
+mod effects;
+mod formulas;
 mod lists;
 mod look;
 mod refusal;

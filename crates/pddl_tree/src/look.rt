@@ -113,10 +113,7 @@ pub(crate) fn key(words: &[Word], at: usize) -> Result<usize, WordRefusal>
 }
 
 /// A name that may be a predicate's, which heads its list, and the index after it.
-pub(crate) fn predicate<'a>(
-    words: &[Word<'a>],
-    at: usize,
-) -> Result<(Name<'a>, usize), WordRefusal>
+pub(crate) fn predicate<'a>(words: &[Word<'a>], at: usize) -> Result<(Name<'a>, usize), WordRefusal>
     ensures after { IfOk result (λ r. IsAfter words.now at r.1) }
     ensures word { IfOk result (λ r. Heads words.now at (name_of r.0) r.1) }
     ensures told { IfErr result (λ refusal. IsNoPredicate words.now at refusal) }

@@ -12,7 +12,7 @@ pub names-preserved : goal.names-preserved
 names-preserved c = record {
   moved = omega (arith, c.in_ok-name.ensures.after.0);
   read = on_more a_name name_of c.args.words.now c.args.at c.names.next c.in_ok-name.after c.names.names.items c.push.new.self.items c.in_ok-name.name
-      c.names.invariant.read (sym c.is_close.ensures.first ∙ c.names-test.true) (read_word c.in_ok-name.ensures.word) c.in_ok-push.ensures.items;
+      c.names.invariant.read (sym c.is_close.ensures.first ∙ c.names-test.true) (read_word a_name c.in_ok-name.ensures.word) c.in_ok-push.ensures.items;
 }
 
 pub returns-clause-read : goal.returns-clause-read
