@@ -127,3 +127,16 @@ not_headed s words at refusal rule h = by_first (first (from words at)) refl h.0
     by_first None is e = not_there s words at (At refusal) (ap (option_and_then (after s)) is) (h.1 ∙ ap (λ o. Some (number_seen Grammar.close o, at)) is ∙ sym (ap (λ o. Some (number_seen s o, at)) is))
     by_first (Some t) is e =
         not_there s words at (At refusal) (ap (option_and_then (after s)) is ∙ (rule t e).0) (h.1 ∙ ap (λ o. Some (number_seen Grammar.close o, at)) is ∙ ap (λ n. Some (n, at)) (sym (rule t e).1) ∙ sym (ap (λ o. Some (number_seen s o, at)) is))
+
+-- a word that heads no atom, declaration or fact
+pub no_atom : (t : Token) → free_first (Some t) ≡ false → (after Grammar.atom t ≡ None) × (number_at Grammar.atom t ≡ number_at Grammar.close t)
+no_atom (free f n) e = absurd (cc)
+no_atom t e = (refl, refl)
+
+pub no_declaration : (t : Token) → free_first (Some t) ≡ false → (after Grammar.declaration t ≡ None) × (number_at Grammar.declaration t ≡ number_at Grammar.close t)
+no_declaration (free f n) e = absurd (cc)
+no_declaration t e = (refl, refl)
+
+pub no_fact : (t : Token) → free_first (Some t) ≡ false → (after Grammar.fact t ≡ None) × (number_at Grammar.fact t ≡ number_at Grammar.close t)
+no_fact (free f n) e = absurd (cc)
+no_fact t e = (refl, refl)
