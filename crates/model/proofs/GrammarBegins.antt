@@ -30,7 +30,7 @@ is_section-self words.objects = refl
 is_section-self words.init = refl
 is_section-self words.goal = refl
 
-same_section : (j k : SectionKeyword) → is_section j k ≡ true → j ≡ k
+pub same_section : (j k : SectionKeyword) → is_section j k ≡ true → j ≡ k
 same_section words.requirements words.requirements e = refl
 same_section words.predicates words.predicates e = refl
 same_section words.action words.action e = refl
@@ -58,7 +58,7 @@ seen_now (i ∷ seen) k = by_first (is_section k i) (seen_now seen k)
     by_first false e = e
 
 -- a section that was not seen is left
-is_left : (k : SectionKeyword) (all seen : List SectionKeyword) → has_section all k ≡ true → has_section seen k ≡ false → has_section (left_of all seen) k ≡ true
+pub is_left : (k : SectionKeyword) (all seen : List SectionKeyword) → has_section all k ≡ true → has_section seen k ≡ false → has_section (left_of all seen) k ≡ true
 is_left k [] seen e n = absurd (cc)
 is_left k (j ∷ all) seen e n = by_first (is_section k j) refl (has_section seen j) refl (is_left k all seen) e
   where

@@ -12,7 +12,7 @@ use Rattle.model.specs.Grammar.{Tree, Sort, key, listed, many, Value, Phrase, gi
 use Rattle.model.specs.GrammarMachine.{stopped, run, go_on, number_at}
 
 -- phrases in turn
-in_turn : {A B C : Type 0} (p : Phrase A) (f : A → Phrase B) (k : B → Phrase C) → and_then (and_then p f) k ≡ and_then p (λ x. and_then (f x) k)
+pub in_turn : {A B C : Type 0} (p : Phrase A) (f : A → Phrase B) (k : B → Phrase C) → and_then (and_then p f) k ≡ and_then p (λ x. and_then (f x) k)
 in_turn (gives a) f k = refl
 in_turn (s >>= h) f k = λ i. s >>= λ x. in_turn (h x) f k i
 

@@ -2,3 +2,5 @@ pub mod Seen
 pub mod ReadOn
 pub mod Items
 pub mod Rows
+pub mod Parts
+pub mod Files

@@ -1,12 +1,14 @@
 //! The trees of a domain file and of a problem file, read from their words.
 #![tactic(auto)]
 
+mod action;
 mod declared;
 mod effects;
 mod formulas;
 mod lists;
 mod look;
 mod refusal;
+mod sections;
 mod tree;
 
 pub use pddl_words::{Name, Term};

@@ -1,0 +1,22 @@
+use Rattle.std.proofs.Common.{subst}
+use Rattle.model.specs.Grammar.{action_name}
+use Rattle.pddl_words.specs.Name.{name_of}
+use Rattle.faults.specs.declared.refused.Refused.TheVariants.{At}
+use Rattle.faults.proofs.Results.{passed_on, if_ok, if_err}
+use Rattle.pddl_tree.specs.Reading.{IsRead, IsTold}
+use Rattle.pddl_tree.specs.Tree.{action_of}
+use Rattle.pddl_tree.specs.Sections.{the_action, parts_on}
+use Rattle.pddl_tree.proofs.ReadOn.{then_read, first_told, then_told, read_word}
+use Rattle.pddl_tree.proofs.action.action.Goals as goal
+
+pub returns-in_err-name-clause-told : goal.returns-in_err-name-clause-told
+returns-in_err-name-clause-told c =
+    passed_on (IsTold the_action c.args.words.now c.args.at) c.from_residual.result (At c.in_err-name.field-0.0) c.from_residual.ensures.1 (first_told action_name c.in_err-name.ensures.told)
+
+pub returns-clause-read : goal.returns-clause-read
+returns-clause-read c =
+    if_ok c.parts.result (λ r read. then_read action_name (read_word action_name c.in_ok-name.ensures.word) (subst (λ a. IsRead (parts_on a) c.args.words.now c.in_ok-name.next (action_of r.0) r.1) c.bare.ensures read)) c.parts.ensures.read
+
+pub returns-clause-told : goal.returns-clause-told
+returns-clause-told c =
+    if_err c.parts.result (λ refusal told. then_told action_name (read_word action_name c.in_ok-name.ensures.word) (subst (λ a. IsTold (parts_on a) c.args.words.now c.in_ok-name.next refusal) c.bare.ensures told)) c.parts.ensures.told

@@ -1,0 +1,142 @@
+//! Actions, from the word after `:action` on.
+ghost use Rattle.std.specs.Prelude.{◌≡◌, IfOk, IfErr, map, Some, false};
+ghost use Rattle.faults.specs.declared.refused.Refused.TheVariants.{At};
+ghost use Rattle.model.specs.GrammarWords.{keyword, of_part};
+ghost use Rattle.model.specs.Grammar as grammar;
+ghost use Rattle.pddl_words.specs.Token.{from, first, part_view};
+ghost use Rattle.pddl_tree.specs.Reading.{the, IsAfter, IsRead, IsTold, closes_first};
+ghost use Rattle.pddl_words.specs.Name.{name_of};
+ghost use Rattle.pddl_tree.specs.Tree.{action_of};
+ghost use Rattle.pddl_tree.specs.Sections.{part_tree, the_action, parts_on};
+
+use crate::effects::effect;
+use crate::formulas::formula;
+use crate::lists::variables;
+use crate::look::{action_name, is_close, open};
+use crate::refusal::{Place, has_part, refusal};
+use crate::tree::{Action, Effect, Formula};
+use faults::Refused;
+use pddl_words::{Keyword, Name, PartKeyword, Token, WordFault, WordRefusal, token_at};
+use std::alloc::Global;
+use tokens::Word;
+
+/// A part of an action.
+#[derive(Drop)]
+enum Part<'a> {
+    Parameters(Vec<Name<'a>>),
+    Precondition(Formula<'a>),
+    Effect(Effect<'a>),
+}
+
+impl<'a> Action<'a> {
+    /// An action of which no part was read: what may be left out is `(and)`.
+    fn bare(alloc: Global, name: Name<'a>) -> Action<'a>
+        ensures { action_of result ≡ grammar.bare_action (name_of name.entry) }
+    {
+        Action {
+            name,
+            parameters: Vec::new(alloc),
+            precondition: Formula::And(Vec::new(alloc)),
+            effect: Effect::And(Vec::new(alloc)),
+        }
+    }
+
+    /// Takes in one part more.
+    fn add(&mut self, part: Part<'a>)
+        ensures { action_of self.new ≡ grammar.with_part (action_of self.old) (part_tree part.entry) }
+    {
+        match part {
+            Part::Parameters(parameters) => self.parameters = parameters,
+            Part::Precondition(precondition) => self.precondition = precondition,
+            Part::Effect(effect) => self.effect = effect,
+        }
+    }
+}
+
+/// An action whose `:action` was read, and the index after its `)`.
+pub(crate) fn action<'a>(
+    alloc: Global,
+    words: &[Word<'a>],
+    at: usize,
+) -> Result<(Action<'a>, usize), WordFault>
+    ensures after { IfOk result (λ r. IsAfter words.now at r.1) }
+    ensures read { IfOk result (λ r. IsRead the_action words.now at (action_of r.0) r.1) }
+    ensures told { IfErr result (λ refusal. IsTold the_action words.now at refusal) }
+{
+    let (name, next) = action_name(words, at)?;
+    parts(alloc, words, next, Action::bare(alloc, name))
+}
+
+/// Parts of an action, each at most once, and `)`: the action with them, and the index after the parenthesis.
+fn parts<'a>(
+    alloc: Global,
+    words: &[Word<'a>],
+    at: usize,
+    mut action: Action<'a>,
+) -> Result<(Action<'a>, usize), WordFault>
+    ensures after { IfOk result (λ r. IsAfter words.now at r.1) }
+    ensures read { IfOk result (λ r. IsRead (parts_on (action_of action.entry)) words.now at (action_of r.0) r.1) }
+    ensures told { IfErr result (λ refusal. IsTold (parts_on (action_of action.entry)) words.now at refusal) }
+{
+    let mut seen = Vec::new(alloc);
+    let mut next = at;
+    'parts: while !is_close(words, next) {
+        let keyword = part_keyword(words, next, &seen)?;
+        seen.push(keyword)?;
+        let (part, after) = value(alloc, words, next + 1, keyword, &seen)?;
+        action.add(part);
+        next = after;
+    }
+    if has_part(&seen, PartKeyword::Parameters) {
+        Ok((action, next + 1))
+    } else {
+        Err(Refused::At(refusal(words, next, Place::Parts)))
+    }
+}
+
+/// The keyword of a part that is not seen yet.
+fn part_keyword(words: &[Word], at: usize, seen: &[PartKeyword]) -> Result<PartKeyword, WordRefusal>
+    ensures word { IfOk result (λ part. first (from words.now at) ≡ Some (keyword (of_part (part_view part)))) }
+    ensures new { IfOk result (λ part. grammar.has_part (map part_view seen.now) (part_view part) ≡ false) }
+    ensures told { IfErr result (λ refusal. closes_first (first (from words.now at)) ≡ false → IsTold (the (grammar.parts (map part_view seen.now))) words.now at (At refusal)) }
+{
+    match token_at(words, at) {
+        Token::Keyword(Keyword::Part(part)) => {
+            if has_part(seen, part) {
+                Err(refusal(words, at, Place::Parts))
+            } else {
+                Ok(part)
+            }
+        }
+        _ => Err(refusal(words, at, Place::Parts)),
+    }
+}
+
+/// The value of a part whose keyword was read, which is seen: the part, and the index after it.
+fn value<'a>(
+    alloc: Global,
+    words: &[Word<'a>],
+    at: usize,
+    keyword: PartKeyword,
+    seen: &[PartKeyword],
+) -> Result<(Part<'a>, usize), WordFault>
+    ensures after { IfOk result (λ r. IsAfter words.now at r.1) }
+    ensures read { IfOk result (λ r. IsRead (grammar.part_after (map part_view seen.now) (part_view keyword)) words.now at (part_tree r.0) r.1) }
+    ensures told { IfErr result (λ refusal. IsTold (grammar.part_after (map part_view seen.now) (part_view keyword)) words.now at refusal) }
+{
+    let inside = open(words, at, Place::Value(seen))?;
+    match keyword {
+        PartKeyword::Parameters => {
+            let (parameters, next) = variables(alloc, words, inside)?;
+            Ok((Part::Parameters(parameters), next))
+        }
+        PartKeyword::Precondition => {
+            let (precondition, next) = formula(alloc, words, inside)?;
+            Ok((Part::Precondition(precondition), next))
+        }
+        PartKeyword::Effect => {
+            let (effect, next) = effect(alloc, words, inside)?;
+            Ok((Part::Effect(effect), next))
+        }
+    }
+}
