@@ -1,6 +1,10 @@
 -- The sections of a file, one after another.
 use Rattle.std.proofs.Common.{◌≡◌, ℕ, ◌+◌, Bool, true, false, cond, ◌||◌, ◌&&◌, List, [], ◌∷◌, ◌++◌, map, fold, Option, Some, None, refl, sym, ◌∙◌, ap, subst, arith}
+use Rattle.std.specs.List.{list_all}
 use Rattle.std.specs.Option.{option_map, option_and_then}
+use Rattle.model.proofs.Tests.{passes_map}
+use Rattle.pddl_words.specs.declared.token.SectionKeyword as code
+use Rattle.pddl_words.specs.Token.{section_view}
 use Rattle.tokens.specs.declared.word.Word.{Word}
 use Rattle.faults.specs.declared.refused.Refused.TheVariants.{At}
 use Rattle.pddl_words.specs.declared.refusal.WordRefusal.{WordRefusal}
@@ -15,6 +19,10 @@ use Rattle.model.specs.GrammarWords as words
 use Rattle.model.specs.Grammar.{Tree, Section, Contents, Phrase, gives, ◌>>=◌, and_then, after, sections, section, section_of, section_after, define_word, with_section, no_contents, keyword_in, seen_with, is_section, has_section, has_all, left_of, sections_of, required_of}
 use Rattle.model.specs.GrammarMachine.{run, number_at}
 use Rattle.model.proofs.GrammarBegins.{is_left, same_section}
+
+-- the code's test of all of some sections
+pub all_seen : (tested : List code.SectionKeyword) (all seen : List SectionKeyword) (b c : Bool) → map section_view tested ≡ all → b ≡ list_all (λ k. has_section seen (section_view k)) tested → b ≡ c → has_all all seen ≡ c
+all_seen tested all seen b c are is same = ap (λ l. has_all l seen) (sym are) ∙ passes_map (has_section seen) section_view tested ∙ sym is ∙ same
 
 -- ---- what is left
 
@@ -161,9 +169,11 @@ no_section f seen list at refusal o some h = by_left (are_left (sections_of f) s
         number None = refl
         number (Some (keyword j)) = refl
         number (Some t) = refl
+
         not_left : (j : SectionKeyword) → first (from list (at + 1)) ≡ Some (keyword (of_section j)) → (b : Bool) → has_section (k ∷ others) j ≡ b → b ≡ false
         not_left j is false e = refl
         not_left j is true e = let l = left_is j (sections_of f) seen (ap (λ l. has_section l j) are ∙ e) in absurd (let s = h.0 j is l.0 in let n = l.1 in cc)
+
         by_first : (x : Option Token) → first (from list (at + 1)) ≡ x → option_and_then (after (section f k others)) x ≡ None
         by_first None is = refl
         by_first (Some (keyword (of_section j))) is = ap (λ b. cond b (Some (section_after j)) None) (not_left j is (has_section (k ∷ others) j) refl)

@@ -1,5 +1,6 @@
 //! The sections of a file, one loop for both kinds.
 ghost use Rattle.std.specs.Prelude.{◌≡◌, ◌+◌, IfOk, IfErr, map, Some, true, false};
+ghost use Rattle.std.specs.List.{list_all};
 ghost use Rattle.faults.specs.declared.refused.Refused.TheVariants.{At};
 ghost use Rattle.model.specs.GrammarWords.{keyword, of_section};
 ghost use Rattle.model.specs.Grammar as grammar;
@@ -111,7 +112,7 @@ pub(crate) fn sections<'a>(
 
 /// Whether all of some sections are seen.
 fn has_all(seen: &[SectionKeyword], sections: &[SectionKeyword]) -> bool
-    ensures { result ≡ grammar.has_all (map section_view sections.now) (map section_view seen.now) }
+    ensures { result ≡ list_all (λ section. grammar.has_section (map section_view seen.now) (section_view section)) sections.now }
 {
     sections.iter().all(|section| has_section(seen, *section))
 }
