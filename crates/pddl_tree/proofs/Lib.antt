@@ -4,3 +4,5 @@ pub mod Items
 pub mod Rows
 pub mod Parts
 pub mod Files
+pub mod Told
+pub mod Heads

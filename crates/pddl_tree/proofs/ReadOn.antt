@@ -47,7 +47,7 @@ refused_first s [] k e = refl
 refused_first s (t ∷ w) k e = ap (λ o. go_on (option_map (λ p. and_then p k) o) (run w) (stopped (number_at s t) (t ∷ w))) e
 
 -- where a refusal tells of these words
-told_here : (words : List Word) (at : ℕ) (p : Phrase Tree) (refusal : WordFault) (code place : ℕ) → told refusal ≡ Some (code, place) → run (from words at) p ≡ stopped code (from words place) → StopsAs words at p refusal
+pub told_here : (words : List Word) (at : ℕ) (p : Phrase Tree) (refusal : WordFault) (code place : ℕ) → told refusal ≡ Some (code, place) → run (from words at) p ≡ stopped code (from words place) → StopsAs words at p refusal
 told_here words at p refusal code place e h =
     let P : Option (ℕ × ℕ) → Type 0 = λ o. IfSome o (λ x. run (from words at) p ≡ stopped x.0 (from words x.1)) in
     subst P (sym e) h

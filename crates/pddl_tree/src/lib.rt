@@ -7,9 +7,11 @@ mod effects;
 mod formulas;
 mod lists;
 mod look;
+mod reader;
 mod refusal;
 mod sections;
 mod tree;
 
 pub use pddl_words::{Name, Term};
+pub use reader::{domain, one_fault, one_reading, problem};
 pub use tree::{Action, Atom, Domain, Effect, Fact, Formula, Predicate, Problem};

@@ -1,14 +1,14 @@
 //! Single words: what stands at an index, taken or refused.
 ghost use Rattle.std.specs.Prelude.{◌≡◌, ◌<◌, IfOk, IfErr, IsTrue, length};
 ghost use Rattle.faults.specs.declared.refused.Refused.TheVariants.{At};
-ghost use Rattle.model.specs.GrammarWords.{opens};
-ghost use Rattle.model.specs.Grammar.{a_name, action_name as wants_action_name, a_variable, term as wants_term, close as wants_close, key as wants_key};
+ghost use Rattle.model.specs.Grammar.{a_name, action_name as wants_action_name, a_variable, term as wants_term, close as wants_close, key as wants_key, define_word, kind_word};
 ghost use Rattle.pddl_words.specs.Name.{name_of, term_of};
 ghost use Rattle.pddl_words.specs.Token.{from, first};
+ghost use Rattle.pddl_tree.specs.Place.{file_view};
 ghost use Rattle.pddl_tree.specs.Reading.{the, IsAfter, IsWord, IsTold, Opens, IsNotOpen, Heads, IsNoPredicate, closes_first};
 
-use crate::refusal::{Place, refusal};
-use pddl_words::{Keyword, Name, Term, Token, WordRefusal, token_at};
+use crate::refusal::{FileKind, Place, refusal};
+use pddl_words::{FreeName, Keyword, Name, Term, Token, WordRefusal, token_at};
 use tokens::Word;
 
 /// Whether `)` stands at an index.
@@ -121,5 +121,33 @@ pub(crate) fn predicate<'a>(words: &[Word<'a>], at: usize) -> Result<(Name<'a>, 
     match token_at(words, at) {
         Token::Free(_, name) => Ok((name, at + 1)),
         _ => Err(refusal(words, at, Place::Elsewhere)),
+    }
+}
+
+/// `define`, and the index after it.
+pub(crate) fn define(words: &[Word], at: usize) -> Result<usize, WordRefusal>
+    ensures word { IfOk result (λ next. IsWord define_word words.now at tt next) }
+    ensures told { IfErr result (λ refusal. IsTold (the define_word) words.now at (At refusal)) }
+{
+    match token_at(words, at) {
+        Token::Free(FreeName::Define, _) => Ok(at + 1),
+        _ => Err(refusal(words, at, Place::Incomplete)),
+    }
+}
+
+/// `domain` or `problem`, as the file is, and the index after it.
+pub(crate) fn kind(words: &[Word], at: usize, file: FileKind) -> Result<usize, WordRefusal>
+    ensures word { IfOk result (λ next. IsWord (kind_word (file_view file)) words.now at tt next) }
+    ensures told { IfErr result (λ refusal. IsTold (the (kind_word (file_view file))) words.now at (At refusal)) }
+{
+    match file {
+        FileKind::Domain => match token_at(words, at) {
+            Token::Free(FreeName::Domain, _) => Ok(at + 1),
+            _ => Err(refusal(words, at, Place::Elsewhere)),
+        },
+        FileKind::Problem => match token_at(words, at) {
+            Token::Free(FreeName::Problem, _) => Ok(at + 1),
+            _ => Err(refusal(words, at, Place::Elsewhere)),
+        },
     }
 }

@@ -1,0 +1,243 @@
+//! From words to trees.
+//!
+//! A file is read as by a deterministic pushdown automaton, whose stack are the calls that are open: the next word alone
+//! decides what is done, and the reader never goes back. It has the viable-prefix property: the words that it went
+//! through begin a file, so the first word that it refuses is the first with which no file goes on. The automaton is
+//! crates/model/specs/GrammarMachine.antt, and the property is proved in crates/model/proofs/GrammarBegins.antt. It differs
+//! from the textbook's in three things. A state is a function from the tree that comes next to the state after it, so
+//! that a run ends in the file's tree and not in a yes. Which sections and parts stand already belongs to the state, since
+//! each stands at most once and their order is free. And where it stops, it says by a number why.
+ghost use Rattle.std.specs.Prelude.{◌≡◌, List, map, IfOk, IfErr, IsErrAnd, IfSome, IsSome, None, [], ⊤};
+ghost use Rattle.faults.specs.Fault.{told_by};
+ghost use Rattle.faults.specs.declared.refused.Refused.TheVariants.{At};
+ghost use Rattle.tokens.specs.Word.{word_of};
+ghost use Rattle.model.specs.Fault as model;
+ghost use Rattle.model.specs.Words as text;
+ghost use Rattle.model.specs.GrammarWords.{File, domain_file, problem_file, tokens_of};
+ghost use Rattle.model.specs.Grammar.{EachIsOneDomain, EachIsOneProblem, IsDomain, IsProblem, Tree, domain_tree, problem_tree, gives};
+ghost use Rattle.model.specs.Refusals.{IsWhole, IsRefused, span_of_place};
+ghost use Rattle.model.specs.GrammarMachine.{run, start, finished};
+ghost use Rattle.pddl_words.specs.Name.{name_of};
+ghost use Rattle.pddl_words.specs.Token.{from};
+ghost use Rattle.pddl_words.specs.Refusal.{told, fault_of};
+ghost use Rattle.pddl_tree.specs.Place.{file_view};
+ghost use Rattle.pddl_tree.specs.Reading.{StopsAs};
+ghost use Rattle.pddl_tree.specs.Head.{HasHead, HasNoHead, after_head};
+ghost use Rattle.pddl_tree.specs.Tree.{domain_of, problem_of};
+
+use crate::look::{close, define, kind, name, open};
+use crate::refusal::{FileKind, Place, refusal};
+use crate::sections::{Contents, sections};
+use crate::tree::{Domain, Problem};
+use faults::{Fault, Refusal, Refused, Span};
+use pddl_words::{Name, WordFault, WordRefusal};
+use std::alloc::Global;
+use tokens::Word;
+
+/// The domain that the words are: the whole file, in the words of its text.
+///
+/// Refusals tell the first word such that the words up to and including it begin no domain, and its span; where the
+/// words run out, `BadForm` at the end of the last word, or at `0..0` where there is none:
+///
+/// - `RepeatedSection`: the keyword of a section or of a part of an action that stands a second time in its list.
+/// - `LeftOut`: the keyword of a section or part that the language profile leaves out, where one is wanted, or the name
+///   of a form that it leaves out, as `preference`.
+/// - `UnknownSection`: any other keyword where that of a section or part is wanted.
+/// - `UnknownRequirement`: a keyword in `:requirements` that is no key.
+/// - `MissingSection`: the `)` of the file without `:predicates`, or of an action without `:parameters`.
+/// - `BadForm`: any other word.
+///
+/// `NoMemory` says nothing about the words. The head, `( define ( domain NAME )`, is read before any memory is asked for.
+///
+/// # Examples
+/// The words of `(define (domain d) (:predicates (at ?x)))` are a domain of one predicate and no action:
+///
+/// ```
+/// let words = scan(alloc, b"(define (domain d) (:predicates (at ?x)))")?;
+/// let tree = domain(alloc, &words)?;
+/// assert_eq!(rt; tree.name.text, b"d".as_slice());
+/// assert_eq!(rt; tree.predicates.len(), 1);
+/// ```
+///
+/// `(define (domain d))` is refused by `MissingSection` at its last `)`, `18..19`, and `(define (domain))` by `BadForm`
+/// at `15..16`.
+pub fn domain<'a>(alloc: Global, words: &[Word<'a>]) -> Result<Domain<'a>, Fault>
+    ensures tree { IfOk result (λ tree. IsDomain (tokens_of (map word_of words.now)) (domain_of tree)) }
+    ensures refused { IfErr result (λ fault. IfSome (told_by fault) (IsRefused domain_file (map word_of words.now))) }
+
+    // Words that are a domain are never refused: the only error is want of memory.
+    ensures taken { IsWhole domain_file (tokens_of (map word_of words.now)) → IfErr result (λ fault. told_by fault ≡ None) }
+
+    // Words that stop within the head are refused for that, and never for want of memory.
+    ensures head { HasNoHead domain_file (tokens_of (map word_of words.now)) → IsErrAnd result (λ fault. IsSome (told_by fault)) }
+{
+    let name = match head(words, FileKind::Domain) {
+        Ok(name) => name,
+        Err(refusal) => return Err(fault(words, Refused::At(refusal))),
+    };
+    match read_domain(alloc, words, name) {
+        Ok(domain) => Ok(domain),
+        Err(refusal) => Err(fault(words, refusal)),
+    }
+}
+
+/// The problem that the words are: the whole file, in the words of its text.
+///
+/// Refusals are those of [`domain`]; `MissingSection` is told at the `)` of a file without `:domain`, `:init` or `:goal`.
+///
+/// # Examples
+/// The words of `(define (problem p) (:domain d) (:init (at a)) (:goal (at a)))` are a problem of one fact:
+///
+/// ```
+/// let words = scan(alloc, b"(define (problem p) (:domain d) (:init (at a)) (:goal (at a)))")?;
+/// let tree = problem(alloc, &words)?;
+/// assert_eq!(rt; tree.init.len(), 1);
+/// ```
+///
+/// `(define (problem p) (:domain d) (:domain d))` is refused by `RepeatedSection` at the second `:domain`, `33..40`.
+pub fn problem<'a>(alloc: Global, words: &[Word<'a>]) -> Result<Problem<'a>, Fault>
+    ensures tree { IfOk result (λ tree. IsProblem (tokens_of (map word_of words.now)) (problem_of tree)) }
+    ensures refused { IfErr result (λ fault. IfSome (told_by fault) (IsRefused problem_file (map word_of words.now))) }
+
+    // Words that are a problem are never refused: the only error is want of memory.
+    ensures taken { IsWhole problem_file (tokens_of (map word_of words.now)) → IfErr result (λ fault. told_by fault ≡ None) }
+
+    // Words that stop within the head are refused for that, and never for want of memory.
+    ensures head { HasNoHead problem_file (tokens_of (map word_of words.now)) → IsErrAnd result (λ fault. IsSome (told_by fault)) }
+{
+    let name = match head(words, FileKind::Problem) {
+        Ok(name) => name,
+        Err(refusal) => return Err(fault(words, Refused::At(refusal))),
+    };
+    match read_problem(alloc, words, name) {
+        Ok(problem) => Ok(problem),
+        Err(refusal) => Err(fault(words, refusal)),
+    }
+}
+
+/// A law of the grammar: a list of words has at most one tree as a domain, and at most one as a problem.
+pub fn one_reading()
+    ensures domain { EachIsOneDomain }
+    ensures problem { EachIsOneProblem }
+{}
+
+/// A law of refusals: at most one fault is told of words, and none of a whole file.
+pub fn one_fault()
+    ensures one { (file : File) (words : List text.Word) (fault other : model.Fault)
+        → IsRefused file words fault → IsRefused file words other → fault ≡ other }
+    ensures none { (file : File) (words : List text.Word) (fault : model.Fault)
+        → IsWhole file (tokens_of words) → IsRefused file words fault → ⊥ }
+{}
+
+/// What a refusal tells of the file.
+fn fault(words: &[Word], refusal: WordFault) -> Fault
+    ensures { told_by result ≡ fault_of (map word_of words.now) (told refusal) }
+{
+    match refusal {
+        Refused::At(WordRefusal { code, at }) => Refused::At(Refusal {
+            code,
+            span: span_at(words, at),
+        }),
+        Refused::NoMemory => Refused::NoMemory,
+    }
+}
+
+/// The span of the word at an index; where the words run out, the end of the last word, or 0.
+fn span_at(words: &[Word], at: usize) -> Span
+    ensures start { result.start ≡ (span_of_place (map word_of words.now) at).start }
+    ensures end { result.end ≡ (span_of_place (map word_of words.now) at).end }
+{
+    if at < words.len() {
+        return words[at].span();
+    }
+    let end = match words.last() {
+        Some(word) => word.span().end,
+        None => 0,
+    };
+    Span { start: end, end }
+}
+
+/// The domain of this name that the words after the head are, or the refused word.
+fn read_domain<'a>(
+    alloc: Global,
+    words: &[Word<'a>],
+    name: Name<'a>,
+) -> Result<Domain<'a>, WordFault>
+    ensures read { IfOk result (λ tree. run (from words.now 6) (after_head domain_file (name_of name.entry)) ≡ finished (domain_tree (domain_of tree))) }
+    ensures told { IfErr result (λ refusal. StopsAs words.now 6 (after_head domain_file (name_of name.entry)) refusal) }
+{
+    let (contents, next) = sections(alloc, words, 6, FileKind::Domain)?;
+    let Contents {
+        predicates,
+        actions,
+        domain: _,
+        objects: _,
+        init: _,
+        goal: _,
+    } = contents;
+    match end(words, next) {
+        Ok(()) => Ok(Domain {
+            name,
+            predicates,
+            actions,
+        }),
+        Err(refusal) => Err(Refused::At(refusal)),
+    }
+}
+
+/// The problem of this name that the words after the head are, or the refused word.
+fn read_problem<'a>(
+    alloc: Global,
+    words: &[Word<'a>],
+    name: Name<'a>,
+) -> Result<Problem<'a>, WordFault>
+    ensures read { IfOk result (λ tree. run (from words.now 6) (after_head problem_file (name_of name.entry)) ≡ finished (problem_tree (problem_of tree))) }
+    ensures told { IfErr result (λ refusal. StopsAs words.now 6 (after_head problem_file (name_of name.entry)) refusal) }
+{
+    let (contents, next) = sections(alloc, words, 6, FileKind::Problem)?;
+    let Contents {
+        predicates: _,
+        actions: _,
+        domain,
+        objects,
+        init,
+        goal,
+    } = contents;
+    match end(words, next) {
+        Ok(()) => Ok(Problem {
+            name,
+            domain,
+            objects,
+            init,
+            goal,
+        }),
+        Err(refusal) => Err(Refused::At(refusal)),
+    }
+}
+
+/// `( define ( domain NAME )`, or `problem` in place of `domain`: the name.
+fn head<'a>(words: &[Word<'a>], file: FileKind) -> Result<Name<'a>, WordRefusal>
+    ensures head { IfOk result (λ _. HasHead (file_view file) (from words.now 0)) }
+    ensures read { IfOk result (λ name. run (from words.now 0) (start (file_view file)) ≡ run (from words.now 6) (after_head (file_view file) (name_of name))) }
+    ensures told { IfErr result (λ refusal. StopsAs words.now 0 (start (file_view file)) (At refusal)) }
+{
+    open(words, 0, Place::Elsewhere)?;
+    define(words, 1)?;
+    open(words, 2, Place::Incomplete)?;
+    kind(words, 3, file)?;
+    let (name, _) = name(words, 4)?;
+    close(words, 5)?;
+    Ok(name)
+}
+
+/// No word stands at this index.
+fn end(words: &[Word], at: usize) -> Result<(), WordRefusal>
+    ensures none { IfOk result (λ _. from words.now at ≡ []) }
+    ensures told { IfErr result (λ refusal. (tree : Tree) → StopsAs words.now at (gives tree) (At refusal)) }
+{
+    if at < words.len() {
+        Err(refusal(words, at, Place::Elsewhere))
+    } else {
+        Ok(())
+    }
+}
