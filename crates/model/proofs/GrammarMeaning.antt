@@ -1,9 +1,9 @@
 -- The machine and the grammar: it finishes on exactly the words that derive, with their tree.
-use Rattle.std.proofs.Common.{◌≡◌, ℕ, List, [], ◌∷◌, ◌++◌, Option, None, Some, refl, sym, ◌∙◌, ap, subst}
-use Rattle.std.specs.Option.{option_map, option_and_then}
+use Rattle.std.proofs.Common.{◌≡◌, ℕ, List, [], ◌∷◌, Option, None, Some, refl, ◌∙◌, ap, subst}
+use Rattle.std.specs.Option.{option_map}
 use Rattle.model.specs.GrammarWords.{File, Token}
 use Rattle.model.specs.Grammar.{Sort, Value, Phrase, gives, ◌>>=◌, and_then, after, Derives, by, Follows, nothing, next, Tree, file, IsFile}
-use Rattle.model.specs.GrammarMachine.{Outcome, finished, stopped, step, go_on, number_after, run, after_all, start}
+use Rattle.model.specs.GrammarMachine.{finished, stopped, go_on, number_after, run, start}
 
 -- what a sort derives runs the machine from what is wanted to what follows of its tree
 mutual

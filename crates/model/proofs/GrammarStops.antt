@@ -1,5 +1,5 @@
 -- Where the machine stops: at the first word that may not follow, alike whatever comes after it.
-use Rattle.std.proofs.Common.{◌≡◌, ℕ, suc, ◌+◌, ◌≤◌, List, [], ◌∷◌, ◌++◌, length, Option, None, Some, refl, sym, ◌∙◌, ap, subst, arith, length-append}
+use Rattle.std.proofs.Common.{◌≡◌, ℕ, suc, ◌+◌, ◌≤◌, List, [], ◌∷◌, ◌++◌, length, Option, None, Some, refl, ◌∙◌, ap, subst, arith, length-append}
 use Rattle.std.specs.Option.{option_and_then}
 use Rattle.model.specs.GrammarWords.{Token}
 use Rattle.model.specs.Grammar.{Phrase, gives, ◌>>=◌}

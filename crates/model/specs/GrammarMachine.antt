@@ -1,9 +1,9 @@
 -- The grammar as a machine that takes the words one by one: a deterministic pushdown automaton, whose state is what has
 -- to follow. It stops at the first word with which no file goes on, by the number that is told of it there.
-use Rattle.std.specs.Prelude.{◌≡◌, ℕ, Bool, List, [], ◌∷◌, Option, None, Some, cond}
+use Rattle.std.specs.Prelude.{ℕ, List, [], ◌∷◌, Option, None, Some, cond}
 use Rattle.std.specs.Option.{option_map, option_and_then}
 use Rattle.model.specs.GrammarWords.{File, Token, closes, reserved, left_out_name, keyword, Keyword, of_section, PartKeyword, of_part, parameters, left_out_keyword}
-use Rattle.model.specs.Grammar.{Tree, Sort, many, key, action_name, parts, value, sections, section, define_word, kind_list, file, Value, Phrase, gives, ◌>>=◌, and_then, after, has_section, has_part, sections_of}
+use Rattle.model.specs.Grammar.{Tree, Sort, many, key, action_name, parts, value, sections, section, define_word, kind_list, file, Phrase, gives, ◌>>=◌, and_then, after, has_section, has_part, sections_of}
 
 pub data Outcome (T : Type 0) : Type 0 where
   finished : T → Outcome T
