@@ -1,8 +1,9 @@
 -- The machine and the grammar: it finishes on exactly the words that derive, with their tree.
 use Rattle.std.proofs.Common.{◌≡◌, ℕ, List, [], ◌∷◌, Option, None, Some, refl, ◌∙◌, ap, subst}
 use Rattle.std.specs.Option.{option_map}
+use Rattle.model.specs.Trees.{Domain, Problem}
 use Rattle.model.specs.GrammarWords.{File, Token}
-use Rattle.model.specs.Grammar.{Sort, Value, Phrase, gives, ◌>>=◌, and_then, after, Derives, by, Follows, nothing, next, Tree, file, IsFile}
+use Rattle.model.specs.Grammar.{Sort, Value, Phrase, gives, ◌>>=◌, and_then, after, Derives, by, Follows, nothing, next, Tree, file, IsFile, IsDomain, IsProblem}
 use Rattle.model.specs.GrammarMachine.{finished, stopped, go_on, number_after, run, start}
 
 -- what a sort derives runs the machine from what is wanted to what follows of its tree
@@ -62,3 +63,9 @@ run_file f w x e = by_next (sound f w (start f) x e)
 -- a list of words has at most one tree
 pub one_tree : {f : File} {w : List Token} {x y : Tree} → IsFile f w x → IsFile f w y → x ≡ y
 one_tree d e = let a = file_run d in let b = file_run e in cc
+
+pub one_domain : (w : List Token) (d e : Domain) → IsDomain w d → IsDomain w e → d ≡ e
+one_domain w d e g h = let same = one_tree g h in cc
+
+pub one_problem : (w : List Token) (p q : Problem) → IsProblem w p → IsProblem w q → p ≡ q
+one_problem w p q g h = let same = one_tree g h in cc
