@@ -1,5 +1,5 @@
 -- What a call answers where another one's error is passed on.
-use Rattle.std.specs.Prelude.{◌≡◌, IfErr, Result}
+use Rattle.std.specs.Prelude.{◌≡◌, IfOk, IfErr, Result, Ok, Err}
 use Rattle.std.specs.Result.{IsErrAnd}
 use Rattle.std.proofs.lemmas.Result.{err_from_is_err_and}
 
@@ -8,3 +8,12 @@ pub passed_on : {T E : Type 0} (P : E → Type 0) (r : Result T E) (x : E) → I
 passed_on P r x h p =
     let is = err_from_is_err_and r h in
     rw (is.1, is.2) p
+
+-- what follows for an answer, or for an error
+pub if_ok : {T E : Type 0} {P Q : T → Type 0} (r : Result T E) → ((x : T) → P x → Q x) → IfOk r P → IfOk r Q
+if_ok (Ok x) f h = f x h
+if_ok (Err e) f h = tt
+
+pub if_err : {T E : Type 0} {P Q : E → Type 0} (r : Result T E) → ((e : E) → P e → Q e) → IfErr r P → IfErr r Q
+if_err (Ok x) f h = tt
+if_err (Err e) f h = f e h

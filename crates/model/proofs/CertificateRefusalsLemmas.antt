@@ -1,15 +1,14 @@
 -- Of a closed certificate nothing is wrong.
-use Rattle.std.proofs.Common.{◌≡◌, ℕ, ◌+◌, ◌<◌, ◌&&◌, false, List, length, get_or, Option, None, Some, inl, inr, refl, sym, ap, subst, arith}
+use Rattle.std.proofs.Common.{◌≡◌, ℕ, ◌+◌, ◌<◌, ◌&&◌, List, get_or, Option, None, Some, inl, inr, refl, subst, arith}
 use Rattle.std.specs.Prelude.{◌≢◌, IsTrue, AllPairs, slice_get}
 use Rattle.std.proofs.lemmas.Option.{slice_get_within, get_or_from_slice_get}
 use Rattle.model.specs.Task.{Atom, Task, Instance}
 use Rattle.model.specs.WellTyped.{is_atom}
-use Rattle.model.specs.Runs.{cost_of_all, Solves}
+use Rattle.model.specs.Runs.{Solves}
 use Rattle.model.specs.Meaning.{State, system_of}
-use Rattle.model.specs.Instances.{all_instances}
-use Rattle.model.specs.Claims.{Claim, bound, none, Allows, Line, IsListedWithin}
+use Rattle.model.specs.Claims.{Claim, bound, none, Allows, Line}
 use Rattle.model.specs.Certificates.{Certificate, is_fluent, lines_of, IsClosedFor}
-use Rattle.model.specs.CertificateRefusals.{Reason, not_fluent, repeated, no_initial, goal_open, successor_missing, successor_dearer, cut_weak, cut_not_allowed, plan_invalid, plan_dearer, limit, IsWrongLine, IsWrong, IsPlanWithin, IsListed}
+use Rattle.model.specs.CertificateRefusals.{Reason, not_fluent, repeated, no_initial, goal_open, successor_missing, successor_dearer, cut_weak, cut_not_allowed, plan_invalid, plan_dearer, limit, IsWrongLine, IsWrong, IsPlanWithin}
 use Rattle.model.proofs.ListLemmas.{Contains-got}
 
 -- ---- elements at their places

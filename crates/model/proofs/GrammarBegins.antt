@@ -1,159 +1,221 @@
--- The words that the machine goes through begin a file: from each of its states some words lead to the end of one.
-use Rattle.std.proofs.Common.{◌≡◌, Bool, true, false, List, [], ◌∷◌, ◌++◌, Option, None, Some, sym, subst}
+-- A file begins with the words that the machine goes through: from each nonterminal some words are derived.
+use Rattle.std.proofs.Common.{◌≡◌, ℕ, Bool, true, false, cond, ◌&&◌, ◌||◌, List, [], ◌∷◌, ◌++◌, fold, None, Some, refl, sym, ◌∙◌, ap, subst}
 use Rattle.std.proofs.lemmas.List.{append_assoc, append-nil}
-use Rattle.model.specs.Trees.{Name, Formula, Effect, Fact, Action}
+use Rattle.model.specs.Trees.{Name, no_name, formulas, effects}
 use Rattle.model.specs.Trees as tree
-use Rattle.model.specs.GrammarWords.{Token, opens, closes, name, keyword, free, define, domain, problem, ordinary, Keyword, domain_keyword, requirements, predicates, action, objects, init, goal, parameters}
-use Rattle.model.specs.Grammar.{no_name, no_variable, no_term, atom, no_formula, add, no_effect, Parts, parts, parameter_list, condition, change, AreParts, no_part, more_parts, whole_action, action_from, no_predicate, no_key, DomainSections, domain_sections, domain_requirements, declared_predicates, one_action, no_fact, ProblemSections, problem_sections, domain_name, problem_requirements, object_list, initial_facts, goal_formula}
-use Rattle.model.specs.Refusals.{File, domain_file, problem_file, IsWhole, Begins, is_full}
-use Rattle.model.specs.GrammarMachine.{State, wants_open, wants_close, wants_name, wants_names, wants_variables, wants_terms, wants_formulas, wants_effects, wants_predicates, wants_facts, wants_keys, wants_formula, wants_effect, wants_atom, wants_predicate, wants_fact, wants_action, wants_parts, wants_value, wants_domain_sections, wants_domain_section, wants_problem_sections, wants_problem_section, wants_define, wants_head, wants_kind, wants_nothing, parameter_part, precondition_part, effect_part, atom_from}
-use Rattle.model.proofs.GrammarTold.{Before, AtDomain, at_domain, AtDomainSection, AtProblem, at_problem, AtProblemSection, at_problem_section, AtHead, AtKind, AtName, domain_grows, problem_grows, section_grows, problem_section_grows, new_of, domain_named, problem_named, defined, head_opened, domain_closed, problem_closed}
+use Rattle.model.specs.GrammarWords.{File, domain_file, problem_file, Token, opens, closes, free, ordinary, define, reserved, variable, keyword, SectionKeyword, of_section, PartKeyword, of_part, requirement_key}
+use Rattle.model.specs.GrammarWords as words
+use Rattle.model.specs.Grammar
+use Rattle.model.specs.Grammar.{Sort, Value, Phrase, gives, ◌>>=◌, Section, Part, after, Derives, by, Follows, nothing, next, Tree, file, sections, section, parts, section_after, section_of, seen_with, keyword_in, left_of, sections_of, has_all, required_of, has_section, has_part, is_section, IsFile, tree_from, action_from, with_section, no_contents}
+use Rattle.model.specs.Refusals.{IsWhole, Begins}
+use Rattle.model.specs.GrammarMachine.{finished, stopped, step, go_on, number_after, run, after_all, start}
+use Rattle.model.proofs.GrammarMeaning.{phrase_run, file_run, run_file}
+use Rattle.model.proofs.GrammarStops.{leads}
 
--- a name that stands for any
-abbrev any_name : Name
-any_name = record { text = []; span = record { start = 0; end = 0 } }
+-- some words and their tree
+data Shortest (s : Sort) : Type 0 where
+  short : (w : List Token) (x : Value s) → ((r : List Token) → Derives s (w ++ r) x r) → Shortest s
 
 abbrev word : Token
-word = name (free ordinary) any_name
+word = free ordinary no_name
 
--- words that begin a file with more of it do so without
-pub fewer : (file : File) (b u : List Token) → Begins file (b ++ u) → Begins file b
-fewer file b u h = (u ++ h.0, subst (IsWhole file) (append_assoc b u h.0) h.1)
+-- ---- sections
 
-fewer_by : (file : File) (b u v : List Token) → Begins file ((b ++ u) ++ v) → Begins file b
-fewer_by file b u v h = fewer file b u (fewer file (b ++ u) v h)
+is_section-self : (k : SectionKeyword) → is_section k k ≡ true
+is_section-self words.requirements = refl
+is_section-self words.predicates = refl
+is_section-self words.action = refl
+is_section-self words.domain_keyword = refl
+is_section-self words.objects = refl
+is_section-self words.init = refl
+is_section-self words.goal = refl
 
--- the sections of a domain: its predicates are declared, if they are not yet
-domain_begins : (file : File) (b : List Token) (s : DomainSections) → AtDomain file b s → Begins file b
-domain_begins file b (domain_sections q (Some ps) found) h = (closes ∷ [], domain_closed h)
-domain_begins file b (domain_sections q None found) (at_domain h) =
-    let u : List Token = opens ∷ keyword predicates ∷ closes ∷ [] in
-    fewer domain_file b u (closes ∷ [], domain_closed (at_domain (domain_grows h (declared_predicates no_predicate))))
+pub same_section : (j k : SectionKeyword) → is_section j k ≡ true → j ≡ k
+same_section words.requirements words.requirements e = refl
+same_section words.predicates words.predicates e = refl
+same_section words.action words.action e = refl
+same_section words.domain_keyword words.domain_keyword e = refl
+same_section words.objects words.objects e = refl
+same_section words.init words.init e = refl
+same_section words.goal words.goal e = refl
+same_section j k e = absurd (cc)
 
--- an action without more than its parameters
-shortest_action : AreParts (keyword parameters ∷ opens ∷ closes ∷ closes ∷ []) (parts None None None) (parts (Some []) None None) (closes ∷ [])
-shortest_action = more_parts (parameter_list no_variable) no_part
+-- what was seen with one more
+seen_before : (seen : List SectionKeyword) (j k : SectionKeyword) → has_section seen k ≡ true → has_section (seen ++ j ∷ []) k ≡ true
+seen_before [] j k e = absurd (cc)
+seen_before (i ∷ seen) j k e = by_first (is_section k i) (seen_before seen j k) e
+  where
+    by_first : (b : Bool) → (has_section seen k ≡ true → has_section (seen ++ j ∷ []) k ≡ true) → b || has_section seen k ≡ true → b || has_section (seen ++ j ∷ []) k ≡ true
+    by_first true rest e = refl
+    by_first false rest e = rest e
 
-domain_section_begins : (file : File) (b : List Token) (s : DomainSections) → AtDomainSection file b s → Begins file b
-domain_section_begins file b (domain_sections q p found) h =
-    let u : List Token = word ∷ keyword parameters ∷ opens ∷ closes ∷ closes ∷ [] in
-    let a : Action = action_from any_name [] None None in
-    fewer_by file b (keyword action ∷ []) u (domain_begins file ((b ++ keyword action ∷ []) ++ u) (domain_sections q p (found ++ a ∷ [])) (section_grows action u h (one_action (whole_action shortest_action))))
+seen_now : (seen : List SectionKeyword) (k : SectionKeyword) → has_section (seen ++ k ∷ []) k ≡ true
+seen_now [] k = ap (λ b. b || false) (is_section-self k)
+seen_now (i ∷ seen) k = by_first (is_section k i) (seen_now seen k)
+  where
+    by_first : (b : Bool) → has_section (seen ++ k ∷ []) k ≡ true → b || has_section (seen ++ k ∷ []) k ≡ true
+    by_first true e = refl
+    by_first false e = e
 
--- the sections of a problem: its domain, its facts and its goal are told, if they are not yet
-abbrev any_formula : Formula
-any_formula = tree.atom (atom_from any_name [])
+-- a section that was not seen is left
+pub is_left : (k : SectionKeyword) (all seen : List SectionKeyword) → has_section all k ≡ true → has_section seen k ≡ false → has_section (left_of all seen) k ≡ true
+is_left k [] seen e n = absurd (cc)
+is_left k (j ∷ all) seen e n = by_first (is_section k j) refl (has_section seen j) refl (is_left k all seen) e
+  where
+    by_first : (b : Bool) → is_section k j ≡ b → (c : Bool) → has_section seen j ≡ c → (has_section all k ≡ true → has_section seen k ≡ false → has_section (left_of all seen) k ≡ true) → b || has_section all k ≡ true → has_section (cond c (left_of all seen) (j ∷ left_of all seen)) k ≡ true
+    by_first true is true was rest e = let same = same_section k j is in absurd (let both = sym n ∙ ap (has_section seen) same ∙ was in cc)
+    by_first true is false was rest e = ap (λ b. b || has_section (left_of all seen) k) is
+    by_first false is true was rest e = rest e n
+    by_first false is false was rest e = ap (λ b. b || has_section (left_of all seen) k) is ∙ rest e n
 
-with_goal : (file : File) (b : List Token) (d : Name) (q : Bool) (o : Option (List Name)) (fs : List Fact) (g : Option Formula) → AtProblem file b (problem_sections (Some d) q o (Some fs) g) → Begins file b
-with_goal file b d q o fs (Some g) h = (closes ∷ [], problem_closed h)
-with_goal file b d q o fs None (at_problem h) =
-    let u : List Token = opens ∷ keyword goal ∷ opens ∷ word ∷ closes ∷ closes ∷ [] in
-    fewer problem_file b u (closes ∷ [], problem_closed (at_problem (problem_grows h (goal_formula {f = any_formula} (atom no_term)))))
+-- the words of a section after its keyword, whichever others might stand in its place
+abbrev IsRest : File → SectionKeyword → List Token → Section → Type 0
+IsRest f k u x = (j : SectionKeyword) (others : List SectionKeyword) (r : List Token) → Follows (section f j others) (section_after k) (u ++ r) x r
 
-with_facts : (file : File) (b : List Token) (d : Name) (q : Bool) (o : Option (List Name)) (i : Option (List Fact)) (g : Option Formula) → AtProblem file b (problem_sections (Some d) q o i g) → Begins file b
-with_facts file b d q o (Some fs) g h = with_goal file b d q o fs g h
-with_facts file b d q o None g (at_problem h) =
-    let u : List Token = opens ∷ keyword init ∷ closes ∷ [] in
-    fewer problem_file b u (with_goal problem_file (b ++ u) d q o [] g (at_problem (problem_grows h (initial_facts no_fact))))
+-- one section more
+one_more : (f : File) (seen : List SectionKeyword) (k : SectionKeyword) (u : List Token) (x : Section) → keyword_in x ≡ k → has_section (sections_of f) k ≡ true → has_section seen k ≡ false → IsRest f k u x → Shortest (sections f (seen_with seen k)) → Shortest (sections f seen)
+one_more f seen k u x is here new rest (short w xs d) = short (opens ∷ keyword (of_section k) ∷ u ++ w) (x ∷ xs) (λ r. by_left r (left_of (sections_of f) seen) refl (is_left k (sections_of f) seen here new))
+  where
+    by_left : (r : List Token) (l : List SectionKeyword) → left_of (sections_of f) seen ≡ l → has_section l k ≡ true → Derives (sections f seen) (opens ∷ keyword (of_section k) ∷ (u ++ w) ++ r) (x ∷ xs) r
+    by_left r [] is_empty has = absurd (cc)
+    by_left r (j ∷ others) are has =
+        let among : after (section f j others) (keyword (of_section k)) ≡ Some (section_after k) = ap (λ b. cond b (Some (section_after k)) None) has in
+        let words : List Token → Type 0 = λ v. Derives (section f j others) (keyword (of_section k) ∷ v) x (w ++ r) in
+        let first : Derives (section f j others) (keyword (of_section k) ∷ (u ++ w) ++ r) x (w ++ r) = subst words (sym (append_assoc u w r)) (by among (rest j others (w ++ r))) in
+        let after_it : (q : SectionKeyword) → keyword_in x ≡ q → k ≡ q → Derives (sections f (seen_with seen q)) (w ++ r) xs r = λ q a b. subst (λ y. Derives (sections f (seen_with seen y)) (w ++ r) xs r) b (d r) in
+        by (ap (section_of f seen) are) (next first (next (after_it (keyword_in x) refl (sym is)) nothing))
 
-problem_begins : (file : File) (b : List Token) (s : ProblemSections) → AtProblem file b s → Begins file b
-problem_begins file b (problem_sections (Some d) q o i g) h = with_facts file b d q o i g h
-problem_begins file b (problem_sections None q o i g) (at_problem h) =
-    let u : List Token = opens ∷ keyword domain_keyword ∷ word ∷ closes ∷ [] in
-    fewer problem_file b u (with_facts problem_file (b ++ u) any_name q o i g (at_problem (problem_grows h domain_name)))
+closed : (f : File) (seen : List SectionKeyword) → has_all (required_of f) seen ≡ true → Shortest (sections f seen)
+closed f seen all = short (closes ∷ []) [] (λ r. by (ap (λ b. cond b (Some (gives [])) None) all) nothing)
 
-room_of : {file : File} {b : List Token} {s : ProblemSections} → AtProblemSection file b s → is_full s ≡ false
-room_of (at_problem_section h room) = room
+domain_sections : (seen : List SectionKeyword) (b : Bool) → has_section seen words.predicates ≡ b → Shortest (sections domain_file seen)
+domain_sections seen true e = closed domain_file seen (ap (λ b. b && true) e)
+domain_sections seen false e = one_more domain_file seen words.predicates (closes ∷ []) (Grammar.predicates []) refl refl e (λ j others r. next (by refl nothing) nothing) (closed domain_file (seen ++ words.predicates ∷ []) (ap (λ b. b && true) (seen_now seen words.predicates)))
 
--- one of the sections that do not stand yet
-problem_section_begins : (file : File) (b : List Token) (s : ProblemSections) → AtProblemSection file b s → Begins file b
-problem_section_begins file b (problem_sections None q o i g) h =
-    let u : List Token = word ∷ closes ∷ [] in
-    fewer_by file b (keyword domain_keyword ∷ []) u (problem_begins file ((b ++ keyword domain_keyword ∷ []) ++ u) (problem_sections (Some any_name) q o i g) (problem_section_grows domain_keyword u h domain_name))
-problem_section_begins file b (problem_sections (Some d) false o i g) h =
-    let u : List Token = closes ∷ [] in
-    fewer_by file b (keyword requirements ∷ []) u (problem_begins file ((b ++ keyword requirements ∷ []) ++ u) (problem_sections (Some d) true o i g) (problem_section_grows requirements u h (problem_requirements no_key)))
-problem_section_begins file b (problem_sections (Some d) true None i g) h =
-    let u : List Token = closes ∷ [] in
-    fewer_by file b (keyword objects ∷ []) u (problem_begins file ((b ++ keyword objects ∷ []) ++ u) (problem_sections (Some d) true (Some []) i g) (problem_section_grows objects u h (object_list no_name)))
-problem_section_begins file b (problem_sections (Some d) true (Some o) None g) h =
-    let u : List Token = closes ∷ [] in
-    fewer_by file b (keyword init ∷ []) u (problem_begins file ((b ++ keyword init ∷ []) ++ u) (problem_sections (Some d) true (Some o) (Some []) g) (problem_section_grows init u h (initial_facts no_fact)))
-problem_section_begins file b (problem_sections (Some d) true (Some o) (Some i) None) h =
-    let u : List Token = opens ∷ word ∷ closes ∷ closes ∷ [] in
-    fewer_by file b (keyword goal ∷ []) u (problem_begins file ((b ++ keyword goal ∷ []) ++ u) (problem_sections (Some d) true (Some o) (Some i) (Some any_formula)) (problem_section_grows goal u h (goal_formula (atom no_term))))
-problem_section_begins file b (problem_sections (Some d) true (Some o) (Some i) (Some g)) h = let room = room_of h in absurd (cc)
+with_goal : (seen : List SectionKeyword) → has_section seen words.domain_keyword ≡ true → has_section seen words.init ≡ true → (b : Bool) → has_section seen words.goal ≡ b → Shortest (sections problem_file seen)
+with_goal seen d i true g = closed problem_file seen (λ n. d n && (i n && (g n && true)))
+with_goal seen d i false g =
+    one_more problem_file seen words.goal (opens ∷ word ∷ closes ∷ closes ∷ []) (Grammar.goal (tree.atom (record { predicate = no_name; terms = [] }))) refl refl g
+    (λ j others r. next (by refl (next (by refl (next (by refl nothing) nothing)) nothing)) (next (by refl nothing) nothing))
+    (closed problem_file (seen ++ words.goal ∷ []) (λ n. seen_before seen words.goal words.domain_keyword d n && (seen_before seen words.goal words.init i n && (seen_now seen words.goal n && true))))
 
--- the head of a file
-kind_begins : (file : File) (b : List Token) (f : File) → AtName file b f → Begins file b
-kind_begins file b domain_file h =
-    fewer_by file b (name (free domain) any_name ∷ []) (word ∷ []) (fewer file ((b ++ name (free domain) any_name ∷ []) ++ word ∷ []) (closes ∷ []) (domain_begins file _ (domain_sections false None []) (domain_named any_name (free ordinary) any_name h)))
-kind_begins file b problem_file h =
-    fewer_by file b (name (free problem) any_name ∷ []) (word ∷ []) (fewer file ((b ++ name (free problem) any_name ∷ []) ++ word ∷ []) (closes ∷ []) (problem_begins file _ (problem_sections None false None None None) (problem_named any_name (free ordinary) any_name h)))
+with_init : (seen : List SectionKeyword) → has_section seen words.domain_keyword ≡ true → (b : Bool) → has_section seen words.init ≡ b → Shortest (sections problem_file seen)
+with_init seen d true i = with_goal seen d i (has_section seen words.goal) refl
+with_init seen d false i =
+    one_more problem_file seen words.init (closes ∷ []) (Grammar.init []) refl refl i (λ j others r. next (by refl nothing) nothing)
+    (with_goal (seen ++ words.init ∷ []) (seen_before seen words.init words.domain_keyword d) (seen_now seen words.init) (has_section (seen ++ words.init ∷ []) words.goal) refl)
 
-head_begins : (file : File) (b : List Token) (f : File) → AtKind file b f → Begins file b
-head_begins file b f h = fewer file b (opens ∷ []) (kind_begins file (b ++ opens ∷ []) f (head_opened h))
+problem_sections : (seen : List SectionKeyword) (b : Bool) → has_section seen words.domain_keyword ≡ b → Shortest (sections problem_file seen)
+problem_sections seen true d = with_init seen d (has_section seen words.init) refl
+problem_sections seen false d =
+    one_more problem_file seen words.domain_keyword (word ∷ closes ∷ []) (Grammar.domain no_name) refl refl d (λ j others r. next (by refl nothing) (next (by refl nothing) nothing))
+    (with_init (seen ++ words.domain_keyword ∷ []) (seen_now seen words.domain_keyword) (has_section (seen ++ words.domain_keyword ∷ []) words.init) refl)
 
-define_begins : (file : File) (b : List Token) (f : File) → AtHead file b f → Begins file b
-define_begins file b f h = fewer file b (name (free define) any_name ∷ []) (head_begins file (b ++ name (free define) any_name ∷ []) f (defined any_name h))
+some_sections : (f : File) (seen : List SectionKeyword) → Shortest (sections f seen)
+some_sections domain_file seen = domain_sections seen (has_section seen words.predicates) refl
+some_sections problem_file seen = problem_sections seen (has_section seen words.domain_keyword) refl
 
--- from each state on
-pub begins : (file : File) (s : State) (b : List Token) → Before file s b → Begins file b
-begins file (wants_open s) b i = fewer file b (opens ∷ []) (begins file s (b ++ opens ∷ []) i)
-begins file (wants_close s) b i = fewer file b (closes ∷ []) (begins file s (b ++ closes ∷ []) i)
-begins file (wants_name k) b i = fewer file b (word ∷ []) (begins file (k any_name) (b ++ word ∷ []) (i (free ordinary) any_name))
-begins file (wants_names k) b i = fewer file b (closes ∷ []) (begins file (k []) (b ++ closes ∷ []) (i [] (closes ∷ []) no_name))
-begins file (wants_variables k) b i = fewer file b (closes ∷ []) (begins file (k []) (b ++ closes ∷ []) (i [] (closes ∷ []) no_variable))
-begins file (wants_terms k) b i = fewer file b (closes ∷ []) (begins file (k []) (b ++ closes ∷ []) (i [] (closes ∷ []) no_term))
-begins file (wants_formulas k) b i = fewer file b (closes ∷ []) (begins file (k tree.no_formula) (b ++ closes ∷ []) (i tree.no_formula (closes ∷ []) no_formula))
-begins file (wants_effects k) b i = fewer file b (closes ∷ []) (begins file (k tree.no_effect) (b ++ closes ∷ []) (i tree.no_effect (closes ∷ []) no_effect))
-begins file (wants_predicates k) b i = fewer file b (closes ∷ []) (begins file (k []) (b ++ closes ∷ []) (i [] (closes ∷ []) no_predicate))
-begins file (wants_facts k) b i = fewer file b (closes ∷ []) (begins file (k []) (b ++ closes ∷ []) (i [] (closes ∷ []) no_fact))
-begins file (wants_keys s) b i = fewer file b (closes ∷ []) (begins file s (b ++ closes ∷ []) (i.0 (closes ∷ []) no_key))
-begins file (wants_formula k) b i =
-    fewer file b (word ∷ closes ∷ []) (begins file (k any_formula) (b ++ word ∷ closes ∷ []) (i any_formula (word ∷ closes ∷ []) (atom no_term)))
-begins file (wants_effect k) b i =
-    let e : Effect = tree.add (atom_from any_name []) in
-    fewer file b (word ∷ closes ∷ []) (begins file (k e) (b ++ word ∷ closes ∷ []) (i e (word ∷ closes ∷ []) (add no_term)))
-begins file (wants_atom k) b i =
-    fewer file b (word ∷ closes ∷ []) (begins file (k (atom_from any_name [])) (b ++ word ∷ closes ∷ []) (i ordinary any_name [] (closes ∷ []) no_term))
-begins file (wants_predicate k) b i =
-    fewer file b (word ∷ closes ∷ []) (begins file (k (record { name = any_name; parameters = [] })) (b ++ word ∷ closes ∷ []) (i ordinary any_name [] (closes ∷ []) no_variable))
-begins file (wants_fact k) b i =
-    fewer file b (word ∷ closes ∷ []) (begins file (k (record { predicate = any_name; objects = [] })) (b ++ word ∷ closes ∷ []) (i ordinary any_name [] (closes ∷ []) no_name))
-begins file (wants_action k) b i =
-    let u : List Token = word ∷ keyword parameters ∷ opens ∷ closes ∷ closes ∷ [] in
-    let a : Action = action_from any_name [] None None in
-    fewer file b u (begins file (k a) (b ++ u) (i.1 a u (whole_action shortest_action)))
-begins file (wants_parts n (parts (Some ns) c e) k) b i = fewer file b (closes ∷ []) (begins file (k (action_from n ns c e)) (b ++ closes ∷ []) (i.1 ns c e (closes ∷ []) no_part))
-begins file (wants_parts n (parts None c e) k) b i =
-    let u : List Token = keyword parameters ∷ opens ∷ closes ∷ closes ∷ [] in
-    fewer file b u (begins file (k (action_from n [] c e)) (b ++ u) (i.1 [] c e u (more_parts (parameter_list no_variable) no_part)))
-begins file (wants_value n parameter_part (parts (Some ns) c e) k) b i = let new = new_of i.0 in absurd (cc)
-begins file (wants_value n parameter_part (parts None c e) k) b i =
-    let u : List Token = opens ∷ closes ∷ closes ∷ [] in
-    fewer file b u (begins file (k (action_from n [] c e)) (b ++ u) (i.1 [] c e u (more_parts (parameter_list no_variable) no_part)))
-begins file (wants_value n precondition_part (parts p (Some c) e) k) b i = let new = new_of i.0 in absurd (cc)
-begins file (wants_value n precondition_part (parts (Some ns) None e) k) b i =
-    let u : List Token = opens ∷ word ∷ closes ∷ closes ∷ [] in
-    fewer file b u (begins file (k (action_from n ns (Some any_formula) e)) (b ++ u) (i.1 ns (Some any_formula) e u (more_parts (condition (atom no_term)) no_part)))
-begins file (wants_value n precondition_part (parts None None e) k) b i =
-    let u : List Token = opens ∷ word ∷ closes ∷ keyword parameters ∷ opens ∷ closes ∷ closes ∷ [] in
-    fewer file b u (begins file (k (action_from n [] (Some any_formula) e)) (b ++ u) (i.1 [] (Some any_formula) e u (more_parts (condition (atom no_term)) (more_parts (parameter_list no_variable) no_part))))
-begins file (wants_value n effect_part (parts p c (Some e)) k) b i = let new = new_of i.0 in absurd (cc)
-begins file (wants_value n effect_part (parts (Some ns) c None) k) b i =
-    let u : List Token = opens ∷ word ∷ closes ∷ closes ∷ [] in
-    let e : Effect = tree.add (atom_from any_name []) in
-    fewer file b u (begins file (k (action_from n ns c (Some e))) (b ++ u) (i.1 ns c (Some e) u (more_parts (change (add no_term)) no_part)))
-begins file (wants_value n effect_part (parts None c None) k) b i =
-    let u : List Token = opens ∷ word ∷ closes ∷ keyword parameters ∷ opens ∷ closes ∷ closes ∷ [] in
-    let e : Effect = tree.add (atom_from any_name []) in
-    fewer file b u (begins file (k (action_from n [] c (Some e))) (b ++ u) (i.1 [] c (Some e) u (more_parts (change (add no_term)) (more_parts (parameter_list no_variable) no_part))))
-begins file (wants_domain_sections n s) b i = domain_begins file b s i
-begins file (wants_domain_section n s) b i = domain_section_begins file b s i
-begins file (wants_problem_sections n s) b i = problem_begins file b s i
-begins file (wants_problem_section n s) b i = problem_section_begins file b s i
-begins file (wants_define f) b i = define_begins file b f i
-begins file (wants_head f) b i = head_begins file b f i
-begins file (wants_kind f) b i = kind_begins file b f i
-begins file (wants_nothing t) b i = ([], subst (IsWhole file) (sym (append-nil b)) i)
+-- ---- all
+
+some_section : (k : SectionKeyword) → (u : List Token) × (x : Section) × ((f : File) → IsRest f k u x)
+some_section words.requirements = (closes ∷ [], Grammar.requirements, λ f j others r. next (by refl nothing) nothing)
+some_section words.predicates = (closes ∷ [], Grammar.predicates [], λ f j others r. next (by refl nothing) nothing)
+some_section words.action =
+    (word ∷ keyword (of_part words.parameters) ∷ opens ∷ closes ∷ closes ∷ [], Grammar.action (action_from no_name (Grammar.parameters [] ∷ [])),
+      λ f j others r. next (by refl nothing) (next (by refl (next (by refl nothing) (next (by refl nothing) (next (by refl nothing) nothing)))) nothing))
+some_section words.domain_keyword = (word ∷ closes ∷ [], Grammar.domain no_name, λ f j others r. next (by refl nothing) (next (by refl nothing) nothing))
+some_section words.objects = (closes ∷ [], Grammar.objects [], λ f j others r. next (by refl nothing) nothing)
+some_section words.init = (closes ∷ [], Grammar.init [], λ f j others r. next (by refl nothing) nothing)
+some_section words.goal =
+    (opens ∷ word ∷ closes ∷ closes ∷ [], Grammar.goal (tree.atom (record { predicate = no_name; terms = [] })),
+      λ f j others r. next (by refl (next (by refl (next (by refl nothing) nothing)) nothing)) (next (by refl nothing) nothing))
+
+one_section : (f : File) (k : SectionKeyword) (others : List SectionKeyword) → Shortest (section f k others)
+one_section f k others =
+    let among : after (section f k others) (keyword (of_section k)) ≡ Some (section_after k) = ap (λ b. cond (b || has_section others k) (Some (section_after k)) None) (is_section-self k) in
+    short (keyword (of_section k) ∷ (some_section k).0) (some_section k).1 (λ r. by among ((some_section k).2 f k others r))
+
+some_parts : (seen : List PartKeyword) (b : Bool) → has_part seen words.parameters ≡ b → Shortest (parts seen)
+some_parts seen true e = short (closes ∷ []) [] (λ r. by (ap (λ b. cond b (Some (gives [])) None) e) nothing)
+some_parts seen false e =
+    short (keyword (of_part words.parameters) ∷ opens ∷ closes ∷ closes ∷ []) (Grammar.parameters [] ∷ [])
+    (λ r. by (ap (λ b. cond b None (Some (Grammar.parts_after seen words.parameters))) e) (next (by refl nothing) (next (by refl nothing) (next (by (ap (λ b. cond b (Some (gives [])) None) (parameters_seen seen)) nothing) nothing))))
+  where
+    parameters_seen : (seen : List PartKeyword) → has_part (seen ++ words.parameters ∷ []) words.parameters ≡ true
+    parameters_seen [] = refl
+    parameters_seen (words.parameters ∷ seen) = refl
+    parameters_seen (k ∷ seen) = parameters_seen seen
+
+shortest : (s : Sort) → Shortest s
+shortest Grammar.close = short (closes ∷ []) tt (λ r. by refl nothing)
+shortest Grammar.a_name = short (word ∷ []) no_name (λ r. by refl nothing)
+shortest Grammar.a_variable = short (variable no_name ∷ []) no_name (λ r. by refl nothing)
+shortest Grammar.term = short (word ∷ []) (tree.object no_name) (λ r. by refl nothing)
+shortest Grammar.key = short (keyword requirement_key ∷ []) tt (λ r. by refl nothing)
+shortest (Grammar.listed s) = in_list (shortest s)
+  where
+    in_list : Shortest s → Shortest (Grammar.listed s)
+    in_list (short w x d) = short (opens ∷ w) x (λ r. by refl (next (d r) nothing))
+shortest (Grammar.many s) = short (closes ∷ []) [] (λ r. by refl nothing)
+shortest Grammar.formula = short (word ∷ closes ∷ []) (tree.atom (record { predicate = no_name; terms = [] })) (λ r. by refl (next (by refl nothing) nothing))
+shortest Grammar.effect_list = short (word ∷ closes ∷ []) (tree.add (record { predicate = no_name; terms = [] })) (λ r. by refl (next (by refl nothing) nothing))
+shortest Grammar.atom = short (word ∷ closes ∷ []) (record { predicate = no_name; terms = [] }) (λ r. by refl (next (by refl nothing) nothing))
+shortest Grammar.declaration = short (word ∷ closes ∷ []) (record { name = no_name; parameters = [] }) (λ r. by refl (next (by refl nothing) nothing))
+shortest Grammar.fact = short (word ∷ closes ∷ []) (record { predicate = no_name; objects = [] }) (λ r. by refl (next (by refl nothing) nothing))
+shortest Grammar.action_name = short (word ∷ []) no_name (λ r. by refl nothing)
+shortest (parts seen) = some_parts seen (has_part seen words.parameters) refl
+shortest (Grammar.value seen) = short (opens ∷ []) tt (λ r. by refl nothing)
+shortest (sections f seen) = some_sections f seen
+shortest (section f k others) = one_section f k others
+shortest (file f) = in_file (some_sections f []) (shortest_kind f)
+  where
+    shortest_kind : (f : File) → Shortest (Grammar.kind_word f)
+    shortest_kind domain_file = short (free words.domain no_name ∷ []) tt (λ r. by refl nothing)
+    shortest_kind problem_file = short (free words.problem no_name ∷ []) tt (λ r. by refl nothing)
+    in_file : Shortest (sections f []) → Shortest (Grammar.kind_word f) → Shortest (file f)
+    in_file (short w x d) (short v y e) =
+        let k : List Token = opens ∷ free define no_name ∷ opens ∷ (v ++ word ∷ closes ∷ w) in
+        short k (tree_from f no_name (fold with_section no_contents x)) (λ r. by refl (next (by refl nothing) (next (by refl nothing) (next (subst (λ u. Derives (Grammar.kind_word f) u y (word ∷ closes ∷ w ++ r)) (sym (append_assoc v (word ∷ closes ∷ w) r)) (e (word ∷ closes ∷ w ++ r))) (next (by refl nothing) (next (by refl nothing) (next (d r) nothing)))))))
+shortest Grammar.define_word = short (free define no_name ∷ []) tt (λ r. by refl nothing)
+shortest Grammar.kind_list = short (opens ∷ []) tt (λ r. by refl nothing)
+shortest (Grammar.kind_word domain_file) = short (free words.domain no_name ∷ []) tt (λ r. by refl nothing)
+shortest (Grammar.kind_word problem_file) = short (free words.problem no_name ∷ []) tt (λ r. by refl nothing)
+
+-- ---- what has to follow can follow
+
+data Completed (s : Sort) (p : Phrase (Value s)) : Type 0 where
+  complete : (w : List Token) (x : Value s) → ((r : List Token) → Follows s p (w ++ r) x r) → Completed s p
+
+completed : (s : Sort) (p : Phrase (Value s)) → Completed s p
+completed s (gives x) = complete [] x (λ r. nothing)
+completed s (u >>= k) = by_first (shortest u) (λ y. completed s (k y))
+  where
+    by_first : Shortest u → ((y : Value u) → Completed s (k y)) → Completed s (u >>= k)
+    by_first (short w y d) again = by_rest (again y)
+      where
+        by_rest : Completed s (k y) → Completed s (u >>= k)
+        by_rest (complete v x f) = complete (w ++ v) x (λ r. subst (λ z. Follows s (u >>= k) z x r) (sym (append_assoc w v r)) (next (d (v ++ r)) (f r)))
+
+-- a file that begins with more words begins with fewer
+pub fewer : (f : File) (b u : List Token) → Begins f (b ++ u) → Begins f b
+fewer f b u h = (u ++ h.0, subst (IsWhole f) (append_assoc b u h.0) h.1)
+
+-- a file begins with the words that lead to what has to follow
+pub begins : (f : File) (b : List Token) (q : Phrase Tree) → after_all b (start f) ≡ Some q → Begins f b
+begins f b q e = by_end (completed (file f) q)
+  where
+    by_end : Completed (file f) q → Begins f b
+    by_end (complete w x d) =
+        let ends : run w q ≡ finished x = ap (λ v. run v q) (sym (append-nil w)) ∙ phrase_run (d []) in
+        (w, (x, run_file f (b ++ w) x (leads b (start f) q w e ∙ ends)))
+
+-- no file goes on with a word that may not follow
+pub dead : (f : File) (b : List Token) (q : Phrase Tree) (t : Token) → after_all b (start f) ≡ Some q → step q t ≡ None → Begins f (b ++ t ∷ []) → ⊥
+dead f b q t e stops h =
+    let words : run (b ++ t ∷ h.0) (start f) ≡ finished h.1.0 = ap (λ v. run v (start f)) (sym (append_assoc b (t ∷ []) h.0)) ∙ file_run h.1.1 in
+    let here : run (t ∷ h.0) q ≡ stopped (number_after q t) (t ∷ h.0) = ap (λ o. go_on o (run h.0) (stopped (number_after q t) (t ∷ h.0))) stops in
+    let led : run (b ++ t ∷ h.0) (start f) ≡ run (t ∷ h.0) q = leads b (start f) q (t ∷ h.0) e in
+    apart (sym words ∙ led ∙ here)
+  where
+    apart : {x : Tree} {code : ℕ} {w : List Token} → finished x ≡ stopped code w → ⊥
+    apart e = cc

@@ -1,12 +1,12 @@
 -- At most one fault is told of words, and none of a file: the first word with which no file goes on is one, and one
--- number is true of it.
-use Rattle.std.proofs.Common.{◌≡◌, ℕ, inl, inr, Bool, true, false, List, [], ◌∷◌, ◌++◌, refl, sym, ◌∙◌, ap, subst}
+-- number is told of it.
+use Rattle.std.proofs.Common.{◌≡◌, ℕ, List, [], ◌∷◌, ◌++◌, sym, ◌∙◌, ap, subst}
 use Rattle.std.proofs.lemmas.List.{map-append, append_assoc, append-nil}
 use Rattle.model.specs.Fault.{Fault}
 use Rattle.model.specs.Words.{Word, end_of}
-use Rattle.model.specs.GrammarWords.{Token, token_of}
-use Rattle.model.specs.Refusals.{File, IsWhole, Begins, tokens_of, IsLine, left_out_form, IsTrueOf, IsRefused, at_word, at_end}
-use Rattle.model.proofs.GrammarLines.{is_left_out, line_stops}
+use Rattle.model.specs.GrammarWords.{File, Token, token_of, tokens_of}
+use Rattle.model.specs.GrammarMachine.{number_after}
+use Rattle.model.specs.Refusals.{IsWhole, Begins, IsToldOf, IsRefused, at_word, at_end}
 use Rattle.model.proofs.GrammarBegins.{fewer}
 use Rattle.model.proofs.Places.{Places, at_one, stands_before, stands_after, places}
 
@@ -17,20 +17,9 @@ goes_on file all before after word split begins =
     ap tokens_of split ∙ map-append token_of before (word ∷ after) ∙ sym (append_assoc (tokens_of before) (token_of word ∷ []) (tokens_of after)) in
     fewer file (tokens_of before ++ token_of word ∷ []) (tokens_of after) (subst (Begins file) tokens begins)
 
--- the only line on the name of a form that is left out
-left_out_line : {file : File} {b : List Token} {t : Token} {code : ℕ} → IsLine file b t code → is_left_out t ≡ true → code ≡ 12
-left_out_line left_out_form e = refl
-left_out_line l e = absurd (cc)
-
-one_line : {file : File} {b : List Token} {t : Token} {c d : ℕ} → IsLine file b t c → IsLine file b t d → (left_out : Bool) → is_left_out t ≡ left_out → c ≡ d
-one_line l m true e = left_out_line l e ∙ sym (left_out_line m e)
-one_line l m false e = let one = line_stops l [] e in let other = line_stops m [] e in cc
-
-one_number : {file : File} {b : List Token} {t : Token} {c d : ℕ} → IsTrueOf file b t c → IsTrueOf file b t d → c ≡ d
-one_number {t = t} (inl l) (inl m) = one_line l m (is_left_out t) refl
-one_number (inl l) (inr n) = absurd (n.1 _ l)
-one_number (inr n) (inl m) = absurd (n.1 _ m)
-one_number (inr n) (inr m) = n.0 ∙ sym m.0
+-- one number is told of a word where these stand before it
+one_number : (file : File) (b : List Token) (t : Token) (c d : ℕ) → IsToldOf file b t c → IsToldOf file b t d → c ≡ d
+one_number file b t c d l m = let same : l.0 ≡ m.0 = cc in l.2 ∙ ap (λ p. number_after p t) same ∙ sym m.2
 
 same_fault : (f g : Fault) → f.code ≡ g.code → f.span ≡ g.span → f ≡ g
 same_fault f g code span = ap (λ c. record { code = c; span = f.span }) code ∙ ap (λ s. record { code = g.code; span = s }) span
@@ -40,7 +29,7 @@ one_refusal file words f g (at_word b r w split begins dead line span) (at_word 
   where
     by_places : Places b c w x → f ≡ g
     by_places (at_one p q) =
-        let numbers : f.code ≡ g.code = one_number line (subst (λ y. IsTrueOf file (tokens_of y) (token_of w) g.code) (sym p) (subst (λ y. IsTrueOf file (tokens_of c) (token_of y) g.code) (sym q) rule)) in
+        let numbers : f.code ≡ g.code = one_number file (tokens_of b) (token_of w) f.code g.code line (subst (λ y. IsToldOf file (tokens_of y) (token_of w) g.code) (sym p) (subst (λ y. IsToldOf file (tokens_of c) (token_of y) g.code) (sym q) rule)) in
         same_fault f g numbers (span ∙ ap (λ y. record { start = y.start; end = end_of y }) q ∙ sym place)
     by_places (stands_before rest p) = absurd (dead (goes_on file c b rest w p begin))
     by_places (stands_after rest p) = absurd (die (goes_on file b c rest x p begins))

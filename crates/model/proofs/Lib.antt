@@ -3,15 +3,6 @@ pub mod ListLemmas
 pub mod Tests
 pub mod ClaimsLemmas
 pub mod InstancesLemmas
-pub mod GrammarRuns
-pub mod GrammarMeaning
-pub mod GrammarStops
-pub mod GrammarFrames
-pub mod GrammarLines
-pub mod GrammarTold
-pub mod GrammarBegins
-pub mod GrammarRefusals
-pub mod GrammarOneRefusal
 pub mod StaticLemmas
 pub mod Steps
 pub mod ExampleProofs
@@ -19,3 +10,8 @@ pub mod CertificateRefusalsLemmas
 pub mod PlanReading
 pub mod PlanMeaning
 pub mod Places
+pub mod GrammarMeaning
+pub mod GrammarStops
+pub mod GrammarBegins
+pub mod GrammarRefusals
+pub mod GrammarOneRefusal

@@ -1,5 +1,5 @@
 -- What is wrong with a certificate, or with the plan that was handed in with it, where the checker refuses it.
-use Rattle.std.specs.Prelude.{◌≡◌, ℕ, ◌+◌, ◌<◌, ◌≤◌, ◌⊎◌, ◌&&◌, Bool, false, IsTrue, List, length, Contains, slice_get, Option, None, Some, MatchOption}
+use Rattle.std.specs.Prelude.{◌≡◌, ℕ, ◌+◌, ◌<◌, ◌≤◌, ◌⊎◌, ◌&&◌, false, IsTrue, List, length, Contains, slice_get, Option, None, Some, MatchOption}
 use Rattle.model.specs.Task.{Atom, Task, Instance}
 use Rattle.model.specs.WellTyped.{is_atom}
 use Rattle.model.specs.Runs.{cost_of_all, Solves}

@@ -6,8 +6,9 @@ use Rattle.model.specs.Fault.{Fault}
 use Rattle.model.specs.Words.{Word, ReadsAs, IsTold}
 use Rattle.model.specs.Trees.{Domain, Problem}
 use Rattle.model.specs.Grammar.{IsDomain, IsProblem}
-use Rattle.model.specs.Refusals.{tokens_of, domain_file, problem_file, IsRefused}
-use Rattle.model.specs.Refusals as refusals
+use Rattle.model.specs.GrammarWords.{domain_file, problem_file, tokens_of}
+use Rattle.model.specs.Refusals.{IsRefused}
+use Rattle.model.specs.GrammarWords as grammar
 use Rattle.model.specs.Task.{Task, Instance}
 use Rattle.model.specs.Typing.{in_domain, in_problem, TypingFault, task_of_trees, IsWellTyped, IsLeastFault}
 use Rattle.model.specs.Typing as typing
@@ -39,7 +40,7 @@ pub record IsProblemText (text : List ℕ) (problem : Problem) : Type 0 where
 
 -- what is told of a text that is no file of this kind: what keeps it from reading as words, or else what keeps its
 -- words from having a tree
-pub data IsTextFault (kind : refusals.File) (text : List ℕ) (fault : Fault) : Type 0 where
+pub data IsTextFault (kind : grammar.File) (text : List ℕ) (fault : Fault) : Type 0 where
   of_words : IsTold text fault → IsTextFault kind text fault
   of_tree : (words : List Word) → ReadsAs text words → IsRefused kind words fault → IsTextFault kind text fault
 

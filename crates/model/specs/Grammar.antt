@@ -1,138 +1,315 @@
--- The grammar of domain and problem files, by cases: a relation for each nonterminal between words, the tree that
--- the first of them are, and the words left after it (PDDL 1.2 manual, appendix: BNF; the language profile "STRIPS
--- without types"). A rule is a production: its result is the production's left side, its premises the right side.
-use Rattle.std.specs.Prelude.{◌≡◌, Bool, true, false, List, [], ◌∷◌, ◌++◌, Option, None, Some, unwrap_or}
-use Rattle.model.specs.Trees.{Name, Term, Formula, Formulas, Effect, Effects, Predicate, Action, Domain, Fact, Problem}
+-- The grammar of domain and problem files (PDDL 1.2 manual, appendix: BNF; the language profile "STRIPS without
+-- types"). It is a simple one in the sense of Korenjak and Hopcroft (1966): each production begins with a word, and no
+-- two productions of a nonterminal begin with the same one. So it is given as a function, `after`: where this is wanted
+-- and this word comes, what has to follow, and of which tree.
+use Rattle.std.specs.Prelude.{◌≡◌, Bool, true, false, List, [], ◌∷◌, ◌++◌, fold, Option, None, Some, cond, ⊤}
+use Rattle.std.specs.List.{list_all, list_any}
+use Rattle.std.specs.Option.{option_map}
+use Rattle.model.specs.Trees.{Name, Term, Atom, Formula, Effect, Predicate, Action, Domain, Fact, Problem, formulas, effects, no_name}
 use Rattle.model.specs.Trees as tree
-use Rattle.model.specs.GrammarWords.{Token, opens, closes, name, variable, keyword, Label, free, reserved, define, domain, problem, FreeName, and, not, domain_keyword, requirements, predicates, action, objects, init, goal, parameters, precondition, effect, requirement_key}
+use Rattle.model.specs.GrammarWords.{File, domain_file, problem_file, Token, opens, closes, free, reserved, variable, keyword, SectionKeyword, of_section, PartKeyword, of_part, requirement_key}
+use Rattle.model.specs.GrammarWords as words
 
--- names  ::= NAME*
-pub data AreNames : List Token → List Name → List Token → Type 0 where
-  no_name : {w : List Token} → AreNames w [] w
-  more_names : {label : Label} {n : Name} {w r : List Token} {ns : List Name} → AreNames w ns r → AreNames (name label n ∷ w) (n ∷ ns) r
+infixr 20 ◌>>=◌
+infixr 20 ◌>>◌
 
--- variables  ::= VARIABLE*
-pub data AreVariables : List Token → List Name → List Token → Type 0 where
-  no_variable : {w : List Token} → AreVariables w [] w
-  more_variables : {n : Name} {w r : List Token} {ns : List Name} → AreVariables w ns r → AreVariables (variable n ∷ w) (n ∷ ns) r
+-- ---- what stands in a file and in an action
 
--- terms  ::= (NAME | VARIABLE)*
-pub data AreTerms : List Token → List Term → List Token → Type 0 where
-  no_term : {w : List Token} → AreTerms w [] w
-  object_first : {label : Label} {n : Name} {w r : List Token} {ts : List Term} → AreTerms w ts r → AreTerms (name label n ∷ w) (tree.object n ∷ ts) r
-  variable_first : {n : Name} {w r : List Token} {ts : List Term} → AreTerms w ts r → AreTerms (variable n ∷ w) (tree.variable n ∷ ts) r
+pub data Section : Type 0 where
+  requirements : Section
+  predicates : List Predicate → Section
+  action : Action → Section
+  domain : Name → Section
+  objects : List Name → Section
+  init : List Fact → Section
+  goal : Formula → Section
 
--- formula  ::= ( PREDICATE-NAME terms ) | ( and formula* )
+pub data Part : Type 0 where
+  parameters : List Name → Part
+  precondition : Formula → Part
+  effect : Effect → Part
+
+pub data Tree : Type 0 where
+  domain_tree : Domain → Tree
+  problem_tree : Problem → Tree
+
+-- an action with one part more; what may be left out is empty, `(and)` for a formula or an effect
+abbrev pub bare_action : Name → Action
+bare_action n = record { name = n; parameters = []; precondition = tree.and (formulas []); effect = tree.both (effects []) }
+
+abbrev pub with_part : Action → Part → Action
+with_part a (parameters ns) = record a { parameters = ns }
+with_part a (precondition f) = record a { precondition = f }
+with_part a (effect e) = record a { effect = e }
+
+abbrev pub action_from : Name → List Part → Action
+action_from n parts = fold with_part (bare_action n) parts
+
+-- what stands in a file's sections, and with one section more
+pub record Contents : Type 0 where
+  pub predicates : List Predicate
+  pub actions : List Action
+  pub domain : Name
+  pub objects : List Name
+  pub init : List Fact
+  pub goal : Formula
+
+abbrev pub no_contents : Contents
+no_contents = record { predicates = []; actions = []; domain = no_name; objects = []; init = []; goal = tree.and (formulas []) }
+
+abbrev pub with_section : Contents → Section → Contents
+with_section c requirements = c
+with_section c (predicates ps) = record c { predicates = ps }
+with_section c (action a) = record c { actions = c.actions ++ a ∷ [] }
+with_section c (domain n) = record c { domain = n }
+with_section c (objects ns) = record c { objects = ns }
+with_section c (init fs) = record c { init = fs }
+with_section c (goal f) = record c { goal = f }
+
+abbrev pub domain_from : Name → Contents → Domain
+domain_from n c = record { name = n; predicates = c.predicates; actions = c.actions }
+
+abbrev pub problem_from : Name → Contents → Problem
+problem_from n c = record { name = n; domain = c.domain; objects = c.objects; init = c.init; goal = c.goal }
+
+abbrev pub tree_from : File → Name → Contents → Tree
+tree_from domain_file n c = domain_tree (domain_from n c)
+tree_from problem_file n c = problem_tree (problem_from n c)
+
+-- the keyword of a section
+abbrev pub keyword_in : Section → SectionKeyword
+keyword_in requirements = words.requirements
+keyword_in (predicates ps) = words.predicates
+keyword_in (action a) = words.action
+keyword_in (domain n) = words.domain_keyword
+keyword_in (objects ns) = words.objects
+keyword_in (init fs) = words.init
+keyword_in (goal f) = words.goal
+
+-- ---- which sections and parts may stand, and which have to
+
+abbrev pub is_section : SectionKeyword → SectionKeyword → Bool
+is_section words.requirements words.requirements = true
+is_section words.predicates words.predicates = true
+is_section words.action words.action = true
+is_section words.domain_keyword words.domain_keyword = true
+is_section words.objects words.objects = true
+is_section words.init words.init = true
+is_section words.goal words.goal = true
+is_section _ _ = false
+
+abbrev pub is_part : PartKeyword → PartKeyword → Bool
+is_part words.parameters words.parameters = true
+is_part words.precondition words.precondition = true
+is_part words.effect words.effect = true
+is_part _ _ = false
+
+abbrev pub has_section : List SectionKeyword → SectionKeyword → Bool
+has_section seen k = list_any (is_section k) seen
+
+abbrev pub has_part : List PartKeyword → PartKeyword → Bool
+has_part seen k = list_any (is_part k) seen
+
+-- the sections of a file
+abbrev pub sections_of : File → List SectionKeyword
+sections_of domain_file = words.requirements ∷ words.predicates ∷ words.action ∷ []
+sections_of problem_file = words.domain_keyword ∷ words.requirements ∷ words.objects ∷ words.init ∷ words.goal ∷ []
+
+abbrev pub required_of : File → List SectionKeyword
+required_of domain_file = words.predicates ∷ []
+required_of problem_file = words.domain_keyword ∷ words.init ∷ words.goal ∷ []
+
+-- what may stand no more once it was seen: each section but an action
+abbrev pub seen_with : List SectionKeyword → SectionKeyword → List SectionKeyword
+seen_with seen words.action = seen
+seen_with seen k = seen ++ k ∷ []
+
+-- those of some sections that were not seen
+abbrev pub left_of : List SectionKeyword → List SectionKeyword → List SectionKeyword
+left_of [] seen = []
+left_of (k ∷ all) seen = cond (has_section seen k) (left_of all seen) (k ∷ left_of all seen)
+
+abbrev pub has_all : List SectionKeyword → List SectionKeyword → Bool
+has_all needed seen = list_all (has_section seen) needed
+
+-- ---- what may be wanted at a place: the nonterminals
+
+pub data Sort : Type 0 where
+  -- words
+  close : Sort
+  a_name : Sort
+  a_variable : Sort
+  term : Sort
+  key : Sort
+  -- `( s`, and `s* )`
+  listed : Sort → Sort
+  many : Sort → Sort
+  -- what follows the `(` of a list, up to its `)`
+  formula : Sort
+  effect_list : Sort
+  atom : Sort
+  declaration : Sort
+  fact : Sort
+  -- what follows `:action`: a name; the parts, where these were seen, and `)`; and the `(` of a part's value
+  action_name : Sort
+  parts : List PartKeyword → Sort
+  value : List PartKeyword → Sort
+  -- the sections of a file, where these were seen, and `)`; and what follows the `(` of one: one of some
+  sections : File → List SectionKeyword → Sort
+  section : File → SectionKeyword → List SectionKeyword → Sort
+  -- a file, and the first words of its list
+  file : File → Sort
+  define_word : Sort
+  kind_list : Sort
+  kind_word : File → Sort
+
+-- the tree of what is read there
+abbrev pub Value : Sort → Type 0
+Value close = ⊤
+Value a_name = Name
+Value a_variable = Name
+Value term = Term
+Value key = ⊤
+Value (listed s) = Value s
+Value (many s) = List (Value s)
+Value formula = Formula
+Value effect_list = Effect
+Value atom = Atom
+Value declaration = Predicate
+Value fact = Fact
+Value action_name = Name
+Value (parts seen) = List Part
+Value (value seen) = ⊤
+Value (sections f seen) = List Section
+Value (section f k others) = Section
+Value (file f) = Tree
+Value define_word = ⊤
+Value kind_list = ⊤
+Value (kind_word f) = ⊤
+
+-- what has to follow: nothing more, and the tree is this one; or something that is wanted, and then what its tree says
+pub data Phrase (T : Type 0) : Type 0 where
+  gives : T → Phrase T
+  ◌>>=◌ : (s : Sort) → (Value s → Phrase T) → Phrase T
+
+abbrev pub ◌>>◌ : {T : Type 0} → Sort → Phrase T → Phrase T
+s >> p = s >>= λ _. p
+
+-- one phrase, and then what its tree says
+abbrev pub and_then : {A B : Type 0} → Phrase A → (A → Phrase B) → Phrase B
+and_then (gives a) k = k a
+and_then (s >>= h) k = s >>= λ x. and_then (h x) k
+
+-- ---- the productions
+
+-- after `:parameters`, `:precondition` or `:effect`, where these parts stand with it
+abbrev pub part_after : List PartKeyword → PartKeyword → Phrase Part
+part_after seen words.parameters = do value seen; ns ← many a_variable; gives (parameters ns)
+part_after seen words.precondition = do value seen; f ← formula; gives (precondition f)
+part_after seen words.effect = do value seen; e ← effect_list; gives (effect e)
+
+-- after the keyword of a section
+abbrev pub section_after : SectionKeyword → Phrase Section
+section_after words.requirements = do _ ← many key; gives requirements
+section_after words.predicates = do ps ← many (listed declaration); gives (predicates ps)
+section_after words.action = do n ← action_name; ps ← parts []; gives (action (action_from n ps))
+section_after words.domain_keyword = do n ← a_name; close; gives (domain n)
+section_after words.objects = do ns ← many a_name; gives (objects ns)
+section_after words.init = do fs ← many (listed fact); gives (init fs)
+section_after words.goal = do f ← listed formula; close; gives (goal f)
+
+-- after the `(` of a file's section, where these may stand: none, or one of them
+abbrev pub section_of : File → List SectionKeyword → List SectionKeyword → Option (Phrase (List Section))
+section_of f seen [] = None
+section_of f seen (k ∷ others) = Some do x ← section f k others; xs ← sections f (seen_with seen (keyword_in x)); gives (x ∷ xs)
+
+-- the part of this keyword, and those after it
+abbrev pub parts_after : List PartKeyword → PartKeyword → Phrase (List Part)
+parts_after seen k = and_then (part_after (seen ++ k ∷ []) k) (λ x. do xs ← parts (seen ++ k ∷ []); gives (x ∷ xs))
+
+-- one of a list, and those after it
+abbrev pub more : (s : Sort) → Phrase (Value s) → Phrase (List (Value s))
+more s first = and_then first (λ x. do xs ← many s; gives (x ∷ xs))
+
+-- a name may be any
+abbrev pub name_in : Token → Option Name
+name_in (free f n) = Some n
+name_in (reserved r n) = Some n
+name_in _ = None
+
+abbrev pub after : (s : Sort) → Token → Option (Phrase (Value s))
+after close closes = Some (gives tt)
+
+-- NAME, which may be any; VARIABLE; NAME | VARIABLE; KEY
+after a_name t = option_map gives (name_in t)
+after a_variable (variable n) = Some (gives n)
+after term (free f n) = Some (gives (tree.object n))
+after term (reserved r n) = Some (gives (tree.object n))
+after term (variable n) = Some (gives (tree.variable n))
+after key (keyword requirement_key) = Some (gives tt)
+
+after (listed s) opens = Some do x ← s; gives x
+after (many s) closes = Some (gives [])
+after (many s) t = option_map (more s) (after s t)
+
+-- formula  ::= ( PREDICATE-NAME term* ) | ( and formula* )
+after formula (free f n) = Some do ts ← many term; gives (tree.atom (record { predicate = n; terms = ts }))
+after formula (reserved words.and n) = Some do fs ← many (listed formula); gives (tree.and (formulas fs))
+
+-- effect  ::= atom | ( not atom ) | ( and effect* )
+after effect_list (free f n) = Some do ts ← many term; gives (tree.add (record { predicate = n; terms = ts }))
+after effect_list (reserved words.not n) = Some do a ← listed atom; close; gives (tree.delete a)
+after effect_list (reserved words.and n) = Some do es ← many (listed effect_list); gives (tree.both (effects es))
+
+-- atom  ::= ( PREDICATE-NAME term* )
+after atom (free f n) = Some do ts ← many term; gives (record { predicate = n; terms = ts })
+
+-- declaration  ::= ( PREDICATE-NAME VARIABLE* )
+after declaration (free f n) = Some do ns ← many a_variable; gives (record { name = n; parameters = ns })
+
+-- fact  ::= ( PREDICATE-NAME NAME* )
+after fact (free f n) = Some do ns ← many a_name; gives (record { predicate = n; objects = ns })
+
+-- action  ::= ( :action NAME part* ), each part at most once, `:parameters` among them
+after action_name t = option_map gives (name_in t)
+after (parts seen) closes = cond (has_part seen words.parameters) (Some (gives [])) None
+after (parts seen) (keyword (of_part k)) = cond (has_part seen k) None (Some (parts_after seen k))
+after (value seen) opens = Some (gives tt)
+
+-- section*, each at most once save `:action`, the required ones among them, and the `)` of the file
+after (sections f seen) closes = cond (has_all (required_of f) seen) (Some (gives [])) None
+after (sections f seen) opens = section_of f seen (left_of (sections_of f) seen)
+after (section f k others) (keyword (of_section j)) = cond (has_section (k ∷ others) j) (Some (section_after j)) None
+
+-- file  ::= ( define ( domain NAME ) section* ), or `problem` in place of `domain`
+after (file f) opens = Some do define_word; kind_list; kind_word f; n ← a_name; close; ss ← sections f []; gives (tree_from f n (fold with_section no_contents ss))
+after define_word (free words.define n) = Some (gives tt)
+after kind_list opens = Some (gives tt)
+after (kind_word domain_file) (free words.domain n) = Some (gives tt)
+after (kind_word problem_file) (free words.problem n) = Some (gives tt)
+
+after _ _ = None
+
+-- ---- what the grammar says of words
+
+-- what is wanted derives the words up to these that are left, and its tree is this one
 mutual
-  pub data IsFormula : List Token → Formula → List Token → Type 0 where
-    atom : {f : FreeName} {n : Name} {w r : List Token} {ts : List Term} → AreTerms w ts (closes ∷ r) → IsFormula (opens ∷ name (free f) n ∷ w) (tree.atom (record { predicate = n; terms = ts })) r
-    conjunction : {n : Name} {w r : List Token} {fs : Formulas} → AreFormulas w fs (closes ∷ r) → IsFormula (opens ∷ name (reserved and) n ∷ w) (tree.and fs) r
+  pub data Derives : (s : Sort) → List Token → Value s → List Token → Type 0 where
+    by : {s : Sort} {t : Token} {w r : List Token} {p : Phrase (Value s)} {x : Value s} → after s t ≡ Some p → Follows s p w x r → Derives s (t ∷ w) x r
 
-  pub data AreFormulas : List Token → Formulas → List Token → Type 0 where
-    no_formula : {w : List Token} → AreFormulas w tree.no_formula w
-    more_formulas : {w v r : List Token} {f : Formula} {fs : Formulas} → IsFormula w f v → AreFormulas v fs r → AreFormulas w (tree.more_formulas f fs) r
+  pub data Follows : (s : Sort) → Phrase (Value s) → List Token → Value s → List Token → Type 0 where
+    nothing : {s : Sort} {w : List Token} {x : Value s} → Follows s (gives x) w x w
+    next : {s u : Sort} {w v r : List Token} {k : Value u → Phrase (Value s)} {y : Value u} {x : Value s} → Derives u w y v → Follows s (k y) v x r → Follows s (u >>= k) w x r
 
--- effect  ::= ( PREDICATE-NAME terms ) | ( not ( PREDICATE-NAME terms ) ) | ( and effect* )
-mutual
-  pub data IsEffect : List Token → Effect → List Token → Type 0 where
-    add : {f : FreeName} {n : Name} {w r : List Token} {ts : List Term} → AreTerms w ts (closes ∷ r) → IsEffect (opens ∷ name (free f) n ∷ w) (tree.add (record { predicate = n; terms = ts })) r
-    delete : {f : FreeName} {m n : Name} {w r : List Token} {ts : List Term} → AreTerms w ts (closes ∷ closes ∷ r) → IsEffect (opens ∷ name (reserved not) m ∷ opens ∷ name (free f) n ∷ w) (tree.delete (record { predicate = n; terms = ts })) r
-    both : {n : Name} {w r : List Token} {es : Effects} → AreEffects w es (closes ∷ r) → IsEffect (opens ∷ name (reserved and) n ∷ w) (tree.both es) r
+-- the words are a file of this kind and of this tree
+abbrev pub IsFile : File → List Token → Tree → Type 0
+IsFile f w t = Derives (file f) w t []
 
-  pub data AreEffects : List Token → Effects → List Token → Type 0 where
-    no_effect : {w : List Token} → AreEffects w tree.no_effect w
-    more_effects : {w v r : List Token} {e : Effect} {es : Effects} → IsEffect w e v → AreEffects v es r → AreEffects w (tree.more_effects e es) r
+abbrev pub IsDomain : List Token → Domain → Type 0
+IsDomain w d = IsFile domain_file w (domain_tree d)
 
--- what was read of an action: its parameters, precondition and effect, each at most once
-pub data Parts : Type 0 where
-  parts : Option (List Name) → Option Formula → Option Effect → Parts
-
-abbrev pub no_parts : Parts
-no_parts = parts None None None
-
--- part  ::= :parameters ( variables ) | :precondition formula | :effect effect
--- A part is new: it was not read before it, and was afterwards.
-pub data IsPart : List Token → Parts → Parts → List Token → Type 0 where
-  parameter_list : {c : Option Formula} {e : Option Effect} {w r : List Token} {ns : List Name} → AreVariables w ns (closes ∷ r) → IsPart (keyword parameters ∷ opens ∷ w) (parts None c e) (parts (Some ns) c e) r
-  condition : {p : Option (List Name)} {e : Option Effect} {w r : List Token} {f : Formula} → IsFormula w f r → IsPart (keyword precondition ∷ w) (parts p None e) (parts p (Some f) e) r
-  change : {p : Option (List Name)} {c : Option Formula} {w r : List Token} {e : Effect} → IsEffect w e r → IsPart (keyword effect ∷ w) (parts p c None) (parts p c (Some e)) r
-
-pub data AreParts : List Token → Parts → Parts → List Token → Type 0 where
-  no_part : {w : List Token} {p : Parts} → AreParts w p p w
-  more_parts : {w v r : List Token} {p q s : Parts} → IsPart w p q v → AreParts v q s r → AreParts w p s r
-
--- what stands in an action; without a precondition or an effect it has an empty `and` there
-abbrev pub action_from : Name → List Name → Option Formula → Option Effect → Action
-action_from n ns c e = record {
-  name = n;
-  parameters = ns;
-  precondition = unwrap_or c (tree.and tree.no_formula);
-  effect = unwrap_or e (tree.both tree.no_effect);
-}
-
--- action  ::= NAME part* ), in any order, each at most once, `:parameters` among them
-pub data IsAction : List Token → Action → List Token → Type 0 where
-  whole_action : {label : Label} {n : Name} {w r : List Token} {ns : List Name} {c : Option Formula} {e : Option Effect} → AreParts w no_parts (parts (Some ns) c e) (closes ∷ r) → IsAction (name label n ∷ w) (action_from n ns c e) r
-
--- declarations  ::= ( PREDICATE-NAME variables )*
-pub data ArePredicates : List Token → List Predicate → List Token → Type 0 where
-  no_predicate : {w : List Token} → ArePredicates w [] w
-  more_predicates : {f : FreeName} {n : Name} {w v r : List Token} {ns : List Name} {ps : List Predicate} → AreVariables w ns (closes ∷ v) → ArePredicates v ps r → ArePredicates (opens ∷ name (free f) n ∷ w) (record { name = n; parameters = ns } ∷ ps) r
-
--- keys  ::= KEY*, of `:requirements`: they have no effect
-pub data AreKeys : List Token → List Token → Type 0 where
-  no_key : {w : List Token} → AreKeys w w
-  more_keys : {w r : List Token} → AreKeys w r → AreKeys (keyword requirement_key ∷ w) r
-
--- what was read of a domain: whether its requirements were, its predicates and its actions
-pub data DomainSections : Type 0 where
-  domain_sections : Bool → Option (List Predicate) → List Action → DomainSections
-
-abbrev pub no_domain_sections : DomainSections
-no_domain_sections = domain_sections false None []
-
--- section of a domain  ::= ( :requirements keys ) | ( :predicates declarations ) | ( :action action
-pub data IsDomainSection : List Token → DomainSections → DomainSections → List Token → Type 0 where
-  domain_requirements : {p : Option (List Predicate)} {found : List Action} {w r : List Token} → AreKeys w (closes ∷ r) → IsDomainSection (opens ∷ keyword requirements ∷ w) (domain_sections false p found) (domain_sections true p found) r
-  declared_predicates : {q : Bool} {found : List Action} {w r : List Token} {ps : List Predicate} → ArePredicates w ps (closes ∷ r) → IsDomainSection (opens ∷ keyword predicates ∷ w) (domain_sections q None found) (domain_sections q (Some ps) found) r
-  one_action : {q : Bool} {p : Option (List Predicate)} {found : List Action} {w r : List Token} {a : Action} → IsAction w a r → IsDomainSection (opens ∷ keyword action ∷ w) (domain_sections q p found) (domain_sections q p (found ++ a ∷ [])) r
-
-pub data AreDomainSections : List Token → DomainSections → DomainSections → List Token → Type 0 where
-  no_domain_section : {w : List Token} {s : DomainSections} → AreDomainSections w s s w
-  more_domain_sections : {w v r : List Token} {s t u : DomainSections} → IsDomainSection w s t v → AreDomainSections v t u r → AreDomainSections w s u r
-
--- domain  ::= ( define ( domain NAME ) section* ), in any order, each save `:action` at most once, `:predicates` among them
-pub data IsDomain : List Token → Domain → Type 0 where
-  whole_domain : {m k n : Name} {label : Label} {w : List Token} {q : Bool} {ps : List Predicate} {found : List Action} → AreDomainSections w no_domain_sections (domain_sections q (Some ps) found) (closes ∷ []) → IsDomain (opens ∷ name (free define) m ∷ opens ∷ name (free domain) k ∷ name label n ∷ closes ∷ w) (record { name = n; predicates = ps; actions = found })
-
--- facts  ::= ( PREDICATE-NAME names )*
-pub data AreFacts : List Token → List Fact → List Token → Type 0 where
-  no_fact : {w : List Token} → AreFacts w [] w
-  more_facts : {f : FreeName} {n : Name} {w v r : List Token} {ns : List Name} {fs : List Fact} → AreNames w ns (closes ∷ v) → AreFacts v fs r → AreFacts (opens ∷ name (free f) n ∷ w) (record { predicate = n; objects = ns } ∷ fs) r
-
--- what was read of a problem: its domain's name, whether its requirements were, its objects, facts and goal
-pub data ProblemSections : Type 0 where
-  problem_sections : Option Name → Bool → Option (List Name) → Option (List Fact) → Option Formula → ProblemSections
-
-abbrev pub no_problem_sections : ProblemSections
-no_problem_sections = problem_sections None false None None None
-
--- section of a problem  ::= ( :domain NAME ) | ( :requirements keys ) | ( :objects names ) | ( :init facts ) | ( :goal formula )
-pub data IsProblemSection : List Token → ProblemSections → ProblemSections → List Token → Type 0 where
-  domain_name : {q : Bool} {o : Option (List Name)} {i : Option (List Fact)} {g : Option Formula} {label : Label} {n : Name} {r : List Token} → IsProblemSection (opens ∷ keyword domain_keyword ∷ name label n ∷ closes ∷ r) (problem_sections None q o i g) (problem_sections (Some n) q o i g) r
-  problem_requirements : {d : Option Name} {o : Option (List Name)} {i : Option (List Fact)} {g : Option Formula} {w r : List Token} → AreKeys w (closes ∷ r) → IsProblemSection (opens ∷ keyword requirements ∷ w) (problem_sections d false o i g) (problem_sections d true o i g) r
-  object_list : {d : Option Name} {q : Bool} {i : Option (List Fact)} {g : Option Formula} {w r : List Token} {ns : List Name} → AreNames w ns (closes ∷ r) → IsProblemSection (opens ∷ keyword objects ∷ w) (problem_sections d q None i g) (problem_sections d q (Some ns) i g) r
-  initial_facts : {d : Option Name} {q : Bool} {o : Option (List Name)} {g : Option Formula} {w r : List Token} {fs : List Fact} → AreFacts w fs (closes ∷ r) → IsProblemSection (opens ∷ keyword init ∷ w) (problem_sections d q o None g) (problem_sections d q o (Some fs) g) r
-  goal_formula : {d : Option Name} {q : Bool} {o : Option (List Name)} {i : Option (List Fact)} {w r : List Token} {f : Formula} → IsFormula w f (closes ∷ r) → IsProblemSection (opens ∷ keyword goal ∷ w) (problem_sections d q o i None) (problem_sections d q o i (Some f)) r
-
-pub data AreProblemSections : List Token → ProblemSections → ProblemSections → List Token → Type 0 where
-  no_problem_section : {w : List Token} {s : ProblemSections} → AreProblemSections w s s w
-  more_problem_sections : {w v r : List Token} {s t u : ProblemSections} → IsProblemSection w s t v → AreProblemSections v t u r → AreProblemSections w s u r
-
--- problem  ::= ( define ( problem NAME ) section* ), in any order, each at most once, all but `:requirements` and
--- `:objects` required
-pub data IsProblem : List Token → Problem → Type 0 where
-  whole_problem : {m k n d : Name} {label : Label} {w : List Token} {q : Bool} {o : Option (List Name)} {fs : List Fact} {f : Formula} → AreProblemSections w no_problem_sections (problem_sections (Some d) q o (Some fs) (Some f)) (closes ∷ []) → IsProblem (opens ∷ name (free define) m ∷ opens ∷ name (free problem) k ∷ name label n ∷ closes ∷ w) (record { name = n; domain = d; objects = unwrap_or o []; init = fs; goal = f })
+abbrev pub IsProblem : List Token → Problem → Type 0
+IsProblem w p = IsFile problem_file w (problem_tree p)
 
 -- a list of words is a domain, or a problem, in at most one way
 abbrev pub EachIsOneDomain : Type 0

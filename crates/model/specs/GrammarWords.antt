@@ -1,13 +1,18 @@
 -- What a word is to the grammar of domain and problem files: its letters folded to lower case, a name is one that
 -- the grammar knows or any other, and so is a keyword.
-use Rattle.std.specs.Prelude.{ℕ, Bool, List, [], ◌∷◌, codes, if◌then◌else◌}
+use Rattle.std.specs.Prelude.{ℕ, Bool, List, [], ◌∷◌, map, codes, if◌then◌else◌}
 use Rattle.std.specs.List.{list_any}
 use Rattle.std.specs.Str.{bytes_eq, str_to_ascii_lowercase}
 use Rattle.model.specs.Words.{Word, Kind, end_of}
 use Rattle.model.specs.Words as words
 use Rattle.model.specs.Trees.{Name}
 
--- a name that may be a predicate's
+-- which of the two files it is
+pub data File : Type 0 where
+  domain_file : File
+  problem_file : File
+
+-- a name that may be a predicate's: one with which a file begins, or any other
 pub data FreeName : Type 0 where
   define : FreeName
   domain : FreeName
@@ -22,31 +27,37 @@ pub data ReservedName : Type 0 where
   left_out_name : ReservedName
   other_reserved : ReservedName
 
-pub data Label : Type 0 where
-  free : FreeName → Label
-  reserved : ReservedName → Label
+-- the keywords of a file's sections
+pub data SectionKeyword : Type 0 where
+  requirements : SectionKeyword
+  predicates : SectionKeyword
+  action : SectionKeyword
+  domain_keyword : SectionKeyword
+  objects : SectionKeyword
+  init : SectionKeyword
+  goal : SectionKeyword
+
+-- the keywords of an action's parts
+pub data PartKeyword : Type 0 where
+  parameters : PartKeyword
+  precondition : PartKeyword
+  effect : PartKeyword
 
 pub data Keyword : Type 0 where
-  domain_keyword : Keyword
-  requirements : Keyword
-  predicates : Keyword
-  action : Keyword
-  objects : Keyword
-  init : Keyword
-  goal : Keyword
-  parameters : Keyword
-  precondition : Keyword
-  effect : Keyword
+  of_section : SectionKeyword → Keyword
+  of_part : PartKeyword → Keyword
   -- a key of `:requirements`
   requirement_key : Keyword
   -- of a section or part of PDDL that the language profile leaves out
   left_out_keyword : Keyword
   unknown_keyword : Keyword
 
+-- A word. Any name may name an object or an action, so that each has its bytes and place.
 pub data Token : Type 0 where
   opens : Token
   closes : Token
-  name : Label → Name → Token
+  free : FreeName → Name → Token
+  reserved : ReservedName → Name → Token
   variable : Name → Token
   keyword : Keyword → Token
   -- a number, `-` or `=`
@@ -71,9 +82,9 @@ requirement_keys = codes ":strips" ∷ codes ":typing" ∷ codes ":equality" ∷
 abbrev pub left_out_keywords : List (List ℕ)
 left_out_keywords = codes ":durative-action" ∷ codes ":derived" ∷ codes ":constraints" ∷ codes ":axiom" ∷ codes ":safety" ∷ codes ":timeless" ∷ codes ":extends" ∷ codes ":situation" ∷ codes ":length" ∷ codes ":vars" ∷ codes ":duration" ∷ codes ":condition" ∷ codes ":expansion" ∷ codes ":method" ∷ []
 
--- what a name is, folded
-abbrev pub label_of : List ℕ → Label
-label_of text =
+-- a name, by its text folded
+abbrev pub named : List ℕ → Name → Token
+named text =
     if bytes_eq text (codes "and") then reserved and
     else (if bytes_eq text (codes "not") then reserved not
     else (if bytes_eq text (codes "define") then free define
@@ -92,20 +103,21 @@ other_keyword_of text =
 -- what a keyword is, folded
 abbrev pub keyword_of : List ℕ → Keyword
 keyword_of text =
-    if bytes_eq text (codes ":action") then action
-    else (if bytes_eq text (codes ":parameters") then parameters
-    else (if bytes_eq text (codes ":precondition") then precondition
-    else (if bytes_eq text (codes ":effect") then effect
-    else (if bytes_eq text (codes ":requirements") then requirements
-    else (if bytes_eq text (codes ":predicates") then predicates
-    else (if bytes_eq text (codes ":domain") then domain_keyword
-    else (if bytes_eq text (codes ":objects") then objects
-    else (if bytes_eq text (codes ":init") then init
-    else (if bytes_eq text (codes ":goal") then goal
+    if bytes_eq text (codes ":action") then of_section action
+    else (if bytes_eq text (codes ":parameters") then of_part parameters
+    else (if bytes_eq text (codes ":precondition") then of_part precondition
+    else (if bytes_eq text (codes ":effect") then of_part effect
+    else (if bytes_eq text (codes ":requirements") then of_section requirements
+    else (if bytes_eq text (codes ":predicates") then of_section predicates
+    else (if bytes_eq text (codes ":domain") then of_section domain_keyword
+    else (if bytes_eq text (codes ":objects") then of_section objects
+    else (if bytes_eq text (codes ":init") then of_section init
+    else (if bytes_eq text (codes ":goal") then of_section goal
     else other_keyword_of text)))))))))
 
+-- a word of this kind, with its text folded, and as a name
 abbrev pub token_from : Kind → List ℕ → Name → Token
-token_from words.name text n = name (label_of text) n
+token_from words.name text n = named text n
 token_from words.variable text n = variable n
 token_from words.keyword text n = keyword (keyword_of text)
 token_from words.number text n = other
@@ -116,3 +128,6 @@ token_from words.closes text n = closes
 
 abbrev pub token_of : Word → Token
 token_of w = token_from w.kind (str_to_ascii_lowercase w.text) (name_from w)
+
+abbrev pub tokens_of : List Word → List Token
+tokens_of words = map token_of words

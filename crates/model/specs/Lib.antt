@@ -4,8 +4,8 @@ pub mod Words
 pub mod Trees
 pub mod GrammarWords
 pub mod Grammar
-pub mod Refusals
 pub mod GrammarMachine
+pub mod Refusals
 pub mod Task
 pub mod WellTyped
 pub mod Typing

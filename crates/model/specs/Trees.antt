@@ -1,11 +1,15 @@
 -- The trees of a domain file and of a problem file: what stands in them, name by name, before names are resolved.
-use Rattle.std.specs.Prelude.{ℕ, List}
+use Rattle.std.specs.Prelude.{ℕ, List, [], ◌∷◌}
 use Rattle.model.specs.Fault.{Span}
 
 -- a name or a variable: its bytes as they stand in its file, and where they stand
 pub record Name : Type 0 where
   pub text : List ℕ
   pub span : Span
+
+-- the name that stands nowhere
+abbrev pub no_name : Name
+no_name = record { text = []; span = record { start = 0; end = 0 } }
 
 pub data Term : Type 0 where
   variable : Name → Term
@@ -36,6 +40,15 @@ mutual
   pub data Effects : Type 0 where
     no_effect : Effects
     more_effects : Effect → Effects → Effects
+
+-- formulas and effects from lists
+abbrev pub formulas : List Formula → Formulas
+formulas [] = no_formula
+formulas (f ∷ fs) = more_formulas f (formulas fs)
+
+abbrev pub effects : List Effect → Effects
+effects [] = no_effect
+effects (e ∷ es) = more_effects e (effects es)
 
 -- a predicate's declaration
 pub record Predicate : Type 0 where

@@ -1,69 +1,94 @@
--- The head of a file, told from its words one by one.
-use Rattle.std.proofs.Common.{◌≡◌, suc, inl, inr, true, List, [], ◌∷◌, map, drop, take, length, Some, refl, sym, ◌∙◌, ap, subst, arith}
+-- The head of a file, from its words one by one.
+use Rattle.std.proofs.Common.{◌≡◌, ℕ, ◌+◌, suc, inl, inr, List, [], ◌∷◌, ◌++◌, map, take, length, Option, Some, None, false, refl, sym, ◌∙◌, ap, subst, arith}
+use Rattle.std.specs.Option.{option_map, option_and_then}
 use Rattle.tokens.specs.declared.word.Word.{Word}
 use Rattle.tokens.specs.Word.{word_of}
-use Rattle.pddl_words.specs.Ahead.{token, from, rest_of, opens_first, closes_first, name_first, label_first}
+use Rattle.faults.specs.declared.refused.Refused.TheVariants.{At}
+use Rattle.pddl_words.specs.declared.refusal.WordRefusal.{WordRefusal}
+use Rattle.pddl_words.specs.Token.{from, first}
+use Rattle.pddl_tree.specs.declared.refusal.Place.TheVariants.{Elsewhere, Incomplete}
+use Rattle.pddl_tree.specs.Reading.{the, IsRead, IsWord, IsTold, Opens, IsNotOpen, opens_first, number_seen}
+use Rattle.pddl_tree.specs.Head.{HasHead, HasNoHead, after_head}
 use Rattle.model.specs.Trees.{Name}
-use Rattle.model.specs.GrammarWords.{Token, opens, closes, name, Label, free, define}
-use Rattle.model.specs.Refusals.{File, domain_file, problem_file, Begins, tokens_of}
-use Rattle.model.specs.GrammarMachine.{run, start, stopped}
-use Rattle.model.proofs.GrammarTold.{ends_in}
+use Rattle.model.specs.GrammarWords.{File, domain_file, problem_file, Token, opens, closes, token_of, tokens_of}
+use Rattle.model.specs.Grammar.{Tree, Sort, Value, Phrase, gives, ◌>>=◌, and_then, after, file, define_word, kind_list, kind_word, a_name, close}
+use Rattle.model.specs.Grammar as grammar
+use Rattle.model.specs.Refusals.{Begins}
+use Rattle.model.specs.GrammarMachine.{run, start, after_all}
+use Rattle.model.proofs.GrammarStops.{leads}
 use Rattle.model.proofs.GrammarBegins.{begins}
-use Rattle.pddl_tree.specs.Head.{HasHead, HasNoHead}
-use Rattle.pddl_tree.specs.Sections.{kind_of}
-use Rattle.pddl_tree.proofs.Looks.{rest-drop}
+use Rattle.pddl_tree.proofs.ReadOn.{from_first, taken, not_there}
 use Rattle.pddl_tree.proofs.Told.{same_tokens}
 
-opening_is : (w : List Token) → opens_first w ≡ true → w ≡ opens ∷ rest_of w
-opening_is (opens ∷ w) e = refl
-opening_is w e = absurd (cc)
+-- one word more
+on_word : {T : Type 0} (s : Sort) (t : Token) (w : List Token) (x : Value s) (k : Value s → Phrase T) → after s t ≡ Some (gives x) → after_all (t ∷ w) (s >>= k) ≡ after_all w (k x)
+on_word s t w x k e = ap (λ o. option_and_then (λ q. after_all w q) (option_map (λ p. and_then p k) o)) e
 
-closing_is : (w : List Token) → closes_first w ≡ true → w ≡ closes ∷ rest_of w
-closing_is (closes ∷ w) e = refl
-closing_is w e = absurd (cc)
+-- the words of a head lead to what follows it
+head_leads : (f : File) (t1 t3 t4 : Token) (n : Name) → after define_word t1 ≡ Some (gives tt) → after (kind_word f) t3 ≡ Some (gives tt) → after a_name t4 ≡ Some (gives n)
+    → after_all (opens ∷ t1 ∷ opens ∷ t3 ∷ t4 ∷ closes ∷ []) (start f) ≡ Some (after_head f n)
+head_leads f t1 t3 t4 n defines is named =
+    on_word define_word t1 (opens ∷ t3 ∷ t4 ∷ closes ∷ []) tt (λ _. kind_list >>= λ _. kind_word f >>= λ _. a_name >>= λ m. close >>= λ _. after_head f m) defines
+    ∙ on_word (kind_word f) t3 (t4 ∷ closes ∷ []) tt (λ _. a_name >>= λ m. close >>= λ _. after_head f m) is
+    ∙ on_word a_name t4 (closes ∷ []) n (λ m. close >>= λ _. after_head f m) named
 
-label_is : (w : List Token) (l : Label) → label_first w ≡ Some l → (n : Name) × (w ≡ name l n ∷ rest_of w)
-label_is (name k n ∷ w) l e = (n, let same : k ≡ l = cc in ap (λ x. name x n ∷ w) same)
-label_is w l e = absurd (cc)
+pub record IsHead (f : File) (words : List Word) (n : Name) : Type 0 where
+  pub t1 : Token
+  pub t3 : Token
+  pub t4 : Token
+  pub whole : from words 0 ≡ opens ∷ t1 ∷ opens ∷ t3 ∷ t4 ∷ closes ∷ from words 6
+  pub led : after_all (opens ∷ t1 ∷ opens ∷ t3 ∷ t4 ∷ closes ∷ []) (start f) ≡ Some (after_head f n)
 
-name_is : (w : List Token) (n : Name) → Some n ≡ name_first w → (l : Label) × (w ≡ name l n ∷ rest_of w)
-name_is (name l m ∷ w) n e = (l, let same : m ≡ n = cc in ap (λ x. name l x ∷ w) same)
-name_is w n e = absurd (cc)
+pub is_head : (f : File) (words : List Word) (n : Name) {a b c d e g : ℕ} → Opens words 0 a → IsWord define_word words 1 tt b → Opens words 2 c → IsWord (kind_word f) words 3 tt d → IsWord a_name words 4 n e → IsWord close words 5 tt g → IsHead f words n
+is_head f words n o defines p is named closed =
+    record {
+      t1 = defines.token;
+      t3 = is.token;
+      t4 = named.token;
+      whole = from_first words 0 opens o.0 ∙ ap (λ w. opens ∷ w) (from_first words 1 defines.token defines.stands ∙ ap (λ w. defines.token ∷ w) (from_first words 2 opens p.0 ∙ ap (λ w. opens ∷ w)
+          (from_first words 3 is.token is.stands ∙ ap (λ w. is.token ∷ w) (from_first words 4 named.token named.stands ∙ ap (λ w. named.token ∷ w) (from_first words 5 closes (by_close closed.token closed.stands closed.taken))))));
+      led = head_leads f defines.token is.token named.token n defines.taken is.taken named.taken;
+    }
+  where
+    by_close : (t : Token) → first (from words 5) ≡ Some t → after close t ≡ Some (gives tt) → first (from words 5) ≡ Some closes
+    by_close closes e h = e
+    by_close t e h = absurd (cc)
 
--- the words of a head
-abbrev head_words : File → Name → Name → Label → Name → List Token
-head_words file m k l n = opens ∷ name (free define) m ∷ opens ∷ name (kind_of file) k ∷ name l n ∷ closes ∷ []
+pub has_head : (f : File) (words : List Word) (n : Name) → IsHead f words n → HasHead f (from words 0)
+has_head f words n h =
+    let size : length (from words 0) ≡ suc (suc (suc (suc (suc (suc (length (from words 6))))))) = ap length h.whole in
+    (omega (arith, size), subst (λ w. Begins f (take 6 w)) (sym h.whole) (begins f (opens ∷ h.t1 ∷ opens ∷ h.t3 ∷ h.t4 ∷ closes ∷ []) (after_head f n) h.led))
 
-runs_out : (file : File) (m k : Name) (l : Label) (n : Name) → run (head_words file m k l n) (start file) ≡ stopped 7 []
-runs_out domain_file m k l n = refl
-runs_out problem_file m k l n = refl
-
-head_begins : (file : File) (m k : Name) (l : Label) (n : Name) → Begins file (head_words file m k l n)
-head_begins file m k l n =
-    let stop = ends_in file (head_words file m k l n) 7 (runs_out file m k l n) in
-    begins file stop.0 (head_words file m k l n) stop.1
-
--- what the reader looks at
-pub has_head : (file : File) (words : List Word) (l : Label) (n : Name) → opens_first (from words 0) ≡ true → label_first (from words 1) ≡ Some (free define) → opens_first (from words 2) ≡ true
-    → l ≡ kind_of file → label_first (from words 3) ≡ Some l → Some n ≡ name_first (from words 4) → closes_first (from words 5) ≡ true → HasHead file (from words 0)
-has_head file words l n first defines second is kind named closed =
-    let w = map token words in
-    let m = label_is (drop 1 w) (free define) defines in
-    let k = label_is (drop 3 w) (kind_of file) (kind ∙ ap Some is) in
-    let p = name_is (drop 4 w) n named in
-    let whole : w ≡ opens ∷ name (free define) m.0 ∷ opens ∷ name (kind_of file) k.0 ∷ name p.0 n ∷ closes ∷ drop 6 w =
-    opening_is w first
-    ∙ ap (λ t. opens ∷ t) (rest-drop 0 w ∙ m.1 ∙ ap (λ t. name (free define) m.0 ∷ t) (rest-drop 1 w
-    ∙ opening_is (drop 2 w) second ∙ ap (λ t. opens ∷ t) (rest-drop 2 w
-    ∙ k.1 ∙ ap (λ t. name (kind_of file) k.0 ∷ t) (rest-drop 3 w
-    ∙ p.1 ∙ ap (λ t. name p.0 n ∷ t) (rest-drop 4 w
-    ∙ closing_is (drop 5 w) closed ∙ ap (λ t. closes ∷ t) (rest-drop 5 w)))))) in
-    let size : length w ≡ suc (suc (suc (suc (suc (suc (length (drop 6 w))))))) = ap length whole in
-    (omega (arith, size), subst (Begins file) (sym (ap (take 6) whole)) (head_begins file m.0 k.0 p.0 n))
+pub head_run : (f : File) (words : List Word) (n : Name) → IsHead f words n → run (from words 0) (start f) ≡ run (from words 6) (after_head f n)
+head_run f words n h = ap (λ w. run w (start f)) h.whole ∙ leads (opens ∷ h.t1 ∷ opens ∷ h.t3 ∷ h.t4 ∷ closes ∷ []) (start f) (after_head f n) (from words 6) h.led
 
 -- a head is not missing
-pub no_head : (file : File) (words : List Word) → HasHead file (from words 0) → HasNoHead file (tokens_of (map word_of words)) → ⊥
-no_head file words head (inl short) =
-    let same : length (map token words) ≡ length (tokens_of (map word_of words)) = ap length (same_tokens words) in
+pub no_head : (f : File) (words : List Word) → HasHead f (from words 0) → HasNoHead f (tokens_of (map word_of words)) → ⊥
+no_head f words head (inl short) =
+    let same : length (map (λ w. token_of (word_of w)) words) ≡ length (tokens_of (map word_of words)) = ap length (same_tokens words) in
     omega (arith, same, head.0)
-no_head file words head (inr none) = none (subst (λ w. Begins file (take 6 w)) (same_tokens words) head.1)
+no_head f words head (inr none) = none (subst (λ w. Begins f (take 6 w)) (same_tokens words) head.1)
+
+-- the words of a head, one by one
+pub read_here : (s : Sort) {words : List Word} {at next : ℕ} {x : Value s} → IsWord s words at x next → IsRead (the s) words at x (at + 1)
+read_here s {words} {at} h = record { runs = λ k. taken s words at h.token h.stands h.taken k }
+
+pub in_head : {words : List Word} {inside : ℕ} → Opens words 2 inside → IsRead (the kind_list) words 2 tt 3
+in_head {words} o = record { runs = λ k. taken kind_list words 2 opens o.0 refl k }
+
+pub no_file : (f : File) (words : List Word) (refusal : WordRefusal) → IsNotOpen words 0 Elsewhere refusal → IsTold (the (file f)) words 0 (At refusal)
+no_file f words refusal h = by_first (first (from words 0)) refl h.0
+  where
+    by_first : (o : Option Token) → first (from words 0) ≡ o → opens_first o ≡ false → IsTold (the (file f)) words 0 (At refusal)
+    by_first (Some opens) is e = absurd (cc)
+    by_first None is e = not_there (file f) words 0 (At refusal) (ap (option_and_then (after (file f))) is) (h.1 ∙ ap (λ o. Some (number_seen close o, 0)) is ∙ sym (ap (λ o. Some (number_seen (file f) o, 0)) is))
+    by_first (Some t) is e = not_there (file f) words 0 (At refusal) (ap (option_and_then (after (file f))) is) (h.1 ∙ ap (λ o. Some (number_seen close o, 0)) is ∙ sym (ap (λ o. Some (number_seen (file f) o, 0)) is))
+
+pub no_kind_list : (words : List Word) (refusal : WordRefusal) → IsNotOpen words 2 Incomplete refusal → IsTold (the kind_list) words 2 (At refusal)
+no_kind_list words refusal h = by_first (first (from words 2)) refl h.0
+  where
+    by_first : (o : Option Token) → first (from words 2) ≡ o → opens_first o ≡ false → IsTold (the kind_list) words 2 (At refusal)
+    by_first (Some opens) is e = absurd (cc)
+    by_first None is e = not_there kind_list words 2 (At refusal) (ap (option_and_then (after kind_list)) is) (h.1 ∙ ap (λ o. Some (number_seen define_word o, 2)) is ∙ sym (ap (λ o. Some (number_seen kind_list o, 2)) is))
+    by_first (Some closes) is e = not_there kind_list words 2 (At refusal) (ap (option_and_then (after kind_list)) is) (h.1 ∙ ap (λ o. Some (number_seen define_word o, 2)) is ∙ sym (ap (λ o. Some (number_seen kind_list o, 2)) is))
+    by_first (Some t) is e = not_there kind_list words 2 (At refusal) (ap (option_and_then (after kind_list)) is) (h.1 ∙ ap (λ o. Some (number_seen define_word o, 2)) is ∙ sym (ap (λ o. Some (number_seen kind_list o, 2)) is))

@@ -1,6 +1,8 @@
-pub mod Looks
+pub mod Seen
 pub mod ReadOn
+pub mod Items
 pub mod Rows
-pub mod SectionLooks
+pub mod Parts
+pub mod Files
 pub mod Told
 pub mod Heads

@@ -1,93 +1,142 @@
--- Lists that are read in a loop: what was read so far, and what the words left make of the rest.
-use Rattle.std.proofs.Common.{◌≡◌, ℕ, List, [], ◌∷◌, ◌++◌, map, Option, Some, None, refl, sym, ◌∙◌, ap, subst}
+-- How what is read of words, one thing after another, joins.
+use Rattle.std.proofs.Common.{◌≡◌, ℕ, zero, suc, add-one, ◌+◌, ◌<◌, ◌≤◌, Bool, true, false, List, [], ◌∷◌, ◌++◌, map, drop, length, Option, Some, None, refl, sym, ◌∙◌, ap, subst, arith}
 use Rattle.std.specs.Prelude.{IfSome}
-use Rattle.std.proofs.lemmas.List.{map-append}
+use Rattle.std.specs.Option.{option_map, option_and_then}
+use Rattle.std.proofs.lemmas.List.{map-append, append_assoc}
 use Rattle.tokens.specs.declared.word.Word.{Word}
-use Rattle.pddl_words.specs.Ahead.{from}
+use Rattle.tokens.specs.Word.{word_of}
+use Rattle.pddl_words.specs.Token.{from, first}
 use Rattle.pddl_words.specs.Refusal.{WordFault, told}
-use Rattle.pddl_tree.specs.Reading.{IsRead, IsTold, StopsAs}
-use Rattle.model.specs.GrammarWords.{Token}
-use Rattle.model.specs.GrammarMachine.{State, Outcome, run, stopped}
+use Rattle.pddl_tree.specs.Reading.{the, IsRead, IsWord, IsTold, StopsAs, number_seen, opens_first, Opens, IsNotOpen, free_first, Heads, IsNoPredicate}
+use Rattle.model.specs.Trees.{Name}
+use Rattle.pddl_tree.specs.declared.refusal.Place.TheVariants.{Elsewhere}
+use Rattle.faults.specs.declared.refused.Refused.TheVariants.{At}
+use Rattle.pddl_words.specs.declared.refusal.WordRefusal.{WordRefusal}
+use Rattle.model.specs.Grammar
+use Rattle.model.specs.GrammarWords.{Token, token_of, opens, FreeName, free}
+use Rattle.model.specs.Grammar.{Tree, Sort, listed, Value, Phrase, gives, ◌>>=◌, and_then, after}
+use Rattle.model.specs.GrammarMachine.{Outcome, stopped, run, go_on, step, number_at, number_after}
 
--- these, and then a list
-abbrev pub joined : {A T : Type 0} → (A → T → T) → List A → T → T
-joined cons [] t = t
-joined cons (x ∷ xs) t = cons x (joined cons xs t)
+abbrev rest_of : List Token → List Token
+rest_of [] = []
+rest_of (t ∷ w) = w
 
-joined-more : {A T : Type 0} (cons : A → T → T) (xs : List A) (x : A) (t : T) → joined cons xs (cons x t) ≡ joined cons (xs ++ x ∷ []) t
-joined-more cons [] x t = refl
-joined-more cons (y ∷ xs) x t = ap (cons y) (joined-more cons xs x t)
+rest-drop : (n : ℕ) (w : List Token) → rest_of (drop n w) ≡ drop (suc n) w
+rest-drop zero [] = refl
+rest-drop zero (t ∷ w) = refl
+rest-drop (suc n) [] = refl
+rest-drop (suc n) (t ∷ w) = rest-drop n w
 
-pub joined-list : {A : Type 0} (xs : List A) → joined (λ x ys. x ∷ ys) xs [] ≡ xs
-joined-list [] = refl
-joined-list (x ∷ xs) = ap (λ ys. x ∷ ys) (joined-list xs)
+first_is : (w : List Token) (t : Token) → first w ≡ Some t → w ≡ t ∷ rest_of w
+first_is [] t e = absurd (cc)
+first_is (u ∷ w) t e = let same : u ≡ t = cc in ap (λ x. x ∷ w) same
 
--- these were read, and the list goes on with the words left
-pub record IsReadOn {A T : Type 0} (wants : (T → State) → State) (cons : A → T → T) (w : List Token) (done : List A) (r : List Token) : Type 0 where
-  pub goes : (k : T → State) → run w (wants k) ≡ run r (wants (λ t. k (joined cons done t)))
+-- the words from an index on, where this one stands there
+pub from_first : (words : List Word) (at : ℕ) (t : Token) → first (from words at) ≡ Some t → from words at ≡ t ∷ from words (at + 1)
+from_first words at t e =
+    first_is (from words at) t e ∙ ap (λ w. t ∷ w) (rest-drop at (map (λ w. token_of (word_of w)) words) ∙ ap (λ i. drop i (map (λ w. token_of (word_of w)) words)) (sym (add-one at)))
 
-pub on_start : {A T : Type 0} (wants : (T → State) → State) (cons : A → T → T) (w : List Token) → IsReadOn wants cons w [] w
-on_start wants cons w = record { goes = λ k. refl }
+-- a word that may stand there leads on
+pub taken : (s : Sort) {p : Phrase (Value s)} (words : List Word) (at : ℕ) (t : Token) → first (from words at) ≡ Some t → after s t ≡ Some p → (k : Value s → Phrase Tree) → run (from words at) (s >>= k) ≡ run (from words (at + 1)) (and_then p k)
+taken s words at t e f k =
+    ap (λ w. run w (s >>= k)) (from_first words at t e) ∙ ap (λ o. go_on (option_map (λ p. and_then p k) o) (run (from words (at + 1))) (stopped (number_at s t) (t ∷ from words (at + 1)))) f
 
-pub on_more : {A T V : Type 0} (wants : (T → State) → State) (cons : A → T → T) (view : V → A) (w r r' : List Token) (items items' : List V) (x : V)
-    → IsReadOn wants cons w (map view items) r → items' ≡ items ++ x ∷ []
-    → ((k : T → State) → run r (wants k) ≡ run r' (wants (λ t. k (cons (view x) t))))
-    → IsReadOn wants cons w (map view items') r'
-on_more {A} {T} {V} wants cons view w r r' items items' x h e one =
-    let same : map view items' ≡ map view items ++ view x ∷ [] = ap (map view) e ∙ map-append view items (x ∷ []) in
-    let more : (t : T) → joined cons (map view items) (cons (view x) t) ≡ joined cons (map view items') t = λ t. joined-more cons (map view items) (view x) t ∙ ap (λ xs. joined cons xs t) (sym same) in
-    record { goes = λ k. h.goes k ∙ one (λ t. k (joined cons (map view items) t)) ∙ ap (λ f. run r' (wants f)) (λ i t. k (more t i)) }
-
-pub on_end : {A T : Type 0} (wants : (T → State) → State) (cons : A → T → T) (w r r' : List Token) (done : List A) (nil all : T)
-    → IsReadOn wants cons w done r → ((k : T → State) → run r (wants k) ≡ run r' (k nil)) → joined cons done nil ≡ all
-    → IsRead wants w all r'
-on_end wants cons w r r' done nil all h one e =
-    record { runs = λ k. h.goes k ∙ one (λ t. k (joined cons done t)) ∙ ap (λ t. run r' (k t)) e }
+-- a word that may not, or none, stops the machine
+refused_first : (s : Sort) (w : List Token) (k : Value s → Phrase Tree) → option_and_then (after s) (first w) ≡ None → run w (s >>= k) ≡ stopped (number_seen s (first w)) w
+refused_first s [] k e = refl
+refused_first s (t ∷ w) k e = ap (λ o. go_on (option_map (λ p. and_then p k) o) (run w) (stopped (number_at s t) (t ∷ w))) e
 
 -- where a refusal tells of these words
-pub told_here : (words : List Word) (at : ℕ) (state : State) (refusal : WordFault) (code place : ℕ) → told refusal ≡ Some (code, place) → run (from words at) state ≡ stopped code (from words place) → StopsAs words at state refusal
-told_here words at state refusal code place e h =
-    let P : Option (ℕ × ℕ) → Type 0 = λ o. IfSome o (λ p. run (from words at) state ≡ stopped p.0 (from words p.1)) in
+pub told_here : (words : List Word) (at : ℕ) (p : Phrase Tree) (refusal : WordFault) (code place : ℕ) → told refusal ≡ Some (code, place) → run (from words at) p ≡ stopped code (from words place) → StopsAs words at p refusal
+told_here words at p refusal code place e h =
+    let P : Option (ℕ × ℕ) → Type 0 = λ o. IfSome o (λ x. run (from words at) p ≡ stopped x.0 (from words x.1)) in
     subst P (sym e) h
+
+pub not_there : (s : Sort) (words : List Word) (at : ℕ) (refusal : WordFault) → option_and_then (after s) (first (from words at)) ≡ None → told refusal ≡ Some (number_seen s (first (from words at)), at) → IsTold (the s) words at refusal
+not_there s words at refusal none e =
+    record { stops = λ k. told_here words at (s >>= k) refusal (number_seen s (first (from words at))) at e (refused_first s (from words at) k none) }
 
 -- want of memory tells nothing
-pub told_nothing : (words : List Word) (at : ℕ) (state : State) (refusal : WordFault) → told refusal ≡ None → StopsAs words at state refusal
-told_nothing words at state refusal e =
-    let P : Option (ℕ × ℕ) → Type 0 = λ o. IfSome o (λ p. run (from words at) state ≡ stopped p.0 (from words p.1)) in
-    subst P (sym e) tt
+pub no_memory : {A : Type 0} (p : Phrase A) (words : List Word) (at : ℕ) (refusal : WordFault) → told refusal ≡ None → IsTold p words at refusal
+no_memory p words at refusal e =
+    record { stops = λ k. (let P : Option (ℕ × ℕ) → Type 0 = λ o. IfSome o (λ x. run (from words at) (and_then p k) ≡ stopped x.0 (from words x.1)) in subst P (sym e) tt) }
 
 -- what stops later stops from the start on
-pub told_later : (words : List Word) (at after : ℕ) (state next : State) (refusal : WordFault) → run (from words at) state ≡ run (from words after) next → StopsAs words after next refusal → StopsAs words at state refusal
-told_later words at after state next refusal e h =
-    let P : Outcome → Type 0 = λ x. IfSome (told refusal) (λ p. x ≡ stopped p.0 (from words p.1)) in
+pub told_later : (words : List Word) (at next : ℕ) (p q : Phrase Tree) (refusal : WordFault) → run (from words at) p ≡ run (from words next) q → StopsAs words next q refusal → StopsAs words at p refusal
+told_later words at next p q refusal e h =
+    let P : Outcome Tree → Type 0 = λ x. IfSome (told refusal) (λ o. x ≡ stopped o.0 (from words o.1)) in
     subst P (sym e) h
 
-pub on_stop : {A T : Type 0} (wants : (T → State) → State) (cons : A → T → T) (words : List Word) (at next : ℕ) (done : List A) (refusal : WordFault) (code : ℕ)
-    → IsReadOn wants cons (from words at) done (from words next) → told refusal ≡ Some (code, next)
-    → ((k : T → State) → run (from words next) (wants k) ≡ stopped code (from words next))
-    → IsTold wants words at refusal
-on_stop wants cons words at next done refusal code h e one =
-    record { stops = λ k. told_here words at (wants k) refusal code next e (h.goes k ∙ one (λ t. k (joined cons done t))) }
+-- ---- one thing after another
 
-pub no_memory : {T : Type 0} (wants : (T → State) → State) (words : List Word) (at : ℕ) (refusal : WordFault) → told refusal ≡ None → IsTold wants words at refusal
-no_memory wants words at refusal e = record { stops = λ k. told_nothing words at (wants k) refusal e }
+pub read_word : (s : Sort) {words : List Word} {at next : ℕ} {x : Value s} → IsWord s words at x next → IsRead (the s) words at x next
+read_word s {words} {at} {next} {x} w =
+    record { runs = λ k. taken s words at w.token w.stands w.taken k ∙ ap (λ i. run (from words i) (k x)) (sym w.one) }
 
--- what is read next was refused
-pub on_later : {A T U : Type 0} (wants : (T → State) → State) (cons : A → T → T) (words : List Word) (at next after : ℕ) (done : List A) (wanted : (U → State) → State) (refusal : WordFault)
-    → IsReadOn wants cons (from words at) done (from words next)
-    → (then : (T → State) → U → State) → ((k : T → State) → run (from words next) (wants k) ≡ run (from words after) (wanted (then k)))
-    → IsTold wanted words after refusal → IsTold wants words at refusal
-on_later wants cons words at next after done wanted refusal h then one told =
-    record { stops = λ k. told_later words at after (wants k) (wanted (then (λ t. k (joined cons done t)))) refusal (h.goes k ∙ one (λ t. k (joined cons done t))) (told.stops (then (λ t. k (joined cons done t)))) }
+pub given : {A : Type 0} {words : List Word} {at : ℕ} {x : A} → IsRead (gives x) words at x at
+given = record { runs = λ k. refl }
 
--- the same with nothing before it
-pub later : {T U : Type 0} (wants : (T → State) → State) (words : List Word) (at after : ℕ) (wanted : (U → State) → State) (refusal : WordFault)
-    → (then : (T → State) → U → State) → ((k : T → State) → run (from words at) (wants k) ≡ run (from words after) (wanted (then k)))
-    → IsTold wanted words after refusal → IsTold wants words at refusal
-later wants words at after wanted refusal then one told =
-    record { stops = λ k. told_later words at after (wants k) (wanted (then k)) refusal (one k) (told.stops (then k)) }
+pub then_read : {A : Type 0} (s : Sort) {h : Value s → Phrase A} {words : List Word} {at next end : ℕ} {y : Value s} {x : A} → IsRead (the s) words at y next → IsRead (h y) words next x end → IsRead (s >>= h) words at x end
+then_read s {h} a b = record { runs = λ k. a.runs (λ y. and_then (h y) k) ∙ b.runs k }
 
--- the words stop at a later one
-pub on_place : {T : Type 0} (wants : (T → State) → State) (words : List Word) (at place : ℕ) (refusal : WordFault) (code : ℕ)
-    → told refusal ≡ Some (code, place) → ((k : T → State) → run (from words at) (wants k) ≡ stopped code (from words place)) → IsTold wants words at refusal
-on_place wants words at place refusal code e one = record { stops = λ k. told_here words at (wants k) refusal code place e (one k) }
+pub first_told : {A : Type 0} (s : Sort) {h : Value s → Phrase A} {words : List Word} {at : ℕ} {refusal : WordFault} → IsTold (the s) words at refusal → IsTold (s >>= h) words at refusal
+first_told s {h} a = record { stops = λ k. a.stops (λ y. and_then (h y) k) }
+
+pub then_told : {A : Type 0} (s : Sort) {h : Value s → Phrase A} {words : List Word} {at next : ℕ} {y : Value s} {refusal : WordFault} → IsRead (the s) words at y next → IsTold (h y) words next refusal → IsTold (s >>= h) words at refusal
+then_told s {h} {words} {at} {next} {y} {refusal} a b =
+    record { stops = λ k. told_later words at next (s >>= λ z. and_then (h z) k) (and_then (h y) k) refusal (a.runs (λ z. and_then (h z) k)) (b.stops k) }
+
+-- what follows a word that stands there
+pub by_word : (s : Sort) {p : Phrase (Value s)} (words : List Word) (at : ℕ) {end : ℕ} {x : Value s} (t : Token) → first (from words at) ≡ Some t → after s t ≡ Some p → IsRead p words (at + 1) x end → IsRead (the s) words at x end
+by_word s words at t e f a = record { runs = λ k. taken s words at t e f k ∙ a.runs k }
+
+pub by_word_told : (s : Sort) {p : Phrase (Value s)} (words : List Word) (at : ℕ) {refusal : WordFault} (t : Token) → first (from words at) ≡ Some t → after s t ≡ Some p → IsTold p words (at + 1) refusal → IsTold (the s) words at refusal
+by_word_told s {p} words at {refusal} t e f a =
+    record { stops = λ k. told_later words at (at + 1) (s >>= k) (and_then p k) refusal (taken s words at t e f k) (a.stops k) }
+
+-- the same tree by another name
+pub of_tree : {A : Type 0} {p : Phrase A} {words : List Word} {at next : ℕ} {x y : A} → IsRead p words at x next → x ≡ y → IsRead p words at y next
+of_tree {words = words} {next = next} a e = record { runs = λ k. a.runs k ∙ ap (λ z. run (from words next) (k z)) e }
+
+-- what stands in a list
+pub in_list : (s : Sort) {words : List Word} {at inside end : ℕ} {x : Value s} → Opens words at inside → IsRead (the s) words inside x end → IsRead (the (listed s)) words at x end
+in_list s {words} {at} {inside} {end} {x} o a = by_word (listed s) {p = the s} words at opens o.0 refl (subst (λ i. IsRead (the s) words i x end) o.1 a)
+
+pub in_list_told : (s : Sort) {words : List Word} {at inside : ℕ} {refusal : WordFault} → Opens words at inside → IsTold (the s) words inside refusal → IsTold (the (listed s)) words at refusal
+in_list_told s {words} {at} {inside} {refusal} o a = by_word_told (listed s) {p = the s} words at opens o.0 refl (subst (λ i. IsTold (the s) words i refusal) o.1 a)
+
+pub not_open : (s : Sort) (words : List Word) (at : ℕ) (refusal : WordRefusal) → IsNotOpen words at Elsewhere refusal → IsTold (the (listed s)) words at (At refusal)
+not_open s words at refusal h = by_first (first (from words at)) refl h.0
+  where
+    by_first : (o : Option Token) → first (from words at) ≡ o → opens_first o ≡ false → IsTold (the (listed s)) words at (At refusal)
+    by_first None is e = not_there (listed s) words at (At refusal) (ap (option_and_then (after (listed s))) is) (h.1 ∙ ap (λ o. Some (number_seen Grammar.close o, at)) is ∙ sym (ap (λ o. Some (number_seen (listed s) o, at)) is))
+    by_first (Some opens) is e = absurd (cc)
+    by_first (Some t) is e = not_there (listed s) words at (At refusal) (ap (option_and_then (after (listed s))) is) (h.1 ∙ ap (λ o. Some (number_seen Grammar.close o, at)) is ∙ sym (ap (λ o. Some (number_seen (listed s) o, at)) is))
+
+-- a predicate and what follows it
+pub headed : (s : Sort) {p : (n : Name) → Phrase (Value s)} {words : List Word} {at next end : ℕ} {n : Name} {x : Value s} → ((f : FreeName) → (m : Name) → after s (free f m) ≡ Some (p m)) → Heads words at n next → IsRead (p n) words next x end → IsRead (the s) words at x end
+headed s {p} {words} {at} {next} {end} {n} {x} rule h a = by_word s {p = p n} words at (free h.0 n) h.1 (rule h.0 n) (subst (λ i. IsRead (p n) words i x end) h.2 a)
+
+pub headed_told : (s : Sort) {p : (n : Name) → Phrase (Value s)} {words : List Word} {at next : ℕ} {n : Name} {refusal : WordFault} → ((f : FreeName) → (m : Name) → after s (free f m) ≡ Some (p m)) → Heads words at n next → IsTold (p n) words next refusal → IsTold (the s) words at refusal
+headed_told s {p} {words} {at} {next} {n} {refusal} rule h a = by_word_told s {p = p n} words at (free h.0 n) h.1 (rule h.0 n) (subst (λ i. IsTold (p n) words i refusal) h.2 a)
+
+pub not_headed : (s : Sort) (words : List Word) (at : ℕ) (refusal : WordRefusal) → ((t : Token) → free_first (Some t) ≡ false → (after s t ≡ None) × (number_at s t ≡ number_at Grammar.close t)) → IsNoPredicate words at refusal → IsTold (the s) words at (At refusal)
+not_headed s words at refusal rule h = by_first (first (from words at)) refl h.0
+  where
+    by_first : (o : Option Token) → first (from words at) ≡ o → free_first o ≡ false → IsTold (the s) words at (At refusal)
+    by_first None is e = not_there s words at (At refusal) (ap (option_and_then (after s)) is) (h.1 ∙ ap (λ o. Some (number_seen Grammar.close o, at)) is ∙ sym (ap (λ o. Some (number_seen s o, at)) is))
+    by_first (Some t) is e =
+        not_there s words at (At refusal) (ap (option_and_then (after s)) is ∙ (rule t e).0) (h.1 ∙ ap (λ o. Some (number_seen Grammar.close o, at)) is ∙ ap (λ n. Some (n, at)) (sym (rule t e).1) ∙ sym (ap (λ o. Some (number_seen s o, at)) is))
+
+-- a word that heads no atom, declaration or fact
+pub no_atom : (t : Token) → free_first (Some t) ≡ false → (after Grammar.atom t ≡ None) × (number_at Grammar.atom t ≡ number_at Grammar.close t)
+no_atom (free f n) e = absurd (cc)
+no_atom t e = (refl, refl)
+
+pub no_declaration : (t : Token) → free_first (Some t) ≡ false → (after Grammar.declaration t ≡ None) × (number_at Grammar.declaration t ≡ number_at Grammar.close t)
+no_declaration (free f n) e = absurd (cc)
+no_declaration t e = (refl, refl)
+
+pub no_fact : (t : Token) → free_first (Some t) ≡ false → (after Grammar.fact t ≡ None) × (number_at Grammar.fact t ≡ number_at Grammar.close t)
+no_fact (free f n) e = absurd (cc)
+no_fact t e = (refl, refl)

@@ -1,16 +1,16 @@
 -- The parts of a formula or an effect as lists.
-use Rattle.std.proofs.Common.{◌≡◌, List, [], ◌∷◌, map, refl, ◌∙◌, ap}
+use Rattle.std.proofs.Common.{◌≡◌, map, refl, ◌∙◌, ap}
 use Rattle.std.specs.Global.{Vec}
 use mathlib.Core.Former.{Count}
 use Rattle.pddl_tree.specs.declared.tree.Formula.{Formula, And', Row_of-Formula, end_of-Formula, more_of-Formula, items-the_row-Formula, items_hidden-the_row-Formula-0}
 use Rattle.pddl_tree.specs.declared.tree.Formula as formula
 use Rattle.pddl_tree.specs.declared.tree.Effect.{Effect, Row_of-Effect, end_of-Effect, more_of-Effect, items-the_row-Effect, items_hidden-the_row-Effect-0}
 use Rattle.pddl_tree.specs.declared.tree.Effect as effect
-use Rattle.pddl_tree.specs.Tree.{formula_of, formulas_of, formulas_in, effect_of, effects_of, effects_in}
-use Rattle.pddl_tree.proofs.ReadOn.{joined}
+use Rattle.pddl_tree.specs.Tree.{formula_of, formulas_of, effect_of, effects_of}
+use Rattle.model.specs.Trees.{formulas, effects}
 use Rattle.model.specs.Trees as tree
 
-formulas_row : (n : _) (row : Row_of-Formula n) → formulas_of row ≡ formulas_in (items-the_row-Formula n row)
+formulas_row : (n : _) (row : Row_of-Formula n) → formulas_of row ≡ formulas (map formula_of (items-the_row-Formula n row))
 formulas_row n end_of-Formula = refl
 formulas_row n (more_of-Formula part rest) = ap (tree.more_formulas (formula_of part)) (formulas_row _ rest)
 
@@ -18,16 +18,12 @@ abbrev formula_row : Formula → (n : Count) × Row_of-Formula n
 formula_row (formula.And' _ row) = (_, row)
 formula_row _ = (_, end_of-Formula)
 
-pub formula_of-And : (parts : Vec Formula) → formula_of (formula.And parts) ≡ tree.and (formulas_in parts.items)
+pub formula_of-And : (parts : Vec Formula) → formula_of (formula.And parts) ≡ tree.and (formulas (map formula_of parts.items))
 formula_of-And parts =
     let row = formula_row (formula.And parts) in
-    ap tree.and (formulas_row row.0 row.1 ∙ ap formulas_in (items_hidden-the_row-Formula-0 parts))
+    ap tree.and (formulas_row row.0 row.1 ∙ ap (λ fs. formulas (map formula_of fs)) (items_hidden-the_row-Formula-0 parts))
 
-pub joined-formulas : (parts : List Formula) → joined tree.more_formulas (map formula_of parts) tree.no_formula ≡ formulas_in parts
-joined-formulas [] = refl
-joined-formulas (part ∷ rest) = ap (tree.more_formulas (formula_of part)) (joined-formulas rest)
-
-effects_row : (n : _) (row : Row_of-Effect n) → effects_of row ≡ effects_in (items-the_row-Effect n row)
+effects_row : (n : _) (row : Row_of-Effect n) → effects_of row ≡ effects (map effect_of (items-the_row-Effect n row))
 effects_row n end_of-Effect = refl
 effects_row n (more_of-Effect part rest) = ap (tree.more_effects (effect_of part)) (effects_row _ rest)
 
@@ -35,11 +31,7 @@ abbrev effect_row : Effect → (n : Count) × Row_of-Effect n
 effect_row (effect.And' _ row) = (_, row)
 effect_row _ = (_, end_of-Effect)
 
-pub effect_of-And : (parts : Vec Effect) → effect_of (effect.And parts) ≡ tree.both (effects_in parts.items)
+pub effect_of-And : (parts : Vec Effect) → effect_of (effect.And parts) ≡ tree.both (effects (map effect_of parts.items))
 effect_of-And parts =
     let row = effect_row (effect.And parts) in
-    ap tree.both (effects_row row.0 row.1 ∙ ap effects_in (items_hidden-the_row-Effect-0 parts))
-
-pub joined-effects : (parts : List Effect) → joined tree.more_effects (map effect_of parts) tree.no_effect ≡ effects_in parts
-joined-effects [] = refl
-joined-effects (part ∷ rest) = ap (tree.more_effects (effect_of part)) (joined-effects rest)
+    ap tree.both (effects_row row.0 row.1 ∙ ap (λ es. effects (map effect_of es)) (items_hidden-the_row-Effect-0 parts))

@@ -6,26 +6,31 @@ use Rattle.std.proofs.lemmas.List.{length-drop, length-map}
 use Rattle.std.proofs.lemmas.Option.{slice_get_past, slice_get-map}
 use Rattle.tokens.specs.declared.word.Word.{Word}
 use Rattle.tokens.specs.Word.{word_of}
-use Rattle.pddl_words.specs.Ahead.{token, from}
+use Rattle.pddl_words.specs.Token.{from, first}
 use Rattle.pddl_words.specs.Refusal.{fault_of}
+use Rattle.pddl_tree.specs.Reading.{number_seen}
 use Rattle.model.specs.Words.{end_of}
 use Rattle.model.specs.Words as text
 use Rattle.model.specs.Trees as tree
-use Rattle.model.specs.Grammar.{IsDomain, IsProblem}
-use Rattle.model.specs.Refusals.{File, domain_file, problem_file, IsWhole, IsRefused, tokens_of, end_of_all, span_by, span_of_place}
-use Rattle.model.specs.GrammarMachine.{run, start, domain_tree, problem_tree, finished, stopped}
-use Rattle.model.proofs.GrammarMeaning.{file_meaning}
-use Rattle.model.proofs.GrammarRefusals.{refused_at, whole_run}
+use Rattle.model.specs.Grammar.{IsDomain, IsProblem, Tree, domain_tree, problem_tree, gives, close}
+use Rattle.model.specs.GrammarWords.{File, domain_file, problem_file, Token, token_of, tokens_of}
+use Rattle.model.specs.Refusals.{IsWhole, IsRefused, end_of_all, span_by, span_of_place}
+use Rattle.model.specs.GrammarMachine.{run, start, finished, stopped}
+use Rattle.model.proofs.GrammarMeaning.{run_file, file_run}
+use Rattle.model.proofs.GrammarRefusals.{refused_at}
+
+abbrev token : Word → Token
+token w = token_of (word_of w)
 
 pub same_tokens : (words : List Word) → map token words ≡ tokens_of (map word_of words)
 same_tokens [] = refl
 same_tokens (w ∷ words) = ap (λ ts. token w ∷ ts) (same_tokens words)
 
 pub domain_read : (words : List Word) (d : tree.Domain) → run (from words 0) (start domain_file) ≡ finished (domain_tree d) → IsDomain (tokens_of (map word_of words)) d
-domain_read words d e = file_meaning (tokens_of (map word_of words)) domain_file (domain_tree d) (ap (λ w. run w (start domain_file)) (sym (same_tokens words)) ∙ e)
+domain_read words d e = run_file domain_file (tokens_of (map word_of words)) (domain_tree d) (ap (λ w. run w (start domain_file)) (sym (same_tokens words)) ∙ e)
 
 pub problem_read : (words : List Word) (p : tree.Problem) → run (from words 0) (start problem_file) ≡ finished (problem_tree p) → IsProblem (tokens_of (map word_of words)) p
-problem_read words p e = file_meaning (tokens_of (map word_of words)) problem_file (problem_tree p) (ap (λ w. run w (start problem_file)) (sym (same_tokens words)) ∙ e)
+problem_read words p e = run_file problem_file (tokens_of (map word_of words)) (problem_tree p) (ap (λ w. run w (start problem_file)) (sym (same_tokens words)) ∙ e)
 
 abbrev Stops : File → List Word → Option (ℕ × ℕ) → Type 0
 Stops file words told = IfSome told (λ p. run (from words 0) (start file) ≡ stopped p.0 (from words p.1))
@@ -38,8 +43,7 @@ refused_by file words (Some p) h =
 pub taken_by : (file : File) (words : List Word) (told : Option (ℕ × ℕ)) → Stops file words told → IsWhole file (tokens_of (map word_of words)) → fault_of (map word_of words) told ≡ None
 taken_by file words None h whole = refl
 taken_by file words (Some p) h whole =
-    let runs = whole_run file (tokens_of (map word_of words)) whole in
-    let same : finished runs.0 ≡ stopped p.0 (from words p.1) = sym runs.1 ∙ ap (λ w. run w (start file)) (sym (same_tokens words)) ∙ h in
+    let same : finished whole.0 ≡ stopped p.0 (from words p.1) = sym (file_run whole.1) ∙ ap (λ w. run w (start file)) (sym (same_tokens words)) ∙ h in
     absurd (cc)
 
 -- the end of the last word
@@ -64,3 +68,11 @@ pub not_past : (words : List Word) (at : ℕ) → at < length words → from wor
 not_past words at h e =
     let n : length (from words at) ≡ 0 = ap length e in
     absurd (omega (arith, simp (length-drop, length-map) at n))
+
+-- a word after a file's last one
+pub trailing : (words : List Word) (at : ℕ) (tree : Tree) → at < length words → run (from words at) (gives tree) ≡ stopped (number_seen close (first (from words at))) (from words at)
+trailing words at tree h = by_words (from words at) (not_past words at h)
+  where
+    by_words : (w : List Token) → w ≢ [] → run w (gives tree) ≡ stopped (number_seen close (first w)) w
+    by_words [] apart = absurd (apart refl)
+    by_words (t ∷ w) apart = refl

@@ -1,7 +1,9 @@
 -- The head of a file: `( define ( domain NAME )`, or `problem` in place of `domain`.
-use Rattle.std.specs.Prelude.{ℕ, ◌<◌, ◌≤◌, ◌⊎◌, List, length, take}
-use Rattle.model.specs.GrammarWords.{Token}
-use Rattle.model.specs.Refusals.{File, Begins}
+use Rattle.std.specs.Prelude.{ℕ, ◌<◌, ◌≤◌, ◌⊎◌, List, [], length, take, fold}
+use Rattle.model.specs.GrammarWords.{File, Token}
+use Rattle.model.specs.Trees.{Name}
+use Rattle.model.specs.Grammar.{Tree, Phrase, gives, ◌>>=◌, sections, tree_from, with_section, no_contents}
+use Rattle.model.specs.Refusals.{Begins}
 
 -- the words of a head
 abbrev pub head_length : ℕ
@@ -14,3 +16,7 @@ HasHead file w = (head_length ≤ length w) × Begins file (take head_length w)
 -- the words end within the head, or no file of this kind begins with so many of them
 abbrev pub HasNoHead : File → List Token → Type 0
 HasNoHead file w = (length w < head_length) ⊎ (Begins file (take head_length w) → ⊥)
+
+-- what has to follow the head
+abbrev pub after_head : File → Name → Phrase Tree
+after_head f n = sections f [] >>= λ ss. gives (tree_from f n (fold with_section no_contents ss))

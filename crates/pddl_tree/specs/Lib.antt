@@ -1,4 +1,5 @@
 pub mod Tree
 pub mod Reading
+pub mod Place
 pub mod Sections
 pub mod Head

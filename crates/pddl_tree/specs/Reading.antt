@@ -1,24 +1,79 @@
--- What a part of the grammar makes of the words from a place on, in terms of the machine: the tree that was read and the
--- words left after it, or where the words stop.
-use Rattle.std.specs.Prelude.{◌≡◌, ℕ, List, IfSome}
+-- What a part of the grammar makes of the words from an index on, in terms of the machine: the tree that was read and
+-- the index after it, or where the words stop.
+use Rattle.std.specs.Prelude.{◌≡◌, ℕ, ◌+◌, ◌<◌, ◌≤◌, Bool, true, false, List, Option, Some, None, IfSome, length}
 use Rattle.tokens.specs.declared.word.Word.{Word}
-use Rattle.pddl_words.specs.Ahead.{from}
+use Rattle.pddl_words.specs.Token.{from, first}
 use Rattle.pddl_words.specs.Refusal.{WordFault, told}
-use Rattle.model.specs.GrammarWords.{Token}
-use Rattle.model.specs.GrammarMachine.{State, run, stopped}
+use Rattle.pddl_words.specs.declared.refusal.WordRefusal.{WordRefusal}
+use Rattle.faults.specs.declared.refused.Refused.TheVariants.{At}
+use Rattle.pddl_tree.specs.declared.refusal.Place.{Place}
+use Rattle.pddl_tree.specs.Place.{wanted}
+use Rattle.model.specs.Trees.{Name}
+use Rattle.model.specs.GrammarWords.{Token, opens, closes, FreeName, free}
+use Rattle.model.specs.Grammar.{Tree, Sort, many, key, close, Value, Phrase, gives, ◌>>=◌, ◌>>◌, and_then, after}
+use Rattle.model.specs.GrammarMachine.{run, stopped, number_at}
 
--- the words begin with this tree, and these are left
-pub record IsRead {T : Type 0} (wants : (T → State) → State) (w : List Token) (tree : T) (r : List Token) : Type 0 where
-  pub runs : (k : T → State) → run w (wants k) ≡ run r (k tree)
+-- one thing that is wanted
+abbrev pub the : (s : Sort) → Phrase (Value s)
+the s = s >>= gives
 
--- the words lead from what is wanted to what is wanted after them
-pub record Leads {T : Type 0} (wants : (T → State) → State) (w : List Token) (then : (T → State) → State) (r : List Token) : Type 0 where
-  pub leads : (k : T → State) → run w (wants k) ≡ run r (then k)
+-- the words from one index on begin with this, of this tree, up to the other
+pub record IsRead {A : Type 0} (p : Phrase A) (words : List Word) (at : ℕ) (tree : A) (next : ℕ) : Type 0 where
+  pub runs : (k : A → Phrase Tree) → run (from words at) (and_then p k) ≡ run (from words next) (k tree)
+
+-- the index after something that was read: it is of one word or more
+abbrev pub IsAfter : List Word → ℕ → ℕ → Type 0
+IsAfter words at next = (at < next) × (next ≤ length words)
+
+-- one word was read, of this tree
+pub record IsWord (s : Sort) (words : List Word) (at : ℕ) (tree : Value s) (next : ℕ) : Type 0 where
+  pub token : Token
+  pub stands : first (from words at) ≡ Some token
+  pub taken : after s token ≡ Some (gives tree)
+  pub one : next ≡ at + 1
 
 -- the words from an index on stop as this refusal tells
-abbrev pub StopsAs : List Word → ℕ → State → WordFault → Type 0
-StopsAs words at state refusal =
-    IfSome (told refusal) (λ place. run (from words at) state ≡ stopped place.0 (from words place.1))
+abbrev pub StopsAs : List Word → ℕ → Phrase Tree → WordFault → Type 0
+StopsAs words at p refusal =
+    IfSome (told refusal) (λ place. run (from words at) p ≡ stopped place.0 (from words place.1))
 
-pub record IsTold {T : Type 0} (wants : (T → State) → State) (words : List Word) (at : ℕ) (refusal : WordFault) : Type 0 where
-  pub stops : (k : T → State) → StopsAs words at (wants k) refusal
+pub record IsTold {A : Type 0} (p : Phrase A) (words : List Word) (at : ℕ) (refusal : WordFault) : Type 0 where
+  pub stops : (k : A → Phrase Tree) → StopsAs words at (and_then p k) refusal
+
+-- the number of a word, or of none, where this is wanted
+abbrev pub number_seen : Sort → Option Token → ℕ
+number_seen s None = 7
+number_seen s (Some t) = number_at s t
+
+-- a look at the word that stands there
+abbrev pub closes_first : Option Token → Bool
+closes_first (Some closes) = true
+closes_first _ = false
+
+abbrev pub opens_first : Option Token → Bool
+opens_first (Some opens) = true
+opens_first _ = false
+
+-- `(` was read, or was not there
+abbrev pub Opens : List Word → ℕ → ℕ → Type 0
+Opens words at next = (first (from words at) ≡ Some opens) × (next ≡ at + 1)
+
+abbrev pub IsNotOpen : List Word → ℕ → Place → WordRefusal → Type 0
+IsNotOpen words at place refusal =
+    (opens_first (first (from words at)) ≡ false) × (told (At refusal) ≡ Some (number_seen (wanted place) (first (from words at)), at))
+
+-- a predicate's name was read, or was not there
+abbrev pub Heads : List Word → ℕ → Name → ℕ → Type 0
+Heads words at n next = (f : FreeName) × (first (from words at) ≡ Some (free f n)) × (next ≡ at + 1)
+
+abbrev pub free_first : Option Token → Bool
+free_first (Some (free f n)) = true
+free_first _ = false
+
+abbrev pub IsNoPredicate : List Word → ℕ → WordRefusal → Type 0
+IsNoPredicate words at refusal =
+    (free_first (first (from words at)) ≡ false) × (told (At refusal) ≡ Some (number_seen close (first (from words at)), at))
+
+-- keys up to `)`: they switch nothing on or off, and nothing is kept of them
+abbrev pub keys_dropped : Phrase (Value close)
+keys_dropped = many key >> gives tt

@@ -1,121 +1,69 @@
--- The parts of an action and the sections of a file that were read so far, in the model's terms, and what the words from
--- a place on make of them.
-use Rattle.std.specs.Prelude.{◌≡◌, ℕ, List, ◌∷◌, map, Option, None}
-use Rattle.std.specs.Option.{option_map}
-use Rattle.tokens.specs.declared.word.Word.{Word}
+-- The parts of an action and the sections of a file, in the model's terms, and what the grammar makes of some of them.
+use Rattle.std.specs.Prelude.{map, fold, [], ◌≡◌, ℕ, List, true, false, Option, Some}
 use Rattle.pddl_tree.specs.declared.action.Part.{Part}
 use Rattle.pddl_tree.specs.declared.action.Part.TheVariants as part
-use Rattle.pddl_tree.specs.declared.action.Parts.{Parts}
-use Rattle.pddl_tree.specs.declared.domain_file.Section as domain_file
-use Rattle.pddl_tree.specs.declared.domain_file.Section.TheVariants as of_domain
-use Rattle.pddl_tree.specs.declared.domain_file.DomainSections.{DomainSections}
-use Rattle.pddl_tree.specs.declared.problem_file.Section as problem_file
-use Rattle.pddl_tree.specs.declared.problem_file.Section.TheVariants as of_problem
-use Rattle.pddl_tree.specs.declared.problem_file.ProblemSections.{ProblemSections}
-use Rattle.pddl_tree.specs.declared.problem_file.SectionRead.{SectionRead}
-use Rattle.pddl_tree.specs.declared.problem_file.SectionRead.TheVariants as of_reading
-use Rattle.pddl_tree.specs.Tree.{name_of, formula_of, effect_of, predicate_of, action_of, fact_of}
-use Rattle.pddl_words.specs.Ahead.{from}
-use Rattle.pddl_words.specs.Refusal.{WordFault, code_first}
-use Rattle.pddl_tree.specs.Reading.{StopsAs}
-use Rattle.model.specs.Trees.{Name}
-use Rattle.model.specs.GrammarWords.{Token, closes, keyword, Label, free, domain, problem}
+use Rattle.pddl_words.specs.Name.{name_of}
+use Rattle.pddl_tree.specs.Tree.{formula_of, effect_of, predicate_of, action_of, fact_of}
+use Rattle.pddl_tree.specs.declared.sections.Section.{Section}
+use Rattle.pddl_tree.specs.declared.sections.Section.TheVariants as section
+use Rattle.pddl_tree.specs.declared.sections.Contents.{Contents}
+use Rattle.tokens.specs.declared.word.Word.{Word}
+use Rattle.faults.specs.declared.refused.Refused.TheVariants.{At}
+use Rattle.pddl_words.specs.declared.refusal.WordRefusal.{WordRefusal}
+use Rattle.pddl_words.specs.Token.{from, first}
+use Rattle.pddl_words.specs.Refusal.{told}
+use Rattle.pddl_tree.specs.Reading.{number_seen}
+use Rattle.model.specs.Trees.{Name, Action, Formula}
+use Rattle.model.specs.GrammarWords.{File, SectionKeyword, keyword, of_section}
+use Rattle.model.specs.Grammar.{Phrase, gives, ◌>>=◌, ◌>>◌, a_name, close, listed, formula, action_name, parts, with_part, action_from, sections, with_section, no_contents, has_section, sections_of}
 use Rattle.model.specs.Grammar as grammar
-use Rattle.model.specs.Refusals.{File, domain_file, problem_file}
-use Rattle.model.specs.GrammarMachine.{State, run, wants_keys, wants_domain_sections, wants_problem_sections, after_domain_keyword, after_problem_keyword, part_of, domain_section_of, problem_section_of, code_of_close, code_at_value}
-use Rattle.model.specs.GrammarMachine as machine
+use Rattle.model.specs.GrammarWords as grammar_words
 
--- parts of an action
+abbrev pub part_tree : Part → grammar.Part
+part_tree (part.Parameters v) = grammar.parameters (map name_of v.items)
+part_tree (part.Precondition f) = grammar.precondition (formula_of f)
+part_tree (part.Effect e) = grammar.effect (effect_of e)
 
-abbrev pub part_view : Part → machine.Part
-part_view part.Parameters = machine.parameter_part
-part_view part.Precondition = machine.precondition_part
-part_view part.Effect = machine.effect_part
+-- the parts of an action of which some were read
+abbrev pub parts_on : Action → Phrase Action
+parts_on a = parts [] >>= λ ps. gives (fold with_part a ps)
 
-abbrev pub parts_of : Parts → grammar.Parts
-parts_of p = grammar.parts (option_map (λ v. map name_of v.items) p.parameters) (option_map formula_of p.precondition) (option_map effect_of p.effect)
+-- an action, from its name on
+abbrev pub the_action : Phrase Action
+the_action = action_name >>= λ n. parts [] >>= λ ps. gives (action_from n ps)
 
-abbrev pub part_first : List Token → Option machine.Part
-part_first (keyword k ∷ w) = part_of k
-part_first _ = None
+abbrev pub section_tree : Section → grammar.Section
+section_tree section.Requirements = grammar.requirements
+section_tree (section.Predicates v) = grammar.predicates (map predicate_of v.items)
+section_tree (section.Action a) = grammar.action (action_of a)
+section_tree (section.Domain n) = grammar.domain (name_of n)
+section_tree (section.Objects v) = grammar.objects (map name_of v.items)
+section_tree (section.Init v) = grammar.init (map fact_of v.items)
+section_tree (section.Goal f) = grammar.goal (formula_of f)
 
--- the number of the next word where the value of a part is wanted
-abbrev pub value_code : grammar.Parts → machine.Part → List Token → ℕ
-value_code p part (closes ∷ w) = code_of_close p part
-value_code p part (keyword k ∷ w) = code_at_value p part (part_of k)
-value_code p part w = code_first w
+abbrev pub contents_of : Contents → grammar.Contents
+contents_of c = record {
+  predicates = map predicate_of c.predicates.items;
+  actions = map action_of c.actions.items;
+  domain = name_of c.domain;
+  objects = map name_of c.objects.items;
+  init = map fact_of c.init.items;
+  goal = formula_of c.goal;
+}
 
--- sections of a domain
+-- the sections of a file, and what stands in them
+abbrev pub the_sections : File → Phrase grammar.Contents
+the_sections f = sections f [] >>= λ ss. gives (fold with_section no_contents ss)
 
-abbrev pub domain_section_view : domain_file.Section → machine.DomainSection
-domain_section_view of_domain.Requirements = machine.requirement_section
-domain_section_view of_domain.Predicates = machine.predicate_section
-domain_section_view of_domain.Action = machine.action_section
+-- what follows `:domain` and `:goal`
+abbrev pub the_domain : Phrase Name
+the_domain = a_name >>= λ n. close >> gives n
 
-abbrev pub domain_sections_of : DomainSections → grammar.DomainSections
-domain_sections_of s = grammar.domain_sections s.requirements (option_map (λ v. map predicate_of v.items) s.predicates) (map action_of s.actions.items)
+abbrev pub the_goal : Phrase Formula
+the_goal = listed formula >>= λ f. close >> gives f
 
-abbrev pub domain_section_first : List Token → Option machine.DomainSection
-domain_section_first (keyword k ∷ w) = domain_section_of k
-domain_section_first _ = None
-
--- sections of a problem
-
-abbrev pub problem_section_view : problem_file.Section → machine.ProblemSection
-problem_section_view of_problem.Domain = machine.domain_section
-problem_section_view of_problem.Requirements = machine.key_section
-problem_section_view of_problem.Objects = machine.object_section
-problem_section_view of_problem.Init = machine.init_section
-problem_section_view of_problem.Goal = machine.goal_section
-
-abbrev pub problem_sections_of : ProblemSections → grammar.ProblemSections
-problem_sections_of s = grammar.problem_sections (option_map name_of s.domain) s.requirements (option_map (λ v. map name_of v.items) s.objects) (option_map (λ v. map fact_of v.items) s.init) (option_map formula_of s.goal)
-
-abbrev pub problem_section_first : List Token → Option machine.ProblemSection
-problem_section_first (keyword k ∷ w) = problem_section_of k
-problem_section_first _ = None
-
--- the sections with what was read of one more
-abbrev pub with_section : SectionRead → grammar.ProblemSections → grammar.ProblemSections
-with_section (of_reading.Domain n) s = machine.set_domain s (name_of n)
-with_section of_reading.Requirements s = machine.set_problem_requirements s
-with_section (of_reading.Objects v) s = machine.set_objects s (map name_of v.items)
-with_section (of_reading.Init v) s = machine.set_init s (map fact_of v.items)
-with_section (of_reading.Goal f) s = machine.set_goal s (formula_of f)
-
--- the name that says which file it is
-abbrev pub kind_of : File → Label
-kind_of domain_file = free domain
-kind_of problem_file = free problem
-
--- the words from a place on lead to another place: past keys, a section, sections
-
-abbrev pub KeysEnd : List Word → ℕ → ℕ → Type 0
-KeysEnd words at next = (s : State) → run (from words at) (wants_keys s) ≡ run (from words next) s
-
-abbrev pub KeysStop : List Word → ℕ → WordFault → Type 0
-KeysStop words at refusal = (s : State) → StopsAs words at (wants_keys s) refusal
-
-abbrev pub DomainGoesOn : List Word → ℕ → grammar.DomainSections → ℕ → grammar.DomainSections → Type 0
-DomainGoesOn words at s next t = (n : Name) → run (from words at) (wants_domain_sections n s) ≡ run (from words next) (wants_domain_sections n t)
-
-abbrev pub DomainStops : List Word → ℕ → grammar.DomainSections → WordFault → Type 0
-DomainStops words at s refusal = (n : Name) → StopsAs words at (wants_domain_sections n s) refusal
-
-abbrev pub DomainSectionEnds : List Word → ℕ → machine.DomainSection → grammar.DomainSections → ℕ → grammar.DomainSections → Type 0
-DomainSectionEnds words at section s next t = (n : Name) → run (from words at) (after_domain_keyword n section s) ≡ run (from words next) (wants_domain_sections n t)
-
-abbrev pub DomainSectionStops : List Word → ℕ → machine.DomainSection → grammar.DomainSections → WordFault → Type 0
-DomainSectionStops words at section s refusal = (n : Name) → StopsAs words at (after_domain_keyword n section s) refusal
-
-abbrev pub ProblemGoesOn : List Word → ℕ → grammar.ProblemSections → ℕ → grammar.ProblemSections → Type 0
-ProblemGoesOn words at s next t = (n : Name) → run (from words at) (wants_problem_sections n s) ≡ run (from words next) (wants_problem_sections n t)
-
-abbrev pub ProblemStops : List Word → ℕ → grammar.ProblemSections → WordFault → Type 0
-ProblemStops words at s refusal = (n : Name) → StopsAs words at (wants_problem_sections n s) refusal
-
-abbrev pub ProblemSectionEnds : List Word → ℕ → machine.ProblemSection → ℕ → (grammar.ProblemSections → grammar.ProblemSections) → Type 0
-ProblemSectionEnds words at section next with = (n : Name) (s : grammar.ProblemSections) → run (from words at) (after_problem_keyword n section s) ≡ run (from words next) (wants_problem_sections n (with s))
-
-abbrev pub ProblemSectionStops : List Word → ℕ → machine.ProblemSection → WordFault → Type 0
-ProblemSectionStops words at section refusal = (n : Name) (s : grammar.ProblemSections) → StopsAs words at (after_problem_keyword n section s) refusal
+-- the word at an index is no keyword of a section of the file that is new, and is told as such
+abbrev pub IsNotNew : List Word → ℕ → File → List SectionKeyword → WordRefusal → Type 0
+IsNotNew words at f seen refusal =
+    ((k : SectionKeyword) → first (from words at) ≡ Some (keyword (of_section k)) → has_section (sections_of f) k ≡ true → has_section seen k ≡ true)
+    × (told (At refusal) ≡ Some (number_seen (grammar.section f grammar_words.requirements []) (first (from words at)), at))

@@ -1,5 +1,5 @@
 -- The code's trees, in the model's terms.
-use Rattle.std.specs.Prelude.{List, [], ◌∷◌, map}
+use Rattle.std.specs.Prelude.{map}
 use Rattle.pddl_tree.specs.declared.tree.Atom.{Atom}
 use Rattle.pddl_tree.specs.declared.tree.Predicate.{Predicate}
 use Rattle.pddl_tree.specs.declared.tree.Action.{Action}
@@ -64,12 +64,3 @@ problem_of p = record {
   init = map fact_of p.init.items;
   goal = formula_of p.goal;
 }
-
--- lists of parts, in order
-abbrev pub formulas_in : List Formula → tree.Formulas
-formulas_in [] = tree.no_formula
-formulas_in (first ∷ rest) = tree.more_formulas (formula_of first) (formulas_in rest)
-
-abbrev pub effects_in : List Effect → tree.Effects
-effects_in [] = tree.no_effect
-effects_in (first ∷ rest) = tree.more_effects (effect_of first) (effects_in rest)

@@ -1,13 +1,15 @@
 //! Effects, from the word after their parenthesis on.
-ghost use Rattle.std.specs.Prelude.{◌<◌, IfOk, IfErr};
-ghost use Rattle.model.specs.GrammarMachine.{wants_effect, wants_effects, wants_open, wants_atom, wants_close};
-ghost use Rattle.pddl_words.specs.Ahead.{from};
-ghost use Rattle.pddl_tree.specs.Reading.{IsRead, IsTold};
-ghost use Rattle.pddl_tree.specs.Tree.{effect_of, effects_in, atom_of};
+ghost use Rattle.std.specs.Prelude.{IfOk, IfErr, map};
+ghost use Rattle.model.specs.Grammar.{many, listed, effect_list, atom as wants_atom};
+ghost use Rattle.pddl_tree.specs.Reading.{the, IsAfter, IsRead, IsTold};
+ghost use Rattle.pddl_tree.specs.Tree.{effect_of, atom_of};
 
 use crate::lists::terms;
+use crate::look::{close, is_close, open, predicate};
+use crate::refusal::{Place, refusal};
 use crate::tree::{Atom, Effect};
-use pddl_words::{Head, WordFault, head_at, is_close, is_open, refused};
+use faults::Refused;
+use pddl_words::{ReservedName, Token, WordFault, token_at};
 use std::alloc::Global;
 use tokens::Word;
 
@@ -18,24 +20,25 @@ pub(crate) fn effect<'a>(
     words: &[Word<'a>],
     at: usize,
 ) -> Result<(Effect<'a>, usize), WordFault>
-    ensures after { IfOk result (λ r. at < r.1) }
-    ensures read { IfOk result (λ r. IsRead wants_effect (from words.now at) (effect_of r.0) (from words.now r.1)) }
-    ensures told { IfErr result (λ refusal. IsTold wants_effect words.now at refusal) }
+    ensures after { IfOk result (λ r. IsAfter words.now at r.1) }
+    ensures read { IfOk result (λ r. IsRead (the effect_list) words.now at (effect_of r.0) r.1) }
+    ensures told { IfErr result (λ refusal. IsTold (the effect_list) words.now at refusal) }
 {
-    match head_at(words, at) {
-        Head::And => {
-            let (parts, next) = effects(alloc, words, at + 1)?;
-            Ok((Effect::And(parts), next))
-        }
-        Head::Not => {
-            let (atom, next) = deleted(alloc, words, at + 1)?;
-            Ok((Effect::Delete(atom), next))
-        }
-        Head::Predicate(predicate) => {
+    match token_at(words, at) {
+        Token::Free(_, predicate) => {
             let (terms, next) = terms(alloc, words, at + 1)?;
             Ok((Effect::Add(Atom { predicate, terms }), next))
         }
-        Head::Other => Err(refused(words, at)),
+        Token::Reserved(ReservedName::Not, _) => {
+            let (atom, next) = atom(alloc, words, at + 1)?;
+            let next = close(words, next)?;
+            Ok((Effect::Delete(atom), next))
+        }
+        Token::Reserved(ReservedName::And, _) => {
+            let (parts, next) = effects(alloc, words, at + 1)?;
+            Ok((Effect::And(parts), next))
+        }
+        _ => Err(Refused::At(refusal(words, at, Place::Elsewhere))),
     }
 }
 
@@ -46,40 +49,29 @@ fn effects<'a>(
     words: &[Word<'a>],
     at: usize,
 ) -> Result<(Vec<Effect<'a>>, usize), WordFault>
-    ensures after { IfOk result (λ r. at < r.1) }
-    ensures read { IfOk result (λ r. IsRead wants_effects (from words.now at) (effects_in r.0.items) (from words.now r.1)) }
-    ensures told { IfErr result (λ refusal. IsTold wants_effects words.now at refusal) }
+    ensures after { IfOk result (λ r. IsAfter words.now at r.1) }
+    ensures read { IfOk result (λ r. IsRead (the (many (listed effect_list))) words.now at (map effect_of r.0.items) r.1) }
+    ensures told { IfErr result (λ refusal. IsTold (the (many (listed effect_list))) words.now at refusal) }
 {
     let mut parts = Vec::new(alloc);
     let mut next = at;
-    'parts: while is_open(words, next) {
-        let (part, after) = effect(alloc, words, next + 1)?;
+    'parts: while !is_close(words, next) {
+        let inside = open(words, next, Place::Elsewhere)?;
+        let (part, after) = effect(alloc, words, inside)?;
         parts.push(part)?;
         next = after;
     }
-    if is_close(words, next) {
-        Ok((parts, next + 1))
-    } else {
-        Err(refused(words, next))
-    }
+    Ok((parts, next + 1))
 }
 
-/// The atom of a `(not ..)`, and the `)` of the `not`.
-fn deleted<'a>(alloc: Global, words: &[Word<'a>], at: usize) -> Result<(Atom<'a>, usize), WordFault>
-    ensures after { IfOk result (λ r. at < r.1) }
-    ensures read { IfOk result (λ r. IsRead (λ k. wants_open (wants_atom (λ a. wants_close (k a)))) (from words.now at) (atom_of r.0) (from words.now r.1)) }
-    ensures told { IfErr result (λ refusal. IsTold (λ k. wants_open (wants_atom (λ a. wants_close (k a)))) words.now at refusal) }
+/// An atom in its parentheses, and the index after them.
+fn atom<'a>(alloc: Global, words: &[Word<'a>], at: usize) -> Result<(Atom<'a>, usize), WordFault>
+    ensures after { IfOk result (λ r. IsAfter words.now at r.1) }
+    ensures read { IfOk result (λ r. IsRead (the (listed wants_atom)) words.now at (atom_of r.0) r.1) }
+    ensures told { IfErr result (λ refusal. IsTold (the (listed wants_atom)) words.now at refusal) }
 {
-    if !is_open(words, at) {
-        return Err(refused(words, at));
-    }
-    let Head::Predicate(predicate) = head_at(words, at + 1) else {
-        return Err(refused(words, at + 1));
-    };
-    let (terms, next) = terms(alloc, words, at + 2)?;
-    if is_close(words, next) {
-        Ok((Atom { predicate, terms }, next + 1))
-    } else {
-        Err(refused(words, next))
-    }
+    let inside = open(words, at, Place::Elsewhere)?;
+    let (predicate, next) = predicate(words, inside)?;
+    let (terms, next) = terms(alloc, words, next)?;
+    Ok((Atom { predicate, terms }, next))
 }

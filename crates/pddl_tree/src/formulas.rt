@@ -1,13 +1,15 @@
 //! Formulas, from the word after their parenthesis on.
-ghost use Rattle.std.specs.Prelude.{◌<◌, IfOk, IfErr};
-ghost use Rattle.model.specs.GrammarMachine.{wants_formula, wants_formulas};
-ghost use Rattle.pddl_words.specs.Ahead.{from};
-ghost use Rattle.pddl_tree.specs.Reading.{IsRead, IsTold};
-ghost use Rattle.pddl_tree.specs.Tree.{formula_of, formulas_in};
+ghost use Rattle.std.specs.Prelude.{IfOk, IfErr, map};
+ghost use Rattle.model.specs.Grammar.{many, listed, formula as wants_formula};
+ghost use Rattle.pddl_tree.specs.Reading.{the, IsAfter, IsRead, IsTold};
+ghost use Rattle.pddl_tree.specs.Tree.{formula_of};
 
 use crate::lists::terms;
+use crate::look::{is_close, open};
+use crate::refusal::{Place, refusal};
 use crate::tree::{Atom, Formula};
-use pddl_words::{Head, WordFault, head_at, is_close, is_open, refused};
+use faults::Refused;
+use pddl_words::{ReservedName, Token, WordFault, token_at};
 use std::alloc::Global;
 use tokens::Word;
 
@@ -18,20 +20,20 @@ pub(crate) fn formula<'a>(
     words: &[Word<'a>],
     at: usize,
 ) -> Result<(Formula<'a>, usize), WordFault>
-    ensures after { IfOk result (λ r. at < r.1) }
-    ensures read { IfOk result (λ r. IsRead wants_formula (from words.now at) (formula_of r.0) (from words.now r.1)) }
-    ensures told { IfErr result (λ refusal. IsTold wants_formula words.now at refusal) }
+    ensures after { IfOk result (λ r. IsAfter words.now at r.1) }
+    ensures read { IfOk result (λ r. IsRead (the wants_formula) words.now at (formula_of r.0) r.1) }
+    ensures told { IfErr result (λ refusal. IsTold (the wants_formula) words.now at refusal) }
 {
-    match head_at(words, at) {
-        Head::And => {
-            let (parts, next) = conjuncts(alloc, words, at + 1)?;
-            Ok((Formula::And(parts), next))
-        }
-        Head::Predicate(predicate) => {
+    match token_at(words, at) {
+        Token::Free(_, predicate) => {
             let (terms, next) = terms(alloc, words, at + 1)?;
             Ok((Formula::Atom(Atom { predicate, terms }), next))
         }
-        _ => Err(refused(words, at)),
+        Token::Reserved(ReservedName::And, _) => {
+            let (parts, next) = conjuncts(alloc, words, at + 1)?;
+            Ok((Formula::And(parts), next))
+        }
+        _ => Err(Refused::At(refusal(words, at, Place::Elsewhere))),
     }
 }
 
@@ -42,20 +44,17 @@ fn conjuncts<'a>(
     words: &[Word<'a>],
     at: usize,
 ) -> Result<(Vec<Formula<'a>>, usize), WordFault>
-    ensures after { IfOk result (λ r. at < r.1) }
-    ensures read { IfOk result (λ r. IsRead wants_formulas (from words.now at) (formulas_in r.0.items) (from words.now r.1)) }
-    ensures told { IfErr result (λ refusal. IsTold wants_formulas words.now at refusal) }
+    ensures after { IfOk result (λ r. IsAfter words.now at r.1) }
+    ensures read { IfOk result (λ r. IsRead (the (many (listed wants_formula))) words.now at (map formula_of r.0.items) r.1) }
+    ensures told { IfErr result (λ refusal. IsTold (the (many (listed wants_formula))) words.now at refusal) }
 {
     let mut parts = Vec::new(alloc);
     let mut next = at;
-    'parts: while is_open(words, next) {
-        let (part, after) = formula(alloc, words, next + 1)?;
+    'parts: while !is_close(words, next) {
+        let inside = open(words, next, Place::Elsewhere)?;
+        let (part, after) = formula(alloc, words, inside)?;
         parts.push(part)?;
         next = after;
     }
-    if is_close(words, next) {
-        Ok((parts, next + 1))
-    } else {
-        Err(refused(words, next))
-    }
+    Ok((parts, next + 1))
 }

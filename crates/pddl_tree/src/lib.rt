@@ -2,13 +2,14 @@
 #![tactic(auto)]
 
 mod action;
-mod domain_file;
+mod declared;
 mod effects;
 mod formulas;
 mod lists;
-mod problem_file;
+mod look;
 mod reader;
 mod refusal;
+mod sections;
 mod tree;
 
 pub use pddl_words::{Name, Term};

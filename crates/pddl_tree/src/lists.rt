@@ -1,11 +1,12 @@
-//! Lists of names, of variables and of terms, up to the parenthesis that closes them.
-ghost use Rattle.std.specs.Prelude.{◌<◌, IfOk, IfErr, map};
-ghost use Rattle.model.specs.GrammarMachine.{wants_names, wants_variables, wants_terms};
-ghost use Rattle.pddl_words.specs.Ahead.{from};
-ghost use Rattle.pddl_tree.specs.Reading.{IsRead, IsTold};
-ghost use Rattle.pddl_tree.specs.Tree.{name_of, term_of};
+//! Lists of names, of variables, of terms and of keys, up to the parenthesis that closes them.
+ghost use Rattle.std.specs.Prelude.{IfOk, IfErr, map};
+ghost use Rattle.model.specs.Grammar.{many, a_name, a_variable, term as wants_term};
+ghost use Rattle.pddl_words.specs.Name.{name_of, term_of};
+ghost use Rattle.pddl_tree.specs.Reading.{the, IsAfter, IsRead, IsTold, keys_dropped};
+ghost use Rattle.faults.specs.declared.refused.Refused.TheVariants.{At};
 
-use pddl_words::{Name, Term, WordFault, is_close, name_at, refused, term_at, variable_at};
+use crate::look::{is_close, key, name, term, variable};
+use pddl_words::{Name, Term, WordFault, WordRefusal};
 use std::alloc::Global;
 use tokens::Word;
 
@@ -15,21 +16,18 @@ pub(crate) fn names<'a>(
     words: &[Word<'a>],
     at: usize,
 ) -> Result<(Vec<Name<'a>>, usize), WordFault>
-    ensures after { IfOk result (λ r. at < r.1) }
-    ensures read { IfOk result (λ r. IsRead wants_names (from words.now at) (map name_of r.0.items) (from words.now r.1)) }
-    ensures told { IfErr result (λ refusal. IsTold wants_names words.now at refusal) }
+    ensures after { IfOk result (λ r. IsAfter words.now at r.1) }
+    ensures read { IfOk result (λ r. IsRead (the (many a_name)) words.now at (map name_of r.0.items) r.1) }
+    ensures told { IfErr result (λ refusal. IsTold (the (many a_name)) words.now at refusal) }
 {
     let mut names = Vec::new(alloc);
     let mut next = at;
-    'names: while let Some(name) = name_at(words, next) {
+    'names: while !is_close(words, next) {
+        let (name, after) = name(words, next)?;
         names.push(name)?;
-        next += 1;
+        next = after;
     }
-    if is_close(words, next) {
-        Ok((names, next + 1))
-    } else {
-        Err(refused(words, next))
-    }
+    Ok((names, next + 1))
 }
 
 /// Variables, and `)`: the variables, and the index after the parenthesis.
@@ -38,21 +36,18 @@ pub(crate) fn variables<'a>(
     words: &[Word<'a>],
     at: usize,
 ) -> Result<(Vec<Name<'a>>, usize), WordFault>
-    ensures after { IfOk result (λ r. at < r.1) }
-    ensures read { IfOk result (λ r. IsRead wants_variables (from words.now at) (map name_of r.0.items) (from words.now r.1)) }
-    ensures told { IfErr result (λ refusal. IsTold wants_variables words.now at refusal) }
+    ensures after { IfOk result (λ r. IsAfter words.now at r.1) }
+    ensures read { IfOk result (λ r. IsRead (the (many a_variable)) words.now at (map name_of r.0.items) r.1) }
+    ensures told { IfErr result (λ refusal. IsTold (the (many a_variable)) words.now at refusal) }
 {
     let mut variables = Vec::new(alloc);
     let mut next = at;
-    'variables: while let Some(variable) = variable_at(words, next) {
+    'variables: while !is_close(words, next) {
+        let (variable, after) = variable(words, next)?;
         variables.push(variable)?;
-        next += 1;
+        next = after;
     }
-    if is_close(words, next) {
-        Ok((variables, next + 1))
-    } else {
-        Err(refused(words, next))
-    }
+    Ok((variables, next + 1))
 }
 
 /// Terms, and `)`: the terms, and the index after the parenthesis.
@@ -61,19 +56,29 @@ pub(crate) fn terms<'a>(
     words: &[Word<'a>],
     at: usize,
 ) -> Result<(Vec<Term<'a>>, usize), WordFault>
-    ensures after { IfOk result (λ r. at < r.1) }
-    ensures read { IfOk result (λ r. IsRead wants_terms (from words.now at) (map term_of r.0.items) (from words.now r.1)) }
-    ensures told { IfErr result (λ refusal. IsTold wants_terms words.now at refusal) }
+    ensures after { IfOk result (λ r. IsAfter words.now at r.1) }
+    ensures read { IfOk result (λ r. IsRead (the (many wants_term)) words.now at (map term_of r.0.items) r.1) }
+    ensures told { IfErr result (λ refusal. IsTold (the (many wants_term)) words.now at refusal) }
 {
     let mut terms = Vec::new(alloc);
     let mut next = at;
-    'terms: while let Some(term) = term_at(words, next) {
+    'terms: while !is_close(words, next) {
+        let (term, after) = term(words, next)?;
         terms.push(term)?;
-        next += 1;
+        next = after;
     }
-    if is_close(words, next) {
-        Ok((terms, next + 1))
-    } else {
-        Err(refused(words, next))
+    Ok((terms, next + 1))
+}
+
+/// Keys of requirements, and `)`: the index after it. The keys switch nothing on or off.
+pub(crate) fn keys(words: &[Word], at: usize) -> Result<usize, WordRefusal>
+    ensures after { IfOk result (λ next. IsAfter words.now at next) }
+    ensures read { IfOk result (λ next. IsRead keys_dropped words.now at tt next) }
+    ensures told { IfErr result (λ refusal. IsTold keys_dropped words.now at (At refusal)) }
+{
+    let mut next = at;
+    'keys: while !is_close(words, next) {
+        next = key(words, next)?;
     }
+    Ok(next + 1)
 }

@@ -7,33 +7,30 @@
 //! from the textbook's in three things. A state is a function from the tree that comes next to the state after it, so
 //! that a run ends in the file's tree and not in a yes. Which sections and parts stand already belongs to the state, since
 //! each stands at most once and their order is free. And where it stops, it says by a number why.
-ghost use Rattle.std.specs.Prelude.{◌≡◌, List, map, IfOk, IfErr, IsErrAnd, IfSome, IsSome, None, Some, [], unwrap_or};
-ghost use Rattle.std.specs.Option.{option_map};
+ghost use Rattle.std.specs.Prelude.{◌≡◌, List, map, IfOk, IfErr, IsErrAnd, IfSome, IsSome, None, [], ⊤};
 ghost use Rattle.faults.specs.Fault.{told_by};
 ghost use Rattle.faults.specs.declared.refused.Refused.TheVariants.{At};
 ghost use Rattle.tokens.specs.Word.{word_of};
 ghost use Rattle.model.specs.Fault as model;
 ghost use Rattle.model.specs.Words as text;
-ghost use Rattle.model.specs.Grammar.{EachIsOneDomain, EachIsOneProblem, IsDomain, IsProblem};
-ghost use Rattle.model.specs.Refusals.{File, domain_file, problem_file, tokens_of, IsWhole, IsRefused};
-ghost use Rattle.model.specs.GrammarMachine.{run, start, finished, Tree, wants_nothing, domain_tree, problem_tree, at_sections};
-ghost use Rattle.pddl_words.specs.Ahead.{from};
-ghost use Rattle.model.specs.Refusals.{span_of_place};
+ghost use Rattle.model.specs.GrammarWords.{File, domain_file, problem_file, tokens_of};
+ghost use Rattle.model.specs.Grammar.{EachIsOneDomain, EachIsOneProblem, IsDomain, IsProblem, Tree, domain_tree, problem_tree, gives};
+ghost use Rattle.model.specs.Refusals.{IsWhole, IsRefused, span_of_place};
+ghost use Rattle.model.specs.GrammarMachine.{run, start, finished};
+ghost use Rattle.pddl_words.specs.Name.{name_of};
+ghost use Rattle.pddl_words.specs.Token.{from};
+ghost use Rattle.pddl_words.specs.Refusal.{told, fault_of};
+ghost use Rattle.pddl_tree.specs.Place.{file_view};
 ghost use Rattle.pddl_tree.specs.Reading.{StopsAs};
-ghost use Rattle.pddl_tree.specs.Head.{HasHead, HasNoHead};
-ghost use Rattle.pddl_words.specs.Refusal.{told, fault_of, missing_code};
-ghost use Rattle.pddl_words.specs.Symbol.{label_view};
-ghost use Rattle.pddl_tree.specs.Sections.{kind_of};
-ghost use Rattle.pddl_tree.specs.Tree.{name_of, domain_of, problem_of};
+ghost use Rattle.pddl_tree.specs.Head.{HasHead, HasNoHead, after_head};
+ghost use Rattle.pddl_tree.specs.Tree.{domain_of, problem_of};
 
-use crate::domain_file::{DomainSections, domain_sections};
-use crate::problem_file::{ProblemSections, problem_sections};
-use crate::refusal::refusal_at;
+use crate::look::{close, define, kind, name, open};
+use crate::refusal::{FileKind, Place, refusal};
+use crate::sections::{Contents, sections};
 use crate::tree::{Domain, Problem};
-use faults::{Code, Fault, Refusal, Refused, Span};
-use pddl_words::{
-    Label, Name, WordFault, WordRefusal, is_close, is_label, is_open, name_at, refused,
-};
+use faults::{Fault, Refusal, Refused, Span};
+use pddl_words::{Name, WordFault, WordRefusal};
 use std::alloc::Global;
 use tokens::Word;
 
@@ -74,7 +71,7 @@ pub fn domain<'a>(alloc: Global, words: &[Word<'a>]) -> Result<Domain<'a>, Fault
     // Words that stop within the head are refused for that, and never for want of memory.
     ensures head { HasNoHead domain_file (tokens_of (map word_of words.now)) → IsErrAnd result (λ fault. IsSome (told_by fault)) }
 {
-    let name = match head(words, Label::Domain) {
+    let name = match head(words, FileKind::Domain) {
         Ok(name) => name,
         Err(refusal) => return Err(fault(words, Refused::At(refusal))),
     };
@@ -108,7 +105,7 @@ pub fn problem<'a>(alloc: Global, words: &[Word<'a>]) -> Result<Problem<'a>, Fau
     // Words that stop within the head are refused for that, and never for want of memory.
     ensures head { HasNoHead problem_file (tokens_of (map word_of words.now)) → IsErrAnd result (λ fault. IsSome (told_by fault)) }
 {
-    let name = match head(words, Label::Problem) {
+    let name = match head(words, FileKind::Problem) {
         Ok(name) => name,
         Err(refusal) => return Err(fault(words, Refused::At(refusal))),
     };
@@ -166,25 +163,19 @@ fn read_domain<'a>(
     words: &[Word<'a>],
     name: Name<'a>,
 ) -> Result<Domain<'a>, WordFault>
-    ensures read { IfOk result (λ tree. run (from words.now 6) (at_sections domain_file (name_of name.entry)) ≡ finished (domain_tree (domain_of tree))) }
-    ensures told { IfErr result (λ refusal. StopsAs words.now 6 (at_sections domain_file (name_of name.entry)) refusal) }
+    ensures read { IfOk result (λ tree. run (from words.now 6) (after_head domain_file (name_of name.entry)) ≡ finished (domain_tree (domain_of tree))) }
+    ensures told { IfErr result (λ refusal. StopsAs words.now 6 (after_head domain_file (name_of name.entry)) refusal) }
 {
-    let (sections, next) = domain_sections(alloc, words, 6)?;
-    if !is_close(words, next) {
-        return Err(refused(words, next));
-    }
-    let DomainSections {
-        requirements: _,
+    let (contents, next) = sections(alloc, words, 6, FileKind::Domain)?;
+    let Contents {
         predicates,
         actions,
-    } = sections;
-    let Some(predicates) = predicates else {
-        return Err(Refused::At(WordRefusal {
-            code: Code::MissingSection,
-            at: next,
-        }));
-    };
-    match end(words, next + 1) {
+        domain: _,
+        objects: _,
+        init: _,
+        goal: _,
+    } = contents;
+    match end(words, next) {
         Ok(()) => Ok(Domain {
             name,
             predicates,
@@ -200,38 +191,23 @@ fn read_problem<'a>(
     words: &[Word<'a>],
     name: Name<'a>,
 ) -> Result<Problem<'a>, WordFault>
-    ensures read { IfOk result (λ tree. run (from words.now 6) (at_sections problem_file (name_of name.entry)) ≡ finished (problem_tree (problem_of tree))) }
-    ensures told { IfErr result (λ refusal. StopsAs words.now 6 (at_sections problem_file (name_of name.entry)) refusal) }
+    ensures read { IfOk result (λ tree. run (from words.now 6) (after_head problem_file (name_of name.entry)) ≡ finished (problem_tree (problem_of tree))) }
+    ensures told { IfErr result (λ refusal. StopsAs words.now 6 (after_head problem_file (name_of name.entry)) refusal) }
 {
-    let (sections, next) = problem_sections(alloc, words, 6)?;
-    if !is_close(words, next) {
-        return Err(refused(words, next));
-    }
-    let ProblemSections {
+    let (contents, next) = sections(alloc, words, 6, FileKind::Problem)?;
+    let Contents {
+        predicates: _,
+        actions: _,
         domain,
-        requirements: _,
         objects,
         init,
         goal,
-    } = sections;
-    let missing = Refused::At(WordRefusal {
-        code: Code::MissingSection,
-        at: next,
-    });
-    let Some(domain) = domain else {
-        return Err(missing);
-    };
-    let Some(init) = init else {
-        return Err(missing);
-    };
-    let Some(goal) = goal else {
-        return Err(missing);
-    };
-    match end(words, next + 1) {
+    } = contents;
+    match end(words, next) {
         Ok(()) => Ok(Problem {
             name,
             domain,
-            objects: objects_from(alloc, objects),
+            objects,
             init,
             goal,
         }),
@@ -239,65 +215,28 @@ fn read_problem<'a>(
     }
 }
 
-/// The objects of a problem; none where `:objects` does not stand there.
-fn objects_from<'a>(alloc: Global, found: Option<Vec<Name<'a>>>) -> Vec<Name<'a>>
-    ensures { map name_of result.items ≡ unwrap_or (option_map (λ v. map name_of v.items) found.entry) [] }
-{
-    match found {
-        Some(objects) => objects,
-        None => Vec::new(alloc),
-    }
-}
-
 /// `( define ( domain NAME )`, or `problem` in place of `domain`: the name.
-fn head<'a>(words: &[Word<'a>], kind: Label) -> Result<Name<'a>, WordRefusal>
-    ensures head { (file : File) → label_view kind ≡ kind_of file → IfOk result (λ _. HasHead file (from words.now 0)) }
-    ensures read { (file : File) → label_view kind ≡ kind_of file → IfOk result (λ name.
-        run (from words.now 0) (start file) ≡ run (from words.now 6) (at_sections file (name_of name))) }
-    ensures told { (file : File) → label_view kind ≡ kind_of file → IfErr result (λ refusal. StopsAs words.now 0 (start file) (At refusal)) }
+fn head<'a>(words: &[Word<'a>], file: FileKind) -> Result<Name<'a>, WordRefusal>
+    ensures head { IfOk result (λ _. HasHead (file_view file) (from words.now 0)) }
+    ensures read { IfOk result (λ name. run (from words.now 0) (start (file_view file)) ≡ run (from words.now 6) (after_head (file_view file) (name_of name))) }
+    ensures told { IfErr result (λ refusal. StopsAs words.now 0 (start (file_view file)) (At refusal)) }
 {
-    if !is_open(words, 0) {
-        return Err(refusal_at(words, 0));
-    }
-    if !is_label(words, 1, Label::Define) {
-        return Err(refused_in_file(words, 1));
-    }
-    if !is_open(words, 2) {
-        return Err(refused_in_file(words, 2));
-    }
-    if !is_label(words, 3, kind) {
-        return Err(refusal_at(words, 3));
-    }
-    let Some(name) = name_at(words, 4) else {
-        return Err(refusal_at(words, 4));
-    };
-    if is_close(words, 5) {
-        Ok(name)
-    } else {
-        Err(refusal_at(words, 5))
-    }
-}
-
-/// The refusal of a word in the file's list before its sections: `)`, since they are missing, or any other.
-fn refused_in_file(words: &[Word], at: usize) -> WordRefusal
-    ensures { told (At result) ≡ Some (missing_code (from words.now at), at) }
-{
-    if is_close(words, at) {
-        return WordRefusal {
-            code: Code::MissingSection,
-            at,
-        };
-    }
-    refusal_at(words, at)
+    open(words, 0, Place::Elsewhere)?;
+    define(words, 1)?;
+    open(words, 2, Place::Incomplete)?;
+    kind(words, 3, file)?;
+    let (name, _) = name(words, 4)?;
+    close(words, 5)?;
+    Ok(name)
 }
 
 /// No word stands at this index.
 fn end(words: &[Word], at: usize) -> Result<(), WordRefusal>
     ensures none { IfOk result (λ _. from words.now at ≡ []) }
-    ensures told { IfErr result (λ refusal. (tree : Tree) → StopsAs words.now at (wants_nothing tree) (At refusal)) }
+    ensures told { IfErr result (λ refusal. (tree : Tree) → StopsAs words.now at (gives tree) (At refusal)) }
 {
     if at < words.len() {
-        Err(refusal_at(words, at))
+        Err(refusal(words, at, Place::Elsewhere))
     } else {
         Ok(())
     }

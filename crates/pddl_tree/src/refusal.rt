@@ -1,20 +1,199 @@
-//! Refusals where no memory is asked for.
-ghost use Rattle.std.specs.Prelude.{◌≡◌, Some};
+//! What is told of a word that may not stand where it does: the table of refusals, by what is wanted at the place.
+ghost use Rattle.std.specs.Prelude.{◌≡◌, Some, map};
 ghost use Rattle.faults.specs.declared.refused.Refused.TheVariants.{At};
-ghost use Rattle.pddl_words.specs.Ahead.{from};
-ghost use Rattle.pddl_words.specs.Refusal.{told, code_first};
+ghost use Rattle.faults.specs.Fault.{number_of};
+ghost use Rattle.pddl_words.specs.Token.{from, first, seen, keyword_view, part_view, section_view};
+ghost use Rattle.pddl_words.specs.Refusal.{told};
+ghost use Rattle.model.specs.Grammar as grammar;
+ghost use Rattle.model.specs.GrammarWords as model_words;
+ghost use Rattle.model.specs.GrammarMachine.{number_at, number_of_keyword, number_in_file, number_in_action, number_at_value};
+ghost use Rattle.pddl_tree.specs.Reading.{number_seen};
+ghost use Rattle.pddl_tree.specs.Place.{file_view, wanted};
 
 use faults::Code;
-use pddl_words::{Label, WordRefusal, label_at};
+use pddl_words::{
+    Keyword, PartKeyword, ReservedName, SectionKeyword, Token, WordRefusal, token_at,
+};
 use tokens::Word;
 
-/// The refusal of a word for which no rule on its place speaks: a name of a form that is left out, or any other.
-pub(crate) fn refusal_at(words: &[Word], at: usize) -> WordRefusal
-    ensures { told (At result) ≡ Some (code_first (from words.now at), at) }
+/// Which of the two files it is.
+#[derive(Clone, Copy)]
+pub(crate) enum FileKind {
+    Domain,
+    Problem,
+}
+
+impl FileKind {
+    /// The sections that may stand in it.
+    pub(crate) fn sections(self) -> &'static [SectionKeyword]
+        ensures { map section_view result.now ≡ grammar.sections_of (file_view self) }
+    {
+        match self {
+            FileKind::Domain => &[
+                SectionKeyword::Requirements,
+                SectionKeyword::Predicates,
+                SectionKeyword::Action,
+            ],
+            FileKind::Problem => &[
+                SectionKeyword::Domain,
+                SectionKeyword::Requirements,
+                SectionKeyword::Objects,
+                SectionKeyword::Init,
+                SectionKeyword::Goal,
+            ],
+        }
+    }
+
+    /// The sections that have to.
+    pub(crate) fn required(self) -> &'static [SectionKeyword]
+        ensures { map section_view result.now ≡ grammar.required_of (file_view self) }
+    {
+        match self {
+            FileKind::Domain => &[SectionKeyword::Predicates],
+            FileKind::Problem => &[
+                SectionKeyword::Domain,
+                SectionKeyword::Init,
+                SectionKeyword::Goal,
+            ],
+        }
+    }
+}
+
+/// A place in a file, as far as it decides what is told of a word that may not stand there.
+#[derive(Clone, Copy)]
+pub(crate) enum Place<'s> {
+    /// In a list that lacks what is required, where its `)` is no other list's.
+    Incomplete,
+    /// Where the keyword of a part of an action may stand, or its `)`.
+    Parts,
+    /// Where the value of a part is wanted; these parts are seen.
+    Value(&'s [PartKeyword]),
+    /// After the `(` of a section.
+    Section(FileKind),
+    /// In `:requirements`.
+    Keys,
+    /// Anywhere else.
+    Elsewhere,
+}
+
+/// Whether a part is among those that are seen.
+pub(crate) fn has_part(seen: &[PartKeyword], part: PartKeyword) -> bool
+    ensures { result ≡ grammar.has_part (map part_view seen.now) (part_view part) }
 {
-    let code = match label_at(words, at) {
-        Some(Label::LeftOut) => Code::LeftOut,
+    seen.contains(&part)
+}
+
+/// Whether a section is among these.
+pub(crate) fn has_section(sections: &[SectionKeyword], section: SectionKeyword) -> bool
+    ensures { result ≡ grammar.has_section (map section_view sections.now) (section_view section) }
+{
+    sections.contains(&section)
+}
+
+/// The refusal of the word at an index.
+pub(crate) fn refusal(words: &[Word], at: usize, place: Place) -> WordRefusal
+    ensures { told (At result) ≡ Some (number_seen (wanted place.entry) (first (from words.now at)), at) }
+{
+    WordRefusal {
+        code: code_of(token_at(words, at), place),
+        at,
+    }
+}
+
+/// What is told of a word, or of none.
+fn code_of(token: Token, place: Place) -> Code
+    ensures { number_of result ≡ number_seen (wanted place.entry) (seen token.entry) }
+{
+    match token {
+        Token::Close => code_of_close(place),
+        Token::Keyword(keyword) => code_of_keyword(keyword, place),
+        Token::Reserved(ReservedName::LeftOut, _) => Code::LeftOut,
         _ => Code::BadForm,
-    };
-    WordRefusal { code, at }
+    }
+}
+
+/// What is told of `)`.
+fn code_of_close(place: Place) -> Code
+    ensures { number_of result ≡ number_at (wanted place.entry) model_words.closes }
+{
+    match place {
+        Place::Incomplete | Place::Parts => Code::MissingSection,
+        Place::Value(seen) => {
+            if has_part(seen, PartKeyword::Parameters) {
+                Code::BadForm
+            } else {
+                Code::MissingSection
+            }
+        }
+        Place::Section(_) | Place::Keys | Place::Elsewhere => Code::BadForm,
+    }
+}
+
+/// What is told of a keyword.
+fn code_of_keyword(keyword: Keyword, place: Place) -> Code
+    ensures { number_of result ≡ number_at (wanted place.entry) (model_words.keyword (keyword_view keyword)) }
+{
+    match place {
+        Place::Parts => code_in_action(keyword),
+        Place::Value(seen) => code_at_value(keyword, seen),
+        Place::Section(file) => code_in_file(keyword, file),
+        Place::Keys => Code::UnknownRequirement,
+        Place::Incomplete | Place::Elsewhere => Code::BadForm,
+    }
+}
+
+/// What is told of a keyword where a section's is wanted: one that stands already, or that is none of the file's.
+fn code_in_file(keyword: Keyword, file: FileKind) -> Code
+    ensures { number_of result ≡ number_in_file (file_view file) (keyword_view keyword) }
+{
+    match keyword {
+        Keyword::Section(section) => {
+            if has_section(file.sections(), section) {
+                Code::RepeatedSection
+            } else {
+                Code::UnknownSection
+            }
+        }
+        Keyword::Part(_) | Keyword::Requirement | Keyword::LeftOut | Keyword::Unknown => {
+            code_of_unknown(keyword)
+        }
+    }
+}
+
+/// What is told of a keyword where a part's is wanted: one that stands already, or that is none.
+fn code_in_action(keyword: Keyword) -> Code
+    ensures { number_of result ≡ number_in_action (keyword_view keyword) }
+{
+    match keyword {
+        Keyword::Part(_) => Code::RepeatedSection,
+        Keyword::Section(_) | Keyword::Requirement | Keyword::LeftOut | Keyword::Unknown => {
+            code_of_unknown(keyword)
+        }
+    }
+}
+
+/// What is told of a keyword where the value of a part is wanted: one of those that are seen, or any other word.
+fn code_at_value(keyword: Keyword, seen: &[PartKeyword]) -> Code
+    ensures { number_of result ≡ number_at_value (map part_view seen.now) (keyword_view keyword) }
+{
+    match keyword {
+        Keyword::Part(part) => {
+            if has_part(seen, part) {
+                Code::RepeatedSection
+            } else {
+                Code::BadForm
+            }
+        }
+        _ => Code::BadForm,
+    }
+}
+
+/// What is told of a keyword that is none of the language's, where that of a section or part is wanted.
+fn code_of_unknown(keyword: Keyword) -> Code
+    ensures { number_of result ≡ number_of_keyword (keyword_view keyword) }
+{
+    match keyword {
+        Keyword::LeftOut => Code::LeftOut,
+        _ => Code::UnknownSection,
+    }
 }

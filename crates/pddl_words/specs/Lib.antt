@@ -1,4 +1,3 @@
 pub mod Name
-pub mod Symbol
-pub mod Ahead
+pub mod Token
 pub mod Refusal

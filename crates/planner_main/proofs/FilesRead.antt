@@ -6,14 +6,16 @@ use Rattle.model.specs.Fault.{Fault}
 use Rattle.model.specs.Words.{Word, ReadsAs, IsTold}
 use Rattle.model.specs.Trees.{Domain, Problem}
 use Rattle.model.specs.Grammar.{IsDomain, IsProblem}
-use Rattle.model.specs.Refusals.{IsWhole, tokens_of, domain_file, problem_file, IsRefused}
-use Rattle.model.specs.Refusals as refusals
+use Rattle.model.specs.GrammarWords.{tokens_of, domain_file, problem_file}
+use Rattle.model.specs.Refusals.{IsWhole, IsRefused}
+use Rattle.model.specs.GrammarWords as grammar
+use Rattle.model.specs.Grammar as tree
 use Rattle.model.specs.Task.{Task, Instance}
 use Rattle.model.specs.Typing.{TypingFault, faults_of, task_of_trees}
 use Rattle.model.specs.PlanText.{IsPlanText, IsPlanFault}
 use Rattle.model.specs.Files.{the_domain, the_problem, the_plan, FileFault, IsDomainText, IsProblemText, IsTextFault, of_words, of_tree, IsTaskOf, IsTaskFault, in_the_domain, in_the_problem, in_the_pair, IsFileFault, in_the_task, in_the_plan, AreRead}
 use Rattle.model.proofs.ListLemmas.{Contains-none}
-use Rattle.model.proofs.GrammarStops.{one_domain, one_problem}
+use Rattle.model.proofs.GrammarMeaning.{one_domain, one_problem}
 use Rattle.model.proofs.GrammarOneRefusal.{whole_not_refused}
 use Rattle.faults.specs.Fault as code
 use Rattle.faults.specs.Fault.{told_by}
@@ -35,19 +37,19 @@ told_none_in P None h never = refl
 told_none_in P (Some fault) h never = absurd (never fault h)
 
 -- What is told of one text.
-pub words_refused : (kind : refusals.File) (text : List ℕ) (o : Option Fault) → IfSome o (IsTold text) → IfSome o (IsTextFault kind text)
+pub words_refused : (kind : grammar.File) (text : List ℕ) (o : Option Fault) → IfSome o (IsTold text) → IfSome o (IsTextFault kind text)
 words_refused kind text None h = tt
 words_refused kind text (Some fault) h = of_words h
 
-pub tree_refused : (kind : refusals.File) (text : List ℕ) (words : List Word) → ReadsAs text words → (o : Option Fault) → IfSome o (IsRefused kind words) → IfSome o (IsTextFault kind text)
+pub tree_refused : (kind : grammar.File) (text : List ℕ) (words : List Word) → ReadsAs text words → (o : Option Fault) → IfSome o (IsRefused kind words) → IfSome o (IsTextFault kind text)
 tree_refused kind text words reads None h = tt
 tree_refused kind text words reads (Some fault) h = of_tree words reads h
 
-pub tree_refused_in : {T : Type 0} (kind : refusals.File) (text : List ℕ) (words : List Word) → ReadsAs text words → (r : Result T code.Fault) → IfErr r (λ fault. IfSome (told_by fault) (IsRefused kind words)) → IfErr r (λ fault. IfSome (told_by fault) (IsTextFault kind text))
+pub tree_refused_in : {T : Type 0} (kind : grammar.File) (text : List ℕ) (words : List Word) → ReadsAs text words → (r : Result T code.Fault) → IfErr r (λ fault. IfSome (told_by fault) (IsRefused kind words)) → IfErr r (λ fault. IfSome (told_by fault) (IsTextFault kind text))
 tree_refused_in kind text words reads (Ok tree) h = tt
 tree_refused_in kind text words reads (Err fault) h = tree_refused kind text words reads (told_by fault) h
 
-text_not_refused : (kind : refusals.File) (text : List ℕ) (words : List Word) (fault : Fault) → ReadsAs text words → IsWhole kind (tokens_of words) → IsTextFault kind text fault → ⊥
+text_not_refused : (kind : grammar.File) (text : List ℕ) (words : List Word) (fault : Fault) → ReadsAs text words → IsWhole kind (tokens_of words) → IsTextFault kind text fault → ⊥
 text_not_refused kind text words fault reads whole (of_words told) = read_is_told_nothing text words fault reads told
 text_not_refused kind text words fault reads whole (of_tree others other refused) =
     whole_not_refused kind others fault (subst (λ ws. IsWhole kind (tokens_of ws)) (one_reading_lem text words others reads other) whole) refused
@@ -74,9 +76,9 @@ module _ (domain problem : List ℕ) where
 
   pub no_task_fault : (task : Task) (told : FileFault) → IsTaskOf domain problem task → IsTaskFault domain problem told → ⊥
   no_task_fault task told h (in_the_domain fault file) =
-      text_not_refused domain_file domain h.domain_reads.words told.fault h.domain_reads.reads (h.domain_tree, h.domain_reads.tree) fault
+      text_not_refused domain_file domain h.domain_reads.words told.fault h.domain_reads.reads (tree.domain_tree h.domain_tree, h.domain_reads.tree) fault
   no_task_fault task told h (in_the_problem d reads fault file) =
-      text_not_refused problem_file problem h.problem_reads.words told.fault h.problem_reads.reads (h.problem_tree, h.problem_reads.tree) fault
+      text_not_refused problem_file problem h.problem_reads.words told.fault h.problem_reads.reads (tree.problem_tree h.problem_tree, h.problem_reads.tree) fault
   no_task_fault task told h (in_the_pair d p typed d_reads p_reads least tells) =
       let same_domain = domain_of_text domain d h.domain_tree d_reads h.domain_reads in
       let same_problem = problem_of_text problem p h.problem_tree p_reads h.problem_reads in

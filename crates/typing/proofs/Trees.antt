@@ -13,6 +13,7 @@ use Rattle.pddl_tree.specs.Tree as read
 use Rattle.pddl_tree.proofs.Rows as rows
 use Rattle.typing.specs.TaskParts.{formula_of, formulas_of, effect_of, effects_of}
 use Rattle.model.specs.Task as task
+use Rattle.model.specs.Trees.{formulas, effects}
 use Rattle.model.specs.Typing.{File, Known, TypingFault, formula_in, formulas_in, effect_in, effects_in, formula_faults, formulas_faults, effect_faults, effects_faults}
 use Rattle.typing.specs.Walk.{found}
 use Rattle.typing.proofs.Found.{map_to_end, found_to_end}
@@ -36,11 +37,11 @@ formula_of-And parts =
     let row = formula_row (formula.And parts) in
     ap task.and (formulas_row row.0 row.1 ∙ ap (λ items. joined_formulas (map formula_of items)) (items_hidden-the_row-Formula-0 parts))
 
-formulas_in-joined : (known : Known) (parts : List read_formula.Formula) → formulas_in known (read.formulas_in parts) ≡ joined_formulas (map (λ x. formula_in known (read.formula_of x)) parts)
+formulas_in-joined : (known : Known) (parts : List read_formula.Formula) → formulas_in known (formulas (map read.formula_of parts)) ≡ joined_formulas (map (λ x. formula_in known (read.formula_of x)) parts)
 formulas_in-joined known [] = refl
 formulas_in-joined known (part ∷ rest) = ap (task.more_formulas (formula_in known (read.formula_of part))) (formulas_in-joined known rest)
 
-formulas_faults-joined : (file : File) (known : Known) (parts : List read_formula.Formula) → formulas_faults file known (read.formulas_in parts) ≡ flat_map (λ x. formula_faults file known (read.formula_of x)) parts
+formulas_faults-joined : (file : File) (known : Known) (parts : List read_formula.Formula) → formulas_faults file known (formulas (map read.formula_of parts)) ≡ flat_map (λ x. formula_faults file known (read.formula_of x)) parts
 formulas_faults-joined file known [] = refl
 formulas_faults-joined file known (part ∷ rest) = ap (λ faults. formula_faults file known (read.formula_of part) ++ faults) (formulas_faults-joined file known rest)
 
@@ -81,11 +82,11 @@ effect_of-And parts =
     let row = effect_row (effect.And parts) in
     ap task.both (effects_row row.0 row.1 ∙ ap (λ items. joined_effects (map effect_of items)) (items_hidden-the_row-Effect-0 parts))
 
-effects_in-joined : (known : Known) (parts : List read_effect.Effect) → effects_in known (read.effects_in parts) ≡ joined_effects (map (λ x. effect_in known (read.effect_of x)) parts)
+effects_in-joined : (known : Known) (parts : List read_effect.Effect) → effects_in known (effects (map read.effect_of parts)) ≡ joined_effects (map (λ x. effect_in known (read.effect_of x)) parts)
 effects_in-joined known [] = refl
 effects_in-joined known (part ∷ rest) = ap (task.more_effects (effect_in known (read.effect_of part))) (effects_in-joined known rest)
 
-effects_faults-joined : (file : File) (known : Known) (parts : List read_effect.Effect) → effects_faults file known (read.effects_in parts) ≡ flat_map (λ x. effect_faults file known (read.effect_of x)) parts
+effects_faults-joined : (file : File) (known : Known) (parts : List read_effect.Effect) → effects_faults file known (effects (map read.effect_of parts)) ≡ flat_map (λ x. effect_faults file known (read.effect_of x)) parts
 effects_faults-joined file known [] = refl
 effects_faults-joined file known (part ∷ rest) = ap (λ faults. effect_faults file known (read.effect_of part) ++ faults) (effects_faults-joined file known rest)
 

@@ -1,21 +1,19 @@
 use Rattle.std.proofs.Common.{◌-◌, ◌≤◌, length, map}
-use Rattle.model.specs.Trees as tree
-use Rattle.model.specs.GrammarMachine.{wants_effects}
-use Rattle.pddl_words.specs.Ahead.{from}
+use Rattle.model.specs.Grammar.{listed, effect_list}
 use Rattle.pddl_tree.specs.Tree.{effect_of}
-use Rattle.pddl_tree.proofs.ReadOn.{IsReadOn}
+use Rattle.pddl_tree.proofs.Items.{IsReadOn}
 use Rattle.pddl_tree.proofs.effects.+effect.Given as goal
-
-abbrev pub decreases-effect : goal.decreases-effect
-decreases-effect l = length l.words.now - l.at
 
 abbrev pub decreases-effects : goal.decreases-effects
 decreases-effects l = length l.words.now - l.at
 
+abbrev pub decreases-effect : goal.decreases-effect
+decreases-effect l = length l.words.now - l.at
+
 abbrev pub invariant-effects-parts : goal.invariant-effects-parts
 invariant-effects-parts l = record {
   moved : l.at ≤ l.next;
-  read : IsReadOn wants_effects tree.more_effects (from l.words l.at) (map effect_of l.parts.items) (from l.words l.next);
+  read : IsReadOn (listed effect_list) l.words l.at (map effect_of l.parts.items) l.next;
 }
 
 abbrev pub decreases-effects-parts : goal.decreases-effects-parts

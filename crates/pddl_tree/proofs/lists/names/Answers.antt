@@ -1,29 +1,25 @@
-use Rattle.std.proofs.Common.{◌+◌, ◌∷◌, [], ◌∙◌, map, arith, rules}
-use Rattle.model.specs.GrammarMachine.{wants_names}
-use Rattle.pddl_words.specs.Ahead.{from}
-use Rattle.pddl_words.specs.Refusal.{code_first}
-use Rattle.pddl_tree.specs.Tree.{name_of}
-use Rattle.pddl_tree.proofs.Looks.{stepped, names_more, names_end, names_stop}
-use Rattle.pddl_tree.proofs.ReadOn.{on_more, on_end, on_stop, joined-list}
+use Rattle.std.proofs.Common.{◌+◌, ◌∙◌, map, sym, arith}
+use Rattle.model.specs.Grammar.{many, a_name}
+use Rattle.pddl_words.specs.Name.{name_of}
+use Rattle.faults.specs.declared.refused.Refused.TheVariants.{At}
+use Rattle.faults.proofs.Results.{passed_on}
+use Rattle.pddl_tree.specs.Reading.{the, IsTold}
+use Rattle.pddl_tree.proofs.ReadOn.{read_word}
+use Rattle.pddl_tree.proofs.Items.{on_more, on_end, on_told}
 use Rattle.pddl_tree.proofs.lists.names.Goals as goal
 
 pub names-preserved : goal.names-preserved
-names-preserved c =
-    let words = c.args.words.now in let next = c.names.next in let x = c.in-Some.name in
-    record {
-      moved = omega arith;
-      read = on_more wants_names (λ x xs. x ∷ xs) name_of (from words c.args.at) (from words next) (from words (next + 1)) c.names.names.items c.push.new.self.items x c.names.invariant.read c.in_ok-push.ensures.items
-          (λ k. names_more (from words next) (name_of x) k c.in-Some.ensures.first ∙ stepped words next (wants_names (λ xs. k (name_of x ∷ xs))));
-    }
+names-preserved c = record {
+  moved = omega (arith, c.in_ok-name.ensures.after.0);
+  read = on_more a_name name_of c.args.words.now c.args.at c.names.next c.in_ok-name.after c.names.names.items c.push.new.self.items c.in_ok-name.name
+      c.names.invariant.read (sym c.is_close.ensures.first ∙ c.names-test.true) (read_word a_name c.in_ok-name.ensures.word) c.in_ok-push.ensures.items;
+}
 
-pub returns-then-is_close-clause-read : goal.returns-then-is_close-clause-read
-returns-then-is_close-clause-read c =
-    let words = c.args.words.now in let next = c.names.next in let done = map name_of c.names.names.items in
-    on_end wants_names (λ x xs. x ∷ xs) (from words c.args.at) (from words next) (from words (next + 1)) done [] done c.names.invariant.read
-    (λ k. names_end (from words next) k (search rules) ∙ stepped words next (k [])) (joined-list done)
+pub returns-clause-read : goal.returns-clause-read
+returns-clause-read c =
+    on_end a_name c.args.words.now c.args.at c.names.next (map name_of c.names.names.items) c.names.invariant.read (sym c.is_close.ensures.first ∙ c.names-test.false)
 
-pub returns-clause-told : goal.returns-clause-told
-returns-clause-told c =
-    let words = c.args.words.now in let next = c.names.next in
-    on_stop wants_names (λ x xs. x ∷ xs) words c.args.at next (map name_of c.names.names.items) c.refused.result (code_first (from words next)) c.names.invariant.read c.refused.ensures
-    (λ k. names_stop (from words next) k (search rules) (search rules))
+pub returns-in_err-name-clause-told : goal.returns-in_err-name-clause-told
+returns-in_err-name-clause-told c =
+    passed_on (IsTold (the (many a_name)) c.args.words.now c.args.at) c.from_residual.result (At c.in_err-name.field-0.0) c.from_residual.ensures.1
+    (on_told a_name c.args.words.now c.args.at c.names.next (map name_of c.names.names.items) (At c.in_err-name.field-0.0) c.names.invariant.read (sym c.is_close.ensures.first ∙ c.names-test.true) c.in_err-name.ensures.told)

@@ -1,29 +1,25 @@
-use Rattle.std.proofs.Common.{◌+◌, ◌∷◌, [], ◌∙◌, map, arith, rules}
-use Rattle.model.specs.GrammarMachine.{wants_variables}
-use Rattle.pddl_words.specs.Ahead.{from}
-use Rattle.pddl_words.specs.Refusal.{code_first}
-use Rattle.pddl_tree.specs.Tree.{name_of}
-use Rattle.pddl_tree.proofs.Looks.{stepped, variables_more, variables_end, variables_stop}
-use Rattle.pddl_tree.proofs.ReadOn.{on_more, on_end, on_stop, joined-list}
+use Rattle.std.proofs.Common.{◌+◌, ◌∙◌, map, sym, arith}
+use Rattle.model.specs.Grammar.{many, a_variable}
+use Rattle.pddl_words.specs.Name.{name_of}
+use Rattle.faults.specs.declared.refused.Refused.TheVariants.{At}
+use Rattle.faults.proofs.Results.{passed_on}
+use Rattle.pddl_tree.specs.Reading.{the, IsTold}
+use Rattle.pddl_tree.proofs.ReadOn.{read_word}
+use Rattle.pddl_tree.proofs.Items.{on_more, on_end, on_told}
 use Rattle.pddl_tree.proofs.lists.variables.Goals as goal
 
 pub variables-preserved : goal.variables-preserved
-variables-preserved c =
-    let words = c.args.words.now in let next = c.variables.next in let x = c.in-Some.variable in
-    record {
-      moved = omega arith;
-      read = on_more wants_variables (λ x xs. x ∷ xs) name_of (from words c.args.at) (from words next) (from words (next + 1)) c.variables.variables.items c.push.new.self.items x c.variables.invariant.read c.in_ok-push.ensures.items
-          (λ k. variables_more (from words next) (name_of x) k c.in-Some.ensures.first ∙ stepped words next (wants_variables (λ xs. k (name_of x ∷ xs))));
-    }
+variables-preserved c = record {
+  moved = omega (arith, c.in_ok-variable.ensures.after.0);
+  read = on_more a_variable name_of c.args.words.now c.args.at c.variables.next c.in_ok-variable.after c.variables.variables.items c.push.new.self.items c.in_ok-variable.variable
+      c.variables.invariant.read (sym c.is_close.ensures.first ∙ c.variables-test.true) (read_word a_variable c.in_ok-variable.ensures.word) c.in_ok-push.ensures.items;
+}
 
-pub returns-then-is_close-clause-read : goal.returns-then-is_close-clause-read
-returns-then-is_close-clause-read c =
-    let words = c.args.words.now in let next = c.variables.next in let done = map name_of c.variables.variables.items in
-    on_end wants_variables (λ x xs. x ∷ xs) (from words c.args.at) (from words next) (from words (next + 1)) done [] done c.variables.invariant.read
-    (λ k. variables_end (from words next) k (search rules) ∙ stepped words next (k [])) (joined-list done)
+pub returns-clause-read : goal.returns-clause-read
+returns-clause-read c =
+    on_end a_variable c.args.words.now c.args.at c.variables.next (map name_of c.variables.variables.items) c.variables.invariant.read (sym c.is_close.ensures.first ∙ c.variables-test.false)
 
-pub returns-clause-told : goal.returns-clause-told
-returns-clause-told c =
-    let words = c.args.words.now in let next = c.variables.next in
-    on_stop wants_variables (λ x xs. x ∷ xs) words c.args.at next (map name_of c.variables.variables.items) c.refused.result (code_first (from words next)) c.variables.invariant.read c.refused.ensures
-    (λ k. variables_stop (from words next) k (search rules) (search rules))
+pub returns-in_err-variable-clause-told : goal.returns-in_err-variable-clause-told
+returns-in_err-variable-clause-told c =
+    passed_on (IsTold (the (many a_variable)) c.args.words.now c.args.at) c.from_residual.result (At c.in_err-variable.field-0.0) c.from_residual.ensures.1
+    (on_told a_variable c.args.words.now c.args.at c.variables.next (map name_of c.variables.variables.items) (At c.in_err-variable.field-0.0) c.variables.invariant.read (sym c.is_close.ensures.first ∙ c.variables-test.true) c.in_err-variable.ensures.told)

@@ -1,4 +1,4 @@
-use Rattle.model.proofs.GrammarStops.{one_domain, one_problem}
+use Rattle.model.proofs.GrammarMeaning.{one_domain, one_problem}
 use Rattle.pddl_tree.proofs.reader.one_reading.Goals as goal
 
 pub returns-clause-domain : goal.returns-clause-domain

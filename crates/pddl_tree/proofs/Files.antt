@@ -1,0 +1,184 @@
+-- The sections of a file, one after another.
+use Rattle.std.proofs.Common.{◌≡◌, ℕ, ◌+◌, Bool, true, false, cond, ◌||◌, ◌&&◌, List, [], ◌∷◌, ◌++◌, map, fold, Option, Some, None, refl, sym, ◌∙◌, ap, subst, arith}
+use Rattle.std.specs.List.{list_all}
+use Rattle.std.specs.Option.{option_map, option_and_then}
+use Rattle.model.proofs.Tests.{passes_map}
+use Rattle.pddl_words.specs.declared.token.SectionKeyword as code
+use Rattle.pddl_words.specs.Token.{section_view}
+use Rattle.tokens.specs.declared.word.Word.{Word}
+use Rattle.faults.specs.declared.refused.Refused.TheVariants.{At}
+use Rattle.pddl_words.specs.declared.refusal.WordRefusal.{WordRefusal}
+use Rattle.pddl_words.specs.Token.{from, first}
+use Rattle.pddl_words.specs.Refusal.{WordFault, told}
+use Rattle.pddl_tree.specs.Reading.{the, IsRead, IsTold, Opens, number_seen, closes_first, opens_first}
+use Rattle.pddl_tree.specs.Sections.{the_sections, IsNotNew}
+use Rattle.pddl_tree.proofs.ReadOn.{taken, told_later, not_there, by_word_told, first_told}
+use Rattle.pddl_tree.proofs.Items.{in_turn}
+use Rattle.model.specs.GrammarWords.{File, Token, opens, closes, keyword, SectionKeyword, of_section, of_part, requirement_key, left_out_keyword, unknown_keyword}
+use Rattle.model.specs.GrammarWords as words
+use Rattle.model.specs.Grammar.{Tree, Section, Contents, Phrase, gives, ◌>>=◌, and_then, after, sections, section, section_of, section_after, define_word, with_section, no_contents, keyword_in, seen_with, is_section, has_section, has_all, left_of, sections_of, required_of}
+use Rattle.model.specs.GrammarMachine.{run, number_at}
+use Rattle.model.proofs.GrammarBegins.{is_left, same_section}
+
+-- the code's test of all of some sections
+pub all_seen : (tested : List code.SectionKeyword) (all seen : List SectionKeyword) (b c : Bool) → map section_view tested ≡ all → b ≡ list_all (λ k. has_section seen (section_view k)) tested → b ≡ c → has_all all seen ≡ c
+all_seen tested all seen b c are is same = ap (λ l. has_all l seen) (sym are) ∙ passes_map (has_section seen) section_view tested ∙ sym is ∙ same
+
+-- ---- what is left
+
+none_left : (all seen : List SectionKeyword) → has_all all seen ≡ true → left_of all seen ≡ []
+none_left [] seen e = refl
+none_left (k ∷ all) seen e = by_first (has_section seen k) (none_left all seen) e
+  where
+    by_first : (b : Bool) → (has_all all seen ≡ true → left_of all seen ≡ []) → b && has_all all seen ≡ true → cond b (left_of all seen) (k ∷ left_of all seen) ≡ []
+    by_first true rest e = rest e
+    by_first false rest e = absurd (cc)
+
+-- of sections that are not all seen, one is left
+data AreLeft (left : List SectionKeyword) : Type 0 where
+  some_left : (k : SectionKeyword) (others : List SectionKeyword) → left ≡ k ∷ others → AreLeft left
+
+are_left : (all seen : List SectionKeyword) → has_all all seen ≡ false → AreLeft (left_of all seen)
+are_left [] seen e = absurd (cc)
+are_left (k ∷ all) seen e = by_first (has_section seen k) (are_left all seen) e
+  where
+    by_first : (b : Bool) → (has_all all seen ≡ false → AreLeft (left_of all seen)) → b && has_all all seen ≡ false → AreLeft (cond b (left_of all seen) (k ∷ left_of all seen))
+    by_first true rest e = rest e
+    by_first false rest e = some_left k (left_of all seen) refl
+
+-- what is left is one of all, and was not seen
+left_is : (j : SectionKeyword) (all seen : List SectionKeyword) → has_section (left_of all seen) j ≡ true → (has_section all j ≡ true) × (has_section seen j ≡ false)
+left_is j [] seen e = absurd (cc)
+left_is j (k ∷ all) seen e = by_first (has_section seen k) refl (is_section j k) refl (left_is j all seen) e
+  where
+    by_first : (b : Bool) → has_section seen k ≡ b → (c : Bool) → is_section j k ≡ c → (has_section (left_of all seen) j ≡ true → (has_section all j ≡ true) × (has_section seen j ≡ false)) → has_section (cond b (left_of all seen) (k ∷ left_of all seen)) j ≡ true → (is_section j k || has_section all j ≡ true) × (has_section seen j ≡ false)
+    by_first true was c is rest e = let h = rest e in (by_or (is_section j k) (has_section all j) h.0, h.1)
+      where
+        by_or : (b c : Bool) → c ≡ true → b || c ≡ true
+        by_or true c e = refl
+        by_or false c e = e
+    by_first false was true is rest e = (ap (λ b. b || has_section all j) is, ap (has_section seen) (same_section j k is) ∙ was)
+    by_first false was false is rest e = let h = rest (sym (ap (λ b. b || has_section (left_of all seen) j) is) ∙ e) in (ap (λ b. b || has_section all j) is ∙ h.0, h.1)
+
+-- ---- one section
+
+-- the `(` and the keyword of a section that is new
+pub one_section : (f : File) (list : List Word) (at : ℕ) (seen : List SectionKeyword) (j : SectionKeyword) (k : List Section → Phrase Tree) → first (from list at) ≡ Some opens → first (from list (at + 1)) ≡ Some (keyword (of_section j))
+    → has_section (sections_of f) j ≡ true → has_section seen j ≡ false
+    → run (from list at) (sections f seen >>= k) ≡ run (from list (at + 2)) (and_then (section_after j) (λ x. sections f (seen_with seen (keyword_in x)) >>= λ xs. k (x ∷ xs)))
+one_section f list at seen j k o e here new = by_left (left_of (sections_of f) seen) refl (is_left j (sections_of f) seen here new)
+  where
+    by_left : (l : List SectionKeyword) → left_of (sections_of f) seen ≡ l → has_section l j ≡ true → run (from list at) (sections f seen >>= k) ≡ run (from list (at + 2)) (and_then (section_after j) (λ x. sections f (seen_with seen (keyword_in x)) >>= λ xs. k (x ∷ xs)))
+    by_left [] are has = absurd (cc)
+    by_left (i ∷ others) are has =
+        let rest : Section → Phrase Tree = λ x. sections f (seen_with seen (keyword_in x)) >>= λ xs. k (x ∷ xs) in
+        taken (sections f seen) list at opens o (ap (section_of f seen) are) k
+        ∙ taken (section f i others) list (at + 1) (keyword (of_section j)) e (ap (λ b. cond b (Some (section_after j)) None) has) rest
+        ∙ ap (λ n. run (from list n) (and_then (section_after j) rest)) (omega arith)
+
+-- what was read so far of the sections, and what the words left make of the rest
+pub record AreSectionsOn (f : File) (list : List Word) (at : ℕ) (seen : List SectionKeyword) (c : Contents) (next : ℕ) : Type 0 where
+  pub goes : (k : Contents → Phrase Tree) → run (from list at) (sections f [] >>= λ ss. k (fold with_section no_contents ss)) ≡ run (from list next) (sections f seen >>= λ ss. k (fold with_section c ss))
+
+pub sections_start : (f : File) (list : List Word) (at : ℕ) → AreSectionsOn f list at [] no_contents at
+sections_start f list at = record { goes = λ k. refl }
+
+pub sections_more : (f : File) (list : List Word) (at next after : ℕ) (c d : Contents) (seen seen' : List SectionKeyword) (j : SectionKeyword) (x : Section)
+    → AreSectionsOn f list at seen c next → first (from list next) ≡ Some opens → first (from list (next + 1)) ≡ Some (keyword (of_section j)) → has_section (sections_of f) j ≡ true → has_section seen j ≡ false
+    → IsRead (section_after j) list (next + 2) x after → keyword_in x ≡ j → seen' ≡ seen_with seen j → d ≡ with_section c x → AreSectionsOn f list at seen' d after
+sections_more f list at next after c d seen seen' j x h o e here new one is s w =
+    record {
+      goes = λ k. h.goes k ∙ one_section f list next seen j (λ ss. k (fold with_section c ss)) o e here new ∙ one.runs (λ y. sections f (seen_with seen (keyword_in y)) >>= λ ys. k (fold with_section c (y ∷ ys)))
+          ∙ (λ i. run (from list after) (sections f (seen_with seen (is i)) >>= λ ys. k (fold with_section (sym w i) ys))) ∙ (λ i. run (from list after) (sections f (sym s i) >>= λ ys. k (fold with_section d ys)));
+    }
+
+pub sections_end : (f : File) (list : List Word) (at next : ℕ) (seen : List SectionKeyword) (c : Contents) → AreSectionsOn f list at seen c next → closes_first (first (from list next)) ≡ true → has_all (required_of f) seen ≡ true
+    → IsRead (the_sections f) list at c (next + 1)
+sections_end f list at next seen c h e all = record { runs = λ k. h.goes k ∙ by_first k (first (from list next)) refl e }
+  where
+    by_first : (k : Contents → Phrase Tree) (o : Option Token) → first (from list next) ≡ o → closes_first o ≡ true → run (from list next) (sections f seen >>= λ ss. k (fold with_section c ss)) ≡ run (from list (next + 1)) (k c)
+    by_first k (Some closes) is e = taken (sections f seen) list next closes is (ap (λ b. cond b (Some (gives [])) None) all) (λ ss. k (fold with_section c ss))
+    by_first k o is e = absurd (cc)
+
+pub sections_told : (f : File) (list : List Word) (at next : ℕ) (seen : List SectionKeyword) (c : Contents) (refusal : WordFault) → AreSectionsOn f list at seen c next → IsTold (the (sections f seen)) list next refusal → IsTold (the_sections f) list at refusal
+sections_told f list at next seen c refusal h told =
+    record { stops = λ k. told_later list at next (sections f [] >>= λ ss. k (fold with_section no_contents ss)) (sections f seen >>= λ ss. k (fold with_section c ss)) refusal (h.goes k) (told.stops (λ ss. k (fold with_section c ss))) }
+
+pub section_told : (f : File) (list : List Word) (at next : ℕ) (seen : List SectionKeyword) (c : Contents) (j : SectionKeyword) (refusal : WordFault)
+    → AreSectionsOn f list at seen c next → first (from list next) ≡ Some opens → first (from list (next + 1)) ≡ Some (keyword (of_section j)) → has_section (sections_of f) j ≡ true → has_section seen j ≡ false
+    → IsTold (section_after j) list (next + 2) refusal → IsTold (the_sections f) list at refusal
+section_told f list at next seen c j refusal h o e here new told =
+    record {
+      stops = λ k. told_later list at (next + 2) (sections f [] >>= λ ss. k (fold with_section no_contents ss)) (and_then (section_after j) (λ y. sections f (seen_with seen (keyword_in y)) >>= λ ys. k (fold with_section c (y ∷ ys)))) refusal
+          (h.goes k ∙ one_section f list next seen j (λ ss. k (fold with_section c ss)) o e here new) (told.stops (λ y. sections f (seen_with seen (keyword_in y)) >>= λ ys. k (fold with_section c (y ∷ ys))));
+    }
+
+-- ---- words that may not stand there
+
+sections_number : (f : File) (seen : List SectionKeyword) (o : Option Token) → number_seen define_word o ≡ number_seen (sections f seen) o
+sections_number f seen None = refl
+sections_number f seen (Some closes) = refl
+sections_number f seen (Some t) = refl
+
+-- a refused word where sections may stand
+sections_refused : (f : File) (seen : List SectionKeyword) (list : List Word) (at : ℕ) (refusal : WordFault) → option_and_then (after (sections f seen)) (first (from list at)) ≡ None
+    → told refusal ≡ Some (number_seen define_word (first (from list at)), at) → IsTold (the (sections f seen)) list at refusal
+sections_refused f seen list at refusal none is = not_there (sections f seen) list at refusal none (is ∙ ap (λ n. Some (n, at)) (sections_number f seen (first (from list at))))
+
+-- any word, where all sections stand
+pub sections_full : (f : File) (seen : List SectionKeyword) (list : List Word) (at : ℕ) (refusal : WordFault) → has_all (sections_of f) seen ≡ true → closes_first (first (from list at)) ≡ false
+    → told refusal ≡ Some (number_seen define_word (first (from list at)), at) → IsTold (the (sections f seen)) list at refusal
+sections_full f seen list at refusal all e is = sections_refused f seen list at refusal (by_first (first (from list at)) e) is
+  where
+    by_first : (o : Option Token) → closes_first o ≡ false → option_and_then (after (sections f seen)) o ≡ None
+    by_first None e = refl
+    by_first (Some closes) e = absurd (cc)
+    by_first (Some opens) e = ap (section_of f seen) (none_left (sections_of f) seen all)
+    by_first (Some t) e = refl
+
+-- a word that is no `(`
+pub sections_not_open : (f : File) (seen : List SectionKeyword) (list : List Word) (at : ℕ) (refusal : WordFault) → opens_first (first (from list at)) ≡ false → closes_first (first (from list at)) ≡ false
+    → told refusal ≡ Some (number_seen define_word (first (from list at)), at) → IsTold (the (sections f seen)) list at refusal
+sections_not_open f seen list at refusal o e is = sections_refused f seen list at refusal (by_first (first (from list at)) o e) is
+  where
+    by_first : (x : Option Token) → opens_first x ≡ false → closes_first x ≡ false → option_and_then (after (sections f seen)) x ≡ None
+    by_first None o e = refl
+    by_first (Some closes) o e = absurd (cc)
+    by_first (Some opens) o e = absurd (cc)
+    by_first (Some t) o e = refl
+
+-- `)` before what is required
+pub sections_missing : (f : File) (seen : List SectionKeyword) (list : List Word) (at : ℕ) (refusal : WordFault) → has_all (required_of f) seen ≡ false → closes_first (first (from list at)) ≡ true
+    → told refusal ≡ Some (number_seen define_word (first (from list at)), at) → IsTold (the (sections f seen)) list at refusal
+sections_missing f seen list at refusal none e is = sections_refused f seen list at refusal (by_first (first (from list at)) e) is
+  where
+    by_first : (o : Option Token) → closes_first o ≡ true → option_and_then (after (sections f seen)) o ≡ None
+    by_first (Some closes) e = ap (λ b. cond b (Some (gives [])) None) none
+    by_first o e = absurd (cc)
+
+-- no keyword of a new section after `(`
+pub no_section : (f : File) (seen : List SectionKeyword) (list : List Word) (at : ℕ) (refusal : WordRefusal) → first (from list at) ≡ Some opens → has_all (sections_of f) seen ≡ false → IsNotNew list (at + 1) f seen refusal → IsTold (the (sections f seen)) list at (At refusal)
+no_section f seen list at refusal o some h = by_left (are_left (sections_of f) seen some)
+  where
+    by_left : AreLeft (left_of (sections_of f) seen) → IsTold (the (sections f seen)) list at (At refusal)
+    by_left (some_left k others are) =
+        by_word_told (sections f seen) list at opens o (ap (section_of f seen) are)
+        (first_told (section f k others) (not_there (section f k others) list (at + 1) (At refusal) (by_first (first (from list (at + 1))) refl) (h.1 ∙ ap (λ n. Some (n, at + 1)) (number (first (from list (at + 1)))))))
+      where
+        number : (x : Option Token) → number_seen (section f words.requirements []) x ≡ number_seen (section f k others) x
+        number None = refl
+        number (Some (keyword j)) = refl
+        number (Some t) = refl
+
+        not_left : (j : SectionKeyword) → first (from list (at + 1)) ≡ Some (keyword (of_section j)) → (b : Bool) → has_section (k ∷ others) j ≡ b → b ≡ false
+        not_left j is false e = refl
+        not_left j is true e = let l = left_is j (sections_of f) seen (ap (λ l. has_section l j) are ∙ e) in absurd (let s = h.0 j is l.0 in let n = l.1 in cc)
+
+        by_first : (x : Option Token) → first (from list (at + 1)) ≡ x → option_and_then (after (section f k others)) x ≡ None
+        by_first None is = refl
+        by_first (Some (keyword (of_section j))) is = ap (λ b. cond b (Some (section_after j)) None) (not_left j is (has_section (k ∷ others) j) refl)
+        by_first (Some (keyword (of_part p))) is = refl
+        by_first (Some (keyword requirement_key)) is = refl
+        by_first (Some (keyword left_out_keyword)) is = refl
+        by_first (Some (keyword unknown_keyword)) is = refl
+        by_first (Some t) is = refl

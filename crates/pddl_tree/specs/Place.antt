@@ -1,0 +1,22 @@
+-- Places of the code, and what the model wants there.
+use Rattle.std.specs.Prelude.{List, [], map, ◌≡◌}
+use Rattle.pddl_tree.specs.declared.refusal.Place.{Place}
+use Rattle.pddl_tree.specs.declared.refusal.Place.TheVariants as place
+use Rattle.pddl_tree.specs.declared.refusal.FileKind.{FileKind}
+use Rattle.pddl_tree.specs.declared.refusal.FileKind.TheVariants as kind
+use Rattle.pddl_words.specs.Token.{part_view}
+use Rattle.model.specs.GrammarWords.{File, domain_file, problem_file, requirements}
+use Rattle.model.specs.Grammar.{Sort, close, key, define_word, parts, value, section}
+
+abbrev pub file_view : FileKind → File
+file_view kind.Domain = domain_file
+file_view kind.Problem = problem_file
+
+-- something that is wanted there, whose numbers are the place's
+abbrev pub wanted : Place → Sort
+wanted place.Incomplete = define_word
+wanted place.Parts = parts []
+wanted (place.Value seen) = value (map part_view seen.now)
+wanted (place.Section f) = section (file_view f) requirements []
+wanted place.Keys = key
+wanted place.Elsewhere = close

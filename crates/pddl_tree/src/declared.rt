@@ -1,0 +1,81 @@
+//! Declarations of predicates, and the facts of `:init`.
+ghost use Rattle.std.specs.Prelude.{IfOk, IfErr, map};
+ghost use Rattle.model.specs.Grammar.{many, listed, declaration as wants_declaration, fact as wants_fact};
+ghost use Rattle.pddl_tree.specs.Reading.{the, IsAfter, IsRead, IsTold};
+ghost use Rattle.pddl_tree.specs.Tree.{predicate_of, fact_of};
+
+use crate::lists::{names, variables};
+use crate::look::{is_close, open, predicate};
+use crate::refusal::Place;
+use crate::tree::{Fact, Predicate};
+use pddl_words::WordFault;
+use std::alloc::Global;
+use tokens::Word;
+
+/// Declarations of predicates, and `)`: the predicates, and the index after the parenthesis.
+pub(crate) fn declarations<'a>(
+    alloc: Global,
+    words: &[Word<'a>],
+    at: usize,
+) -> Result<(Vec<Predicate<'a>>, usize), WordFault>
+    ensures after { IfOk result (λ r. IsAfter words.now at r.1) }
+    ensures read { IfOk result (λ r. IsRead (the (many (listed wants_declaration))) words.now at (map predicate_of r.0.items) r.1) }
+    ensures told { IfErr result (λ refusal. IsTold (the (many (listed wants_declaration))) words.now at refusal) }
+{
+    let mut declarations = Vec::new(alloc);
+    let mut next = at;
+    'declarations: while !is_close(words, next) {
+        let (declaration, after) = declaration(alloc, words, next)?;
+        declarations.push(declaration)?;
+        next = after;
+    }
+    Ok((declarations, next + 1))
+}
+
+/// The declaration of a predicate in its parentheses, and the index after them.
+fn declaration<'a>(
+    alloc: Global,
+    words: &[Word<'a>],
+    at: usize,
+) -> Result<(Predicate<'a>, usize), WordFault>
+    ensures after { IfOk result (λ r. IsAfter words.now at r.1) }
+    ensures read { IfOk result (λ r. IsRead (the (listed wants_declaration)) words.now at (predicate_of r.0) r.1) }
+    ensures told { IfErr result (λ refusal. IsTold (the (listed wants_declaration)) words.now at refusal) }
+{
+    let inside = open(words, at, Place::Elsewhere)?;
+    let (name, next) = predicate(words, inside)?;
+    let (parameters, next) = variables(alloc, words, next)?;
+    Ok((Predicate { name, parameters }, next))
+}
+
+/// Facts, and `)`: the facts, and the index after the parenthesis.
+pub(crate) fn facts<'a>(
+    alloc: Global,
+    words: &[Word<'a>],
+    at: usize,
+) -> Result<(Vec<Fact<'a>>, usize), WordFault>
+    ensures after { IfOk result (λ r. IsAfter words.now at r.1) }
+    ensures read { IfOk result (λ r. IsRead (the (many (listed wants_fact))) words.now at (map fact_of r.0.items) r.1) }
+    ensures told { IfErr result (λ refusal. IsTold (the (many (listed wants_fact))) words.now at refusal) }
+{
+    let mut facts = Vec::new(alloc);
+    let mut next = at;
+    'facts: while !is_close(words, next) {
+        let (fact, after) = fact(alloc, words, next)?;
+        facts.push(fact)?;
+        next = after;
+    }
+    Ok((facts, next + 1))
+}
+
+/// A fact in its parentheses, and the index after them.
+fn fact<'a>(alloc: Global, words: &[Word<'a>], at: usize) -> Result<(Fact<'a>, usize), WordFault>
+    ensures after { IfOk result (λ r. IsAfter words.now at r.1) }
+    ensures read { IfOk result (λ r. IsRead (the (listed wants_fact)) words.now at (fact_of r.0) r.1) }
+    ensures told { IfErr result (λ refusal. IsTold (the (listed wants_fact)) words.now at refusal) }
+{
+    let inside = open(words, at, Place::Elsewhere)?;
+    let (predicate, next) = predicate(words, inside)?;
+    let (objects, next) = names(alloc, words, next)?;
+    Ok((Fact { predicate, objects }, next))
+}

@@ -1,0 +1,153 @@
+//! Single words: what stands at an index, taken or refused.
+ghost use Rattle.std.specs.Prelude.{◌≡◌, ◌<◌, IfOk, IfErr, IsTrue, length};
+ghost use Rattle.faults.specs.declared.refused.Refused.TheVariants.{At};
+ghost use Rattle.model.specs.Grammar.{a_name, action_name as wants_action_name, a_variable, term as wants_term, close as wants_close, key as wants_key, define_word, kind_word};
+ghost use Rattle.pddl_words.specs.Name.{name_of, term_of};
+ghost use Rattle.pddl_words.specs.Token.{from, first};
+ghost use Rattle.pddl_tree.specs.Place.{file_view};
+ghost use Rattle.pddl_tree.specs.Reading.{the, IsAfter, IsWord, IsTold, Opens, IsNotOpen, Heads, IsNoPredicate, closes_first};
+
+use crate::refusal::{FileKind, Place, refusal};
+use pddl_words::{FreeName, Keyword, Name, Term, Token, WordRefusal, token_at};
+use tokens::Word;
+
+/// Whether `)` stands at an index.
+pub(crate) fn is_close(words: &[Word], at: usize) -> bool
+    ensures within { IsTrue result → at < length words.now }
+    ensures first { result ≡ closes_first (first (from words.now at)) }
+{
+    match token_at(words, at) {
+        Token::Close => true,
+        _ => false,
+    }
+}
+
+/// `)`, and the index after it.
+pub(crate) fn close(words: &[Word], at: usize) -> Result<usize, WordRefusal>
+    ensures after { IfOk result (λ next. IsAfter words.now at next) }
+    ensures word { IfOk result (λ next. IsWord wants_close words.now at tt next) }
+    ensures told { IfErr result (λ refusal. IsTold (the wants_close) words.now at (At refusal)) }
+{
+    match token_at(words, at) {
+        Token::Close => Ok(at + 1),
+        _ => Err(refusal(words, at, Place::Elsewhere)),
+    }
+}
+
+/// `(`, and the index after it.
+pub(crate) fn open(words: &[Word], at: usize, place: Place) -> Result<usize, WordRefusal>
+    ensures after { IfOk result (λ next. IsAfter words.now at next) }
+    ensures word { IfOk result (λ next. Opens words.now at next) }
+    ensures told { IfErr result (λ refusal. IsNotOpen words.now at place.entry refusal) }
+{
+    match token_at(words, at) {
+        Token::Open => Ok(at + 1),
+        _ => Err(refusal(words, at, place)),
+    }
+}
+
+/// A name, whichever it is, and the index after it.
+pub(crate) fn name<'a>(words: &[Word<'a>], at: usize) -> Result<(Name<'a>, usize), WordRefusal>
+    ensures after { IfOk result (λ r. IsAfter words.now at r.1) }
+    ensures word { IfOk result (λ r. IsWord a_name words.now at (name_of r.0) r.1) }
+    ensures told { IfErr result (λ refusal. IsTold (the a_name) words.now at (At refusal)) }
+{
+    match token_at(words, at).name() {
+        Some(name) => Ok((name, at + 1)),
+        None => Err(refusal(words, at, Place::Elsewhere)),
+    }
+}
+
+/// The name of an action, and the index after it.
+pub(crate) fn action_name<'a>(
+    words: &[Word<'a>],
+    at: usize,
+) -> Result<(Name<'a>, usize), WordRefusal>
+    ensures after { IfOk result (λ r. IsAfter words.now at r.1) }
+    ensures word { IfOk result (λ r. IsWord wants_action_name words.now at (name_of r.0) r.1) }
+    ensures told { IfErr result (λ refusal. IsTold (the wants_action_name) words.now at (At refusal)) }
+{
+    match token_at(words, at).name() {
+        Some(name) => Ok((name, at + 1)),
+        None => Err(refusal(words, at, Place::Incomplete)),
+    }
+}
+
+/// A variable, and the index after it.
+pub(crate) fn variable<'a>(words: &[Word<'a>], at: usize) -> Result<(Name<'a>, usize), WordRefusal>
+    ensures after { IfOk result (λ r. IsAfter words.now at r.1) }
+    ensures word { IfOk result (λ r. IsWord a_variable words.now at (name_of r.0) r.1) }
+    ensures told { IfErr result (λ refusal. IsTold (the a_variable) words.now at (At refusal)) }
+{
+    match token_at(words, at) {
+        Token::Variable(variable) => Ok((variable, at + 1)),
+        _ => Err(refusal(words, at, Place::Elsewhere)),
+    }
+}
+
+/// A term, and the index after it.
+pub(crate) fn term<'a>(words: &[Word<'a>], at: usize) -> Result<(Term<'a>, usize), WordRefusal>
+    ensures after { IfOk result (λ r. IsAfter words.now at r.1) }
+    ensures word { IfOk result (λ r. IsWord wants_term words.now at (term_of r.0) r.1) }
+    ensures told { IfErr result (λ refusal. IsTold (the wants_term) words.now at (At refusal)) }
+{
+    match token_at(words, at) {
+        Token::Variable(variable) => Ok((Term::Variable(variable), at + 1)),
+        token => match token.name() {
+            Some(object) => Ok((Term::Object(object), at + 1)),
+            None => Err(refusal(words, at, Place::Elsewhere)),
+        },
+    }
+}
+
+/// A key of `:requirements`, and the index after it.
+pub(crate) fn key(words: &[Word], at: usize) -> Result<usize, WordRefusal>
+    ensures after { IfOk result (λ next. IsAfter words.now at next) }
+    ensures word { IfOk result (λ next. IsWord wants_key words.now at tt next) }
+    ensures told { IfErr result (λ refusal. IsTold (the wants_key) words.now at (At refusal)) }
+{
+    match token_at(words, at) {
+        Token::Keyword(Keyword::Requirement) => Ok(at + 1),
+        _ => Err(refusal(words, at, Place::Keys)),
+    }
+}
+
+/// A name that may be a predicate's, which heads its list, and the index after it.
+pub(crate) fn predicate<'a>(words: &[Word<'a>], at: usize) -> Result<(Name<'a>, usize), WordRefusal>
+    ensures after { IfOk result (λ r. IsAfter words.now at r.1) }
+    ensures word { IfOk result (λ r. Heads words.now at (name_of r.0) r.1) }
+    ensures told { IfErr result (λ refusal. IsNoPredicate words.now at refusal) }
+{
+    match token_at(words, at) {
+        Token::Free(_, name) => Ok((name, at + 1)),
+        _ => Err(refusal(words, at, Place::Elsewhere)),
+    }
+}
+
+/// `define`, and the index after it.
+pub(crate) fn define(words: &[Word], at: usize) -> Result<usize, WordRefusal>
+    ensures word { IfOk result (λ next. IsWord define_word words.now at tt next) }
+    ensures told { IfErr result (λ refusal. IsTold (the define_word) words.now at (At refusal)) }
+{
+    match token_at(words, at) {
+        Token::Free(FreeName::Define, _) => Ok(at + 1),
+        _ => Err(refusal(words, at, Place::Incomplete)),
+    }
+}
+
+/// `domain` or `problem`, as the file is, and the index after it.
+pub(crate) fn kind(words: &[Word], at: usize, file: FileKind) -> Result<usize, WordRefusal>
+    ensures word { IfOk result (λ next. IsWord (kind_word (file_view file)) words.now at tt next) }
+    ensures told { IfErr result (λ refusal. IsTold (the (kind_word (file_view file))) words.now at (At refusal)) }
+{
+    match file {
+        FileKind::Domain => match token_at(words, at) {
+            Token::Free(FreeName::Domain, _) => Ok(at + 1),
+            _ => Err(refusal(words, at, Place::Elsewhere)),
+        },
+        FileKind::Problem => match token_at(words, at) {
+            Token::Free(FreeName::Problem, _) => Ok(at + 1),
+            _ => Err(refusal(words, at, Place::Elsewhere)),
+        },
+    }
+}

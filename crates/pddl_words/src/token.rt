@@ -1,0 +1,284 @@
+//! What a word is to the grammar.
+ghost use Rattle.std.specs.Prelude.{◌≡◌, ◌||◌, ◌<◌, length, codes, Some};
+ghost use Rattle.std.specs.Option.{option_map, option_and_then};
+ghost use Rattle.model.specs.Grammar.{name_in};
+ghost use Rattle.std.specs.Str.{bytes_eq, str_to_ascii_lowercase};
+ghost use Rattle.tokens.specs.Word.{word_of};
+ghost use Rattle.model.specs.GrammarWords as words;
+ghost use Rattle.model.specs.GrammarWords.{is_among, left_out_names, other_reserved_names, requirement_keys, left_out_keywords};
+ghost use Rattle.pddl_words.specs.Name.{name_of};
+ghost use Rattle.pddl_words.specs.Token.{seen, keyword_view, IsToken, first, from};
+
+use crate::name::Name;
+use tokens::{Kind, Word};
+
+/// A name that may be a predicate's, its letters folded to lower case.
+#[derive(Clone, Copy, PartialEq, Eq)]
+pub enum FreeName {
+    /// `define`
+    Define,
+    /// `domain`
+    Domain,
+    /// `problem`
+    Problem,
+    /// Any other name that is not reserved.
+    Ordinary,
+}
+
+/// A name that is no predicate's, its letters folded to lower case.
+#[derive(Clone, Copy, PartialEq, Eq)]
+pub enum ReservedName {
+    /// `and`
+    And,
+    /// `not`
+    Not,
+    /// The name of a form that is left out.
+    LeftOut,
+    /// Any other reserved name.
+    Other,
+}
+
+/// The keyword of a section of a file.
+#[derive(Clone, Copy, PartialEq, Eq)]
+pub enum SectionKeyword {
+    /// `:requirements`
+    Requirements,
+    /// `:predicates`
+    Predicates,
+    /// `:action`
+    Action,
+    /// `:domain`
+    Domain,
+    /// `:objects`
+    Objects,
+    /// `:init`
+    Init,
+    /// `:goal`
+    Goal,
+}
+
+/// The keyword of a part of an action.
+#[derive(Clone, Copy, PartialEq, Eq)]
+pub enum PartKeyword {
+    /// `:parameters`
+    Parameters,
+    /// `:precondition`
+    Precondition,
+    /// `:effect`
+    Effect,
+}
+
+/// What a keyword is, its letters folded to lower case.
+#[derive(Clone, Copy)]
+pub enum Keyword {
+    /// That of a section.
+    Section(SectionKeyword),
+    /// That of a part of an action.
+    Part(PartKeyword),
+    /// A key of `:requirements`.
+    Requirement,
+    /// That of a section or part that is left out.
+    LeftOut,
+    /// Any other keyword.
+    Unknown,
+}
+
+/// What a word is. Any name may name an object or an action.
+#[derive(Clone, Copy)]
+pub enum Token<'a> {
+    /// `(`
+    Open,
+    /// `)`
+    Close,
+    /// A name that may be a predicate's.
+    Free(FreeName, Name<'a>),
+    /// A name that may not.
+    Reserved(ReservedName, Name<'a>),
+    /// A variable, as `?x`.
+    Variable(Name<'a>),
+    /// A keyword, as `:goal`.
+    Keyword(Keyword),
+    /// A number, `-` or `=`.
+    Other,
+    /// No word: the words run out.
+    End,
+}
+
+impl<'a> Token<'a> {
+    /// The name that it is, if it is one.
+    pub fn name(self) -> Option<Name<'a>>
+        ensures { option_map name_of result ≡ option_and_then name_in (seen self.entry) }
+    {
+        match self {
+            Token::Free(_, name) | Token::Reserved(_, name) => Some(name),
+            _ => None,
+        }
+    }
+}
+
+/// What stands at an index.
+pub fn token_at<'a>(words: &[Word<'a>], at: usize) -> Token<'a>
+    ensures within { IsToken (seen result) → at < length words.now }
+    ensures first { seen result ≡ first (from words.now at) }
+{
+    if at < words.len() {
+        token_of(&words[at])
+    } else {
+        Token::End
+    }
+}
+
+/// What a word is.
+fn token_of<'a>(word: &Word<'a>) -> Token<'a>
+    ensures { seen result ≡ Some (words.token_of (word_of word.now)) }
+{
+    let name = Name {
+        text: word.text(),
+        span: word.span(),
+    };
+    match word.kind() {
+        Kind::Name => named(name),
+        Kind::Variable => Token::Variable(name),
+        Kind::Keyword => Token::Keyword(keyword_of(word.text())),
+        Kind::Number | Kind::Dash | Kind::Equals => Token::Other,
+        Kind::Open => Token::Open,
+        Kind::Close => Token::Close,
+    }
+}
+
+/// What a name is.
+fn named(name: Name) -> Token
+    ensures { seen result ≡ Some (words.named (str_to_ascii_lowercase name.entry.text.now) (name_of name.entry)) }
+{
+    let text = name.text;
+    if is(text, b"and") {
+        Token::Reserved(ReservedName::And, name)
+    } else if is(text, b"not") {
+        Token::Reserved(ReservedName::Not, name)
+    } else if is(text, b"define") {
+        Token::Free(FreeName::Define, name)
+    } else if is(text, b"domain") {
+        Token::Free(FreeName::Domain, name)
+    } else if is(text, b"problem") {
+        Token::Free(FreeName::Problem, name)
+    } else if is_left_out_name(text) {
+        Token::Reserved(ReservedName::LeftOut, name)
+    } else if is_other_reserved(text) {
+        Token::Reserved(ReservedName::Other, name)
+    } else {
+        Token::Free(FreeName::Ordinary, name)
+    }
+}
+
+/// What a keyword is.
+fn keyword_of(text: &[u8]) -> Keyword
+    ensures { keyword_view result ≡ words.keyword_of (str_to_ascii_lowercase text.now) }
+{
+    if is(text, b":action") {
+        Keyword::Section(SectionKeyword::Action)
+    } else if is(text, b":parameters") {
+        Keyword::Part(PartKeyword::Parameters)
+    } else if is(text, b":precondition") {
+        Keyword::Part(PartKeyword::Precondition)
+    } else if is(text, b":effect") {
+        Keyword::Part(PartKeyword::Effect)
+    } else if is(text, b":requirements") {
+        Keyword::Section(SectionKeyword::Requirements)
+    } else if is(text, b":predicates") {
+        Keyword::Section(SectionKeyword::Predicates)
+    } else if is(text, b":domain") {
+        Keyword::Section(SectionKeyword::Domain)
+    } else if is(text, b":objects") {
+        Keyword::Section(SectionKeyword::Objects)
+    } else if is(text, b":init") {
+        Keyword::Section(SectionKeyword::Init)
+    } else if is(text, b":goal") {
+        Keyword::Section(SectionKeyword::Goal)
+    } else {
+        other_keyword(text)
+    }
+}
+
+/// What a keyword is that begins no section and no part.
+fn other_keyword(text: &[u8]) -> Keyword
+    ensures { keyword_view result ≡ words.other_keyword_of (str_to_ascii_lowercase text.now) }
+{
+    if is_requirement_key(text) {
+        Keyword::Requirement
+    } else if is_left_out_keyword(text) {
+        Keyword::LeftOut
+    } else {
+        Keyword::Unknown
+    }
+}
+
+/// Whether a text is this word, its letters folded to lower case.
+fn is(text: &[u8], word: &[u8]) -> bool
+    ensures { result ≡ bytes_eq (str_to_ascii_lowercase text.now) (str_to_ascii_lowercase word.now) }
+{
+    text.eq_ignore_ascii_case(word)
+}
+
+/// Whether a name is reserved for a form that is left out.
+fn is_left_out_name(text: &[u8]) -> bool
+    ensures { result ≡ is_among (str_to_ascii_lowercase text.now) left_out_names }
+{
+    is(text, b"preference")
+        || is(text, b"assign")
+        || is(text, b"decrease")
+        || is(text, b"scale-up")
+        || is(text, b"scale-down")
+}
+
+/// Whether a name is reserved otherwise, `and` and `not` aside.
+fn is_other_reserved(text: &[u8]) -> bool
+    ensures { result ≡ is_among (str_to_ascii_lowercase text.now) other_reserved_names }
+{
+    is(text, b"or")
+        || is(text, b"imply")
+        || is(text, b"exists")
+        || is(text, b"forall")
+        || is(text, b"when")
+        || is(text, b"increase")
+        || is(text, b"either")
+        || is(text, b"total-cost")
+}
+
+/// Whether a keyword is a key of `:requirements`.
+fn is_requirement_key(text: &[u8]) -> bool
+    ensures { result ≡ is_among (str_to_ascii_lowercase text.now) requirement_keys }
+{
+    is(text, b":strips")
+        || is(text, b":typing")
+        || is(text, b":equality")
+        || is(text, b":negative-preconditions")
+        || is(text, b":disjunctive-preconditions")
+        || is(text, b":existential-preconditions")
+        || is(text, b":universal-preconditions")
+        || is(text, b":quantified-preconditions")
+        || is(text, b":conditional-effects")
+        || is(text, b":adl")
+        || is(text, b":action-costs")
+        || is(text, b":fluents")
+        || is(text, b":numeric-fluents")
+}
+
+/// Whether a keyword is that of a section or part that is left out.
+fn is_left_out_keyword(text: &[u8]) -> bool
+    ensures { result ≡ is_among (str_to_ascii_lowercase text.now) left_out_keywords }
+{
+    is(text, b":durative-action")
+        || is(text, b":derived")
+        || is(text, b":constraints")
+        || is(text, b":axiom")
+        || is(text, b":safety")
+        || is(text, b":timeless")
+        || is(text, b":extends")
+        || is(text, b":situation")
+        || is(text, b":length")
+        || is(text, b":vars")
+        || is(text, b":duration")
+        || is(text, b":condition")
+        || is(text, b":expansion")
+        || is(text, b":method")
+}
