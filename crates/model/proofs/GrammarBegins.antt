@@ -7,8 +7,8 @@ use Rattle.model.specs.GrammarWords.{File, domain_file, problem_file, Token, ope
 use Rattle.model.specs.GrammarWords as words
 use Rattle.model.specs.Grammar
 use Rattle.model.specs.Grammar.{Sort, Value, Phrase, gives, ◌>>=◌, Section, Part, after, Derives, by, Follows, nothing, next, Tree, file, sections, section, parts, section_after, section_of, seen_with, keyword_in, left_of, sections_of, has_all, required_of, has_section, has_part, is_section, IsFile, tree_from, action_from, with_section, no_contents}
-use Rattle.model.specs.Refusals.{IsWhole, Begins}
-use Rattle.model.specs.GrammarMachine.{finished, stopped, step, go_on, number_after, run, after_all, start}
+use Rattle.model.specs.Refusals.{IsWhole, Begins, step, number_after, after_all, start}
+use Rattle.model.specs.GrammarMachine.{finished, stopped, go_on, run}
 use Rattle.model.proofs.GrammarMeaning.{phrase_run, file_run, run_file}
 use Rattle.model.proofs.GrammarStops.{leads}
 

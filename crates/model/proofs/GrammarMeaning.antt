@@ -4,7 +4,8 @@ use Rattle.std.specs.Option.{option_map}
 use Rattle.model.specs.Trees.{Domain, Problem}
 use Rattle.model.specs.GrammarWords.{File, Token}
 use Rattle.model.specs.Grammar.{Sort, Value, Phrase, gives, ◌>>=◌, and_then, after, Derives, by, Follows, nothing, next, Tree, file, IsFile, IsDomain, IsProblem}
-use Rattle.model.specs.GrammarMachine.{finished, stopped, go_on, number_after, run, start}
+use Rattle.model.specs.GrammarMachine.{finished, stopped, go_on, run}
+use Rattle.model.specs.Refusals.{number_after, start}
 
 -- what a sort derives runs the machine from what is wanted to what follows of its tree
 mutual

@@ -5,8 +5,8 @@ use Rattle.std.proofs.lemmas.List.{map-append}
 use Rattle.model.specs.Words.{Word, end_of}
 use Rattle.model.specs.GrammarWords.{File, Token, token_of, tokens_of}
 use Rattle.model.specs.Grammar.{Tree}
-use Rattle.model.specs.Refusals.{end_of_all, span_by, span_of_place, IsRefused, at_word, at_end}
-use Rattle.model.specs.GrammarMachine.{finished, stopped, run, start}
+use Rattle.model.specs.Refusals.{end_of_all, span_by, span_of_place, IsRefused, at_word, at_end, start}
+use Rattle.model.specs.GrammarMachine.{finished, stopped, run}
 use Rattle.model.proofs.GrammarMeaning.{file_run}
 use Rattle.model.proofs.GrammarStops.{StopsAt, stops_at, stopping, ending}
 use Rattle.model.proofs.GrammarBegins.{begins, dead}

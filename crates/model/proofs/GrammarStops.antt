@@ -3,7 +3,8 @@ use Rattle.std.proofs.Common.{◌≡◌, ℕ, suc, ◌+◌, ◌≤◌, List, [],
 use Rattle.std.specs.Option.{option_and_then}
 use Rattle.model.specs.GrammarWords.{Token}
 use Rattle.model.specs.Grammar.{Phrase, gives, ◌>>=◌}
-use Rattle.model.specs.GrammarMachine.{Outcome, finished, stopped, step, go_on, number_after, run, at_end, after_all}
+use Rattle.model.specs.GrammarMachine.{Outcome, finished, stopped, go_on, run, at_end}
+use Rattle.model.specs.Refusals.{step, number_after, after_all}
 
 module _ {T : Type 0} where
   -- words that lead to what has to follow run to it

@@ -15,3 +15,4 @@ pub mod GrammarStops
 pub mod GrammarBegins
 pub mod GrammarRefusals
 pub mod GrammarOneRefusal
+pub mod GrammarExampleProofs

@@ -4,8 +4,8 @@ pub mod Words
 pub mod Trees
 pub mod GrammarWords
 pub mod Grammar
-pub mod GrammarMachine
 pub mod Refusals
+pub mod GrammarMachine
 pub mod Task
 pub mod WellTyped
 pub mod Typing
@@ -19,3 +19,4 @@ pub mod Examples
 pub mod PlanText
 pub mod PlanMachine
 pub mod Files
+pub mod GrammarExamples

@@ -17,7 +17,8 @@ use Rattle.pddl_tree.proofs.Items.{in_turn}
 use Rattle.model.specs.GrammarWords.{File, Token, opens, closes, keyword, SectionKeyword, of_section, of_part, requirement_key, left_out_keyword, unknown_keyword}
 use Rattle.model.specs.GrammarWords as words
 use Rattle.model.specs.Grammar.{Tree, Section, Contents, Phrase, gives, ◌>>=◌, and_then, after, sections, section, section_of, section_after, define_word, with_section, no_contents, keyword_in, seen_with, is_section, has_section, has_all, left_of, sections_of, required_of}
-use Rattle.model.specs.GrammarMachine.{run, number_at}
+use Rattle.model.specs.GrammarMachine.{run}
+use Rattle.model.specs.Refusals.{number_at}
 use Rattle.model.proofs.GrammarBegins.{is_left, same_section}
 
 -- the code's test of all of some sections

@@ -13,8 +13,8 @@ use Rattle.model.specs.Trees.{Name}
 use Rattle.model.specs.GrammarWords.{File, domain_file, problem_file, Token, opens, closes, token_of, tokens_of}
 use Rattle.model.specs.Grammar.{Tree, Sort, Value, Phrase, gives, ◌>>=◌, and_then, after, file, define_word, kind_list, kind_word, a_name, close}
 use Rattle.model.specs.Grammar as grammar
-use Rattle.model.specs.Refusals.{Begins}
-use Rattle.model.specs.GrammarMachine.{run, start, after_all}
+use Rattle.model.specs.Refusals.{Begins, start, after_all}
+use Rattle.model.specs.GrammarMachine.{run}
 use Rattle.model.proofs.GrammarStops.{leads}
 use Rattle.model.proofs.GrammarBegins.{begins}
 use Rattle.pddl_tree.proofs.ReadOn.{from_first, taken, not_there}

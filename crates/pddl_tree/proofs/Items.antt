@@ -9,7 +9,8 @@ use Rattle.pddl_tree.specs.Reading.{the, IsRead, IsTold, closes_first, keys_drop
 use Rattle.pddl_tree.proofs.ReadOn.{from_first, told_later}
 use Rattle.model.specs.GrammarWords.{Token, opens, closes, free, reserved, variable, keyword, other}
 use Rattle.model.specs.Grammar.{Tree, Sort, key, listed, many, Value, Phrase, gives, ◌>>=◌, ◌>>◌, and_then, more, after}
-use Rattle.model.specs.GrammarMachine.{stopped, run, go_on, number_at}
+use Rattle.model.specs.GrammarMachine.{stopped, run, go_on}
+use Rattle.model.specs.Refusals.{number_at}
 
 -- phrases in turn
 pub in_turn : {A B C : Type 0} (p : Phrase A) (f : A → Phrase B) (k : B → Phrase C) → and_then (and_then p f) k ≡ and_then p (λ x. and_then (f x) k)

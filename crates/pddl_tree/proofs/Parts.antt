@@ -11,7 +11,8 @@ use Rattle.model.specs.Trees.{Action}
 use Rattle.model.specs.GrammarWords.{Token, opens, closes, keyword, PartKeyword, of_part, of_section, requirement_key, left_out_keyword, unknown_keyword}
 use Rattle.model.specs.GrammarWords as words
 use Rattle.model.specs.Grammar.{Tree, Part, Phrase, gives, ◌>>=◌, and_then, after, value, parts, part_after, parts_after, with_part, has_part}
-use Rattle.model.specs.GrammarMachine.{run, number_at}
+use Rattle.model.specs.GrammarMachine.{run}
+use Rattle.model.specs.Refusals.{number_at}
 
 -- a part that is new, and those after it
 pub one_part : (list : List Word) (at : ℕ) (seen : List PartKeyword) (p : PartKeyword) (k : List Part → Phrase Tree) → first (from list at) ≡ Some (keyword (of_part p)) → has_part seen p ≡ false

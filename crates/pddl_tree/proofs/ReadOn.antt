@@ -15,7 +15,8 @@ use Rattle.pddl_words.specs.declared.refusal.WordRefusal.{WordRefusal}
 use Rattle.model.specs.Grammar
 use Rattle.model.specs.GrammarWords.{Token, token_of, opens, FreeName, free}
 use Rattle.model.specs.Grammar.{Tree, Sort, listed, Value, Phrase, gives, ◌>>=◌, and_then, after}
-use Rattle.model.specs.GrammarMachine.{Outcome, stopped, run, go_on, step, number_at, number_after}
+use Rattle.model.specs.GrammarMachine.{Outcome, stopped, run, go_on}
+use Rattle.model.specs.Refusals.{step, number_at, number_after}
 
 abbrev rest_of : List Token → List Token
 rest_of [] = []

@@ -14,8 +14,8 @@ use Rattle.model.specs.Words as text
 use Rattle.model.specs.Trees as tree
 use Rattle.model.specs.Grammar.{IsDomain, IsProblem, Tree, domain_tree, problem_tree, gives, close}
 use Rattle.model.specs.GrammarWords.{File, domain_file, problem_file, Token, token_of, tokens_of}
-use Rattle.model.specs.Refusals.{IsWhole, IsRefused, end_of_all, span_by, span_of_place}
-use Rattle.model.specs.GrammarMachine.{run, start, finished, stopped}
+use Rattle.model.specs.Refusals.{IsWhole, IsRefused, end_of_all, span_by, span_of_place, start}
+use Rattle.model.specs.GrammarMachine.{run, finished, stopped}
 use Rattle.model.proofs.GrammarMeaning.{run_file, file_run}
 use Rattle.model.proofs.GrammarRefusals.{refused_at}
 

@@ -11,7 +11,8 @@ use Rattle.pddl_tree.specs.Place.{wanted}
 use Rattle.model.specs.Trees.{Name}
 use Rattle.model.specs.GrammarWords.{Token, opens, closes, FreeName, free}
 use Rattle.model.specs.Grammar.{Tree, Sort, many, key, close, Value, Phrase, gives, ◌>>=◌, ◌>>◌, and_then, after}
-use Rattle.model.specs.GrammarMachine.{run, stopped, number_at}
+use Rattle.model.specs.GrammarMachine.{run, stopped}
+use Rattle.model.specs.Refusals.{number_at}
 
 -- one thing that is wanted
 abbrev pub the : (s : Sort) → Phrase (Value s)

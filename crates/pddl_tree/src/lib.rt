@@ -13,5 +13,5 @@ mod sections;
 mod tree;
 
 pub use pddl_words::{Name, Term};
-pub use reader::{domain, one_fault, one_reading, problem};
+pub use reader::{domain, examples_are_as_told, one_fault, one_reading, problem};
 pub use tree::{Action, Atom, Domain, Effect, Fact, Formula, Predicate, Problem};

@@ -15,8 +15,9 @@ ghost use Rattle.model.specs.Fault as model;
 ghost use Rattle.model.specs.Words as text;
 ghost use Rattle.model.specs.GrammarWords.{File, domain_file, problem_file, tokens_of};
 ghost use Rattle.model.specs.Grammar.{EachIsOneDomain, EachIsOneProblem, IsDomain, IsProblem, Tree, domain_tree, problem_tree, gives};
-ghost use Rattle.model.specs.Refusals.{IsWhole, IsRefused, span_of_place};
-ghost use Rattle.model.specs.GrammarMachine.{run, start, finished};
+ghost use Rattle.model.specs.Refusals.{IsWhole, IsRefused, span_of_place, start};
+ghost use Rattle.model.specs.GrammarExamples.{AreAsTold};
+ghost use Rattle.model.specs.GrammarMachine.{run, finished};
 ghost use Rattle.pddl_words.specs.Name.{name_of};
 ghost use Rattle.pddl_words.specs.Token.{from};
 ghost use Rattle.pddl_words.specs.Refusal.{told, fault_of};
@@ -127,6 +128,11 @@ pub fn one_fault()
         → IsRefused file words fault → IsRefused file words other → fault ≡ other }
     ensures none { (file : File) (words : List text.Word) (fault : model.Fault)
         → IsWhole file (tokens_of words) → IsRefused file words fault → ⊥ }
+{}
+
+/// The worked examples of the definitions: small files with their tree, or with the fault that is told of them.
+pub fn examples_are_as_told()
+    ensures { AreAsTold }
 {}
 
 /// What a refusal tells of the file.

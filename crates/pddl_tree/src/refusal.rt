@@ -6,7 +6,7 @@ ghost use Rattle.pddl_words.specs.Token.{from, first, seen, keyword_view, part_v
 ghost use Rattle.pddl_words.specs.Refusal.{told};
 ghost use Rattle.model.specs.Grammar as grammar;
 ghost use Rattle.model.specs.GrammarWords as model_words;
-ghost use Rattle.model.specs.GrammarMachine.{number_at, number_of_keyword, number_in_file, number_in_action, number_at_value};
+ghost use Rattle.model.specs.Refusals.{number_at, number_of_keyword, number_in_file, number_in_action, number_at_value};
 ghost use Rattle.pddl_tree.specs.Reading.{number_seen};
 ghost use Rattle.pddl_tree.specs.Place.{file_view, wanted};
 

@@ -1,7 +1,7 @@
 use Rattle.std.proofs.Common.{refl}
 use Rattle.model.specs.GrammarWords.{opens}
 use Rattle.model.specs.Grammar.{gives, file, define_word, kind_list, kind_word, a_name, close}
-use Rattle.model.specs.GrammarMachine.{start}
+use Rattle.model.specs.Refusals.{start}
 use Rattle.faults.specs.declared.refused.Refused.TheVariants.{At}
 use Rattle.faults.proofs.Results.{passed_on}
 use Rattle.pddl_words.specs.Name.{name_of}

@@ -1,7 +1,7 @@
 use Rattle.std.proofs.Common.{◌∙◌, refl, rules}
 use Rattle.faults.specs.declared.refused.Refused.TheVariants.{At}
 use Rattle.model.specs.GrammarWords.{problem_file}
-use Rattle.model.specs.GrammarMachine.{start}
+use Rattle.model.specs.Refusals.{start}
 use Rattle.pddl_tree.specs.Head.{after_head}
 use Rattle.pddl_words.specs.Refusal.{told}
 use Rattle.pddl_words.specs.Name.{name_of}
