@@ -1,6 +1,8 @@
 //! The checker on small tasks: certificates that are accepted, and certificates with one condition broken.
 use crate::helpers::{Term, atom, atoms, on_task};
-use crate::listings::{Answer, LISTINGS, Line, Listings, Row};
+use crate::listings::{
+    ACCEPTED, Answer, LIMITED, Line, Listings, PLANNED, Row, WRONG_ATOMS, WRONG_LINES,
+};
 use cert_checker::check_cert;
 use certificate::{Cert, Claim, StateLine};
 use faults::NoMemory;
@@ -73,8 +75,28 @@ fn is_answered<R: Abort>(rt: &R, alloc: Global, table: &[Listings]) -> Result<()
 }
 
 #[test]
-fn certificates_are_answered(rt: HostRuntime) -> Result<(), Fail> {
-    is_answered(&rt, rt.alloc(), &LISTINGS)
+fn closed_listings_are_accepted(rt: HostRuntime) -> Result<(), Fail> {
+    is_answered(&rt, rt.alloc(), &ACCEPTED)
+}
+
+#[test]
+fn wrong_atoms_are_told(rt: HostRuntime) -> Result<(), Fail> {
+    is_answered(&rt, rt.alloc(), &WRONG_ATOMS)
+}
+
+#[test]
+fn wrong_lines_are_told(rt: HostRuntime) -> Result<(), Fail> {
+    is_answered(&rt, rt.alloc(), &WRONG_LINES)
+}
+
+#[test]
+fn plans_are_held_against_the_claim(rt: HostRuntime) -> Result<(), Fail> {
+    is_answered(&rt, rt.alloc(), &PLANNED)
+}
+
+#[test]
+fn instances_are_limited(rt: HostRuntime) -> Result<(), Fail> {
+    is_answered(&rt, rt.alloc(), &LIMITED)
 }
 
 /// The largest number that may stand in a certificate.

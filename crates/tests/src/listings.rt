@@ -49,9 +49,9 @@ const FIRST_IS_REFUSED: &[Row] = &[(Claim::Bound(0), START, None, Err(At { code:
 #[rattlefmt::skip]
 const SECOND_IS_REFUSED: &[Row] = &[(Claim::Bound(0), START, None, Err(At { code: NotFluent, line: 5 }))];
 
+/// Closed listings are accepted.
 #[rattlefmt::skip]
-pub(crate) static LISTINGS: [Listings; 28] = [
-    // closed listings are accepted
+pub(crate) static ACCEPTED: [Listings; 6] = [
     Listings { texts: GO, atoms: P_AND_Q, max_instances: 100, rows: &[
         (Claim::Bound(1), &[(0, None, &[0]), (1, Some(0), &[0, 1])], None, Ok(AtLeast { cost: 1 })),
         (Claim::Bound(1), &[(1, None, &[0, 1]), (0, None, &[0])], None, Ok(AtLeast { cost: 1 })),
@@ -77,8 +77,11 @@ pub(crate) static LISTINGS: [Listings; 28] = [
     Listings { texts: FORK, atoms: PLACES, max_instances: 100, rows: &[
         (Claim::Bound(1), &[(0, None, &[0]), (1, None, &[1]), (1, None, &[2])], None, Ok(AtLeast { cost: 1 })),
     ] },
+];
 
-    // atoms are well-typed, fluent and distinct
+/// Atoms are well-typed, fluent and distinct.
+#[rattlefmt::skip]
+pub(crate) static WRONG_ATOMS: [Listings; 8] = [
     Listings { texts: PATH, atoms: &[(0, &[0])], max_instances: 100, rows: START_IS_CUT },
     // a static atom, an unknown predicate, a count of objects that is not the predicate's, an unknown object
     Listings { texts: PATH, atoms: &[(0, &[0]), (1, &[0, 1])], max_instances: 100, rows: SECOND_IS_REFUSED },
@@ -91,8 +94,11 @@ pub(crate) static LISTINGS: [Listings; 28] = [
         (Claim::Bound(0), &[(0, Some(0), &[0])], None, Err(At { code: Repeated, line: 6 })),
     ] },
     Listings { texts: PATH, atoms: &[(0, &[0]), (1, &[0, 1]), (1, &[0, 1])], max_instances: 100, rows: SECOND_IS_REFUSED },
+];
 
-    // lines with one condition broken
+/// Lines with one condition broken.
+#[rattlefmt::skip]
+pub(crate) static WRONG_LINES: [Listings; 5] = [
     Listings { texts: GO, atoms: P_AND_Q, max_instances: 100, rows: &[
         // a state twice
         (Claim::Bound(1), &[(0, None, &[0]), (1, Some(0), &[0, 1]), (5, None, &[0])], None, Err(At { code: Repeated, line: 8 })),
@@ -142,8 +148,11 @@ pub(crate) static LISTINGS: [Listings; 28] = [
         (Claim::Bound(1), &[(0, None, &[0]), (2, None, &[1])], None, Err(At { code: SuccessorDearer, line: 7 })),
         (Claim::Bound(1), &[(0, None, &[0]), (2, None, &[2])], None, Err(At { code: SuccessorMissing, line: 7 })),
     ] },
+];
 
-    // plans are held against the claim
+/// Plans are held against the claim.
+#[rattlefmt::skip]
+pub(crate) static PLANNED: [Listings; 4] = [
     Listings { texts: GO, atoms: P_AND_Q, max_instances: 100, rows: &[
         (Claim::Bound(1), &[(0, None, &[0]), (1, Some(0), &[0, 1])], Some("(go)"), Ok(Optimal { cost: 1 })),
         (Claim::Bound(1), &[(0, None, &[0]), (1, Some(0), &[0, 1])], Some(""), Err(Plain(PlanInvalid))),
@@ -166,9 +175,12 @@ pub(crate) static LISTINGS: [Listings; 28] = [
         (Claim::Bound(2), &[(0, None, &[0]), (1, None, &[1]), (2, Some(0), &[2])], Some("(go a b)(go a b)"), Err(Plain(PlanInvalid))),
         (Claim::Bound(2), &[(0, None, &[0]), (1, None, &[1]), (2, Some(0), &[2])], Some("(go a b)(go b c)(go b c)"), Err(Plain(PlanInvalid))),
     ] },
+];
 
-    // Few instances are allowed: `GO` has one, and `PATH` has nine, of which two are ever applicable. The limit comes before
-    // the initial state, and after the atoms and the states are read.
+/// Few instances are allowed: `GO` has one, and `PATH` has nine, of which two are ever applicable. The limit comes before
+/// the initial state, and after the atoms and the states are read.
+#[rattlefmt::skip]
+pub(crate) static LIMITED: [Listings; 5] = [
     Listings { texts: GO, atoms: P_AND_Q, max_instances: 1, rows: &[
         (Claim::Bound(1), &[(0, None, &[0]), (1, Some(0), &[0, 1])], None, Ok(AtLeast { cost: 1 })),
     ] },

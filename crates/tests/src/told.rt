@@ -58,13 +58,9 @@ fn codes_have_their_numbers_and_names(rt: HostRuntime) -> Result<(), Fail> {
 /// Each file with a fault in it, as they are told.
 fn told_files(alloc: Global) -> Result<String, Fail> {
     let mut told = String::new(alloc);
+    let (code, span) = (Code::BadForm, Span { start: 4, end: 17 });
     for file in [File::Domain, File::Problem, File::Plan] {
-        let fault = FileFault::At {
-            file,
-            code: Code::BadForm,
-            span: Span { start: 4, end: 17 },
-        };
-        write!(told, "{file}: {fault}; ")?;
+        write!(told, "{file}: {}; ", FileFault::At { file, code, span })?;
     }
     Ok(told)
 }

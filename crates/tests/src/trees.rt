@@ -54,13 +54,10 @@ fn is_go(domain: &Domain) -> bool {
 
 /// Whether it is the action of `GO`. No precondition is an empty `and`.
 fn is_going(action: &Action) -> bool {
-    match (
-        action.parameters.as_slice(),
-        &action.precondition,
-        &action.effect,
-    ) {
-        ([parameter], Formula::And(conditions), Effect::And(changes)) => {
-            (action.name.text, parameter.text) == (b"go".as_slice(), b"?a".as_slice())
+    match (&action.precondition, &action.effect) {
+        (Formula::And(conditions), Effect::And(changes)) => {
+            action.name.text == b"go".as_slice()
+                && matches!(action.parameters.as_slice(), [x] if x.text == b"?a".as_slice())
                 && conditions.is_empty()
                 && are_changes(changes)
         }
@@ -72,18 +69,10 @@ fn is_going(action: &Action) -> bool {
 fn are_changes(parts: &[Effect]) -> bool {
     match parts {
         [first, _, third, fourth] => {
-            is_deleted(first, b"p")
+            matches!(first, Effect::Delete(p) if p.predicate.text == b"p".as_slice())
                 && is_added(third, b"q", true, b"?a")
                 && is_added(fourth, b"Q", false, b"b")
         }
-        _ => false,
-    }
-}
-
-/// Whether an atom of this predicate is deleted.
-fn is_deleted(effect: &Effect, predicate: &[u8]) -> bool {
-    match effect {
-        Effect::Delete(atom) => atom.predicate.text == predicate,
         _ => false,
     }
 }
@@ -111,17 +100,13 @@ fn is_only(terms: &[Term], is_variable: bool, text: &[u8]) -> bool {
 
 /// Whether it is the tree of `TRIP`.
 fn is_trip(problem: &Problem) -> bool {
-    match (
-        problem.objects.as_slice(),
-        problem.init.as_slice(),
-        &problem.goal,
-    ) {
-        ([_, b], [_, fact], Formula::And(parts)) => {
+    match (problem.objects.as_slice(), problem.init.as_slice()) {
+        ([_, b], [_, fact]) => {
             let span = Span { start: 48, end: 49 };
             (problem.name.text, problem.domain.text) == (b"trip".as_slice(), b"go".as_slice())
                 && (b.text, b.span) == (b"B".as_slice(), span)
                 && (fact.predicate.text, fact.objects.len()) == (b"q".as_slice(), 1)
-                && parts.len() == 3
+                && matches!(&problem.goal, Formula::And(parts) if parts.len() == 3)
         }
         _ => false,
     }

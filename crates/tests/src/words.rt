@@ -11,14 +11,14 @@ fn told(rt: &impl Abort, alloc: Global, text: &[u8]) -> Result<String, Fail> {
     for word in &words {
         let kind = word.kind();
         let (start, end) = (word.span().start, word.span().end);
-        assert_eq!(rt; text.get(start..end), Some(word.text()));
+        assert!(rt; text.get(start..end) == Some(word.text()));
         write!(out, "{kind:?} {start}..{end} ")?;
     }
     Ok(out)
 }
 
 /// Texts, and their words.
-static TEXTS: [(&[u8], &str); 8] = [
+static TEXTS: [(&[u8], &str); 9] = [
     (b"", ""),
     (b"; \x00\x80)\r$", ""),
     (
@@ -28,6 +28,7 @@ static TEXTS: [(&[u8], &str); 8] = [
     (b"\ta\r\n b", "Name 1..2 Name 5..6 "),
     (b"a;\x80\nb;c", "Name 0..1 Name 4..5 "),
     (b"a;;b\n;\n c", "Name 0..1 Name 8..9 "),
+    (b" (Hop) ", "Open 1..2 Name 2..5 Close 5..6 "),
     (b"a (b)", "Name 0..1 Open 2..3 Name 3..4 Close 4..5 "),
     (b"(a) ; (b)", "Open 0..1 Name 1..2 Close 2..3 "),
 ];
