@@ -187,7 +187,8 @@ Value define_word = ⊤
 Value kind_list = ⊤
 Value (kind_word f) = ⊤
 
--- what has to follow: nothing more, and the tree is this one; or something that is wanted, and then what its tree says
+-- What has to follow: nothing more, and the tree is this one; or something that is wanted, and then what its tree says.
+-- In a `do`, `x ← s` stands for an s whose tree is x, and s alone for an s whose tree is not kept.
 pub data Phrase (T : Type 0) : Type 0 where
   gives : T → Phrase T
   ◌>>=◌ : (s : Sort) → (Value s → Phrase T) → Phrase T
@@ -237,6 +238,7 @@ name_in (free f n) = Some n
 name_in (reserved r n) = Some n
 name_in _ = None
 
+-- where s is wanted and this word comes: what has to follow the word, or none where it may not stand there
 abbrev pub after : (s : Sort) → Token → Option (Phrase (Value s))
 after close closes = Some (gives tt)
 
@@ -292,7 +294,8 @@ after _ _ = None
 
 -- ---- what the grammar says of words
 
--- what is wanted derives the words up to these that are left, and its tree is this one
+-- What is wanted derives the words up to these that are left, and its tree is this one: the first word has a production,
+-- and what has to follow it derives the others, one thing after another.
 mutual
   pub data Derives : (s : Sort) → List Token → Value s → List Token → Type 0 where
     by : {s : Sort} {t : Token} {w r : List Token} {p : Phrase (Value s)} {x : Value s} → after s t ≡ Some p → Follows s p w x r → Derives s (t ∷ w) x r
