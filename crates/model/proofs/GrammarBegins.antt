@@ -120,15 +120,19 @@ some_sections problem_file seen = problem_sections seen (has_section seen words.
 some_section : (k : SectionKeyword) → (u : List Token) × (x : Section) × ((f : File) → IsRest f k u x)
 some_section words.requirements = (closes ∷ [], Grammar.requirements, λ f j others r. next (by refl nothing) nothing)
 some_section words.predicates = (closes ∷ [], Grammar.predicates [], λ f j others r. next (by refl nothing) nothing)
-some_section words.action =
-    (word ∷ keyword (of_part words.parameters) ∷ opens ∷ closes ∷ closes ∷ [], Grammar.action (action_from no_name (Grammar.parameters [] ∷ [])),
-      λ f j others r. next (by refl nothing) (next (by refl (next (by refl nothing) (next (by refl nothing) (next (by refl nothing) nothing)))) nothing))
+some_section words.action = (
+  word ∷ keyword (of_part words.parameters) ∷ opens ∷ closes ∷ closes ∷ [],
+  Grammar.action (action_from no_name (Grammar.parameters [] ∷ [])),
+  λ f j others r. next (by refl nothing) (next (by refl (next (by refl nothing) (next (by refl nothing) (next (by refl nothing) nothing)))) nothing),
+)
 some_section words.domain_keyword = (word ∷ closes ∷ [], Grammar.domain no_name, λ f j others r. next (by refl nothing) (next (by refl nothing) nothing))
 some_section words.objects = (closes ∷ [], Grammar.objects [], λ f j others r. next (by refl nothing) nothing)
 some_section words.init = (closes ∷ [], Grammar.init [], λ f j others r. next (by refl nothing) nothing)
-some_section words.goal =
-    (opens ∷ word ∷ closes ∷ closes ∷ [], Grammar.goal (tree.atom (record { predicate = no_name; terms = [] })),
-      λ f j others r. next (by refl (next (by refl (next (by refl nothing) nothing)) nothing)) (next (by refl nothing) nothing))
+some_section words.goal = (
+  opens ∷ word ∷ closes ∷ closes ∷ [],
+  Grammar.goal (tree.atom (record { predicate = no_name; terms = [] })),
+  λ f j others r. next (by refl (next (by refl (next (by refl nothing) nothing)) nothing)) (next (by refl nothing) nothing),
+)
 
 one_section : (f : File) (k : SectionKeyword) (others : List SectionKeyword) → Shortest (section f k others)
 one_section f k others =
@@ -172,6 +176,7 @@ shortest (file f) = in_file (some_sections f []) (shortest_kind f)
     shortest_kind : (f : File) → Shortest (Grammar.kind_word f)
     shortest_kind domain_file = short (free words.domain no_name ∷ []) tt (λ r. by refl nothing)
     shortest_kind problem_file = short (free words.problem no_name ∷ []) tt (λ r. by refl nothing)
+
     in_file : Shortest (sections f []) → Shortest (Grammar.kind_word f) → Shortest (file f)
     in_file (short w x d) (short v y e) =
         let k : List Token = opens ∷ free define no_name ∷ opens ∷ (v ++ word ∷ closes ∷ w) in

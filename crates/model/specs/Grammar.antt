@@ -12,7 +12,6 @@ use Rattle.model.specs.GrammarWords as words
 
 infixr 20 ◌>>=◌
 infixr 20 ◌>>◌
-
 -- ---- what stands in a file and in an action
 
 pub data Section : Type 0 where
@@ -241,7 +240,6 @@ name_in _ = None
 -- where s is wanted and this word comes: what has to follow the word, or none where it may not stand there
 abbrev pub after : (s : Sort) → Token → Option (Phrase (Value s))
 after close closes = Some (gives tt)
-
 -- NAME, which may be any; VARIABLE; NAME | VARIABLE; KEY
 after a_name t = option_map gives (name_in t)
 after a_variable (variable n) = Some (gives n)
@@ -249,47 +247,37 @@ after term (free f n) = Some (gives (tree.object n))
 after term (reserved r n) = Some (gives (tree.object n))
 after term (variable n) = Some (gives (tree.variable n))
 after key (keyword requirement_key) = Some (gives tt)
-
 after (listed s) opens = Some do x ← s; gives x
 after (many s) closes = Some (gives [])
 after (many s) t = option_map (more s) (after s t)
-
 -- formula  ::= ( PREDICATE-NAME term* ) | ( and formula* )
 after formula (free f n) = Some do ts ← many term; gives (tree.atom (record { predicate = n; terms = ts }))
 after formula (reserved words.and n) = Some do fs ← many (listed formula); gives (tree.and (formulas fs))
-
 -- effect  ::= atom | ( not atom ) | ( and effect* )
 after effect_list (free f n) = Some do ts ← many term; gives (tree.add (record { predicate = n; terms = ts }))
 after effect_list (reserved words.not n) = Some do a ← listed atom; close; gives (tree.delete a)
 after effect_list (reserved words.and n) = Some do es ← many (listed effect_list); gives (tree.both (effects es))
-
 -- atom  ::= ( PREDICATE-NAME term* )
 after atom (free f n) = Some do ts ← many term; gives (record { predicate = n; terms = ts })
-
 -- declaration  ::= ( PREDICATE-NAME VARIABLE* )
 after declaration (free f n) = Some do ns ← many a_variable; gives (record { name = n; parameters = ns })
-
 -- fact  ::= ( PREDICATE-NAME NAME* )
 after fact (free f n) = Some do ns ← many a_name; gives (record { predicate = n; objects = ns })
-
 -- action  ::= ( :action NAME part* ), each part at most once, `:parameters` among them
 after action_name t = option_map gives (name_in t)
 after (parts seen) closes = cond (has_part seen words.parameters) (Some (gives [])) None
 after (parts seen) (keyword (of_part k)) = cond (has_part seen k) None (Some (parts_after seen k))
 after (value seen) opens = Some (gives tt)
-
 -- section*, each at most once save `:action`, the required ones among them, and the `)` of the file
 after (sections f seen) closes = cond (has_all (required_of f) seen) (Some (gives [])) None
 after (sections f seen) opens = section_of f seen (left_of (sections_of f) seen)
 after (section f k others) (keyword (of_section j)) = cond (has_section (k ∷ others) j) (Some (section_after j)) None
-
 -- file  ::= ( define ( domain NAME ) section* ), or `problem` in place of `domain`
 after (file f) opens = Some do define_word; kind_list; kind_word f; n ← a_name; close; ss ← sections f []; gives (tree_from f n (fold with_section no_contents ss))
 after define_word (free words.define n) = Some (gives tt)
 after kind_list opens = Some (gives tt)
 after (kind_word domain_file) (free words.domain n) = Some (gives tt)
 after (kind_word problem_file) (free words.problem n) = Some (gives tt)
-
 after _ _ = None
 
 -- ---- what the grammar says of words

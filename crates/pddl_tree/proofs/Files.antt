@@ -1,7 +1,7 @@
 -- The sections of a file, one after another.
-use Rattle.std.proofs.Common.{◌≡◌, ℕ, ◌+◌, Bool, true, false, cond, ◌||◌, ◌&&◌, List, [], ◌∷◌, ◌++◌, map, fold, Option, Some, None, refl, sym, ◌∙◌, ap, subst, arith}
+use Rattle.std.proofs.Common.{◌≡◌, ℕ, ◌+◌, Bool, true, false, cond, ◌||◌, ◌&&◌, List, [], ◌∷◌, map, fold, Option, Some, None, refl, sym, ◌∙◌, ap, arith}
 use Rattle.std.specs.List.{list_all}
-use Rattle.std.specs.Option.{option_map, option_and_then}
+use Rattle.std.specs.Option.{option_and_then}
 use Rattle.model.proofs.Tests.{passes_map}
 use Rattle.pddl_words.specs.declared.token.SectionKeyword as code
 use Rattle.pddl_words.specs.Token.{section_view}
@@ -10,15 +10,13 @@ use Rattle.faults.specs.declared.refused.Refused.TheVariants.{At}
 use Rattle.pddl_words.specs.declared.refusal.WordRefusal.{WordRefusal}
 use Rattle.pddl_words.specs.Token.{from, first}
 use Rattle.pddl_words.specs.Refusal.{WordFault, told}
-use Rattle.pddl_tree.specs.Reading.{the, IsRead, IsTold, Opens, number_seen, closes_first, opens_first}
+use Rattle.pddl_tree.specs.Reading.{the, IsRead, IsTold, number_seen, closes_first, opens_first}
 use Rattle.pddl_tree.specs.Sections.{the_sections, IsNotNew}
 use Rattle.pddl_tree.proofs.ReadOn.{taken, told_later, not_there, by_word_told, first_told}
-use Rattle.pddl_tree.proofs.Items.{in_turn}
 use Rattle.model.specs.GrammarWords.{File, Token, opens, closes, keyword, SectionKeyword, of_section, of_part, requirement_key, left_out_keyword, unknown_keyword}
 use Rattle.model.specs.GrammarWords as words
 use Rattle.model.specs.Grammar.{Tree, Section, Contents, Phrase, gives, ◌>>=◌, and_then, after, sections, section, section_of, section_after, define_word, with_section, no_contents, keyword_in, seen_with, is_section, has_section, has_all, left_of, sections_of, required_of}
 use Rattle.model.specs.GrammarMachine.{run}
-use Rattle.model.specs.Refusals.{number_at}
 use Rattle.model.proofs.GrammarBegins.{is_left, same_section}
 
 -- the code's test of all of some sections

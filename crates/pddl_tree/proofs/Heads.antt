@@ -1,5 +1,5 @@
 -- The head of a file, from its words one by one.
-use Rattle.std.proofs.Common.{◌≡◌, ℕ, ◌+◌, suc, inl, inr, List, [], ◌∷◌, ◌++◌, map, take, length, Option, Some, None, false, refl, sym, ◌∙◌, ap, subst, arith}
+use Rattle.std.proofs.Common.{◌≡◌, ℕ, ◌+◌, suc, inl, inr, List, [], ◌∷◌, map, take, length, Option, Some, None, false, refl, sym, ◌∙◌, ap, subst, arith}
 use Rattle.std.specs.Option.{option_map, option_and_then}
 use Rattle.tokens.specs.declared.word.Word.{Word}
 use Rattle.tokens.specs.Word.{word_of}
@@ -10,9 +10,8 @@ use Rattle.pddl_tree.specs.declared.refusal.Place.TheVariants.{Elsewhere, Incomp
 use Rattle.pddl_tree.specs.Reading.{the, IsRead, IsWord, IsTold, Opens, IsNotOpen, opens_first, number_seen}
 use Rattle.pddl_tree.specs.Head.{HasHead, HasNoHead, after_head}
 use Rattle.model.specs.Trees.{Name}
-use Rattle.model.specs.GrammarWords.{File, domain_file, problem_file, Token, opens, closes, token_of, tokens_of}
-use Rattle.model.specs.Grammar.{Tree, Sort, Value, Phrase, gives, ◌>>=◌, and_then, after, file, define_word, kind_list, kind_word, a_name, close}
-use Rattle.model.specs.Grammar as grammar
+use Rattle.model.specs.GrammarWords.{File, Token, opens, closes, token_of, tokens_of}
+use Rattle.model.specs.Grammar.{Sort, Value, Phrase, gives, ◌>>=◌, and_then, after, file, define_word, kind_list, kind_word, a_name, close}
 use Rattle.model.specs.Refusals.{Begins, start, after_all}
 use Rattle.model.specs.GrammarMachine.{run}
 use Rattle.model.proofs.GrammarStops.{leads}

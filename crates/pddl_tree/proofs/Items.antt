@@ -1,14 +1,14 @@
 -- Lists that are read in a loop: what was read so far, and what the words left make of the rest.
-use Rattle.std.proofs.Common.{◌≡◌, ℕ, ◌+◌, Bool, true, false, List, [], ◌∷◌, ◌++◌, map, Option, Some, None, refl, sym, ◌∙◌, ap, subst}
-use Rattle.std.specs.Option.{option_map, option_and_then}
+use Rattle.std.proofs.Common.{◌≡◌, ℕ, ◌+◌, true, false, List, [], ◌∷◌, ◌++◌, map, Option, Some, None, refl, sym, ◌∙◌, ap}
+use Rattle.std.specs.Option.{option_map}
 use Rattle.std.proofs.lemmas.List.{map-append, append_assoc, append-nil}
 use Rattle.tokens.specs.declared.word.Word.{Word}
 use Rattle.pddl_words.specs.Token.{from, first}
 use Rattle.pddl_words.specs.Refusal.{WordFault}
 use Rattle.pddl_tree.specs.Reading.{the, IsRead, IsTold, closes_first, keys_dropped}
 use Rattle.pddl_tree.proofs.ReadOn.{from_first, told_later}
-use Rattle.model.specs.GrammarWords.{Token, opens, closes, free, reserved, variable, keyword, other}
-use Rattle.model.specs.Grammar.{Tree, Sort, key, listed, many, Value, Phrase, gives, ◌>>=◌, ◌>>◌, and_then, more, after}
+use Rattle.model.specs.GrammarWords.{Token, closes}
+use Rattle.model.specs.Grammar.{Tree, Sort, key, many, Value, Phrase, gives, ◌>>=◌, ◌>>◌, and_then, more, after}
 use Rattle.model.specs.GrammarMachine.{stopped, run, go_on}
 use Rattle.model.specs.Refusals.{number_at}
 

@@ -1,10 +1,10 @@
 -- The parts of an action, one after another.
-use Rattle.std.proofs.Common.{◌≡◌, ℕ, ◌+◌, Bool, true, false, cond, List, [], ◌∷◌, ◌++◌, map, fold, Option, Some, None, refl, sym, ◌∙◌, ap, subst}
-use Rattle.std.specs.Option.{option_map, option_and_then}
+use Rattle.std.proofs.Common.{◌≡◌, ℕ, ◌+◌, true, false, cond, List, [], ◌∷◌, ◌++◌, fold, Option, Some, None, refl, sym, ◌∙◌, ap, subst}
+use Rattle.std.specs.Option.{option_and_then}
 use Rattle.tokens.specs.declared.word.Word.{Word}
 use Rattle.pddl_words.specs.Token.{from, first}
 use Rattle.pddl_words.specs.Refusal.{WordFault, told}
-use Rattle.pddl_tree.specs.Reading.{the, IsRead, IsTold, StopsAs, number_seen, closes_first, Opens}
+use Rattle.pddl_tree.specs.Reading.{the, IsRead, IsTold, number_seen, closes_first, Opens}
 use Rattle.pddl_tree.proofs.ReadOn.{taken, told_later, not_there}
 use Rattle.pddl_tree.proofs.Items.{in_turn}
 use Rattle.model.specs.Trees.{Action}
@@ -12,7 +12,6 @@ use Rattle.model.specs.GrammarWords.{Token, opens, closes, keyword, PartKeyword,
 use Rattle.model.specs.GrammarWords as words
 use Rattle.model.specs.Grammar.{Tree, Part, Phrase, gives, ◌>>=◌, and_then, after, value, parts, part_after, parts_after, with_part, has_part}
 use Rattle.model.specs.GrammarMachine.{run}
-use Rattle.model.specs.Refusals.{number_at}
 
 -- a part that is new, and those after it
 pub one_part : (list : List Word) (at : ℕ) (seen : List PartKeyword) (p : PartKeyword) (k : List Part → Phrase Tree) → first (from list at) ≡ Some (keyword (of_part p)) → has_part seen p ≡ false

@@ -1,8 +1,7 @@
 -- How what is read of words, one thing after another, joins.
-use Rattle.std.proofs.Common.{◌≡◌, ℕ, zero, suc, add-one, ◌+◌, ◌<◌, ◌≤◌, Bool, true, false, List, [], ◌∷◌, ◌++◌, map, drop, length, Option, Some, None, refl, sym, ◌∙◌, ap, subst, arith}
+use Rattle.std.proofs.Common.{◌≡◌, ℕ, zero, suc, add-one, ◌+◌, false, List, [], ◌∷◌, map, drop, Option, Some, None, refl, sym, ◌∙◌, ap, subst}
 use Rattle.std.specs.Prelude.{IfSome}
 use Rattle.std.specs.Option.{option_map, option_and_then}
-use Rattle.std.proofs.lemmas.List.{map-append, append_assoc}
 use Rattle.tokens.specs.declared.word.Word.{Word}
 use Rattle.tokens.specs.Word.{word_of}
 use Rattle.pddl_words.specs.Token.{from, first}
@@ -16,7 +15,7 @@ use Rattle.model.specs.Grammar
 use Rattle.model.specs.GrammarWords.{Token, token_of, opens, FreeName, free}
 use Rattle.model.specs.Grammar.{Tree, Sort, listed, Value, Phrase, gives, ◌>>=◌, and_then, after}
 use Rattle.model.specs.GrammarMachine.{Outcome, stopped, run, go_on}
-use Rattle.model.specs.Refusals.{step, number_at, number_after}
+use Rattle.model.specs.Refusals.{number_at}
 
 abbrev rest_of : List Token → List Token
 rest_of [] = []

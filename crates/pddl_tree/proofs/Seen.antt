@@ -1,5 +1,5 @@
 -- Whether a keyword is among some.
-use Rattle.std.proofs.Common.{◌≡◌, Bool, ◌||◌, List, [], ◌∷◌, map, refl, ap}
+use Rattle.std.proofs.Common.{◌≡◌, ◌||◌, List, [], ◌∷◌, map, refl}
 use Rattle.std.specs.List.{list_any}
 use Rattle.pddl_words.specs.declared.token.PartKeyword.{PartKeyword}
 use Rattle.pddl_words.specs.declared.token.PartKeyword.TheVariants as part

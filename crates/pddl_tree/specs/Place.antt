@@ -1,5 +1,5 @@
 -- Places of the code, and what the model wants there.
-use Rattle.std.specs.Prelude.{List, [], map, ◌≡◌}
+use Rattle.std.specs.Prelude.{[], map}
 use Rattle.pddl_tree.specs.declared.refusal.Place.{Place}
 use Rattle.pddl_tree.specs.declared.refusal.Place.TheVariants as place
 use Rattle.pddl_tree.specs.declared.refusal.FileKind.{FileKind}

@@ -1,5 +1,5 @@
 -- The parts of an action and the sections of a file, in the model's terms, and what the grammar makes of some of them.
-use Rattle.std.specs.Prelude.{map, fold, [], ◌≡◌, ℕ, List, true, false, Option, Some}
+use Rattle.std.specs.Prelude.{map, fold, [], ◌≡◌, ℕ, List, true, Some}
 use Rattle.pddl_tree.specs.declared.action.Part.{Part}
 use Rattle.pddl_tree.specs.declared.action.Part.TheVariants as part
 use Rattle.pddl_words.specs.Name.{name_of}

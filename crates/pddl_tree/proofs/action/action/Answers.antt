@@ -1,6 +1,5 @@
 use Rattle.std.proofs.Common.{subst}
 use Rattle.model.specs.Grammar.{action_name}
-use Rattle.pddl_words.specs.Name.{name_of}
 use Rattle.faults.specs.declared.refused.Refused.TheVariants.{At}
 use Rattle.faults.proofs.Results.{passed_on, if_ok, if_err}
 use Rattle.pddl_tree.specs.Reading.{IsRead, IsTold}

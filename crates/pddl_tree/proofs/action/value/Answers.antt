@@ -1,4 +1,4 @@
-use Rattle.std.proofs.Common.{map, sym, subst, refl}
+use Rattle.std.proofs.Common.{map, sym, subst}
 use Rattle.model.specs.Grammar.{part_after, value, many, a_variable, formula, effect_list}
 use Rattle.model.specs.Grammar as grammar
 use Rattle.pddl_words.specs.Token.{part_view}

@@ -1,4 +1,4 @@
-use Rattle.std.proofs.Common.{◌+◌, ◌∙◌, map, sym, arith}
+use Rattle.std.proofs.Common.{◌∙◌, map, sym, arith}
 use Rattle.model.specs.Grammar.{many, listed, fact}
 use Rattle.pddl_tree.specs.Tree.{fact_of}
 use Rattle.faults.proofs.Results.{passed_on}

@@ -1,6 +1,6 @@
-use Rattle.std.proofs.Common.{◌+◌, ◌∙◌, map, refl, sym, ap, Some, arith}
+use Rattle.std.proofs.Common.{◌∙◌, map, refl, sym, ap, Some, arith}
 use Rattle.model.specs.GrammarWords.{free, reserved, and, not}
-use Rattle.model.specs.Grammar.{many, listed, term, formula, effect_list, atom, close}
+use Rattle.model.specs.Grammar.{many, listed, term, effect_list, atom, close}
 use Rattle.pddl_words.specs.Name.{name_of}
 use Rattle.pddl_words.specs.Token.{free_view, reserved_view}
 use Rattle.faults.specs.declared.refused.Refused.TheVariants.{At}

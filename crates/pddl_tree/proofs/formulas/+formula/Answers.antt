@@ -1,13 +1,13 @@
-use Rattle.std.proofs.Common.{◌+◌, ◌∙◌, map, refl, sym, ap, Some, arith}
-use Rattle.model.specs.GrammarWords.{free, reserved, and, not}
-use Rattle.model.specs.Grammar.{many, listed, term, formula, effect_list, atom, close}
+use Rattle.std.proofs.Common.{◌∙◌, map, refl, sym, ap, Some, arith}
+use Rattle.model.specs.GrammarWords.{free, reserved, and}
+use Rattle.model.specs.Grammar.{many, listed, term, formula}
 use Rattle.pddl_words.specs.Name.{name_of}
 use Rattle.pddl_words.specs.Token.{free_view, reserved_view}
 use Rattle.faults.specs.declared.refused.Refused.TheVariants.{At}
 use Rattle.faults.proofs.Results.{passed_on}
 use Rattle.pddl_tree.specs.Reading.{the, IsTold}
 use Rattle.pddl_tree.specs.Tree.{formula_of}
-use Rattle.pddl_tree.proofs.ReadOn.{given, then_read, first_told, then_told, by_word, by_word_told, in_list, in_list_told, not_open, of_tree, read_word}
+use Rattle.pddl_tree.proofs.ReadOn.{given, then_read, first_told, by_word, by_word_told, in_list, in_list_told, not_open, of_tree}
 use Rattle.pddl_tree.proofs.Rows.{formula_of-And}
 use Rattle.pddl_tree.proofs.Items.{on_more, on_end, on_told}
 use Rattle.pddl_tree.proofs.formulas.+formula.Goals as goal

@@ -1,5 +1,5 @@
-use Rattle.std.proofs.Common.{◌+◌, ◌∙◌, sym, arith}
-use Rattle.model.specs.Grammar.{many, key}
+use Rattle.std.proofs.Common.{◌∙◌, sym, arith}
+use Rattle.model.specs.Grammar.{key}
 use Rattle.faults.specs.declared.refused.Refused.TheVariants.{At}
 use Rattle.faults.proofs.Results.{passed_on}
 use Rattle.pddl_tree.specs.Reading.{IsTold, keys_dropped}

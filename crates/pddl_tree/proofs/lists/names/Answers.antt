@@ -1,4 +1,4 @@
-use Rattle.std.proofs.Common.{◌+◌, ◌∙◌, map, sym, arith}
+use Rattle.std.proofs.Common.{◌∙◌, map, sym, arith}
 use Rattle.model.specs.Grammar.{many, a_name}
 use Rattle.pddl_words.specs.Name.{name_of}
 use Rattle.faults.specs.declared.refused.Refused.TheVariants.{At}

@@ -1,4 +1,4 @@
-use Rattle.std.proofs.Common.{◌∙◌, refl, rules}
+use Rattle.std.proofs.Common.{◌∙◌, rules}
 use Rattle.faults.specs.declared.refused.Refused.TheVariants.{At}
 use Rattle.model.specs.GrammarWords.{problem_file}
 use Rattle.model.specs.Refusals.{start}

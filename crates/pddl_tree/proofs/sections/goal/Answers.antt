@@ -3,7 +3,7 @@ use Rattle.faults.specs.declared.refused.Refused.TheVariants.{At}
 use Rattle.faults.proofs.Results.{passed_on}
 use Rattle.pddl_tree.specs.Reading.{IsTold}
 use Rattle.pddl_tree.specs.Sections.{the_goal}
-use Rattle.pddl_tree.proofs.ReadOn.{given, then_read, first_told, then_told, read_word, in_list, in_list_told, not_open}
+use Rattle.pddl_tree.proofs.ReadOn.{given, then_read, first_told, then_told, read_word, in_list, in_list_told}
 use Rattle.pddl_tree.proofs.sections.goal.Goals as goal
 
 pub returns-clause-read : goal.returns-clause-read

@@ -1,4 +1,4 @@
-use Rattle.std.proofs.Common.{◌≡◌, ◌+◌, map, refl, sym, ◌∙◌, ap, subst, false, Some}
+use Rattle.std.proofs.Common.{◌≡◌, map, refl, subst, false, Some}
 use Rattle.model.specs.GrammarWords.{keyword, of_section}
 use Rattle.model.specs.Grammar.{sections_of}
 use Rattle.model.specs.Grammar as grammar

@@ -1,4 +1,4 @@
-use Rattle.std.proofs.Common.{◌+◌, ◌∙◌, [], map, sym, ap, subst, arith, rules}
+use Rattle.std.proofs.Common.{◌∙◌, map, sym, ap, subst, arith, rules}
 use Rattle.model.specs.Grammar.{no_contents, sections_of, required_of, seen_with, has_section}
 use Rattle.model.specs.Grammar as grammar
 use Rattle.pddl_words.specs.Token.{section_view}

@@ -1,4 +1,4 @@
-use Rattle.std.proofs.Common.{map, ◌∙◌, ap, List}
+use Rattle.std.proofs.Common.{map, ◌∙◌, ap}
 use Rattle.model.specs.Trees.{formulas, effects}
 use Rattle.model.specs.Trees as tree
 use Rattle.pddl_words.specs.Name.{name_of}
