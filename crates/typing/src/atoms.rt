@@ -23,11 +23,11 @@ pub struct PredicateId(pub usize);
 pub struct SchemaId(pub usize);
 
 /// A parameter of a schema: its place, from 0, among the schema's parameters.
-#[derive(Clone, Copy)]
+#[derive(Clone, Copy, Debug, PartialEq, Eq)]
 pub struct VariableId(pub usize);
 
 /// A ground atom: a predicate of some objects.
-#[derive(Clone, PartialEq, Eq, PartialOrd, Ord, Hash, Drop)]
+#[derive(Clone, Debug, PartialEq, Eq, PartialOrd, Ord, Hash, Drop)]
 pub struct Atom {
     /// The predicate.
     pub predicate: PredicateId,
@@ -36,7 +36,7 @@ pub struct Atom {
 }
 
 /// An argument of an atom in an action or a goal.
-#[derive(Clone, Copy)]
+#[derive(Clone, Copy, Debug)]
 pub enum Term {
     /// What a parameter of the action stands for.
     Variable(VariableId),
@@ -45,7 +45,7 @@ pub enum Term {
 }
 
 /// A predicate of some terms: an atom, once the parameters have objects.
-#[derive(Drop)]
+#[derive(Debug, Drop)]
 pub struct LiftedAtom {
     /// The predicate.
     pub predicate: PredicateId,

@@ -2,7 +2,7 @@
 use crate::atoms::LiftedAtom;
 
 /// A precondition or a goal.
-#[derive(Drop)]
+#[derive(Debug, Drop)]
 pub enum Formula {
     /// An atom.
     Atom(LiftedAtom),
@@ -11,7 +11,7 @@ pub enum Formula {
 }
 
 /// An effect of an action.
-#[derive(Drop)]
+#[derive(Debug, Drop)]
 pub enum Effect {
     /// An atom that becomes true.
     Add(LiftedAtom),
@@ -22,14 +22,14 @@ pub enum Effect {
 }
 
 /// A predicate's declaration.
-#[derive(Drop)]
+#[derive(Debug, Drop)]
 pub struct Predicate {
     /// How many arguments it has.
     pub arity: usize,
 }
 
 /// An action schema.
-#[derive(Drop)]
+#[derive(Debug, Drop)]
 pub struct Schema {
     /// How many parameters it has.
     pub parameters: usize,
