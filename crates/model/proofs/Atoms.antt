@@ -65,11 +65,10 @@ set_of atoms = from_list atoms
 abbrev has : State → Atom → Bool
 has s a = contains s a
 
-stands_in : List Atom → Atom → Bool
+abbrev pub stands_in : List Atom → Atom → Bool
 stands_in atoms q = list_any (eq_by_cmp atom_cmp q) atoms
 
 has-set_of : (atoms : List Atom) (q : Atom) → has (set_of atoms) q ≡ stands_in atoms q
-unfolding stands_in
 has-set_of atoms q = contains-from_list atoms_total atoms q
 
 has-difference : (s : State) (atoms : List Atom) (q : Atom) → has (difference s (set_of atoms)) q ≡ (has s q && not (stands_in atoms q))
@@ -79,15 +78,12 @@ has-union : (s : State) (atoms : List Atom) (q : Atom) → has (union s (set_of 
 has-union s atoms q = contains-union atoms_total s (set_of atoms) q ∙ ap (λ b. has s q || b) (has-set_of atoms q)
 
 stands_in-append : (xs ys : List Atom) (q : Atom) → stands_in (xs ++ ys) q ≡ (stands_in xs q || stands_in ys q)
-unfolding stands_in
 stands_in-append xs ys q = list_any-append (eq_by_cmp atom_cmp q) xs ys
 
 pub difference-none : (s : State) → difference s (set_of []) ≡ s
-unfolding stands_in
 difference-none s = same_state _ s (λ q. has-difference s [] q ∙ cond_nothing (has s q))
 
 pub difference-one : (s : State) (a : Atom) → difference s (set_of (a ∷ [])) ≡ remove s a
-unfolding stands_in
 difference-one s a = same_state _ _ (λ q. has-difference s (a ∷ []) q ∙ and_swap (has s q) (eq_by_cmp atom_cmp q a) ∙ sym (contains-remove atoms_total s a q))
 
 pub difference-append : (s : State) (xs ys : List Atom) → difference s (set_of (xs ++ ys)) ≡ difference (difference s (set_of xs)) (set_of ys)
@@ -97,11 +93,9 @@ difference-append s xs ys =
     ∙ sym (has-difference (difference s (set_of xs)) ys q ∙ ap (λ b. b && not (stands_in ys q)) (has-difference s xs q)))
 
 pub union-none : (s : State) → union s (set_of []) ≡ s
-unfolding stands_in
 union-none s = same_state _ s (λ q. has-union s [] q ∙ or_nothing (has s q))
 
 pub union-one : (s : State) (a : Atom) → union s (set_of (a ∷ [])) ≡ insert s a
-unfolding stands_in
 union-one s a = same_state _ _ (λ q. has-union s (a ∷ []) q ∙ or_swap (has s q) (eq_by_cmp atom_cmp q a) ∙ sym (contains-insert atoms_total s a q))
 
 pub union-append : (s : State) (xs ys : List Atom) → union s (set_of (xs ++ ys)) ≡ union (union s (set_of xs)) (set_of ys)

@@ -12,11 +12,7 @@ use Rattle.model.specs.Task.{Atom, LiftedAtom, Effect, Effects, add, delete, bot
 use Rattle.model.specs.Meaning.{State, atom_cmp, ground_atom, changes_of, changes_of_all, added_by, deleted_by, after_changes, step, holds, fits, system_of, initial_state}
 use Rattle.model.specs.Runs.{run, IsReachable}
 use Rattle.model.specs.Certificates.{touches, any_touches, is_fluent, static_atoms}
-use Rattle.model.proofs.Atoms.{atoms_total, atoms_apart, same_state, added_by-append, deleted_by-append}
-
--- the atom stands in the list
-abbrev pub stands_in : List Atom → Atom → Bool
-stands_in atoms q = list_any (eq_by_cmp atom_cmp q) atoms
+use Rattle.model.proofs.Atoms.{stands_in, atoms_total, atoms_apart, same_state, added_by-append, deleted_by-append}
 
 -- a ground atom of another predicate is another atom
 other_atom : (q : Atom) (a : LiftedAtom) (b : List ℕ) → (a.predicate == q.predicate) ≡ false → eq_by_cmp atom_cmp q (ground_atom b a) ≡ false

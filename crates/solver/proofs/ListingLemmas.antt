@@ -27,8 +27,8 @@ use Rattle.model.specs.Runs.{IsReachable}
 use Rattle.model.specs.Claims.{Claim, Line, IsClosed}
 use Rattle.model.specs.Meaning.{State, atom_cmp, system_of}
 use Rattle.model.specs.Certificates.{Certificate, StateLine, is_fluent, is_number, is_claim, is_state_line, keeps_limits, rise, static_atoms, state_of_line, lines_of}
-use Rattle.model.proofs.Atoms.{atoms_total}
-use Rattle.model.proofs.StaticLemmas.{stands_in, state_of_fluent, and_false}
+use Rattle.model.proofs.Atoms.{stands_in, atoms_total}
+use Rattle.model.proofs.StaticLemmas.{state_of_fluent, and_false}
 
 -- ---- lists
 

@@ -25,8 +25,8 @@ use Rattle.solver.proofs.NumbersLemmas.{stands_in-state}
 use Rattle.model.specs.Task.{Task, Atom}
 use Rattle.model.specs.Meaning.{State, atom_cmp}
 use Rattle.model.specs.Certificates.{is_fluent}
-use Rattle.model.proofs.Atoms.{atoms_total, atoms_apart}
-use Rattle.model.proofs.StaticLemmas.{stands_in, same_atom, and_false, or_false}
+use Rattle.model.proofs.Atoms.{stands_in, atoms_total, atoms_apart}
+use Rattle.model.proofs.StaticLemmas.{same_atom, and_false, or_false}
 
 -- ---- one atom
 

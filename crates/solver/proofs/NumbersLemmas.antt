@@ -18,8 +18,8 @@ use Rattle.solver.specs.Listing.{Names}
 use Rattle.model.specs.Task.{Atom}
 use Rattle.model.specs.Meaning.{State, atom_cmp}
 use Rattle.model.specs.Certificates.{rise}
-use Rattle.model.proofs.Atoms.{atoms_total, same_state}
-use Rattle.model.proofs.StaticLemmas.{stands_in, stands_in-filter}
+use Rattle.model.proofs.Atoms.{stands_in, atoms_total, same_state}
+use Rattle.model.proofs.StaticLemmas.{stands_in-filter}
 use Rattle.model.proofs.ListLemmas.{Contains-cases, Contains-none, Contains-there, Contains-here}
 
 -- ---- the order of atoms

@@ -13,8 +13,8 @@ use Rattle.model.specs.Task.{Atom, LiftedAtom, Term, variable, object, Predicate
 use Rattle.model.specs.WellTyped.{is_object, has_arity, is_term, is_lifted_atom, is_atom, is_formula, is_effect, are_effects, is_schema, is_task, max_arguments, max_variables}
 use Rattle.model.specs.Runs.{run, IsReachable}
 use Rattle.model.specs.Meaning.{State, atom_cmp, object_of, ground_atom, changes_of, changes_of_all, added_by, deleted_by, after_changes, step, holds, fits, system_of, initial_state}
-use Rattle.model.proofs.Atoms.{atoms_total, added_by-append}
-use Rattle.model.proofs.StaticLemmas.{stands_in, same_atom}
+use Rattle.model.proofs.Atoms.{stands_in, atoms_total, added_by-append}
+use Rattle.model.proofs.StaticLemmas.{same_atom}
 
 -- an atom of a list of which each passes
 typed_there : (p : Atom → Bool) (atoms : List Atom) (q : Atom) → stands_in atoms q ≡ true → list_all p atoms ≡ true → p q ≡ true

@@ -5,7 +5,7 @@ use Rattle.typing.specs.TaskParts.{atom_of}
 use Rattle.formulas.specs.State.{state_of}
 use Rattle.model.specs.Task.{Atom}
 use Rattle.model.specs.Certificates.{is_fluent}
-use Rattle.model.proofs.StaticLemmas.{stands_in}
+use Rattle.model.proofs.Atoms.{stands_in}
 use Rattle.solver.proofs.listing.add_fluent_atoms.Given as goal
 
 -- what was added, with the fluent ones of the atoms that are left, is all
