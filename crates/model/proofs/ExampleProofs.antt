@@ -159,4 +159,14 @@ worked_examples = record {
     ),
     refl,
   );
+  objects_of_a_supertype = refl;
+  objects_of_a_subtype = refl;
+  objects_of_the_root = refl;
+  objects_of_a_union = refl;
+  one_object_of_two_types = refl;
+  instances_by_type = refl;
+  object_of_another_type = refl;
+  subtype_fits = refl;
+  supertype_does_not = refl;
+  one_of_two_does_not = refl;
 }

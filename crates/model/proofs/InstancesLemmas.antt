@@ -1,15 +1,17 @@
 -- The list of all instances has each instance of the task, and the successors of a state are what its instances lead to.
 use Rattle.std.proofs.Common.{◌≡◌, ℕ, zero, suc, ◌+◌, ◌<◌, inl, inr, Bool, true, false, ◌&&◌, List, [], ◌∷◌, length, map, Option, None, Some, refl, sym, ap, subst, arith}
-use Rattle.std.specs.Prelude.{Contains, ◌==◌, nat_lt, slice_get, if◌then◌else◌}
-use Rattle.std.specs.List.{range_with_len, list_all}
+use Rattle.std.specs.Prelude.{Contains, slice_get, if◌then◌else◌}
+use Rattle.std.specs.Cmp.Lexicographic.{pointwise}
+use Rattle.std.specs.List.{range_with_len}
 use Rattle.std.specs.Option.{option_map, option_map_or, option_and_then}
-use Rattle.std.proofs.lemmas.Bool.{and_parts, and_from, eqb-true, eq-eqb, ltb-true, lt-ltb}
+use Rattle.std.proofs.lemmas.Bool.{and_parts, and_from}
+use Rattle.std.proofs.lemmas.Option.{slice_get_within}
 use Rattle.std.proofs.lemmas.List.Elements.{Contains-append_left, Contains-append_right, Contains-append_cases}
-use Rattle.model.specs.Task.{Schema, Task, Instance}
+use Rattle.model.specs.Task.{Object, Union, Schema, Task, Instance}
 use Rattle.model.specs.Runs.{AreSuccessors}
-use Rattle.model.specs.Meaning.{State, step, holds, after_changes, changes_of, is_instance, fits, system_of}
-use Rattle.model.specs.Instances.{tuples, instances_of_schema, instances_from, all_instances, leading_to, successors_of}
-use Rattle.model.proofs.ListLemmas.{Contains-here, Contains-cases, Contains-none, Contains-map, map-Contains, Contains-flat_map, flat_map-Contains, Contains-filter_map, filter_map-Contains, Contains-range, range-Contains}
+use Rattle.model.specs.Meaning.{State, is_below, is_of, objects_of, step, holds, after_changes, changes_of, is_instance, fits, system_of}
+use Rattle.model.specs.Instances.{product, instances_of_schema, instances_from, all_instances, leading_to, successors_of}
+use Rattle.model.proofs.ListLemmas.{Contains-here, Contains-cases, Contains-none, Contains-map, map-Contains, Contains-flat_map, flat_map-Contains, Contains-filter_map, filter_map-Contains, Contains-filter, filter-Contains, Contains-range}
 
 abbrev is_instance_of : Task → Option Schema → List ℕ → Bool
 is_instance_of task schema objects = option_map_or (λ s. fits task s objects) schema false
@@ -17,37 +19,47 @@ is_instance_of task schema objects = option_map_or (λ s. fits task s objects) s
 abbrev step_of : Task → State → Option Schema → List ℕ → Option State
 step_of task state found objects =
     option_and_then (λ schema.
-    if fits task schema objects && holds schema.precondition objects state then Some (after_changes state (changes_of schema.effect objects))
+    if fits task schema objects && holds task schema.precondition objects state then Some (after_changes state (changes_of schema.effect objects))
     else None)
     found
 
-abbrev AllBelow : ℕ → List ℕ → Bool
-AllBelow n objects = list_all (λ number. nat_lt number n) objects
+Contains-objects_of : (task : Task) (types : Union) (o : ℕ) → is_of task types o ≡ true → Contains (objects_of task types) o
+Contains-objects_of task types o of =
+    Contains-filter (is_of task types) (range_with_len 0 (length task.objects)) o (Contains-range 0 (length task.objects) o (omega arith) (omega (arith, is_of-within task types o of))) of
 
-pub Contains-tuples : (n count : ℕ) (objects : List ℕ) → length objects ≡ count → AllBelow n objects ≡ true → Contains (tuples n count) objects
-Contains-tuples n zero [] is below = Contains-here [] []
-Contains-tuples n zero (o ∷ objects) is below = absurd (omega arith)
-Contains-tuples n (suc count) [] is below = absurd (omega arith)
-Contains-tuples n (suc count) (o ∷ objects) is below =
-    let parts = and_parts (nat_lt o n) (AllBelow n objects) below in
-    let o_below : o < n = ltb-true o n parts.0 in
-    Contains-flat_map (λ first. map (λ rest. first ∷ rest) (tuples n count)) (range_with_len 0 n) o (o ∷ objects)
-    (Contains-range 0 n o (omega arith) (omega arith))
-    (Contains-map (λ rest. o ∷ rest) (tuples n count) objects (Contains-tuples n count objects (omega arith) parts.1))
+-- only a number of an object is of some type
+pub is_of-within : (task : Task) (types : Union) (o : ℕ) → is_of task types o ≡ true → o < length task.objects
+is_of-within task types o of = by_found (slice_get task.objects o) refl of
+  where
+    by_found : (found : Option Object) → slice_get task.objects o ≡ found → option_map_or (λ (x : Object). is_below task types x.type) found false ≡ true → o < length task.objects
+    by_found None at not_so = absurd (cc)
+    by_found (Some x) at so = slice_get_within task.objects o x at
 
-pub tuples-Contains : (n count : ℕ) (objects : List ℕ) → Contains (tuples n count) objects → (length objects ≡ count) × (AllBelow n objects ≡ true)
-tuples-Contains n zero objects at =
+abbrev ranges : Task → List Union → List (List ℕ)
+ranges task unions = map (objects_of task) unions
+
+Contains-product : (task : Task) (unions : List Union) (objects : List ℕ) → pointwise (is_of task) unions objects ≡ true → Contains (product (ranges task unions)) objects
+Contains-product task [] [] fit = Contains-here [] []
+Contains-product task [] (o ∷ objects) fit = absurd (cc)
+Contains-product task (types ∷ unions) [] fit = absurd (cc)
+Contains-product task (types ∷ unions) (o ∷ objects) fit =
+    let parts = and_parts (is_of task types o) (pointwise (is_of task) unions objects) fit in
+    Contains-flat_map (λ first. map (λ rest. first ∷ rest) (product (ranges task unions))) (objects_of task types) o (o ∷ objects)
+    (Contains-objects_of task types o parts.0)
+    (Contains-map (λ rest. o ∷ rest) (product (ranges task unions)) objects (Contains-product task unions objects parts.1))
+
+product-Contains : (task : Task) (unions : List Union) (objects : List ℕ) → Contains (product (ranges task unions)) objects → pointwise (is_of task) unions objects ≡ true
+product-Contains task [] objects at =
     elim (Contains-cases [] [] objects at) [
-      | inl is ↦ subst (λ os. (length os ≡ 0) × (AllBelow n os ≡ true)) is (refl, refl)
+      | inl is ↦ subst (λ os. pointwise (is_of task) [] os ≡ true) is refl
       | inr none ↦ absurd (Contains-none objects none)
     ]
-tuples-Contains n (suc count) objects at =
-    let first = flat_map-Contains (λ first. map (λ rest. first ∷ rest) (tuples n count)) (range_with_len 0 n) objects at in
-    let rest = map-Contains (λ rest. first.0 ∷ rest) (tuples n count) objects first.2 in
-    let in_range = range-Contains 0 n first.0 first.1 in
-    let known = tuples-Contains n count rest.0 rest.1 in
-    subst (λ os. (length os ≡ suc count) × (AllBelow n os ≡ true)) rest.2
-    (omega (arith, known.0), and_from (nat_lt first.0 n) (AllBelow n rest.0) (lt-ltb first.0 n (omega (arith, in_range.1))) known.1)
+product-Contains task (types ∷ unions) objects at =
+    let first = flat_map-Contains (λ first. map (λ rest. first ∷ rest) (product (ranges task unions))) (objects_of task types) objects at in
+    let rest = map-Contains (λ rest. first.0 ∷ rest) (product (ranges task unions)) objects first.2 in
+    let of = (filter-Contains (is_of task types) (range_with_len 0 (length task.objects)) first.0 first.1).1 in
+    subst (λ os. pointwise (is_of task) (types ∷ unions) os ≡ true) rest.2
+    (and_from (is_of task types first.0) (pointwise (is_of task) unions rest.0) of (product-Contains task unions rest.0 rest.1))
 
 abbrev instance_at : ℕ → List ℕ → Instance
 instance_at number objects = record { schema = number; objects = objects }
@@ -55,9 +67,7 @@ instance_at number objects = record { schema = number; objects = objects }
 Contains-instances_of_schema : (task : Task) (number : ℕ) (schema : Schema) (objects : List ℕ) → fits task schema objects ≡ true
     → Contains (instances_of_schema task number schema) (instance_at number objects)
 Contains-instances_of_schema task number schema objects fit =
-    let parts = and_parts (length objects == schema.parameters) (AllBelow (length task.objects) objects) fit in
-    Contains-map (instance_at number) (tuples (length task.objects) schema.parameters) objects
-    (Contains-tuples (length task.objects) schema.parameters objects (eqb-true (length objects) schema.parameters parts.0) parts.1)
+    Contains-map (instance_at number) (product (ranges task schema.parameters)) objects (Contains-product task schema.parameters objects fit)
 
 -- an object for each parameter of the schema at this place makes an instance of the list
 Contains-instances_from : (task : Task) (number place n : ℕ) (schemas : List Schema) (schema : Schema) (objects : List ℕ)
@@ -84,10 +94,8 @@ Contains-all_instances task i is =
 instances_of_schema-Contains : (task : Task) (number : ℕ) (schema : Schema) (i : Instance) → Contains (instances_of_schema task number schema) i
     → (i.schema ≡ number) × (fits task schema i.objects ≡ true)
 instances_of_schema-Contains task number schema i at =
-    let there = map-Contains (instance_at number) (tuples (length task.objects) schema.parameters) i at in
-    let known = tuples-Contains (length task.objects) schema.parameters there.0 there.1 in
-    subst (λ j. (j.schema ≡ number) × (fits task schema j.objects ≡ true)) there.2
-    (refl, and_from (length there.0 == schema.parameters) (AllBelow (length task.objects) there.0) (eq-eqb (length there.0) schema.parameters known.0) known.1)
+    let there = map-Contains (instance_at number) (product (ranges task schema.parameters)) i at in
+    subst (λ j. (j.schema ≡ number) × (fits task schema j.objects ≡ true)) there.2 (refl, product-Contains task schema.parameters there.0 there.1)
 
 instances_from-Contains : (task : Task) (number : ℕ) (schemas : List Schema) (i : Instance) → Contains (instances_from task number schemas) i
     → (place : ℕ) × (i.schema ≡ number + place) × (is_instance_of task (slice_get schemas place) i.objects ≡ true)
@@ -113,7 +121,7 @@ pub is_instance-of_step : (task : Task) (state : State) (i : Instance) (next : S
 is_instance-of_step task state i next leads =
     elim (slice_get task.schemas i.schema) as (λ o. step_of task state o i.objects ≡ Some next → is_instance_of task o i.objects ≡ true) [
       | None ↦ λ none. absurd (cc)
-      | Some schema ↦ λ some. first_test (fits task schema i.objects) (holds schema.precondition i.objects state) _ next some
+      | Some schema ↦ λ some. first_test (fits task schema i.objects) (holds task schema.precondition i.objects state) _ next some
     ] leads
 
 pair_of_option_map : {X Y : Type 0} (j i : X) (o : Option Y) (y : Y) → option_map {U = X × Y} (λ (z : Y). (j, z)) o ≡ Some (i, y) → (j ≡ i) × (o ≡ Some y)

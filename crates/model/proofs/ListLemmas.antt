@@ -1,6 +1,6 @@
 -- Which elements a list has, and those made by `map`, `flat_map`, `filter_map` and a range.
-use Rattle.std.proofs.Common.{◌≡◌, ℕ, zero, suc, add-one, ◌+◌, ◌<◌, ◌≤◌, ◌⊎◌, inl, inr, List, [], ◌∷◌, length, map, drop, Option, None, Some, refl, sym, ap, ◌∙◌, subst, arith}
-use Rattle.std.specs.Prelude.{Contains, slice_get}
+use Rattle.std.proofs.Common.{◌≡◌, ℕ, zero, suc, add-one, ◌+◌, ◌<◌, ◌≤◌, ◌⊎◌, inl, inr, Bool, true, false, true≢false, List, [], ◌∷◌, length, map, drop, Option, None, Some, refl, sym, ap, ◌∙◌, subst, arith}
+use Rattle.std.specs.Prelude.{Contains, cond, filter, slice_get}
 use Rattle.std.specs.List.{flat_map, filter_map, range_with_len, cons_option}
 use Rattle.std.proofs.lemmas.Bool.{cases_eq}
 use Rattle.std.proofs.lemmas.Option.{slice_get_within, slice_get_read, get_or_from_slice_get}
@@ -79,6 +79,31 @@ filter_map-Contains {X} {Y} h (first ∷ xs) y at =
             | inl is ↦ (first, Contains-here first xs, gives ∙ ap Some is)
             | inr later ↦ let rest = filter_map-Contains h xs y later in (rest.0, Contains-there first xs rest.0 rest.1, rest.2)
           ]
+    ] refl at
+
+pub Contains-filter : {X : Type 0} (p : X → Bool) (xs : List X) (x : X) → Contains xs x → p x ≡ true → Contains (filter p xs) x
+Contains-filter p [] x at passes = absurd (Contains-none x at)
+Contains-filter p (y ∷ xs) x at passes =
+    elim (p y) as (λ t. p y ≡ t → Contains (cond t (y ∷ filter p xs) (filter p xs)) x) [
+      | true ↦ λ _. elim (Contains-cases y xs x at) [
+          | inl is ↦ subst (λ z. Contains (y ∷ filter p xs) z) is (Contains-here y (filter p xs))
+          | inr later ↦ Contains-there y (filter p xs) x (Contains-filter p xs x later passes)
+        ]
+      | false ↦ λ fails. elim (Contains-cases y xs x at) [
+          | inl is ↦ absurd (true≢false (sym passes ∙ ap p (sym is) ∙ fails))
+          | inr later ↦ Contains-filter p xs x later passes
+        ]
+    ] refl
+
+pub filter-Contains : {X : Type 0} (p : X → Bool) (xs : List X) (x : X) → Contains (filter p xs) x → Contains xs x × (p x ≡ true)
+filter-Contains p [] x at = absurd (Contains-none x at)
+filter-Contains p (y ∷ xs) x at =
+    elim (p y) as (λ t. p y ≡ t → Contains (cond t (y ∷ filter p xs) (filter p xs)) x → Contains (y ∷ xs) x × (p x ≡ true)) [
+      | true ↦ λ passes among. elim (Contains-cases y (filter p xs) x among) [
+          | inl is ↦ (subst (λ z. Contains (y ∷ xs) z) is (Contains-here y xs), subst (λ z. p z ≡ true) is passes)
+          | inr later ↦ let rest = filter-Contains p xs x later in (Contains-there y xs x rest.0, rest.1)
+        ]
+      | false ↦ λ _ later. let rest = filter-Contains p xs x later in (Contains-there y xs x rest.0, rest.1)
     ] refl at
 
 pub Contains-range : (from n k : ℕ) → from ≤ k → k < from + n → Contains (range_with_len from n) k

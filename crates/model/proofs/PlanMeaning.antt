@@ -1,16 +1,17 @@
 -- The steps of a plan text mean one list of instances, or the first of them that means none is at fault.
-use Rattle.std.proofs.Common.{◌≡◌, ℕ, suc, ◌+◌, ◌≤◌, Bool, true, false, cond, List, [], ◌∷◌, ◌++◌, length, Option, Some, sym, refl, ap, ◌∙◌, subst, eqb, arith, append_assoc}
+use Rattle.std.proofs.Common.{◌≡◌, ℕ, suc, ◌+◌, ◌≤◌, Bool, true, false, cond, List, [], ◌∷◌, ◌++◌, length, Option, Some, sym, refl, ap, ◌∙◌, subst, arith, append_assoc}
+use Rattle.std.specs.Cmp.Lexicographic.{pointwise, as_long}
 use Rattle.std.specs.List.{list_all}
 use Rattle.std.specs.Option.{option_map_or}
 use Rattle.std.specs.Prelude.{slice_get}
-use Rattle.std.proofs.lemmas.Bool.{and_parts, and_from, eqb-true}
-use Rattle.std.proofs.lemmas.List.{length-append}
+use Rattle.std.proofs.lemmas.Bool.{and_parts, and_from}
+use Rattle.std.proofs.lemmas.List.{length-append, append-nil}
 use Rattle.model.specs.Fault.{Span, Fault}
 use Rattle.model.specs.Words.{Part, form, bytes, size, AreParts, longest_text}
 use Rattle.model.specs.Trees.{Name}
-use Rattle.model.specs.Task.{Task, Schema, Instance}
-use Rattle.model.specs.Meaning.{is_instance, fits}
-use Rattle.model.specs.PlanText.{Placed, placed_from, is_gap, Step, AreSteps, HasSteps, BeginsSteps, IsFormFault, too_long, refused, open_at_end, IsNumberOf, IsDeclared, AreNumbersOf, schema_names, Means, AllMean, IsPlanText, IsStepFault, unknown_action, wrong_count, unknown_object, IsPlanFault, of_form, of_step}
+use Rattle.model.specs.Task.{Union, Task, Schema, Instance}
+use Rattle.model.specs.Meaning.{is_of, is_instance, fits}
+use Rattle.model.specs.PlanText.{Placed, placed_from, is_gap, Step, AreSteps, HasSteps, BeginsSteps, IsFormFault, too_long, refused, open_at_end, IsNumberOf, IsDeclared, AreNumbersOf, schema_names, object_names, Means, AllMean, IsPlanText, NamesObject, NameObjects, IsStepFault, unknown_action, wrong_count, wrong_object, IsPlanFault, of_form, of_step}
 use Rattle.model.proofs.PlanReading.{one_list}
 use Rattle.model.proofs.Places.{Places, at_one, stands_before, stands_after, places}
 
@@ -35,7 +36,7 @@ same_instance i j schema objects =
 one_meaning : (task : Task) (step : Step) (i j : Instance) → Means task step i → Means task step j → i ≡ j
 one_meaning task step i j h g =
     same_instance i j (one_number (schema_names task) step.action i.schema j.schema h.action g.action)
-    (one_numbers task.objects step.objects i.objects j.objects h.objects g.objects)
+    (one_numbers (object_names task) step.objects i.objects j.objects h.objects g.objects)
 
 one_plan : (task : Task) (steps : List Step) (a b : List Instance) → AllMean task steps a → AllMean task steps b → a ≡ b
 one_plan task [] [] [] h g = refl
@@ -53,26 +54,47 @@ numbers_length declared [] (n ∷ ns) h = absurd h
 numbers_length declared (name ∷ names) [] h = absurd h
 numbers_length declared (name ∷ names) (n ∷ ns) h = ap suc (numbers_length declared names ns h.1)
 
-each_declared : (declared : List (List ℕ)) (before after : List Name) (name : Name) (numbers : List ℕ) → AreNumbersOf declared (before ++ name ∷ after) numbers → IsDeclared declared name
-each_declared declared [] after name [] h = absurd h
-each_declared declared [] after name (n ∷ ns) h = (n, h.0)
-each_declared declared (first ∷ before) after name [] h = absurd h
-each_declared declared (first ∷ before) after name (n ∷ ns) h = each_declared declared before after name ns h.1
+-- names of numbers that fit are names of objects that do
+pub names_each : (task : Task) (unions : List Union) (names : List Name) (numbers : List ℕ) → AreNumbersOf (object_names task) names numbers → pointwise (is_of task) unions numbers ≡ true → NameObjects task unions names
+names_each task [] [] [] are fit = tt
+names_each task (types ∷ unions) [] [] are fit = absurd (cc)
+names_each task unions [] (n ∷ ns) are fit = absurd are
+names_each task unions (name ∷ names) [] are fit = absurd are
+names_each task [] (name ∷ names) (n ∷ ns) are fit = absurd (cc)
+names_each task (types ∷ unions) (name ∷ names) (n ∷ ns) are fit =
+    let parts = and_parts (is_of task types n) (pointwise (is_of task) unions ns) fit in
+    ((n, are.0, parts.0), names_each task unions names ns are.1 parts.1)
+
+-- of two splits of the same types, where more names fit, a name after the first ones fits its own
+named_before : (task : Task) (before after : List Name) (name : Name) (theirs all others rest : List Union) (types : Union)
+    → NameObjects task theirs before → NameObjects task all (before ++ name ∷ after) → theirs ++ types ∷ others ≡ all ++ rest → NamesObject task types name
+named_before task [] after name [] [] others rest types named each split = absurd each
+named_before task [] after name [] (first ∷ all) others rest types named each split =
+    let same : types ≡ first = cc in subst (λ u. NamesObject task u name) (sym same) each.0
+named_before task [] after name (their ∷ theirs) all others rest types named each split = absurd named
+named_before task (n ∷ before) after name [] all others rest types named each split = absurd named
+named_before task (n ∷ before) after name (their ∷ theirs) [] others rest types named each split = absurd each
+named_before task (n ∷ before) after name (their ∷ theirs) (first ∷ all) others rest types named each split =
+    named_before task before after name theirs all others rest types named.1 each.1 (cc)
 
 -- an instance has an object for each parameter
-right_count : (task : Task) (i : Instance) (schema : Schema) → is_instance task i ≡ true → slice_get task.schemas i.schema ≡ Some schema → length i.objects ≡ schema.parameters
-right_count task i schema is here =
-    let fit : fits task schema i.objects ≡ true = sym (ap (λ (o : Option Schema). option_map_or (λ (s : Schema). fits task s i.objects) o false) here) ∙ is in
-    eqb-true (length i.objects) schema.parameters (and_parts (eqb (length i.objects) schema.parameters) _ fit).0
+fits_there : (task : Task) (i : Instance) (schema : Schema) → is_instance task i ≡ true → slice_get task.schemas i.schema ≡ Some schema → pointwise (is_of task) schema.parameters i.objects ≡ true
+fits_there task i schema is here = sym (ap (λ (o : Option Schema). option_map_or (λ (s : Schema). fits task s i.objects) o false) here) ∙ is
+
+right_count : (task : Task) (i : Instance) (schema : Schema) → is_instance task i ≡ true → slice_get task.schemas i.schema ≡ Some schema → length i.objects ≡ length schema.parameters
+right_count task i schema is here = sym (as_long (is_of task) schema.parameters i.objects (fits_there task i schema is here))
 
 means_no_fault : (task : Task) (step : Step) (i : Instance) (fault : Fault) → Means task step i → IsStepFault task step fault → ⊥
 means_no_fault task step i fault h (unknown_action none code span) = none (i.schema, h.action)
 means_no_fault task step i fault h (wrong_count number schema is here differs code span) =
     let same = one_number (schema_names task) step.action number i.schema is h.action in
     let there = subst (λ k. slice_get task.schemas k ≡ Some schema) same here in
-    differs (numbers_length task.objects step.objects i.objects h.objects ∙ right_count task i schema h.fits there)
-means_no_fault task step i fault h (unknown_object number schema is here counted before after name numbers objects_are named none code span) =
-    none (each_declared task.objects before after name i.objects (subst (λ names. AreNumbersOf task.objects names i.objects) objects_are h.objects))
+    differs (numbers_length (object_names task) step.objects i.objects h.objects ∙ right_count task i schema h.fits there)
+means_no_fault task step i fault h (wrong_object number schema is here counted before after name theirs others types objects_are split named none code span) =
+    let same = one_number (schema_names task) step.action number i.schema is h.action in
+    let there = subst (λ k. slice_get task.schemas k ≡ Some schema) same here in
+    let each = names_each task schema.parameters step.objects i.objects h.objects (fits_there task i schema h.fits there) in
+    none (named_before task before after name theirs schema.parameters others [] types named (subst (NameObjects task schema.parameters) objects_are each) (sym split ∙ sym (append-nil schema.parameters)))
 
 each_means : (task : Task) (before after : List Step) (step : Step) (plan : List Instance) → AllMean task (before ++ step ∷ after) plan → (i : Instance) × Means task step i
 each_means task [] after step [] h = absurd h
@@ -143,34 +165,32 @@ same_span a b start end = ap (λ n. let s : Span = record { start = n; end = a.e
 one_schema : (task : Task) (a b : ℕ) (s t : Schema) → a ≡ b → slice_get task.schemas a ≡ Some s → slice_get task.schemas b ≡ Some t → s ≡ t
 one_schema task a b s t same at there = let both : Some s ≡ Some t = sym at ∙ ap (slice_get task.schemas) same ∙ there in cc
 
--- names that are declared have none among them that is not
-all_declared : (declared : List (List ℕ)) (all before after : List Name) (name : Name) (numbers : List ℕ) → AreNumbersOf declared all numbers → all ≡ before ++ name ∷ after → IsDeclared declared name
-all_declared declared all before after name numbers are split = each_declared declared before after name numbers (subst (λ names. AreNumbersOf declared names numbers) split are)
-
-one_name : (declared : List (List ℕ)) (b c r s : List Name) (w x : Name) (m n : List ℕ) → b ++ w ∷ r ≡ c ++ x ∷ s → AreNumbersOf declared b m → AreNumbersOf declared c n
-    → (IsDeclared declared w → ⊥) → (IsDeclared declared x → ⊥) → w ≡ x
-one_name declared b c r s w x m n e are be unknown not_known = by_places (places b c r s w x e)
+-- of one list of names, and of the types in their places, one name is the first that is none of an object of its types
+one_name : (task : Task) (b c r s : List Name) (w x : Name) (us vs more others : List Union) (u v : Union) → b ++ w ∷ r ≡ c ++ x ∷ s → us ++ u ∷ more ≡ vs ++ v ∷ others
+    → NameObjects task us b → NameObjects task vs c → (NamesObject task u w → ⊥) → (NamesObject task v x → ⊥) → w ≡ x
+one_name task b c r s w x us vs more others u v e types are be unknown not_known = by_places (places b c r s w x e)
   where
     by_places : Places b c w x → w ≡ x
     by_places (at_one p q) = q
-    by_places (stands_before rest p) = absurd (unknown (all_declared declared c b rest w n be p))
-    by_places (stands_after rest p) = absurd (not_known (all_declared declared b c rest x m are p))
+    by_places (stands_before rest p) = absurd (unknown (named_before task b rest w us vs more (v ∷ others) u are (subst (NameObjects task vs) p be) types))
+    by_places (stands_after rest p) = absurd (not_known (named_before task c rest x vs us others (u ∷ more) v be (subst (NameObjects task us) p are) (sym types)))
 
 one_step_fault : (task : Task) (step : Step) (f g : Fault) → IsStepFault task step f → IsStepFault task step g → f ≡ g
 one_step_fault task step f g (unknown_action none code span) (unknown_action never number place) = same_fault f g (code ∙ sym number) (span ∙ sym place)
 one_step_fault task step f g (unknown_action none code span) (wrong_count k s is at differs number place) = absurd (none (k, is))
-one_step_fault task step f g (unknown_action none code span) (unknown_object k s is at counts b a name ns split are never number place) = absurd (none (k, is))
+one_step_fault task step f g (unknown_action none code span) (wrong_object k s is at counts b a name us more u split types are never number place) = absurd (none (k, is))
 one_step_fault task step f g (wrong_count k s is at differs code span) (unknown_action none number place) = absurd (none (k, is))
 one_step_fault task step f g (wrong_count k s is at differs code span) (wrong_count l t be there counted number place) = same_fault f g (code ∙ sym number) (span ∙ sym place)
-one_step_fault task step f g (wrong_count k s is at differs code span) (unknown_object l t be there counts b a name ns split are never number place) =
+one_step_fault task step f g (wrong_count k s is at differs code span) (wrong_object l t be there counts b a name us more u split types are never number place) =
     let schemas = one_schema task l k t s (one_number (schema_names task) step.action l k be is) there at in
-    absurd (differs (counts ∙ ap (λ (x : Schema). x.parameters) schemas))
-one_step_fault task step f g (unknown_object k s is at counts b a name ns split are never code span) (unknown_action none number place) = absurd (none (k, is))
-one_step_fault task step f g (unknown_object k s is at counts b a name ns split are never code span) (wrong_count l t be there differs number place) =
+    absurd (differs (counts ∙ ap (λ (x : Schema). length x.parameters) schemas))
+one_step_fault task step f g (wrong_object k s is at counts b a name us more u split types are never code span) (unknown_action none number place) = absurd (none (k, is))
+one_step_fault task step f g (wrong_object k s is at counts b a name us more u split types are never code span) (wrong_count l t be there differs number place) =
     let schemas = one_schema task k l s t (one_number (schema_names task) step.action k l is be) at there in
-    absurd (differs (counts ∙ ap (λ (x : Schema). x.parameters) schemas))
-one_step_fault task step f g (unknown_object k s is at counts b a name ns split are never code span) (unknown_object l t be there count c d other ms parts were none number place) =
-    let names = one_name task.objects b c a d name other ns ms (sym split ∙ parts) are were never none in
+    absurd (differs (counts ∙ ap (λ (x : Schema). length x.parameters) schemas))
+one_step_fault task step f g (wrong_object k s is at counts b a name us more u split types are never code span) (wrong_object l t be there count c d other vs others v parts unions were none number place) =
+    let schemas = one_schema task k l s t (one_number (schema_names task) step.action k l is be) at there in
+    let names = one_name task b c a d name other us vs more others u v (sym split ∙ parts) (sym types ∙ ap (λ (x : Schema). x.parameters) schemas ∙ unions) are were never none in
     same_fault f g (code ∙ sym number) (span ∙ ap (λ (n : Name). n.span) names ∙ sym place)
 
 -- steps that mean instances have none among them that is at fault

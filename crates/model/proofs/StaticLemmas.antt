@@ -87,13 +87,13 @@ contains-step task s next i q static leads =
     elim (slice_get task.schemas i.schema) as (λ o. slice_get task.schemas i.schema ≡ o → option_and_then (next_by) o ≡ Some next → contains next q ≡ contains s q) [
       | None ↦ λ _ none. absurd (cc)
       | Some schema ↦ λ at some.
-          let is : after_changes s (changes_of schema.effect i.objects) ≡ next = given (fits task schema i.objects) (holds schema.precondition i.objects s) _ next some in
+          let is : after_changes s (changes_of schema.effect i.objects) ≡ next = given (fits task schema i.objects) (holds task schema.precondition i.objects s) _ next some in
           ap (λ (t : State). contains t q) (sym is)
           ∙ contains-after s q schema.effect i.objects (none_of_all (λ (x : Schema). touches q.predicate x.effect) task.schemas i.schema schema static at)
     ] refl leads
   where
     next_by : Schema → Option State
-    next_by schema = if fits task schema i.objects && holds schema.precondition i.objects s then Some (after_changes s (changes_of schema.effect i.objects)) else None
+    next_by schema = if fits task schema i.objects && holds task schema.precondition i.objects s then Some (after_changes s (changes_of schema.effect i.objects)) else None
 
 contains-run : (task : Task) (q : Atom) → is_fluent task q.predicate ≡ false → (actions : List Instance) (s end : State) → run (system_of task) s actions ≡ Some end → contains end q ≡ contains s q
 contains-run task q static [] s end runs = let same : s ≡ end = cc in ap (λ (t : State). contains t q) (sym same)

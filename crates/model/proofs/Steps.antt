@@ -33,15 +33,15 @@ contains-state_after init (changes ∷ earlier) q =
     || contains-from_list atoms_total (added_by changes) q i)
 
 module _ (t : Task) (s : State) (a : Instance) (schema : Schema) (is : slice_get t.schemas a.schema ≡ Some schema) (fit : fits t schema a.objects ≡ true) where
-  step_of_schema : step t s a ≡ cond (holds schema.precondition a.objects s) (Some (after_changes s (changes_of schema.effect a.objects))) None
+  step_of_schema : step t s a ≡ cond (holds t schema.precondition a.objects s) (Some (after_changes s (changes_of schema.effect a.objects))) None
   step_of_schema =
-      ap (option_and_then (λ found. cond (fits t found a.objects && holds found.precondition a.objects s) (Some (after_changes s (changes_of found.effect a.objects))) None)) is
-      ∙ ap (λ b. cond (b && holds schema.precondition a.objects s) (Some (after_changes s (changes_of schema.effect a.objects))) None) fit
+      ap (option_and_then (λ found. cond (fits t found a.objects && holds t found.precondition a.objects s) (Some (after_changes s (changes_of found.effect a.objects))) None)) is
+      ∙ ap (λ b. cond (b && holds t schema.precondition a.objects s) (Some (after_changes s (changes_of schema.effect a.objects))) None) fit
 
   -- where the precondition holds
-  pub leads : holds schema.precondition a.objects s ≡ true → step t s a ≡ Some (after_changes s (changes_of schema.effect a.objects))
+  pub leads : holds t schema.precondition a.objects s ≡ true → step t s a ≡ Some (after_changes s (changes_of schema.effect a.objects))
   leads holding = step_of_schema ∙ ap (λ b. cond b (Some (after_changes s (changes_of schema.effect a.objects))) None) holding
 
   -- where it does not
-  pub leads_nowhere : holds schema.precondition a.objects s ≡ false → step t s a ≡ None
+  pub leads_nowhere : holds t schema.precondition a.objects s ≡ false → step t s a ≡ None
   leads_nowhere failing = step_of_schema ∙ ap (λ b. cond b (Some (after_changes s (changes_of schema.effect a.objects))) None) failing

@@ -6,7 +6,7 @@ use Rattle.model.specs.Runs.{cost_of_all, Solves}
 use Rattle.model.specs.Meaning.{State, initial_state, step, meets_goal, system_of}
 use Rattle.model.specs.Instances.{all_instances}
 use Rattle.model.specs.Claims.{Claim, bound, none, Allows, Line, IsListedWithin}
-use Rattle.model.specs.Certificates.{Certificate, is_fluent, lines_of}
+use Rattle.model.specs.Certificates.{Certificate, is_fluent, lines_of, value_of}
 
 -- the reasons, each with the number that is told
 pub data Reason : Type 0 where
@@ -69,9 +69,9 @@ IsWrongLine task c successor_missing line =
 IsWrongLine task c successor_dearer line =
     (l : Line State) × (i : Instance) × (next : State) × LeadsFrom task c line l i next × IsListed (lines_of task c) next
     × ¬ IsListedWithin (lines_of task c) next (l.cost + (system_of task).cost i)
--- its cut's bound is more than the value 0, or what it claims is less than what is claimed
+-- its cut's bound is more than the state's value, or what it claims is less than what is claimed
 IsWrongLine task c cut_weak line =
-    (l : Line State) × (rest : ℕ) × HasState task c line l × (l.cut ≡ Some rest) × ((0 < rest) ⊎ ¬ Allows c.claim (l.cost + rest))
+    (l : Line State) × (rest : ℕ) × HasState task c line l × (l.cut ≡ Some rest) × ((value_of c l.state < rest) ⊎ ¬ Allows c.claim (l.cost + rest))
 -- it is a cut, and it is claimed that no list solves
 IsWrongLine task c cut_not_allowed line = (l : Line State) × (rest : ℕ) × HasState task c line l × (l.cut ≡ Some rest) × (c.claim ≡ none)
 IsWrongLine task c _ line = ⊥

@@ -69,9 +69,13 @@ abbrev pub lines_of : Task → Certificate → List (Line State)
 lines_of task certificate =
     map (λ (l : StateLine). record { state = state_of_line task certificate l; cost = l.cost; cut = l.cut }) certificate.lines
 
--- The certificate is closed for the task, with the value 0 in every state.
+-- the value of a state, which what is still to pay from it on does not fall short of: 0
+abbrev pub value_of : Certificate → State → ℕ
+value_of certificate state = 0
+
+-- The certificate is closed for the task, by the values that it gives to states.
 pub record IsClosedFor (task : Task) (certificate : Certificate) : Type 0 where
   pub atoms_are_fluent : All (λ (a : Atom). IsTrue (is_atom task a && is_fluent task a.predicate)) certificate.atoms
   pub atoms_are_distinct : AllPairs (λ (a b : Atom). a ≢ b) certificate.atoms
   pub states_are_distinct : AllPairs (λ (k l : Line State). k.state ≢ l.state) (lines_of task certificate)
-  pub listing_is_closed : IsClosed (system_of task) (λ _. 0) certificate.claim (lines_of task certificate)
+  pub listing_is_closed : IsClosed (system_of task) (value_of certificate) certificate.claim (lines_of task certificate)

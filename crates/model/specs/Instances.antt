@@ -1,19 +1,19 @@
 -- All instances of a task's schemas, in order, and those that are applicable in a state.
-use Rattle.std.specs.Prelude.{ℕ, suc, zero, ◌+◌, List, [], ◌∷◌, ◌++◌, map, length, Option}
-use Rattle.std.specs.List.{flat_map, filter_map, range_with_len}
+use Rattle.std.specs.Prelude.{ℕ, ◌+◌, List, [], ◌∷◌, ◌++◌, map, Option}
+use Rattle.std.specs.List.{flat_map, filter_map}
 use Rattle.std.specs.Option.{option_map}
 use Rattle.model.specs.Task.{Schema, Task, Instance}
-use Rattle.model.specs.Meaning.{State, step}
+use Rattle.model.specs.Meaning.{State, objects_of, step}
 
--- every list of this many numbers, each below n, in the order of their numbers compared from the left
-abbrev pub tuples : ℕ → ℕ → List (List ℕ)
-tuples n zero = [] ∷ []
-tuples n (suc count) = flat_map (λ first. map (λ rest. first ∷ rest) (tuples n count)) (range_with_len 0 n)
+-- every list of one of the first, one of the second, and so on, in the order in which they stand, compared from the left
+abbrev pub product : List (List ℕ) → List (List ℕ)
+product [] = [] ∷ []
+product (firsts ∷ others) = flat_map (λ first. map (λ rest. first ∷ rest) (product others)) firsts
 
 -- the instances of the schema of this number
 abbrev pub instances_of_schema : Task → ℕ → Schema → List Instance
 instances_of_schema task number schema =
-    map (λ (objects : List ℕ). record { schema = number; objects = objects }) (tuples (length task.objects) schema.parameters)
+    map (λ (objects : List ℕ). record { schema = number; objects = objects }) (product (map (objects_of task) schema.parameters))
 
 abbrev pub instances_from : Task → ℕ → List Schema → List Instance
 instances_from task number [] = []

@@ -1,14 +1,14 @@
 -- What a planning task means: states, when a formula holds, what an action does.
 -- The state after an action follows Fox & Long 2003, section 8 (the untimed part); the rest is that of the
--- PDDL 1.2 manual for actions with parameters and conjunctions.
-use Rattle.std.specs.Prelude.{ℕ, Bool, true, false, ◌&&◌, ◌==◌, nat_lt, List, [], ◌∷◌, ◌++◌, length, map, slice_get, slice_index, if◌then◌else◌, Option, None, Some}
-use Rattle.std.specs.List.{list_all}
+-- PDDL 1.2 manual for types, actions with parameters and conjunctions.
+use Rattle.std.specs.Prelude.{ℕ, Bool, true, false, ◌&&◌, nat_eq, List, [], ◌∷◌, ◌++◌, length, map, filter, slice_get, slice_index, if◌then◌else◌, Option, None, Some}
+use Rattle.std.specs.List.{list_any, range_with_len}
 use Rattle.std.specs.Option.{option_map_or, option_and_then}
-use Rattle.std.specs.Cmp.Lexicographic.{slice_cmp}
+use Rattle.std.specs.Cmp.Lexicographic.{slice_cmp, pointwise}
 use Rattle.std.specs.Ordering.{nat_cmp}
 use Rattle.std.specs.declared.cmp.Ordering.{Ordering}
 use Rattle.std.specs.FinSet.{FinSet, from_list, contains, union, difference}
-use Rattle.model.specs.Task.{Atom, LiftedAtom, Term, variable, object, Formula, Formulas, atom, and, no_formula, more_formulas, Effect, Effects, add, delete, both, no_effect, more_effects, Schema, Task, Instance}
+use Rattle.model.specs.Task.{ObjectType, Object, Union, Atom, LiftedAtom, Term, variable, object, Formula, Formulas, atom, and, no_formula, more_formulas, Effect, Effects, add, delete, both, no_effect, more_effects, Schema, Task, Instance}
 use Rattle.model.specs.Runs.{System}
 
 -- atoms in the order of their predicates, and then of their objects from the left
@@ -24,6 +24,26 @@ State = FinSet atom_cmp
 abbrev pub initial_state : Task → State
 initial_state task = from_list task.init
 
+-- ---- objects and their types
+
+-- all types that the objects of a type are of
+abbrev pub supertypes_of : Task → ℕ → List ℕ
+supertypes_of task number = option_map_or (λ (t : ObjectType). t.supertypes) (slice_get task.types number) []
+
+-- the type is one of these or stands below one of them
+abbrev pub is_below : Task → Union → ℕ → Bool
+is_below task types number = list_any (λ above. list_any (nat_eq above) types) (supertypes_of task number)
+
+-- the object is of one of these types: the type that it is declared with is one of them or stands below one
+abbrev pub is_of : Task → Union → ℕ → Bool
+is_of task types number = option_map_or (λ (o : Object). is_below task types o.type) (slice_get task.objects number) false
+
+-- the objects of these types, in order, each once
+abbrev pub objects_of : Task → Union → List ℕ
+objects_of task types = filter (is_of task types) (range_with_len 0 (length task.objects))
+
+-- ---- formulas and effects
+
 -- what a term names, where the parameters have these objects
 abbrev pub object_of : List ℕ → Term → ℕ
 object_of binding (variable parameter) = slice_index binding parameter
@@ -32,16 +52,16 @@ object_of binding (object number) = number
 abbrev pub ground_atom : List ℕ → LiftedAtom → Atom
 ground_atom binding a = record { predicate = a.predicate; objects = map (object_of binding) a.terms }
 
--- A formula holds in a state where the parameters have these objects: an atom where it is in the state,
+-- A formula of the task holds in a state where the parameters have these objects: an atom where it is in the state,
 -- a conjunction where each of its parts holds, so `(and)` always.
 abbrev mutual
-  pub holds : Formula → List ℕ → State → Bool
-  holds (atom a) binding state = contains state (ground_atom binding a)
-  holds (and parts) binding state = all_hold parts binding state
+  pub holds : Task → Formula → List ℕ → State → Bool
+  holds task (atom a) binding state = contains state (ground_atom binding a)
+  holds task (and parts) binding state = all_hold task parts binding state
 
-  pub all_hold : Formulas → List ℕ → State → Bool
-  all_hold no_formula binding state = true
-  all_hold (more_formulas first rest) binding state = holds first binding state && all_hold rest binding state
+  pub all_hold : Task → Formulas → List ℕ → State → Bool
+  all_hold task no_formula binding state = true
+  all_hold task (more_formulas first rest) binding state = holds task first binding state && all_hold task rest binding state
 
 -- one atom that an effect makes true, or false
 pub data Change : Type 0 where
@@ -74,10 +94,9 @@ deleted_by (deletes a ∷ rest) = a ∷ deleted_by rest
 abbrev pub after_changes : State → List Change → State
 after_changes state changes = union (difference state (from_list (deleted_by changes))) (from_list (added_by changes))
 
--- an object of the task for each parameter; two parameters may have the same one
+-- an object of its types for each parameter; two parameters may have the same one
 abbrev pub fits : Task → Schema → List ℕ → Bool
-fits task schema objects =
-    (length objects == schema.parameters) && list_all (λ number. nat_lt number (length task.objects)) objects
+fits task schema objects = pointwise (is_of task) schema.parameters objects
 
 -- an instance of one of the task's schemas (PDDL 1.2 manual, "Actions")
 abbrev pub is_instance : Task → Instance → Bool
@@ -88,19 +107,23 @@ is_instance task i = option_map_or (λ schema. fits task schema i.objects) (slic
 abbrev pub step : Task → State → Instance → Option State
 step task state i =
     option_and_then (λ schema.
-    if fits task schema i.objects && holds schema.precondition i.objects state then Some (after_changes state (changes_of schema.effect i.objects))
+    if fits task schema i.objects && holds task schema.precondition i.objects state then Some (after_changes state (changes_of schema.effect i.objects))
     else None)
     (slice_get task.schemas i.schema)
 
 -- the goal has no parameters
 abbrev pub meets_goal : Task → State → Bool
-meets_goal task state = holds task.goal [] state
+meets_goal task state = holds task task.goal [] state
 
--- the task as a transition system; each instance costs 1
+-- what an instance costs: each costs 1
+abbrev pub cost_of : Task → Instance → ℕ
+cost_of task i = 1
+
+-- the task as a transition system
 abbrev pub system_of : Task → System State Instance
 system_of task = record {
   initial = initial_state task;
   step = step task;
-  cost = λ i. 1;
+  cost = cost_of task;
   meets_goal = meets_goal task;
 }

@@ -6,8 +6,8 @@ use Rattle.std.specs.Prelude.{◌≡◌, ◌≢◌, ℕ, ◌+◌, ◌<◌, ◌�
 use Rattle.model.specs.Fault.{Span, Fault}
 use Rattle.model.specs.Words.{Form, blank, comment, opening, closing, Part, form, bytes, size, AreParts, is_name, longest_text}
 use Rattle.model.specs.Trees.{Name}
-use Rattle.model.specs.Task.{Task, Schema, Instance}
-use Rattle.model.specs.Meaning.{is_instance}
+use Rattle.model.specs.Task.{Union, Object, Task, Schema, Instance}
+use Rattle.model.specs.Meaning.{is_of, is_instance}
 use Rattle.model.specs.Typing.{folded, is_same}
 
 -- a parenthesis, a run or a stray byte of a text, and the offset of its first byte
@@ -88,10 +88,13 @@ AreNumbersOf declared (name ∷ names) (number ∷ numbers) = IsNumberOf declare
 abbrev pub schema_names : Task → List (List ℕ)
 schema_names task = map (λ (s : Schema). s.name) task.schemas
 
+abbrev pub object_names : Task → List (List ℕ)
+object_names task = map (λ (o : Object). o.name) task.objects
+
 -- the step names this instance of the task
 pub record Means (task : Task) (step : Step) (i : Instance) : Type 0 where
   pub action : IsNumberOf (schema_names task) step.action i.schema
-  pub objects : AreNumbersOf task.objects step.objects i.objects
+  pub objects : AreNumbersOf (object_names task) step.objects i.objects
   pub fits : IsTrue (is_instance task i)
 
 abbrev pub AllMean : Task → List Step → List Instance → Type 0
@@ -123,18 +126,30 @@ pub data IsFormFault (text : List ℕ) (span : Span) : Type 0 where
       → ((steps : List Step) → AreSteps (placed_from 0 parts) steps → ⊥)
       → span.start ≡ length text → span.end ≡ length text → IsFormFault text span
 
+-- the name is that of an object of one of these types
+abbrev pub NamesObject : Task → Union → Name → Type 0
+NamesObject task types name = (number : ℕ) × IsNumberOf (object_names task) name number × IsTrue (is_of task types number)
+
+-- each name is that of an object of the types in its place
+abbrev pub NameObjects : Task → List Union → List Name → Type 0
+NameObjects task [] [] = ⊤
+NameObjects task [] (name ∷ names) = ⊥
+NameObjects task (types ∷ others) [] = ⊥
+NameObjects task (types ∷ others) (name ∷ names) = NamesObject task types name × NameObjects task others names
+
 -- the step is at fault
 pub data IsStepFault (task : Task) (step : Step) (fault : Fault) : Type 0 where
   unknown_action : (IsDeclared (schema_names task) step.action → ⊥) → fault.code ≡ 32 → fault.span ≡ step.action.span
       → IsStepFault task step fault
   wrong_count : (number : ℕ) → (schema : Schema) → IsNumberOf (schema_names task) step.action number
-      → slice_get task.schemas number ≡ Some schema → length step.objects ≢ schema.parameters
+      → slice_get task.schemas number ≡ Some schema → length step.objects ≢ length schema.parameters
       → fault.code ≡ 33 → fault.span ≡ step.action.span → IsStepFault task step fault
-  -- the first object that is not declared
-  unknown_object : (number : ℕ) → (schema : Schema) → IsNumberOf (schema_names task) step.action number
-      → slice_get task.schemas number ≡ Some schema → length step.objects ≡ schema.parameters
-      → (before after : List Name) → (name : Name) → (numbers : List ℕ) → step.objects ≡ before ++ name ∷ after
-      → AreNumbersOf task.objects before numbers → (IsDeclared task.objects name → ⊥)
+  -- the first object that is not declared or is not of the types of its parameter
+  wrong_object : (number : ℕ) → (schema : Schema) → IsNumberOf (schema_names task) step.action number
+      → slice_get task.schemas number ≡ Some schema → length step.objects ≡ length schema.parameters
+      → (before after : List Name) → (name : Name) → (theirs others : List Union) → (types : Union)
+      → step.objects ≡ before ++ name ∷ after → schema.parameters ≡ theirs ++ types ∷ others
+      → NameObjects task theirs before → (NamesObject task types name → ⊥)
       → fault.code ≡ 34 → fault.span ≡ name.span → IsStepFault task step fault
 
 -- the fault that is told of the text: its form before all else, and then the first step at fault

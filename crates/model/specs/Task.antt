@@ -1,15 +1,30 @@
 -- A planning task: what a domain and a problem say once their names are resolved to numbers.
--- Objects, predicates, schemas and variables are numbered from 0, in the order of their declarations.
+-- Types, objects, predicates, schemas and variables are numbered from 0, in the order of their declarations; type 0 is
+-- `object`.
 use Rattle.std.specs.Prelude.{ℕ, List}
 
 -- the bytes of a name, in lower case (PDDL 1.2 manual, "Syntax": names are not case-sensitive)
 abbrev pub Name : Type 0
 Name = List ℕ
 
--- a predicate and the number of its arguments (PDDL 1.2 manual, "Predicates")
+-- A type, and all types that its objects are of: itself and those above it, up to `object` (PDDL 1.2 manual, "Types").
+pub record ObjectType : Type 0 where
+  pub name : Name
+  pub supertypes : List ℕ
+
+-- an object and the type that it is declared with
+pub record Object : Type 0 where
+  pub name : Name
+  pub type : ℕ
+
+-- Types of which an object has to be of one, as `(either t u)` says (PDDL 1.2 manual, "Types").
+abbrev pub Union : Type 0
+Union = List ℕ
+
+-- a predicate, and what each of its arguments has to be (PDDL 1.2 manual, "Predicates")
 pub record Predicate : Type 0 where
   pub name : Name
-  pub arity : ℕ
+  pub arguments : List Union
 
 -- a ground atom: a predicate of some objects
 pub record Atom : Type 0 where
@@ -47,15 +62,16 @@ mutual
     no_effect : Effects
     more_effects : Effect → Effects → Effects
 
--- an action schema (PDDL 1.2 manual, "Actions")
+-- an action schema, and what each of its parameters has to be (PDDL 1.2 manual, "Actions")
 pub record Schema : Type 0 where
   pub name : Name
-  pub parameters : ℕ
+  pub parameters : List Union
   pub precondition : Formula
   pub effect : Effect
 
 pub record Task : Type 0 where
-  pub objects : List Name
+  pub types : List ObjectType
+  pub objects : List Object
   pub predicates : List Predicate
   pub schemas : List Schema
   -- the atoms that stand in `:init`

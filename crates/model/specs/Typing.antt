@@ -1,7 +1,7 @@
 -- Which faults a domain and a problem have, when they are well-typed, and which task they are then.
 -- The rules are those of the PDDL 1.2 manual for declarations and uses ("Predicates", "Actions", "Problems"), with
 -- the limits of the language profile.
-use Rattle.std.specs.Prelude.{◌≡◌, ℕ, Bool, false, ◌==◌, List, [], ◌∷◌, ◌++◌, length, map, fold, take, drop, slice_get, if◌then◌else◌, Option, None, Some, All, Contains}
+use Rattle.std.specs.Prelude.{◌≡◌, ℕ, Bool, false, ◌==◌, List, [], ◌∷◌, ◌++◌, codes, length, map, fold, take, drop, slice_get, if◌then◌else◌, Option, None, Some, All, Contains}
 use Rattle.std.specs.Char.{to_ascii_lowercase}
 use Rattle.std.specs.Cmp.Lexicographic.{slice_cmp, pointwise}
 use Rattle.std.specs.List.{flat_map, list_any, position_or_len}
@@ -96,8 +96,21 @@ atom_in known f = record {
   objects = map (number_in known.objects) f.objects;
 }
 
+-- the root of all types, which is the only one here, and a place where any object may stand
+abbrev pub root_type : task.ObjectType
+root_type = record { name = codes "object"; supertypes = 0 ∷ [] }
+
+abbrev pub any_object : task.Union
+any_object = 0 ∷ []
+
+abbrev pub object_of : Name → task.Object
+object_of name = record { name = folded name; type = 0 }
+
+abbrev pub any_objects : List Name → List task.Union
+any_objects names = map (λ _. any_object) names
+
 abbrev pub predicate_of : tree.Predicate → task.Predicate
-predicate_of p = record { name = folded p.name; arity = length p.parameters }
+predicate_of p = record { name = folded p.name; arguments = any_objects p.parameters }
 
 abbrev pub predicates_of : Domain → List task.Predicate
 predicates_of d = map predicate_of d.predicates
@@ -113,7 +126,7 @@ known_in_problem predicates p = record { predicates = predicates; variables = []
 abbrev pub schema_in : List task.Predicate → tree.Action → task.Schema
 schema_in predicates a = record {
   name = folded a.name;
-  parameters = length a.parameters;
+  parameters = any_objects a.parameters;
   precondition = formula_in (known_in_action predicates a) a.precondition;
   effect = effect_in (known_in_action predicates a) a.effect;
 }
@@ -121,7 +134,8 @@ schema_in predicates a = record {
 -- the task, where the pair is well-typed: each name is its number
 abbrev pub task_of_trees : Domain → Problem → task.Task
 task_of_trees d p = record {
-  objects = map folded p.objects;
+  types = root_type ∷ [];
+  objects = map object_of p.objects;
   predicates = predicates_of d;
   schemas = map (schema_in (predicates_of d)) d.actions;
   init = map (atom_in (known_in_problem (predicates_of d) p)) p.init;
@@ -150,7 +164,7 @@ unknown_faults file names name = if is_known names name then [] else refused fil
 -- 17: there is no declaration. 18: it has another count of arguments
 abbrev pub faults_against : File → Option task.Predicate → Name → ℕ → List TypingFault
 faults_against file None name count = refused file 17 (name ∷ [])
-faults_against file (Some p) name count = if count == p.arity then [] else refused file 18 (name ∷ [])
+faults_against file (Some p) name count = if count == length p.arguments then [] else refused file 18 (name ∷ [])
 
 -- of a predicate with this count of terms
 abbrev pub predicate_faults : File → List task.Predicate → Name → ℕ → List TypingFault

@@ -1,8 +1,11 @@
--- Which resolved formulas, effects, atoms and tasks are well-typed: each number names something, each predicate
--- has as many arguments as its declaration says, and the limits of the language profile are kept.
-use Rattle.std.specs.Prelude.{ℕ, Bool, true, false, ◌&&◌, ◌==◌, nat_lt, nat_le, length, slice_get, Option, None, Some}
-use Rattle.std.specs.List.{list_all}
-use Rattle.model.specs.Task.{Predicate, Atom, LiftedAtom, Term, variable, object, Formula, Formulas, atom, and, no_formula, more_formulas, Effect, Effects, add, delete, both, no_effect, more_effects, Schema, Task}
+-- Which resolved formulas, effects, atoms and tasks are well-typed: each number names something, each predicate has the
+-- arguments that its declaration asks for, and the limits of the language profile are kept.
+use Rattle.std.specs.Prelude.{ℕ, Bool, true, false, ◌&&◌, nat_eq, nat_le, List, [], length, slice_get}
+use Rattle.std.specs.Cmp.Lexicographic.{pointwise}
+use Rattle.std.specs.List.{list_all, list_any}
+use Rattle.std.specs.Option.{option_map_or}
+use Rattle.model.specs.Task.{ObjectType, Union, Predicate, Atom, LiftedAtom, Term, variable, object, Formula, Formulas, atom, and, no_formula, more_formulas, Effect, Effects, add, delete, both, no_effect, more_effects, Schema, Task}
+use Rattle.model.specs.Meaning.{supertypes_of, is_below, is_of}
 
 -- the most arguments of a predicate, and the most variables in scope at once
 abbrev pub max_arguments : ℕ
@@ -11,55 +14,53 @@ max_arguments = 8
 abbrev pub max_variables : ℕ
 max_variables = 16
 
--- the number names an object of the task
-abbrev pub is_object : Task → ℕ → Bool
-is_object task number = nat_lt number (length task.objects)
+-- A term may stand where an object of one of these types is wanted: an object that is of one, or a parameter each of
+-- whose own types is one of them or stands below one.
+abbrev pub is_term : Task → List Union → Union → Term → Bool
+is_term task scope types (variable parameter) = option_map_or (list_all (is_below task types)) (slice_get scope parameter) false
+is_term task scope types (object number) = is_of task types number
 
-abbrev pub is_of_arity : Option Predicate → ℕ → Bool
-is_of_arity None count = false
-is_of_arity (Some p) count = count == p.arity
+-- a predicate of the task with a term for each argument, where these are the types of the parameters
+abbrev pub is_lifted_atom : Task → List Union → LiftedAtom → Bool
+is_lifted_atom task scope a =
+    option_map_or (λ (p : Predicate). pointwise (is_term task scope) p.arguments a.terms) (slice_get task.predicates a.predicate) false
 
--- the number names a predicate that has this count of arguments
-abbrev pub has_arity : Task → ℕ → ℕ → Bool
-has_arity task predicate count = is_of_arity (slice_get task.predicates predicate) count
-
--- where this many parameters are in scope
-abbrev pub is_term : Task → ℕ → Term → Bool
-is_term task scope (variable parameter) = nat_lt parameter scope
-is_term task scope (object number) = is_object task number
-
-abbrev pub is_lifted_atom : Task → ℕ → LiftedAtom → Bool
-is_lifted_atom task scope a = has_arity task a.predicate (length a.terms) && list_all (is_term task scope) a.terms
-
+-- a predicate of the task with an object for each argument
 abbrev pub is_atom : Task → Atom → Bool
-is_atom task a = has_arity task a.predicate (length a.objects) && list_all (is_object task) a.objects
+is_atom task a =
+    option_map_or (λ (p : Predicate). pointwise (is_of task) p.arguments a.objects) (slice_get task.predicates a.predicate) false
 
 abbrev mutual
-  pub is_formula : Task → ℕ → Formula → Bool
+  pub is_formula : Task → List Union → Formula → Bool
   is_formula task scope (atom a) = is_lifted_atom task scope a
   is_formula task scope (and parts) = are_formulas task scope parts
 
-  pub are_formulas : Task → ℕ → Formulas → Bool
+  pub are_formulas : Task → List Union → Formulas → Bool
   are_formulas task scope no_formula = true
   are_formulas task scope (more_formulas first rest) = is_formula task scope first && are_formulas task scope rest
 
 abbrev mutual
-  pub is_effect : Task → ℕ → Effect → Bool
+  pub is_effect : Task → List Union → Effect → Bool
   is_effect task scope (add a) = is_lifted_atom task scope a
   is_effect task scope (delete a) = is_lifted_atom task scope a
   is_effect task scope (both parts) = are_effects task scope parts
 
-  pub are_effects : Task → ℕ → Effects → Bool
+  pub are_effects : Task → List Union → Effects → Bool
   are_effects task scope no_effect = true
   are_effects task scope (more_effects first rest) = is_effect task scope first && are_effects task scope rest
 
 abbrev pub is_schema : Task → Schema → Bool
 is_schema task s =
-    nat_le s.parameters max_variables && is_formula task s.parameters s.precondition && is_effect task s.parameters s.effect
+    nat_le (length s.parameters) max_variables && is_formula task s.parameters s.precondition && is_effect task s.parameters s.effect
+
+-- what stands above a type stands above all types below it
+abbrev pub is_whole_chain : Task → ObjectType → Bool
+is_whole_chain task t = list_all (λ above. list_all (λ higher. list_any (nat_eq higher) t.supertypes) (supertypes_of task above)) t.supertypes
 
 abbrev pub is_task : Task → Bool
 is_task task =
-    list_all (λ (p : Predicate). nat_le p.arity max_arguments) task.predicates
+    list_all (is_whole_chain task) task.types
+    && list_all (λ (p : Predicate). nat_le (length p.arguments) max_arguments) task.predicates
     && list_all (is_schema task) task.schemas
     && list_all (is_atom task) task.init
-    && is_formula task 0 task.goal
+    && is_formula task [] task.goal

@@ -13,7 +13,7 @@ use Rattle.model.specs.Trees as tree
 use Rattle.model.specs.Typing.{File, in_domain, in_problem, TypingFault, IsLeastOf, faults_of}
 
 abbrev pub task_of : Task → task.Task
-task_of t = task_of_parts t.objects.keys t.predicates.entries t.schemas.entries t.init.items t.goal
+task_of t = task_of_parts t.types.entries t.objects.entries t.predicates.entries t.schemas.entries t.init.items t.goal
 
 abbrev pub file_of : TaskFile → File
 file_of Domain = in_domain

@@ -2,6 +2,7 @@
 use Rattle.std.specs.Prelude.{ℕ, List, map}
 use Rattle.std.specs.Global.{Vec}
 use Rattle.std.specs.List.Sorted.{IsStrictlySortedBy}
+use Rattle.typing.specs.declared.atoms.TypeId.{TypeId}
 use Rattle.typing.specs.declared.atoms.ObjectId.{ObjectId}
 use Rattle.typing.specs.declared.atoms.SchemaId.{SchemaId}
 use Rattle.typing.specs.declared.atoms.Atom.{Atom}
@@ -14,6 +15,7 @@ use Rattle.typing.specs.declared.schemas.Effect.{Effect, Row_of-Effect, end_of-E
 use Rattle.typing.specs.declared.schemas.Effect as effect
 use Rattle.typing.specs.declared.schemas.Predicate.{Predicate}
 use Rattle.typing.specs.declared.schemas.Schema.{Schema}
+use Rattle.typing.specs.declared.schemas.TypeUnion.{TypeUnion}
 use Rattle.model.specs.Task as task
 use Rattle.model.specs.Meaning.{atom_cmp}
 
@@ -56,28 +58,41 @@ abbrev mutual
   effects_of end_of-Effect = task.no_effect
   effects_of (more_of-Effect first rest) = task.more_effects (effect_of first) (effects_of rest)
 
--- a schema without its name: the count of its parameters, its precondition and its effect
-abbrev pub shape_of : Schema → ℕ × task.Formula × task.Effect
-shape_of s = (s.parameters, formula_of s.precondition, effect_of s.effect)
+abbrev pub type_of : TypeId → ℕ
+type_of t = t.0
 
-abbrev pub shape_of_schema : task.Schema → ℕ × task.Formula × task.Effect
+abbrev pub union_of : TypeUnion → task.Union
+union_of types = map type_of types.0.items
+
+-- a schema without its name: what its parameters have to be, its precondition and its effect
+abbrev pub shape_of : Schema → List task.Union × task.Formula × task.Effect
+shape_of s = (map union_of s.parameters.items, formula_of s.precondition, effect_of s.effect)
+
+abbrev pub shape_of_schema : task.Schema → List task.Union × task.Formula × task.Effect
 shape_of_schema s = (s.parameters, s.precondition, s.effect)
 
 abbrev pub predicate_of : Vec ℕ × Predicate → task.Predicate
-predicate_of entry = record { name = entry.0.items; arity = entry.1.arity }
+predicate_of entry = record { name = entry.0.items; arguments = map union_of entry.1.arguments.items }
 
 abbrev pub schema_of : Vec ℕ × Schema → task.Schema
 schema_of entry = record {
   name = entry.0.items;
-  parameters = entry.1.parameters;
+  parameters = map union_of entry.1.parameters.items;
   precondition = formula_of entry.1.precondition;
   effect = effect_of entry.1.effect;
 }
 
--- the task of these objects, predicates and schemas by name, of these atoms at the start and this goal
-abbrev pub task_of_parts : List (Vec ℕ) → List (Vec ℕ × Predicate) → List (Vec ℕ × Schema) → List Atom → Formula → task.Task
-task_of_parts objects predicates schemas init goal = record {
-  objects = map (λ name. name.items) objects;
+abbrev pub type_entry_of : Vec ℕ × Vec TypeId → task.ObjectType
+type_entry_of entry = record { name = entry.0.items; supertypes = map type_of entry.1.items }
+
+abbrev pub object_entry_of : Vec ℕ × TypeId → task.Object
+object_entry_of entry = record { name = entry.0.items; type = type_of entry.1 }
+
+-- the task of these types, objects, predicates and schemas by name, of these atoms at the start and this goal
+abbrev pub task_of_parts : List (Vec ℕ × Vec TypeId) → List (Vec ℕ × TypeId) → List (Vec ℕ × Predicate) → List (Vec ℕ × Schema) → List Atom → Formula → task.Task
+task_of_parts types objects predicates schemas init goal = record {
+  types = map type_entry_of types;
+  objects = map object_entry_of objects;
   predicates = map predicate_of predicates;
   schemas = map schema_of schemas;
   init = map atom_of init;

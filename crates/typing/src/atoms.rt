@@ -10,6 +10,10 @@ pub const MAX_VARIABLES: usize = 16;
 /// The most objects that a task may have.
 pub const MAX_OBJECTS: usize = 65_535;
 
+/// A type: 0 is `object`, and the others have their places, from 1, among the domain's types.
+#[derive(Clone, Copy, Debug, PartialEq, Eq)]
+pub struct TypeId(pub u16);
+
 /// An object: its place, from 0, among the problem's objects.
 #[derive(Clone, Copy, Debug, Default, PartialEq, Eq, PartialOrd, Ord, Hash)]
 pub struct ObjectId(pub u32);

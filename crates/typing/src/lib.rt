@@ -13,8 +13,8 @@ mod walk;
 
 pub use atoms::{
     Atom, LiftedAtom, MAX_ARGUMENTS, MAX_OBJECTS, MAX_VARIABLES, ObjectId, PredicateId, SchemaId,
-    Term, VariableId,
+    Term, TypeId, VariableId,
 };
 pub use fault::{TaskFault, TaskFile, TaskRefusal};
-pub use schemas::{Effect, Formula, Predicate, Schema};
+pub use schemas::{Effect, Formula, Predicate, Schema, TypeUnion};
 pub use task::Task;

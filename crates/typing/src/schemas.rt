@@ -1,5 +1,9 @@
 //! Formulas, effects and the action schemas that they make up.
-use crate::atoms::LiftedAtom;
+use crate::atoms::{LiftedAtom, TypeId};
+
+/// Types of which an object has to be of one, as `(either t u)` says.
+#[derive(Debug, Drop)]
+pub struct TypeUnion(pub Vec<TypeId>);
 
 /// A precondition or a goal.
 #[derive(Debug, Drop)]
@@ -24,15 +28,15 @@ pub enum Effect {
 /// A predicate's declaration.
 #[derive(Debug, Drop)]
 pub struct Predicate {
-    /// How many arguments it has.
-    pub arity: usize,
+    /// What each of its arguments has to be.
+    pub arguments: Vec<TypeUnion>,
 }
 
 /// An action schema.
 #[derive(Debug, Drop)]
 pub struct Schema {
-    /// How many parameters it has.
-    pub parameters: usize,
+    /// What each of its parameters has to be.
+    pub parameters: Vec<TypeUnion>,
     /// When it is applicable.
     pub precondition: Formula,
     /// What it changes.

@@ -3,25 +3,28 @@ ghost use Rattle.std.specs.Prelude.{IsTrue, ◌≤◌, length};
 ghost use Rattle.typing.specs.TaskParts.{task_of_parts};
 ghost use Rattle.model.specs.WellTyped.{is_task};
 
-use crate::atoms::{Atom, MAX_VARIABLES, ObjectId, PredicateId, SchemaId};
+use crate::atoms::{Atom, MAX_VARIABLES, ObjectId, PredicateId, SchemaId, TypeId};
 use crate::fault::TaskFault;
 use crate::names::Names;
 use crate::phases;
-use crate::schemas::{Formula, Predicate, Schema};
-use indexmap::{IndexMap, IndexSet};
+use crate::schemas::{Formula, Predicate, Schema, TypeUnion};
+use faults::NoMemory;
+use indexmap::IndexMap;
 use pddl_tree::{Domain, Problem};
 use std::alloc::Global;
 
 /// A planning task: a well-typed pair of a domain and a problem, with numbers for names.
 #[derive(Drop)]
 pub struct Task {
-    objects: IndexSet<Vec<u8>>,
+    types: IndexMap<Vec<u8>, Vec<TypeId>>,
+    objects: IndexMap<Vec<u8>, TypeId>,
     predicates: IndexMap<Vec<u8>, Predicate>,
     schemas: IndexMap<Vec<u8>, Schema>,
     init: Vec<Atom>,
     goal: Formula,
-    ghost few_objects: { length objects.keys ≤ 65535 },
-    ghost well_typed: { IsTrue (is_task (task_of_parts objects.keys predicates.entries schemas.entries init.items goal)) },
+    ghost few_types: { length types.entries ≤ 4096 },
+    ghost few_objects: { length objects.entries ≤ 65535 },
+    ghost well_typed: { IsTrue (is_task (task_of_parts types.entries objects.entries predicates.entries schemas.entries init.items goal)) },
 }
 
 impl Task {
@@ -29,7 +32,8 @@ impl Task {
     ghost use Rattle.std.specs.Option.{option_copied, option_map};
     ghost use Rattle.typing.specs.Task.{task_of, TellsLeastFault};
     ghost use Rattle.pddl_tree.specs.Tree.{domain_of, problem_of};
-    ghost use Rattle.typing.specs.TaskParts.{atom_of, formula_of, object_of, schema_id_of, shape_of, shape_of_schema};
+    ghost use Rattle.typing.specs.TaskParts.{atom_of, formula_of, object_of, schema_id_of, shape_of, shape_of_schema, type_of, union_of};
+    ghost use Rattle.model.specs.Meaning.{supertypes_of, is_of, is_below, objects_of};
     ghost use Rattle.model.specs.Typing.{is_same, task_of_trees, IsWellTyped};
 
     /// The task of a domain and a problem: each name becomes its number.
@@ -58,6 +62,7 @@ impl Task {
         let names = Names::declared(alloc, domain, problem)?;
         let start = names.stated(alloc, problem)?;
         Ok(Task {
+            types: names.types,
             objects: names.objects,
             predicates: names.predicates,
             schemas: names.schemas,
@@ -80,6 +85,71 @@ impl Task {
         &self.goal
     }
 
+    /// How many types there are, `object` among them.
+    pub fn type_count(&self) -> usize
+        ensures { result ≡ length (task_of self.now).types }
+    {
+        self.types.len()
+    }
+
+    /// The type of this name, which is given in lower case.
+    pub fn type_named(&self, folded: &[u8]) -> Option<TypeId>
+        ensures { option_map type_of result ≡ position (is_same folded.now) (map (λ t. t.name) (task_of self.now).types) }
+    {
+        let number = self.types.get_index_of(folded)?;
+        Some(TypeId(number as u16))
+    }
+
+    /// The type's name, in lower case, and `None` where the number is beyond the last.
+    pub fn type_name(&self, id: TypeId) -> Option<&[u8]>
+        ensures { option_copied result ≡ option_map (λ t. t.name) (slice_get (task_of self.now).types id.0) }
+    {
+        let (name, _) = self.types.get_index(id.0 as usize)?;
+        Some(name.as_slice())
+    }
+
+    /// All types that the objects of a type are of: itself and those above it, up to `object`. None where the number is
+    /// beyond the last.
+    pub fn supertypes(&self, id: TypeId) -> &[TypeId]
+        ensures { map type_of result.now ≡ supertypes_of (task_of self.now) id.0 }
+    {
+        match self.types.get_index(id.0 as usize) {
+            Some((_, supertypes)) => supertypes.as_slice(),
+            None => &[],
+        }
+    }
+
+    /// Whether the object is of one of these types; false where the number is beyond the last.
+    pub fn is_of(&self, object: ObjectId, types: &TypeUnion) -> bool
+        ensures { result ≡ is_of (task_of self.now) (union_of types.now) object.0 }
+    {
+        match self.objects.get_index(object.0 as usize) {
+            Some((_, declared)) => self.is_below(*declared, types),
+            None => false,
+        }
+    }
+
+    /// Whether the type is one of these or stands below one of them.
+    pub(crate) fn is_below(&self, id: TypeId, types: &TypeUnion) -> bool
+        ensures { result ≡ is_below (task_of self.now) (union_of types.now) id.0 }
+    {
+        self.supertypes(id).iter().any(|above| types.0.contains(above))
+    }
+
+    /// The objects of these types, in order, each once.
+    pub fn objects_of(&self, alloc: Global, types: &TypeUnion) -> Result<Vec<ObjectId>, NoMemory>
+        ensures { IfOk result (λ objects. map object_of objects.items ≡ objects_of (task_of self.now) (union_of types.now)) }
+    {
+        let mut objects = Vec::new(alloc);
+        for number in 0..self.objects.len() {
+            let object = ObjectId(number as u32);
+            if self.is_of(object, types) {
+                objects.push(object)?;
+            }
+        }
+        Ok(objects)
+    }
+
     /// How many objects there are.
     pub fn object_count(&self) -> usize
         ensures { result ≡ length (task_of self.now).objects }
@@ -97,7 +167,7 @@ impl Task {
     /// The schema of this number, and `None` where the number is beyond the last.
     pub fn schema(&self, id: SchemaId) -> Option<&Schema>
         ensures shape { option_map (λ s. shape_of s.now) result ≡ option_map shape_of_schema (slice_get (task_of self.now).schemas id.0) }
-        ensures few { IfSome result (λ s. s.now.parameters ≤ MAX_VARIABLES) }
+        ensures few { IfSome result (λ s. length s.now.parameters.items ≤ MAX_VARIABLES) }
     {
         let (_, schema) = self.schemas.get_index(id.0)?;
         Some(schema)
@@ -105,14 +175,14 @@ impl Task {
 
     /// The predicate of this number, and `None` where the number is beyond the last.
     pub fn predicate(&self, id: PredicateId) -> Option<&Predicate>
-        ensures { option_map (λ p. p.now.arity) result ≡ option_map (λ p. p.arity) (slice_get (task_of self.now).predicates id.0) }
+        ensures { option_map (λ p. map union_of p.now.arguments.items) result ≡ option_map (λ p. p.arguments) (slice_get (task_of self.now).predicates id.0) }
     {
         self.predicates.get_index(id.0).map(|entry| entry.1)
     }
 
     /// The object of this name, which is given in lower case.
     pub fn object_named(&self, folded: &[u8]) -> Option<ObjectId>
-        ensures { option_map object_of result ≡ position (is_same folded.now) (task_of self.now).objects }
+        ensures { option_map object_of result ≡ position (is_same folded.now) (map (λ o. o.name) (task_of self.now).objects) }
     {
         let number = self.objects.get_index_of(folded)?;
         Some(ObjectId(number as u32))
@@ -128,9 +198,9 @@ impl Task {
 
     /// The object's name, in lower case, and `None` where the number is beyond the last.
     pub fn object_name(&self, id: ObjectId) -> Option<&[u8]>
-        ensures { option_copied result ≡ slice_get (task_of self.now).objects id.0 }
+        ensures { option_copied result ≡ option_map (λ o. o.name) (slice_get (task_of self.now).objects id.0) }
     {
-        let name = self.objects.get_index(id.0 as usize)?;
+        let (name, _) = self.objects.get_index(id.0 as usize)?;
         Some(name.as_slice())
     }
 
