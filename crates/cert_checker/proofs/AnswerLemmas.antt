@@ -1,41 +1,53 @@
 -- What the checker's answers say, of a certificate that was gone through and of a closed one.
-use Rattle.std.proofs.Common.{◌≡◌, ℕ, List, Option, sym, ◌∙◌, refl}
-use Rattle.std.specs.Prelude.{IfErr, OnOk, Result, Ok, Err}
+use Rattle.std.proofs.Common.{◌≡◌, ℕ, List, length, Option, sym, ◌∙◌, refl}
+use Rattle.std.specs.Prelude.{Contains, IfErr, OnOk, Result, Ok, Err}
+use Rattle.std.proofs.lemmas.Option.{slice_get_within}
 use Rattle.cert_checker.specs.declared.check.Refusal.{Refusal}
-use Rattle.cert_checker.specs.declared.check.Refusal.TheVariants.{Line, Plain, NoMemory}
+use Rattle.cert_checker.specs.declared.check.Refusal.TheVariants as refusal
 use Rattle.cert_checker.specs.RefusalCode.{reason_of}
 use Rattle.cert_checker.specs.CertChecker.{IsTrueRefusal, IsNoFault}
-use Rattle.cert_checker.specs.CheckedLines.{AreFluent, Lists}
-use Rattle.cert_checker.proofs.RefusalsLemmas.{lines_apart}
+use Rattle.cert_checker.specs.CheckedLines.{IsLineClosed, IsRightUpTo}
 use Rattle.validator.specs.declared.verdict.Verdict as code_verdict
 use Rattle.validator.specs.declared.verdict.Verdict.TheVariants as verdict
 use Rattle.validator.specs.Verdict.{verdict_of}
 use Rattle.validator.proofs.VerdictLaws.{exactly_one_verdict}
 use Rattle.model.specs.Task.{Task, Instance}
 use Rattle.model.specs.Runs.{System, cost_of_all, Solves, valid, IsVerdict}
-use Rattle.model.specs.Meaning.{State, system_of}
-use Rattle.model.specs.Claims.{IsClosed}
+use Rattle.model.specs.Meaning.{State}
+use Rattle.model.specs.Claims.{Line}
 use Rattle.model.specs.Certificates.{Certificate, lines_of, IsClosedFor}
 use Rattle.model.specs.CertificateRefusals.{IsPlanWithin}
+use Rattle.model.proofs.ListLemmas.{Contains-place}
 use Rattle.model.proofs.CertificateRefusalsLemmas.{right, right_line}
 
 pub on_ok : {T E : Type 0} {P : Type 0} (r : Result T E) → P → OnOk r P
 on_ok (Ok v) p = p
 on_ok (Err e) p = tt
 
-pub closed_for : (task : Task) (c : Certificate) (states : List State) → AreFluent task c.atoms → Lists task c states → IsClosed (system_of task) (λ _. 0) c.claim (lines_of task c) → IsClosedFor task c
-closed_for task c states atoms lists listing = record {
-  atoms_are_fluent = atoms.fluent;
-  atoms_are_distinct = atoms.distinct;
-  states_are_distinct = lines_apart task c states lists;
-  listing_is_closed = listing;
+-- where all is right to the last line, the certificate is closed
+pub closed_for : (task : Task) (c : Certificate) (most : ℕ) → IsRightUpTo task c most (length (lines_of task c)) → IsClosedFor task c
+closed_for task c most right = record {
+  atoms_are_fluent = right.atoms.fluent;
+  atoms_are_distinct = right.atoms.distinct;
+  states_are_distinct = right.distinct;
+  listing_is_closed = record {
+    initial_listed = right.initial;
+    successors_listed = λ line i next listed is leads. ((closed line listed).is_open is).successors_listed i next leads;
+    open_goals_allowed = λ line listed is. ((closed line listed).is_open is).goal_allowed;
+    cuts_allowed = λ line rest listed is. (closed line listed).is_cut rest is;
+  };
 }
+  where
+    closed : (line : Line State) → Contains (lines_of task c) line → IsLineClosed task c line
+    closed line listed =
+        let at = Contains-place (lines_of task c) line listed in
+        right.lines at.0 line (slice_get_within (lines_of task c) at.0 line at.1) at.1
 
 -- a true refusal of a closed certificate, with a plan that costs no more than is claimed, is of no fault of theirs
 pub no_fault : (task : Task) (c : Certificate) (plan : Option (List Instance)) (most : ℕ) → IsClosedFor task c → IsPlanWithin task c.claim plan → (e : Refusal) → IsTrueRefusal task c plan most e → IsNoFault e
-no_fault task c plan most closed within (Line code line) wrong = right_line task c closed (reason_of code) line wrong
-no_fault task c plan most closed within (Plain code) wrong = right task c closed plan most (reason_of code) within wrong
-no_fault task c plan most closed within NoMemory wrong = tt
+no_fault task c plan most closed within (refusal.Line code line) wrong = right_line task c closed (reason_of code) line wrong
+no_fault task c plan most closed within (refusal.Plain code) wrong = right task c closed plan most (reason_of code) within wrong
+no_fault task c plan most closed within refusal.NoMemory wrong = tt
 
 pub no_fault_of : {T : Type 0} (task : Task) (c : Certificate) (plan : Option (List Instance)) (most : ℕ) → IsClosedFor task c → IsPlanWithin task c.claim plan → (r : Result T Refusal)
     → IfErr r (λ e. (m : ℕ) → IsTrueRefusal task c plan m e) → IfErr r IsNoFault

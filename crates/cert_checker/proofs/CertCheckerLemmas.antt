@@ -19,12 +19,11 @@ use Rattle.model.specs.Task.{Task, Atom, Instance}
 use Rattle.model.specs.Runs.{cost_of_all, Solves, IsOptimal}
 use Rattle.model.specs.Meaning.{State, atom_cmp, system_of}
 use Rattle.model.specs.Instances.{successors_of}
-use Rattle.model.specs.Claims.{Claim, bound, Allows, Line, IsListedWithin, IsClosed, ClaimHolds}
+use Rattle.model.specs.Claims.{bound, Allows, Line, IsListedWithin, ClaimHolds}
 use Rattle.model.specs.Certificates.{Certificate, StateLine, state_of_line, lines_of, is_number, is_state_line, rise}
 use Rattle.model.specs.CertificateRefusals.{IsListed}
-use Rattle.model.proofs.ListLemmas.{Contains-cases, Contains-got, Contains-none, Contains-place}
+use Rattle.model.proofs.ListLemmas.{Contains-cases, Contains-got, Contains-none}
 use Rattle.model.proofs.Atoms.{atoms_total, atoms_apart, same_state}
-use Rattle.model.proofs.ClaimsLemmas.{claim-of_closed}
 use Rattle.model.proofs.InstancesLemmas.{Contains-successors}
 
 -- ---- elements at their places
@@ -75,69 +74,54 @@ listed_within lines s listed cost at le = (at.0, at.1, at.2, omega (arith, at.3)
 
 -- ---- the successors of an open state
 
-abbrev pub AllListed : List (Line State) → ℕ → List (Instance × State) → Type 0
-AllListed lines cost found = (i : Instance) (next : State) → Contains {X = Instance × State} found (i, next) → IsListedWithin lines next cost
+-- each of these states is listed at no more than this cost and that of the instance that leads to it
+abbrev pub AllListed : Task → Certificate → ℕ → List (Instance × State) → Type 0
+AllListed task cert cost found =
+    (i : Instance) (next : State) → Contains {X = Instance × State} found (i, next) → IsListedWithin (lines_of task cert) next (cost + (system_of task).cost i)
 
-pub AllListed-none : (lines : List (Line State)) (cost : ℕ) → AllListed lines cost []
-AllListed-none lines cost i next at = absurd (Contains-none {X = Instance × State} (i, next) at)
+pub AllListed-none : (task : Task) (cert : Certificate) (cost : ℕ) → AllListed task cert cost []
+AllListed-none task cert cost i next at = absurd (Contains-none {X = Instance × State} (i, next) at)
 
-pub AllListed-more : {X : Type 0} (lines : List (Line State)) (cost : ℕ) (view : X → Instance × State) (xs : List X) (k : ℕ) (x : X)
-    → k < length xs → x ≡ get_or xs k x → AllListed lines cost (map view (take k xs)) → IsListedWithin lines (view x).1 cost → AllListed lines cost (map view (take (k + 1) xs))
-AllListed-more {X} lines cost view xs k x lt at before here i next among =
+pub AllListed-more : {X : Type 0} (task : Task) (cert : Certificate) (cost : ℕ) (view : X → Instance × State) (xs : List X) (k : ℕ) (x : X)
+    → k < length xs → x ≡ get_or xs k x → AllListed task cert cost (map view (take k xs)) → IsListedWithin (lines_of task cert) (view x).1 (cost + (system_of task).cost (view x).0)
+    → AllListed task cert cost (map view (take (k + 1) xs))
+AllListed-more {X} task cert cost view xs k x lt at before here i next among =
     let both : map view (take (k + 1) xs) ≡ map view (take k xs) ++ view x ∷ [] =
     ap (map view) (take_more xs k x lt ∙ ap (λ y. take k xs ++ y ∷ []) (sym at)) ∙ map-append view (take k xs) (x ∷ []) in
     elim (Contains-append_cases (map view (take k xs)) (view x ∷ []) (i, next) (subst (λ l. Contains {X = Instance × State} l (i, next)) both among)) [
       | inl earlier ↦ before i next earlier
       | inr last ↦ elim (Contains-cases {X = Instance × State} (view x) [] (i, next) last) [
-        | inl is ↦ subst (λ s. IsListedWithin lines s cost) (ap (λ (p : Instance × State). p.1) is) here
+        | inl is ↦ subst (λ (p : Instance × State). IsListedWithin (lines_of task cert) p.1 (cost + (system_of task).cost p.0)) is here
         | inr none ↦ absurd (Contains-none {X = Instance × State} (i, next) none)
       ]
     ]
 
-pub open_closed : {X : Type 0} (task : Task) (claim : Claim) (lines : List (Line State)) (state : State) (cost : ℕ) (view : X → Instance × State) (xs : List X) (k : ℕ)
-    → length xs ≤ k → map view xs ≡ successors_of task state → AllListed lines (cost + 1) (map view (take k xs))
-    → (IsTrue ((system_of task).meets_goal state) → Allows claim cost) → IsOpenClosed (system_of task) claim lines state cost
-open_closed task claim lines state cost view xs k past is all goal = record {
+pub open_closed : {X : Type 0} (task : Task) (cert : Certificate) (state : State) (cost : ℕ) (view : X → Instance × State) (xs : List X) (k : ℕ)
+    → length xs ≤ k → map view xs ≡ successors_of task state → AllListed task cert cost (map view (take k xs))
+    → (IsTrue ((system_of task).meets_goal state) → Allows cert.claim cost) → IsOpenClosed task cert state cost
+open_closed task cert state cost view xs k past is all goal = record {
   successors_listed = λ i next leads.
       all i next (subst (λ l. Contains {X = Instance × State} l (i, next)) (sym is ∙ ap (map view) (sym (take_all k xs past))) (Contains-successors task state i next leads));
   goal_allowed = goal;
 }
 
--- ---- each line, and all of them
+-- ---- each line
 
-pub line_open : (task : Task) (cert : Certificate) (lines : List (Line State)) (l : StateLine) (line : Line State) → entry task cert l ≡ line → l.cut ≡ None
-    → IsOpenClosed (system_of task) cert.claim lines (state_of_line task cert l) l.cost → IsLineClosed (system_of task) cert.claim lines line
-line_open task cert lines l line same is_open closed =
-    subst (λ k. IsLineClosed (system_of task) cert.claim lines k) same (record {
+pub line_open : (task : Task) (cert : Certificate) (l : StateLine) (line : Line State) → entry task cert l ≡ line → l.cut ≡ None
+    → IsOpenClosed task cert (state_of_line task cert l) l.cost → IsLineClosed task cert line
+line_open task cert l line same is_open closed =
+    subst (IsLineClosed task cert) same (record {
       is_open = λ _. closed;
       is_cut = λ rest is. absurd (cc);
     })
 
-pub line_cut : (task : Task) (cert : Certificate) (lines : List (Line State)) (l : StateLine) (line : Line State) (rest : ℕ) → entry task cert l ≡ line → l.cut ≡ Some rest
-    → IsCutClosed cert.claim l.cost rest → IsLineClosed (system_of task) cert.claim lines line
-line_cut task cert lines l line rest same is_cut closed =
-    subst (λ k. IsLineClosed (system_of task) cert.claim lines k) same (record {
+pub line_cut : (task : Task) (cert : Certificate) (l : StateLine) (line : Line State) (rest : ℕ) → entry task cert l ≡ line → l.cut ≡ Some rest
+    → IsCutClosed cert (state_of_line task cert l) l.cost rest → IsLineClosed task cert line
+line_cut task cert l line rest same is_cut closed =
+    subst (IsLineClosed task cert) same (record {
       is_open = λ is. absurd (cc);
-      is_cut = λ other is. let alike : rest ≡ other = cc in subst (λ r. IsCutClosed cert.claim l.cost r) alike closed;
+      is_cut = λ other is. let alike : rest ≡ other = cc in subst (IsCutClosed cert (state_of_line task cert l) l.cost) alike closed;
     })
-
-pub closed_listing : (task : Task) (cert : Certificate) → IsListedWithin (lines_of task cert) (system_of task).initial 0
-    → ((place : ℕ) (line : Line State) → slice_get (lines_of task cert) place ≡ Some line → IsLineClosed (system_of task) cert.claim (lines_of task cert) line)
-    → IsClosed (system_of task) (λ _. 0) cert.claim (lines_of task cert)
-closed_listing task cert initial each =
-    let closed = λ (line : Line State) (listed : Contains (lines_of task cert) line). (let at = Contains-place (lines_of task cert) line listed in each at.0 line at.1) in
-    record {
-      initial_listed = initial;
-      successors_listed = λ line a next listed is leads. ((closed line listed).is_open is).successors_listed a next leads;
-      open_goals_allowed = λ line listed is. ((closed line listed).is_open is).goal_allowed;
-      cuts_allowed = λ line rest listed is. (closed line listed).is_cut rest is;
-    }
-
-pub claim_holds : (task : Task) (cert : Certificate) → IsListedWithin (lines_of task cert) (system_of task).initial 0
-    → ((place : ℕ) (line : Line State) → slice_get (lines_of task cert) place ≡ Some line → IsLineClosed (system_of task) cert.claim (lines_of task cert) line)
-    → ClaimHolds (system_of task) cert.claim
-claim_holds task cert initial each =
-    claim-of_closed (system_of task) (λ _. 0) cert.claim (lines_of task cert) (λ s end plan runs goal. omega arith) (closed_listing task cert initial each)
 
 -- ---- the states of the lines
 
@@ -179,21 +163,22 @@ shown_optimal task plan least cost holds solves is le = ((solves, λ other other
 
 pub line_open_if_ok : {T E : Type 0} (task : Task) (cert : Certificate) (states : List State) (lines : List code_line.StateLine) (place : ℕ) (l : code_line.StateLine) (r : Result T E)
     → Lists task cert states → map line_of lines ≡ cert.lines → slice_get lines place ≡ Some l → l.cut ≡ None
-    → OnOk r ((state : State) → slice_get states place ≡ Some state → IsOpenClosed (system_of task) cert.claim (lines_of task cert) state l.cost)
-    → OnOk r ((line : Line State) → slice_get (lines_of task cert) place ≡ Some line → IsLineClosed (system_of task) cert.claim (lines_of task cert) line)
+    → OnOk r ((state : State) → slice_get states place ≡ Some state → IsOpenClosed task cert state l.cost)
+    → OnOk r ((line : Line State) → slice_get (lines_of task cert) place ≡ Some line → IsLineClosed task cert line)
 line_open_if_ok task cert states lines place l (Ok v) lists is at is_open closed = λ line there.
-    line_open task cert (lines_of task cert) (line_of l) line
+    line_open task cert (line_of l) line
     (same_place (lines_of task cert) place (entry task cert (line_of l)) line (listed_there task cert lines place l is at) there) is_open
     (closed (state_of_line task cert (line_of l)) (state_there task cert states lines place l lists is at))
 line_open_if_ok task cert states lines place l (Err e) lists is at is_open closed = tt
 
-pub line_cut_if_ok : {T E : Type 0} (task : Task) (cert : Certificate) (lines : List code_line.StateLine) (place : ℕ) (l : code_line.StateLine) (rest : ℕ) (r : Result T E)
-    → map line_of lines ≡ cert.lines → slice_get lines place ≡ Some l → l.cut ≡ Some rest → OnOk r (IsCutClosed cert.claim l.cost rest)
-    → OnOk r ((line : Line State) → slice_get (lines_of task cert) place ≡ Some line → IsLineClosed (system_of task) cert.claim (lines_of task cert) line)
-line_cut_if_ok task cert lines place l rest (Ok v) is at is_cut closed = λ line there.
-    line_cut task cert (lines_of task cert) (line_of l) line rest
-    (same_place (lines_of task cert) place (entry task cert (line_of l)) line (listed_there task cert lines place l is at) there) is_cut closed
-line_cut_if_ok task cert lines place l rest (Err e) is at is_cut closed = tt
+pub line_cut_if_ok : {T E : Type 0} (task : Task) (cert : Certificate) (states : List State) (lines : List code_line.StateLine) (place : ℕ) (l : code_line.StateLine) (state : State) (rest : ℕ)
+    (r : Result T E) → Lists task cert states → map line_of lines ≡ cert.lines → slice_get lines place ≡ Some l → slice_get states place ≡ Some state → l.cut ≡ Some rest
+    → OnOk r (IsCutClosed cert state l.cost rest) → OnOk r ((line : Line State) → slice_get (lines_of task cert) place ≡ Some line → IsLineClosed task cert line)
+line_cut_if_ok task cert states lines place l state rest (Ok v) lists is at at_state is_cut closed = λ line there.
+    line_cut task cert (line_of l) line rest
+    (same_place (lines_of task cert) place (entry task cert (line_of l)) line (listed_there task cert lines place l is at) there) is_cut
+    (subst (λ s. IsCutClosed cert s l.cost rest) (same_place states place state (state_of_line task cert (line_of l)) at_state (state_there task cert states lines place l lists is at)) closed)
+line_cut_if_ok task cert states lines place l state rest (Err e) lists is at at_state is_cut closed = tt
 
 pub lines_within : (task : Task) (cert : Certificate) (lines : List code_line.StateLine) (k : ℕ) (line : Line State) → map line_of lines ≡ cert.lines → slice_get (lines_of task cert) k ≡ Some line
     → k < length lines
@@ -208,6 +193,14 @@ small_cost atom_count lines place l at all =
     let one = passes_got (is_state_line atom_count) (map line_of lines) place (line_of l) (slice_get-map line_of lines place l at) all in
     let cut = option_map_or is_number l.cut true in
     ltb-true l.cost 1152921504606846976 (and_parts (is_number l.cost) cut (and_parts (is_number l.cost && cut) (rise atom_count 0 l.atoms.items) one).0).0
+
+pub small_cut : (atom_count : ℕ) (lines : List code_line.StateLine) (place : ℕ) (l : code_line.StateLine) (rest : ℕ) → slice_get lines place ≡ Some l
+    → list_all (is_state_line atom_count) (map line_of lines) ≡ true → l.cut ≡ Some rest → rest < 1152921504606846976
+small_cut atom_count lines place l rest at all is_cut =
+    let one = passes_got (is_state_line atom_count) (map line_of lines) place (line_of l) (slice_get-map line_of lines place l at) all in
+    let cut = option_map_or is_number l.cut true in
+    let small = (and_parts (is_number l.cost) cut (and_parts (is_number l.cost && cut) (rise atom_count 0 l.atoms.items) one).0).1 in
+    ltb-true rest 1152921504606846976 (subst (λ o. option_map_or is_number o true ≡ true) is_cut small)
 
 -- ---- the states of the lines, one after another
 

@@ -14,16 +14,16 @@ use Rattle.certificate.specs.declared.cert.StateLine as code_line
 use Rattle.certificate.specs.CertificateParts.{line_of}
 use Rattle.cert_checker.specs.RefusalCode.{reason_of}
 use Rattle.cert_checker.specs.CertChecker.{IsFirstRefusal, IsFirstSuccessor, IsFirstToLeave}
-use Rattle.cert_checker.specs.CheckedLines.{AreFluent, CutsAreAllowed, IsLineClosed, IsRightUpTo}
+use Rattle.cert_checker.specs.CheckedLines.{AreFluent, CutsAreAllowed, IsLineClosed, IsRightUpTo, Lists}
 use Rattle.model.proofs.ListLemmas.{Contains-got}
 use Rattle.cert_checker.proofs.CertCheckerLemmas.{AllListed, entry, listed_there, slice_get-map}
-use Rattle.cert_checker.proofs.RefusalsLemmas.{states_of_lines}
+use Rattle.cert_checker.proofs.RefusalsLemmas.{states_of_lines, lines_apart}
 use Rattle.cert_checker.proofs.OrderLemmas.{AtomsAreRight, StatesAreRight}
 use Rattle.model.specs.Task.{Task, Atom, Instance}
 use Rattle.model.specs.WellTyped.{is_atom}
 use Rattle.model.specs.Meaning.{State, system_of}
 use Rattle.model.specs.Instances.{all_instances, successors_of}
-use Rattle.model.specs.Claims.{none, Line}
+use Rattle.model.specs.Claims.{none, Line, IsListedWithin}
 use Rattle.model.specs.Certificates.{Certificate, is_fluent, state_of_line, lines_of, IsClosedFor}
 use Rattle.model.specs.CertificateRefusals.{state_line, IsFirst}
 use Rattle.model.proofs.CertificateRefusalsLemmas.{apart}
@@ -41,7 +41,7 @@ slice_get-take k xs i x lt at =
 -- the one that is gone through now is the first that may leave the listing
 pub first_to_leave : {X : Type 0} (task : Task) (c : Certificate) (place : ℕ) (s : State) (cost : ℕ) (view : X → Instance × State) (xs : List X) (k : ℕ) (x : X)
     → slice_get (lines_of task c) place ≡ Some (record { state = s; cost = cost; cut = None }) → k < length xs → x ≡ get_or xs k x → map view xs ≡ successors_of task s
-    → AllListed (lines_of task c) (cost + 1) (map view (take k xs))
+    → AllListed task c cost (map view (take k xs))
     → IsFirstToLeave task c (state_line c place) (record { state = s; cost = cost; cut = None }) (view x).0 (view x).1
 first_to_leave {X} task c place s cost view xs k x there lt at is before = record {
   stands_there = (place, refl, there);
@@ -143,8 +143,20 @@ cuts_none task c place l rest below at cut claim = omega arith
 
 -- ---- the lines so far
 
+-- all is right up to the first state line
+pub right_from : (task : Task) (c : Certificate) (states : List State) (most : ℕ) → Lists task c states → AreFluent task c.atoms → CutsAreAllowed task c (length (lines_of task c))
+    → length (all_instances task) ≤ most → IsListedWithin (lines_of task c) (system_of task).initial 0 → IsRightUpTo task c most 0
+right_from task c states most lists atoms allowed few initial = record {
+  atoms = atoms;
+  distinct = lines_apart task c states lists;
+  allowed = allowed;
+  within = few;
+  initial = initial;
+  lines = λ k l lt at. absurd (omega arith);
+}
+
 pub right_to_line : (task : Task) (c : Certificate) (most place : ℕ) → IsRightUpTo task c most 0
-    → ((k : ℕ) (l : Line State) → k < place → slice_get (lines_of task c) k ≡ Some l → IsLineClosed (system_of task) c.claim (lines_of task c) l) → IsRightUpTo task c most place
+    → ((k : ℕ) (l : Line State) → k < place → slice_get (lines_of task c) k ≡ Some l → IsLineClosed task c l) → IsRightUpTo task c most place
 right_to_line task c most place right lines = record {
   atoms = right.atoms;
   distinct = right.distinct;

@@ -255,7 +255,7 @@ module _ (task : Task) (c : Certificate) where
 
   -- ---- the state lines
 
-  line_right : (r : Reason) (line place : ℕ) → line < state_line c place → ((k : ℕ) (l : Line State) → k < place → slice_get (lines_of task c) k ≡ Some l → IsLineClosed (system_of task) c.claim (lines_of task c) l) → stage_of r ≡ 3
+  line_right : (r : Reason) (line place : ℕ) → line < state_line c place → ((k : ℕ) (l : Line State) → k < place → slice_get (lines_of task c) k ≡ Some l → IsLineClosed task c l) → stage_of r ≡ 3
       → IsWrongLine task c r line → ⊥
   line_right goal_open line place lt right stage (l, (k, told, at), is_open, goal, denied) = denied (((right k l (omega arith) at).is_open is_open).goal_allowed goal)
   line_right successor_missing line place lt right stage (l, i, next, ((k, told, at), is_open, leads), missing) =

@@ -11,13 +11,13 @@ use Rattle.cert_checker.specs.declared.check.code.RefusalCode.{RefusalCode}
 use Rattle.certificate.specs.declared.cert.StateLine as code_line
 use Rattle.certificate.specs.CertificateParts.{line_of}
 use Rattle.cert_checker.specs.RefusalCode.{reason_of}
-use Rattle.cert_checker.specs.CheckedLines.{Lists, HasCost, IsListedAt, IsTrueAnyway}
+use Rattle.cert_checker.specs.CheckedLines.{Lists, HasCost, Stands, IsListedAt, IsTrueAnyway}
 use Rattle.cert_checker.proofs.CertCheckerLemmas.{slice_get-map, entry}
 use Rattle.model.specs.Task.{Task, Instance}
-use Rattle.model.specs.Meaning.{State, step, meets_goal}
+use Rattle.model.specs.Meaning.{State, step, meets_goal, system_of}
 use Rattle.model.specs.Instances.{successors_of}
 use Rattle.model.specs.Claims.{Claim, Allows, Line, IsListedWithin}
-use Rattle.model.specs.Certificates.{Certificate, StateLine, state_of_line, lines_of}
+use Rattle.model.specs.Certificates.{Certificate, StateLine, state_of_line, lines_of, value_of}
 use Rattle.model.specs.CertificateRefusals.{goal_open, successor_missing, successor_dearer, cut_weak, IsWrongLine, IsListed, state_line}
 use Rattle.model.proofs.ListLemmas.{Contains-place, Contains-map}
 use Rattle.model.proofs.InstancesLemmas.{successors-Contains}
@@ -36,7 +36,7 @@ has_cost c lines place l cut is at cut_is =
     (line_of l, subst (λ ls. slice_get ls place ≡ Some (line_of l)) is (slice_get-map line_of lines place l at), refl, cut_is)
 
 pub line_there : (task : Task) (c : Certificate) (states : List State) (place cost : ℕ) (cut : Option ℕ) (s : State) → Lists task c states → HasCost c place cost cut → slice_get states place ≡ Some s
-    → slice_get (lines_of task c) place ≡ Some (record { state = s; cost = cost; cut = cut })
+    → Stands task c place s cost cut
 line_there task c states place cost cut s lists (l, at, cost_is, cut_is) at_state =
     let at_states = subst (λ ss. slice_get ss place ≡ Some (state_of_line task c l)) (sym lists.listed) (slice_get-map (state_of_line task c) c.lines place l at) in
     let same : state_of_line task c l ≡ s = cc in
@@ -94,10 +94,7 @@ not_listed_at_none lines s t (Some cost) pairs listed is same within =
 
 -- ---- open states
 
-abbrev IsOpenAt : Task → Certificate → ℕ → State → ℕ → Type 0
-IsOpenAt task c place s cost = slice_get (lines_of task c) place ≡ Some (record { state = s; cost = cost; cut = None })
-
-pub wrong_goal : (task : Task) (c : Certificate) (place : ℕ) (s : State) (cost : ℕ) → IsOpenAt task c place s cost → IsTrue (meets_goal task s) → ¬ Allows c.claim cost
+pub wrong_goal : (task : Task) (c : Certificate) (place : ℕ) (s : State) (cost : ℕ) → Stands task c place s cost None → IsTrue (meets_goal task s) → ¬ Allows c.claim cost
     → IsWrongLine task c goal_open (state_line c place)
 wrong_goal task c place s cost there goal denied = (record { state = s; cost = cost; cut = None }, (place, refl, there), refl, goal, denied)
 
@@ -107,7 +104,7 @@ pub leads_there : {X : Type 0} (task : Task) (s : State) (view : X → Instance 
 leads_there task s view xs k x lt at is =
     successors-Contains task s (view x).0 (view x).1 (subst (λ l. Contains {X = Instance × State} l (view x)) is (Contains-map view xs x (k, lt, sym at)))
 
-pub wrong_missing : (task : Task) (c : Certificate) (place : ℕ) (s : State) (cost : ℕ) (i : Instance) (next : State) → IsOpenAt task c place s cost → step task s i ≡ Some next
+pub wrong_missing : (task : Task) (c : Certificate) (place : ℕ) (s : State) (cost : ℕ) (i : Instance) (next : State) → Stands task c place s cost None → step task s i ≡ Some next
     → ¬ IsListed (lines_of task c) next → IsWrongLine task c successor_missing (state_line c place)
 wrong_missing task c place s cost i next there leads missing =
     (record { state = s; cost = cost; cut = None }, i, next, ((place, refl, there), refl, leads), missing)
@@ -115,44 +112,38 @@ wrong_missing task c place s cost i next there leads missing =
 pub listed_somewhere : (lines : List (Line State)) (s : State) (listed : ℕ) → IsListedAt lines s listed → IsListed lines s
 listed_somewhere lines s listed at = (at.0, at.1, at.2)
 
-pub not_within : (task : Task) (c : Certificate) (states : List State) (s : State) (listed cost : ℕ) → Lists task c states → IsListedAt (lines_of task c) s listed → cost + 1 < listed
-    → ¬ IsListedWithin (lines_of task c) s (cost + 1)
-not_within task c states s listed cost lists at dearer within =
-    omega (arith, one_cost (lines_of task c) s listed (cost + 1) (lines_apart task c states lists) at within)
+pub not_within : (task : Task) (c : Certificate) (states : List State) (s : State) (listed most : ℕ) → Lists task c states → IsListedAt (lines_of task c) s listed → most < listed
+    → ¬ IsListedWithin (lines_of task c) s most
+not_within task c states s listed most lists at dearer within =
+    omega (arith, one_cost (lines_of task c) s listed most (lines_apart task c states lists) at within)
 
 pub wrong_dearer : (task : Task) (c : Certificate) (states : List State) (place : ℕ) (s : State) (cost : ℕ) (i : Instance) (next : State) (listed : ℕ) → Lists task c states
-    → IsOpenAt task c place s cost → step task s i ≡ Some next → IsListedAt (lines_of task c) next listed → cost + 1 < listed → IsWrongLine task c successor_dearer (state_line c place)
+    → Stands task c place s cost None → step task s i ≡ Some next → IsListedAt (lines_of task c) next listed → cost + (system_of task).cost i < listed
+    → IsWrongLine task c successor_dearer (state_line c place)
 wrong_dearer task c states place s cost i next listed lists there leads at dearer = (
   record { state = s; cost = cost; cut = None },
   i,
   next,
   ((place, refl, there), refl, leads),
   listed_somewhere (lines_of task c) next listed at,
-  not_within task c states next listed cost lists at dearer,
+  not_within task c states next listed (cost + (system_of task).cost i) lists at dearer,
 )
 
 -- ---- cuts
 
-pub wrong_cut : (task : Task) (c : Certificate) (place cost rest : ℕ) → HasCost c place cost (Some rest) → (0 < rest) ⊎ ¬ Allows c.claim (cost + rest)
+pub wrong_cut : (task : Task) (c : Certificate) (place : ℕ) (s : State) (cost rest : ℕ) → Stands task c place s cost (Some rest) → (value_of c s < rest) ⊎ ¬ Allows c.claim (cost + rest)
     → IsWrongLine task c cut_weak (state_line c place)
-wrong_cut task c place cost rest (l, at, cost_is, cut_is) wrong = (
-  entry task c l,
-  rest,
-  (place, refl, slice_get-map (entry task c) c.lines place l at),
-  cut_is,
-  subst (λ m. (0 < rest) ⊎ ¬ Allows c.claim (m + rest)) (sym cost_is) wrong,
-)
+wrong_cut task c place s cost rest there wrong = (record { state = s; cost = cost; cut = Some rest }, rest, (place, refl, there), refl, wrong)
 
 pub not_allowed : (claim whole : Claim) (cost : ℕ) (b : Bool) → claim ≡ whole → IsTrue b ↔ Allows claim cost → b ≡ false → ¬ Allows whole cost
 not_allowed claim whole cost b same iff fails allowed = false≢true (sym fails ∙ iff.1 (subst (λ k. Allows k cost) (sym same) allowed))
-
-pub denied : (claim whole : Claim) (cost rest : ℕ) (b : Bool) → claim ≡ whole → IsTrue b ↔ Allows claim cost → b ≡ false → rest ≡ 0 → ¬ Allows whole (cost + rest)
-denied claim whole cost rest b same iff fails nothing allowed =
-    let alike : cost + rest ≡ cost = omega (arith, nothing) in
-    not_allowed claim whole cost b same iff fails (subst (Allows whole) alike allowed)
 
 -- ---- clauses of results
 
 pub wrong_for : {X T E : Type 0} (x : X) (P : X → E → Type 0) (r : Result T E) → IfErr r (λ e. (y : X) → P y e) → IfErr r (P x)
 wrong_for x P (Ok v) all = tt
 wrong_for x P (Err e) all = all x
+
+pub wrong_where : {X T E : Type 0} (x : X) (A : X → Type 0) (P : X → E → Type 0) (r : Result T E) → A x → IfErr r (λ e. (y : X) → A y → P y e) → IfErr r (P x)
+wrong_where x A P (Ok v) a all = tt
+wrong_where x A P (Err e) a all = all x a

@@ -6,8 +6,8 @@ use Rattle.std.proofs.lemmas.List.Sums.{sum_by-cons}
 use Rattle.model.specs.Runs.{System, run, cost_of_all, Solves}
 use Rattle.model.specs.Task.{Task, Instance}
 use Rattle.model.specs.Meaning.{system_of}
-use Rattle.model.specs.Claims.{Claim, Line, IsClosed, ClaimHolds}
-use Rattle.model.specs.Certificates.{Certificate, lines_of, IsClosedFor}
+use Rattle.model.specs.Claims.{Claim, Line, IsLowerBound, IsClosed, ClaimHolds}
+use Rattle.model.specs.Certificates.{Certificate, lines_of, value_of, IsClosedFor}
 use Rattle.model.proofs.ClaimsLemmas.{claim-of_closed}
 use Rattle.cert_checker.specs.OnListing.{IsOpenWithin, IsCutWithin, StaysListed, to_its_end, to_a_cut}
 
@@ -101,9 +101,13 @@ module _ {S A : Type 0} (t : System S A) (value : S → ℕ) (claim : Claim) (li
       by_stay {cost} low (open_to m within each cut) =
           to_a_cut m within (λ k below. let at = each k below in (at.0, at.1, open_at_more t lines at.0 _ _ at.2 (omega arith))) (cut.0, cut.1, cut_at_more t lines cut.0 _ _ cut.2 (omega arith))
 
+-- what is still to pay from a state on does not fall short of the value that a certificate gives to it
+value_below : (task : Task) (c : Certificate) → IsLowerBound (system_of task) (value_of c)
+value_below task c s end plan runs goal = omega arith
+
 -- of a certificate that is closed for a task
 pub closed_holds : (task : Task) (c : Certificate) → IsClosedFor task c → ClaimHolds (system_of task) c.claim
-closed_holds task c closed = claim-of_closed (system_of task) (λ _. 0) c.claim (lines_of task c) (λ s end plan runs goal. omega arith) closed.listing_is_closed
+closed_holds task c closed = claim-of_closed (system_of task) (value_of c) c.claim (lines_of task c) (value_below task c) closed.listing_is_closed
 
 pub solving_stays : (task : Task) (c : Certificate) (plan : List Instance) → IsClosedFor task c → Solves (system_of task) plan → StaysListed (system_of task) (lines_of task c) plan
-solving_stays task c plan closed = stays_listed (system_of task) (λ _. 0) c.claim (lines_of task c) closed.listing_is_closed plan
+solving_stays task c plan closed = stays_listed (system_of task) (value_of c) c.claim (lines_of task c) closed.listing_is_closed plan

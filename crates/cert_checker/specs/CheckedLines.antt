@@ -4,11 +4,10 @@ use Rattle.cert_checker.specs.declared.check.Refusal.{Refusal}
 use Rattle.cert_checker.specs.CertChecker.{IsFirstRefusal, IsTrueRefusal}
 use Rattle.model.specs.Task.{Atom, Task, Instance}
 use Rattle.model.specs.WellTyped.{is_atom}
-use Rattle.model.specs.Meaning.{State, initial_state, system_of}
-use Rattle.model.specs.Runs.{System}
+use Rattle.model.specs.Meaning.{State, initial_state, step, meets_goal, system_of}
 use Rattle.model.specs.Instances.{all_instances}
-use Rattle.model.specs.Claims.{Claim, none, Allows, Line, IsListedWithin}
-use Rattle.model.specs.Certificates.{Certificate, StateLine, is_fluent, state_of_line, lines_of}
+use Rattle.model.specs.Claims.{none, Allows, Line, IsListedWithin}
+use Rattle.model.specs.Certificates.{Certificate, StateLine, is_fluent, state_of_line, lines_of, value_of}
 
 -- the atoms are well-typed, of fluent predicates, and distinct
 pub record AreFluent (task : Task) (atoms : List Atom) : Type 0 where
@@ -41,23 +40,28 @@ CutsAreAllowed task c count =
 abbrev pub HasCost : Certificate → ℕ → ℕ → Option ℕ → Type 0
 HasCost c place cost cut = (l : StateLine) × (slice_get c.lines place ≡ Some l) × (l.cost ≡ cost) × (l.cut ≡ cut)
 
+-- the listing has this state at this place, at this cost and with this cut
+abbrev pub Stands : Task → Certificate → ℕ → State → ℕ → Option ℕ → Type 0
+Stands task c place state cost cut = slice_get (lines_of task c) place ≡ Some (record { state = state; cost = cost; cut = cut })
+
 -- the state is listed at just this cost
 abbrev pub IsListedAt : {S : Type 0} → List (Line S) → S → ℕ → Type 0
 IsListedAt {S} lines s cost = (line : Line S) × Contains lines line × (line.state ≡ s) × (line.cost ≡ cost)
 
 -- an open state listed at this cost has its successors in the listing, and meets the goal at no less than is claimed
-pub record IsOpenClosed {S A : Type 0} (t : System S A) (claim : Claim) (lines : List (Line S)) (state : S) (cost : ℕ) : Type 0 where
-  pub successors_listed : (a : A) (next : S) → t.step state a ≡ Some next → IsListedWithin lines next (cost + t.cost a)
-  pub goal_allowed : IsTrue (t.meets_goal state) → Allows claim cost
+pub record IsOpenClosed (task : Task) (c : Certificate) (state : State) (cost : ℕ) : Type 0 where
+  pub successors_listed : (i : Instance) (next : State) → step task state i ≡ Some next → IsListedWithin (lines_of task c) next (cost + (system_of task).cost i)
+  pub goal_allowed : IsTrue (meets_goal task state) → Allows c.claim cost
 
--- a cut at this cost, with this bound of what is still to pay, claims no less than is claimed
-abbrev pub IsCutClosed : Claim → ℕ → ℕ → Type 0
-IsCutClosed claim cost rest = (rest ≤ 0) × Allows claim (cost + rest)
+-- the bound of what is still to pay, with which the state is cut at this cost, is at most the state's value, and with
+-- the cost no less than is claimed
+abbrev pub IsCutClosed : Certificate → State → ℕ → ℕ → Type 0
+IsCutClosed c state cost rest = (rest ≤ value_of c state) × Allows c.claim (cost + rest)
 
--- what is said of each line of a closed listing, with the value 0 in every state
-pub record IsLineClosed {S A : Type 0} (t : System S A) (claim : Claim) (lines : List (Line S)) (line : Line S) : Type 0 where
-  pub is_open : line.cut ≡ None → IsOpenClosed t claim lines line.state line.cost
-  pub is_cut : (rest : ℕ) → line.cut ≡ Some rest → IsCutClosed claim line.cost rest
+-- what is said of each line of a closed listing
+pub record IsLineClosed (task : Task) (c : Certificate) (line : Line State) : Type 0 where
+  pub is_open : line.cut ≡ None → IsOpenClosed task c line.state line.cost
+  pub is_cut : (rest : ℕ) → line.cut ≡ Some rest → IsCutClosed c line.state line.cost rest
 
 -- All is right up to the state line at this place: the reading of the certificate, the count of instances, the initial
 -- state, and the state lines before.
@@ -67,4 +71,4 @@ pub record IsRightUpTo (task : Task) (c : Certificate) (most place : ℕ) : Type
   pub allowed : CutsAreAllowed task c (length (lines_of task c))
   pub within : length (all_instances task) ≤ most
   pub initial : IsListedWithin (lines_of task c) (initial_state task) 0
-  pub lines : (k : ℕ) (l : Line State) → k < place → slice_get (lines_of task c) k ≡ Some l → IsLineClosed (system_of task) c.claim (lines_of task c) l
+  pub lines : (k : ℕ) (l : Line State) → k < place → slice_get (lines_of task c) k ≡ Some l → IsLineClosed task c l

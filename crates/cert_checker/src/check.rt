@@ -22,7 +22,6 @@ pub use code::RefusalCode;
 use faults::NoMemory;
 use formulas::Plan;
 use std::alloc::{AllocError, AllocFailed, Global};
-use task_system::instances_exceed;
 use typing::Task;
 
 /// What an accepted certificate shows.
@@ -125,11 +124,7 @@ pub fn check_cert(
 {
     listing::check_atoms(alloc, task, cert)?;
     let states = listing::listed_states(alloc, task, cert)?;
-    if instances_exceed(task, max_instances) {
-        return Err(Refusal::Plain(RefusalCode::Limit));
-    }
-    steps::check_initial(alloc, task, cert, &states)?;
-    steps::check_lines(alloc, task, cert, &states)?;
+    steps::check_listing(alloc, task, cert, &states, max_instances)?;
     answer::answer(alloc, task, cert, plan)
 }
 

@@ -16,16 +16,16 @@ pub loop-place-preserved : goal.loop-place-preserved
 loop-place-preserved c =
     λ k line lt at.
     elim (cases_eq k c.loop-place.place) [
-      | inl is ↦ c.in_ok-check_line.ensures.right line (subst (λ j. slice_get (lines_of (task_of c.args.task.now) (certificate_of c.args.cert.now)) j ≡ Some line) is at)
+      | inl is ↦ c.in_ok-check_line.ensures.right line (subst (λ j. slice_get (lines_of (task_of c.args.system.now.task.now) (certificate_of c.args.cert.now)) j ≡ Some line) is at)
       | inr other ↦ c.loop-place.invariant k line (omega arith) at
     ]
 
 pub returns-clause-right : goal.returns-clause-right
-returns-clause-right c = λ k line at. c.loop-place.invariant k line (omega (arith, lines_within (task_of c.args.task.now) (certificate_of c.args.cert.now) c.lines-place-end.result.now k line c.lines-place-end.ensures.lines at)) at
+returns-clause-right c = λ k line at. c.loop-place.invariant k line (omega (arith, lines_within (task_of c.args.system.now.task.now) (certificate_of c.args.cert.now) c.lines-place-end.result.now k line c.lines-place-end.ensures.lines at)) at
 
 pub returns-in_err-check_line-clause-first : goal.returns-in_err-check_line-clause-first
 returns-in_err-check_line-clause-first c =
-    let task = task_of c.args.task.now in
+    let task = task_of c.args.system.now.task.now in
     let cert = certificate_of c.args.cert.now in
     passed_on (λ e. (plan : Option (List Instance)) (most : ℕ) → IsRightUpTo task cert most 0 → IsFirstRefusal task cert plan most e) c.from_residual.result c.in_err-check_line.field-0.0 c.from_residual.ensures.1
     (λ plan most right. c.in_err-check_line.ensures.first plan most (right_to_line task cert most c.loop-place.place right c.loop-place.invariant))
