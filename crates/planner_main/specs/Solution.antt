@@ -7,11 +7,11 @@ use Rattle.formulas.specs.State.{plan_of}
 use Rattle.solver.specs.declared.answer.Answer.{Answer}
 use Rattle.solver.specs.declared.answer.Answer.TheVariants.{Plan, Unsolvable, Unknown}
 use Rattle.solver.specs.declared.answer.Limit.TheVariants.{Instances, Atoms, States}
-use Rattle.model.specs.Task.{Task, Schema, Instance, Name}
+use Rattle.model.specs.Task.{Object, Task, Schema, Instance, Name}
 
 -- the name of the object of this number
 abbrev pub object_name : Task → ℕ → Name
-object_name task number = option_map_or (λ (name : Name). name) (slice_get task.objects number) (codes "")
+object_name task number = option_map_or (λ (o : Object). o.name) (slice_get task.objects number) (codes "")
 
 -- the name of the schema of this number
 abbrev pub schema_name : Task → ℕ → Name

@@ -6,7 +6,7 @@ use search::{Successor, TransitionSystem};
 use std::alloc::Global;
 use std::process::Abort;
 use std::test::Fail;
-use task_system::{PlainStore, TaskSystem, instances_exceed, successors};
+use task_system::{PlainStore, TaskSystem};
 use typing::Task;
 
 /// Two actions, the one that is declared first with the later name, and the same for the objects.
@@ -24,26 +24,26 @@ const PAIRS: Texts = [
 static IN_ORDER: [Term; 5] = [(0, &[0]), (0, &[1]), (1, &[0, 0]), (1, &[0, 1]), (1, &[1, 0])];
 
 /// Whether the successor is by this instance, at cost 1, and the goal holds in it.
-fn is_by(task: &Task, found: &Successor<Instance, State>, wanted: &Term) -> bool {
-    let system = TaskSystem(task);
+fn is_by(system: &TaskSystem, found: &Successor<Instance, State>, wanted: &Term) -> bool {
     is_of(&found.action, wanted)
         && system.meets_goal(&found.state)
         && system.cost(&found.action) == 1
 }
 
 /// The successors are by these instances, in this order.
-fn are_in_order(rt: &impl Abort, task: &Task, found: &[Successor<Instance, State>]) {
+fn are_in_order(rt: &impl Abort, system: &TaskSystem, found: &[Successor<Instance, State>]) {
     assert_eq!(rt; found.len(), IN_ORDER.len());
     for (successor, wanted) in found.iter().zip(&IN_ORDER) {
-        assert!(rt; is_by(task, successor, wanted));
+        assert!(rt; is_by(system, successor, wanted));
     }
 }
 
 fn has_its_successors(rt: &impl Abort, alloc: Global, task: &Task) -> Result<(), Fail> {
-    let start = TaskSystem(task).initial(alloc)?;
-    assert!(rt; !TaskSystem(task).meets_goal(&start));
-    are_in_order(rt, task, &successors(alloc, task, &start)?);
-    are_in_order(rt, task, &TaskSystem(task).successors(alloc, &start)?);
+    let system = TaskSystem::new(alloc, task)?;
+    let start = system.initial(alloc)?;
+    assert!(rt; !system.meets_goal(&start));
+    are_in_order(rt, &system, &system.successors(alloc, &start)?);
+    are_in_order(rt, &system, &TransitionSystem::successors(&system, alloc, &start)?);
     Ok(())
 }
 
@@ -80,8 +80,9 @@ static COUNTS: [(Texts, u32, bool); 10] = [
 #[test]
 fn instances_are_counted(rt: HostRuntime) -> Result<(), Fail> {
     for (texts, max, exceeds) in &COUNTS {
-        on_task(&rt, rt.alloc(), texts, |rt, _alloc, task| {
-            assert_eq!(rt; instances_exceed(task, *max), *exceeds, "{max}");
+        on_task(&rt, rt.alloc(), texts, |rt, alloc, task| {
+            let system = TaskSystem::new(alloc, task)?;
+            assert_eq!(rt; system.instances_exceed(*max), *exceeds, "{max}");
             Ok(())
         })?;
     }
@@ -118,7 +119,7 @@ fn is_kept(rt: &impl Abort, alloc: Global, two: [&State; 2]) -> Result<(), Fail>
 
 fn keeps_each_once(rt: &impl Abort, alloc: Global, task: &Task) -> Result<(), Fail> {
     let start = State::initial(alloc, task)?;
-    let found = successors(alloc, task, &start)?;
+    let found = TaskSystem::new(alloc, task)?.successors(alloc, &start)?;
     match found.as_slice() {
         [only] => is_kept(rt, alloc, [&start, &only.state]),
         _ => Err(Fail::new("not one successor")),

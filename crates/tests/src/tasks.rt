@@ -3,7 +3,7 @@ use crate::helpers::{Texts, on_task};
 use std::alloc::{AllocError, Global};
 use std::process::Abort;
 use std::test::Fail;
-use typing::{ObjectId, PredicateId, SchemaId, Task};
+use typing::{ObjectId, PredicateId, SchemaId, Task, TypeId, TypeUnion};
 
 /// Names with letters of either case.
 const MIXED: Texts = [
@@ -30,6 +30,20 @@ fn numbers_lead_to_names(rt: &impl Abort, task: &Task) {
     assert_eq!(rt; schemas, (Some(b"go".as_slice()), None));
 }
 
+/// Without types of its own a task has the one type `object`, which all objects are of.
+fn all_are_objects(rt: &impl Abort, alloc: Global, task: &Task) -> Result<(), Fail> {
+    let root = task.type_named(b"object");
+    assert_eq!(rt; (task.type_count(), root), (1, Some(TypeId(0))));
+    let names = (task.type_name(TypeId(0)), task.type_name(TypeId(1)));
+    assert_eq!(rt; names, (Some(b"object".as_slice()), None));
+    let above = (task.supertypes(TypeId(0)), task.supertypes(TypeId(1)));
+    assert!(rt; above == (&[TypeId(0)], &[]));
+    let objects = TypeUnion(vec![in alloc; TypeId(0)]?);
+    assert!(rt; task.is_of(ObjectId(1), &objects) && !task.is_of(ObjectId(2), &objects));
+    assert!(rt; task.objects_of(alloc, &objects)?.as_slice() == [ObjectId(0), ObjectId(1)]);
+    Ok(())
+}
+
 /// The declarations of a task in words, and its start and its goal.
 fn declarations(alloc: Global, task: &Task) -> Result<String, AllocError> {
     let (p, q) = (
@@ -42,8 +56,8 @@ fn declarations(alloc: Global, task: &Task) -> Result<String, AllocError> {
 
 /// The declarations of `MIXED`; the start is told as it stands in the file.
 const DECLARATIONS: &str = "\
-Some(Predicate { arity: 1 }) Some(Predicate { arity: 0 })
-Some(Schema { parameters: 2, \
+Some(Predicate { arguments: [TypeUnion([TypeId(0)])] }) Some(Predicate { arguments: [] })
+Some(Schema { parameters: [TypeUnion([TypeId(0)]), TypeUnion([TypeId(0)])], \
 precondition: And([Atom(LiftedAtom { predicate: PredicateId(0), terms: [Variable(VariableId(1))] })]), \
 effect: Delete(LiftedAtom { predicate: PredicateId(1), terms: [] }) })
 [Atom { predicate: PredicateId(0), objects: [ObjectId(1)] }, Atom { predicate: PredicateId(0), objects: [ObjectId(1)] }]
@@ -54,7 +68,7 @@ fn has_its_parts(rt: &impl Abort, alloc: Global, task: &Task) -> Result<(), Fail
     numbers_lead_to_names(rt, task);
     assert!(rt; task.predicate(PredicateId(2)).is_none() && task.schema(SchemaId(1)).is_none());
     assert_eq!(rt; declarations(alloc, task)?.as_str(), DECLARATIONS);
-    Ok(())
+    all_are_objects(rt, alloc, task)
 }
 
 #[test]
