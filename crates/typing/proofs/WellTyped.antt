@@ -1,5 +1,5 @@
 -- The task of a pair of trees without faults is well-typed.
-use Rattle.std.proofs.Common.{◌≡◌, ℕ, ◌≤◌, ◌<◌, ◌==◌, Bool, true, false, ◌&&◌, List, [], ◌∷◌, ◌++◌, map, length, fold, slice_get, refl, ap, sym, subst, ◌∙◌, Option, None, Some, if◌then◌else◌, arith, zero, suc, nat_eq, nat_lt, nat_le}
+use Rattle.std.proofs.Common.{◌≡◌, ℕ, ◌≤◌, ◌<◌, ◌==◌, Bool, true, false, ◌&&◌, List, [], ◌∷◌, ◌++◌, map, length, fold, slice_get, refl, ap, sym, ◌∙◌, Option, None, Some, if◌then◌else◌, arith, zero, suc, nat_eq, nat_lt, nat_le}
 use Rattle.std.specs.Cmp.Lexicographic.{pointwise}
 use Rattle.std.specs.List.{flat_map, list_all, list_any}
 use Rattle.std.specs.Option.{option_map, option_map_or}
@@ -233,7 +233,10 @@ module _ (t : task.Task) (declarations : List tree.Predicate) (objects : List tr
       let names = declared-folded in_domain 16 a.parameters (nil_left twice many e2) in
       let low = within in_domain 25 16 a.parameters (nil_right twice many e2) in
       let fits : Fits t declarations objects a.parameters known = record {
-        types_are = types_are; objects_are = objects_are; predicates_are = predicates_are; predicates = refl;
+        types_are = types_are;
+        objects_are = objects_are;
+        predicates_are = predicates_are;
+        predicates = refl;
         variables = omega (arith, ap length names, length-map a.parameters folded);
         objects_low = omega arith;
       } in
@@ -253,7 +256,10 @@ is_task-task_of_trees d p declarations actions init goal =
     let t = task_of_trees d p in
     let known = known_in_problem (predicates_of d) p in
     let fits : Fits t d.predicates p.objects [] known = record {
-      types_are = refl; objects_are = refl; predicates_are = refl; predicates = refl;
+      types_are = refl;
+      objects_are = refl;
+      predicates_are = refl;
+      predicates = refl;
       variables = omega arith;
       objects_low = omega (arith, length-map p.objects folded);
     } in

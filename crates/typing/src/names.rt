@@ -2,7 +2,9 @@
 ghost use Rattle.std.specs.Prelude.{◌≡◌, ◌≤◌, [], length, IfErr, IfOk};
 
 use crate::scope::Scope;
-use crate::{Atom, Formula, Predicate, Schema, TaskFault, TaskFile, TypeId, objects, phases, types};
+use crate::{
+    Atom, Formula, Predicate, Schema, TaskFault, TaskFile, TypeId, objects, phases, types,
+};
 use indexmap::{IndexMap, IndexSet};
 use pddl_tree::{Domain, Problem};
 use std::alloc::Global;

@@ -11,9 +11,7 @@ ghost use Rattle.std.specs.List.{flat_map};
 use crate::scope::Scope;
 use crate::types::any_objects;
 use crate::walk::Walk;
-use crate::{
-    Atom, Formula, MAX_ARGUMENTS, MAX_VARIABLES, Predicate, Schema, TaskFault, TaskFile,
-};
+use crate::{Atom, Formula, MAX_ARGUMENTS, MAX_VARIABLES, Predicate, Schema, TaskFault, TaskFile};
 use faults::{Code, NoMemory};
 use indexmap::{IndexMap, IndexSet};
 use pddl_tree::{Action, Domain, Fact, Name, Predicate as Declaration, Problem};

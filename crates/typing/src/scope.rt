@@ -62,13 +62,7 @@ impl Scope<'_> {
     }
 
     /// The number of a name: its place, where it has one. Another is refused, and gets the number after the last.
-    fn number(
-        &self,
-        walk: &mut Walk,
-        place: Option<usize>,
-        count: usize,
-        name: &Name<'_>,
-    ) -> usize
+    fn number(&self, walk: &mut Walk, place: Option<usize>, count: usize, name: &Name<'_>) -> usize
         ensures value { result ≡ option_map_or (λ n. n) place count }
         ensures finds { Finds walk.old walk.new (if is_some place then [] else refused (file_of self.now.file) 17 (read.name_of name.now ∷ [])) }
     {

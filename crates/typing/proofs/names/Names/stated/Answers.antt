@@ -1,0 +1,32 @@
+use Rattle.std.proofs.Common.{◌≡◌, map, ap, subst, IfOk, IfErr}
+use Rattle.pddl_tree.specs.Tree.{problem_of}
+use Rattle.typing.specs.Task.{TellsLeastOf}
+use Rattle.typing.specs.TaskParts as parts
+use Rattle.typing.specs.Scope.{keys_in, names_in}
+use Rattle.typing.specs.Names.{known_by, stated_faults, Starts}
+use Rattle.model.specs.Typing.{in_problem, Known}
+use Rattle.typing.proofs.names.Names.stated.Goals.{After-new}
+use Rattle.typing.proofs.names.Names.stated.Goals as goal
+
+-- what the scope knows is what may be named in the problem
+abbrev known : After-new → Known
+known c = record {
+  predicates = map parts.predicate_of c.args.self.now.predicates.entries;
+  variables = names_in c.new.result.keys;
+  objects = keys_in c.args.self.now.objects.entries;
+}
+
+same : (c : After-new) → known c ≡ known_by c.args.self.now
+same c = λ i. record {
+  predicates = map parts.predicate_of c.args.self.now.predicates.entries;
+  variables = ap names_in c.new.ensures.empty i;
+  objects = keys_in c.args.self.now.objects.entries;
+}
+
+pub returns-clause-ok : goal.returns-clause-ok
+returns-clause-ok c =
+    subst (λ k. IfOk c.stated_in.result (Starts in_problem k (problem_of c.args.problem.now))) (same (goal.at.returns-clause-ok c).After-new) c.stated_in.ensures.ok
+
+pub returns-clause-err : goal.returns-clause-err
+returns-clause-err c =
+    subst (λ k. IfErr c.stated_in.result (TellsLeastOf (stated_faults k (problem_of c.args.problem.now)))) (same (goal.at.returns-clause-err c).After-new) c.stated_in.ensures.err
