@@ -1,18 +1,19 @@
--- Which predicates an effect touches, part by part.
-use Rattle.std.proofs.Common.{◌≡◌, ℕ, ◌+◌, ◌<◌, ◌≤◌, Bool, true, false, ◌||◌, List, [], ◌∷◌, length, take, drop, get_or, Option, None, Some, ◌&&◌, refl, sym, ap, ◌∙◌, subst}
-use Rattle.std.specs.Prelude.{◌==◌, slice_get}
-use Rattle.std.specs.Option.{option_map}
-use Rattle.std.proofs.lemmas.Bool.{eq-eqb}
+-- Which predicates an effect touches, part by part, and the arguments of a predicate.
+use Rattle.std.proofs.Common.{◌≡◌, ℕ, ◌+◌, ◌<◌, ◌≤◌, Bool, true, false, ◌||◌, List, [], ◌∷◌, length, take, drop, get_or, Option, None, Some, refl, sym, ap, ◌∙◌, subst}
+use Rattle.std.specs.Prelude.{slice_get}
+use Rattle.std.specs.Cmp.Lexicographic.{pointwise}
+use Rattle.std.specs.Option.{option_map, option_map_or}
 use Rattle.std.specs.Global.{Vec}
-use Rattle.std.specs.List.{list_any, list_all}
+use Rattle.std.specs.List.{list_any}
 use Rattle.std.proofs.lemmas.List.{take_all}
 use Rattle.std.proofs.lemmas.List.Folds.{list_any_more, list_any_at}
 use Rattle.typing.specs.declared.schemas.Effect.{Effect}
 use Rattle.typing.specs.declared.schemas.Effect as effect
 use Rattle.typing.specs.TaskParts.{effect_of}
 use Rattle.formulas.proofs.Trees.{effects_in, effect_of-And}
-use Rattle.model.specs.Task.{Schema, Task, Predicate, Atom}
-use Rattle.model.specs.WellTyped.{has_arity, is_object, is_atom}
+use Rattle.model.specs.Task.{Union, Schema, Task, Predicate, Atom}
+use Rattle.model.specs.Meaning.{is_of}
+use Rattle.model.specs.WellTyped.{is_atom}
 use Rattle.model.specs.Certificates.{touches, any_touches, is_fluent}
 use Rattle.model.proofs.ListLemmas.{drop-here}
 
@@ -51,16 +52,15 @@ pub fluent_later : (t : Task) (predicate number : ℕ) (s : Schema) → slice_ge
 fluent_later t predicate number s at so here =
     so ∙ ap (list_any (schema_touches predicate)) (drop-here t.schemas number s at) ∙ ap (λ b. b || list_any (schema_touches predicate) (drop (number + 1) t.schemas)) (sym here)
 
--- ---- the arity of a predicate
+-- ---- the arguments of a predicate
 
-pub arity_found : (o : Option Predicate) (arity : ℕ) → Some arity ≡ option_map (λ (p : Predicate). p.arity) o → (p : Predicate) × (o ≡ Some p) × (arity ≡ p.arity)
-arity_found None arity is = absurd (cc)
-arity_found (Some p) arity is = (p, refl, cc)
+pub arguments_found : (o : Option Predicate) (arguments : List Union) → Some arguments ≡ option_map (λ (p : Predicate). p.arguments) o → (p : Predicate) × (o ≡ Some p) × (arguments ≡ p.arguments)
+arguments_found None arguments is = absurd (cc)
+arguments_found (Some p) arguments is = (p, refl, cc)
 
-has_arity-there : (t : Task) (predicate count : ℕ) (p : Predicate) → slice_get t.predicates predicate ≡ Some p → has_arity t predicate count ≡ (count == p.arity)
-has_arity-there t predicate count p at = rw at refl
-
-pub is_atom-there : (t : Task) (a : Atom) (p : Predicate) (objects : Bool) → slice_get t.predicates a.predicate ≡ Some p → length a.objects ≡ p.arity
-    → objects ≡ list_all (is_object t) a.objects → objects ≡ is_atom t a
-is_atom-there t a p objects at count is =
-    is ∙ (λ i. sym (has_arity-there t a.predicate (length a.objects) p at ∙ eq-eqb (length a.objects) p.arity count) i && list_all (is_object t) a.objects)
+-- all turns on the objects
+pub atom_by_objects : (t : Task) (a : Atom) (arguments : List Union) → Some arguments ≡ option_map (λ (p : Predicate). p.arguments) (slice_get t.predicates a.predicate)
+    → pointwise (is_of t) arguments a.objects ≡ is_atom t a
+atom_by_objects t a arguments is =
+    let p = arguments_found (slice_get t.predicates a.predicate) arguments is in
+    ap (λ unions. pointwise (is_of t) unions a.objects) p.2 ∙ sym (ap (λ o. option_map_or (λ (p : Predicate). pointwise (is_of t) p.arguments a.objects) o false) p.1)

@@ -5,3 +5,4 @@ pub mod Tasks
 pub mod Changes
 pub mod Instances
 pub mod FluentPredicates
+pub mod Pointwise

@@ -1,10 +1,14 @@
 -- What a well-typed task says of its parts.
-use Rattle.std.specs.Prelude.{◌≡◌, ℕ, ◌+◌, ◌≤◌, ◌<◌, true, nat_le, ◌==◌, List, [], ◌∷◌, ◌++◌, length, map, take, IsTrue, refl}
-use Rattle.std.proofs.Common.{zero, suc, sym, ◌∙◌, ap, subst, get_or, arith, true≢false}
+use Rattle.std.specs.Prelude.{◌≡◌, ℕ, ◌+◌, ◌≤◌, ◌<◌, true, false, ◌&&◌, nat_le, nat_lt, List, [], ◌∷◌, ◌++◌, length, map, take, slice_get, IsTrue, None, Some, refl}
+use Rattle.std.proofs.Common.{sym, ◌∙◌, ap, subst, get_or, arith, true≢false}
 use Rattle.std.specs.Cmp.{first_so, second_so}
+use Rattle.std.specs.Cmp.Lexicographic.{pointwise, as_long}
 use Rattle.std.specs.List.{list_all}
+use Rattle.std.specs.Option.{option_map_or}
+use Rattle.std.proofs.lemmas.Bool.{lt-ltb}
 use Rattle.std.proofs.lemmas.Bool.Decides.{nat_tests}
 use Rattle.std.proofs.lemmas.List.{take_all, take_more, map-append}
+use Rattle.std.proofs.lemmas.Option.{slice_get_within}
 use Rattle.std.proofs.Math.ListN.{length-map}
 use Rattle.typing.specs.declared.atoms.ObjectId.{ObjectId}
 use Rattle.typing.specs.declared.atoms.Term.{Term}
@@ -12,20 +16,61 @@ use Rattle.typing.specs.declared.atoms.LiftedAtom.{LiftedAtom}
 use Rattle.typing.specs.TaskParts.{object_of, term_of, lifted_atom_of}
 use Rattle.formulas.specs.State.{is_bound}
 use Rattle.model.specs.Task as task
-use Rattle.model.specs.WellTyped.{is_task, is_term, is_lifted_atom, has_arity, max_arguments}
+use Rattle.model.specs.WellTyped.{is_task, is_term, is_lifted_atom, max_arguments}
 use Rattle.model.specs.Meaning as meaning
-use Rattle.model.proofs.Tests.{passes_index, passes_map, passes_weaker}
+use Rattle.model.specs.Meaning.{is_below}
+use Rattle.model.proofs.Tests.{passes_index, passes_map, passes_got}
 
 -- ---- well-typed atoms
 
-term_bound : (t : task.Task) (scope : ℕ) (a : task.Term) → is_term t scope a ≡ true → is_bound scope a ≡ true
-term_bound t scope (task.variable parameter) typed = typed
-term_bound t scope (task.object number) typed = refl
+-- the predicate of a well-typed atom
+predicate_of : (t : task.Task) (scope : List task.Union) (a : task.LiftedAtom) → IsTrue (is_lifted_atom t scope a)
+    → (p : task.Predicate) × (slice_get t.predicates a.predicate ≡ Some p) × IsTrue (pointwise (is_term t scope) p.arguments a.terms)
+predicate_of t scope a typed =
+    elim (slice_get t.predicates a.predicate) as (λ o. slice_get t.predicates a.predicate ≡ o
+    → option_map_or (λ (p : task.Predicate). pointwise (is_term t scope) p.arguments a.terms) o false ≡ true
+    → (p : task.Predicate) × (slice_get t.predicates a.predicate ≡ Some p) × IsTrue (pointwise (is_term t scope) p.arguments a.terms)) [
+      | None ↦ λ at none. absurd (true≢false (sym none))
+      | Some p ↦ λ at fit. (p, at, fit)
+    ] refl typed
 
--- the parameters in a well-typed atom are in scope
-pub lifted_bound : (t : task.Task) (scope : ℕ) (a : task.LiftedAtom) → IsTrue (is_lifted_atom t scope a) → IsTrue (list_all (is_bound scope) a.terms)
-lifted_bound t scope a typed =
-    passes_weaker (is_term t scope) (is_bound scope) (term_bound t scope) a.terms (second_so (has_arity t a.predicate (length a.terms)) (list_all (is_term t scope) a.terms) typed)
+term_bound : (t : task.Task) (scope : List task.Union) (types : task.Union) (a : task.Term) → is_term t scope types a ≡ true → is_bound (length scope) a ≡ true
+term_bound t scope types (task.object number) typed = refl
+term_bound t scope types (task.variable parameter) typed =
+    elim (slice_get scope parameter) as (λ o. slice_get scope parameter ≡ o → option_map_or (list_all (is_below t types)) o false ≡ true → nat_lt parameter (length scope) ≡ true) [
+      | None ↦ λ at none. absurd (true≢false (sym none))
+      | Some own ↦ λ at fit. lt-ltb parameter (length scope) (slice_get_within scope parameter own at)
+    ] refl typed
+
+terms_bound : (t : task.Task) (scope unions : List task.Union) (terms : List task.Term) → pointwise (is_term t scope) unions terms ≡ true → list_all (is_bound (length scope)) terms ≡ true
+terms_bound t scope unions [] typed = refl
+terms_bound t scope [] (a ∷ terms) typed = absurd (true≢false (sym typed))
+terms_bound t scope (types ∷ unions) (a ∷ terms) typed =
+    λ i. term_bound t scope types a (first_so (is_term t scope types a) (pointwise (is_term t scope) unions terms) typed) i
+    && terms_bound t scope unions terms (second_so (is_term t scope types a) (pointwise (is_term t scope) unions terms) typed) i
+
+-- the parameters in a well-typed atom are among those that have objects
+pub lifted_bound : (t : task.Task) (scope : List task.Union) (objects : List ObjectId) (a : task.LiftedAtom) → IsTrue (is_lifted_atom t scope a) → IsTrue (pointwise (meaning.is_of t) scope (map object_of objects))
+    → IsTrue (list_all (is_bound (length objects)) a.terms)
+lifted_bound t scope objects a typed fits =
+    let p = predicate_of t scope a typed in
+    let counts = as_long (meaning.is_of t) scope (map object_of objects) fits ∙ length-map objects object_of in
+    subst (λ n. list_all (is_bound n) a.terms ≡ true) counts (terms_bound t scope p.0.arguments a.terms p.2)
+
+few_here : (count : ℕ) → nat_le count max_arguments ≡ true → count ≤ max_arguments
+few_here count le = grind (arith, nat_tests)
+
+-- a well-typed atom has no more arguments than a predicate may have
+lifted_few : (t : task.Task) (scope : List task.Union) (a : task.LiftedAtom) → IsTrue (is_task t) → IsTrue (is_lifted_atom t scope a) → length a.terms ≤ max_arguments
+lifted_few t scope a well typed =
+    let p = predicate_of t scope a typed in
+    let few = passes_got (λ (p : task.Predicate). nat_le (length p.arguments) max_arguments) t.predicates a.predicate p.0 p.1 (second_so _ _ (first_so _ _ (first_so _ _ (first_so _ _ well)))) in
+    subst (λ n. n ≤ max_arguments) (as_long (is_term t scope) p.0.arguments a.terms p.2) (few_here (length p.0.arguments) few)
+
+-- the same of an atom of the code
+pub terms_few : (t : task.Task) (scope : List task.Union) (a : LiftedAtom) → IsTrue (is_task t) → IsTrue (is_lifted_atom t scope (lifted_atom_of a)) → length a.terms.items ≤ max_arguments
+terms_few t scope a well typed =
+    subst (λ n. n ≤ max_arguments) (length-map a.terms.items term_of) (lifted_few t scope (lifted_atom_of a) well typed)
 
 -- ---- the objects that terms name
 
@@ -51,22 +96,3 @@ pub bound_at : (scope : ℕ) (terms given : List Term) (i : ℕ) (d : Term) → 
 bound_at scope terms given i d same all lt =
     passes_index (λ t. is_bound scope (term_of t)) terms i d lt
     (sym (passes_map (is_bound scope) term_of terms) ∙ ap (λ l. list_all (is_bound scope) (map term_of l)) same ∙ all)
-
-few_here : (count arity : ℕ) → (count == arity) ≡ true → nat_le arity max_arguments ≡ true → count ≤ max_arguments
-few_here count arity same le = grind (arith, nat_tests)
-
-few_of : (t : task.Task) (predicates : List task.Predicate) (k count : ℕ) → list_all (λ (p : task.Predicate). nat_le p.arity max_arguments) predicates ≡ true
-    → has_arity (record t { predicates = predicates }) k count ≡ true → count ≤ max_arguments
-few_of t [] k count all typed = absurd (true≢false (sym typed))
-few_of t (p ∷ rest) zero count all typed = few_here count p.arity typed (first_so (nat_le p.arity max_arguments) (list_all (λ (p : task.Predicate). nat_le p.arity max_arguments) rest) all)
-few_of t (p ∷ rest) (suc k) count all typed = few_of t rest k count (second_so (nat_le p.arity max_arguments) (list_all (λ (p : task.Predicate). nat_le p.arity max_arguments) rest) all) typed
-
--- a well-typed atom has no more arguments than a predicate may have
-pub lifted_few : (t : task.Task) (scope : ℕ) (a : task.LiftedAtom) → IsTrue (is_task t) → IsTrue (is_lifted_atom t scope a) → length a.terms ≤ max_arguments
-lifted_few t scope a well typed =
-    few_of t t.predicates a.predicate (length a.terms) (first_so _ _ (first_so _ _ (first_so _ _ well))) (first_so (has_arity t a.predicate (length a.terms)) _ typed)
-
--- the same of an atom of the code
-pub terms_few : (t : task.Task) (scope : ℕ) (a : LiftedAtom) → IsTrue (is_task t) → IsTrue (is_lifted_atom t scope (lifted_atom_of a)) → length a.terms.items ≤ max_arguments
-terms_few t scope a well typed =
-    subst (λ n. n ≤ max_arguments) (length-map a.terms.items term_of) (lifted_few t scope (lifted_atom_of a) well typed)

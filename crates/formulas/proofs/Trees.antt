@@ -32,28 +32,28 @@ formula_of-And parts =
     let row = formula_row (formula.And parts) in
     ap task.and (formulas_row row.0 row.1 ∙ ap formulas_in (items_hidden-the_row-Formula-0 parts))
 
-pub all_hold-list : (binding : List ℕ) (s : State) (parts : List Formula) → all_hold (formulas_in parts) binding s ≡ list_all (λ part. holds (formula_of part) binding s) parts
-all_hold-list binding s [] = refl
-all_hold-list binding s (part ∷ rest) = ap (λ b. holds (formula_of part) binding s && b) (all_hold-list binding s rest)
+pub all_hold-list : (t : task.Task) (binding : List ℕ) (s : State) (parts : List Formula) → all_hold t (formulas_in parts) binding s ≡ list_all (λ part. holds t (formula_of part) binding s) parts
+all_hold-list t binding s [] = refl
+all_hold-list t binding s (part ∷ rest) = ap (λ b. holds t (formula_of part) binding s && b) (all_hold-list t binding s rest)
 
-pub are_formulas-list : (t : task.Task) (scope : ℕ) (parts : List Formula) → are_formulas t scope (formulas_in parts) ≡ list_all (λ part. is_formula t scope (formula_of part)) parts
+pub are_formulas-list : (t : task.Task) (scope : List task.Union) (parts : List Formula) → are_formulas t scope (formulas_in parts) ≡ list_all (λ part. is_formula t scope (formula_of part)) parts
 are_formulas-list t scope [] = refl
 are_formulas-list t scope (part ∷ rest) = ap (λ b. is_formula t scope (formula_of part) && b) (are_formulas-list t scope rest)
 
 -- a conjunction holds where each part does
-pub holds-And : (binding : List ℕ) (s : State) (parts : Vec Formula) → holds (formula_of (formula.And parts)) binding s ≡ list_all (λ part. holds (formula_of part) binding s) parts.items
-holds-And binding s parts = ap (λ f. holds f binding s) (formula_of-And parts) ∙ all_hold-list binding s parts.items
+pub holds-And : (t : task.Task) (binding : List ℕ) (s : State) (parts : Vec Formula) → holds t (formula_of (formula.And parts)) binding s ≡ list_all (λ part. holds t (formula_of part) binding s) parts.items
+holds-And t binding s parts = ap (λ f. holds t f binding s) (formula_of-And parts) ∙ all_hold-list t binding s parts.items
 
-pub is_formula-And : (t : task.Task) (scope : ℕ) (parts : Vec Formula) → is_formula t scope (formula_of (formula.And parts)) ≡ list_all (λ part. is_formula t scope (formula_of part)) parts.items
+pub is_formula-And : (t : task.Task) (scope : List task.Union) (parts : Vec Formula) → is_formula t scope (formula_of (formula.And parts)) ≡ list_all (λ part. is_formula t scope (formula_of part)) parts.items
 is_formula-And t scope parts = ap (is_formula t scope) (formula_of-And parts) ∙ are_formulas-list t scope parts.items
 
 -- the same of a formula that is a conjunction
-pub holds_by_parts : (binding : List ℕ) (s : State) (f : Formula) (parts : Vec Formula) (items : List Formula) → f ≡ formula.And parts → items ≡ parts.items
-    → holds (formula_of f) binding s ≡ list_all (λ part. holds (formula_of part) binding s) items
-holds_by_parts binding s f parts items is same =
-    ap (λ g. holds (formula_of g) binding s) is ∙ holds-And binding s parts ∙ ap (list_all (λ part. holds (formula_of part) binding s)) (sym same)
+pub holds_by_parts : (t : task.Task) (binding : List ℕ) (s : State) (f : Formula) (parts : Vec Formula) (items : List Formula) → f ≡ formula.And parts → items ≡ parts.items
+    → holds t (formula_of f) binding s ≡ list_all (λ part. holds t (formula_of part) binding s) items
+holds_by_parts t binding s f parts items is same =
+    ap (λ g. holds t (formula_of g) binding s) is ∙ holds-And t binding s parts ∙ ap (list_all (λ part. holds t (formula_of part) binding s)) (sym same)
 
-pub typed_by_parts : (t : task.Task) (scope : ℕ) (f : Formula) (parts : Vec Formula) (items : List Formula) → f ≡ formula.And parts → items ≡ parts.items
+pub typed_by_parts : (t : task.Task) (scope : List task.Union) (f : Formula) (parts : Vec Formula) (items : List Formula) → f ≡ formula.And parts → items ≡ parts.items
     → IsTrue (is_formula t scope (formula_of f)) → list_all (λ part. is_formula t scope (formula_of part)) items ≡ true
 typed_by_parts t scope f parts items is same typed =
     ap (list_all (λ part. is_formula t scope (formula_of part))) same ∙ sym (ap (λ g. is_formula t scope (formula_of g)) is ∙ is_formula-And t scope parts) ∙ typed
@@ -77,11 +77,11 @@ effect_of-And parts =
     let row = effect_row (effect.And parts) in
     ap task.both (effects_row row.0 row.1 ∙ ap effects_in (items_hidden-the_row-Effect-0 parts))
 
-pub are_effects-list : (t : task.Task) (scope : ℕ) (parts : List Effect) → are_effects t scope (effects_in parts) ≡ list_all (λ part. is_effect t scope (effect_of part)) parts
+pub are_effects-list : (t : task.Task) (scope : List task.Union) (parts : List Effect) → are_effects t scope (effects_in parts) ≡ list_all (λ part. is_effect t scope (effect_of part)) parts
 are_effects-list t scope [] = refl
 are_effects-list t scope (part ∷ rest) = ap (λ b. is_effect t scope (effect_of part) && b) (are_effects-list t scope rest)
 
-pub is_effect-And : (t : task.Task) (scope : ℕ) (parts : Vec Effect) → is_effect t scope (effect_of (effect.And parts)) ≡ list_all (λ part. is_effect t scope (effect_of part)) parts.items
+pub is_effect-And : (t : task.Task) (scope : List task.Union) (parts : Vec Effect) → is_effect t scope (effect_of (effect.And parts)) ≡ list_all (λ part. is_effect t scope (effect_of part)) parts.items
 is_effect-And t scope parts = ap (is_effect t scope) (effect_of-And parts) ∙ are_effects-list t scope parts.items
 
 changes_of_all-list : (binding : List ℕ) (parts : List Effect) → changes_of_all (effects_in parts) binding ≡ flat_map (λ part. changes_of (effect_of part) binding) parts
@@ -98,7 +98,7 @@ pub changes_by_parts : (binding : List ℕ) (e : Effect) (parts : Vec Effect) (i
 changes_by_parts binding e parts items is same =
     ap (λ g. changes_of (effect_of g) binding) is ∙ changes_of-And binding parts ∙ ap (flat_map (λ part. changes_of (effect_of part) binding)) (sym same)
 
-pub typed_by_effects : (t : task.Task) (scope : ℕ) (e : Effect) (parts : Vec Effect) (items : List Effect) → e ≡ effect.And parts → items ≡ parts.items
+pub typed_by_effects : (t : task.Task) (scope : List task.Union) (e : Effect) (parts : Vec Effect) (items : List Effect) → e ≡ effect.And parts → items ≡ parts.items
     → IsTrue (is_effect t scope (effect_of e)) → list_all (λ part. is_effect t scope (effect_of part)) items ≡ true
 typed_by_effects t scope e parts items is same typed =
     ap (list_all (λ part. is_effect t scope (effect_of part))) same ∙ sym (ap (λ g. is_effect t scope (effect_of g)) is ∙ is_effect-And t scope parts) ∙ typed

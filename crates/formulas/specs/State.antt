@@ -1,5 +1,6 @@
--- States, instances and plans of the code, in the model's terms.
-use Rattle.std.specs.Prelude.{ℕ, Bool, true, nat_lt, List, map}
+-- States, instances and plans of the code, in the model's terms, and when objects may stand for parameters.
+use Rattle.std.specs.Prelude.{ℕ, Bool, true, nat_lt, IsTrue, List, map}
+use Rattle.std.specs.Cmp.Lexicographic.{pointwise}
 use Rattle.std.specs.FinSet.{from_list}
 use Rattle.formulas.specs.declared.state.State.{State}
 use Rattle.formulas.specs.declared.instance.Instance.{Instance}
@@ -7,6 +8,7 @@ use Rattle.formulas.specs.declared.plan.Plan.{Plan}
 use Rattle.typing.specs.TaskParts.{atom_of, object_of}
 use Rattle.model.specs.Task as task
 use Rattle.model.specs.Meaning as meaning
+use Rattle.model.specs.WellTyped.{is_formula, is_effect}
 
 abbrev pub state_of : State → meaning.State
 state_of s = from_list (map atom_of s.atoms.keys)
@@ -22,3 +24,17 @@ plan_of p = map instance_of p.steps.items
 abbrev pub is_bound : ℕ → task.Term → Bool
 is_bound scope (task.variable parameter) = nat_lt parameter scope
 is_bound scope (task.object number) = true
+
+-- There are types of parameters for which something is well-typed, and of which these objects are, one for each.
+pub record FitsScope (t : task.Task) (is_typed : List task.Union → Bool) (objects : List ℕ) : Type 0 where
+  pub scope : List task.Union
+  pub typed : IsTrue (is_typed scope)
+  pub fits : IsTrue (pointwise (meaning.is_of t) scope objects)
+
+-- these objects may stand for the parameters in the formula
+abbrev pub FitsFormula : task.Task → task.Formula → List ℕ → Type 0
+FitsFormula t formula objects = FitsScope t (λ scope. is_formula t scope formula) objects
+
+-- and in the effect
+abbrev pub FitsEffect : task.Task → task.Effect → List ℕ → Type 0
+FitsEffect t effect objects = FitsScope t (λ scope. is_effect t scope effect) objects

@@ -1,11 +1,10 @@
 //! Change: the state that an instance leads to.
-ghost use Rattle.std.specs.Prelude.{◌≡◌, length, map, IsTrue, IfOk, OnOk};
+ghost use Rattle.std.specs.Prelude.{◌≡◌, map, IsTrue, IfOk, OnOk};
 ghost use Rattle.std.specs.Option.{option_map};
 ghost use Rattle.std.specs.FinSet.{from_list, difference, union};
 ghost use Rattle.typing.specs.TaskParts.{object_of, effect_of};
 ghost use Rattle.typing.specs.Task.{task_of};
-ghost use Rattle.formulas.specs.State.{state_of, instance_of};
-ghost use Rattle.model.specs.WellTyped.{is_effect};
+ghost use Rattle.formulas.specs.State.{state_of, instance_of, FitsEffect};
 ghost use Rattle.model.specs.Meaning as meaning;
 ghost use Rattle.model.specs.Meaning.{is_instance, step, changes_of, added_by, deleted_by};
 
@@ -41,7 +40,7 @@ pub fn apply(
 
 /// Makes false what the effect deletes.
 fn delete_atoms(task: &Task, effect: &Effect, binding: &Binding, state: &mut State)
-    requires { IsTrue (is_effect (task_of task.now) (length binding.now.items) (effect_of effect.now)) }
+    requires { FitsEffect (task_of task.now) (effect_of effect.now) (map object_of binding.now.items) }
     ensures { state_of state.new ≡ difference (state_of state.old) (from_list (deleted_by (changes_of (effect_of effect.now) (map object_of binding.now.items)))) }
 {
     match effect {
@@ -62,7 +61,7 @@ fn add_atoms(
     binding: &Binding,
     state: &mut State,
 ) -> Result<(), NoMemory>
-    requires { IsTrue (is_effect (task_of task.now) (length binding.now.items) (effect_of effect.now)) }
+    requires { FitsEffect (task_of task.now) (effect_of effect.now) (map object_of binding.now.items) }
     ensures { OnOk result (state_of state.new ≡ union (state_of state.old) (from_list (added_by (changes_of (effect_of effect.now) (map object_of binding.now.items))))) }
 {
     match effect {

@@ -1,24 +1,23 @@
 //! Which atoms are well-typed, and which predicates the task's actions change.
 ghost use Rattle.std.specs.Prelude.{◌≡◌, ◌&&◌};
-ghost use Rattle.std.specs.List.{list_all};
-ghost use Rattle.typing.specs.TaskParts.{atom_of, object_of};
+ghost use Rattle.typing.specs.TaskParts.{atom_of};
 ghost use Rattle.model.specs.WellTyped as well_typed;
 ghost use Rattle.typing.specs.Task.{task_of};
 ghost use Rattle.typing.specs.TaskParts.{effect_of};
 ghost use Rattle.model.specs.Certificates as certificates;
 ghost use Rattle.model.specs.Certificates.{touches};
 
-use crate::instance::are_objects;
+use crate::instance::are_of;
 use typing::{Atom, Effect, PredicateId, SchemaId, Task};
 
-/// Whether the atom is well-typed: its predicate is the task's and has as many arguments, each an object of the task.
+/// Whether the atom is well-typed: its predicate is the task's, and it has an object of its types for each argument.
 pub fn is_atom(task: &Task, atom: &Atom) -> bool
     ensures { result ≡ well_typed.is_atom (task_of task.now) (atom_of atom.now) }
 {
     let Some(predicate) = task.predicate(atom.predicate) else {
         return false;
     };
-    atom.objects.len() == predicate.arity && are_objects(task, atom.objects.as_slice())
+    are_of(task, &predicate.arguments, atom.objects.as_slice())
 }
 
 /// Whether the atom is well-typed, and some action of the task adds or deletes atoms of its predicate.

@@ -1,13 +1,13 @@
 //! Instances: schemas with objects for their parameters.
-ghost use Rattle.std.specs.Prelude.{◌≡◌};
-ghost use Rattle.std.specs.List.{list_all};
+ghost use Rattle.std.specs.Prelude.{◌≡◌, map};
+ghost use Rattle.std.specs.Cmp.Lexicographic.{pointwise};
 ghost use Rattle.typing.specs.Task.{task_of};
+ghost use Rattle.typing.specs.TaskParts.{object_of, union_of};
 ghost use Rattle.formulas.specs.State.{instance_of};
-ghost use Rattle.model.specs.WellTyped.{is_object};
 ghost use Rattle.model.specs.Meaning as meaning;
 
 use arrayvec::ArrayVec;
-use typing::{MAX_VARIABLES, ObjectId, SchemaId, Task};
+use typing::{MAX_VARIABLES, ObjectId, SchemaId, Task, TypeUnion};
 
 /// The objects of a schema's parameters, in order.
 pub type Binding = ArrayVec<ObjectId, MAX_VARIABLES>;
@@ -21,26 +21,26 @@ pub struct Instance {
     pub objects: Binding,
 }
 
-/// Whether the instance is one of the task's: the schema is the task's, and has as many parameters as there are
-/// objects, each of which is the task's. Two parameters may have the same object.
+/// Whether the instance is one of the task's: the schema is the task's, and there is an object of its types for each of
+/// its parameters. Two parameters may have the same object.
 pub fn is_instance(task: &Task, instance: &Instance) -> bool
     ensures { result ≡ meaning.is_instance (task_of task.now) (instance_of instance.now) }
 {
     match task.schema(instance.schema) {
-        Some(schema) => {
-            instance.objects.len() == schema.parameters
-                && are_objects(task, instance.objects.as_slice())
-        }
+        Some(schema) => are_of(task, &schema.parameters, instance.objects.as_slice()),
         None => false,
     }
 }
 
-/// Whether each is an object of the task.
-pub(crate) fn are_objects(task: &Task, objects: &[ObjectId]) -> bool
-    ensures { result ≡ list_all (λ o. is_object (task_of task.now) o.0) objects.now }
+/// Whether there are as many objects as unions of types, and each is of one of the types in its place.
+pub(crate) fn are_of(task: &Task, unions: &[TypeUnion], objects: &[ObjectId]) -> bool
+    ensures { result ≡ pointwise (meaning.is_of (task_of task.now)) (map union_of unions.now) (map object_of objects.now) }
 {
-    for object in objects {
-        if object.0 as usize >= task.object_count() {
+    if unions.len() != objects.len() {
+        return false;
+    }
+    for (types, object) in unions.iter().zip(objects) {
+        if !task.is_of(*object, types) {
             return false;
         }
     }

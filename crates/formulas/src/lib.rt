@@ -2,6 +2,7 @@
 #![tactic(auto)]
 
 mod change;
+mod costs;
 mod fluents;
 mod instance;
 mod laws;
@@ -10,6 +11,7 @@ mod state;
 mod truth;
 
 pub use change::apply;
+pub use costs::cost;
 pub use fluents::{is_atom, is_fluent, is_fluent_atom};
 pub use instance::{Binding, Instance, is_instance};
 pub use laws::one_state;

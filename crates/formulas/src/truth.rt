@@ -3,8 +3,7 @@ ghost use Rattle.std.specs.Prelude.{◌≡◌, ◌≤◌, length, map, IsTrue};
 ghost use Rattle.std.specs.List.{list_all};
 ghost use Rattle.typing.specs.TaskParts.{atom_of, object_of, formula_of, lifted_atom_of, term_of};
 ghost use Rattle.typing.specs.Task.{task_of};
-ghost use Rattle.formulas.specs.State.{is_bound, state_of};
-ghost use Rattle.model.specs.WellTyped.{is_formula};
+ghost use Rattle.formulas.specs.State.{is_bound, state_of, FitsFormula};
 ghost use Rattle.model.specs.Meaning as meaning;
 
 use crate::instance::Binding;
@@ -12,11 +11,11 @@ use crate::state::State;
 use arrayvec::ArrayVec;
 use typing::{Atom, Formula, LiftedAtom, MAX_ARGUMENTS, ObjectId, Task, Term};
 
-/// Whether the formula holds in the state, where the parameters have these objects. The formula is well-typed
-/// where there are this many parameters.
+/// Whether the formula holds in the state, where the parameters have these objects. The formula is well-typed for
+/// parameters of some types that the objects are of.
 pub fn holds(task: &Task, formula: &Formula, binding: &Binding, state: &State) -> bool
-    requires { IsTrue (is_formula (task_of task.now) (length binding.now.items) (formula_of formula.now)) }
-    ensures { result ≡ meaning.holds (formula_of formula.now) (map object_of binding.now.items) (state_of state.now) }
+    requires { FitsFormula (task_of task.now) (formula_of formula.now) (map object_of binding.now.items) }
+    ensures { result ≡ meaning.holds (task_of task.now) (formula_of formula.now) (map object_of binding.now.items) (state_of state.now) }
 {
     match formula {
         Formula::Atom(atom) => state.contains(&ground_atom(atom, binding)),

@@ -1,21 +1,23 @@
--- Runs, one instance after another.
-use Rattle.std.specs.Prelude.{◌≡◌, ℕ, ◌+◌, ◌-◌, ◌<◌, ◌≤◌, List, [], ◌∷◌, ◌++◌, length, map, take, slice_get, None, Some, refl}
-use Rattle.std.proofs.Common.{sym, ◌∙◌, ap, subst, get_or, arith, suc}
+-- Runs and their costs, one instance after another.
+use Rattle.std.specs.Prelude.{◌≡◌, ℕ, ◌+◌, ◌-◌, ◌<◌, ◌≤◌, List, [], ◌∷◌, ◌++◌, length, map, take, slice_get, None, Some, sum_by, refl}
+use Rattle.std.proofs.Common.{sym, ◌∙◌, ap, subst, get_or, arith}
 use Rattle.std.specs.Option.{option_and_then, option_map}
 use Rattle.std.proofs.lemmas.List.{take_all, take_more}
-use Rattle.std.proofs.lemmas.List.Sums.{sum_by-cons}
+use Rattle.std.proofs.lemmas.List.Sums.{sum_by-append, sum_by-cons}
 use Rattle.std.proofs.lemmas.Option.{none-some, same_Some, slice_get-map, slice_get_read, slice_get_within, get_or_from_slice_get}
 use Rattle.formulas.specs.declared.instance.Instance.{Instance}
 use Rattle.formulas.specs.State.{instance_of}
 use Rattle.model.specs.Task as task
 use Rattle.model.specs.Runs.{System, run, StopsAt, cost_of_all}
-use Rattle.model.specs.Meaning.{system_of}
 
 -- the instance that stands at a place of the code's list stands there in the model's
 pub stands : (items : List Instance) (plan : List task.Instance) (i : ℕ) (item : Instance) → map instance_of items ≡ plan → i < length items → item ≡ get_or items i item
     → slice_get plan i ≡ Some (instance_of item)
 stands items plan i item same lt at =
     ap (λ l. slice_get l i) (sym same) ∙ slice_get-map instance_of items i ∙ ap (option_map instance_of) (slice_get_read items (length items) i item refl lt at)
+
+sum_by-one : {X : Type 0} (f : X → ℕ) (x : X) → sum_by f (x ∷ []) ≡ f x
+sum_by-one f x = sum_by-cons f x [] ∙ (omega arith)
 
 module _ {S A : Type 0} (t : System S A) where
   run_push : (s next last : S) (xs : List A) (a : A) → run t s xs ≡ Some next → t.step next a ≡ Some last → run t s (xs ++ a ∷ []) ≡ Some last
@@ -49,14 +51,14 @@ module _ {S A : Type 0} (t : System S A) where
           is_not_applicable = blocked;
         }
 
+    -- what it costs
+    pub cost_more : (cost here : ℕ) → cost ≡ cost_of_all t (take i plan) → here ≡ t.cost a → cost + here ≡ cost_of_all t (take (i + 1) plan)
+    cost_more cost here so is =
+        (λ j. so j + is j) ∙ sym (ap (cost_of_all t) one_more ∙ sum_by-append t.cost (take i plan) (a ∷ []) ∙ ap (λ n. cost_of_all t (take i plan) + n) (sum_by-one t.cost a))
+
   -- all instances
   pub run_whole : (plan : List A) (i : ℕ) (s last : S) → length plan ≤ i → run t s (take i plan) ≡ Some last → run t s plan ≡ Some last
   run_whole plan i s last past runs = ap (run t s) (sym (take_all i plan past)) ∙ runs
 
--- each instance costs 1
-pub cost-length : (t : task.Task) (plan : List task.Instance) → cost_of_all (system_of t) plan ≡ length plan
-cost-length t [] = refl
-cost-length t (a ∷ plan) = sum_by-cons (λ i. 1) a plan ∙ one_more (cost_of_all (system_of t) plan) (length plan) (cost-length t plan)
-  where
-    one_more : (m n : ℕ) → m ≡ n → 1 + m ≡ suc n
-    one_more m n e = omega arith
+  pub cost_whole : (plan : List A) (i cost : ℕ) → length plan ≤ i → cost ≡ cost_of_all t (take i plan) → cost ≡ cost_of_all t plan
+  cost_whole plan i cost past so = so ∙ ap (cost_of_all t) (take_all i plan past)

@@ -9,7 +9,7 @@ ghost use Rattle.model.specs.Meaning.{is_instance, system_of};
 ghost use Rattle.model.specs.Examples.{WorkedExamples};
 
 use faults::NoMemory;
-use formulas::{Plan, State, apply, meets_goal};
+use formulas::{Plan, State, apply, cost, meets_goal};
 use std::alloc::Global;
 use typing::Task;
 
@@ -36,16 +36,18 @@ pub fn validate(alloc: Global, task: &Task, plan: &Plan) -> Result<Verdict, NoMe
     ensures { IfOk result (λ v. IsVerdict (system_of (task_of task.now)) (plan_of plan.now) (verdict_of v)) }
 {
     let mut state = State::initial(alloc, task)?;
+    let mut total = 0;
     for (index, instance) in plan.steps().iter().enumerate() {
         match apply(alloc, task, instance, &state)? {
-            Some(next) => state = next,
+            Some(next) => {
+                state = next;
+                total += cost(task, instance);
+            }
             None => return Ok(Verdict::NotApplicable { step: index + 1 }),
         }
     }
     if meets_goal(task, &state) {
-        Ok(Verdict::Valid {
-            cost: plan.steps().len() as u64,
-        })
+        Ok(Verdict::Valid { cost: total })
     } else {
         Ok(Verdict::GoalMissed)
     }

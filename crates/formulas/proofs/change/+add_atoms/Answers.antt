@@ -1,4 +1,4 @@
-use Rattle.std.proofs.Common.{rules, ◌∙◌, ap, sym, map, length}
+use Rattle.std.proofs.Common.{rules, ◌∙◌, ap, sym, map}
 use Rattle.typing.specs.declared.schemas.Effect.{the_lemmas}
 use Rattle.typing.specs.Task.{task_of}
 use Rattle.formulas.specs.State.{state_of}
@@ -16,11 +16,11 @@ use Rattle.formulas.proofs.change.+add_atoms.Goals as goal
 pub ground_atom-requires : goal.ground_atom-requires
 ground_atom-requires t c =
     let task = task_of c.args.task.now in
-    let scope = length c.args.binding.now.items in
-    let typed = ap (λ e. is_effect task scope (effect_of e)) (sym c.in-Add.is) ∙ c.requires in
+    let scope = c.requires.scope in
+    let typed = ap (λ e. is_effect task scope (effect_of e)) (sym c.in-Add.is) ∙ c.requires.typed in
     record {
       few = terms_few task scope c.in-Add.atom c.args.task.now.well_typed typed;
-      bound = lifted_bound task scope (lifted_atom_of c.in-Add.atom) typed;
+      bound = lifted_bound task scope c.args.binding.now.items (lifted_atom_of c.in-Add.atom) typed c.requires.fits;
     }
 
 pub loop-part-init : goal.loop-part-init
@@ -29,10 +29,14 @@ loop-part-init t c = sym (union-none (state_of c.args.state.now))
 pub add_atoms-requires : goal.add_atoms-requires
 add_atoms-requires t c =
     let task = task_of c.args.task.now in
-    let scope = length c.args.binding.now.items in (
+    let scope = c.requires.scope in (
       search (rules, the_lemmas),
-      passes_at (λ part. is_effect task scope (effect_of part)) c.deref-part-items.result.now c.loop-part.part-index c.part-item.result c.loop-part-test.true c.part-item.is
-          (typed_by_effects task scope c.args.effect.now c.in-And.parts c.deref-part-items.result.now c.in-And.is c.deref-part-items.ensures.value c.requires),
+      record {
+        scope = scope;
+        typed = passes_at (λ part. is_effect task scope (effect_of part)) c.deref-part-items.result.now c.loop-part.part-index c.part-item.result c.loop-part-test.true c.part-item.is
+            (typed_by_effects task scope c.args.effect.now c.in-And.parts c.deref-part-items.result.now c.in-And.is c.deref-part-items.ensures.value c.requires.typed);
+        fits = c.requires.fits;
+      },
     )
 
 pub loop-part-preserved : goal.loop-part-preserved
