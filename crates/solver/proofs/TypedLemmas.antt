@@ -1,20 +1,24 @@
 -- The atoms that are true in a reachable state are well-typed.
-use Rattle.std.proofs.Common.{◌≡◌, ℕ, Bool, true, false, ◌&&◌, ◌||◌, not, List, [], ◌∷◌, ◌⊎◌, inl, inr, length, map, Option, None, Some, refl, sym, ap, ◌∙◌, subst}
-use Rattle.std.specs.Prelude.{◌==◌, nat_lt, nat_le, slice_get, if◌then◌else◌}
-use Rattle.std.specs.Option.{option_and_then}
-use Rattle.std.specs.List.{list_all}
+use Rattle.std.proofs.Common.{◌≡◌, ℕ, zero, suc, Bool, true, false, ◌&&◌, ◌||◌, not, List, [], ◌∷◌, ◌⊎◌, inl, inr, length, map, Option, None, Some, refl, sym, ap, ◌∙◌, subst}
+use Rattle.std.specs.Prelude.{nat_eq, nat_le, slice_get, slice_index, if◌then◌else◌}
+use Rattle.std.specs.Cmp.Lexicographic.{pointwise}
+use Rattle.std.specs.Option.{option_map_or, option_and_then}
+use Rattle.std.specs.List.{list_all, list_any}
 use Rattle.std.specs.Ordering.{eq_by_cmp}
 use Rattle.std.specs.FinSet.{contains, from_list, difference, contains-from_list, contains-union, contains-difference}
-use Rattle.std.proofs.lemmas.Bool.{and_parts, and_from, eqb-true, ltb-true}
-use Rattle.std.proofs.lemmas.List.{length-map}
+use Rattle.std.proofs.lemmas.Bool.{and_parts, and_from, eqb-true, eq-eqb}
 use Rattle.std.proofs.lemmas.List.Folds.{list_all-append}
-use Rattle.model.proofs.Tests.{passes_index, passes_got}
-use Rattle.model.specs.Task.{Atom, LiftedAtom, Term, variable, object, Predicate, Effect, Effects, add, delete, both, no_effect, more_effects, Schema, Task, Instance}
-use Rattle.model.specs.WellTyped.{is_object, has_arity, is_term, is_lifted_atom, is_atom, is_formula, is_effect, are_effects, is_schema, is_task, max_arguments, max_variables}
+use Rattle.model.proofs.Tests.{passes_got}
+use Rattle.model.specs.Task.{ObjectType, Object, Union, Atom, LiftedAtom, Term, variable, object, Predicate, Effect, Effects, add, delete, both, no_effect, more_effects, Schema, Task, Instance}
+use Rattle.model.specs.WellTyped.{is_term, is_lifted_atom, is_atom, is_formula, is_effect, are_effects, is_schema, is_whole_chain, is_task, max_arguments, max_variables}
 use Rattle.model.specs.Runs.{run, IsReachable}
-use Rattle.model.specs.Meaning.{State, atom_cmp, object_of, ground_atom, changes_of, changes_of_all, added_by, deleted_by, after_changes, step, holds, fits, system_of, initial_state}
+use Rattle.model.specs.Meaning.{State, atom_cmp, supertypes_of, is_below, is_of, object_of, ground_atom, changes_of, changes_of_all, added_by, deleted_by, after_changes, step, holds, fits, system_of, initial_state}
 use Rattle.model.proofs.Atoms.{stands_in, atoms_total, added_by-append}
 use Rattle.model.proofs.StaticLemmas.{same_atom}
+
+or_later : (a b : Bool) → b ≡ true → (a || b) ≡ true
+or_later true b is = refl
+or_later false b is = is
 
 -- an atom of a list of which each passes
 typed_there : (p : Atom → Bool) (atoms : List Atom) (q : Atom) → stands_in atoms q ≡ true → list_all p atoms ≡ true → p q ≡ true
@@ -26,43 +30,128 @@ typed_there p (a ∷ atoms) q there all =
       | false ↦ λ _ later. typed_there p atoms q later parts.1
     ] refl there
 
+-- ---- types
+
+-- one of the numbers passes
+number_of : (p : ℕ → Bool) (numbers : List ℕ) → list_any p numbers ≡ true → (n : ℕ) × (list_any (nat_eq n) numbers ≡ true) × (p n ≡ true)
+number_of p [] any = absurd (cc)
+number_of p (m ∷ numbers) any =
+    elim (p m) as (λ v. p m ≡ v → (v || list_any p numbers) ≡ true → (n : ℕ) × ((nat_eq n m || list_any (nat_eq n) numbers) ≡ true) × (p n ≡ true)) [
+      | true ↦ λ passes _. (m, ap (λ v. v || list_any (nat_eq m) numbers) (eq-eqb m m refl), passes)
+      | false ↦ λ _ later. let (n, among, passes) = number_of p numbers later in (n, or_later (nat_eq n m) (list_any (nat_eq n) numbers) among, passes)
+    ] refl any
+
+-- a number of the list passes what each passes, and so one passes what it passes
+number_passes : (p : ℕ → Bool) (numbers : List ℕ) (n : ℕ) → list_any (nat_eq n) numbers ≡ true → list_all p numbers ≡ true → p n ≡ true
+number_passes p [] n among all = absurd (cc)
+number_passes p (m ∷ numbers) n among all =
+    let parts = and_parts (p m) (list_all p numbers) all in
+    elim (nat_eq n m) as (λ v. nat_eq n m ≡ v → (v || list_any (nat_eq n) numbers) ≡ true → p n ≡ true) [
+      | true ↦ λ same _. ap p (eqb-true n m same) ∙ parts.0
+      | false ↦ λ _ later. number_passes p numbers n later parts.1
+    ] refl among
+
+one_passes : (p : ℕ → Bool) (numbers : List ℕ) (n : ℕ) → list_any (nat_eq n) numbers ≡ true → p n ≡ true → list_any p numbers ≡ true
+one_passes p [] n among passes = absurd (cc)
+one_passes p (m ∷ numbers) n among passes =
+    elim (nat_eq n m) as (λ v. nat_eq n m ≡ v → (v || list_any (nat_eq n) numbers) ≡ true → (p m || list_any p numbers) ≡ true) [
+      | true ↦ λ same _. ap (λ v. v || list_any p numbers) (ap p (sym (eqb-true n m same)) ∙ passes)
+      | false ↦ λ _ later. or_later (p m) (list_any p numbers) (one_passes p numbers n later passes)
+    ] refl among
+
+abbrev chains : Task → Bool
+chains task = list_all (is_whole_chain task) task.types
+
+-- what stands above a type above a type stands above it
+above_above : (task : Task) (type above higher : ℕ) → chains task ≡ true → list_any (nat_eq above) (supertypes_of task type) ≡ true
+    → list_any (nat_eq higher) (supertypes_of task above) ≡ true → list_any (nat_eq higher) (supertypes_of task type) ≡ true
+above_above task type above higher whole is_above is_higher =
+    elim (slice_get task.types type) as (λ o. slice_get task.types type ≡ o → list_any (nat_eq above) (above_of o) ≡ true → list_any (nat_eq higher) (above_of o) ≡ true) [
+      | None ↦ λ _ none. absurd (cc)
+      | Some t ↦ λ at among.
+          let test = λ (n : ℕ). list_any (nat_eq n) t.supertypes in
+          let all = passes_got (is_whole_chain task) task.types type t at whole in
+          number_passes test (supertypes_of task above) higher is_higher (number_passes (λ n. list_all test (supertypes_of task n)) t.supertypes above among all)
+    ] refl is_above
+  where
+    above_of : Option ObjectType → List ℕ
+    above_of found = option_map_or (λ (t : ObjectType). t.supertypes) found []
+
+-- a type below one of some types, each of which is below one of others, is below one of those
+below_wider : (task : Task) (narrow wide : Union) (type : ℕ) → chains task ≡ true → list_all (is_below task wide) narrow ≡ true → is_below task narrow type ≡ true → is_below task wide type ≡ true
+below_wider task narrow wide type whole wider below =
+    let (above, is_above, named) = number_of (λ n. list_any (nat_eq n) narrow) (supertypes_of task type) below in
+    let (higher, is_higher, wanted) = number_of (λ n. list_any (nat_eq n) wide) (supertypes_of task above) (number_passes (is_below task wide) narrow above named wider) in
+    one_passes (λ n. list_any (nat_eq n) wide) (supertypes_of task type) higher (above_above task type above higher whole is_above is_higher) wanted
+
+of_wider : (task : Task) (narrow wide : Union) (o : ℕ) → chains task ≡ true → list_all (is_below task wide) narrow ≡ true → is_of task narrow o ≡ true → is_of task wide o ≡ true
+of_wider task narrow wide o whole wider of =
+    elim (slice_get task.objects o) as (λ found. is_below_of narrow found ≡ true → is_below_of wide found ≡ true) [
+      | None ↦ λ none. absurd (cc)
+      | Some x ↦ λ below. below_wider task narrow wide x.type whole wider below
+    ] of
+  where
+    is_below_of : Union → Option Object → Bool
+    is_below_of types found = option_map_or (λ (x : Object). is_below task types x.type) found false
+
 -- ---- ground atoms
 
-named_object : (task : Task) (binding : List ℕ) (t : Term) → list_all (is_object task) binding ≡ true → is_term task (length binding) t ≡ true
-    → is_object task (object_of binding t) ≡ true
-named_object task binding (variable p) all typed = passes_index (is_object task) binding p 0 (ltb-true p (length binding) typed) all
-named_object task binding (object n) all typed = typed
+-- the object of a parameter is of the parameter's types
+bound_of : (task : Task) (scope : List Union) (binding : List ℕ) (parameter : ℕ) (types : Union) → pointwise (is_of task) scope binding ≡ true → slice_get scope parameter ≡ Some types
+    → is_of task types (slice_index binding parameter) ≡ true
+bound_of task [] binding parameter types fit at = absurd (cc)
+bound_of task (first ∷ scope) [] parameter types fit at = absurd (cc)
+bound_of task (first ∷ scope) (o ∷ binding) zero types fit at =
+    let same : first ≡ types = cc in
+    ap (λ (u : Union). is_of task u o) (sym same) ∙ (and_parts (is_of task first o) (pointwise (is_of task) scope binding) fit).0
+bound_of task (first ∷ scope) (o ∷ binding) (suc parameter) types fit at =
+    bound_of task scope binding parameter types (and_parts (is_of task first o) (pointwise (is_of task) scope binding) fit).1 at
 
-named_objects : (task : Task) (binding : List ℕ) (terms : List Term) → list_all (is_object task) binding ≡ true → list_all (is_term task (length binding)) terms ≡ true
-    → list_all (is_object task) (map (object_of binding) terms) ≡ true
-named_objects task binding [] all typed = refl
-named_objects task binding (t ∷ terms) all typed =
-    let parts = and_parts (is_term task (length binding) t) (list_all (is_term task (length binding)) terms) typed in
-    and_from (is_object task (object_of binding t)) (list_all (is_object task) (map (object_of binding) terms)) (named_object task binding t all parts.0) (named_objects task binding terms all parts.1)
+named_object : (task : Task) (scope : List Union) (binding : List ℕ) (types : Union) (t : Term) → chains task ≡ true → pointwise (is_of task) scope binding ≡ true → is_term task scope types t ≡ true
+    → is_of task types (object_of binding t) ≡ true
+named_object task scope binding types (variable p) whole fit typed =
+    elim (slice_get scope p) as (λ o. slice_get scope p ≡ o → option_map_or (list_all (is_below task types)) o false ≡ true → is_of task types (slice_index binding p) ≡ true) [
+      | None ↦ λ _ none. absurd (cc)
+      | Some own ↦ λ at wider. of_wider task own types (slice_index binding p) whole wider (bound_of task scope binding p own fit at)
+    ] refl typed
+named_object task scope binding types (object n) whole fit typed = typed
 
-ground_typed : (task : Task) (binding : List ℕ) (a : LiftedAtom) → list_all (is_object task) binding ≡ true → is_lifted_atom task (length binding) a ≡ true
+named_objects : (task : Task) (scope : List Union) (binding : List ℕ) (arguments : List Union) (terms : List Term) → chains task ≡ true → pointwise (is_of task) scope binding ≡ true
+    → pointwise (is_term task scope) arguments terms ≡ true → pointwise (is_of task) arguments (map (object_of binding) terms) ≡ true
+named_objects task scope binding [] [] whole fit typed = refl
+named_objects task scope binding [] (t ∷ terms) whole fit typed = absurd (cc)
+named_objects task scope binding (types ∷ arguments) [] whole fit typed = absurd (cc)
+named_objects task scope binding (types ∷ arguments) (t ∷ terms) whole fit typed =
+    let parts = and_parts (is_term task scope types t) (pointwise (is_term task scope) arguments terms) typed in
+    and_from (is_of task types (object_of binding t)) (pointwise (is_of task) arguments (map (object_of binding) terms)) (named_object task scope binding types t whole fit parts.0)
+    (named_objects task scope binding arguments terms whole fit parts.1)
+
+ground_typed : (task : Task) (scope : List Union) (binding : List ℕ) (a : LiftedAtom) → chains task ≡ true → pointwise (is_of task) scope binding ≡ true → is_lifted_atom task scope a ≡ true
     → is_atom task (ground_atom binding a) ≡ true
-ground_typed task binding a all typed =
-    let parts = and_parts (has_arity task a.predicate (length a.terms)) (list_all (is_term task (length binding)) a.terms) typed in
-    and_from (has_arity task a.predicate (length (map (object_of binding) a.terms))) (list_all (is_object task) (map (object_of binding) a.terms))
-    (ap (has_arity task a.predicate) (length-map a.terms (object_of binding)) ∙ parts.0) (named_objects task binding a.terms all parts.1)
+ground_typed task scope binding a whole fit typed =
+    elim (slice_get task.predicates a.predicate) as (λ o. option_map_or (λ (p : Predicate). pointwise (is_term task scope) p.arguments a.terms) o false ≡ true
+        → option_map_or (λ (p : Predicate). pointwise (is_of task) p.arguments (map (object_of binding) a.terms)) o false ≡ true) [
+      | None ↦ λ none. absurd (cc)
+      | Some p ↦ λ terms. named_objects task scope binding p.arguments a.terms whole fit terms
+    ] typed
 
 -- ---- what actions add
 
-abbrev mutual
-  added_typed : (task : Task) (e : Effect) (b : List ℕ) → list_all (is_object task) b ≡ true → is_effect task (length b) e ≡ true → list_all (is_atom task) (added_by (changes_of e b)) ≡ true
-  added_typed task (add a) b all typed = and_from (is_atom task (ground_atom b a)) true (ground_typed task b a all typed) refl
-  added_typed task (delete a) b all typed = refl
-  added_typed task (both parts) b all typed = all_added_typed task parts b all typed
+module _ (task : Task) (whole : chains task ≡ true) (scope : List Union) (b : List ℕ) (fit : pointwise (is_of task) scope b ≡ true) where
+  abbrev mutual
+    added_typed : (e : Effect) → is_effect task scope e ≡ true → list_all (is_atom task) (added_by (changes_of e b)) ≡ true
+    added_typed (add a) typed = and_from (is_atom task (ground_atom b a)) true (ground_typed task scope b a whole fit typed) refl
+    added_typed (delete a) typed = refl
+    added_typed (both parts) typed = all_added_typed parts typed
 
-  all_added_typed : (task : Task) (es : Effects) (b : List ℕ) → list_all (is_object task) b ≡ true → are_effects task (length b) es ≡ true → list_all (is_atom task) (added_by (changes_of_all es b)) ≡ true
-  all_added_typed task no_effect b all typed = refl
-  all_added_typed task (more_effects first rest) b all typed =
-      let parts = and_parts (is_effect task (length b) first) (are_effects task (length b) rest) typed in
-      ap (list_all (is_atom task)) (added_by-append (changes_of first b) (changes_of_all rest b))
-      ∙ list_all-append (is_atom task) (added_by (changes_of first b)) (added_by (changes_of_all rest b))
-      ∙ and_from (list_all (is_atom task) (added_by (changes_of first b))) (list_all (is_atom task) (added_by (changes_of_all rest b)))
-      (added_typed task first b all parts.0) (all_added_typed task rest b all parts.1)
+    all_added_typed : (es : Effects) → are_effects task scope es ≡ true → list_all (is_atom task) (added_by (changes_of_all es b)) ≡ true
+    all_added_typed no_effect typed = refl
+    all_added_typed (more_effects first rest) typed =
+        let parts = and_parts (is_effect task scope first) (are_effects task scope rest) typed in
+        ap (list_all (is_atom task)) (added_by-append (changes_of first b) (changes_of_all rest b))
+        ∙ list_all-append (is_atom task) (added_by (changes_of first b)) (added_by (changes_of_all rest b))
+        ∙ and_from (list_all (is_atom task) (added_by (changes_of first b))) (list_all (is_atom task) (added_by (changes_of_all rest b)))
+        (added_typed first parts.0) (all_added_typed rest parts.1)
 
 -- ---- states
 
@@ -89,40 +178,41 @@ given true true x y is = (refl, cc)
 given true false x y is = absurd (cc)
 given false b x y is = absurd (cc)
 
--- a schema's effect, where the schema has objects for its parameters
-effect_typed : (task : Task) (schema : Schema) (objects : List ℕ) → is_schema task schema ≡ true → fits task schema objects ≡ true → list_all (is_atom task) (added_by (changes_of schema.effect objects)) ≡ true
-effect_typed task schema objects typed fit =
-    let parts = and_parts (length objects == schema.parameters) (list_all (λ number. nat_lt number (length task.objects)) objects) fit in
-    let is : length objects ≡ schema.parameters = eqb-true (length objects) schema.parameters parts.0 in
-    let few = nat_le schema.parameters max_variables in
+-- the effect of an instance of a schema adds well-typed atoms
+effect_typed : (task : Task) (schema : Schema) (objects : List ℕ) → chains task ≡ true → is_schema task schema ≡ true → fits task schema objects ≡ true
+    → list_all (is_atom task) (added_by (changes_of schema.effect objects)) ≡ true
+effect_typed task schema objects whole typed fit =
+    let few = nat_le (length schema.parameters) max_variables in
     let condition = is_formula task schema.parameters schema.precondition in
     let effect = (and_parts (few && condition) (is_effect task schema.parameters schema.effect) typed).1 in
-    added_typed task schema.effect objects parts.1 (subst (λ n. is_effect task n schema.effect ≡ true) (sym is) effect)
+    added_typed task whole schema.parameters objects fit schema.effect effect
 
 abbrev arities : Task → Bool
-arities task = list_all (λ (p : Predicate). nat_le p.arity max_arguments) task.predicates
+arities task = list_all (λ (p : Predicate). nat_le (length p.arguments) max_arguments) task.predicates
 
--- the schemas and the initial atoms of a well-typed task are
-parts_typed : (task : Task) → is_task task ≡ true → (list_all (is_schema task) task.schemas ≡ true) × (list_all (is_atom task) task.init ≡ true)
+-- the types, schemas and initial atoms of a well-typed task are
+parts_typed : (task : Task) → is_task task ≡ true → (chains task ≡ true) × (list_all (is_schema task) task.schemas ≡ true) × (list_all (is_atom task) task.init ≡ true)
 parts_typed task typed =
     let schemas = list_all (is_schema task) task.schemas in
     let init = list_all (is_atom task) task.init in
-    let before_goal = and_parts (arities task && schemas) init (and_parts (arities task && schemas && init) (is_formula task 0 task.goal) typed).0 in
-    ((and_parts (arities task) schemas before_goal.0).1, before_goal.1)
+    let before_goal = and_parts (chains task && arities task && schemas) init (and_parts (chains task && arities task && schemas && init) (is_formula task [] task.goal) typed).0 in
+    let before_init = and_parts (chains task && arities task) schemas before_goal.0 in
+    ((and_parts (chains task) (arities task) before_init.0).0, before_init.1, before_goal.1)
 
 step_typed : (task : Task) (s next : State) (i : Instance) → is_task task ≡ true → AllTyped task s → step task s i ≡ Some next → AllTyped task next
 step_typed task s next i well typed leads =
+    let parts = parts_typed task well in
     elim (slice_get task.schemas i.schema) as (λ o. slice_get task.schemas i.schema ≡ o → option_and_then next_by o ≡ Some next → AllTyped task next) [
       | None ↦ λ _ none. absurd (cc)
       | Some schema ↦ λ at some.
-          let here = given (fits task schema i.objects) (holds schema.precondition i.objects s) _ next some in
+          let here = given (fits task schema i.objects) (holds task schema.precondition i.objects s) _ next some in
           subst (λ (t : State). AllTyped task t) here.1
           (after_typed task s schema.effect i.objects typed
-          (effect_typed task schema i.objects (passes_got (is_schema task) task.schemas i.schema schema at (parts_typed task well).0) here.0))
+          (effect_typed task schema i.objects parts.0 (passes_got (is_schema task) task.schemas i.schema schema at parts.1) here.0))
     ] refl leads
   where
     next_by : Schema → Option State
-    next_by schema = if fits task schema i.objects && holds schema.precondition i.objects s then Some (after_changes s (changes_of schema.effect i.objects)) else None
+    next_by schema = if fits task schema i.objects && holds task schema.precondition i.objects s then Some (after_changes s (changes_of schema.effect i.objects)) else None
 
 run_typed : (task : Task) → is_task task ≡ true → (actions : List Instance) (s end : State) → AllTyped task s → run (system_of task) s actions ≡ Some end → AllTyped task end
 run_typed task well [] s end typed runs = let same : s ≡ end = cc in subst (λ (t : State). AllTyped task t) same typed
@@ -135,4 +225,4 @@ run_typed task well (a ∷ actions) s end typed runs =
 pub reachable_typed : (task : Task) (s : State) (q : Atom) → is_task task ≡ true → IsReachable (system_of task) s → contains s q ≡ true → is_atom task q ≡ true
 reachable_typed task s q well reached there =
     run_typed task well reached.0 (initial_state task) s
-    (λ a in_init. typed_there (is_atom task) task.init a (sym (contains-from_list atoms_total task.init a) ∙ in_init) (parts_typed task well).1) reached.1 q there
+    (λ a in_init. typed_there (is_atom task) task.init a (sym (contains-from_list atoms_total task.init a) ∙ in_init) (parts_typed task well).2) reached.1 q there

@@ -3,11 +3,10 @@
 
 mod count;
 mod expand;
+mod ranges;
 mod store;
 mod system;
 
-pub use count::instances_exceed;
-pub use expand::successors;
 pub use search::Successor;
 pub use store::PlainStore;
 pub use system::TaskSystem;

@@ -4,4 +4,4 @@ use Rattle.task_system.proofs.TaskSystemLemmas.{if_successors}
 use Rattle.task_system.proofs.system.TaskSystemTransitionSystem.successors.Goals as goal
 
 pub returns : goal.returns
-returns c = if_successors (task_of c.args.self.now.0.now) (state_of c.args.state.now) c.successors.result c.successors.ensures
+returns c = if_successors (task_of c.args.self.now.task.now) (state_of c.args.state.now) c.successors.result c.successors.ensures
