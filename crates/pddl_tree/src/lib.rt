@@ -14,4 +14,4 @@ mod tree;
 
 pub use pddl_words::{Name, Term};
 pub use reader::{domain, examples_are_as_told, one_fault, one_reading, problem};
-pub use tree::{Action, Atom, Domain, Effect, Fact, Formula, Predicate, Problem};
+pub use tree::{Action, Atom, Domain, Effect, Fact, Formula, GroundAtom, Group, Predicate, Problem};

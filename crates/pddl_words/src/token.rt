@@ -32,6 +32,8 @@ pub enum ReservedName {
     And,
     /// `not`
     Not,
+    /// `either`
+    Either,
     /// The name of a form that is left out.
     LeftOut,
     /// Any other reserved name.
@@ -43,6 +45,10 @@ pub enum ReservedName {
 pub enum SectionKeyword {
     /// `:requirements`
     Requirements,
+    /// `:types`
+    Types,
+    /// `:constants`
+    Constants,
     /// `:predicates`
     Predicates,
     /// `:action`
@@ -98,7 +104,9 @@ pub enum Token<'a> {
     Variable(Name<'a>),
     /// A keyword, as `:goal`.
     Keyword(Keyword),
-    /// A number, `-` or `=`.
+    /// `-`
+    Dash,
+    /// A number or `=`.
     Other,
     /// No word: the words run out.
     End,
@@ -140,7 +148,8 @@ fn token_of<'a>(word: &Word<'a>) -> Token<'a>
         Kind::Name => named(name),
         Kind::Variable => Token::Variable(name),
         Kind::Keyword => Token::Keyword(keyword_of(word.text())),
-        Kind::Number | Kind::Dash | Kind::Equals => Token::Other,
+        Kind::Dash => Token::Dash,
+        Kind::Number | Kind::Equals => Token::Other,
         Kind::Open => Token::Open,
         Kind::Close => Token::Close,
     }
@@ -155,6 +164,8 @@ fn named(name: Name) -> Token
         Token::Reserved(ReservedName::And, name)
     } else if is(text, b"not") {
         Token::Reserved(ReservedName::Not, name)
+    } else if is(text, b"either") {
+        Token::Reserved(ReservedName::Either, name)
     } else if is(text, b"define") {
         Token::Free(FreeName::Define, name)
     } else if is(text, b"domain") {
@@ -184,6 +195,10 @@ fn keyword_of(text: &[u8]) -> Keyword
         Keyword::Part(PartKeyword::Effect)
     } else if is(text, b":requirements") {
         Keyword::Section(SectionKeyword::Requirements)
+    } else if is(text, b":types") {
+        Keyword::Section(SectionKeyword::Types)
+    } else if is(text, b":constants") {
+        Keyword::Section(SectionKeyword::Constants)
     } else if is(text, b":predicates") {
         Keyword::Section(SectionKeyword::Predicates)
     } else if is(text, b":domain") {
@@ -230,7 +245,7 @@ fn is_left_out_name(text: &[u8]) -> bool
         || is(text, b"scale-down")
 }
 
-/// Whether a name is reserved otherwise, `and` and `not` aside.
+/// Whether a name is reserved otherwise, `and`, `not` and `either` aside.
 fn is_other_reserved(text: &[u8]) -> bool
     ensures { result ≡ is_among (str_to_ascii_lowercase text.now) other_reserved_names }
 {
@@ -240,7 +255,6 @@ fn is_other_reserved(text: &[u8]) -> bool
         || is(text, b"forall")
         || is(text, b"when")
         || is(text, b"increase")
-        || is(text, b"either")
         || is(text, b"total-cost")
 }
 
