@@ -11,6 +11,7 @@ mod reader;
 mod refusal;
 mod sections;
 mod tree;
+mod typed;
 
 pub use pddl_words::{Name, Term};
 pub use reader::{domain, examples_are_as_told, one_fault, one_reading, problem};
