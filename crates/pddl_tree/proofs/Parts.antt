@@ -6,7 +6,7 @@ use Rattle.pddl_words.specs.Token.{from, first}
 use Rattle.pddl_words.specs.Refusal.{WordFault, told}
 use Rattle.pddl_tree.specs.Reading.{the, IsRead, IsTold, number_seen, closes_first, Opens}
 use Rattle.pddl_tree.proofs.ReadOn.{taken, told_later, not_there}
-use Rattle.pddl_tree.proofs.Items.{in_turn}
+use Rattle.pddl_tree.proofs.ReadOn.{in_turn}
 use Rattle.model.specs.Trees.{Action}
 use Rattle.model.specs.GrammarWords.{Token, opens, closes, keyword, PartKeyword, of_part, of_section, requirement_key, left_out_keyword, unknown_keyword}
 use Rattle.model.specs.GrammarWords as words

@@ -29,9 +29,13 @@ ends_group_first (Some dash) = true
 ends_group_first (Some closes) = true
 ends_group_first _ = false
 
--- one group of a typed list was read, and the list goes on with the words left
-pub record IsGroup (l : Listed) (words : List Word) (at : ℕ) (g : Group) (next : ℕ) : Type 0 where
-  pub goes : (k : List Group → Phrase Tree) → run (from words at) (typed l >>= k) ≡ run (from words next) (typed l >>= λ gs. k (g ∷ gs))
+-- a typed list, and what its groups say
+abbrev pub groups : Listed → (List Group → Phrase Tree) → Phrase Tree
+groups l k = typed l >>= k
+
+-- one more was read of a list, and it goes on with the words left
+pub record IsOne {X : Type 0} (list : (List X → Phrase Tree) → Phrase Tree) (words : List Word) (at : ℕ) (x : X) (next : ℕ) : Type 0 where
+  pub goes : (k : List X → Phrase Tree) → run (from words at) (list k) ≡ run (from words next) (list (λ xs. k (x ∷ xs)))
 
 -- after the `(` of an `either`
 abbrev pub the_either : Phrase (List Name)

@@ -6,7 +6,7 @@ ghost use Rattle.pddl_words.specs.Token.{from, first};
 ghost use Rattle.pddl_tree.specs.Place.{listed_view};
 ghost use Rattle.pddl_tree.specs.Reading.{the, IsAfter, IsRead, IsTold, closes_first};
 ghost use Rattle.pddl_tree.specs.Tree.{group_of, groups_of};
-ghost use Rattle.pddl_tree.specs.Typed.{IsGroup, the_either};
+ghost use Rattle.pddl_tree.specs.Typed.{IsOne, groups as groups_and, the_either};
 
 use crate::lists::names;
 use crate::look::{either_word, ends_group, is_close, listed_name, name};
@@ -45,9 +45,10 @@ fn group<'a>(
     at: usize,
     listed: Listed,
 ) -> Result<(Group<'a>, usize), WordFault>
+    requires { closes_first (first (from words.now at)) ≡ false }
     ensures after { IfOk result (λ r. IsAfter words.now at r.1) }
-    ensures read { IfOk result (λ r. IsGroup (listed_view listed) words.now at (group_of r.0) r.1) }
-    ensures told { IfErr result (λ refusal. closes_first (first (from words.now at)) ≡ false → IsTold (the (wants_typed (listed_view listed))) words.now at refusal) }
+    ensures read { IfOk result (λ r. IsOne (groups_and (listed_view listed)) words.now at (group_of r.0) r.1) }
+    ensures told { IfErr result (λ refusal. IsTold (the (wants_typed (listed_view listed))) words.now at refusal) }
 {
     let (first, mut next) = listed_name(words, at, listed)?;
     let mut names = vec![in alloc; first]?;
