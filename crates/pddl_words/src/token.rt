@@ -1,7 +1,7 @@
 //! What a word is to the grammar.
 ghost use Rattle.std.specs.Prelude.{◌≡◌, ◌||◌, ◌<◌, length, codes, Some};
 ghost use Rattle.std.specs.Option.{option_map, option_and_then};
-ghost use Rattle.model.specs.Grammar.{name_in};
+ghost use Rattle.model.specs.Grammar.{name_in, variable_in};
 ghost use Rattle.std.specs.Str.{bytes_eq, str_to_ascii_lowercase};
 ghost use Rattle.tokens.specs.Word.{word_of};
 ghost use Rattle.model.specs.GrammarWords as words;
@@ -119,6 +119,16 @@ impl<'a> Token<'a> {
     {
         match self {
             Token::Free(_, name) | Token::Reserved(_, name) => Some(name),
+            _ => None,
+        }
+    }
+
+    /// The variable that it is, if it is one.
+    pub fn variable(self) -> Option<Name<'a>>
+        ensures { option_map name_of result ≡ option_and_then variable_in (seen self.entry) }
+    {
+        match self {
+            Token::Variable(variable) => Some(variable),
             _ => None,
         }
     }
