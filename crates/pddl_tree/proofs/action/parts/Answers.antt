@@ -1,13 +1,13 @@
 use Rattle.std.proofs.Common.{◌+◌, ◌∷◌, [], ◌∙◌, map, sym, ap, subst, arith, rules}
 use Rattle.std.proofs.lemmas.List.{map-append}
-use Rattle.pddl_words.specs.Token.{part_view}
+use Rattle.pddl_words.specs.Token.{from, first, part_view}
 use Rattle.faults.specs.declared.refused.Refused.TheVariants.{At}
 use Rattle.model.specs.GrammarWords.{parameters}
 use Rattle.model.specs.Grammar.{parts, part_after, has_part}
 use Rattle.pddl_tree.specs.Reading.{the, IsRead, IsTold}
 use Rattle.pddl_tree.specs.Tree.{action_of}
 use Rattle.pddl_tree.specs.Sections.{part_tree}
-use Rattle.pddl_tree.proofs.ReadOn.{told_by}
+use Rattle.pddl_tree.proofs.ReadOn.{refused_as, told_by}
 use Rattle.pddl_tree.proofs.Parts.{ArePartsOn, parts_start, parts_more, parts_end, parts_told, value_told, parameters_missing}
 use Rattle.pddl_tree.proofs.action.parts.Goals as goal
 
@@ -48,4 +48,4 @@ returns-then-has_part-clause-read c =
 pub returns-clause-told : goal.returns-clause-told
 returns-clause-told c =
     parts_told c.args.words.now c.args.at c.parts.next (action_of c.args.action) (action_of c.parts.action) (map part_view c.parts.seen.items) (At c.refusal.result) c.parts.invariant.read
-    (parameters_missing (map part_view c.parts.seen.items) c.args.words.now c.parts.next (At c.refusal.result) (sym c.is_close.ensures.first ∙ c.parts-test.false) (ap (λ l. has_part (map part_view l) parameters) (sym c.deref-2.ensures.value) ∙ sym c.has_part.ensures ∙ c.if-has_part.false) c.refusal.ensures)
+    (refused_as (parts (map part_view c.parts.seen.items)) (parts []) (parameters_missing (map part_view c.parts.seen.items) (first (from c.args.words.now c.parts.next)) (sym c.is_close.ensures.first ∙ c.parts-test.false) (ap (λ l. has_part (map part_view l) parameters) (sym c.deref-2.ensures.value) ∙ sym c.has_part.ensures ∙ c.if-has_part.false)) c.refusal.ensures)
