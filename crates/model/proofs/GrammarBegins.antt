@@ -23,6 +23,8 @@ word = free ordinary no_name
 
 is_section-self : (k : SectionKeyword) → is_section k k ≡ true
 is_section-self words.requirements = refl
+is_section-self words.types = refl
+is_section-self words.constants = refl
 is_section-self words.predicates = refl
 is_section-self words.action = refl
 is_section-self words.domain_keyword = refl
@@ -32,6 +34,8 @@ is_section-self words.goal = refl
 
 pub same_section : (j k : SectionKeyword) → is_section j k ≡ true → j ≡ k
 same_section words.requirements words.requirements e = refl
+same_section words.types words.types e = refl
+same_section words.constants words.constants e = refl
 same_section words.predicates words.predicates e = refl
 same_section words.action words.action e = refl
 same_section words.domain_keyword words.domain_keyword e = refl
@@ -119,6 +123,8 @@ some_sections problem_file seen = problem_sections seen (has_section seen words.
 
 some_section : (k : SectionKeyword) → (u : List Token) × (x : Section) × ((f : File) → IsRest f k u x)
 some_section words.requirements = (closes ∷ [], Grammar.requirements, λ f j others r. next (by refl nothing) nothing)
+some_section words.types = (closes ∷ [], Grammar.types [], λ f j others r. next (by refl nothing) nothing)
+some_section words.constants = (closes ∷ [], Grammar.constants [], λ f j others r. next (by refl nothing) nothing)
 some_section words.predicates = (closes ∷ [], Grammar.predicates [], λ f j others r. next (by refl nothing) nothing)
 some_section words.action = (
   word ∷ keyword (of_part words.parameters) ∷ opens ∷ closes ∷ closes ∷ [],
@@ -153,7 +159,6 @@ some_parts seen false e =
 shortest : (s : Sort) → Shortest s
 shortest Grammar.close = short (closes ∷ []) tt (λ r. by refl nothing)
 shortest Grammar.a_name = short (word ∷ []) no_name (λ r. by refl nothing)
-shortest Grammar.a_variable = short (variable no_name ∷ []) no_name (λ r. by refl nothing)
 shortest Grammar.term = short (word ∷ []) (tree.object no_name) (λ r. by refl nothing)
 shortest Grammar.key = short (keyword requirement_key ∷ []) tt (λ r. by refl nothing)
 shortest (Grammar.listed s) = in_list (shortest s)
@@ -165,7 +170,13 @@ shortest Grammar.formula = short (word ∷ closes ∷ []) (tree.atom (record { p
 shortest Grammar.effect_list = short (word ∷ closes ∷ []) (tree.add (record { predicate = no_name; terms = [] })) (λ r. by refl (next (by refl nothing) nothing))
 shortest Grammar.atom = short (word ∷ closes ∷ []) (record { predicate = no_name; terms = [] }) (λ r. by refl (next (by refl nothing) nothing))
 shortest Grammar.declaration = short (word ∷ closes ∷ []) (record { name = no_name; parameters = [] }) (λ r. by refl (next (by refl nothing) nothing))
-shortest Grammar.fact = short (word ∷ closes ∷ []) (record { predicate = no_name; objects = [] }) (λ r. by refl (next (by refl nothing) nothing))
+shortest Grammar.fact = short (word ∷ closes ∷ []) (tree.fact (record { predicate = no_name; objects = [] })) (λ r. by refl (next (by refl nothing) nothing))
+shortest Grammar.ground_atom = short (word ∷ closes ∷ []) (record { predicate = no_name; objects = [] }) (λ r. by refl (next (by refl nothing) nothing))
+shortest (Grammar.typed l) = short (closes ∷ []) [] (λ r. by refl nothing)
+shortest (Grammar.group l) = short (closes ∷ []) (Grammar.ends_group [] ∷ []) (λ r. by refl nothing)
+shortest (Grammar.type Grammar.names) = short (word ∷ []) (no_name ∷ []) (λ r. by refl nothing)
+shortest (Grammar.type Grammar.variables) = short (word ∷ []) (no_name ∷ []) (λ r. by refl nothing)
+shortest Grammar.either_word = short (reserved words.either no_name ∷ []) tt (λ r. by refl nothing)
 shortest Grammar.action_name = short (word ∷ []) no_name (λ r. by refl nothing)
 shortest (parts seen) = some_parts seen (has_part seen words.parameters) refl
 shortest (Grammar.value seen) = short (opens ∷ []) tt (λ r. by refl nothing)

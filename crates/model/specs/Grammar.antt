@@ -1,13 +1,13 @@
--- The grammar of domain and problem files (PDDL 1.2 manual, appendix: BNF; the language profile "STRIPS without
+-- The grammar of domain and problem files (PDDL 1.2 manual, appendix: BNF; the language profile "STRIPS with
 -- types"). It is a simple one in the sense of Korenjak and Hopcroft (1966): each production begins with a word, and no
 -- two productions of a nonterminal begin with the same one. So it is given as a function, `after`: where this is wanted
 -- and this word comes, what has to follow, and of which tree.
 use Rattle.std.specs.Prelude.{◌≡◌, Bool, true, false, List, [], ◌∷◌, ◌++◌, fold, Option, None, Some, cond, ⊤}
 use Rattle.std.specs.List.{list_all, list_any}
 use Rattle.std.specs.Option.{option_map}
-use Rattle.model.specs.Trees.{Name, Term, Atom, Formula, Effect, Predicate, Action, Domain, Fact, Problem, formulas, effects, no_name}
+use Rattle.model.specs.Trees.{Name, Term, Atom, Formula, Effect, Group, Predicate, Action, Domain, GroundAtom, Fact, Problem, formulas, effects, no_name}
 use Rattle.model.specs.Trees as tree
-use Rattle.model.specs.GrammarWords.{File, domain_file, problem_file, Token, opens, closes, free, reserved, variable, keyword, SectionKeyword, of_section, PartKeyword, of_part, requirement_key}
+use Rattle.model.specs.GrammarWords.{File, domain_file, problem_file, Token, opens, closes, free, reserved, variable, keyword, dash, SectionKeyword, of_section, PartKeyword, of_part, requirement_key}
 use Rattle.model.specs.GrammarWords as words
 
 infixr 20 ◌>>=◌
@@ -16,15 +16,17 @@ infixr 20 ◌>>◌
 
 pub data Section : Type 0 where
   requirements : Section
+  types : List Group → Section
+  constants : List Group → Section
   predicates : List Predicate → Section
   action : Action → Section
   domain : Name → Section
-  objects : List Name → Section
+  objects : List Group → Section
   init : List Fact → Section
   goal : Formula → Section
 
 pub data Part : Type 0 where
-  parameters : List Name → Part
+  parameters : List Group → Part
   precondition : Formula → Part
   effect : Effect → Part
 
@@ -37,7 +39,7 @@ abbrev pub bare_action : Name → Action
 bare_action n = record { name = n; parameters = []; precondition = tree.and (formulas []); effect = tree.both (effects []) }
 
 abbrev pub with_part : Action → Part → Action
-with_part a (parameters ns) = record a { parameters = ns }
+with_part a (parameters gs) = record a { parameters = gs }
 with_part a (precondition f) = record a { precondition = f }
 with_part a (effect e) = record a { effect = e }
 
@@ -46,27 +48,31 @@ action_from n parts = fold with_part (bare_action n) parts
 
 -- what stands in a file's sections, and with one section more
 pub record Contents : Type 0 where
+  pub types : List Group
+  pub constants : List Group
   pub predicates : List Predicate
   pub actions : List Action
   pub domain : Name
-  pub objects : List Name
+  pub objects : List Group
   pub init : List Fact
   pub goal : Formula
 
 abbrev pub no_contents : Contents
-no_contents = record { predicates = []; actions = []; domain = no_name; objects = []; init = []; goal = tree.and (formulas []) }
+no_contents = record { types = []; constants = []; predicates = []; actions = []; domain = no_name; objects = []; init = []; goal = tree.and (formulas []) }
 
 abbrev pub with_section : Contents → Section → Contents
 with_section c requirements = c
+with_section c (types gs) = record c { types = gs }
+with_section c (constants gs) = record c { constants = gs }
 with_section c (predicates ps) = record c { predicates = ps }
 with_section c (action a) = record c { actions = c.actions ++ a ∷ [] }
 with_section c (domain n) = record c { domain = n }
-with_section c (objects ns) = record c { objects = ns }
+with_section c (objects gs) = record c { objects = gs }
 with_section c (init fs) = record c { init = fs }
 with_section c (goal f) = record c { goal = f }
 
 abbrev pub domain_from : Name → Contents → Domain
-domain_from n c = record { name = n; predicates = c.predicates; actions = c.actions }
+domain_from n c = record { name = n; types = c.types; constants = c.constants; predicates = c.predicates; actions = c.actions }
 
 abbrev pub problem_from : Name → Contents → Problem
 problem_from n c = record { name = n; domain = c.domain; objects = c.objects; init = c.init; goal = c.goal }
@@ -78,10 +84,12 @@ tree_from problem_file n c = problem_tree (problem_from n c)
 -- the keyword of a section
 abbrev pub keyword_in : Section → SectionKeyword
 keyword_in requirements = words.requirements
+keyword_in (types gs) = words.types
+keyword_in (constants gs) = words.constants
 keyword_in (predicates ps) = words.predicates
 keyword_in (action a) = words.action
 keyword_in (domain n) = words.domain_keyword
-keyword_in (objects ns) = words.objects
+keyword_in (objects gs) = words.objects
 keyword_in (init fs) = words.init
 keyword_in (goal f) = words.goal
 
@@ -89,6 +97,8 @@ keyword_in (goal f) = words.goal
 
 abbrev pub is_section : SectionKeyword → SectionKeyword → Bool
 is_section words.requirements words.requirements = true
+is_section words.types words.types = true
+is_section words.constants words.constants = true
 is_section words.predicates words.predicates = true
 is_section words.action words.action = true
 is_section words.domain_keyword words.domain_keyword = true
@@ -111,7 +121,7 @@ has_part seen k = list_any (is_part k) seen
 
 -- the sections of a file
 abbrev pub sections_of : File → List SectionKeyword
-sections_of domain_file = words.requirements ∷ words.predicates ∷ words.action ∷ []
+sections_of domain_file = words.requirements ∷ words.types ∷ words.constants ∷ words.predicates ∷ words.action ∷ []
 sections_of problem_file = words.domain_keyword ∷ words.requirements ∷ words.objects ∷ words.init ∷ words.goal ∷ []
 
 abbrev pub required_of : File → List SectionKeyword
@@ -131,13 +141,28 @@ left_of (k ∷ all) seen = cond (has_section seen k) (left_of all seen) (k ∷ l
 abbrev pub has_all : List SectionKeyword → List SectionKeyword → Bool
 has_all needed seen = list_all (has_section seen) needed
 
+-- ---- typed lists
+
+-- what a typed list is of: names, each group of one type, or variables, which may be of several
+pub data Listed : Type 0 where
+  names : Listed
+  variables : Listed
+
+-- one more name at the head of a typed list's first group
+abbrev pub with_name : Name → List Group → List Group
+with_name n [] = record { names = n ∷ []; types = [] } ∷ []
+with_name n (g ∷ gs) = record g { names = n ∷ g.names } ∷ gs
+
+-- a group of which no name is left, with its types
+abbrev pub ends_group : List Name → Group
+ends_group ts = record { names = []; types = ts }
+
 -- ---- what may be wanted at a place: the nonterminals
 
 pub data Sort : Type 0 where
   -- words
   close : Sort
   a_name : Sort
-  a_variable : Sort
   term : Sort
   key : Sort
   -- `( s`, and `s* )`
@@ -149,6 +174,12 @@ pub data Sort : Type 0 where
   atom : Sort
   declaration : Sort
   fact : Sort
+  ground_atom : Sort
+  -- a typed list and its `)`; the rest of it within a group; the type after a `-`
+  typed : Listed → Sort
+  group : Listed → Sort
+  type : Listed → Sort
+  either_word : Sort
   -- what follows `:action`: a name; the parts, where these were seen, and `)`; and the `(` of a part's value
   action_name : Sort
   parts : List PartKeyword → Sort
@@ -166,7 +197,6 @@ pub data Sort : Type 0 where
 abbrev pub Value : Sort → Type 0
 Value close = ⊤
 Value a_name = Name
-Value a_variable = Name
 Value term = Term
 Value key = ⊤
 Value (listed s) = Value s
@@ -176,6 +206,11 @@ Value effect_list = Effect
 Value atom = Atom
 Value declaration = Predicate
 Value fact = Fact
+Value ground_atom = GroundAtom
+Value (typed l) = List Group
+Value (group l) = List Group
+Value (type l) = List Name
+Value either_word = ⊤
 Value action_name = Name
 Value (parts seen) = List Part
 Value (value seen) = ⊤
@@ -204,17 +239,19 @@ and_then (s >>= h) k = s >>= λ x. and_then (h x) k
 
 -- after `:parameters`, `:precondition` or `:effect`, where these parts stand with it
 abbrev pub part_after : List PartKeyword → PartKeyword → Phrase Part
-part_after seen words.parameters = do value seen; ns ← many a_variable; gives (parameters ns)
+part_after seen words.parameters = do value seen; gs ← typed variables; gives (parameters gs)
 part_after seen words.precondition = do value seen; f ← formula; gives (precondition f)
 part_after seen words.effect = do value seen; e ← effect_list; gives (effect e)
 
 -- after the keyword of a section
 abbrev pub section_after : SectionKeyword → Phrase Section
 section_after words.requirements = do _ ← many key; gives requirements
+section_after words.types = do gs ← typed names; gives (types gs)
+section_after words.constants = do gs ← typed names; gives (constants gs)
 section_after words.predicates = do ps ← many (listed declaration); gives (predicates ps)
 section_after words.action = do n ← action_name; ps ← parts []; gives (action (action_from n ps))
 section_after words.domain_keyword = do n ← a_name; close; gives (domain n)
-section_after words.objects = do ns ← many a_name; gives (objects ns)
+section_after words.objects = do gs ← typed names; gives (objects gs)
 section_after words.init = do fs ← many (listed fact); gives (init fs)
 section_after words.goal = do f ← listed formula; close; gives (goal f)
 
@@ -237,12 +274,24 @@ name_in (free f n) = Some n
 name_in (reserved r n) = Some n
 name_in _ = None
 
+abbrev pub variable_in : Token → Option Name
+variable_in (variable n) = Some n
+variable_in _ = None
+
+-- a name, or a variable, of a typed list
+abbrev pub listed_in : Listed → Token → Option Name
+listed_in names t = name_in t
+listed_in variables t = variable_in t
+
+-- it stands at the head of a group
+abbrev pub group_after : Listed → Name → Phrase (List Group)
+group_after l n = do gs ← group l; gives (with_name n gs)
+
 -- where s is wanted and this word comes: what has to follow the word, or none where it may not stand there
 abbrev pub after : (s : Sort) → Token → Option (Phrase (Value s))
 after close closes = Some (gives tt)
--- NAME, which may be any; VARIABLE; NAME | VARIABLE; KEY
+-- NAME, which may be any; NAME | VARIABLE; KEY
 after a_name t = option_map gives (name_in t)
-after a_variable (variable n) = Some (gives n)
 after term (free f n) = Some (gives (tree.object n))
 after term (reserved r n) = Some (gives (tree.object n))
 after term (variable n) = Some (gives (tree.variable n))
@@ -259,10 +308,22 @@ after effect_list (reserved words.not n) = Some do a ← listed atom; close; giv
 after effect_list (reserved words.and n) = Some do es ← many (listed effect_list); gives (tree.both (effects es))
 -- atom  ::= ( PREDICATE-NAME term* )
 after atom (free f n) = Some do ts ← many term; gives (record { predicate = n; terms = ts })
--- declaration  ::= ( PREDICATE-NAME VARIABLE* )
-after declaration (free f n) = Some do ns ← many a_variable; gives (record { name = n; parameters = ns })
--- fact  ::= ( PREDICATE-NAME NAME* )
-after fact (free f n) = Some do ns ← many a_name; gives (record { predicate = n; objects = ns })
+-- declaration  ::= ( PREDICATE-NAME variables )
+after declaration (free f n) = Some do gs ← typed variables; gives (record { name = n; parameters = gs })
+-- fact  ::= ground-atom | ( not ground-atom ), ground-atom  ::= ( PREDICATE-NAME NAME* )
+after fact (free f n) = Some do ns ← many a_name; gives (tree.fact (record { predicate = n; objects = ns }))
+after fact (reserved words.not n) = Some do a ← listed ground_atom; close; gives (tree.negated n a)
+after ground_atom (free f n) = Some do ns ← many a_name; gives (record { predicate = n; objects = ns })
+-- names  ::= ( NAME+ - type )* NAME*, and variables  ::= ( VARIABLE+ - type )* VARIABLE*, each with its `)`
+after (typed l) closes = Some (gives [])
+after (typed l) t = option_map (group_after l) (listed_in l t)
+after (group l) closes = Some (gives (ends_group [] ∷ []))
+after (group l) dash = Some do ts ← type l; gs ← typed l; gives (ends_group ts ∷ gs)
+after (group l) t = option_map (group_after l) (listed_in l t)
+-- type  ::= NAME, and of variables also ( either NAME+ )
+after (type variables) opens = Some do either_word; n ← a_name; ns ← many a_name; gives (n ∷ ns)
+after (type l) t = option_map (λ n. gives (n ∷ [])) (name_in t)
+after either_word (reserved words.either n) = Some (gives tt)
 -- action  ::= ( :action NAME part* ), each part at most once, `:parameters` among them
 after action_name t = option_map gives (name_in t)
 after (parts seen) closes = cond (has_part seen words.parameters) (Some (gives [])) None

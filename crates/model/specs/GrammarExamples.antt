@@ -5,7 +5,8 @@ use Rattle.model.specs.Fault.{Fault}
 use Rattle.model.specs.GrammarWords.{domain_file, problem_file, tokens_of}
 use Rattle.model.specs.Grammar.{IsDomain}
 use Rattle.model.specs.Refusals.{IsRefused}
-use Rattle.model.specs.Words.{Word, Kind, name, keyword, opens, closes}
+use Rattle.model.specs.Words.{Word, Kind, name, keyword, dash, opens, closes}
+use Rattle.model.specs.Trees.{Name, Group}
 
 abbrev pub word : Kind → List ℕ → ℕ → Word
 word kind text start = record { kind = kind; text = text; start = start }
@@ -69,13 +70,37 @@ full_problem =
     ∷ word opens (codes "(") 62 ∷ word keyword (codes ":goal") 63 ∷ word opens (codes "(") 68 ∷ word name (codes "x") 69 ∷ word closes (codes ")") 70 ∷ word closes (codes ")") 71
     ∷ word opens (codes "(") 72 ∷ []
 
+-- (define (DOMAIN d)(:types a b - c d)(:predicates)
+abbrev pub typed_list : List Word
+typed_list =
+    domain_head (word opens (codes "(") 18 ∷ word keyword (codes ":types") 19 ∷ word name (codes "a") 26 ∷ word name (codes "b") 28 ∷ word dash (codes "-") 30 ∷ word name (codes "c") 32 ∷ word name (codes "d") 34 ∷ word closes (codes ")") 35
+    ∷ word opens (codes "(") 36 ∷ word keyword (codes ":predicates") 37 ∷ word closes (codes ")") 48 ∷ word closes (codes ")") 49 ∷ [])
+
+abbrev pub named : List ℕ → ℕ → ℕ → Name
+named text start end = record { text = text; span = record { start = start; end = end } }
+
+-- the names before a `-` are of the type after it, and those after the last one are of none
+abbrev pub typed_groups : List Group
+typed_groups =
+    record { names = named (codes "a") 26 27 ∷ named (codes "b") 28 29 ∷ []; types = named (codes "c") 32 33 ∷ [] }
+    ∷ record { names = named (codes "d") 34 35 ∷ []; types = [] } ∷ []
+
+-- (define (DOMAIN d)(:types - c
+abbrev pub type_of_nothing : List Word
+type_of_nothing = domain_head (word opens (codes "(") 18 ∷ word keyword (codes ":types") 19 ∷ word dash (codes "-") 26 ∷ word name (codes "c") 28 ∷ [])
+
+-- (define (DOMAIN d)(:constants a - (either b c))
+abbrev pub either_of_a_constant : List Word
+either_of_a_constant =
+    domain_head (word opens (codes "(") 18 ∷ word keyword (codes ":constants") 19 ∷ word name (codes "a") 30 ∷ word dash (codes "-") 32 ∷ word opens (codes "(") 34 ∷ word name (codes "either") 35 ∷ [])
+
 -- what they are
 pub record AreAsTold : Type 0 where
   pub no_word : IsRefused domain_file [] (fault 7 0 0)
   pub empty : IsRefused domain_file empty_list (fault 10 1 2)
   pub unkind : IsRefused domain_file no_kind (fault 10 7 8)
   pub unpredicated : IsRefused domain_file no_predicates (fault 10 18 19)
-  pub shortest : IsDomain (tokens_of shortest_domain) (record { name = record { text = codes "d"; span = record { start = 16; end = 17 } }; predicates = []; actions = [] })
+  pub shortest : IsDomain (tokens_of shortest_domain) (record { name = record { text = codes "d"; span = record { start = 16; end = 17 } }; types = []; constants = []; predicates = []; actions = [] })
   pub no_problem : IsRefused problem_file shortest_domain (fault 7 9 15)
   pub too_many : IsRefused domain_file word_too_many (fault 7 32 33)
   pub repeated : IsRefused domain_file repeated_section (fault 9 32 43)
@@ -83,3 +108,6 @@ pub record AreAsTold : Type 0 where
   pub left_out : IsRefused domain_file section_left_out (fault 12 19 27)
   pub unparametrized : IsRefused domain_file no_parameters (fault 10 36 37)
   pub full : IsRefused problem_file full_problem (fault 7 72 73)
+  pub typed : IsDomain (tokens_of typed_list) (record { name = named (codes "d") 16 17; types = typed_groups; constants = []; predicates = []; actions = [] })
+  pub untyped : IsRefused domain_file type_of_nothing (fault 7 26 27)
+  pub one_type : IsRefused domain_file either_of_a_constant (fault 12 34 35)

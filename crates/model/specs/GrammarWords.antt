@@ -19,10 +19,11 @@ pub data FreeName : Type 0 where
   problem : FreeName
   ordinary : FreeName
 
--- a name that heads a formula or an effect of PDDL, and so is no predicate's
+-- a name that heads a formula, an effect or a type of PDDL, and so is no predicate's
 pub data ReservedName : Type 0 where
   and : ReservedName
   not : ReservedName
+  either : ReservedName
   -- of a form of PDDL that the language profile leaves out
   left_out_name : ReservedName
   other_reserved : ReservedName
@@ -30,6 +31,8 @@ pub data ReservedName : Type 0 where
 -- the keywords of a file's sections
 pub data SectionKeyword : Type 0 where
   requirements : SectionKeyword
+  types : SectionKeyword
+  constants : SectionKeyword
   predicates : SectionKeyword
   action : SectionKeyword
   domain_keyword : SectionKeyword
@@ -60,7 +63,8 @@ pub data Token : Type 0 where
   reserved : ReservedName → Name → Token
   variable : Name → Token
   keyword : Keyword → Token
-  -- a number, `-` or `=`
+  dash : Token
+  -- a number or `=`
   other : Token
 
 abbrev pub name_from : Word → Name
@@ -74,7 +78,7 @@ abbrev pub left_out_names : List (List ℕ)
 left_out_names = codes "preference" ∷ codes "assign" ∷ codes "decrease" ∷ codes "scale-up" ∷ codes "scale-down" ∷ []
 
 abbrev pub other_reserved_names : List (List ℕ)
-other_reserved_names = codes "or" ∷ codes "imply" ∷ codes "exists" ∷ codes "forall" ∷ codes "when" ∷ codes "increase" ∷ codes "either" ∷ codes "total-cost" ∷ []
+other_reserved_names = codes "or" ∷ codes "imply" ∷ codes "exists" ∷ codes "forall" ∷ codes "when" ∷ codes "increase" ∷ codes "total-cost" ∷ []
 
 abbrev pub requirement_keys : List (List ℕ)
 requirement_keys = codes ":strips" ∷ codes ":typing" ∷ codes ":equality" ∷ codes ":negative-preconditions" ∷ codes ":disjunctive-preconditions" ∷ codes ":existential-preconditions" ∷ codes ":universal-preconditions" ∷ codes ":quantified-preconditions" ∷ codes ":conditional-effects" ∷ codes ":adl" ∷ codes ":action-costs" ∷ codes ":fluents" ∷ codes ":numeric-fluents" ∷ []
@@ -87,12 +91,13 @@ abbrev pub named : List ℕ → Name → Token
 named text =
     if bytes_eq text (codes "and") then reserved and
     else (if bytes_eq text (codes "not") then reserved not
+    else (if bytes_eq text (codes "either") then reserved either
     else (if bytes_eq text (codes "define") then free define
     else (if bytes_eq text (codes "domain") then free domain
     else (if bytes_eq text (codes "problem") then free problem
     else (if is_among text left_out_names then reserved left_out_name
     else (if is_among text other_reserved_names then reserved other_reserved
-    else free ordinary))))))
+    else free ordinary)))))))
 
 -- what a keyword is, folded, that begins no section and no part
 abbrev pub other_keyword_of : List ℕ → Keyword
@@ -108,12 +113,14 @@ keyword_of text =
     else (if bytes_eq text (codes ":precondition") then of_part precondition
     else (if bytes_eq text (codes ":effect") then of_part effect
     else (if bytes_eq text (codes ":requirements") then of_section requirements
+    else (if bytes_eq text (codes ":types") then of_section types
+    else (if bytes_eq text (codes ":constants") then of_section constants
     else (if bytes_eq text (codes ":predicates") then of_section predicates
     else (if bytes_eq text (codes ":domain") then of_section domain_keyword
     else (if bytes_eq text (codes ":objects") then of_section objects
     else (if bytes_eq text (codes ":init") then of_section init
     else (if bytes_eq text (codes ":goal") then of_section goal
-    else other_keyword_of text)))))))))
+    else other_keyword_of text)))))))))))
 
 -- a word of this kind, with its text folded, and as a name
 abbrev pub token_from : Kind → List ℕ → Name → Token
@@ -121,7 +128,7 @@ token_from words.name text n = named text n
 token_from words.variable text n = variable n
 token_from words.keyword text n = keyword (keyword_of text)
 token_from words.number text n = other
-token_from words.dash text n = other
+token_from words.dash text n = dash
 token_from words.equals text n = other
 token_from words.opens text n = opens
 token_from words.closes text n = closes

@@ -4,9 +4,9 @@ use Rattle.std.specs.Prelude.{◌≡◌, ℕ, List, [], ◌∷◌, ◌++◌, Opt
 use Rattle.std.specs.Option.{option_map, option_and_then}
 use Rattle.model.specs.Fault.{Fault, Span}
 use Rattle.model.specs.Words.{Word, end_of}
-use Rattle.model.specs.GrammarWords.{File, Token, closes, reserved, left_out_name, keyword, Keyword, of_section, PartKeyword, of_part, parameters, left_out_keyword, token_of, tokens_of}
+use Rattle.model.specs.GrammarWords.{File, Token, opens, closes, reserved, left_out_name, keyword, Keyword, of_section, PartKeyword, of_part, parameters, left_out_keyword, token_of, tokens_of}
 use Rattle.model.specs.Grammar
-use Rattle.model.specs.Grammar.{Tree, Sort, many, key, action_name, parts, value, sections, section, define_word, kind_list, Phrase, gives, ◌>>=◌, and_then, after, has_section, has_part, sections_of, IsFile}
+use Rattle.model.specs.Grammar.{Tree, Sort, names, type, many, key, action_name, parts, value, sections, section, define_word, kind_list, Phrase, gives, ◌>>=◌, and_then, after, has_section, has_part, sections_of, IsFile}
 
 -- ---- what has to follow some words
 
@@ -68,6 +68,8 @@ number_at (section f k others) (keyword j) = number_in_file f j
 number_at (parts seen) (keyword k) = number_in_action k
 number_at (value seen) (keyword k) = number_at_value seen k
 number_at key (keyword k) = 11
+-- `(either ..)` as the type of a name that is no variable
+number_at (type names) opens = 12
 -- any other word
 number_at _ t = by_word t
 

@@ -1,5 +1,6 @@
 -- The trees of a domain file and of a problem file: what stands in them, name by name, before names are resolved.
 use Rattle.std.specs.Prelude.{ℕ, List, [], ◌∷◌}
+use Rattle.std.specs.List.{flat_map}
 use Rattle.model.specs.Fault.{Span}
 
 -- a name or a variable: its bytes as they stand in its file, and where they stand
@@ -50,30 +51,47 @@ abbrev pub effects : List Effect → Effects
 effects [] = no_effect
 effects (e ∷ es) = more_effects e (effects es)
 
+-- Names or variables of one type, as `a b - place` or `?x ?y - (either t u)`: the types after their `-`, and none where
+-- no type stands after them (PDDL 1.2 manual, "Types"). A typed list is a list of such groups.
+pub record Group : Type 0 where
+  pub names : List Name
+  pub types : List Name
+
+-- the names of a typed list, in order
+abbrev pub names_of : List Group → List Name
+names_of groups = flat_map (λ (g : Group). g.names) groups
+
 -- a predicate's declaration
 pub record Predicate : Type 0 where
   pub name : Name
-  pub parameters : List Name
+  pub parameters : List Group
 
 pub record Action : Type 0 where
   pub name : Name
-  pub parameters : List Name
+  pub parameters : List Group
   pub precondition : Formula
   pub effect : Effect
 
 pub record Domain : Type 0 where
   pub name : Name
+  pub types : List Group
+  pub constants : List Group
   pub predicates : List Predicate
   pub actions : List Action
 
--- an atom of objects, as in `:init`
-pub record Fact : Type 0 where
+-- an atom of objects
+pub record GroundAtom : Type 0 where
   pub predicate : Name
   pub objects : List Name
+
+-- what stands in `:init`: an atom, or a negated one, with its word `not`
+pub data Fact : Type 0 where
+  fact : GroundAtom → Fact
+  negated : Name → GroundAtom → Fact
 
 pub record Problem : Type 0 where
   pub name : Name
   pub domain : Name
-  pub objects : List Name
+  pub objects : List Group
   pub init : List Fact
   pub goal : Formula

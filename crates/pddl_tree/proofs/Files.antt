@@ -12,7 +12,7 @@ use Rattle.pddl_words.specs.Token.{from, first}
 use Rattle.pddl_words.specs.Refusal.{WordFault, told}
 use Rattle.pddl_tree.specs.Reading.{the, IsRead, IsTold, number_seen, closes_first, opens_first}
 use Rattle.pddl_tree.specs.Sections.{the_sections, IsNotNew}
-use Rattle.pddl_tree.proofs.ReadOn.{taken, told_later, not_there, by_word_told, first_told}
+use Rattle.pddl_tree.proofs.ReadOn.{taken, told_later, not_there, by_word_told, first_told, IsRefusedAs}
 use Rattle.model.specs.GrammarWords.{File, Token, opens, closes, keyword, SectionKeyword, of_section, of_part, requirement_key, left_out_keyword, unknown_keyword}
 use Rattle.model.specs.GrammarWords as words
 use Rattle.model.specs.Grammar.{Tree, Section, Contents, Phrase, gives, ◌>>=◌, and_then, after, sections, section, section_of, section_after, define_word, with_section, no_contents, keyword_in, seen_with, is_section, has_section, has_all, left_of, sections_of, required_of}
@@ -114,46 +114,24 @@ section_told f list at next seen c j refusal h o e here new told =
 
 -- ---- words that may not stand there
 
-sections_number : (f : File) (seen : List SectionKeyword) (o : Option Token) → number_seen define_word o ≡ number_seen (sections f seen) o
-sections_number f seen None = refl
-sections_number f seen (Some closes) = refl
-sections_number f seen (Some t) = refl
-
--- a refused word where sections may stand
-sections_refused : (f : File) (seen : List SectionKeyword) (list : List Word) (at : ℕ) (refusal : WordFault) → option_and_then (after (sections f seen)) (first (from list at)) ≡ None
-    → told refusal ≡ Some (number_seen define_word (first (from list at)), at) → IsTold (the (sections f seen)) list at refusal
-sections_refused f seen list at refusal none is = not_there (sections f seen) list at refusal none (is ∙ ap (λ n. Some (n, at)) (sections_number f seen (first (from list at))))
-
 -- any word, where all sections stand
-pub sections_full : (f : File) (seen : List SectionKeyword) (list : List Word) (at : ℕ) (refusal : WordFault) → has_all (sections_of f) seen ≡ true → closes_first (first (from list at)) ≡ false
-    → told refusal ≡ Some (number_seen define_word (first (from list at)), at) → IsTold (the (sections f seen)) list at refusal
-sections_full f seen list at refusal all e is = sections_refused f seen list at refusal (by_first (first (from list at)) e) is
-  where
-    by_first : (o : Option Token) → closes_first o ≡ false → option_and_then (after (sections f seen)) o ≡ None
-    by_first None e = refl
-    by_first (Some closes) e = absurd (cc)
-    by_first (Some opens) e = ap (section_of f seen) (none_left (sections_of f) seen all)
-    by_first (Some t) e = refl
+pub sections_full : (f : File) (seen : List SectionKeyword) (o : Option Token) → has_all (sections_of f) seen ≡ true → closes_first o ≡ false → IsRefusedAs (sections f seen) define_word o
+sections_full f seen None all e = (refl, refl)
+sections_full f seen (Some closes) all e = absurd (cc)
+sections_full f seen (Some opens) all e = (ap (section_of f seen) (none_left (sections_of f) seen all), refl)
+sections_full f seen (Some t) all e = (refl, refl)
 
 -- a word that is no `(`
-pub sections_not_open : (f : File) (seen : List SectionKeyword) (list : List Word) (at : ℕ) (refusal : WordFault) → opens_first (first (from list at)) ≡ false → closes_first (first (from list at)) ≡ false
-    → told refusal ≡ Some (number_seen define_word (first (from list at)), at) → IsTold (the (sections f seen)) list at refusal
-sections_not_open f seen list at refusal o e is = sections_refused f seen list at refusal (by_first (first (from list at)) o e) is
-  where
-    by_first : (x : Option Token) → opens_first x ≡ false → closes_first x ≡ false → option_and_then (after (sections f seen)) x ≡ None
-    by_first None o e = refl
-    by_first (Some closes) o e = absurd (cc)
-    by_first (Some opens) o e = absurd (cc)
-    by_first (Some t) o e = refl
+pub sections_not_open : (f : File) (seen : List SectionKeyword) (o : Option Token) → opens_first o ≡ false → closes_first o ≡ false → IsRefusedAs (sections f seen) define_word o
+sections_not_open f seen None n e = (refl, refl)
+sections_not_open f seen (Some closes) n e = absurd (cc)
+sections_not_open f seen (Some opens) n e = absurd (cc)
+sections_not_open f seen (Some t) n e = (refl, refl)
 
 -- `)` before what is required
-pub sections_missing : (f : File) (seen : List SectionKeyword) (list : List Word) (at : ℕ) (refusal : WordFault) → has_all (required_of f) seen ≡ false → closes_first (first (from list at)) ≡ true
-    → told refusal ≡ Some (number_seen define_word (first (from list at)), at) → IsTold (the (sections f seen)) list at refusal
-sections_missing f seen list at refusal none e is = sections_refused f seen list at refusal (by_first (first (from list at)) e) is
-  where
-    by_first : (o : Option Token) → closes_first o ≡ true → option_and_then (after (sections f seen)) o ≡ None
-    by_first (Some closes) e = ap (λ b. cond b (Some (gives [])) None) none
-    by_first o e = absurd (cc)
+pub sections_missing : (f : File) (seen : List SectionKeyword) (o : Option Token) → has_all (required_of f) seen ≡ false → closes_first o ≡ true → IsRefusedAs (sections f seen) define_word o
+sections_missing f seen (Some closes) none e = (ap (λ b. cond b (Some (gives [])) None) none, refl)
+sections_missing f seen o none e = absurd (cc)
 
 -- no keyword of a new section after `(`
 pub no_section : (f : File) (seen : List SectionKeyword) (list : List Word) (at : ℕ) (refusal : WordRefusal) → first (from list at) ≡ Some opens → has_all (sections_of f) seen ≡ false → IsNotNew list (at + 1) f seen refusal → IsTold (the (sections f seen)) list at (At refusal)
@@ -161,7 +139,7 @@ no_section f seen list at refusal o some h = by_left (are_left (sections_of f) s
   where
     by_left : AreLeft (left_of (sections_of f) seen) → IsTold (the (sections f seen)) list at (At refusal)
     by_left (some_left k others are) =
-        by_word_told (sections f seen) list at opens o (ap (section_of f seen) are)
+        by_word_told (sections f seen) o (ap (section_of f seen) are)
         (first_told (section f k others) (not_there (section f k others) list (at + 1) (At refusal) (by_first (first (from list (at + 1))) refl) (h.1 ∙ ap (λ n. Some (n, at + 1)) (number (first (from list (at + 1)))))))
       where
         number : (x : Option Token) → number_seen (section f words.requirements []) x ≡ number_seen (section f k others) x

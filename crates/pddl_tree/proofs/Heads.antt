@@ -16,7 +16,7 @@ use Rattle.model.specs.Refusals.{Begins, start, after_all}
 use Rattle.model.specs.GrammarMachine.{run}
 use Rattle.model.proofs.GrammarStops.{leads}
 use Rattle.model.proofs.GrammarBegins.{begins}
-use Rattle.pddl_tree.proofs.ReadOn.{from_first, taken, not_there}
+use Rattle.pddl_tree.proofs.ReadOn.{from_first, taken, IsRefusedAs, refused_as}
 use Rattle.pddl_tree.proofs.Told.{same_tokens}
 
 -- one word more
@@ -74,20 +74,3 @@ read_here s {words} {at} h = record { runs = λ k. taken s words at h.token h.st
 
 pub in_head : {words : List Word} {inside : ℕ} → Opens words 2 inside → IsRead (the kind_list) words 2 tt 3
 in_head {words} o = record { runs = λ k. taken kind_list words 2 opens o.0 refl k }
-
-pub no_file : (f : File) (words : List Word) (refusal : WordRefusal) → IsNotOpen words 0 Elsewhere refusal → IsTold (the (file f)) words 0 (At refusal)
-no_file f words refusal h = by_first (first (from words 0)) refl h.0
-  where
-    by_first : (o : Option Token) → first (from words 0) ≡ o → opens_first o ≡ false → IsTold (the (file f)) words 0 (At refusal)
-    by_first (Some opens) is e = absurd (cc)
-    by_first None is e = not_there (file f) words 0 (At refusal) (ap (option_and_then (after (file f))) is) (h.1 ∙ ap (λ o. Some (number_seen close o, 0)) is ∙ sym (ap (λ o. Some (number_seen (file f) o, 0)) is))
-    by_first (Some t) is e = not_there (file f) words 0 (At refusal) (ap (option_and_then (after (file f))) is) (h.1 ∙ ap (λ o. Some (number_seen close o, 0)) is ∙ sym (ap (λ o. Some (number_seen (file f) o, 0)) is))
-
-pub no_kind_list : (words : List Word) (refusal : WordRefusal) → IsNotOpen words 2 Incomplete refusal → IsTold (the kind_list) words 2 (At refusal)
-no_kind_list words refusal h = by_first (first (from words 2)) refl h.0
-  where
-    by_first : (o : Option Token) → first (from words 2) ≡ o → opens_first o ≡ false → IsTold (the kind_list) words 2 (At refusal)
-    by_first (Some opens) is e = absurd (cc)
-    by_first None is e = not_there kind_list words 2 (At refusal) (ap (option_and_then (after kind_list)) is) (h.1 ∙ ap (λ o. Some (number_seen define_word o, 2)) is ∙ sym (ap (λ o. Some (number_seen kind_list o, 2)) is))
-    by_first (Some closes) is e = not_there kind_list words 2 (At refusal) (ap (option_and_then (after kind_list)) is) (h.1 ∙ ap (λ o. Some (number_seen define_word o, 2)) is ∙ sym (ap (λ o. Some (number_seen kind_list o, 2)) is))
-    by_first (Some t) is e = not_there kind_list words 2 (At refusal) (ap (option_and_then (after kind_list)) is) (h.1 ∙ ap (λ o. Some (number_seen define_word o, 2)) is ∙ sym (ap (λ o. Some (number_seen kind_list o, 2)) is))

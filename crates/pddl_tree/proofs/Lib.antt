@@ -1,6 +1,7 @@
 pub mod Seen
 pub mod ReadOn
 pub mod Items
+pub mod Groups
 pub mod Rows
 pub mod Parts
 pub mod Files

@@ -5,8 +5,8 @@ use Rattle.tokens.specs.declared.word.Word.{Word}
 use Rattle.pddl_words.specs.Token.{from, first}
 use Rattle.pddl_words.specs.Refusal.{WordFault, told}
 use Rattle.pddl_tree.specs.Reading.{the, IsRead, IsTold, number_seen, closes_first, Opens}
-use Rattle.pddl_tree.proofs.ReadOn.{taken, told_later, not_there}
-use Rattle.pddl_tree.proofs.Items.{in_turn}
+use Rattle.pddl_tree.proofs.ReadOn.{taken, told_later, IsRefusedAs}
+use Rattle.pddl_tree.proofs.ReadOn.{in_turn}
 use Rattle.model.specs.Trees.{Action}
 use Rattle.model.specs.GrammarWords.{Token, opens, closes, keyword, PartKeyword, of_part, of_section, requirement_key, left_out_keyword, unknown_keyword}
 use Rattle.model.specs.GrammarWords as words
@@ -60,37 +60,10 @@ value_told list at next a b seen seen' p refusal h e new s told =
           (h.goes k ∙ one_part list next seen p (λ ps. k (fold with_part b ps)) e new) (told'.stops (λ y. parts (seen ++ p ∷ []) >>= λ xs. k (fold with_part b (y ∷ xs))));
     }
 
--- a word that is no new part
-pub no_part : (seen : List PartKeyword) (o : Option Token) → closes_first o ≡ false → ((p : PartKeyword) → o ≡ Some (keyword (of_part p)) → has_part seen p ≡ true) → option_and_then (after (parts seen)) o ≡ None
-no_part seen None e h = refl
-no_part seen (Some closes) e h = absurd (cc)
-no_part seen (Some (keyword (of_part p))) e h = ap (λ b. cond b None (Some (parts_after seen p))) (h p refl)
-no_part seen (Some (keyword (of_section k))) e h = refl
-no_part seen (Some (keyword requirement_key)) e h = refl
-no_part seen (Some (keyword left_out_keyword)) e h = refl
-no_part seen (Some (keyword unknown_keyword)) e h = refl
-no_part seen (Some t) e h = refl
-
-part_number : (seen : List PartKeyword) (o : Option Token) → number_seen (parts []) o ≡ number_seen (parts seen) o
-part_number seen None = refl
-part_number seen (Some closes) = refl
-part_number seen (Some (keyword k)) = refl
-part_number seen (Some t) = refl
-
-pub part_refused : (seen : List PartKeyword) (list : List Word) (at : ℕ) (refusal : WordFault) → closes_first (first (from list at)) ≡ false → ((p : PartKeyword) → first (from list at) ≡ Some (keyword (of_part p)) → has_part seen p ≡ true)
-    → told refusal ≡ Some (number_seen (parts []) (first (from list at)), at) → IsTold (the (parts seen)) list at refusal
-part_refused seen list at refusal e h is =
-    not_there (parts seen) list at refusal (no_part seen (first (from list at)) e h) (is ∙ ap (λ n. Some (n, at)) (part_number seen (first (from list at))))
-
 -- `)` where the parameters are missing
-pub parameters_missing : (seen : List PartKeyword) (list : List Word) (at : ℕ) (refusal : WordFault) → closes_first (first (from list at)) ≡ true → has_part seen words.parameters ≡ false
-    → told refusal ≡ Some (number_seen (parts []) (first (from list at)), at) → IsTold (the (parts seen)) list at refusal
-parameters_missing seen list at refusal e none is = by_first (first (from list at)) refl e
-  where
-    by_first : (o : Option Token) → first (from list at) ≡ o → closes_first o ≡ true → IsTold (the (parts seen)) list at refusal
-    by_first (Some closes) s e =
-        not_there (parts seen) list at refusal (ap (option_and_then (after (parts seen))) s ∙ ap (λ b. cond b (Some (gives [])) None) none) (is ∙ ap (λ n. Some (n, at)) (part_number seen (first (from list at))))
-    by_first o s e = absurd (cc)
+pub parameters_missing : (seen : List PartKeyword) (o : Option Token) → closes_first o ≡ true → has_part seen words.parameters ≡ false → IsRefusedAs (parts seen) (parts []) o
+parameters_missing seen (Some closes) e none = (ap (λ b. cond b (Some (gives [])) None) none, refl)
+parameters_missing seen o e none = absurd (cc)
 
 -- the `(` of a value
 pub opened : (seen : List PartKeyword) {list : List Word} {at inside : ℕ} → Opens list at inside → IsRead (the (value seen)) list at tt inside

@@ -22,6 +22,8 @@ part_among (y ∷ seen) k = λ i. same_part y k i || part_among seen k i
 
 same_section : (y k : SectionKeyword) → (section_impl.ghosts).eq y k ≡ is_section (section_view k) (section_view y)
 same_section section.Requirements section.Requirements = refl
+same_section section.Types section.Types = refl
+same_section section.Constants section.Constants = refl
 same_section section.Predicates section.Predicates = refl
 same_section section.Action section.Action = refl
 same_section section.Domain section.Domain = refl

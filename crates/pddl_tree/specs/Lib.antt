@@ -3,3 +3,4 @@ pub mod Reading
 pub mod Place
 pub mod Sections
 pub mod Head
+pub mod Typed

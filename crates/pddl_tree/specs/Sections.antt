@@ -3,7 +3,7 @@ use Rattle.std.specs.Prelude.{map, fold, [], ◌≡◌, ℕ, List, true, Some}
 use Rattle.pddl_tree.specs.declared.action.Part.{Part}
 use Rattle.pddl_tree.specs.declared.action.Part.TheVariants as part
 use Rattle.pddl_words.specs.Name.{name_of}
-use Rattle.pddl_tree.specs.Tree.{formula_of, effect_of, predicate_of, action_of, fact_of}
+use Rattle.pddl_tree.specs.Tree.{formula_of, effect_of, groups_of, predicate_of, action_of, fact_of}
 use Rattle.pddl_tree.specs.declared.sections.Section.{Section}
 use Rattle.pddl_tree.specs.declared.sections.Section.TheVariants as section
 use Rattle.pddl_tree.specs.declared.sections.Contents.{Contents}
@@ -20,7 +20,7 @@ use Rattle.model.specs.Grammar as grammar
 use Rattle.model.specs.GrammarWords as grammar_words
 
 abbrev pub part_tree : Part → grammar.Part
-part_tree (part.Parameters v) = grammar.parameters (map name_of v.items)
+part_tree (part.Parameters v) = grammar.parameters (groups_of v)
 part_tree (part.Precondition f) = grammar.precondition (formula_of f)
 part_tree (part.Effect e) = grammar.effect (effect_of e)
 
@@ -34,19 +34,23 @@ the_action = action_name >>= λ n. parts [] >>= λ ps. gives (action_from n ps)
 
 abbrev pub section_tree : Section → grammar.Section
 section_tree section.Requirements = grammar.requirements
+section_tree (section.Types v) = grammar.types (groups_of v)
+section_tree (section.Constants v) = grammar.constants (groups_of v)
 section_tree (section.Predicates v) = grammar.predicates (map predicate_of v.items)
 section_tree (section.Action a) = grammar.action (action_of a)
 section_tree (section.Domain n) = grammar.domain (name_of n)
-section_tree (section.Objects v) = grammar.objects (map name_of v.items)
+section_tree (section.Objects v) = grammar.objects (groups_of v)
 section_tree (section.Init v) = grammar.init (map fact_of v.items)
 section_tree (section.Goal f) = grammar.goal (formula_of f)
 
 abbrev pub contents_of : Contents → grammar.Contents
 contents_of c = record {
+  types = groups_of c.types;
+  constants = groups_of c.constants;
   predicates = map predicate_of c.predicates.items;
   actions = map action_of c.actions.items;
   domain = name_of c.domain;
-  objects = map name_of c.objects.items;
+  objects = groups_of c.objects;
   init = map fact_of c.init.items;
   goal = formula_of c.goal;
 }

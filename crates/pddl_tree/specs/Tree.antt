@@ -1,10 +1,14 @@
 -- The code's trees, in the model's terms.
-use Rattle.std.specs.Prelude.{map}
+use Rattle.std.specs.Prelude.{List, map}
+use Rattle.std.specs.Global.{Vec}
 use Rattle.pddl_tree.specs.declared.tree.Atom.{Atom}
 use Rattle.pddl_tree.specs.declared.tree.Predicate.{Predicate}
 use Rattle.pddl_tree.specs.declared.tree.Action.{Action}
 use Rattle.pddl_tree.specs.declared.tree.Domain.{Domain}
+use Rattle.pddl_tree.specs.declared.tree.Group.{Group}
+use Rattle.pddl_tree.specs.declared.tree.GroundAtom.{GroundAtom}
 use Rattle.pddl_tree.specs.declared.tree.Fact.{Fact}
+use Rattle.pddl_tree.specs.declared.tree.Fact.TheVariants as fact
 use Rattle.pddl_tree.specs.declared.tree.Problem.{Problem}
 use Rattle.pddl_tree.specs.declared.tree.Formula.{Formula, And', Row_of-Formula, end_of-Formula, more_of-Formula}
 use Rattle.pddl_tree.specs.declared.tree.Formula as formula
@@ -35,13 +39,19 @@ abbrev mutual
   effects_of end_of-Effect = tree.no_effect
   effects_of (more_of-Effect first rest) = tree.more_effects (effect_of first) (effects_of rest)
 
+abbrev pub group_of : Group → tree.Group
+group_of g = record { names = map name_of g.names.items; types = map name_of g.types.items }
+
+abbrev pub groups_of : Vec Group → List tree.Group
+groups_of groups = map group_of groups.items
+
 abbrev pub predicate_of : Predicate → tree.Predicate
-predicate_of p = record { name = name_of p.name; parameters = map name_of p.parameters.items }
+predicate_of p = record { name = name_of p.name; parameters = groups_of p.parameters }
 
 abbrev pub action_of : Action → tree.Action
 action_of a = record {
   name = name_of a.name;
-  parameters = map name_of a.parameters.items;
+  parameters = groups_of a.parameters;
   precondition = formula_of a.precondition;
   effect = effect_of a.effect;
 }
@@ -49,18 +59,24 @@ action_of a = record {
 abbrev pub domain_of : Domain → tree.Domain
 domain_of d = record {
   name = name_of d.name;
+  types = groups_of d.types;
+  constants = groups_of d.constants;
   predicates = map predicate_of d.predicates.items;
   actions = map action_of d.actions.items;
 }
 
+abbrev pub ground_atom_of : GroundAtom → tree.GroundAtom
+ground_atom_of a = record { predicate = name_of a.predicate; objects = map name_of a.objects.items }
+
 abbrev pub fact_of : Fact → tree.Fact
-fact_of f = record { predicate = name_of f.predicate; objects = map name_of f.objects.items }
+fact_of (fact.Atom a) = tree.fact (ground_atom_of a)
+fact_of (fact.Negated n a) = tree.negated (name_of n) (ground_atom_of a)
 
 abbrev pub problem_of : Problem → tree.Problem
 problem_of p = record {
   name = name_of p.name;
   domain = name_of p.domain;
-  objects = map name_of p.objects.items;
+  objects = groups_of p.objects;
   init = map fact_of p.init.items;
   goal = formula_of p.goal;
 }

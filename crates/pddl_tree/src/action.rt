@@ -11,10 +11,10 @@ ghost use Rattle.pddl_tree.specs.Sections.{part_tree, the_action, parts_on};
 
 use crate::effects::effect;
 use crate::formulas::formula;
-use crate::lists::variables;
 use crate::look::{action_name, is_close, open};
-use crate::refusal::{Place, has_part, refusal};
-use crate::tree::{Action, Effect, Formula};
+use crate::refusal::{Listed, Place, has_part, refusal};
+use crate::tree::{Action, Effect, Formula, Group};
+use crate::typed::typed;
 use faults::Refused;
 use pddl_words::{Keyword, Name, PartKeyword, Token, WordFault, WordRefusal, token_at};
 use std::alloc::Global;
@@ -23,7 +23,7 @@ use tokens::Word;
 /// A part of an action.
 #[derive(Drop)]
 enum Part<'a> {
-    Parameters(Vec<Name<'a>>),
+    Parameters(Vec<Group<'a>>),
     Precondition(Formula<'a>),
     Effect(Effect<'a>),
 }
@@ -127,7 +127,7 @@ fn value<'a>(
     let inside = open(words, at, Place::Value(seen))?;
     match keyword {
         PartKeyword::Parameters => {
-            let (parameters, next) = variables(alloc, words, inside)?;
+            let (parameters, next) = typed(alloc, words, inside, Listed::Variables)?;
             Ok((Part::Parameters(parameters), next))
         }
         PartKeyword::Precondition => {

@@ -11,7 +11,8 @@ mod reader;
 mod refusal;
 mod sections;
 mod tree;
+mod typed;
 
 pub use pddl_words::{Name, Term};
 pub use reader::{domain, examples_are_as_told, one_fault, one_reading, problem};
-pub use tree::{Action, Atom, Domain, Effect, Fact, Formula, Predicate, Problem};
+pub use tree::{Action, Atom, Domain, Effect, Fact, Formula, GroundAtom, Group, Predicate, Problem};

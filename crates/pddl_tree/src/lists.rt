@@ -1,11 +1,11 @@
-//! Lists of names, of variables, of terms and of keys, up to the parenthesis that closes them.
+//! Lists of names, of terms and of keys, up to the parenthesis that closes them.
 ghost use Rattle.std.specs.Prelude.{IfOk, IfErr, map};
-ghost use Rattle.model.specs.Grammar.{many, a_name, a_variable, term as wants_term};
+ghost use Rattle.model.specs.Grammar.{many, a_name, term as wants_term};
 ghost use Rattle.pddl_words.specs.Name.{name_of, term_of};
 ghost use Rattle.pddl_tree.specs.Reading.{the, IsAfter, IsRead, IsTold, keys_dropped};
 ghost use Rattle.faults.specs.declared.refused.Refused.TheVariants.{At};
 
-use crate::look::{is_close, key, name, term, variable};
+use crate::look::{is_close, key, name, term};
 use pddl_words::{Name, Term, WordFault, WordRefusal};
 use std::alloc::Global;
 use tokens::Word;
@@ -28,26 +28,6 @@ pub(crate) fn names<'a>(
         next = after;
     }
     Ok((names, next + 1))
-}
-
-/// Variables, and `)`: the variables, and the index after the parenthesis.
-pub(crate) fn variables<'a>(
-    alloc: Global,
-    words: &[Word<'a>],
-    at: usize,
-) -> Result<(Vec<Name<'a>>, usize), WordFault>
-    ensures after { IfOk result (λ r. IsAfter words.now at r.1) }
-    ensures read { IfOk result (λ r. IsRead (the (many a_variable)) words.now at (map name_of r.0.items) r.1) }
-    ensures told { IfErr result (λ refusal. IsTold (the (many a_variable)) words.now at refusal) }
-{
-    let mut variables = Vec::new(alloc);
-    let mut next = at;
-    'variables: while !is_close(words, next) {
-        let (variable, after) = variable(words, next)?;
-        variables.push(variable)?;
-        next = after;
-    }
-    Ok((variables, next + 1))
 }
 
 /// Terms, and `)`: the terms, and the index after the parenthesis.

@@ -1,14 +1,15 @@
 //! Single words: what stands at an index, taken or refused.
 ghost use Rattle.std.specs.Prelude.{◌≡◌, ◌<◌, IfOk, IfErr, IsTrue, length};
 ghost use Rattle.faults.specs.declared.refused.Refused.TheVariants.{At};
-ghost use Rattle.model.specs.Grammar.{a_name, action_name as wants_action_name, a_variable, term as wants_term, close as wants_close, key as wants_key, define_word, kind_word};
+ghost use Rattle.model.specs.Grammar.{a_name, action_name as wants_action_name, term as wants_term, close as wants_close, key as wants_key, either_word as wants_either, define_word, kind_word};
 ghost use Rattle.pddl_words.specs.Name.{name_of, term_of};
 ghost use Rattle.pddl_words.specs.Token.{from, first};
-ghost use Rattle.pddl_tree.specs.Place.{file_view};
+ghost use Rattle.pddl_tree.specs.Place.{file_view, listed_view};
 ghost use Rattle.pddl_tree.specs.Reading.{the, IsAfter, IsWord, IsTold, Opens, IsNotOpen, Heads, IsNoPredicate, closes_first};
+ghost use Rattle.pddl_tree.specs.Typed.{IsListed, IsNotListed, ends_group_first};
 
-use crate::refusal::{FileKind, Place, refusal};
-use pddl_words::{FreeName, Keyword, Name, Term, Token, WordRefusal, token_at};
+use crate::refusal::{FileKind, Listed, Place, refusal};
+use pddl_words::{FreeName, Keyword, Name, ReservedName, Term, Token, WordRefusal, token_at};
 use tokens::Word;
 
 /// Whether `)` stands at an index.
@@ -17,6 +18,18 @@ pub(crate) fn is_close(words: &[Word], at: usize) -> bool
     ensures first { result ≡ closes_first (first (from words.now at)) }
 {
     match token_at(words, at) {
+        Token::Close => true,
+        _ => false,
+    }
+}
+
+/// Whether `-` or `)` stands at an index, which end a group of a typed list.
+pub(crate) fn ends_group(words: &[Word], at: usize) -> bool
+    ensures within { IsTrue result → at < length words.now }
+    ensures first { result ≡ ends_group_first (first (from words.now at)) }
+{
+    match token_at(words, at) {
+        Token::Dash => true,
         Token::Close => true,
         _ => false,
     }
@@ -73,15 +86,24 @@ pub(crate) fn action_name<'a>(
     }
 }
 
-/// A variable, and the index after it.
-pub(crate) fn variable<'a>(words: &[Word<'a>], at: usize) -> Result<(Name<'a>, usize), WordRefusal>
+/// A name, or a variable, of a typed list, and the index after it.
+pub(crate) fn listed_name<'a>(
+    words: &[Word<'a>],
+    at: usize,
+    listed: Listed,
+) -> Result<(Name<'a>, usize), WordRefusal>
     ensures after { IfOk result (λ r. IsAfter words.now at r.1) }
-    ensures word { IfOk result (λ r. IsWord a_variable words.now at (name_of r.0) r.1) }
-    ensures told { IfErr result (λ refusal. IsTold (the a_variable) words.now at (At refusal)) }
+    ensures word { IfOk result (λ r. IsListed (listed_view listed) words.now at (name_of r.0) r.1) }
+    ensures told { IfErr result (λ refusal. IsNotListed (listed_view listed) words.now at refusal) }
 {
-    match token_at(words, at) {
-        Token::Variable(variable) => Ok((variable, at + 1)),
-        _ => Err(refusal(words, at, Place::Elsewhere)),
+    let token = token_at(words, at);
+    let name = match listed {
+        Listed::Names => token.name(),
+        Listed::Variables => token.variable(),
+    };
+    match name {
+        Some(name) => Ok((name, at + 1)),
+        None => Err(refusal(words, at, Place::Elsewhere)),
     }
 }
 
@@ -132,6 +154,18 @@ pub(crate) fn define(words: &[Word], at: usize) -> Result<usize, WordRefusal>
     match token_at(words, at) {
         Token::Free(FreeName::Define, _) => Ok(at + 1),
         _ => Err(refusal(words, at, Place::Incomplete)),
+    }
+}
+
+/// `either`, and the index after it.
+pub(crate) fn either_word(words: &[Word], at: usize) -> Result<usize, WordRefusal>
+    ensures after { IfOk result (λ next. IsAfter words.now at next) }
+    ensures word { IfOk result (λ next. IsWord wants_either words.now at tt next) }
+    ensures told { IfErr result (λ refusal. IsTold (the wants_either) words.now at (At refusal)) }
+{
+    match token_at(words, at) {
+        Token::Reserved(ReservedName::Either, _) => Ok(at + 1),
+        _ => Err(refusal(words, at, Place::Elsewhere)),
     }
 }
 

@@ -174,6 +174,8 @@ fn read_domain<'a>(
 {
     let (contents, next) = sections(alloc, words, 6, FileKind::Domain)?;
     let Contents {
+        types,
+        constants,
         predicates,
         actions,
         domain: _,
@@ -184,6 +186,8 @@ fn read_domain<'a>(
     match end(words, next) {
         Ok(()) => Ok(Domain {
             name,
+            types,
+            constants,
             predicates,
             actions,
         }),
@@ -202,6 +206,8 @@ fn read_problem<'a>(
 {
     let (contents, next) = sections(alloc, words, 6, FileKind::Problem)?;
     let Contents {
+        types: _,
+        constants: _,
         predicates: _,
         actions: _,
         domain,

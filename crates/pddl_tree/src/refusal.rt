@@ -31,6 +31,8 @@ impl FileKind {
         match self {
             FileKind::Domain => &[
                 SectionKeyword::Requirements,
+                SectionKeyword::Types,
+                SectionKeyword::Constants,
                 SectionKeyword::Predicates,
                 SectionKeyword::Action,
             ],
@@ -59,6 +61,15 @@ impl FileKind {
     }
 }
 
+/// What a typed list is of.
+#[derive(Clone, Copy)]
+pub(crate) enum Listed {
+    /// Names, each group of one type.
+    Names,
+    /// Variables, which may be of several types.
+    Variables,
+}
+
 /// A place in a file, as far as it decides what is told of a word that may not stand there.
 #[derive(Clone, Copy)]
 pub(crate) enum Place<'s> {
@@ -72,6 +83,8 @@ pub(crate) enum Place<'s> {
     Section(FileKind),
     /// In `:requirements`.
     Keys,
+    /// After the `-` of a typed list.
+    Type(Listed),
     /// Anywhere else.
     Elsewhere,
 }
@@ -105,9 +118,20 @@ fn code_of(token: Token, place: Place) -> Code
     ensures { number_of result ≡ number_seen (wanted place.entry) (seen token.entry) }
 {
     match token {
+        Token::Open => code_of_open(place),
         Token::Close => code_of_close(place),
         Token::Keyword(keyword) => code_of_keyword(keyword, place),
         Token::Reserved(ReservedName::LeftOut, _) => Code::LeftOut,
+        _ => Code::BadForm,
+    }
+}
+
+/// What is told of `(`: an `(either ..)` is left out as the type of a name.
+fn code_of_open(place: Place) -> Code
+    ensures { number_of result ≡ number_at (wanted place.entry) model_words.opens }
+{
+    match place {
+        Place::Type(Listed::Names) => Code::LeftOut,
         _ => Code::BadForm,
     }
 }
@@ -125,7 +149,7 @@ fn code_of_close(place: Place) -> Code
                 Code::MissingSection
             }
         }
-        Place::Section(_) | Place::Keys | Place::Elsewhere => Code::BadForm,
+        Place::Section(_) | Place::Keys | Place::Type(_) | Place::Elsewhere => Code::BadForm,
     }
 }
 
@@ -138,7 +162,7 @@ fn code_of_keyword(keyword: Keyword, place: Place) -> Code
         Place::Value(seen) => code_at_value(keyword, seen),
         Place::Section(file) => code_in_file(keyword, file),
         Place::Keys => Code::UnknownRequirement,
-        Place::Incomplete | Place::Elsewhere => Code::BadForm,
+        Place::Incomplete | Place::Type(_) | Place::Elsewhere => Code::BadForm,
     }
 }
 

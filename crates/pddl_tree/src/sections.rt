@@ -14,10 +14,11 @@ ghost use Rattle.pddl_tree.specs.Sections.{section_tree, contents_of, the_domain
 use crate::action::action;
 use crate::declared::{declarations, facts};
 use crate::formulas::formula;
-use crate::lists::{keys, names};
+use crate::lists::keys;
 use crate::look::{close, is_close, name, open};
-use crate::refusal::{FileKind, Place, has_section, refusal};
-use crate::tree::{Action, Fact, Formula, Predicate};
+use crate::refusal::{FileKind, Listed, Place, has_section, refusal};
+use crate::tree::{Action, Fact, Formula, Group, Predicate};
+use crate::typed::typed;
 use faults::{NoMemory, Refused, Span};
 use pddl_words::{Keyword, Name, SectionKeyword, Token, WordFault, WordRefusal, token_at};
 use std::alloc::Global;
@@ -27,10 +28,12 @@ use tokens::Word;
 #[derive(Drop)]
 enum Section<'a> {
     Requirements,
+    Types(Vec<Group<'a>>),
+    Constants(Vec<Group<'a>>),
     Predicates(Vec<Predicate<'a>>),
     Action(Action<'a>),
     Domain(Name<'a>),
-    Objects(Vec<Name<'a>>),
+    Objects(Vec<Group<'a>>),
     Init(Vec<Fact<'a>>),
     Goal(Formula<'a>),
 }
@@ -38,10 +41,12 @@ enum Section<'a> {
 /// What stands in a file's sections; what does not is empty.
 #[derive(Drop)]
 pub(crate) struct Contents<'a> {
+    pub(crate) types: Vec<Group<'a>>,
+    pub(crate) constants: Vec<Group<'a>>,
     pub(crate) predicates: Vec<Predicate<'a>>,
     pub(crate) actions: Vec<Action<'a>>,
     pub(crate) domain: Name<'a>,
-    pub(crate) objects: Vec<Name<'a>>,
+    pub(crate) objects: Vec<Group<'a>>,
     pub(crate) init: Vec<Fact<'a>>,
     pub(crate) goal: Formula<'a>,
 }
@@ -52,6 +57,8 @@ impl<'a> Contents<'a> {
         ensures { contents_of result ≡ grammar.no_contents }
     {
         Contents {
+            types: Vec::new(alloc),
+            constants: Vec::new(alloc),
             predicates: Vec::new(alloc),
             actions: Vec::new(alloc),
             domain: Name {
@@ -70,6 +77,8 @@ impl<'a> Contents<'a> {
     {
         match section {
             Section::Requirements => {}
+            Section::Types(types) => self.types = types,
+            Section::Constants(constants) => self.constants = constants,
             Section::Predicates(predicates) => self.predicates = predicates,
             Section::Action(action) => self.actions.push(action)?,
             Section::Domain(domain) => self.domain = domain,
@@ -186,6 +195,14 @@ fn section_rest<'a>(
             let next = keys(words, at)?;
             Ok((Section::Requirements, next))
         }
+        SectionKeyword::Types => {
+            let (types, next) = typed(alloc, words, at, Listed::Names)?;
+            Ok((Section::Types(types), next))
+        }
+        SectionKeyword::Constants => {
+            let (constants, next) = typed(alloc, words, at, Listed::Names)?;
+            Ok((Section::Constants(constants), next))
+        }
         SectionKeyword::Predicates => {
             let (predicates, next) = declarations(alloc, words, at)?;
             Ok((Section::Predicates(predicates), next))
@@ -199,7 +216,7 @@ fn section_rest<'a>(
             Ok((Section::Domain(domain), next))
         }
         SectionKeyword::Objects => {
-            let (objects, next) = names(alloc, words, at)?;
+            let (objects, next) = typed(alloc, words, at, Listed::Names)?;
             Ok((Section::Objects(objects), next))
         }
         SectionKeyword::Init => {

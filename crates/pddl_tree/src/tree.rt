@@ -30,13 +30,22 @@ pub enum Effect<'a> {
     And(Vec<Effect<'a>>),
 }
 
+/// Names or variables of one type, as `a b - place` or `?x ?y - (either t u)`; a typed list is a list of such groups.
+#[derive(Debug, Drop)]
+pub struct Group<'a> {
+    /// The names, in order: at least one.
+    pub names: Vec<Name<'a>>,
+    /// The types after their `-`, and none where no type stands after them.
+    pub types: Vec<Name<'a>>,
+}
+
 /// A predicate's declaration.
 #[derive(Debug, Drop)]
 pub struct Predicate<'a> {
     /// The predicate's name.
     pub name: Name<'a>,
-    /// Its variables, which say how many arguments it has.
-    pub parameters: Vec<Name<'a>>,
+    /// Its variables, which say how many arguments it has, and of which types.
+    pub parameters: Vec<Group<'a>>,
 }
 
 /// An action schema.
@@ -45,7 +54,7 @@ pub struct Action<'a> {
     /// The action's name.
     pub name: Name<'a>,
     /// Its parameters, in order.
-    pub parameters: Vec<Name<'a>>,
+    pub parameters: Vec<Group<'a>>,
     /// When it is applicable: `(and)` where the file has no `:precondition`.
     pub precondition: Formula<'a>,
     /// What it changes: `(and)` where the file has no `:effect`.
@@ -57,19 +66,32 @@ pub struct Action<'a> {
 pub struct Domain<'a> {
     /// The domain's name.
     pub name: Name<'a>,
+    /// The types, each group with its parent, in the order of the file.
+    pub types: Vec<Group<'a>>,
+    /// The constants, in the order of the file.
+    pub constants: Vec<Group<'a>>,
     /// The predicates, in the order of the file.
     pub predicates: Vec<Predicate<'a>>,
     /// The actions, in the order of the file.
     pub actions: Vec<Action<'a>>,
 }
 
-/// An atom of objects, as in `:init`.
+/// An atom of objects.
 #[derive(Debug, Drop)]
-pub struct Fact<'a> {
+pub struct GroundAtom<'a> {
     /// The predicate's name.
     pub predicate: Name<'a>,
     /// The names of its objects, in order.
     pub objects: Vec<Name<'a>>,
+}
+
+/// What stands in `:init`.
+#[derive(Debug, Drop)]
+pub enum Fact<'a> {
+    /// An atom that is true at the start.
+    Atom(GroundAtom<'a>),
+    /// A negated one, with its word `not`.
+    Negated(Name<'a>, GroundAtom<'a>),
 }
 
 /// A problem file.
@@ -80,8 +102,8 @@ pub struct Problem<'a> {
     /// The name of the domain that the problem is for.
     pub domain: Name<'a>,
     /// The objects, in the order of the file.
-    pub objects: Vec<Name<'a>>,
-    /// The atoms that are true at the start.
+    pub objects: Vec<Group<'a>>,
+    /// The atoms that are true at the start, and negated ones.
     pub init: Vec<Fact<'a>>,
     /// What is to be reached.
     pub goal: Formula<'a>,

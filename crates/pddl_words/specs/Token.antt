@@ -27,11 +27,14 @@ free_view free.Ordinary = words.ordinary
 abbrev pub reserved_view : ReservedName → words.ReservedName
 reserved_view reserved.And = words.and
 reserved_view reserved.Not = words.not
+reserved_view reserved.Either = words.either
 reserved_view reserved.LeftOut = words.left_out_name
 reserved_view reserved.Other = words.other_reserved
 
 abbrev pub section_view : SectionKeyword → words.SectionKeyword
 section_view section.Requirements = words.requirements
+section_view section.Types = words.types
+section_view section.Constants = words.constants
 section_view section.Predicates = words.predicates
 section_view section.Action = words.action
 section_view section.Domain = words.domain_keyword
@@ -59,6 +62,7 @@ seen (token.Free f n) = Some (words.free (free_view f) (name_of n))
 seen (token.Reserved r n) = Some (words.reserved (reserved_view r) (name_of n))
 seen (token.Variable n) = Some (words.variable (name_of n))
 seen (token.Keyword k) = Some (words.keyword (keyword_view k))
+seen token.Dash = Some words.dash
 seen token.Other = Some words.other
 seen token.End = None
 

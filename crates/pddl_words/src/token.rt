@@ -1,7 +1,7 @@
 //! What a word is to the grammar.
 ghost use Rattle.std.specs.Prelude.{◌≡◌, ◌||◌, ◌<◌, length, codes, Some};
 ghost use Rattle.std.specs.Option.{option_map, option_and_then};
-ghost use Rattle.model.specs.Grammar.{name_in};
+ghost use Rattle.model.specs.Grammar.{name_in, variable_in};
 ghost use Rattle.std.specs.Str.{bytes_eq, str_to_ascii_lowercase};
 ghost use Rattle.tokens.specs.Word.{word_of};
 ghost use Rattle.model.specs.GrammarWords as words;
@@ -32,6 +32,8 @@ pub enum ReservedName {
     And,
     /// `not`
     Not,
+    /// `either`
+    Either,
     /// The name of a form that is left out.
     LeftOut,
     /// Any other reserved name.
@@ -43,6 +45,10 @@ pub enum ReservedName {
 pub enum SectionKeyword {
     /// `:requirements`
     Requirements,
+    /// `:types`
+    Types,
+    /// `:constants`
+    Constants,
     /// `:predicates`
     Predicates,
     /// `:action`
@@ -98,7 +104,9 @@ pub enum Token<'a> {
     Variable(Name<'a>),
     /// A keyword, as `:goal`.
     Keyword(Keyword),
-    /// A number, `-` or `=`.
+    /// `-`
+    Dash,
+    /// A number or `=`.
     Other,
     /// No word: the words run out.
     End,
@@ -111,6 +119,16 @@ impl<'a> Token<'a> {
     {
         match self {
             Token::Free(_, name) | Token::Reserved(_, name) => Some(name),
+            _ => None,
+        }
+    }
+
+    /// The variable that it is, if it is one.
+    pub fn variable(self) -> Option<Name<'a>>
+        ensures { option_map name_of result ≡ option_and_then variable_in (seen self.entry) }
+    {
+        match self {
+            Token::Variable(variable) => Some(variable),
             _ => None,
         }
     }
@@ -140,7 +158,8 @@ fn token_of<'a>(word: &Word<'a>) -> Token<'a>
         Kind::Name => named(name),
         Kind::Variable => Token::Variable(name),
         Kind::Keyword => Token::Keyword(keyword_of(word.text())),
-        Kind::Number | Kind::Dash | Kind::Equals => Token::Other,
+        Kind::Dash => Token::Dash,
+        Kind::Number | Kind::Equals => Token::Other,
         Kind::Open => Token::Open,
         Kind::Close => Token::Close,
     }
@@ -155,6 +174,8 @@ fn named(name: Name) -> Token
         Token::Reserved(ReservedName::And, name)
     } else if is(text, b"not") {
         Token::Reserved(ReservedName::Not, name)
+    } else if is(text, b"either") {
+        Token::Reserved(ReservedName::Either, name)
     } else if is(text, b"define") {
         Token::Free(FreeName::Define, name)
     } else if is(text, b"domain") {
@@ -184,6 +205,10 @@ fn keyword_of(text: &[u8]) -> Keyword
         Keyword::Part(PartKeyword::Effect)
     } else if is(text, b":requirements") {
         Keyword::Section(SectionKeyword::Requirements)
+    } else if is(text, b":types") {
+        Keyword::Section(SectionKeyword::Types)
+    } else if is(text, b":constants") {
+        Keyword::Section(SectionKeyword::Constants)
     } else if is(text, b":predicates") {
         Keyword::Section(SectionKeyword::Predicates)
     } else if is(text, b":domain") {
@@ -230,7 +255,7 @@ fn is_left_out_name(text: &[u8]) -> bool
         || is(text, b"scale-down")
 }
 
-/// Whether a name is reserved otherwise, `and` and `not` aside.
+/// Whether a name is reserved otherwise, `and`, `not` and `either` aside.
 fn is_other_reserved(text: &[u8]) -> bool
     ensures { result ≡ is_among (str_to_ascii_lowercase text.now) other_reserved_names }
 {
@@ -240,7 +265,6 @@ fn is_other_reserved(text: &[u8]) -> bool
         || is(text, b"forall")
         || is(text, b"when")
         || is(text, b"increase")
-        || is(text, b"either")
         || is(text, b"total-cost")
 }
 

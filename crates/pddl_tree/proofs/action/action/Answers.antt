@@ -1,16 +1,14 @@
 use Rattle.std.proofs.Common.{subst}
 use Rattle.model.specs.Grammar.{action_name}
-use Rattle.faults.specs.declared.refused.Refused.TheVariants.{At}
-use Rattle.faults.proofs.Results.{passed_on, if_ok, if_err}
+use Rattle.faults.proofs.Results.{if_ok, if_err}
 use Rattle.pddl_tree.specs.Reading.{IsRead, IsTold}
 use Rattle.pddl_tree.specs.Tree.{action_of}
-use Rattle.pddl_tree.specs.Sections.{the_action, parts_on}
-use Rattle.pddl_tree.proofs.ReadOn.{then_read, first_told, then_told, read_word}
+use Rattle.pddl_tree.specs.Sections.{parts_on}
+use Rattle.pddl_tree.proofs.ReadOn.{then_read, first_told, then_told, read_word, told_by}
 use Rattle.pddl_tree.proofs.action.action.Goals as goal
 
 pub returns-in_err-name-clause-told : goal.returns-in_err-name-clause-told
-returns-in_err-name-clause-told c =
-    passed_on (IsTold the_action c.args.words.now c.args.at) c.from_residual.result (At c.in_err-name.field-0.0) c.from_residual.ensures.1 (first_told action_name c.in_err-name.ensures.told)
+returns-in_err-name-clause-told c = told_by _ c.from_residual.ensures.1 (first_told action_name c.in_err-name.ensures.told)
 
 pub returns-clause-read : goal.returns-clause-read
 returns-clause-read c =

@@ -1,13 +1,13 @@
 use Rattle.std.proofs.Common.{◌+◌, ◌∷◌, [], ◌∙◌, map, sym, ap, subst, arith, rules}
 use Rattle.std.proofs.lemmas.List.{map-append}
-use Rattle.pddl_words.specs.Token.{part_view}
+use Rattle.pddl_words.specs.Token.{from, first, part_view}
 use Rattle.faults.specs.declared.refused.Refused.TheVariants.{At}
-use Rattle.faults.proofs.Results.{passed_on}
 use Rattle.model.specs.GrammarWords.{parameters}
 use Rattle.model.specs.Grammar.{parts, part_after, has_part}
 use Rattle.pddl_tree.specs.Reading.{the, IsRead, IsTold}
 use Rattle.pddl_tree.specs.Tree.{action_of}
-use Rattle.pddl_tree.specs.Sections.{parts_on, part_tree}
+use Rattle.pddl_tree.specs.Sections.{part_tree}
+use Rattle.pddl_tree.proofs.ReadOn.{refused_as, told_by}
 use Rattle.pddl_tree.proofs.Parts.{ArePartsOn, parts_start, parts_more, parts_end, parts_told, value_told, parameters_missing}
 use Rattle.pddl_tree.proofs.action.parts.Goals as goal
 
@@ -27,14 +27,14 @@ parts-preserved c =
 
 pub returns-in_err-keyword-clause-told : goal.returns-in_err-keyword-clause-told
 returns-in_err-keyword-clause-told c =
-    passed_on (IsTold (parts_on (action_of c.args.action)) c.args.words.now c.args.at) c.from_residual.result (At c.in_err-keyword.field-0.0) c.from_residual.ensures.1
+    told_by _ c.from_residual.ensures.1
     (parts_told c.args.words.now c.args.at c.parts.next (action_of c.args.action) (action_of c.parts.action) (map part_view c.parts.seen.items) (At c.in_err-keyword.field-0.0) c.parts.invariant.read
     (subst (λ l. IsTold (the (parts (map part_view l))) c.args.words.now c.parts.next (At c.in_err-keyword.field-0.0)) c.deref.ensures.value (c.in_err-keyword.ensures.told (sym c.is_close.ensures.first ∙ c.parts-test.true))))
 
 pub returns-in_err-part-clause-told : goal.returns-in_err-part-clause-told
 returns-in_err-part-clause-told c =
     let seen = c.parts.seen.items in let p = c.in_ok-keyword.keyword in let refusal = c.in_err-part.field-0.0 in
-    passed_on (IsTold (parts_on (action_of c.args.action)) c.args.words.now c.args.at) c.from_residual-in_err-part.result refusal c.from_residual-in_err-part.ensures.1
+    told_by _ c.from_residual-in_err-part.ensures.1
     (value_told c.args.words.now c.args.at c.parts.next (action_of c.args.action) (action_of c.parts.action) (map part_view seen) (map part_view c.push.new.self.items) (part_view p) refusal
     c.parts.invariant.read c.in_ok-keyword.ensures.word (ap (λ l. has_part (map part_view l) (part_view p)) (sym c.deref.ensures.value) ∙ c.in_ok-keyword.ensures.new) (ap (map part_view) c.in_ok-push.ensures.items ∙ map-append part_view seen (p ∷ [])) (subst (λ l. IsTold (part_after (map part_view l) (part_view p)) c.args.words.now (c.parts.next + 1) refusal) c.deref-in-parts.ensures.value c.in_err-part.ensures.told))
 
@@ -48,4 +48,4 @@ returns-then-has_part-clause-read c =
 pub returns-clause-told : goal.returns-clause-told
 returns-clause-told c =
     parts_told c.args.words.now c.args.at c.parts.next (action_of c.args.action) (action_of c.parts.action) (map part_view c.parts.seen.items) (At c.refusal.result) c.parts.invariant.read
-    (parameters_missing (map part_view c.parts.seen.items) c.args.words.now c.parts.next (At c.refusal.result) (sym c.is_close.ensures.first ∙ c.parts-test.false) (ap (λ l. has_part (map part_view l) parameters) (sym c.deref-2.ensures.value) ∙ sym c.has_part.ensures ∙ c.if-has_part.false) c.refusal.ensures)
+    (refused_as (parts (map part_view c.parts.seen.items)) (parts []) (parameters_missing (map part_view c.parts.seen.items) (first (from c.args.words.now c.parts.next)) (sym c.is_close.ensures.first ∙ c.parts-test.false) (ap (λ l. has_part (map part_view l) parameters) (sym c.deref-2.ensures.value) ∙ sym c.has_part.ensures ∙ c.if-has_part.false)) c.refusal.ensures)

@@ -1,20 +1,28 @@
-use Rattle.std.proofs.Common.{refl}
-use Rattle.model.specs.Grammar.{many, listed, a_name, fact}
-use Rattle.faults.specs.declared.refused.Refused.TheVariants.{At}
-use Rattle.faults.proofs.Results.{passed_on}
-use Rattle.pddl_tree.specs.Reading.{the, IsTold}
-use Rattle.pddl_tree.proofs.ReadOn.{given, then_read, first_told, in_list, in_list_told, headed, headed_told, not_headed, no_fact}
+use Rattle.std.proofs.Common.{refl, sym}
+use Rattle.model.specs.Grammar.{many, listed, a_name, fact, ground_atom, close}
+use Rattle.pddl_tree.proofs.ReadOn.{given, then_read, first_told, then_told, by_word, by_word_told, is_reserved, read_word, told_by}
 use Rattle.pddl_tree.proofs.declared.fact.Goals as goal
 
-pub returns-clause-read : goal.returns-clause-read
-returns-clause-read c = in_list fact c.in_ok-inside.ensures.word (headed fact (λ f m. refl) c.in_ok-predicate.ensures.word (then_read (many a_name) c.in_ok-objects.ensures.read given))
+-- a predicate and its objects
+pub returns-in_ok-objects-in-Free-clause-read : goal.returns-in_ok-objects-in-Free-clause-read
+returns-in_ok-objects-in-Free-clause-read c = by_word fact (sym c.in-Free.ensures.first) refl (then_read (many a_name) c.in_ok-objects-in-Free.ensures.read given)
 
-pub returns-in_err-predicate-clause-told : goal.returns-in_err-predicate-clause-told
-returns-in_err-predicate-clause-told c =
-    passed_on (IsTold (the (listed fact)) c.args.words.now c.args.at) c.from_residual-in_err-predicate.result (At c.in_err-predicate.field-0.0) c.from_residual-in_err-predicate.ensures.1
-    (in_list_told fact c.in_ok-inside.ensures.word (not_headed fact c.args.words.now c.in_ok-inside.inside c.in_err-predicate.field-0.0 no_fact c.in_err-predicate.ensures.told))
+pub returns-in_err-objects-in-Free-clause-told : goal.returns-in_err-objects-in-Free-clause-told
+returns-in_err-objects-in-Free-clause-told c = told_by _ c.from_residual.ensures.1 (by_word_told fact (sym c.in-Free.ensures.first) refl (first_told (many a_name) c.in_err-objects-in-Free.ensures.told))
 
-pub returns-in_err-objects-clause-told : goal.returns-in_err-objects-clause-told
-returns-in_err-objects-clause-told c =
-    passed_on (IsTold (the (listed fact)) c.args.words.now c.args.at) c.from_residual-in_err-objects.result c.in_err-objects.field-0.0 c.from_residual-in_err-objects.ensures.1
-    (in_list_told fact c.in_ok-inside.ensures.word (headed_told fact (λ f m. refl) c.in_ok-predicate.ensures.word (first_told (many a_name) c.in_err-objects.ensures.told)))
+-- `not`
+pub returns-in_ok-next-in-Reserved-Not-default-clause-read : goal.returns-in_ok-next-in-Reserved-Not-default-clause-read
+returns-in_ok-next-in-Reserved-Not-default-clause-read c =
+    by_word fact (is_reserved c.in-Reserved-Not-default.ensures.first c.in-Reserved-Not-default.field-0-is) refl
+    (then_read (listed ground_atom) c.in_ok-atom-in-Reserved-Not-default.ensures.read (then_read close (read_word close c.in_ok-next-in-Reserved-Not-default.ensures.word) given))
+
+pub returns-in_err-atom-in-Reserved-Not-default-clause-told : goal.returns-in_err-atom-in-Reserved-Not-default-clause-told
+returns-in_err-atom-in-Reserved-Not-default-clause-told c =
+    told_by _ c.from_residual-in_err-atom-in-Reserved-Not-default.ensures.1
+    (by_word_told fact (is_reserved c.in-Reserved-Not-default.ensures.first c.in-Reserved-Not-default.field-0-is) refl (first_told (listed ground_atom) c.in_err-atom-in-Reserved-Not-default.ensures.told))
+
+pub returns-in_err-next-in-Reserved-Not-default-clause-told : goal.returns-in_err-next-in-Reserved-Not-default-clause-told
+returns-in_err-next-in-Reserved-Not-default-clause-told c =
+    told_by _ c.from_residual-in_err-next-in-Reserved-Not-default.ensures.1
+    (by_word_told fact (is_reserved c.in-Reserved-Not-default.ensures.first c.in-Reserved-Not-default.field-0-is) refl
+    (then_told (listed ground_atom) c.in_ok-atom-in-Reserved-Not-default.ensures.read (first_told close c.in_err-next-in-Reserved-Not-default.ensures.told)))

@@ -1,23 +1,22 @@
-use Rattle.std.proofs.Common.{◌∙◌, map, sym, arith}
-use Rattle.model.specs.Grammar.{many, listed, fact}
+use Rattle.std.proofs.Common.{◌∙◌, sym, arith}
+use Rattle.model.specs.Grammar.{listed, fact}
 use Rattle.pddl_tree.specs.Tree.{fact_of}
-use Rattle.faults.proofs.Results.{passed_on}
-use Rattle.pddl_tree.specs.Reading.{the, IsTold}
-use Rattle.pddl_tree.proofs.Items.{on_more, on_end, on_told}
+use Rattle.pddl_tree.proofs.ReadOn.{in_list, in_list_told, not_open, told_by}
+use Rattle.pddl_tree.proofs.Items.{an_item, on_more, on_end, on_told}
 use Rattle.pddl_tree.proofs.declared.facts.Goals as goal
 
 pub facts-preserved : goal.facts-preserved
 facts-preserved c = record {
-  moved = omega (arith, c.in_ok-fact.ensures.after.0);
-  read = on_more (listed fact) fact_of c.args.words.now c.args.at c.facts.next c.in_ok-fact.after c.facts.facts.items c.push.new.self.items c.in_ok-fact.fact
-      c.facts.invariant.read (sym c.is_close.ensures.first ∙ c.facts-test.true) c.in_ok-fact.ensures.read c.in_ok-push.ensures.items;
+  moved = omega (arith, c.in_ok-fact.ensures.after.0, c.in_ok-inside.ensures.after.0);
+  read = on_more fact_of c.facts.facts.items _ c.facts.invariant.read (an_item (listed fact) (sym c.is_close.ensures.first ∙ c.facts-test.true) (in_list fact c.in_ok-inside.ensures.word c.in_ok-fact.ensures.read)) c.in_ok-push.ensures.items;
 }
 
 pub returns-clause-read : goal.returns-clause-read
-returns-clause-read c =
-    on_end (listed fact) c.args.words.now c.args.at c.facts.next (map fact_of c.facts.facts.items) c.facts.invariant.read (sym c.is_close.ensures.first ∙ c.facts-test.false)
+returns-clause-read c = on_end (listed fact) c.facts.invariant.read (sym c.is_close.ensures.first ∙ c.facts-test.false)
 
 pub returns-in_err-fact-clause-told : goal.returns-in_err-fact-clause-told
 returns-in_err-fact-clause-told c =
-    passed_on (IsTold (the (many (listed fact))) c.args.words.now c.args.at) c.from_residual.result c.in_err-fact.field-0.0 c.from_residual.ensures.1
-    (on_told (listed fact) c.args.words.now c.args.at c.facts.next (map fact_of c.facts.facts.items) c.in_err-fact.field-0.0 c.facts.invariant.read (sym c.is_close.ensures.first ∙ c.facts-test.true) c.in_err-fact.ensures.told)
+    told_by _ c.from_residual-in_err-fact.ensures.1 (on_told (listed fact) c.facts.invariant.read (sym c.is_close.ensures.first ∙ c.facts-test.true) (in_list_told fact c.in_ok-inside.ensures.word c.in_err-fact.ensures.told))
+
+pub returns-in_err-inside-clause-told : goal.returns-in_err-inside-clause-told
+returns-in_err-inside-clause-told c = told_by _ c.from_residual.ensures.1 (on_told (listed fact) c.facts.invariant.read (sym c.is_close.ensures.first ∙ c.facts-test.true) (not_open fact c.in_err-inside.ensures.told))

@@ -1,7 +1,7 @@
 use Rattle.std.proofs.Common.{◌-◌, ◌≤◌, length, map}
 use Rattle.model.specs.Grammar.{listed, effect_list}
 use Rattle.pddl_tree.specs.Tree.{effect_of}
-use Rattle.pddl_tree.proofs.Items.{IsReadOn}
+use Rattle.pddl_tree.proofs.Items.{IsReadOn, items}
 use Rattle.pddl_tree.proofs.effects.+effect.Given as goal
 
 abbrev pub decreases-effects : goal.decreases-effects
@@ -13,7 +13,7 @@ decreases-effect l = length l.words.now - l.at
 abbrev pub invariant-effects-parts : goal.invariant-effects-parts
 invariant-effects-parts l = record {
   moved : l.at ≤ l.next;
-  read : IsReadOn (listed effect_list) l.words l.at (map effect_of l.parts.items) l.next;
+  read : IsReadOn (items (listed effect_list)) l.words l.at (map effect_of l.parts.items) l.next;
 }
 
 abbrev pub decreases-effects-parts : goal.decreases-effects-parts

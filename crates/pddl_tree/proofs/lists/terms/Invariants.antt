@@ -1,13 +1,13 @@
 use Rattle.std.proofs.Common.{◌-◌, ◌≤◌, length, map}
 use Rattle.model.specs.Grammar.{term}
 use Rattle.pddl_words.specs.Name.{term_of}
-use Rattle.pddl_tree.proofs.Items.{IsReadOn}
+use Rattle.pddl_tree.proofs.Items.{IsReadOn, items}
 use Rattle.pddl_tree.proofs.lists.terms.Given as goal
 
 abbrev pub invariant-terms : goal.invariant-terms
 invariant-terms l = record {
   moved : l.at ≤ l.next;
-  read : IsReadOn term l.words l.at (map term_of l.terms.items) l.next;
+  read : IsReadOn (items term) l.words l.at (map term_of l.terms.items) l.next;
 }
 
 abbrev pub decreases-terms : goal.decreases-terms

@@ -15,28 +15,28 @@ pub returns-in_err-define-clause-told : goal.returns-in_err-define-clause-told
 returns-in_err-define-clause-told c =
     let f = file_view c.args.file in let words = c.args.words.now in
     passed_on (λ refusal. StopsAs words 0 (start f) (At refusal)) c.from_residual-in_err-define.result c.in_err-define.field-0.0 c.from_residual-in_err-define.ensures.1
-    ((by_word_told (file f) words 0 opens c.in_ok-open.ensures.word.0 refl
+    ((by_word_told (file f) {words = words} {at = 0} c.in_ok-open.ensures.word.0 refl
     (first_told define_word c.in_err-define.ensures.told)).stops gives)
 
 pub returns-in_err-kind-clause-told : goal.returns-in_err-kind-clause-told
 returns-in_err-kind-clause-told c =
     let f = file_view c.args.file in let words = c.args.words.now in
     passed_on (λ refusal. StopsAs words 0 (start f) (At refusal)) c.from_residual-in_err-kind.result c.in_err-kind.field-0.0 c.from_residual-in_err-kind.ensures.1
-    ((by_word_told (file f) words 0 opens c.in_ok-open.ensures.word.0 refl
+    ((by_word_told (file f) {words = words} {at = 0} c.in_ok-open.ensures.word.0 refl
     (then_told define_word (read_here define_word c.in_ok-define.ensures.word) (then_told kind_list (in_head c.in_ok-open-2.ensures.word) (first_told (kind_word f) c.in_err-kind.ensures.told)))).stops gives)
 
 pub returns-in_err-name-clause-told : goal.returns-in_err-name-clause-told
 returns-in_err-name-clause-told c =
     let f = file_view c.args.file in let words = c.args.words.now in
     passed_on (λ refusal. StopsAs words 0 (start f) (At refusal)) c.from_residual-in_err-name.result c.in_err-name.field-0.0 c.from_residual-in_err-name.ensures.1
-    ((by_word_told (file f) words 0 opens c.in_ok-open.ensures.word.0 refl
+    ((by_word_told (file f) {words = words} {at = 0} c.in_ok-open.ensures.word.0 refl
     (then_told define_word (read_here define_word c.in_ok-define.ensures.word) (then_told kind_list (in_head c.in_ok-open-2.ensures.word) (then_told (kind_word f) (read_here (kind_word f) c.in_ok-kind.ensures.word) (first_told a_name c.in_err-name.ensures.told))))).stops gives)
 
 pub returns-in_err-close-clause-told : goal.returns-in_err-close-clause-told
 returns-in_err-close-clause-told c =
     let f = file_view c.args.file in let words = c.args.words.now in
     passed_on (λ refusal. StopsAs words 0 (start f) (At refusal)) c.from_residual-in_err-close.result c.in_err-close.field-0.0 c.from_residual-in_err-close.ensures.1
-    ((by_word_told (file f) words 0 opens c.in_ok-open.ensures.word.0 refl
+    ((by_word_told (file f) {words = words} {at = 0} c.in_ok-open.ensures.word.0 refl
     (then_told define_word (read_here define_word c.in_ok-define.ensures.word) (then_told kind_list (in_head c.in_ok-open-2.ensures.word) (then_told (kind_word f) (read_here (kind_word f) c.in_ok-kind.ensures.word) (then_told a_name (read_here a_name c.in_ok-name.ensures.word) (first_told close c.in_err-close.ensures.told)))))).stops gives)
 
 pub returns-clause-head : goal.returns-clause-head

@@ -1,12 +1,12 @@
 use Rattle.std.proofs.Common.{◌∙◌, map, sym, ap, subst, arith, rules}
-use Rattle.model.specs.Grammar.{no_contents, sections_of, required_of, seen_with, has_section}
+use Rattle.model.specs.Grammar.{define_word, no_contents, sections_of, required_of, seen_with, has_section}
 use Rattle.model.specs.Grammar as grammar
-use Rattle.pddl_words.specs.Token.{section_view}
+use Rattle.pddl_words.specs.Token.{from, first, section_view}
 use Rattle.faults.specs.declared.refused.Refused.TheVariants.{At}
-use Rattle.faults.proofs.Results.{passed_on}
 use Rattle.pddl_tree.specs.Place.{file_view}
 use Rattle.pddl_tree.specs.Reading.{the, IsTold}
-use Rattle.pddl_tree.specs.Sections.{the_sections, section_tree, contents_of}
+use Rattle.pddl_tree.specs.Sections.{section_tree, contents_of}
+use Rattle.pddl_tree.proofs.ReadOn.{refused_as, told_by}
 use Rattle.pddl_tree.proofs.Files.{AreSectionsOn, sections_start, sections_more, sections_end, sections_told, section_told, sections_missing, all_seen}
 use Rattle.pddl_tree.proofs.sections.sections.Goals as goal
 
@@ -32,14 +32,14 @@ sections-preserved c =
 pub returns-in_err-keyword-clause-told : goal.returns-in_err-keyword-clause-told
 returns-in_err-keyword-clause-told c =
     let f = file_view c.args.file in let seen = c.sections.seen.items in
-    passed_on (IsTold (the_sections f) c.args.words.now c.args.at) c.from_residual.result (At c.in_err-keyword.field-0.0) c.from_residual.ensures.1
+    told_by _ c.from_residual.ensures.1
     (sections_told f c.args.words.now c.args.at c.sections.next (map section_view seen) (contents_of c.sections.contents) (At c.in_err-keyword.field-0.0) c.sections.invariant.read
     (subst (λ l. IsTold (the (grammar.sections f (map section_view l))) c.args.words.now c.sections.next (At c.in_err-keyword.field-0.0)) c.deref.ensures.value (c.in_err-keyword.ensures.told (sym c.is_close.ensures.first ∙ c.sections-test.true))))
 
 pub returns-in_err-section-clause-told : goal.returns-in_err-section-clause-told
 returns-in_err-section-clause-told c =
     let f = file_view c.args.file in let seen = c.sections.seen.items in let j = section_view c.in_ok-keyword.keyword in let refusal = c.in_err-section.field-0.0 in
-    passed_on (IsTold (the_sections f) c.args.words.now c.args.at) c.from_residual-in_err-section.result refusal c.from_residual-in_err-section.ensures.1
+    told_by _ c.from_residual-in_err-section.ensures.1
     (section_told f c.args.words.now c.args.at c.sections.next (map section_view seen) (contents_of c.sections.contents) j refusal
     c.sections.invariant.read c.in_ok-keyword.ensures.opens.0 c.in_ok-keyword.ensures.word c.in_ok-keyword.ensures.new.0 (ap (λ l. has_section (map section_view l) j) (sym c.deref.ensures.value) ∙ c.in_ok-keyword.ensures.new.1) c.in_err-section.ensures.told)
 
@@ -55,7 +55,6 @@ returns-then-has_all-clause-read c =
 pub returns-clause-told : goal.returns-clause-told
 returns-clause-told c =
     let f = file_view c.args.file in let seen = c.sections.seen.items in
+    let missing = ap (λ l. grammar.has_all (required_of f) (map section_view l)) (sym c.deref-2.ensures.value) ∙ all_seen c.required.result.now (required_of f) (map section_view c.deref-2.result.now) c.has_all.result _ c.required.ensures c.has_all.ensures c.if-has_all.false in
     sections_told f c.args.words.now c.args.at c.sections.next (map section_view seen) (contents_of c.sections.contents) (At c.refusal.result) c.sections.invariant.read
-    (sections_missing f (map section_view seen) c.args.words.now c.sections.next (At c.refusal.result)
-    (ap (λ l. grammar.has_all (required_of f) (map section_view l)) (sym c.deref-2.ensures.value) ∙ all_seen c.required.result.now (required_of f) (map section_view c.deref-2.result.now) c.has_all.result _ c.required.ensures c.has_all.ensures c.if-has_all.false)
-    (sym c.is_close.ensures.first ∙ c.sections-test.false) c.refusal.ensures)
+    (refused_as (grammar.sections f (map section_view seen)) define_word (sections_missing f (map section_view seen) (first (from c.args.words.now c.sections.next)) missing (sym c.is_close.ensures.first ∙ c.sections-test.false)) c.refusal.ensures)
