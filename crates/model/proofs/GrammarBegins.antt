@@ -174,7 +174,8 @@ shortest Grammar.fact = short (word ∷ closes ∷ []) (tree.fact (record { pred
 shortest Grammar.ground_atom = short (word ∷ closes ∷ []) (record { predicate = no_name; objects = [] }) (λ r. by refl (next (by refl nothing) nothing))
 shortest (Grammar.typed l) = short (closes ∷ []) [] (λ r. by refl nothing)
 shortest (Grammar.group l) = short (closes ∷ []) (Grammar.ends_group [] ∷ []) (λ r. by refl nothing)
-shortest (Grammar.type l) = short (word ∷ []) (no_name ∷ []) (λ r. by refl nothing)
+shortest (Grammar.type Grammar.names) = short (word ∷ []) (no_name ∷ []) (λ r. by refl nothing)
+shortest (Grammar.type Grammar.variables) = short (word ∷ []) (no_name ∷ []) (λ r. by refl nothing)
 shortest Grammar.either_word = short (reserved words.either no_name ∷ []) tt (λ r. by refl nothing)
 shortest Grammar.action_name = short (word ∷ []) no_name (λ r. by refl nothing)
 shortest (parts seen) = some_parts seen (has_part seen words.parameters) refl

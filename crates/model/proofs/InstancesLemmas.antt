@@ -23,10 +23,6 @@ step_of task state found objects =
     else None)
     found
 
-Contains-objects_of : (task : Task) (types : Union) (o : ℕ) → is_of task types o ≡ true → Contains (objects_of task types) o
-Contains-objects_of task types o of =
-    Contains-filter (is_of task types) (range_with_len 0 (length task.objects)) o (Contains-range 0 (length task.objects) o (omega arith) (omega (arith, is_of-within task types o of))) of
-
 -- only a number of an object is of some type
 pub is_of-within : (task : Task) (types : Union) (o : ℕ) → is_of task types o ≡ true → o < length task.objects
 is_of-within task types o of = by_found (slice_get task.objects o) refl of
@@ -34,6 +30,10 @@ is_of-within task types o of = by_found (slice_get task.objects o) refl of
     by_found : (found : Option Object) → slice_get task.objects o ≡ found → option_map_or (λ (x : Object). is_below task types x.type) found false ≡ true → o < length task.objects
     by_found None at not_so = absurd (cc)
     by_found (Some x) at so = slice_get_within task.objects o x at
+
+Contains-objects_of : (task : Task) (types : Union) (o : ℕ) → is_of task types o ≡ true → Contains (objects_of task types) o
+Contains-objects_of task types o of =
+    Contains-filter (is_of task types) (range_with_len 0 (length task.objects)) o (Contains-range 0 (length task.objects) o (omega arith) (omega (arith, is_of-within task types o of))) of
 
 abbrev ranges : Task → List Union → List (List ℕ)
 ranges task unions = map (objects_of task) unions

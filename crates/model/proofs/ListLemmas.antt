@@ -86,13 +86,13 @@ Contains-filter p [] x at passes = absurd (Contains-none x at)
 Contains-filter p (y ∷ xs) x at passes =
     elim (p y) as (λ t. p y ≡ t → Contains (cond t (y ∷ filter p xs) (filter p xs)) x) [
       | true ↦ λ _. elim (Contains-cases y xs x at) [
-          | inl is ↦ subst (λ z. Contains (y ∷ filter p xs) z) is (Contains-here y (filter p xs))
-          | inr later ↦ Contains-there y (filter p xs) x (Contains-filter p xs x later passes)
-        ]
+        | inl is ↦ subst (λ z. Contains (y ∷ filter p xs) z) is (Contains-here y (filter p xs))
+        | inr later ↦ Contains-there y (filter p xs) x (Contains-filter p xs x later passes)
+      ]
       | false ↦ λ fails. elim (Contains-cases y xs x at) [
-          | inl is ↦ absurd (true≢false (sym passes ∙ ap p (sym is) ∙ fails))
-          | inr later ↦ Contains-filter p xs x later passes
-        ]
+        | inl is ↦ absurd (true≢false (sym passes ∙ ap p (sym is) ∙ fails))
+        | inr later ↦ Contains-filter p xs x later passes
+      ]
     ] refl
 
 pub filter-Contains : {X : Type 0} (p : X → Bool) (xs : List X) (x : X) → Contains (filter p xs) x → Contains xs x × (p x ≡ true)
@@ -100,9 +100,9 @@ filter-Contains p [] x at = absurd (Contains-none x at)
 filter-Contains p (y ∷ xs) x at =
     elim (p y) as (λ t. p y ≡ t → Contains (cond t (y ∷ filter p xs) (filter p xs)) x → Contains (y ∷ xs) x × (p x ≡ true)) [
       | true ↦ λ passes among. elim (Contains-cases y (filter p xs) x among) [
-          | inl is ↦ (subst (λ z. Contains (y ∷ xs) z) is (Contains-here y xs), subst (λ z. p z ≡ true) is passes)
-          | inr later ↦ let rest = filter-Contains p xs x later in (Contains-there y xs x rest.0, rest.1)
-        ]
+        | inl is ↦ (subst (λ z. Contains (y ∷ xs) z) is (Contains-here y xs), subst (λ z. p z ≡ true) is passes)
+        | inr later ↦ let rest = filter-Contains p xs x later in (Contains-there y xs x rest.0, rest.1)
+      ]
       | false ↦ λ _ later. let rest = filter-Contains p xs x later in (Contains-there y xs x rest.0, rest.1)
     ] refl at
 

@@ -155,7 +155,7 @@ with_name n (g ∷ gs) = record g { names = n ∷ g.names } ∷ gs
 
 -- a group of which no name is left, with its types
 abbrev pub ends_group : List Name → Group
-ends_group types = record { names = []; types = types }
+ends_group ts = record { names = []; types = ts }
 
 -- ---- what may be wanted at a place: the nonterminals
 
