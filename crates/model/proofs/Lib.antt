@@ -17,3 +17,4 @@ pub mod GrammarRefusals
 pub mod GrammarOneRefusal
 pub mod GrammarExampleProofs
 pub mod TypingExampleProofs
+pub mod TypingFaultsLemmas
