@@ -18,3 +18,4 @@ pub mod GrammarOneRefusal
 pub mod GrammarExampleProofs
 pub mod TypingExampleProofs
 pub mod TypingFaultsLemmas
+pub mod TypingFaultsRepeats
