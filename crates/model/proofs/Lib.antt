@@ -19,3 +19,4 @@ pub mod GrammarExampleProofs
 pub mod TypingExampleProofs
 pub mod TypingFaultsLemmas
 pub mod TypingFaultsRepeats
+pub mod TypingFaultsUses
