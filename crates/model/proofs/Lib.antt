@@ -20,3 +20,4 @@ pub mod TypingExampleProofs
 pub mod TypingFaultsLemmas
 pub mod TypingFaultsRepeats
 pub mod TypingFaultsUses
+pub mod TypingFaultsPhases
