@@ -21,3 +21,4 @@ pub mod TypingFaultsLemmas
 pub mod TypingFaultsRepeats
 pub mod TypingFaultsUses
 pub mod TypingFaultsPhases
+pub mod TypingFaultsTold

@@ -9,7 +9,7 @@ use Rattle.model.specs.Trees as tree
 use Rattle.model.specs.Typing.{Placed, placed, folded, is_same, is_known, type_names, types_from, types_of, names_of_types, predicates_of, constants_of, known_in_problem, TypingFault, File, in_domain, in_problem, refused, repeated_after, repeated, one_after, type_faults, domain_name_faults, type_declaration_faults, comes_back, cycle_faults_from, cycle_faults, object_words, object_faults, argument_faults, declaration_faults, schema_faults, action_faults, formula_faults, effect_faults, fact_faults, ground_atom_faults, atom_faults, phases}
 use Rattle.model.specs.TypingFaults.{Phase, of_names, of_cycles, of_objects, of_predicates, of_actions, of_init, of_goal, IsRepeated, HasType, IsUnknownType, known_in, as_atom, in_domain_word, in_problem_word, IsFaultIn, other_domain, type_again, object_declared, unknown_parent, many_types, type_cycle, type_of_constant, type_of_object, object_again, many_objects, predicate_again, type_of_argument, many_arguments, action_again, type_of_parameter, parameter_again, many_parameters, in_precondition, in_effect, in_init, negated, in_goal}
 use Rattle.model.proofs.ListLemmas.{Contains-here, Contains-map, Contains-flat_map}
-use Rattle.model.proofs.TypingFaultsLemmas.{fault_at, word_in, AllTell, none_tells, both_tell, one_tells, flat_map_tell, refused_tell, unless_tells, when_tells, types_tell, on_left, on_right, unless_listed, when_listed, refused_listed, type_listed, placed-Contains, Contains-one_after, one_after-Contains}
+use Rattle.model.proofs.TypingFaultsLemmas.{fault_at, word_in, Tells, AllTell, none_tells, both_tell, one_tells, flat_map_tell, refused_tell, unless_tells, when_tells, types_tell, on_left, on_right, unless_listed, when_listed, refused_listed, type_listed, placed-Contains, Contains-one_after, one_after-Contains}
 use Rattle.model.proofs.TypingFaultsRepeats.{repeated_after-Contains, repeated-Contains, repeated_listed, known_listed}
 use Rattle.model.proofs.TypingFaultsUses.{atom_tells, atom_listed, formula_tells, formula_listed, effect_tells, effect_listed, ground_atom_as_atom}
 
@@ -222,3 +222,10 @@ phase_listed d p phase code w (negated word a among) =
     Contains-flat_map (fact_faults in_problem (known_in_problem d p)) p.init (tree.negated word a) (fault_at 24 (in_problem_word word)) among
     (Contains-here (fault_at 24 (in_problem_word word)) [])
 phase_listed d p phase code w (in_goal b number word has fault) = formula_listed in_problem (known_in_problem d p) p.goal b number word has fault
+
+-- the faults that are listed of a phase are those that the table tells of it
+pub told_listed : (d : Domain) (p : Problem) (phase : Phase) (f : TypingFault) → Tells (IsFaultIn d p phase) f → Contains (phase_faults d p phase) f
+told_listed d p phase f told = subst (Contains (phase_faults d p phase)) told.is (phase_listed d p phase told.code told.word told.is_fault)
+
+pub listed_told : (d : Domain) (p : Problem) (phase : Phase) (f : TypingFault) → Contains (phase_faults d p phase) f → Tells (IsFaultIn d p phase) f
+listed_told d p phase f at = (phase_tells d p phase).tells f at
