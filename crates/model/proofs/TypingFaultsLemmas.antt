@@ -1,11 +1,11 @@
 -- The faults of typing that are listed and those of the table of faults: how lists of faults are put together.
-use Rattle.std.proofs.Common.{◌≡◌, ℕ, zero, suc, ◌+◌, ◌⊎◌, inl, inr, Bool, true, false, true≢false, cond, List, [], ◌∷◌, ◌++◌, map, take, drop, Option, None, Some, refl, sym, ap, ◌∙◌, subst}
+use Rattle.std.proofs.Common.{◌≡◌, ℕ, zero, suc, inl, inr, Bool, true, false, List, [], ◌∷◌, ◌++◌, Some, refl, sym, ap, subst}
 use Rattle.std.specs.Prelude.{Contains, slice_get, if◌then◌else◌}
 use Rattle.std.specs.List.{flat_map}
 use Rattle.std.proofs.lemmas.List.Elements.{Contains-append_left, Contains-append_right, Contains-append_cases}
 use Rattle.model.specs.Task as task
 use Rattle.model.specs.Trees.{Name, Group}
-use Rattle.model.specs.Typing.{Placed, File, TypingFault, placed, refused, refused_word, one_after, is_known, unknown_faults, type_faults}
+use Rattle.model.specs.Typing.{Placed, File, TypingFault, placed, refused, one_after, is_known, unknown_faults, type_faults}
 use Rattle.model.specs.TypingFaults.{HasType}
 use Rattle.model.proofs.ListLemmas.{Contains-here, Contains-cases, Contains-none, Contains-map, map-Contains, Contains-flat_map, flat_map-Contains}
 
@@ -37,7 +37,7 @@ both_tell {table} {first} {rest} left right = record {
   tells = λ f at. elim (Contains-append_cases first rest f at) [
     | inl here ↦ left.tells f here
     | inr later ↦ right.tells f later
-  ]
+  ];
 }
 
 pub one_tells : {table : ℕ → Placed → Type 0} (code : ℕ) (w : Placed) → table code w → AllTell table (fault_at code w ∷ [])
@@ -45,17 +45,17 @@ one_tells {table} code w is = record {
   tells = λ f at. elim (Contains-cases (fault_at code w) [] f at) [
     | inl same ↦ record { code = code; word = w; is_fault = is; is = same }
     | inr none ↦ absurd (Contains-none f none)
-  ]
+  ];
 }
 
 pub flat_map_tell : {X : Type 0} {table : ℕ → Placed → Type 0} (of : X → List TypingFault) (xs : List X) → ((x : X) → Contains xs x → AllTell table (of x)) → AllTell table (flat_map of xs)
 flat_map_tell {X} {table} of xs each = record {
-  tells = λ f at. let there = flat_map-Contains of xs f at in (each there.0 there.1).tells f there.2
+  tells = λ f at. let there = flat_map-Contains of xs f at in (each there.0 there.1).tells f there.2;
 }
 
 pub refused_tell : {table : ℕ → Placed → Type 0} (code : ℕ) (words : List Placed) → ((w : Placed) → Contains words w → table code w) → AllTell table (refused code words)
 refused_tell {table} code words each = record {
-  tells = λ f at. let there = map-Contains (fault_at code) words f at in record { code = code; word = there.0; is_fault = each there.0 there.1; is = there.2 }
+  tells = λ f at. let there = map-Contains (fault_at code) words f at in record { code = code; word = there.0; is_fault = each there.0 there.1; is = there.2 };
 }
 
 -- a word that is refused where a test fails

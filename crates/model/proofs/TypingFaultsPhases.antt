@@ -1,15 +1,15 @@
 -- The faults that are listed of a phase are those that the table has of it.
-use Rattle.std.proofs.Common.{◌≡◌, ℕ, zero, suc, ◌+◌, inl, inr, Bool, true, false, ◌||◌, true≢false, List, [], ◌∷◌, ◌++◌, map, Option, None, Some, refl, sym, ap, ◌∙◌, subst, arith}
+use Rattle.std.proofs.Common.{◌≡◌, ℕ, zero, suc, ◌+◌, inl, inr, true, false, ◌||◌, true≢false, List, [], ◌∷◌, ◌++◌, map, Some, refl, sym, ap, subst, arith}
 use Rattle.std.specs.Prelude.{Contains, codes, slice_get, if◌then◌else◌}
 use Rattle.std.specs.List.{flat_map}
 use Rattle.std.proofs.lemmas.Bool.{or_cases, or_left}
 use Rattle.model.specs.Task as task
 use Rattle.model.specs.Trees.{Name, Group, names_of, Domain, Problem}
 use Rattle.model.specs.Trees as tree
-use Rattle.model.specs.Typing.{Placed, placed, folded, is_same, is_known, type_names, types_from, types_of, names_of_types, predicates_of, constants_of, known_in_problem, TypingFault, File, in_domain, in_problem, refused, repeated_after, repeated, one_after, type_faults, domain_name_faults, type_declaration_faults, comes_back, cycle_faults_from, cycle_faults, object_words, object_faults, argument_faults, declaration_faults, schema_faults, action_faults, formula_faults, effect_faults, fact_faults, ground_atom_faults, atom_faults, phases}
+use Rattle.model.specs.Typing.{Placed, placed, folded, is_same, is_known, type_names, types_from, types_of, names_of_types, predicates_of, constants_of, known_in_problem, TypingFault, in_domain, in_problem, refused, repeated_after, repeated, one_after, type_faults, domain_name_faults, type_declaration_faults, comes_back, cycle_faults_from, cycle_faults, object_words, object_faults, argument_faults, declaration_faults, schema_faults, action_faults, formula_faults, fact_faults}
 use Rattle.model.specs.TypingFaults.{Phase, of_names, of_cycles, of_objects, of_predicates, of_actions, of_init, of_goal, IsRepeated, HasType, IsUnknownType, known_in, as_atom, in_domain_word, in_problem_word, IsFaultIn, other_domain, type_again, object_declared, unknown_parent, many_types, type_cycle, type_of_constant, type_of_object, object_again, many_objects, predicate_again, type_of_argument, many_arguments, action_again, type_of_parameter, parameter_again, many_parameters, in_precondition, in_effect, in_init, negated, in_goal}
 use Rattle.model.proofs.ListLemmas.{Contains-here, Contains-map, Contains-flat_map}
-use Rattle.model.proofs.TypingFaultsLemmas.{fault_at, word_in, Tells, AllTell, none_tells, both_tell, one_tells, flat_map_tell, refused_tell, unless_tells, when_tells, types_tell, on_left, on_right, unless_listed, when_listed, refused_listed, type_listed, placed-Contains, Contains-one_after, one_after-Contains}
+use Rattle.model.proofs.TypingFaultsLemmas.{fault_at, Tells, AllTell, none_tells, both_tell, one_tells, flat_map_tell, refused_tell, unless_tells, when_tells, types_tell, on_left, on_right, unless_listed, when_listed, refused_listed, type_listed, placed-Contains, Contains-one_after, one_after-Contains}
 use Rattle.model.proofs.TypingFaultsRepeats.{repeated_after-Contains, repeated-Contains, repeated_listed, known_listed}
 use Rattle.model.proofs.TypingFaultsUses.{atom_tells, atom_listed, formula_tells, formula_listed, effect_tells, effect_listed, ground_atom_as_atom}
 

@@ -1,7 +1,6 @@
 -- The words that are listed as repeated are those that stand after one that is the same.
-use Rattle.std.proofs.Common.{◌≡◌, ℕ, ◌⊎◌, inl, inr, Bool, true, false, ◌||◌, true≢false, List, [], ◌∷◌, ◌++◌, refl, sym, ap, ◌∙◌, subst}
-use Rattle.std.specs.Prelude.{Contains, codes, if◌then◌else◌}
-use Rattle.std.specs.List.{list_any}
+use Rattle.std.proofs.Common.{◌≡◌, ◌⊎◌, inl, inr, true, false, ◌||◌, true≢false, List, [], ◌∷◌, ◌++◌, refl, sym, ap, ◌∙◌, subst}
+use Rattle.std.specs.Prelude.{Contains, if◌then◌else◌}
 use Rattle.std.proofs.lemmas.Bool.{or_cases, or_left, or_right}
 use Rattle.std.proofs.lemmas.List.Folds.{list_any-append}
 use Rattle.std.proofs.lemmas.List.Elements.{Contains-append_left, Contains-append_right, Contains-append_cases}
@@ -25,7 +24,6 @@ split (y ∷ xs) x at =
     ]
 
 -- ---- from the list
-
 
 -- what is repeated later
 again_there : (before : List task.Name) (v : Placed) (rest : List Placed) (w : Placed) → (Contains rest w × (is_known (before ++ folded v.word ∷ []) w.word ≡ true)) ⊎ IsRepeated rest w

@@ -1,18 +1,18 @@
 -- A pair is well-typed exactly where no fault is listed, and the fault that is told is the least of those that are.
-use Rattle.std.proofs.Common.{◌≡◌, ℕ, zero, suc, ◌+◌, ◌<◌, ◌≤◌, ◌⊎◌, inl, inr, Bool, true, false, Ordering, Less, Equal, Greater, List, [], ◌∷◌, ◌++◌, Option, None, Some, refl, sym, ap, ◌∙◌, subst, arith}
+use Rattle.std.proofs.Common.{◌≡◌, ℕ, zero, suc, ◌<◌, ◌⊎◌, inl, inr, false, Ordering, Less, Equal, Greater, List, [], ◌∷◌, Some, refl, sym, ap, ◌∙◌, subst, arith}
 use Rattle.std.specs.Prelude.{All, Contains, slice_get, slice_index_or}
-use Rattle.std.specs.Ordering.{nat_cmp, is_lt, ordering_then, MatchOrdering}
+use Rattle.std.specs.Ordering.{nat_cmp, is_lt, ordering_then}
 use Rattle.std.specs.Cmp.{nat_cmp_is}
 use Rattle.std.proofs.lemmas.Bool.{cases_eq}
 use Rattle.std.proofs.lemmas.Cmp.{ranked}
 use Rattle.std.proofs.lemmas.List.Elements.{All-contains_itself}
-use Rattle.model.specs.Fault.{Span, Fault}
+use Rattle.model.specs.Fault.{Span}
 use Rattle.model.specs.Trees.{Domain, Problem}
 use Rattle.model.specs.Typing.{Placed, File, TypingFault, rank_of, key_of, is_before, phases, first_filled, faults_of, IsLeastFault}
 use Rattle.model.specs.Typing as typing
-use Rattle.model.specs.TypingFaults.{Phase, of_names, of_cycles, of_objects, of_predicates, of_actions, of_init, of_goal, order_of, IsFaultIn, IsWellTyped, IsFirstPhase, ComesNoLater, IsTold}
+use Rattle.model.specs.TypingFaults.{Phase, of_names, of_cycles, of_objects, of_predicates, of_actions, of_init, of_goal, order_of, IsFaultIn, IsWellTyped, ComesNoLater, IsTold}
 use Rattle.model.proofs.ListLemmas.{Contains-here, Contains-none}
-use Rattle.model.proofs.TypingFaultsLemmas.{fault_at, Tells, AllTell}
+use Rattle.model.proofs.TypingFaultsLemmas.{fault_at, Tells}
 use Rattle.model.proofs.TypingFaultsPhases.{phase_faults, phase_tells, phase_listed}
 
 -- ---- the first list that is not empty
@@ -129,13 +129,19 @@ comes_no_later : (code : ℕ) (w : Placed) (other : ℕ) (v : Placed) → is_bef
 comes_no_later code w other v not_before =
     elim (step_from (rank_of v.file) (rank_of w.file) _ not_before) [
       | inl file ↦ inl file
-      | inr (same, later) ↦ inr (same, elim (step_from v.word.span.start w.word.span.start _ later) [
-        | inl start ↦ inl start
-        | inr (alike, last) ↦ inr (alike, elim (step_from other code Equal last) [
-          | inl number ↦ omega (arith, number)
-          | inr (equal, _) ↦ omega (arith, equal)
-        ])
-      ])
+      | inr (same, later) ↦ inr (
+        same,
+        elim (step_from v.word.span.start w.word.span.start _ later) [
+          | inl start ↦ inl start
+          | inr (alike, last) ↦ inr (
+            alike,
+            elim (step_from other code Equal last) [
+              | inl number ↦ omega (arith, number)
+              | inr (equal, _) ↦ omega (arith, equal)
+            ],
+          )
+        ],
+      )
     ]
 
 not_before : (code : ℕ) (w : Placed) (other : ℕ) (v : Placed) → ComesNoLater code w other v → is_before (fault_at other v) (fault_at code w) ≡ false

@@ -1,6 +1,6 @@
 -- The faults that are listed of an atom, a formula, an effect or a fact are those that the table has of its atoms.
-use Rattle.std.proofs.Common.{◌≡◌, ◌≢◌, ℕ, zero, suc, ◌+◌, ◌⊎◌, inl, inr, Bool, true, false, not, ◌||◌, cond, List, [], ◌∷◌, ◌++◌, length, map, Option, None, Some, refl, sym, ap, ◌∙◌, subst, arith}
-use Rattle.std.specs.Prelude.{Contains, slice_get, ◌==◌, if◌then◌else◌}
+use Rattle.std.proofs.Common.{◌≡◌, ◌≢◌, ℕ, zero, suc, ◌+◌, inl, inr, Bool, true, false, not, ◌||◌, cond, List, [], ◌∷◌, ◌++◌, length, map, Option, None, Some, refl, sym, ap, ◌∙◌, subst, arith}
+use Rattle.std.specs.Prelude.{Contains, slice_get, ◌==◌}
 use Rattle.std.specs.List.{list_any, position_or_len}
 use Rattle.std.specs.Option.{option_map_or}
 use Rattle.std.proofs.lemmas.Bool.{eqb-true, eqb-false, false_from_ne_true}
@@ -8,7 +8,7 @@ use Rattle.std.proofs.lemmas.List.{length-map}
 use Rattle.model.specs.Task as task
 use Rattle.model.specs.Trees.{Name}
 use Rattle.model.specs.Trees as tree
-use Rattle.model.specs.Typing.{Known, File, TypingFault, Placed, folded, is_same, is_known, names_of_predicates, names_of_variables, names_of_objects, refused_word, faults_against, predicate_in_known, predicate_faults, arguments_in, fits_in, term_faults, word_of, misfit_faults, terms_faults, atom_faults, formula_faults, formulas_faults, effect_faults, effects_faults, ground_atom_faults}
+use Rattle.model.specs.Typing.{Known, File, Placed, folded, is_same, is_known, names_of_predicates, names_of_variables, names_of_objects, faults_against, predicate_in_known, predicate_faults, arguments_in, fits_in, term_faults, word_of, misfit_faults, terms_faults, atom_faults, formula_faults, formulas_faults, effect_faults, effects_faults, ground_atom_faults}
 use Rattle.model.specs.TypingFaults.{HasAtom, SomeHasAtom, ChangesAtom, SomeChangesAtom, IsUnknown, IsAtomFault, unknown_predicate, unknown_term, wrong_count, wrong_type, as_atom}
 use Rattle.model.proofs.ListLemmas.{Contains-here, Contains-there, Contains-cases, Contains-none}
 use Rattle.model.proofs.TypingFaultsLemmas.{fault_at, word_in, AllTell, none_tells, both_tell, one_tells, unless_tells, on_left, on_right, unless_listed}
@@ -127,8 +127,8 @@ atom_tells file known a fault =
     (terms_tell file known (arguments_in known a.predicate) a.terms
     (λ t at unknown. fault 17 (word_of t) (unknown_term t at unknown))
     (λ place wanted t of at misfit.
-        let declared = argument_declared (predicate_in_known known a.predicate) place wanted of in
-        fault 19 (word_of t) (wrong_type declared.0 place wanted t declared.1 declared.2 at misfit)))
+    let declared = argument_declared (predicate_in_known known a.predicate) place wanted of in
+    fault 19 (word_of t) (wrong_type declared.0 place wanted t declared.1 declared.2 at misfit)))
 
 pub atom_listed : (file : File) (known : Known) (a : tree.Atom) (code : ℕ) (word : Name) → IsAtomFault known a code word → Contains (atom_faults file known a) (fault_at code (word_in file word))
 atom_listed file known a code word (unknown_predicate unknown) = on_left _ _ (unknown_listed file known a unknown)
