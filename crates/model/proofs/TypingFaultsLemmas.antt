@@ -13,6 +13,7 @@ use Rattle.model.proofs.ListLemmas.{Contains-here, Contains-cases, Contains-none
 abbrev pub fault_at : ℕ → Placed → TypingFault
 fault_at code w = record { file = w.file; fault = record { code = code; span = w.word.span } }
 
+-- a word of the file
 abbrev pub word_in : File → Name → Placed
 word_in file word = record { file = file; word = word }
 
@@ -29,9 +30,11 @@ pub record Tells (table : ℕ → Placed → Type 0) (f : TypingFault) : Type 0 
 pub record AllTell (table : ℕ → Placed → Type 0) (faults : List TypingFault) : Type 0 where
   pub tells : (f : TypingFault) → Contains faults f → Tells table f
 
+-- no fault
 pub none_tells : {table : ℕ → Placed → Type 0} → AllTell table []
 none_tells = record { tells = λ f at. absurd (Contains-none f at) }
 
+-- the faults of two lists in turn
 pub both_tell : {table : ℕ → Placed → Type 0} {first rest : List TypingFault} → AllTell table first → AllTell table rest → AllTell table (first ++ rest)
 both_tell {table} {first} {rest} left right = record {
   tells = λ f at. elim (Contains-append_cases first rest f at) [
@@ -40,6 +43,7 @@ both_tell {table} {first} {rest} left right = record {
   ];
 }
 
+-- one fault
 pub one_tells : {table : ℕ → Placed → Type 0} (code : ℕ) (w : Placed) → table code w → AllTell table (fault_at code w ∷ [])
 one_tells {table} code w is = record {
   tells = λ f at. elim (Contains-cases (fault_at code w) [] f at) [
@@ -48,11 +52,13 @@ one_tells {table} code w is = record {
   ];
 }
 
+-- the faults of each element
 pub flat_map_tell : {X : Type 0} {table : ℕ → Placed → Type 0} (of : X → List TypingFault) (xs : List X) → ((x : X) → Contains xs x → AllTell table (of x)) → AllTell table (flat_map of xs)
 flat_map_tell {X} {table} of xs each = record {
   tells = λ f at. let there = flat_map-Contains of xs f at in (each there.0 there.1).tells f there.2;
 }
 
+-- words that are refused by one number
 pub refused_tell : {table : ℕ → Placed → Type 0} (code : ℕ) (words : List Placed) → ((w : Placed) → Contains words w → table code w) → AllTell table (refused code words)
 refused_tell {table} code words each = record {
   tells = λ f at. let there = map-Contains (fault_at code) words f at in record { code = code; word = there.0; is_fault = each there.0 there.1; is = there.2 };
@@ -64,11 +70,13 @@ pub unless_tells : {table : ℕ → Placed → Type 0} (test : Bool) (code : ℕ
 unless_tells true code w fault = none_tells
 unless_tells false code w fault = one_tells code w (fault refl)
 
+-- and where it passes
 pub when_tells : {table : ℕ → Placed → Type 0} (test : Bool) (code : ℕ) (w : Placed) → (test ≡ true → table code w)
     → AllTell table (if test then fault_at code w ∷ [] else [])
 when_tells true code w fault = one_tells code w (fault refl)
 when_tells false code w fault = none_tells
 
+-- types that are neither `object` nor declared
 pub types_tell : {table : ℕ → Placed → Type 0} (file : File) (types : List task.Name) (groups : List Group)
     → ((word : Name) → HasType groups word → is_known types word ≡ false → table 14 (word_in file word)) → AllTell table (type_faults file types groups)
 types_tell file types groups fault =
@@ -76,23 +84,29 @@ types_tell file types groups fault =
 
 -- ---- each fault of the table is in the list
 
+-- a fault of the first of two lists
 pub on_left : (first rest : List TypingFault) {f : TypingFault} → Contains first f → Contains (first ++ rest) f
 on_left first rest {f} at = Contains-append_left first rest f at
 
+-- and of the second
 pub on_right : (first rest : List TypingFault) {f : TypingFault} → Contains rest f → Contains (first ++ rest) f
 on_right first rest {f} at = Contains-append_right first rest f at
 
+-- the fault of a test that fails
 pub unless_listed : (test : Bool) (f : TypingFault) → test ≡ false → Contains (if test then [] else f ∷ []) f
 unless_listed true f is = absurd (cc)
 unless_listed false f is = Contains-here f []
 
+-- and of one that passes
 pub when_listed : (test : Bool) (f : TypingFault) → test ≡ true → Contains (if test then f ∷ [] else []) f
 when_listed true f is = Contains-here f []
 when_listed false f is = absurd (cc)
 
+-- a word that is refused by one number
 pub refused_listed : (code : ℕ) (words : List Placed) (w : Placed) → Contains words w → Contains (refused code words) (fault_at code w)
 refused_listed code words w at = Contains-map (fault_at code) words w at
 
+-- a type that is neither `object` nor declared
 pub type_listed : (file : File) (types : List task.Name) (groups : List Group) (word : Name) → HasType groups word → is_known types word ≡ false
     → Contains (type_faults file types groups) (fault_at 14 (word_in file word))
 type_listed file types groups word (g, among, at) unknown =
@@ -102,6 +116,7 @@ type_listed file types groups word (g, among, at) unknown =
 
 -- ---- words
 
+-- a word of some names in a file is one of these names there
 pub placed-Contains : (file : File) (words : List Name) (w : Placed) → Contains (placed file words) w → (word : Name) × Contains words word × (word_in file word ≡ w)
 placed-Contains file words w at = map-Contains (word_in file) words w at
 
@@ -112,6 +127,7 @@ Contains-one_after (suc count) [] w at = absurd (cc)
 Contains-one_after zero (v ∷ words) w at = let same : v ≡ w = cc in subst (λ u. Contains (u ∷ []) w) (sym same) (Contains-here w [])
 Contains-one_after (suc count) (v ∷ words) w at = Contains-one_after count words w at
 
+-- and the other way
 pub one_after-Contains : (count : ℕ) (words : List Placed) (w : Placed) → Contains (one_after count words) w → slice_get words count ≡ Some w
 one_after-Contains zero [] w at = absurd (Contains-none w at)
 one_after-Contains (suc count) [] w at = absurd (Contains-none w at)

@@ -30,6 +30,7 @@ types_from_names d number (name ∷ names) = ap (λ rest. name ∷ rest) (types_
 
 -- ---- cycles of types
 
+-- a type that comes back, where the first of the names has this number
 cycles_tell : {table : ℕ → Placed → Type 0} (d : Domain) (number : ℕ) (names : List Name)
     → ((place : ℕ) (word : Name) → slice_get names place ≡ Some word → comes_back d (place + number) ≡ true → table 15 (in_domain_word word))
     → AllTell table (cycle_faults_from d number names)
@@ -44,6 +45,7 @@ cycles_tell {table} d number (name ∷ names) fault =
     next : (place : ℕ) → place + (number + 1) ≡ suc place + number
     next place = omega arith
 
+-- and the other way
 cycle_listed : (d : Domain) (number : ℕ) (names : List Name) (place : ℕ) (word : Name) → slice_get names place ≡ Some word → comes_back d (place + number) ≡ true
     → Contains (cycle_faults_from d number names) (fault_at 15 (in_domain_word word))
 cycle_listed d number [] place word at back = absurd (cc)
@@ -76,18 +78,21 @@ again_or_object d p w at =
           | inr none ↦ absurd (true≢false (sym none))
         ]
 
+-- 1: the name in `:domain`, the types
 names_tell : (d : Domain) (p : Problem) → AllTell (IsFaultIn d p of_names) (phase_faults d p of_names)
 names_tell d p =
     both_tell (unless_tells (is_same (folded p.domain) (folded d.name)) 21 (in_problem_word p.domain) other_domain)
     (both_tell (both_tell (refused_tell _ _ (again_or_object d p)) (types_tell in_domain (type_names d) d.types unknown_parent))
     (refused_tell _ _ (λ w at. many_types w (one_after-Contains 4095 (placed in_domain (names_of d.types)) w at))))
 
+-- 3: constants and objects
 objects_tell : (d : Domain) (p : Problem) → AllTell (IsFaultIn d p of_objects) (phase_faults d p of_objects)
 objects_tell d p =
     both_tell (both_tell (both_tell (types_tell in_domain (type_names d) d.constants type_of_constant) (types_tell in_problem (type_names d) p.objects type_of_object))
     (refused_tell _ _ (λ w at. object_again w (repeated-Contains (object_words d p) w at))))
     (refused_tell _ _ (λ w at. many_objects w (one_after-Contains 65535 (object_words d p) w at)))
 
+-- 4: predicates
 predicates_tell : (d : Domain) (p : Problem) → AllTell (IsFaultIn d p of_predicates) (phase_faults d p of_predicates)
 predicates_tell d p =
     both_tell (refused_tell _ _ (λ w at. predicate_again w (repeated-Contains (placed in_domain (map (λ (q : tree.Predicate). q.name) d.predicates)) w at)))
@@ -101,6 +106,7 @@ parameter_types_tell d p a among =
     subst (λ names. AllTell (IsFaultIn d p of_actions) (type_faults in_domain names a.parameters)) (sym (types_from_names d 0 (type_names d)))
     (types_tell in_domain (type_names d) a.parameters (λ word has unknown. type_of_parameter a word among has unknown))
 
+-- the faults of one action
 schema_tells : (d : Domain) (p : Problem) (a : tree.Action) → Contains d.actions a
     → AllTell (IsFaultIn d p of_actions) (schema_faults (types_of d) (predicates_of d) (constants_of d) a)
 schema_tells d p a among =
@@ -110,17 +116,20 @@ schema_tells d p a among =
     (formula_tells in_domain (known_in d a) a.precondition (λ b code word has fault. in_precondition a b code word among has fault)))
     (effect_tells in_domain (known_in d a) a.effect (λ b code word has fault. in_effect a b code word among has fault))
 
+-- 5: actions
 actions_tell : (d : Domain) (p : Problem) → AllTell (IsFaultIn d p of_actions) (phase_faults d p of_actions)
 actions_tell d p =
     both_tell (refused_tell _ _ (λ w at. action_again w (repeated-Contains (placed in_domain (map (λ (a : tree.Action). a.name) d.actions)) w at)))
     (flat_map_tell _ _ (schema_tells d p))
 
+-- 6: what stands in `:init`
 fact_tells : (d : Domain) (p : Problem) (f : tree.Fact) → Contains p.init f → AllTell (IsFaultIn d p of_init) (fact_faults in_problem (known_in_problem d p) f)
 fact_tells d p (tree.fact a) among =
     subst (AllTell (IsFaultIn d p of_init)) (sym (ground_atom_as_atom in_problem (known_in_problem d p) a))
     (atom_tells in_problem (known_in_problem d p) (as_atom a) (λ code word fault. in_init a code word among fault))
 fact_tells d p (tree.negated word a) among = one_tells 24 (in_problem_word word) (negated word a among)
 
+-- each phase; 2, the cycles of types, and 7, the goal, at once
 pub phase_tells : (d : Domain) (p : Problem) (phase : Phase) → AllTell (IsFaultIn d p phase) (phase_faults d p phase)
 phase_tells d p of_names = names_tell d p
 phase_tells d p of_cycles = cycles_tell d 1 (names_of d.types) type_cycle
@@ -132,19 +141,23 @@ phase_tells d p of_goal = formula_tells in_problem (known_in_problem d p) p.goal
 
 -- ---- each fault of the table is in its phase's list
 
+-- a word that is declared before
 again_listed : {words : List Placed} (w : Placed) → IsRepeated words w → Contains (refused 16 (repeated words)) (fault_at 16 w)
 again_listed {words} w again = refused_listed 16 (repeated words) w (repeated_listed [] words w again)
 
+-- the first word past a limit
 one_too_many_listed : (count : ℕ) (words : List Placed) (w : Placed) → slice_get words count ≡ Some w → Contains (refused 25 (one_after count words)) (fault_at 25 w)
 one_too_many_listed count words w at = refused_listed 25 (one_after count words) w (Contains-one_after count words w at)
 
--- the words that declare types, predicates, parameters and actions
+-- the words that declare types
 abbrev type_words : Domain → List Placed
 type_words d = placed in_domain (names_of d.types)
 
+-- the words that declare predicates
 abbrev predicate_words : Domain → List Placed
 predicate_words d = placed in_domain (map (λ (q : tree.Predicate). q.name) d.predicates)
 
+-- the words that declare actions
 abbrev action_words : Domain → List Placed
 action_words d = placed in_domain (map (λ (a : tree.Action). a.name) d.actions)
 
@@ -152,30 +165,35 @@ action_words d = placed in_domain (map (λ (a : tree.Action). a.name) d.actions)
 type_word_listed : (d : Domain) (p : Problem) (w : Placed) → Contains (repeated_after (codes "object" ∷ []) (type_words d)) w → Contains (phase_faults d p of_names) (fault_at 16 w)
 type_word_listed d p w at = on_right (domain_name_faults d p) _ (on_left _ _ (on_left _ _ (refused_listed 16 (repeated_after (codes "object" ∷ []) (type_words d)) w at)))
 
--- the faults of one predicate, and of one action, are in the lists of their phases
+-- the faults of one predicate are in the list of their phase
 in_predicate : (d : Domain) (p : Problem) (q : tree.Predicate) {f : TypingFault} → Contains d.predicates q → Contains (argument_faults (type_names d) q) f → Contains (phase_faults d p of_predicates) f
 in_predicate d p q {f} among at = on_right (refused 16 (repeated (predicate_words d))) _ (Contains-flat_map (argument_faults (type_names d)) d.predicates q f among at)
 
+-- the faults of one action are in the list of their phase
 in_action : (d : Domain) (p : Problem) (a : tree.Action) {f : TypingFault} → Contains d.actions a → Contains (schema_faults (types_of d) (predicates_of d) (constants_of d) a) f
     → Contains (phase_faults d p of_actions) f
 in_action d p a {f} among at =
     on_right (refused 16 (repeated (action_words d))) _ (Contains-flat_map (schema_faults (types_of d) (predicates_of d) (constants_of d)) d.actions a f among at)
 
--- the faults of an action, in order
+-- 14, of an action's parameters
 abbrev parameter_types : Domain → tree.Action → List TypingFault
 parameter_types d a = type_faults in_domain (names_of_types (types_of d)) a.parameters
 
+-- 16, of its parameters
 abbrev parameters_again : tree.Action → List TypingFault
 parameters_again a = refused 16 (repeated (placed in_domain (names_of a.parameters)))
 
+-- 25, of its parameters
 abbrev parameter_too_many : tree.Action → List TypingFault
 parameter_too_many a = refused 25 (one_after 16 (placed in_domain (names_of a.parameters)))
 
+-- a type of a parameter that is neither `object` nor declared
 parameter_type_listed : (d : Domain) (a : tree.Action) (word : Name) → HasType a.parameters word → IsUnknownType d word → Contains (parameter_types d a) (fault_at 14 (in_domain_word word))
 parameter_type_listed d a word has unknown =
     subst (λ names. Contains (type_faults in_domain names a.parameters) (fault_at 14 (in_domain_word word))) (sym (types_from_names d 0 (type_names d)))
     (type_listed in_domain (type_names d) a.parameters word has unknown)
 
+-- each entry of the table
 pub phase_listed : (d : Domain) (p : Problem) (phase : Phase) (code : ℕ) (w : Placed) → IsFaultIn d p phase code w → Contains (phase_faults d p phase) (fault_at code w)
 phase_listed d p phase code w (other_domain other) = on_left _ _ (unless_listed (is_same (folded p.domain) (folded d.name)) (fault_at 21 (in_problem_word p.domain)) other)
 phase_listed d p phase code w (type_again v again) = type_word_listed d p v (repeated_listed (codes "object" ∷ []) (type_words d) v again)
@@ -227,5 +245,6 @@ phase_listed d p phase code w (in_goal b number word has fault) = formula_listed
 pub told_listed : (d : Domain) (p : Problem) (phase : Phase) (f : TypingFault) → Tells (IsFaultIn d p phase) f → Contains (phase_faults d p phase) f
 told_listed d p phase f told = subst (Contains (phase_faults d p phase)) told.is (phase_listed d p phase told.code told.word told.is_fault)
 
+-- and the other way
 pub listed_told : (d : Domain) (p : Problem) (phase : Phase) (f : TypingFault) → Contains (phase_faults d p phase) f → Tells (IsFaultIn d p phase) f
 listed_told d p phase f at = (phase_tells d p phase).tells f at

@@ -15,6 +15,7 @@ record Split {X : Type 0} (xs : List X) (x : X) : Type 0 where
   pub after : List X
   pub stands : xs ≡ before ++ x ∷ after
 
+-- an element stands somewhere
 split : {X : Type 0} (xs : List X) (x : X) → Contains xs x → Split xs x
 split [] x at = absurd (Contains-none x at)
 split (y ∷ xs) x at =
@@ -55,6 +56,7 @@ again_there before v rest w (inl (at, known)) =
       ];
     }
 
+-- the first word, where it is listed
 first_again : (before : List task.Name) (v w : Placed) → Contains (if is_known before v.word then v ∷ [] else []) w → (v ≡ w) × (is_known before v.word ≡ true)
 first_again before v w at =
     elim (is_known before v.word) as (λ b. is_known before v.word ≡ b → Contains (if b then v ∷ [] else []) w → (v ≡ w) × (is_known before v.word ≡ true)) [
@@ -65,6 +67,7 @@ first_again before v w at =
       ]
     ] refl at
 
+-- a word that is listed is the same as one of the names, or stands after one that is
 pub repeated_after-Contains : (before : List task.Name) (words : List Placed) (w : Placed) → Contains (repeated_after before words) w
     → (Contains words w × (is_known before w.word ≡ true)) ⊎ IsRepeated words w
 repeated_after-Contains before [] w at = absurd (Contains-none w at)
@@ -75,6 +78,7 @@ repeated_after-Contains before (v ∷ rest) w at =
       | inr later ↦ again_there before v rest w (repeated_after-Contains (before ++ folded v.word ∷ []) rest w later)
     ]
 
+-- with no names before the list, it stands after one that is
 pub repeated-Contains : (words : List Placed) (w : Placed) → Contains (repeated words) w → IsRepeated words w
 repeated-Contains words w at =
     elim (repeated_after-Contains [] words w at) [
@@ -88,6 +92,7 @@ repeated-Contains words w at =
 abbrev IsEarlier : List task.Name → List Placed → Placed → Type 0
 IsEarlier before words w = (is_known before w.word ≡ true) ⊎ ((earlier : Placed) × Contains words earlier × (is_same (folded w.word) (folded earlier.word) ≡ true))
 
+-- past the first word, which is then one of the names
 earlier_there : (before : List task.Name) (v : Placed) (words : List Placed) (w : Placed) → IsEarlier before (v ∷ words) w → IsEarlier (before ++ folded v.word ∷ []) words w
 earlier_there before v words w (inl known) =
     inl (list_any-append (is_same (folded w.word)) before (folded v.word ∷ []) ∙ or_left (is_known before w.word) _ known)
@@ -98,9 +103,11 @@ earlier_there before v words w (inr (earlier, at, same)) =
       | inr later ↦ inr (earlier, later, same)
     ]
 
+-- a word that is the same as one of the names is listed in its place
 first_listed : (before : List task.Name) (w : Placed) → is_known before w.word ≡ true → Contains (if is_known before w.word then w ∷ [] else []) w
 first_listed before w known = subst (λ b. Contains (if b then w ∷ [] else []) w) (sym known) (Contains-here w [])
 
+-- so is a word at any place
 split_listed : (before : List task.Name) (first : List Placed) (w : Placed) (after : List Placed) → IsEarlier before first w → Contains (repeated_after before (first ++ w ∷ after)) w
 split_listed before [] w after (inl known) = Contains-append_left _ (repeated_after (before ++ folded w.word ∷ []) after) w (first_listed before w known)
 split_listed before [] w after (inr (earlier, at, same)) = absurd (Contains-none earlier at)
@@ -108,6 +115,7 @@ split_listed before (v ∷ first) w after is =
     Contains-append_right (if is_known before v.word then v ∷ [] else []) (repeated_after (before ++ folded v.word ∷ []) (first ++ w ∷ after)) w
     (split_listed (before ++ folded v.word ∷ []) first w after (earlier_there before v first w is))
 
+-- a word that stands after one that is the same
 pub repeated_listed : (before : List task.Name) (words : List Placed) (w : Placed) → IsRepeated words w → Contains (repeated_after before words) w
 repeated_listed before words w r =
     subst (λ ws. Contains (repeated_after before ws) w) (sym r.stands) (split_listed before r.before w r.after (inr (r.earlier, r.is_before, r.is_same)))

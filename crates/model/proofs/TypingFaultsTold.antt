@@ -21,12 +21,14 @@ use Rattle.model.proofs.TypingFaultsPhases.{phase_faults, phase_tells, phase_lis
 abbrev EmptyBefore : List (List TypingFault) → ℕ → Type 0
 EmptyBefore lists k = (j : ℕ) (faults : List TypingFault) → j < k → slice_get lists j ≡ Some faults → faults ≡ []
 
+-- where no list is filled, each is empty
 each_empty : (lists : List (List TypingFault)) → first_filled lists ≡ [] → (k : ℕ) (faults : List TypingFault) → slice_get lists k ≡ Some faults → faults ≡ []
 each_empty [] none k faults at = absurd (cc)
 each_empty ([] ∷ later) none zero faults at = cc
 each_empty ([] ∷ later) none (suc k) faults at = each_empty later none k faults at
 each_empty ((f ∷ more) ∷ later) none k faults at = absurd (cc)
 
+-- and the other way
 none_filled : (lists : List (List TypingFault)) → ((k : ℕ) (faults : List TypingFault) → slice_get lists k ≡ Some faults → faults ≡ []) → first_filled lists ≡ []
 none_filled [] empty = refl
 none_filled ([] ∷ later) empty = none_filled later (λ k. empty (suc k))
@@ -38,6 +40,7 @@ record Filled (lists : List (List TypingFault)) : Type 0 where
   pub stands : slice_get lists place ≡ Some (first_filled lists)
   pub is_first : EmptyBefore lists place
 
+-- a list with a fault is the first of some place
 filled : (lists : List (List TypingFault)) (f : TypingFault) → Contains (first_filled lists) f → Filled lists
 filled [] f at = absurd (Contains-none f at)
 filled ((g ∷ more) ∷ later) f at = record { place = 0; stands = refl; is_first = λ j faults before. absurd (omega (arith, before)) }
@@ -49,6 +52,7 @@ filled ([] ∷ later) f at =
     empty_before rest zero faults before here = cc
     empty_before rest (suc j) faults before here = rest.is_first j faults (omega (arith, before)) here
 
+-- the first list with a fault, by its place
 first_filled_is : (lists : List (List TypingFault)) (k : ℕ) (faults : List TypingFault) (f : TypingFault) → slice_get lists k ≡ Some faults → Contains faults f → EmptyBefore lists k
     → first_filled lists ≡ faults
 first_filled_is [] k faults f at has empty = absurd (cc)
@@ -61,6 +65,7 @@ first_filled_is ((g ∷ more) ∷ later) (suc k) faults f at has empty =
 
 -- ---- the phases
 
+-- the list of a phase stands at its number
 phase_at : (d : Domain) (p : Problem) (phase : Phase) → slice_get (phases d p) (order_of phase) ≡ Some (phase_faults d p phase)
 phase_at d p of_names = refl
 phase_at d p of_cycles = refl
@@ -76,6 +81,7 @@ record PhaseOf (d : Domain) (p : Problem) (k : ℕ) (faults : List TypingFault) 
   pub number : order_of phase ≡ k
   pub is : phase_faults d p phase ≡ faults
 
+-- each list is that of a phase
 phase_of : (d : Domain) (p : Problem) (k : ℕ) (faults : List TypingFault) → slice_get (phases d p) k ≡ Some faults → PhaseOf d p k faults
 phase_of d p zero faults at = record { phase = of_names; number = refl; is = cc }
 phase_of d p (suc zero) faults at = record { phase = of_cycles; number = refl; is = cc }
@@ -86,9 +92,11 @@ phase_of d p (suc (suc (suc (suc (suc zero))))) faults at = record { phase = of_
 phase_of d p (suc (suc (suc (suc (suc (suc zero)))))) faults at = record { phase = of_goal; number = refl; is = cc }
 phase_of d p (suc (suc (suc (suc (suc (suc (suc k))))))) faults at = absurd (cc)
 
+-- where the list of a phase is empty, the table has no fault of it
 no_fault : (d : Domain) (p : Problem) (phase : Phase) → phase_faults d p phase ≡ [] → (code : ℕ) (w : Placed) → IsFaultIn d p phase code w → ⊥
 no_fault d p phase empty code w fault = absurd (Contains-none (fault_at code w) (subst (λ l. Contains l (fault_at code w)) empty (phase_listed d p phase code w fault)))
 
+-- and the other way
 empty_phase : (d : Domain) (p : Problem) (phase : Phase) → ((code : ℕ) (w : Placed) → IsFaultIn d p phase code w → ⊥) → phase_faults d p phase ≡ []
 empty_phase d p phase none = by_list (phase_faults d p phase) refl
   where
@@ -104,6 +112,7 @@ empty_phase d p phase none = by_list (phase_faults d p phase) refl
 pub well_typed : (d : Domain) (p : Problem) → typing.IsWellTyped d p → IsWellTyped d p
 well_typed d p none phase = no_fault d p phase (each_empty (phases d p) none (order_of phase) (phase_faults d p phase) (phase_at d p phase))
 
+-- and where none is, no fault is listed
 pub well_typed_listed : (d : Domain) (p : Problem) → IsWellTyped d p → typing.IsWellTyped d p
 well_typed_listed d p none = none_filled (phases d p) (λ k faults at.
     let here = phase_of d p k faults at in
@@ -120,6 +129,7 @@ step_from x y rest not_less =
       | Greater ↦ λ is _. inl (ranked x y Greater is)
     ] refl not_less
 
+-- and the other way
 step_to : (x y : ℕ) (rest : Ordering) → (y < x) ⊎ ((y ≡ x) × (is_lt rest ≡ false)) → is_lt (ordering_then (nat_cmp x y) rest) ≡ false
 step_to x y rest (inl below) = subst (λ o. is_lt (ordering_then o rest) ≡ false) (nat_cmp_is x y Greater below) refl
 step_to x y rest (inr (same, later)) = subst (λ o. is_lt (ordering_then o rest) ≡ false) (nat_cmp_is x y Equal (sym same)) later
@@ -144,6 +154,7 @@ comes_no_later code w other v not_before =
       )
     ]
 
+-- and the other way
 not_before : (code : ℕ) (w : Placed) (other : ℕ) (v : Placed) → ComesNoLater code w other v → is_before (fault_at other v) (fault_at code w) ≡ false
 not_before code w other v (inl file) = step_to (rank_of v.file) (rank_of w.file) _ (inl file)
 not_before code w other v (inr (same, inl start)) =
@@ -157,6 +168,7 @@ not_before code w other v (inr (same, inr (alike, number))) =
       | inr apart ↦ inl (omega (arith, number, apart))
     ]
 
+-- what holds of all faults holds of one of them
 of_all : (P : TypingFault → Type 0) (faults : List TypingFault) (f : TypingFault) → All P faults → Contains faults f → P f
 of_all P faults f all at = subst P at.2 (all at.0 f at.1)
 

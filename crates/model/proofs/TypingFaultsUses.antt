@@ -27,6 +27,7 @@ none_found test (p ∷ rest) none =
           none_found test rest (subst (λ n. slice_get (p ∷ rest) n ≡ None) next none)
     ] none
 
+-- and the other way
 not_found : (test : task.Name → Bool) (declared : List task.Predicate) → list_any test (names_of_predicates declared) ≡ false
     → slice_get declared (position_or_len test (names_of_predicates declared)) ≡ None
 not_found test [] none = refl
@@ -38,6 +39,7 @@ not_found test (p ∷ rest) none =
           subst (λ n. slice_get (p ∷ rest) n ≡ None) next (not_found test rest none)
     ] none
 
+-- 17 and 18, of the predicate
 predicate_tells : {table : ℕ → Placed → Type 0} (file : File) (known : Known) (a : tree.Atom) → ((code : ℕ) (word : Name) → IsAtomFault known a code word → table code (word_in file word))
     → AllTell table (predicate_faults file known a.predicate (length a.terms))
 predicate_tells {table} file known a fault = by_found (predicate_in_known known a.predicate) refl
@@ -48,12 +50,14 @@ predicate_tells {table} file known a fault = by_found (predicate_in_known known 
     by_found (Some p) at = unless_tells (length a.terms == length p.arguments) 18 (word_in file a.predicate)
         (λ other. fault 18 a.predicate (wrong_count p at (eqb-false (length a.terms) (length p.arguments) other)))
 
+-- a predicate that is not declared
 unknown_listed : (file : File) (known : Known) (a : tree.Atom) → is_known (names_of_predicates known.predicates) a.predicate ≡ false
     → Contains (predicate_faults file known a.predicate (length a.terms)) (fault_at 17 (word_in file a.predicate))
 unknown_listed file known a unknown =
     subst (λ found. Contains (faults_against file found a.predicate (length a.terms)) (fault_at 17 (word_in file a.predicate)))
     (sym (not_found (is_same (folded a.predicate)) known.predicates unknown)) (Contains-here (fault_at 17 (word_in file a.predicate)) [])
 
+-- a predicate with another count of terms
 count_listed : (file : File) (known : Known) (a : tree.Atom) (p : task.Predicate) → predicate_in_known known a.predicate ≡ Some p → length a.terms ≢ length p.arguments
     → Contains (predicate_faults file known a.predicate (length a.terms)) (fault_at 18 (word_in file a.predicate))
 count_listed file known a p at other =
@@ -63,14 +67,17 @@ count_listed file known a p at other =
 
 -- ---- the terms
 
+-- 17, of a term
 term_tells : {table : ℕ → Placed → Type 0} (file : File) (known : Known) (t : tree.Term) → (IsUnknown known t → table 17 (word_in file (word_of t))) → AllTell table (term_faults file known t)
 term_tells file known (tree.variable name) fault = unless_tells (is_known (names_of_variables known.variables) name) 17 (word_in file name) fault
 term_tells file known (tree.object name) fault = unless_tells (is_known (names_of_objects known.objects) name) 17 (word_in file name) fault
 
+-- and the other way
 term_listed : (file : File) (known : Known) (t : tree.Term) → IsUnknown known t → Contains (term_faults file known t) (fault_at 17 (word_in file (word_of t)))
 term_listed file known (tree.variable name) unknown = unless_listed (is_known (names_of_variables known.variables) name) (fault_at 17 (word_in file name)) unknown
 term_listed file known (tree.object name) unknown = unless_listed (is_known (names_of_objects known.objects) name) (fault_at 17 (word_in file name)) unknown
 
+-- 17 and 19, of the terms
 terms_tell : {table : ℕ → Placed → Type 0} (file : File) (known : Known) (arguments : List task.Union) (terms : List tree.Term)
     → ((t : tree.Term) → Contains terms t → IsUnknown known t → table 17 (word_in file (word_of t)))
     → ((place : ℕ) (wanted : task.Union) (t : tree.Term) → slice_get arguments place ≡ Some wanted → slice_get terms place ≡ Some t → fits_in known wanted t ≡ false → table 19 (word_in file (word_of t)))
@@ -84,6 +91,7 @@ terms_tell file known (wanted ∷ arguments) (t ∷ terms) unknown misfit =
     (unless_tells (fits_in known wanted t) 19 (word_in file (word_of t)) (misfit 0 wanted t refl refl)))
     (terms_tell file known arguments terms (λ s at. unknown s (Contains-there t terms s at)) (λ place. misfit (suc place)))
 
+-- a term that is not known
 unknown_term_listed : (file : File) (known : Known) (arguments : List task.Union) (terms : List tree.Term) (t : tree.Term) → Contains terms t → IsUnknown known t
     → Contains (terms_faults file known arguments terms) (fault_at 17 (word_in file (word_of t)))
 unknown_term_listed file known arguments [] t at unknown = absurd (Contains-none t at)
@@ -98,6 +106,7 @@ unknown_term_listed file known (wanted ∷ arguments) (s ∷ terms) t at unknown
       | inr later ↦ on_right (term_faults file known s ++ misfit_faults file known (Some wanted) s) _ (unknown_term_listed file known arguments terms t later unknown)
     ]
 
+-- a term that does not fit its argument
 misfit_listed : (file : File) (known : Known) (arguments : List task.Union) (terms : List tree.Term) (place : ℕ) (wanted : task.Union) (t : tree.Term)
     → slice_get arguments place ≡ Some wanted → slice_get terms place ≡ Some t → fits_in known wanted t ≡ false
     → Contains (terms_faults file known arguments terms) (fault_at 19 (word_in file (word_of t)))
@@ -120,6 +129,7 @@ argument_declared : (found : Option task.Predicate) (place : ℕ) (wanted : task
 argument_declared None place wanted at = absurd (cc)
 argument_declared (Some p) place wanted at = (p, refl, at)
 
+-- each fault that is listed of an atom is one that the table has of it
 pub atom_tells : {table : ℕ → Placed → Type 0} (file : File) (known : Known) (a : tree.Atom) → ((code : ℕ) (word : Name) → IsAtomFault known a code word → table code (word_in file word))
     → AllTell table (atom_faults file known a)
 atom_tells file known a fault =
@@ -130,6 +140,7 @@ atom_tells file known a fault =
     let declared = argument_declared (predicate_in_known known a.predicate) place wanted of in
     fault 19 (word_of t) (wrong_type declared.0 place wanted t declared.1 declared.2 at misfit)))
 
+-- and the other way
 pub atom_listed : (file : File) (known : Known) (a : tree.Atom) (code : ℕ) (word : Name) → IsAtomFault known a code word → Contains (atom_faults file known a) (fault_at code (word_in file word))
 atom_listed file known a code word (unknown_predicate unknown) = on_left _ _ (unknown_listed file known a unknown)
 atom_listed file known a code word (unknown_term t at unknown) =
@@ -142,11 +153,13 @@ atom_listed file known a code word (wrong_type p place wanted t found of at misf
 -- ---- formulas and effects
 
 mutual
+  -- of a formula, by its atoms
   pub formula_tells : {table : ℕ → Placed → Type 0} (file : File) (known : Known) (formula : tree.Formula)
       → ((b : tree.Atom) (code : ℕ) (word : Name) → HasAtom formula b → IsAtomFault known b code word → table code (word_in file word)) → AllTell table (formula_faults file known formula)
   formula_tells file known (tree.atom a) fault = atom_tells file known a (λ code word. fault a code word refl)
   formula_tells file known (tree.and parts) fault = formulas_tell file known parts fault
 
+  -- of its parts
   formulas_tell : {table : ℕ → Placed → Type 0} (file : File) (known : Known) (parts : tree.Formulas)
       → ((b : tree.Atom) (code : ℕ) (word : Name) → SomeHasAtom parts b → IsAtomFault known b code word → table code (word_in file word)) → AllTell table (formulas_faults file known parts)
   formulas_tell file known tree.no_formula fault = none_tells
@@ -154,12 +167,14 @@ mutual
       both_tell (formula_tells file known first (λ b code word has. fault b code word (inl has))) (formulas_tell file known rest (λ b code word has. fault b code word (inr has)))
 
 mutual
+  -- and the other way
   pub formula_listed : (file : File) (known : Known) (formula : tree.Formula) (b : tree.Atom) (code : ℕ) (word : Name) → HasAtom formula b → IsAtomFault known b code word
       → Contains (formula_faults file known formula) (fault_at code (word_in file word))
   formula_listed file known (tree.atom a) b code word has fault =
       subst (λ c. Contains (atom_faults file known c) (fault_at code (word_in file word))) (sym has) (atom_listed file known b code word fault)
   formula_listed file known (tree.and parts) b code word has fault = formulas_listed file known parts b code word has fault
 
+  -- of its parts
   formulas_listed : (file : File) (known : Known) (parts : tree.Formulas) (b : tree.Atom) (code : ℕ) (word : Name) → SomeHasAtom parts b → IsAtomFault known b code word
       → Contains (formulas_faults file known parts) (fault_at code (word_in file word))
   formulas_listed file known tree.no_formula b code word has fault = absurd has
@@ -168,12 +183,14 @@ mutual
       on_right (formula_faults file known first) _ (formulas_listed file known rest b code word has fault)
 
 mutual
+  -- of an effect, by its atoms
   pub effect_tells : {table : ℕ → Placed → Type 0} (file : File) (known : Known) (effect : tree.Effect)
       → ((b : tree.Atom) (code : ℕ) (word : Name) → ChangesAtom effect b → IsAtomFault known b code word → table code (word_in file word)) → AllTell table (effect_faults file known effect)
   effect_tells file known (tree.add a) fault = atom_tells file known a (λ code word. fault a code word refl)
   effect_tells file known (tree.delete a) fault = atom_tells file known a (λ code word. fault a code word refl)
   effect_tells file known (tree.both parts) fault = effects_tell file known parts fault
 
+  -- of its parts
   effects_tell : {table : ℕ → Placed → Type 0} (file : File) (known : Known) (parts : tree.Effects)
       → ((b : tree.Atom) (code : ℕ) (word : Name) → SomeChangesAtom parts b → IsAtomFault known b code word → table code (word_in file word)) → AllTell table (effects_faults file known parts)
   effects_tell file known tree.no_effect fault = none_tells
@@ -181,6 +198,7 @@ mutual
       both_tell (effect_tells file known first (λ b code word has. fault b code word (inl has))) (effects_tell file known rest (λ b code word has. fault b code word (inr has)))
 
 mutual
+  -- and the other way
   pub effect_listed : (file : File) (known : Known) (effect : tree.Effect) (b : tree.Atom) (code : ℕ) (word : Name) → ChangesAtom effect b → IsAtomFault known b code word
       → Contains (effect_faults file known effect) (fault_at code (word_in file word))
   effect_listed file known (tree.add a) b code word has fault =
@@ -189,6 +207,7 @@ mutual
       subst (λ c. Contains (atom_faults file known c) (fault_at code (word_in file word))) (sym has) (atom_listed file known b code word fault)
   effect_listed file known (tree.both parts) b code word has fault = effects_listed file known parts b code word has fault
 
+  -- of its parts
   effects_listed : (file : File) (known : Known) (parts : tree.Effects) (b : tree.Atom) (code : ℕ) (word : Name) → SomeChangesAtom parts b → IsAtomFault known b code word
       → Contains (effects_faults file known parts) (fault_at code (word_in file word))
   effects_listed file known tree.no_effect b code word has fault = absurd has
