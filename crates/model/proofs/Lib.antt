@@ -16,3 +16,9 @@ pub mod GrammarBegins
 pub mod GrammarRefusals
 pub mod GrammarOneRefusal
 pub mod GrammarExampleProofs
+pub mod TypingExampleProofs
+pub mod TypingFaultsLemmas
+pub mod TypingFaultsRepeats
+pub mod TypingFaultsUses
+pub mod TypingFaultsPhases
+pub mod TypingFaultsTold

@@ -9,6 +9,8 @@ pub mod GrammarMachine
 pub mod Task
 pub mod WellTyped
 pub mod Typing
+pub mod TypingFaults
+pub mod TypingExamples
 pub mod Runs
 pub mod Meaning
 pub mod Instances

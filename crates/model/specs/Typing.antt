@@ -1,14 +1,15 @@
 -- Which faults a domain and a problem have, when they are well-typed, and which task they are then.
--- The rules are those of the PDDL 1.2 manual for declarations and uses ("Predicates", "Actions", "Problems"), with
--- the limits of the language profile.
-use Rattle.std.specs.Prelude.{◌≡◌, ℕ, Bool, false, ◌==◌, List, [], ◌∷◌, ◌++◌, codes, length, map, fold, take, drop, slice_get, if◌then◌else◌, Option, None, Some, All, Contains}
+-- The rules are those of the PDDL 1.2 manual for types, declarations and uses ("Types", "Predicates", "Actions",
+-- "Problems"), with the limits of the language profile.
+use Rattle.std.specs.Prelude.{◌≡◌, ℕ, zero, suc, ◌+◌, Bool, true, false, ◌==◌, nat_eq, List, [], ◌∷◌, ◌++◌, codes, length, map, fold, take, drop, slice_get, slice_index, if◌then◌else◌, Option, None, Some, All, Contains}
 use Rattle.std.specs.Char.{to_ascii_lowercase}
 use Rattle.std.specs.Cmp.Lexicographic.{slice_cmp, pointwise}
-use Rattle.std.specs.List.{flat_map, list_any, position_or_len}
+use Rattle.std.specs.List.{flat_map, list_all, list_any, position_or_len}
+use Rattle.std.specs.Option.{option_map_or}
 use Rattle.std.specs.Ordering.{nat_cmp, is_lt}
 use Rattle.model.specs.Fault.{Fault}
 use Rattle.model.specs.Task as task
-use Rattle.model.specs.Trees.{Name, Domain, Problem}
+use Rattle.model.specs.Trees.{Name, Group, names_of, Domain, Problem}
 use Rattle.model.specs.Trees as tree
 
 -- ---- names
@@ -28,46 +29,85 @@ is_known names name = list_any (is_same (folded name)) names
 abbrev pub number_in : List task.Name → Name → ℕ
 number_in names name = position_or_len (is_same (folded name)) names
 
--- these names and one more, unless it is among them
-abbrev pub with_name : List task.Name → Name → List task.Name
-with_name names name = if is_known names name then names else names ++ folded name ∷ []
+-- ---- types
 
--- the names that are declared, each once: its first declaration counts
-abbrev pub declared : List Name → List task.Name
-declared names = fold with_name [] names
+-- The names of all types: `object`, and then those that the domain declares.
+abbrev pub type_names : Domain → List task.Name
+type_names d = codes "object" ∷ map folded (names_of d.types)
 
--- the names that are declared before, by one of the first list or by one that stands before them in the second
-abbrev pub repeated_after : List task.Name → List Name → List Name
-repeated_after before [] = []
-repeated_after before (name ∷ rest) =
-    (if is_known before name then name ∷ [] else []) ++ repeated_after (with_name before name) rest
+-- the types that are written after a `-`, by their numbers; where none is written, `object`
+abbrev pub union_in : List task.Name → List Name → task.Union
+union_in types [] = 0 ∷ []
+union_in types (first ∷ others) = map (number_in types) (first ∷ others)
 
--- the names of the list that are declared before in it
-abbrev pub repeated : List Name → List Name
-repeated names = repeated_after [] names
+-- the number of the type that is written after a `-`, or that of `object`
+abbrev pub type_in : List task.Name → List Name → ℕ
+type_in types [] = 0
+type_in types (first ∷ others) = number_in types first
 
--- the one that stands after this many, if there are so many
-abbrev pub one_after : ℕ → List Name → List Name
-one_after count names = take 1 (drop count names)
+-- for each name of a typed list, in order, what its group's types say
+abbrev pub by_group : {T : Type 0} → (List Name → T) → List Group → List T
+by_group of groups = flat_map (λ (g : Group). map (λ _. of g.types) g.names) groups
+
+-- the parent of each type, in the order of their numbers; `object` is its own
+abbrev pub parents_of : Domain → List ℕ
+parents_of d = 0 ∷ by_group (type_in (type_names d)) d.types
+
+-- a type and those above it on its chain of parents, up to `object`; of a chain that comes back, so many
+abbrev pub chain : List ℕ → ℕ → ℕ → List ℕ
+chain parents zero number = []
+chain parents (suc most) zero = zero ∷ []
+chain parents (suc most) (suc number) = suc number ∷ chain parents most (slice_index parents (suc number))
+
+-- a chain that does not come back has no more types than there are
+abbrev pub supertypes_in : Domain → ℕ → List ℕ
+supertypes_in d number = chain (parents_of d) (length (parents_of d)) number
+
+abbrev pub types_from : Domain → ℕ → List task.Name → List task.ObjectType
+types_from d number [] = []
+types_from d number (name ∷ names) = record { name = name; supertypes = supertypes_in d number } ∷ types_from d (number + 1) names
+
+abbrev pub types_of : Domain → List task.ObjectType
+types_of d = types_from d 0 (type_names d)
+
+-- the type of this number is one of these or stands below one of them
+abbrev pub is_below : List task.ObjectType → task.Union → ℕ → Bool
+is_below types wanted number =
+    list_any (λ above. list_any (nat_eq above) wanted) (option_map_or (λ (t : task.ObjectType). t.supertypes) (slice_get types number) [])
 
 -- ---- the task of a domain and a problem
 
+-- a variable and its types
+pub record Variable : Type 0 where
+  pub name : task.Name
+  pub types : task.Union
+
 -- what may be named where a formula, an effect or an atom stands
 pub record Known : Type 0 where
+  pub types : List task.ObjectType
   pub predicates : List task.Predicate
-  pub variables : List task.Name
-  pub objects : List task.Name
+  pub variables : List Variable
+  pub objects : List task.Object
 
-abbrev pub names_of : List task.Predicate → List task.Name
-names_of predicates = map (λ (p : task.Predicate). p.name) predicates
+abbrev pub names_of_types : List task.ObjectType → List task.Name
+names_of_types types = map (λ (t : task.ObjectType). t.name) types
+
+abbrev pub names_of_predicates : List task.Predicate → List task.Name
+names_of_predicates predicates = map (λ (p : task.Predicate). p.name) predicates
+
+abbrev pub names_of_variables : List Variable → List task.Name
+names_of_variables variables = map (λ (v : Variable). v.name) variables
+
+abbrev pub names_of_objects : List task.Object → List task.Name
+names_of_objects objects = map (λ (o : task.Object). o.name) objects
 
 abbrev pub term_in : Known → tree.Term → task.Term
-term_in known (tree.variable name) = task.variable (number_in known.variables name)
-term_in known (tree.object name) = task.object (number_in known.objects name)
+term_in known (tree.variable name) = task.variable (number_in (names_of_variables known.variables) name)
+term_in known (tree.object name) = task.object (number_in (names_of_objects known.objects) name)
 
 abbrev pub lifted_atom_in : Known → tree.Atom → task.LiftedAtom
 lifted_atom_in known a = record {
-  predicate = number_in (names_of known.predicates) a.predicate;
+  predicate = number_in (names_of_predicates known.predicates) a.predicate;
   terms = map (term_in known) a.terms;
 }
 
@@ -90,56 +130,78 @@ abbrev mutual
   effects_in known tree.no_effect = task.no_effect
   effects_in known (tree.more_effects first rest) = task.more_effects (effect_in known first) (effects_in known rest)
 
-abbrev pub atom_in : Known → tree.Fact → task.Atom
-atom_in known f = record {
-  predicate = number_in (names_of known.predicates) f.predicate;
-  objects = map (number_in known.objects) f.objects;
+abbrev pub atom_in : Known → tree.GroundAtom → task.Atom
+atom_in known a = record {
+  predicate = number_in (names_of_predicates known.predicates) a.predicate;
+  objects = map (number_in (names_of_objects known.objects)) a.objects;
 }
 
--- the root of all types, which is the only one here, and a place where any object may stand
-abbrev pub root_type : task.ObjectType
-root_type = record { name = codes "object"; supertypes = 0 ∷ [] }
+-- the atoms of the initial state; a negated one is a fault
+abbrev pub atoms_in : Known → tree.Fact → List task.Atom
+atoms_in known (tree.fact a) = atom_in known a ∷ []
+atoms_in known (tree.negated word a) = []
 
-abbrev pub any_object : task.Union
-any_object = 0 ∷ []
+-- the objects of a typed list, each with its type
+abbrev pub objects_of_group : List task.Name → Group → List task.Object
+objects_of_group types g = map (λ (name : Name). record { name = folded name; type = type_in types g.types }) g.names
 
-abbrev pub object_of : Name → task.Object
-object_of name = record { name = folded name; type = 0 }
+abbrev pub objects_in : List task.Name → List Group → List task.Object
+objects_in types groups = flat_map (objects_of_group types) groups
 
-abbrev pub any_objects : List Name → List task.Union
-any_objects names = map (λ _. any_object) names
+abbrev pub constants_of : Domain → List task.Object
+constants_of d = objects_in (type_names d) d.constants
 
-abbrev pub predicate_of : tree.Predicate → task.Predicate
-predicate_of p = record { name = folded p.name; arguments = any_objects p.parameters }
+-- the domain's constants, and then the problem's objects
+abbrev pub objects_of : Domain → Problem → List task.Object
+objects_of d p = constants_of d ++ objects_in (type_names d) p.objects
+
+-- these variables and one more, unless one of its name is among them: the first declaration counts
+abbrev pub with_variable : List Variable → Variable → List Variable
+with_variable variables v = if list_any (is_same v.name) (names_of_variables variables) then variables else variables ++ v ∷ []
+
+abbrev pub variables_of_group : List task.Name → Group → List Variable
+variables_of_group types g = map (λ (name : Name). record { name = folded name; types = union_in types g.types }) g.names
+
+-- the variables of a typed list, each once
+abbrev pub variables_in : List task.Name → List Group → List Variable
+variables_in types groups = fold with_variable [] (flat_map (variables_of_group types) groups)
+
+abbrev pub predicate_in : List task.Name → tree.Predicate → task.Predicate
+predicate_in types p = record { name = folded p.name; arguments = by_group (union_in types) p.parameters }
 
 abbrev pub predicates_of : Domain → List task.Predicate
-predicates_of d = map predicate_of d.predicates
+predicates_of d = map (predicate_in (type_names d)) d.predicates
 
--- in an action: the domain's predicates and the action's parameters; no object, as a domain declares none
-abbrev pub known_in_action : List task.Predicate → tree.Action → Known
-known_in_action predicates a = record { predicates = predicates; variables = declared a.parameters; objects = [] }
+-- in an action: what the domain declares, and the action's parameters
+abbrev pub known_in_action : List task.ObjectType → List task.Predicate → List task.Object → tree.Action → Known
+known_in_action types predicates constants a = record {
+  types = types;
+  predicates = predicates;
+  variables = variables_in (names_of_types types) a.parameters;
+  objects = constants;
+}
 
--- in the initial state and the goal: the domain's predicates and the problem's objects
-abbrev pub known_in_problem : List task.Predicate → Problem → Known
-known_in_problem predicates p = record { predicates = predicates; variables = []; objects = map folded p.objects }
+-- in the initial state and the goal: what the domain declares, and the problem's objects
+abbrev pub known_in_problem : Domain → Problem → Known
+known_in_problem d p = record { types = types_of d; predicates = predicates_of d; variables = []; objects = objects_of d p }
 
-abbrev pub schema_in : List task.Predicate → tree.Action → task.Schema
-schema_in predicates a = record {
+abbrev pub schema_in : List task.ObjectType → List task.Predicate → List task.Object → tree.Action → task.Schema
+schema_in types predicates constants a = record {
   name = folded a.name;
-  parameters = any_objects a.parameters;
-  precondition = formula_in (known_in_action predicates a) a.precondition;
-  effect = effect_in (known_in_action predicates a) a.effect;
+  parameters = by_group (union_in (names_of_types types)) a.parameters;
+  precondition = formula_in (known_in_action types predicates constants a) a.precondition;
+  effect = effect_in (known_in_action types predicates constants a) a.effect;
 }
 
 -- the task, where the pair is well-typed: each name is its number
 abbrev pub task_of_trees : Domain → Problem → task.Task
 task_of_trees d p = record {
-  types = root_type ∷ [];
-  objects = map object_of p.objects;
+  types = types_of d;
+  objects = objects_of d p;
   predicates = predicates_of d;
-  schemas = map (schema_in (predicates_of d)) d.actions;
-  init = map (atom_in (known_in_problem (predicates_of d) p)) p.init;
-  goal = formula_in (known_in_problem (predicates_of d) p) p.goal;
+  schemas = map (schema_in (types_of d) (predicates_of d) (constants_of d)) d.actions;
+  init = flat_map (atoms_in (known_in_problem d p)) p.init;
+  goal = formula_in (known_in_problem d p) p.goal;
 }
 
 -- ---- faults
@@ -153,31 +215,90 @@ pub record TypingFault : Type 0 where
   pub file : File
   pub fault : Fault
 
--- each of these words of the file is refused by this number
-abbrev pub refused : File → ℕ → List Name → List TypingFault
-refused file code words = map (λ (word : Name). record { file = file; fault = record { code = code; span = word.span } }) words
+-- a word of one of the files
+pub record Placed : Type 0 where
+  pub file : File
+  pub word : Name
 
--- 17: a name that is not known
-abbrev pub unknown_faults : File → List task.Name → Name → List TypingFault
-unknown_faults file names name = if is_known names name then [] else refused file 17 (name ∷ [])
+abbrev pub placed : File → List Name → List Placed
+placed file words = map (λ (word : Name). record { file = file; word = word }) words
+
+-- each of these words is refused by this number
+abbrev pub refused : ℕ → List Placed → List TypingFault
+refused code words = map (λ (w : Placed). record { file = w.file; fault = record { code = code; span = w.word.span } }) words
+
+-- this word of the file is
+abbrev pub refused_word : File → ℕ → Name → List TypingFault
+refused_word file code word = record { file = file; fault = record { code = code; span = word.span } } ∷ []
+
+-- the words that are the same as one that stands before them, in the list or among these
+abbrev pub repeated_after : List task.Name → List Placed → List Placed
+repeated_after before [] = []
+repeated_after before (w ∷ rest) = (if is_known before w.word then w ∷ [] else []) ++ repeated_after (before ++ folded w.word ∷ []) rest
+
+abbrev pub repeated : List Placed → List Placed
+repeated words = repeated_after [] words
+
+-- the one that stands after this many, if there are so many
+abbrev pub one_after : ℕ → List Placed → List Placed
+one_after count words = take 1 (drop count words)
+
+-- by this number, a name that is none of these
+abbrev pub unknown_faults : File → ℕ → List task.Name → Name → List TypingFault
+unknown_faults file code names name = if is_known names name then [] else refused_word file code name
+
+-- 14: a type that is neither `object` nor declared
+abbrev pub type_faults : File → List task.Name → List Group → List TypingFault
+type_faults file types groups = flat_map (λ (g : Group). flat_map (unknown_faults file 14 types) g.types) groups
 
 -- 17: there is no declaration. 18: it has another count of arguments
 abbrev pub faults_against : File → Option task.Predicate → Name → ℕ → List TypingFault
-faults_against file None name count = refused file 17 (name ∷ [])
-faults_against file (Some p) name count = if count == length p.arguments then [] else refused file 18 (name ∷ [])
+faults_against file None name count = refused_word file 17 name
+faults_against file (Some p) name count = if count == length p.arguments then [] else refused_word file 18 name
+
+abbrev pub predicate_in_known : Known → Name → Option task.Predicate
+predicate_in_known known name = slice_get known.predicates (number_in (names_of_predicates known.predicates) name)
 
 -- of a predicate with this count of terms
-abbrev pub predicate_faults : File → List task.Predicate → Name → ℕ → List TypingFault
-predicate_faults file predicates name count =
-    faults_against file (slice_get predicates (number_in (names_of predicates) name)) name count
+abbrev pub predicate_faults : File → Known → Name → ℕ → List TypingFault
+predicate_faults file known name count = faults_against file (predicate_in_known known name) name count
 
+-- what each argument of a predicate has to be, if it is known
+abbrev pub arguments_in : Known → Name → List task.Union
+arguments_in known name = option_map_or (λ (p : task.Predicate). p.arguments) (predicate_in_known known name) []
+
+-- A term fits an argument of these types: a variable each of whose types is one of them or stands below one, an object
+-- whose type does. What is not known is no misfit.
+abbrev pub fits_in : Known → task.Union → tree.Term → Bool
+fits_in known wanted (tree.variable name) =
+    option_map_or (λ (v : Variable). list_all (is_below known.types wanted) v.types) (slice_get known.variables (number_in (names_of_variables known.variables) name)) true
+fits_in known wanted (tree.object name) =
+    option_map_or (λ (o : task.Object). is_below known.types wanted o.type) (slice_get known.objects (number_in (names_of_objects known.objects) name)) true
+
+-- 17: a variable or an object that is not known
 abbrev pub term_faults : File → Known → tree.Term → List TypingFault
-term_faults file known (tree.variable name) = unknown_faults file known.variables name
-term_faults file known (tree.object name) = unknown_faults file known.objects name
+term_faults file known (tree.variable name) = unknown_faults file 17 (names_of_variables known.variables) name
+term_faults file known (tree.object name) = unknown_faults file 17 (names_of_objects known.objects) name
+
+abbrev pub word_of : tree.Term → Name
+word_of (tree.variable name) = name
+word_of (tree.object name) = name
+
+-- 19: a term that does not fit its argument
+abbrev pub misfit_faults : File → Known → Option task.Union → tree.Term → List TypingFault
+misfit_faults file known None term = []
+misfit_faults file known (Some wanted) term = if fits_in known wanted term then [] else refused_word file 19 (word_of term)
+
+-- of terms that stand at the places of these arguments, as far as there are so many
+abbrev pub terms_faults : File → Known → List task.Union → List tree.Term → List TypingFault
+terms_faults file known arguments [] = []
+terms_faults file known [] (term ∷ terms) = term_faults file known term ++ terms_faults file known [] terms
+terms_faults file known (wanted ∷ arguments) (term ∷ terms) =
+    term_faults file known term ++ misfit_faults file known (Some wanted) term ++ terms_faults file known arguments terms
 
 abbrev pub atom_faults : File → Known → tree.Atom → List TypingFault
 atom_faults file known a =
-    predicate_faults file known.predicates a.predicate (length a.terms) ++ flat_map (term_faults file known) a.terms
+    predicate_faults file known a.predicate (length a.terms) ++ terms_faults file known (arguments_in known a.predicate) a.terms
 
 abbrev mutual
   pub formula_faults : File → Known → tree.Formula → List TypingFault
@@ -200,54 +321,90 @@ abbrev mutual
   effects_faults file known (tree.more_effects first rest) =
       effect_faults file known first ++ effects_faults file known rest
 
+abbrev pub ground_atom_faults : File → Known → tree.GroundAtom → List TypingFault
+ground_atom_faults file known a =
+    predicate_faults file known a.predicate (length a.objects)
+    ++ terms_faults file known (arguments_in known a.predicate) (map (λ (name : Name). tree.object name) a.objects)
+
+-- 24: the word `not`
 abbrev pub fact_faults : File → Known → tree.Fact → List TypingFault
-fact_faults file known f =
-    predicate_faults file known.predicates f.predicate (length f.objects) ++ flat_map (unknown_faults file known.objects) f.objects
+fact_faults file known (tree.fact a) = ground_atom_faults file known a
+fact_faults file known (tree.negated word a) = refused_word file 24 word
 
 -- 21: the problem is for a domain of another name
 abbrev pub domain_name_faults : Domain → Problem → List TypingFault
-domain_name_faults d p = if is_same (folded p.domain) (folded d.name) then [] else refused in_problem 21 (p.domain ∷ [])
+domain_name_faults d p = if is_same (folded p.domain) (folded d.name) then [] else refused_word in_problem 21 p.domain
 
--- 16: an object declared before. 25: the 65,536th object
-abbrev pub object_faults : Problem → List TypingFault
-object_faults p = refused in_problem 16 (repeated p.objects) ++ refused in_problem 25 (one_after 65535 p.objects)
+-- 16: a type declared before, or `object`. 14: a parent that is neither `object` nor declared. 25: the 4,096th type
+abbrev pub type_declaration_faults : Domain → List TypingFault
+type_declaration_faults d =
+    refused 16 (repeated_after (codes "object" ∷ []) (placed in_domain (names_of d.types)))
+    ++ type_faults in_domain (type_names d) d.types
+    ++ refused 25 (one_after 4095 (placed in_domain (names_of d.types)))
 
--- 16: a predicate declared before. 25: the ninth argument
+-- the type of this number stands on the chain of its own parent
+abbrev pub comes_back : Domain → ℕ → Bool
+comes_back d number = list_any (nat_eq number) (supertypes_in d (slice_index (parents_of d) number))
+
+-- 15: a type whose chain of parents comes back to it, where the first of these types has this number
+abbrev pub cycle_faults_from : Domain → ℕ → List Name → List TypingFault
+cycle_faults_from d number [] = []
+cycle_faults_from d number (name ∷ names) =
+    (if comes_back d number then refused_word in_domain 15 name else []) ++ cycle_faults_from d (number + 1) names
+
+abbrev pub cycle_faults : Domain → List TypingFault
+cycle_faults d = cycle_faults_from d 1 (names_of d.types)
+
+-- the names of the constants and of the objects, which are declared in one space of names
+abbrev pub object_words : Domain → Problem → List Placed
+object_words d p = placed in_domain (names_of d.constants) ++ placed in_problem (names_of p.objects)
+
+-- 14: an unknown type. 16: a constant or object declared before, in either file. 25: the 65,536th
+abbrev pub object_faults : Domain → Problem → List TypingFault
+object_faults d p =
+    type_faults in_domain (type_names d) d.constants
+    ++ type_faults in_problem (type_names d) p.objects
+    ++ refused 16 (repeated (object_words d p))
+    ++ refused 25 (one_after 65535 (object_words d p))
+
+-- 14: an unknown type. 25: the ninth argument
+abbrev pub argument_faults : List task.Name → tree.Predicate → List TypingFault
+argument_faults types q =
+    type_faults in_domain types q.parameters ++ refused 25 (one_after 8 (placed in_domain (names_of q.parameters)))
+
+-- 16: a predicate declared before. And the faults of its arguments
 abbrev pub declaration_faults : Domain → List TypingFault
 declaration_faults d =
-    refused in_domain 16 (repeated (map (λ (q : tree.Predicate). q.name) d.predicates))
-    ++ flat_map (λ (q : tree.Predicate). refused in_domain 25 (one_after 8 q.parameters)) d.predicates
+    refused 16 (repeated (placed in_domain (map (λ (q : tree.Predicate). q.name) d.predicates)))
+    ++ flat_map (argument_faults (type_names d)) d.predicates
 
--- 16: a parameter declared before. 25: the 17th parameter. And the faults of the precondition and of the effect
-abbrev pub schema_faults : List task.Predicate → tree.Action → List TypingFault
-schema_faults predicates a =
-    refused in_domain 16 (repeated a.parameters)
-    ++ refused in_domain 25 (one_after 16 a.parameters)
-    ++ formula_faults in_domain (known_in_action predicates a) a.precondition
-    ++ effect_faults in_domain (known_in_action predicates a) a.effect
+-- 14: an unknown type. 16: a parameter declared before. 25: the 17th parameter. And the faults of the precondition and
+-- of the effect
+abbrev pub schema_faults : List task.ObjectType → List task.Predicate → List task.Object → tree.Action → List TypingFault
+schema_faults types predicates constants a =
+    type_faults in_domain (names_of_types types) a.parameters
+    ++ refused 16 (repeated (placed in_domain (names_of a.parameters)))
+    ++ refused 25 (one_after 16 (placed in_domain (names_of a.parameters)))
+    ++ formula_faults in_domain (known_in_action types predicates constants a) a.precondition
+    ++ effect_faults in_domain (known_in_action types predicates constants a) a.effect
 
 -- 16: an action declared before. And the faults of each action
-abbrev pub action_faults : List task.Predicate → Domain → List TypingFault
-action_faults predicates d =
-    refused in_domain 16 (repeated (map (λ (a : tree.Action). a.name) d.actions))
-    ++ flat_map (schema_faults predicates) d.actions
+abbrev pub action_faults : List task.ObjectType → List task.Predicate → List task.Object → Domain → List TypingFault
+action_faults types predicates constants d =
+    refused 16 (repeated (placed in_domain (map (λ (a : tree.Action). a.name) d.actions)))
+    ++ flat_map (schema_faults types predicates constants) d.actions
 
-abbrev pub init_faults : List task.Predicate → Problem → List TypingFault
-init_faults predicates p = flat_map (fact_faults in_problem (known_in_problem predicates p)) p.init
-
-abbrev pub goal_faults : List task.Predicate → Problem → List TypingFault
-goal_faults predicates p = formula_faults in_problem (known_in_problem predicates p) p.goal
-
--- The faults of each phase, phase by phase: the names of the domain, the objects, the predicates, the actions, the
--- initial state and the goal.
+-- The faults of each phase, phase by phase: the names of the domain and of the types, the cycles of types, the objects,
+-- the predicates, the actions, the initial state and the goal.
 abbrev pub phases : Domain → Problem → List (List TypingFault)
 phases d p =
-    domain_name_faults d p
-    ∷ object_faults p
+    (domain_name_faults d p ++ type_declaration_faults d)
+    ∷ cycle_faults d
+    ∷ object_faults d p
     ∷ declaration_faults d
-    ∷ action_faults (predicates_of d) d
-    ∷ init_faults (predicates_of d) p
-    ∷ goal_faults (predicates_of d) p
+    ∷ action_faults (types_of d) (predicates_of d) (constants_of d) d
+    ∷ flat_map (fact_faults in_problem (known_in_problem d p)) p.init
+    ∷ formula_faults in_problem (known_in_problem d p) p.goal
     ∷ []
 
 -- the first of the lists that is not empty

@@ -1,0 +1,115 @@
+-- Worked examples of typing: which faults small trees have, and what task a well-typed pair is. Each is chosen so that a
+-- wrong reading says otherwise.
+use Rattle.std.specs.Prelude.{◌≡◌, ℕ, ◌+◌, List, [], ◌∷◌, codes}
+use Rattle.model.specs.Fault.{Fault}
+use Rattle.model.specs.Task as task
+use Rattle.model.specs.Task.{Task}
+use Rattle.model.specs.Trees as tree
+use Rattle.model.specs.Trees.{Name, Group, GroundAtom, Fact, Predicate, Action, Domain, Problem, Term, Atom, Formula, Effect, formulas, effects}
+use Rattle.model.specs.Typing.{File, in_domain, in_problem, TypingFault, faults_of, task_of_trees}
+
+-- a name that stands at this offset
+abbrev pub at : ℕ → List ℕ → Name
+at start text = record { text = text; span = record { start = start; end = start + 1 } }
+
+-- names with their types, and names without
+abbrev pub group : List Name → List Name → Group
+group names types = record { names = names; types = types }
+
+abbrev pub untyped : List Name → List Group
+untyped names = group names [] ∷ []
+
+-- the word at this offset is refused by this number
+abbrev pub fault : File → ℕ → ℕ → TypingFault
+fault file code start = record { file = file; fault = record { code = code; span = record { start = start; end = start + 1 } } }
+
+abbrev pub atom : Name → List Term → Atom
+atom predicate terms = record { predicate = predicate; terms = terms }
+
+abbrev pub nothing : Formula
+nothing = tree.and (formulas [])
+
+-- (define (domain d) (:types t - v  v) (:constants k - v) (:predicates (p ?x - v)) (:action a :parameters (?y - t) :effect (p ?y)))
+abbrev pub park : Action
+park = record {
+  name = at 40 (codes "a");
+  parameters = group (at 41 (codes "?y") ∷ []) (at 42 (codes "t") ∷ []) ∷ [];
+  precondition = nothing;
+  effect = tree.add (atom (at 43 (codes "p")) (tree.variable (at 44 (codes "?y")) ∷ []));
+}
+
+abbrev pub fleet : Domain
+fleet = record {
+  name = at 1 (codes "d");
+  types = group (at 10 (codes "t") ∷ []) (at 11 (codes "v") ∷ []) ∷ group (at 12 (codes "v") ∷ []) [] ∷ [];
+  constants = group (at 20 (codes "k") ∷ []) (at 21 (codes "v") ∷ []) ∷ [];
+  predicates = record { name = at 30 (codes "p"); parameters = group (at 31 (codes "?x") ∷ []) (at 32 (codes "v") ∷ []) ∷ [] } ∷ [];
+  actions = park ∷ [];
+}
+
+-- (define (problem q) (:domain D) (:objects o - T) (:init (p k)) (:goal (p o)))
+abbrev pub parked : Problem
+parked = record {
+  name = at 1 (codes "q");
+  domain = at 2 (codes "D");
+  objects = group (at 10 (codes "o") ∷ []) (at 11 (codes "T") ∷ []) ∷ [];
+  init = tree.fact (record { predicate = at 20 (codes "p"); objects = at 21 (codes "k") ∷ [] }) ∷ [];
+  goal = tree.atom (atom (at 30 (codes "p")) (tree.object (at 31 (codes "o")) ∷ []));
+}
+
+-- its task: `object`, t and v are the types 0, 1 and 2; the constant is object 0
+abbrev pub fleet_task : Task
+fleet_task = record {
+  types = record { name = codes "object"; supertypes = 0 ∷ [] }
+      ∷ record { name = codes "t"; supertypes = 1 ∷ 2 ∷ 0 ∷ [] }
+      ∷ record { name = codes "v"; supertypes = 2 ∷ 0 ∷ [] } ∷ [];
+  objects = record { name = codes "k"; type = 2 } ∷ record { name = codes "o"; type = 1 } ∷ [];
+  predicates = record { name = codes "p"; arguments = (2 ∷ []) ∷ [] } ∷ [];
+  schemas = record {
+    name = codes "a";
+    parameters = (1 ∷ []) ∷ [];
+    precondition = task.and task.no_formula;
+    effect = task.add (record { predicate = 0; terms = task.variable 0 ∷ [] });
+  } ∷ [];
+  init = record { predicate = 0; objects = 0 ∷ [] } ∷ [];
+  goal = task.atom (record { predicate = 0; terms = task.object 1 ∷ [] });
+}
+
+-- the same domain with other types
+abbrev pub with_types : List Group → Domain
+with_types groups = record fleet { types = groups }
+
+-- an action of the parameter ?y of these types, with the effect (p ?y)
+abbrev pub with_parameter : List Name → Domain
+with_parameter types = record fleet { actions = record park { parameters = group (at 41 (codes "?y") ∷ []) types ∷ [] } ∷ [] }
+
+pub record AreTyped : Type 0 where
+  -- Each name is its number, in letters of either case.
+  pub no_fault : faults_of fleet parked ≡ []
+  pub its_task : task_of_trees fleet parked ≡ fleet_task
+  -- A type is declared once, and `object` is declared already.
+  pub type_again : faults_of (with_types (untyped (at 10 (codes "t") ∷ at 11 (codes "v") ∷ at 12 (codes "T") ∷ at 13 (codes "object") ∷ []))) parked
+      ≡ fault in_domain 16 12 ∷ fault in_domain 16 13 ∷ []
+  -- A parent is `object` or declared, wherever in the list.
+  pub unknown_parent : faults_of (with_types (group (at 10 (codes "t") ∷ []) (at 11 (codes "u") ∷ []) ∷ group (at 12 (codes "v") ∷ []) (at 13 (codes "object") ∷ []) ∷ [])) parked
+      ≡ fault in_domain 14 11 ∷ []
+  -- On a cycle stand v and w, and t below them does not; what comes in a later phase is not told.
+  pub cycle : faults_of (with_types (group (at 10 (codes "t") ∷ []) (at 11 (codes "v") ∷ []) ∷ group (at 12 (codes "v") ∷ []) (at 13 (codes "w") ∷ []) ∷ group (at 14 (codes "w") ∷ []) (at 15 (codes "v") ∷ []) ∷ []))
+      (record parked { objects = untyped (at 10 (codes "o") ∷ at 11 (codes "o") ∷ []) }) ≡ fault in_domain 15 12 ∷ fault in_domain 15 14 ∷ []
+  pub own_parent : faults_of (with_types (group (at 10 (codes "t") ∷ at 11 (codes "v") ∷ []) (at 12 (codes "v") ∷ []) ∷ [])) parked ≡ fault in_domain 15 11 ∷ []
+  -- Constants and objects share their names.
+  pub object_again : faults_of fleet (record parked { objects = untyped (at 10 (codes "K") ∷ []) }) ≡ fault in_problem 16 10 ∷ []
+  -- A variable of a supertype does not fit, nor does one of which one type does not.
+  pub supertype : faults_of (with_parameter (at 42 (codes "object") ∷ [])) parked ≡ fault in_domain 19 44 ∷ []
+  pub one_of_two : faults_of (with_parameter (at 42 (codes "t") ∷ at 45 (codes "object") ∷ [])) parked ≡ fault in_domain 19 44 ∷ []
+  pub both_fit : faults_of (with_parameter (at 42 (codes "t") ∷ at 45 (codes "v") ∷ [])) parked ≡ []
+  -- A variable of an unknown type fits nothing.
+  pub unknown_type : faults_of (with_parameter (at 42 (codes "u") ∷ [])) parked ≡ fault in_domain 14 42 ∷ fault in_domain 19 44 ∷ []
+  -- The problem's objects are not known in an action.
+  pub object_in_action : faults_of (record fleet { actions = record park { precondition = tree.atom (atom (at 46 (codes "p")) (tree.object (at 47 (codes "o")) ∷ [])) } ∷ [] }) parked
+      ≡ fault in_domain 17 47 ∷ []
+  -- An untyped object is of the type `object` alone, and no fact is negated.
+  pub wrong_fact : faults_of fleet (record parked { objects = untyped (at 10 (codes "o") ∷ []); init = tree.fact (record { predicate = at 20 (codes "p"); objects = at 21 (codes "o") ∷ [] }) ∷ tree.negated (at 22 (codes "not")) (record { predicate = at 23 (codes "p"); objects = at 24 (codes "k") ∷ [] }) ∷ [] })
+      ≡ fault in_problem 19 21 ∷ fault in_problem 24 22 ∷ []
+  -- Another name of the domain is told with the faults of types.
+  pub other_domain : faults_of fleet (record parked { domain = at 2 (codes "e") }) ≡ fault in_problem 21 2 ∷ []
