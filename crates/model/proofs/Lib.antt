@@ -16,3 +16,4 @@ pub mod GrammarBegins
 pub mod GrammarRefusals
 pub mod GrammarOneRefusal
 pub mod GrammarExampleProofs
+pub mod PlanExampleProofs

@@ -16,6 +16,7 @@ pub mod Claims
 pub mod Certificates
 pub mod CertificateRefusals
 pub mod Examples
+pub mod PlanExamples
 pub mod PlanText
 pub mod PlanMachine
 pub mod Files
