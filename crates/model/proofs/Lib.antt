@@ -17,3 +17,4 @@ pub mod GrammarRefusals
 pub mod GrammarOneRefusal
 pub mod GrammarExampleProofs
 pub mod PlanExampleProofs
+pub mod CertificateExampleProofs

@@ -17,6 +17,7 @@ pub mod Certificates
 pub mod CertificateRefusals
 pub mod Examples
 pub mod PlanExamples
+pub mod CertificateExamples
 pub mod PlanText
 pub mod PlanMachine
 pub mod Files
