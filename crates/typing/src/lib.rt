@@ -4,6 +4,7 @@
 
 mod atoms;
 mod fault;
+mod laws;
 mod names;
 mod phases;
 mod schemas;
@@ -16,5 +17,6 @@ pub use atoms::{
     Term, TypeId, VariableId,
 };
 pub use fault::{TaskFault, TaskFile, TaskRefusal};
+pub use laws::examples_are_typed;
 pub use schemas::{Effect, Formula, Predicate, Schema, TypeUnion};
 pub use task::Task;
