@@ -4,6 +4,7 @@ ghost use Rattle.model.specs.Task.{Task, Instance};
 ghost use Rattle.model.specs.Runs.{Solves};
 ghost use Rattle.model.specs.Meaning.{system_of};
 ghost use Rattle.model.specs.Claims.{ClaimHolds};
+ghost use Rattle.model.specs.CertificateExamples.{AreJudged};
 ghost use Rattle.model.specs.Certificates.{Certificate, lines_of, IsClosedFor};
 ghost use Rattle.cert_checker.specs.OnListing.{StaysListed};
 
@@ -17,4 +18,9 @@ pub fn closed_claim_holds()
 pub fn solving_list_stays_listed()
     ensures { (task : Task) (c : Certificate) (plan : List Instance) → IsClosedFor task c
         → Solves (system_of task) plan → StaysListed (system_of task) (lines_of task c) plan }
+{}
+
+/// The worked examples of certificates: small ones that are closed, or what is wrong with them.
+pub fn examples_are_judged()
+    ensures { AreJudged }
 {}

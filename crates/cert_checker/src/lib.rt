@@ -6,4 +6,4 @@ mod check;
 mod laws;
 
 pub use check::{Accepted, Refusal, RefusalCode, check_cert};
-pub use laws::{closed_claim_holds, solving_list_stays_listed};
+pub use laws::{closed_claim_holds, examples_are_judged, solving_list_stays_listed};

@@ -22,3 +22,5 @@ pub mod TypingFaultsRepeats
 pub mod TypingFaultsUses
 pub mod TypingFaultsPhases
 pub mod TypingFaultsTold
+pub mod PlanExampleProofs
+pub mod CertificateExampleProofs

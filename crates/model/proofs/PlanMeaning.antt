@@ -7,11 +7,11 @@ use Rattle.std.specs.Prelude.{slice_get}
 use Rattle.std.proofs.lemmas.Bool.{and_parts, and_from}
 use Rattle.std.proofs.lemmas.List.{length-append, append-nil}
 use Rattle.model.specs.Fault.{Span, Fault}
-use Rattle.model.specs.Words.{Part, form, bytes, size, AreParts, longest_text}
+use Rattle.model.specs.Words.{Part, form, bytes, size, is_gap, AreParts, longest_text}
 use Rattle.model.specs.Trees.{Name}
 use Rattle.model.specs.Task.{Union, Task, Schema, Instance}
 use Rattle.model.specs.Meaning.{is_of, is_instance, fits}
-use Rattle.model.specs.PlanText.{Placed, placed_from, is_gap, Step, AreSteps, HasSteps, BeginsSteps, IsFormFault, too_long, refused, open_at_end, IsNumberOf, AreNumbersOf, schema_names, object_names, Means, AllMean, IsPlanText, NamesObject, NameObjects, IsStepFault, unknown_action, wrong_count, wrong_object, IsPlanFault, of_form, of_step}
+use Rattle.model.specs.PlanText.{Placed, placed_from, Step, AreSteps, HasSteps, BeginsSteps, IsFormFault, too_long, refused, open_at_end, IsNumberOf, AreNumbersOf, schema_names, object_names, Means, AllMean, IsPlanText, NamesObject, NameObjects, IsStepFault, unknown_action, wrong_count, wrong_object, IsPlanFault, of_form, of_step}
 use Rattle.model.proofs.PlanReading.{one_list}
 use Rattle.model.proofs.Places.{Places, at_one, stands_before, stands_after, places}
 

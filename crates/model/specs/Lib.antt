@@ -18,6 +18,8 @@ pub mod Claims
 pub mod Certificates
 pub mod CertificateRefusals
 pub mod Examples
+pub mod PlanExamples
+pub mod CertificateExamples
 pub mod PlanText
 pub mod PlanMachine
 pub mod Files

@@ -4,7 +4,7 @@
 -- domain file. Runs may have any length, and case does not matter.
 use Rattle.std.specs.Prelude.{◌≡◌, ◌≢◌, ℕ, ◌+◌, ◌<◌, ◌≤◌, Bool, true, false, IsTrue, if◌then◌else◌, List, [], ◌∷◌, ◌++◌, length, map, position, slice_get, Some, ⊤}
 use Rattle.model.specs.Fault.{Span, Fault}
-use Rattle.model.specs.Words.{Form, blank, comment, opening, closing, Part, form, bytes, size, AreParts, is_name, longest_text}
+use Rattle.model.specs.Words.{opening, closing, Part, form, bytes, size, is_gap, AreParts, is_name, longest_text}
 use Rattle.model.specs.Trees.{Name}
 use Rattle.model.specs.Task.{Union, Object, Task, Schema, Instance}
 use Rattle.model.specs.Meaning.{is_of, is_instance}
@@ -14,12 +14,6 @@ use Rattle.model.specs.Typing.{folded, is_same}
 pub record Placed : Type 0 where
   pub start : ℕ
   pub part : Part
-
--- a blank or a comment
-abbrev pub is_gap : Form → Bool
-is_gap blank = true
-is_gap comment = true
-is_gap _ = false
 
 -- the parts that are no gaps, in order, where the first part begins at this offset
 abbrev pub placed_from : ℕ → List Part → List Placed

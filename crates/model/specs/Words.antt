@@ -2,7 +2,7 @@
 -- PDDL 1.2 manual (1998; "Syntactic Notation" for comments, "Domains" for names) that is read here: bytes for characters,
 -- names of ASCII letters, numbers of digits alone, and limits on the length of a text, the length of a run and the depth
 -- of its lists.
-use Rattle.std.specs.Prelude.{◌≡◌, ℕ, zero, suc, ◌+◌, ◌-◌, ◌<◌, ◌≤◌, ◌⊎◌, Bool, true, false, ◌&&◌, ◌||◌, not, ◌==◌, nat_le, if◌then◌else◌, List, [], ◌∷◌, ◌++◌, length, slice_range, map, fold, sum_by, Option, None, Some, ⊤}
+use Rattle.std.specs.Prelude.{◌≡◌, ℕ, zero, suc, ◌+◌, ◌-◌, ◌<◌, ◌≤◌, ◌⊎◌, Bool, true, false, ◌&&◌, ◌||◌, not, ◌==◌, nat_le, if◌then◌else◌, IsTrue, List, [], ◌∷◌, ◌++◌, length, slice_range, map, fold, sum_by, Option, None, Some, ⊤}
 use Rattle.std.specs.List.{list_all}
 use Rattle.std.specs.Char.{is_ascii_alphabetic, is_ascii_digit}
 use Rattle.model.specs.Fault.{Fault}
@@ -143,10 +143,10 @@ abbrev pub kind_of_part : Part → Option Kind
 kind_of_part part = kind_by (form part) (bytes part)
 
 -- a blank or a comment
-abbrev pub IsGap : Form → Type 0
-IsGap blank = ⊤
-IsGap comment = ⊤
-IsGap _ = ⊥
+abbrev pub is_gap : Form → Bool
+is_gap blank = true
+is_gap comment = true
+is_gap _ = false
 
 -- the word is this part, which begins at the offset `start`
 pub record IsWordAt (start : ℕ) (part : Part) (word : Word) : Type 0 where
@@ -158,9 +158,9 @@ pub record IsWordAt (start : ℕ) (part : Part) (word : Word) : Type 0 where
 -- from the offset `start` on, the parts are gaps and these words, in their order
 abbrev pub AreGapsAndWords : ℕ → List Part → List Word → Type 0
 AreGapsAndWords start [] words = words ≡ []
-AreGapsAndWords start (part ∷ parts) [] = IsGap (form part) × AreGapsAndWords (start + size part) parts []
+AreGapsAndWords start (part ∷ parts) [] = IsTrue (is_gap (form part)) × AreGapsAndWords (start + size part) parts []
 AreGapsAndWords start (part ∷ parts) (word ∷ words) =
-    (IsGap (form part) × AreGapsAndWords (start + size part) parts (word ∷ words))
+    (IsTrue (is_gap (form part)) × AreGapsAndWords (start + size part) parts (word ∷ words))
     ⊎ (IsWordAt start part word × AreGapsAndWords (start + size part) parts words)
 
 -- where so many lists are open, each `)` closes a `(`, at most 64 lists are open at once, nothing follows the `)` that

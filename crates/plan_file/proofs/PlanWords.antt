@@ -3,8 +3,8 @@ use Rattle.std.proofs.Common.{◌≡◌, ℕ, ◌+◌, ◌-◌, ◌<◌, ◌≤�
 use Rattle.std.specs.List.{prefix_len}
 use Rattle.std.proofs.lemmas.List.{drop_all}
 use Rattle.model.specs.Fault.{Span, Fault}
-use Rattle.model.specs.Words.{Form, form_of, goes_on, form, bytes, size, is_name, longest_text}
-use Rattle.model.specs.PlanText.{Placed, placed_from, is_gap, Step, HasSteps}
+use Rattle.model.specs.Words.{is_gap, Form, form_of, goes_on, form, bytes, size, is_name, longest_text}
+use Rattle.model.specs.PlanText.{Placed, placed_from, Step, HasSteps}
 use Rattle.model.specs.PlanMachine.{Sort, sort_by, Place, outside, Turn, stops, goes, ends, turn, Outcome, reads, refuses, with_step, with_steps, at_end, after_turn, outcome}
 use Rattle.model.proofs.PlanReading.{form_fault, has_steps}
 use Rattle.tokens.proofs.Cut.{cut, cut_parts, PartBetween, part_between}

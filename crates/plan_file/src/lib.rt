@@ -6,4 +6,4 @@ mod steps;
 mod text;
 mod word;
 
-pub use reader::{one_fault, one_plan, read_plan};
+pub use reader::{examples_are_as_told, one_fault, one_plan, read_plan};

@@ -5,6 +5,7 @@ ghost use Rattle.faults.specs.Fault.{told_by};
 ghost use Rattle.typing.specs.Task.{task_of};
 ghost use Rattle.formulas.specs.State.{plan_of};
 ghost use Rattle.model.specs.Meaning.{is_instance};
+ghost use Rattle.model.specs.PlanExamples.{ArePlans};
 ghost use Rattle.model.specs.PlanText.{IsPlanText, IsPlanFault};
 ghost use Rattle.model.specs.Words.{longest_text};
 ghost use Rattle.model.specs.Task as model;
@@ -74,4 +75,9 @@ pub fn one_plan()
 pub fn one_fault()
     ensures { (task : model.Task) (text : List ℕ) (fault other : told.Fault)
         → IsPlanFault task text fault → IsPlanFault task text other → fault ≡ other }
+{}
+
+/// The worked examples of plan texts: small texts with their plan, or with the fault that is told of them.
+pub fn examples_are_as_told()
+    ensures { ArePlans }
 {}

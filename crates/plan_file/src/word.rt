@@ -2,7 +2,7 @@
 ghost use Rattle.std.specs.Prelude.{◌≡◌, ◌+◌, ◌<◌, ◌≤◌, ◌^◌, length, IfSome, Some};
 ghost use Rattle.faults.specs.Fault.{told_by, number_of};
 ghost use Rattle.tokens.specs.Form.{view};
-ghost use Rattle.model.specs.PlanText.{is_gap};
+ghost use Rattle.model.specs.Words.{is_gap};
 
 use faults::{Code, Fault, Refusal, Refused, Span};
 use tokens::{Form, is_name, part_end};

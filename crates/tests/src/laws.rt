@@ -1,7 +1,8 @@
 //! The laws that are stated of all values, and proved: each is called once.
-use cert_checker::{closed_claim_holds, solving_list_stays_listed};
+use cert_checker::{closed_claim_holds, examples_are_judged, solving_list_stays_listed};
 use formulas::one_state;
 use planner_main::one_task;
+use typing::examples_are_typed;
 use validator::{exactly_one_verdict_is_true, worked_examples_are_true};
 
 #[test]
@@ -10,12 +11,16 @@ fn laws_are_called() {
     tokens::one_fault();
     pddl_tree::one_reading();
     pddl_tree::one_fault();
+    pddl_tree::examples_are_as_told();
+    examples_are_typed();
     one_task();
     plan_file::one_plan();
     plan_file::one_fault();
+    plan_file::examples_are_as_told();
     one_state();
     exactly_one_verdict_is_true();
     worked_examples_are_true();
     closed_claim_holds();
     solving_list_stays_listed();
+    examples_are_judged();
 }

@@ -1,7 +1,7 @@
 //! Trees of domains and problems in memory, and what is told of words that stop too early.
 use crate::helpers::{read_domain, read_problem};
 use faults::{Code, Fault, Refusal, Span};
-use pddl_tree::{Action, Domain, Effect, Formula, Problem, Term, domain, problem};
+use pddl_tree::{Action, Domain, Effect, Fact, Formula, Group, Name, Problem, Term, domain, problem};
 use std::test::Fail;
 use tokens::scan;
 
@@ -45,7 +45,8 @@ fn is_go(domain: &Domain) -> bool {
         ([_, q], [action]) => {
             let span = Span { start: 16, end: 18 };
             (domain.name.text, domain.name.span) == (b"go".as_slice(), span)
-                && (q.name.text, q.parameters.len()) == (b"q".as_slice(), 1)
+                && q.name.text == b"q".as_slice()
+                && is_untyped(&q.parameters, &[b"?x"])
                 && is_going(action)
         }
         _ => false,
@@ -57,7 +58,7 @@ fn is_going(action: &Action) -> bool {
     match (&action.precondition, &action.effect) {
         (Formula::And(conditions), Effect::And(changes)) => {
             action.name.text == b"go".as_slice()
-                && matches!(action.parameters.as_slice(), [x] if x.text == b"?a".as_slice())
+                && is_untyped(&action.parameters, &[b"?a"])
                 && conditions.is_empty()
                 && are_changes(changes)
         }
@@ -98,18 +99,67 @@ fn is_only(terms: &[Term], is_variable: bool, text: &[u8]) -> bool {
     }
 }
 
+/// Whether it is a list of these names without types.
+fn is_untyped(groups: &[Group], names: &[&[u8]]) -> bool {
+    match groups {
+        [group] => group.types.is_empty() && are(&group.names, names),
+        _ => false,
+    }
+}
+
+/// Whether they are these names.
+fn are(names: &[Name], texts: &[&[u8]]) -> bool {
+    names.len() == texts.len() && names.iter().zip(texts).all(|(name, text)| name.text == *text)
+}
+
 /// Whether it is the tree of `TRIP`.
 fn is_trip(problem: &Problem) -> bool {
-    match (problem.objects.as_slice(), problem.init.as_slice()) {
-        ([_, b], [_, fact]) => {
-            let span = Span { start: 48, end: 49 };
+    match problem.init.as_slice() {
+        [_, Fact::Atom(fact)] => {
             (problem.name.text, problem.domain.text) == (b"trip".as_slice(), b"go".as_slice())
-                && (b.text, b.span) == (b"B".as_slice(), span)
+                && is_untyped(&problem.objects, &[b"a", b"B"])
                 && (fact.predicate.text, fact.objects.len()) == (b"q".as_slice(), 1)
                 && matches!(&problem.goal, Formula::And(parts) if parts.len() == 3)
         }
         _ => false,
     }
+}
+
+const FLEET: &[u8] = b"(define (domain fleet) (:types truck van - vehicle vehicle) (:constants hub - place)
+ (:predicates (seen ?x ?y - (either place truck) ?z)))";
+
+/// Whether it is the tree of `FLEET`.
+fn is_fleet(domain: &Domain) -> bool {
+    match (domain.types.as_slice(), domain.constants.as_slice(), domain.predicates.as_slice()) {
+        ([vehicles, others], [hub], [seen]) => {
+            are(&vehicles.names, &[b"truck", b"van"])
+                && are(&vehicles.types, &[b"vehicle"])
+                && are(&others.names, &[b"vehicle"])
+                && others.types.is_empty()
+                && are(&hub.types, &[b"place"])
+                && is_seen(&seen.parameters)
+        }
+        _ => false,
+    }
+}
+
+/// Whether they are the variables of `seen`.
+fn is_seen(groups: &[Group]) -> bool {
+    match groups {
+        [first, second] => {
+            are(&first.names, &[b"?x", b"?y"])
+                && are(&first.types, &[b"place", b"truck"])
+                && are(&second.names, &[b"?z"])
+                && second.types.is_empty()
+        }
+        _ => false,
+    }
+}
+
+#[test]
+fn typed_lists_have_their_groups(rt: HostRuntime) -> Result<(), Fail> {
+    assert!(rt; is_fleet(&read_domain(rt.alloc(), FLEET)?));
+    Ok(())
 }
 
 #[test]

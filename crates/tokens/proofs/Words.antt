@@ -1,9 +1,9 @@
 -- A text reads as the words that the scanner reads, and as no others, exactly where the scanner finds no fault.
-use Rattle.std.proofs.Common.{◌≡◌, ℕ, zero, suc, ◌+◌, ◌-◌, ◌<◌, ◌≤◌, ◌⊎◌, Bool, true, false, cond, List, [], ◌∷◌, ◌++◌, length, Option, Some, None, sym, refl, ap, ◌∙◌, subst, eqb, ltb, inl, inr, ⊎_elim, arith}
+use Rattle.std.proofs.Common.{◌≡◌, ℕ, zero, suc, ◌+◌, ◌-◌, ◌<◌, ◌≤◌, ◌⊎◌, Bool, true, false, cond, IsTrue, List, [], ◌∷◌, ◌++◌, length, Option, Some, None, sym, refl, ap, ◌∙◌, subst, eqb, ltb, inl, inr, ⊎_elim, arith}
 use Rattle.std.specs.Option.{option_to_list}
 use Rattle.std.proofs.lemmas.Bool.{cases_eq, eq-eqb, ne_eqb, lt-ltb, le-ltb, cases_lt, cases_Bool, cond-true, cond-false}
 use Rattle.model.specs.Fault as told
-use Rattle.model.specs.Words.{Form, blank, comment, opening, closing, run, stray, Part, form, bytes, size, Kind, name, variable, keyword, number, dash, equals, opens, closes, Word, kind_by, kind_of_part, kind_of_run, is_name, is_marked_name, is_number, is_only, open_with, longest_text, IsGap, IsWordAt, AreGapsAndWords, AreNested, kinds_of, ReadsAs}
+use Rattle.model.specs.Words.{Form, blank, comment, opening, closing, run, stray, Part, form, bytes, size, Kind, name, variable, keyword, number, dash, equals, opens, closes, Word, kind_by, kind_of_part, kind_of_run, is_name, is_marked_name, is_number, is_only, open_with, longest_text, is_gap, IsWordAt, AreGapsAndWords, AreNested, kinds_of, ReadsAs}
 use Rattle.tokens.specs.Scanner.{fault_by, fault_of_run, fault_of_word, fault_at, word_at, closed_with}
 use Rattle.tokens.proofs.Cut.{cut, cut_unique, cut_parts}
 use Rattle.tokens.proofs.Reading.{or_else, first_fault, fault_of_end, words_from}
@@ -49,15 +49,15 @@ nested_run n opens kinds r h = absurd r
 nested_run n closes kinds r h = absurd r
 
 -- The words of a list of parts are determined.
-gap_has_no_kind : (f : Form) (text : List ℕ) → IsGap f → kind_by f text ≡ None
+gap_has_no_kind : (f : Form) (text : List ℕ) → IsTrue (is_gap f) → kind_by f text ≡ None
 gap_has_no_kind blank text g = refl
 gap_has_no_kind comment text g = refl
-gap_has_no_kind opening text g = absurd g
-gap_has_no_kind closing text g = absurd g
-gap_has_no_kind run text g = absurd g
-gap_has_no_kind stray text g = absurd g
+gap_has_no_kind opening text g = absurd (cc)
+gap_has_no_kind closing text g = absurd (cc)
+gap_has_no_kind run text g = absurd (cc)
+gap_has_no_kind stray text g = absurd (cc)
 
-gap_first : (start : ℕ) (part : Part) (parts : List Part) (words : List Word) → IsGap (form part) → AreGapsAndWords (start + size part) parts words → AreGapsAndWords start (part ∷ parts) words
+gap_first : (start : ℕ) (part : Part) (parts : List Part) (words : List Word) → IsTrue (is_gap (form part)) → AreGapsAndWords (start + size part) parts words → AreGapsAndWords start (part ∷ parts) words
 gap_first start part parts [] g h = (g, h)
 gap_first start part parts (word ∷ words) g h = inl (g, h)
 
@@ -90,11 +90,11 @@ one_reading_lem text one other h g = reading_is text one h ∙ sym (reading_is t
 
 -- what a part at no fault is
 abbrev IsSound : Form → List ℕ → Type 0
-IsSound f text = (IsGap f × (kind_by f text ≡ None)) ⊎ ((k : Kind) × (kind_by f text ≡ Some k) × (f ≡ run → length text ≤ 255))
+IsSound f text = (IsTrue (is_gap f) × (kind_by f text ≡ None)) ⊎ ((k : Kind) × (kind_by f text ≡ Some k) × (f ≡ run → length text ≤ 255))
 
 sound_part : (n : ℕ) (c : Bool) (f : Form) (text : List ℕ) → fault_by n c f text ≡ None → IsSound f text
-sound_part n c blank text e = inl (tt, refl)
-sound_part n c comment text e = inl (tt, refl)
+sound_part n c blank text e = inl (refl, refl)
+sound_part n c comment text e = inl (refl, refl)
 sound_part n c opening text e = inr (opens, refl, λ h. absurd (cc))
 sound_part n c closing text e = inr (closes, refl, λ h. absurd (cc))
 sound_part n c stray text e = absurd (cc)
@@ -218,13 +218,13 @@ record Passes (n : ℕ) (c : Bool) (f : Form) (text : List ℕ) (m : ℕ) (d : B
   open_lists : open_with n f ≡ m
   has_closed : closed_with n c f ≡ d
 
-gap_passes : (n : ℕ) (c : Bool) (f : Form) (text : List ℕ) → IsGap f → Passes n c f text n c
+gap_passes : (n : ℕ) (c : Bool) (f : Form) (text : List ℕ) → IsTrue (is_gap f) → Passes n c f text n c
 gap_passes n c blank text g = record { sound = refl; open_lists = refl; has_closed = refl }
 gap_passes n c comment text g = record { sound = refl; open_lists = refl; has_closed = refl }
-gap_passes n c opening text g = absurd g
-gap_passes n c closing text g = absurd g
-gap_passes n c run text g = absurd g
-gap_passes n c stray text g = absurd g
+gap_passes n c opening text g = absurd (cc)
+gap_passes n c closing text g = absurd (cc)
+gap_passes n c run text g = absurd (cc)
+gap_passes n c stray text g = absurd (cc)
 
 gaps_pass : (start : ℕ) (parts : List Part) → AreGapsAndWords start parts [] → first_fault start 0 true parts ≡ None
 gaps_pass start [] h = refl

@@ -4,6 +4,7 @@
 
 mod atoms;
 mod fault;
+mod laws;
 mod names;
 mod objects;
 mod phases;
@@ -18,5 +19,6 @@ pub use atoms::{
     Term, TypeId, VariableId,
 };
 pub use fault::{TaskFault, TaskFile, TaskRefusal};
+pub use laws::examples_are_typed;
 pub use schemas::{Effect, Formula, Predicate, Schema, TypeUnion};
 pub use task::Task;

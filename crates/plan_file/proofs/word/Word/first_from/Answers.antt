@@ -1,6 +1,6 @@
 use Rattle.std.proofs.Common.{rules, arith, ◌≡◌, ◌-◌, ◌∙◌, sym, refl, ap, true, false, take, drop}
 use Rattle.tokens.specs.Form.{view}
-use Rattle.model.specs.PlanText.{is_gap}
+use Rattle.model.specs.Words.{is_gap}
 use Rattle.model.specs.PlanMachine.{Place, Outcome}
 use Rattle.plan_file.specs.PlanFile.{sort_of}
 use Rattle.plan_file.proofs.PlanWords.{gap_read, word_given, end_read}
