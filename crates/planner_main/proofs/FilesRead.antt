@@ -36,6 +36,11 @@ told_none_in : (P : FileFault → Type 0) (o : Option FileFault) → IfSome o P 
 told_none_in P None h never = refl
 told_none_in P (Some fault) h never = absurd (never fault h)
 
+-- want of memory is no refusal of a text
+pub none_refused : {T : Type 0} (P : FileFault → Type 0) (r : Result T file.FileFault) → IfErr r (λ fault. told_in fault ≡ None) → IfErr r (λ fault. IfSome (told_in fault) P)
+none_refused P (Ok found) h = tt
+none_refused P (Err fault) h = subst (λ o. IfSome o P) (sym h) tt
+
 -- What is told of one text.
 pub words_refused : (kind : grammar.File) (text : List ℕ) (o : Option Fault) → IfSome o (IsTold text) → IfSome o (IsTextFault kind text)
 words_refused kind text None h = tt

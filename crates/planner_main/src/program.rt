@@ -1,18 +1,20 @@
 //! The program.
-ghost use Rattle.std.specs.Prelude.{◌≡◌, ℕ, ◌+◌, ◌↔◌, ◌⊎◌, Err, IfErr, IfOk, IfSome, IsTrue, List, false, length, vec_len};
+ghost use Rattle.std.specs.Prelude.{◌≡◌, ℕ, ◌+◌, ◌↔◌, ◌⊎◌, Err, IfErr, IfOk, IfSome, IsTrue, List, None, false, length, vec_len};
 ghost use Rattle.planner_main.specs.Failures.{device_line, no_memory_line, usage};
 ghost use Rattle.planner_main.specs.Files.{told_in};
 ghost use Rattle.planner_main.specs.Report.{is_failure};
 ghost use Rattle.planner_main.specs.Program.{texts, IsCommand, IsText, OnTwo, OnThree, IsVerdictLine, IsSolutionText, IsVerdictText, IsAnswerText, IsAnswerFor, Tells, TellsFor, TellsPartly, TellsPartlyFor, Refuses, HasFailed, HasNotFailed, CountsFailure, CountsEither, NamesDomain, IsFaultFor, device_failure, domain_of, fault_in};
 ghost use Rattle.devices.specs.declared.device.WriteFault.TheVariants.{Device};
 ghost use Rattle.devices.specs.Devices.{CountsDevice, IsReading, IsWritten, ReadsSome};
-ghost use Rattle.model.specs.Files.{IsFileFault, IsTaskFault};
+ghost use Rattle.typing.specs.Task.{task_of};
+ghost use Rattle.solver.specs.Solver.{IsTrueAnswer};
+ghost use Rattle.model.specs.Files.{IsFileFault, IsTaskFault, IsTaskOf};
 
 mod command;
 
 use crate::files::Files;
 use crate::report::{Failure, answer, tell, tell_usage};
-use crate::solve::{answer_text, solve_files};
+use crate::solve::{Solved, answer_text, solve_files};
 use crate::task_file::FileFault;
 use crate::verdict::validate_files;
 use command::{Command, read_command};
@@ -205,6 +207,16 @@ fn solution_text(
     ensures refused { IfErr result (λ fault. IfSome (told_in fault) (IsTaskFault domain.now problem.now)) }
 {
     let solved = solve_files(alloc, domain, problem, limits)?;
+    solved_text(alloc, &solved)
+}
+
+/// The text of what was found out of a task, and its status. The only error is want of memory.
+fn solved_text(alloc: Global, solved: &Solved) -> Result<(Vec<u8>, u8), FileFault>
+    ensures answer { (domain problem : List ℕ) (states instances : ℕ)
+        → IsTaskOf domain problem (task_of solved.now.task) → IsTrueAnswer (task_of solved.now.task) states instances solved.now.answer
+        → IfOk result (λ told. IsSolutionText domain problem states instances told.0.items told.1) }
+    ensures memory { IfErr result (λ fault. told_in fault ≡ None) }
+{
     Ok(answer_text(alloc, &solved.task, &solved.answer)?)
 }
 

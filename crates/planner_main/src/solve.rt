@@ -1,5 +1,5 @@
 //! From the bytes of a domain file and a problem file to a cheapest plan.
-ghost use Rattle.std.specs.Prelude.{◌≡◌, IfOk, IfErr, IfSome, None};
+ghost use Rattle.std.specs.Prelude.{◌≡◌, ℕ, List, IfOk, IfErr, IfSome, None};
 ghost use Rattle.typing.specs.Task.{task_of};
 ghost use Rattle.solver.specs.Solver.{IsTrueAnswer};
 ghost use Rattle.planner_main.specs.Files.{told_in};
@@ -9,6 +9,7 @@ ghost use Rattle.model.specs.Files.{IsTaskOf, IsTaskFault};
 mod text;
 
 use crate::task_file::{FileFault, read_task};
+use faults::NoMemory;
 use solver::{Answer, Limits, solve};
 use std::alloc::Global;
 pub(crate) use text::answer_text;
@@ -50,6 +51,17 @@ pub fn solve_files(
     ensures taken { (task : model.Task) → IsTaskOf domain.now problem.now task → IfErr result (λ fault. told_in fault ≡ None) }
 {
     let task = read_task(alloc, domain, problem)?;
-    let answer = solve(alloc, &task, limits)?;
-    Ok(Solved { task, answer })
+    solve_task(alloc, task, limits)
+}
+
+/// The task with what is found out of it. The only error is want of memory.
+fn solve_task(alloc: Global, task: Task, limits: Limits) -> Result<Solved, FileFault>
+    ensures task { (domain problem : List ℕ) → IsTaskOf domain problem (task_of task) → IfOk result (λ s. IsTaskOf domain problem (task_of s.task)) }
+    ensures answer { IfOk result (λ s. IsTrueAnswer (task_of s.task) limits.states limits.instances s.answer) }
+    ensures memory { IfErr result (λ fault. told_in fault ≡ None) }
+{
+    match solve(alloc, &task, limits) {
+        Ok(answer) => Ok(Solved { task, answer }),
+        Err(NoMemory) => Err(FileFault::NoMemory),
+    }
 }
