@@ -1,5 +1,5 @@
--- What it means that an instance is the task's, and where it leads.
-use Rattle.std.specs.Prelude.{◌≡◌, ℕ, true, false, ◌&&◌, List, slice_get, IsTrue, None, Some, if◌then◌else◌, cond}
+-- What it means that an instance is the task's, where it leads, and when objects may stand in a formula.
+use Rattle.std.specs.Prelude.{◌≡◌, ℕ, true, false, ◌&&◌, List, [], slice_get, IsTrue, None, Some, if◌then◌else◌, cond}
 use Rattle.std.proofs.Common.{sym, ◌∙◌, ap, subst}
 use Rattle.std.specs.Cmp.{first_so, second_so}
 use Rattle.std.specs.Cmp.Lexicographic.{pointwise}
@@ -51,3 +51,11 @@ module _ (t : task.Task) (schema : ℕ) (shape : Shape) (is : Some shape ≡ opt
         else None)) it.1
         ∙ ap (λ b. cond (b && holds t it.0.precondition objects s) (Some (after_changes s (changes_of it.0.effect objects))) None) fitting
         ∙ sym (ap (λ (found : Shape). cond (holds t found.1 objects s) (Some (after_changes s (changes_of found.2 objects))) None) it.2)
+
+-- the goal is well-typed without parameters
+pub goal_fits : (t : task.Task) (formula : task.Formula) (objects : List ℕ) → formula ≡ t.goal → objects ≡ [] → IsTrue (is_task t) → FitsFormula t formula objects
+goal_fits t formula objects is none well = record {
+  scope = [];
+  typed = ap (is_formula t []) is ∙ second_so _ _ well;
+  fits = ap (pointwise (is_of t) []) none;
+}

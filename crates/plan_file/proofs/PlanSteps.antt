@@ -1,22 +1,23 @@
 -- The instances of the reader of plan texts, and the faults of steps.
-use Rattle.std.proofs.Common.{◌≡◌, ◌≢◌, ℕ, ◌+◌, ◌<◌, ◌≤◌, true, false, List, [], ◌∷◌, ◌++◌, length, map, get_or, take, drop, Option, Some, None, IfSome, sym, refl, ap, ◌∙◌, subst, ltb, nat_lt, eqb, arith}
+use Rattle.std.proofs.Common.{◌≡◌, ◌≢◌, ℕ, ◌+◌, ◌<◌, ◌≤◌, Bool, true, false, List, [], ◌∷◌, ◌++◌, length, map, get_or, take, drop, Option, Some, None, IfSome, sym, refl, ap, ◌∙◌, subst, arith, true≢false}
 use Rattle.std.specs.Prelude.{slice_get}
-use Rattle.std.specs.List.{list_all, position}
+use Rattle.std.specs.Cmp.Lexicographic.{pointwise}
+use Rattle.std.specs.List.{position}
 use Rattle.std.specs.Option.{option_map, option_map_or}
-use Rattle.std.proofs.lemmas.Bool.{and_from, eq-eqb, lt-ltb}
+use Rattle.std.proofs.lemmas.Bool.{and_from, and_parts}
 use Rattle.std.proofs.Common.{take-append-drop}
 use Rattle.std.proofs.lemmas.List.{drop_more, take_more, map-append, length-map}
 use Rattle.std.proofs.lemmas.List.Quantifiers.{position-Some}
 use Rattle.model.specs.Fault.{Fault}
 use Rattle.model.specs.Words.{Part, AreParts}
 use Rattle.model.specs.Trees.{Name}
-use Rattle.model.specs.Task.{Task, Schema, Instance}
+use Rattle.model.specs.Task.{Union, Task, Schema, Instance}
 use Rattle.model.specs.Typing.{folded, is_same}
-use Rattle.model.specs.Meaning.{fits}
-use Rattle.model.specs.PlanText.{Step, HasSteps, IsNumberOf, AreNumbersOf, schema_names, Means, AllMean, IsStepFault, unknown_action, wrong_count, unknown_object, IsPlanText, IsPlanFault, of_form, of_step}
-use Rattle.model.proofs.PlanMeaning.{numbers_length, numbers_push, all_mean_push, plan_length, few_steps, one_reading, no_fault, one_fault}
+use Rattle.model.specs.Meaning.{is_of, fits}
+use Rattle.model.specs.PlanText.{Step, HasSteps, IsNumberOf, AreNumbersOf, schema_names, object_names, Means, AllMean, IsStepFault, unknown_action, wrong_count, wrong_object, IsPlanText, IsPlanFault, of_form, of_step}
+use Rattle.model.proofs.PlanMeaning.{names_each, numbers_push, all_mean_push, plan_length, few_steps, one_reading, no_fault, one_fault}
 use Rattle.tokens.proofs.Cut.{cut_unique}
-use Rattle.plan_file.specs.PlanFile.{IsUnknownObject, IsFirstFault, IsRefusedForm}
+use Rattle.plan_file.specs.PlanFile.{IsNoObject, IsWrongObject, IsFirstFault, IsRefusedForm}
 
 -- what is told, where it is known
 pub told_some : (P : Fault → Type 0) (o : Option Fault) (fault : Fault) → o ≡ Some fault → P fault → IfSome o P
@@ -64,28 +65,21 @@ schema_within task name number is =
     let within = number_within (schema_names task) name number is in
     omega (arith, within, length-map task.schemas (λ (s : Schema). s.name))
 
-all_within : (declared : List (List ℕ)) (names : List Name) (numbers : List ℕ) → AreNumbersOf declared names numbers → list_all (λ number. nat_lt number (length declared)) numbers ≡ true
-all_within declared [] [] h = refl
-all_within declared [] (n ∷ ns) h = absurd h
-all_within declared (name ∷ names) [] h = absurd h
-all_within declared (name ∷ names) (n ∷ ns) h =
-    and_from (ltb n (length declared)) (list_all (λ number. nat_lt number (length declared)) ns) (lt-ltb n (length declared) (number_within declared name n h.0)) (all_within declared names ns h.1)
+-- the types of a schema's parameters
+abbrev pub HasParameters : Task → ℕ → List Union → Type 0
+HasParameters task number unions = option_map (λ (s : Schema). s.parameters) (slice_get task.schemas number) ≡ Some unions
 
--- the count of a schema's parameters
-abbrev pub Counts : Task → ℕ → ℕ → Type 0
-Counts task number count = option_map (λ (s : Schema). s.parameters) (slice_get task.schemas number) ≡ Some count
-
-record Counted (task : Task) (number count : ℕ) : Type 0 where
+record Found (task : Task) (number : ℕ) (unions : List Union) : Type 0 where
   schema : Schema
   here : slice_get task.schemas number ≡ Some schema
-  counts : schema.parameters ≡ count
+  parameters : schema.parameters ≡ unions
 
-counted : (task : Task) (number count : ℕ) → Counts task number count → Counted task number count
-counted task number count e = by_schema (slice_get task.schemas number) refl e
+found : (task : Task) (number : ℕ) (unions : List Union) → HasParameters task number unions → Found task number unions
+found task number unions e = by_schema (slice_get task.schemas number) refl e
   where
-    by_schema : (s : Option Schema) → slice_get task.schemas number ≡ s → option_map (λ (s : Schema). s.parameters) s ≡ Some count → Counted task number count
+    by_schema : (s : Option Schema) → slice_get task.schemas number ≡ s → option_map (λ (s : Schema). s.parameters) s ≡ Some unions → Found task number unions
     by_schema None here e = absurd (cc)
-    by_schema (Some schema) here e = record { schema = schema; here = here; counts = cc }
+    by_schema (Some schema) here e = record { schema = schema; here = here; parameters = cc }
 
 -- what is told of a step, and what it means
 module _ (task : Task) (step : Step) where
@@ -93,43 +87,59 @@ module _ (task : Task) (step : Step) where
   action_refused none o told =
       told_some (IsStepFault task step) o _ told (unknown_action (λ (number, is). let both : Some number ≡ None = sym is ∙ none in cc) refl refl)
 
-  pub count_refused : (number count : ℕ) → IsNumberOf (schema_names task) step.action number → Counts task number count → length step.objects ≢ count → (o : Option Fault) → o ≡ Some (record { code = 33; span = step.action.span }) → IfSome o (IsStepFault task step)
-  count_refused number count is counts differs o told =
-      let c = counted task number count counts in
-      told_some (IsStepFault task step) o _ told (wrong_count number c.schema is c.here (λ h. differs (h ∙ c.counts)) refl refl)
+  pub count_refused : (number : ℕ) (unions : List Union) → IsNumberOf (schema_names task) step.action number → HasParameters task number unions → length step.objects ≢ length unions → (o : Option Fault) → o ≡ Some (record { code = 33; span = step.action.span }) → IfSome o (IsStepFault task step)
+  count_refused number unions is has differs o told =
+      let f = found task number unions has in
+      told_some (IsStepFault task step) o _ told (wrong_count number f.schema is f.here (λ h. differs (h ∙ ap length f.parameters)) refl refl)
 
-  pub objects_refused : (number count : ℕ) → IsNumberOf (schema_names task) step.action number → Counts task number count → length step.objects ≡ count → (o : Option Fault) → IfSome o (IsUnknownObject task.objects step.objects) → IfSome o (IsStepFault task step)
-  objects_refused number count is counts same o h =
-      let c = counted task number count counts in
-      told_more (IsUnknownObject task.objects step.objects) (IsStepFault task step) o
-      (λ fault u. unknown_object number c.schema is c.here (same ∙ sym c.counts) u.before u.after u.name u.numbers u.in_order u.declared_before u.not_declared u.code u.span) h
+  pub objects_refused : (number : ℕ) (unions : List Union) → IsNumberOf (schema_names task) step.action number → HasParameters task number unions → length step.objects ≡ length unions → (o : Option Fault) → IfSome o (IsWrongObject task unions step.objects) → IfSome o (IsStepFault task step)
+  objects_refused number unions is has same o h =
+      let f = found task number unions has in
+      told_more (IsWrongObject task unions step.objects) (IsStepFault task step) o
+      (λ fault w. wrong_object number f.schema is f.here (same ∙ sym (ap length f.parameters)) w.before w.after w.name w.theirs w.others w.types w.names_in_order (f.parameters ∙ w.types_in_order) w.objects_before w.wrong.is_none w.wrong.code w.wrong.span) h
 
-  pub step_means : (i : Instance) (count : ℕ) → IsNumberOf (schema_names task) step.action i.schema → Counts task i.schema count → length step.objects ≡ count → AreNumbersOf task.objects step.objects i.objects → Means task step i
-  step_means i count is counts same objects =
-      let c = counted task i.schema count counts in
-      let long : length i.objects ≡ c.schema.parameters = sym (numbers_length task.objects step.objects i.objects objects) ∙ same ∙ sym c.counts in
+  pub step_means : (i : Instance) (unions : List Union) → IsNumberOf (schema_names task) step.action i.schema → HasParameters task i.schema unions → AreNumbersOf (object_names task) step.objects i.objects → pointwise (is_of task) unions i.objects ≡ true → Means task step i
+  step_means i unions is has objects fit =
+      let f = found task i.schema unions has in
       record {
         action = is;
         objects = objects;
-        fits = ap (λ (o : Option Schema). option_map_or (λ (s : Schema). fits task s i.objects) o false) c.here
-            ∙ and_from (eqb (length i.objects) c.schema.parameters) (list_all (λ number. nat_lt number (length task.objects)) i.objects)
-            (eq-eqb (length i.objects) c.schema.parameters long) (all_within task.objects step.objects i.objects objects);
+        fits = ap (λ (o : Option Schema). option_map_or (λ (s : Schema). fits task s i.objects) o false) f.here ∙ ap (λ us. pointwise (is_of task) us i.objects) f.parameters ∙ fit;
       }
 
--- what is told of an object
-pub object_refused : (declared : List (List ℕ)) (names before after : List Name) (name : Name) (numbers : List ℕ) → names ≡ before ++ name ∷ after → AreNumbersOf declared before numbers → position (is_same (folded name)) declared ≡ None
-    → (o : Option Fault) → o ≡ Some (record { code = 34; span = name.span }) → IfSome o (IsUnknownObject declared names)
-object_refused declared names before after name numbers in_order are none o told = told_some (IsUnknownObject declared names) o _ told (record {
-  before = before;
-  after = after;
-  name = name;
-  numbers = numbers;
-  in_order = in_order;
-  declared_before = are;
-  not_declared = λ (number, is). let both : Some number ≡ None = sym is ∙ none in cc;
-  code = refl;
-  span = refl;
-})
+-- the objects so far are of the types in their places, and one more is
+pub pairs_push : {X Y : Type 0} (p : X → Y → Bool) (xs : List X) (ys : List Y) (x : X) (y : Y) → pointwise p xs ys ≡ true → p x y ≡ true → pointwise p (xs ++ x ∷ []) (ys ++ y ∷ []) ≡ true
+pairs_push p [] [] x y all here = and_from (p x y) true here refl
+pairs_push p [] (v ∷ ys) x y all here = absurd (true≢false (sym all))
+pairs_push p (u ∷ xs) [] x y all here = absurd (true≢false (sym all))
+pairs_push p (u ∷ xs) (v ∷ ys) x y all here =
+    let parts = and_parts (p u v) (pointwise p xs ys) all in
+    and_from (p u v) (pointwise p (xs ++ x ∷ []) (ys ++ y ∷ [])) parts.0 (pairs_push p xs ys x y parts.1 here)
+
+pub fit_more : {A B : Type 0} (task : Task) (f : A → Union) (xs : List A) (i : ℕ) (x : A) (g : B → ℕ) (items more : List B) (y : B) → i < length xs → x ≡ get_or xs i x → more ≡ items ++ y ∷ []
+    → pointwise (is_of task) (map f (take i xs)) (map g items) ≡ true → is_of task (f x) (g y) ≡ true → pointwise (is_of task) (map f (take (i + 1) xs)) (map g more) ≡ true
+fit_more task f xs i x g items more y inside is more_is fit here =
+    (λ j. pointwise (is_of task) (taken_at f xs i x inside is j) ((ap (map g) more_is ∙ map-append g items (y ∷ [])) j))
+    ∙ pairs_push (is_of task) (map f (take i xs)) (map g items) (f x) (g y) fit here
+
+-- what is told of the first object that is not of the types in its place
+pub object_refused : {A B C : Type 0} (task : Task) (f : A → Union) (xs : List A) (g : B → Name) (ys : List B) (i : ℕ) (x : A) (y : B) (h : C → ℕ) (items : List C) → i < length xs → i < length ys → x ≡ get_or xs i x → y ≡ get_or ys i y
+    → AreNumbersOf (object_names task) (map g (take i ys)) (map h items) → pointwise (is_of task) (map f (take i xs)) (map h items) ≡ true
+    → (o : Option Fault) → IfSome o (IsNoObject task (f x) (g y)) → IfSome o (IsWrongObject task (map f xs) (map g ys))
+object_refused task f xs g ys i x y h items inside within types_are name_is are fit o told =
+    told_more (IsNoObject task (f x) (g y)) (IsWrongObject task (map f xs) (map g ys)) o
+    (λ fault wrong. record {
+      before = map g (take i ys);
+      after = map g (drop (i + 1) ys);
+      name = g y;
+      theirs = map f (take i xs);
+      others = map f (drop (i + 1) xs);
+      types = f x;
+      names_in_order = split_at g ys i y within name_is;
+      types_in_order = split_at f xs i x inside types_are;
+      objects_before = names_each task (map f (take i xs)) (map g (take i ys)) (map h items) are fit;
+      wrong = wrong;
+    }) told
 
 -- what is told of steps
 pub step_refused : (task : Task) (steps before after : List Step) (step : Step) (plan : List Instance) → steps ≡ before ++ step ∷ after → AllMean task before plan → (o : Option Fault) → IfSome o (IsStepFault task step) → IfSome o (IsFirstFault task steps)

@@ -12,8 +12,8 @@ use Rattle.tokens.specs.Cut.{cut}
 use Rattle.model.specs.Fault.{Span, Fault}
 use Rattle.model.specs.Trees as tree
 use Rattle.model.specs.PlanText as text
-use Rattle.model.specs.Task.{Task, Instance}
-use Rattle.model.specs.PlanText.{placed_from, IsFormFault, IsDeclared, AreNumbersOf, AllMean, IsStepFault}
+use Rattle.model.specs.Task.{Union, Task, Instance}
+use Rattle.model.specs.PlanText.{placed_from, IsFormFault, NamesObject, NameObjects, AllMean, IsStepFault}
 use Rattle.model.specs.PlanMachine as machine
 use Rattle.model.specs.PlanMachine.{Outcome, outcome, turn, at_end, after_turn}
 
@@ -60,17 +60,24 @@ GivesWord text at (Some word) =
 abbrev pub IsRefusedForm : List ℕ → Fault → Type 0
 IsRefusedForm text fault = IsFormFault text fault.span × (fault.code ≡ 30)
 
--- of these names the first that is not declared, and the fault that is told of it
-pub record IsUnknownObject (declared : List (List ℕ)) (names : List tree.Name) (fault : Fault) : Type 0 where
+-- the name is not that of an object of one of these types, and the fault is told of it
+pub record IsNoObject (task : Task) (types : Union) (name : tree.Name) (fault : Fault) : Type 0 where
+  pub is_none : NamesObject task types name → ⊥
+  pub code : fault.code ≡ 34
+  pub span : fault.span ≡ name.span
+
+-- of these names the first that is not that of an object of the types in its place, and the fault that is told of it
+pub record IsWrongObject (task : Task) (unions : List Union) (names : List tree.Name) (fault : Fault) : Type 0 where
   pub before : List tree.Name
   pub after : List tree.Name
   pub name : tree.Name
-  pub numbers : List ℕ
-  pub in_order : names ≡ before ++ name ∷ after
-  pub declared_before : AreNumbersOf declared before numbers
-  pub not_declared : IsDeclared declared name → ⊥
-  pub code : fault.code ≡ 34
-  pub span : fault.span ≡ name.span
+  pub theirs : List Union
+  pub others : List Union
+  pub types : Union
+  pub names_in_order : names ≡ before ++ name ∷ after
+  pub types_in_order : unions ≡ theirs ++ types ∷ others
+  pub objects_before : NameObjects task theirs before
+  pub wrong : IsNoObject task types name fault
 
 -- of these steps the first that is at fault, and its fault
 pub record IsFirstFault (task : Task) (steps : List text.Step) (fault : Fault) : Type 0 where

@@ -1,21 +1,23 @@
 //! The instances that the steps of a plan text name.
-ghost use Rattle.std.specs.Prelude.{◌≡◌, ◌<◌, ◌≤◌, ℕ, Some, IfOk, IfErr, IfSome, length, map, position, slice_get};
+ghost use Rattle.std.specs.Prelude.{◌≡◌, ◌<◌, ◌≤◌, ℕ, Some, IsTrue, IfOk, IfErr, IfSome, length, map, position, slice_get};
+ghost use Rattle.std.specs.Cmp.Lexicographic.{pointwise};
 ghost use Rattle.std.specs.Option.{option_map};
 ghost use Rattle.faults.specs.Fault.{told_by};
 ghost use Rattle.typing.specs.Task.{task_of};
-ghost use Rattle.typing.specs.TaskParts.{object_of, schema_id_of};
+ghost use Rattle.typing.specs.TaskParts.{object_of, schema_id_of, union_of};
 ghost use Rattle.formulas.specs.State as view;
-ghost use Rattle.plan_file.specs.PlanFile.{step_of, name_of, IsFirstFault, IsUnknownObject};
+ghost use Rattle.plan_file.specs.PlanFile.{step_of, name_of, IsFirstFault, IsWrongObject, IsNoObject};
 ghost use Rattle.model.specs.Task as model;
+ghost use Rattle.model.specs.Meaning.{is_of};
 ghost use Rattle.model.specs.Typing.{folded, is_same};
-ghost use Rattle.model.specs.PlanText.{Means, AllMean, AreNumbersOf, IsStepFault, schema_names};
+ghost use Rattle.model.specs.PlanText.{Means, AllMean, IsNumberOf, AreNumbersOf, IsStepFault, schema_names, object_names};
 
 use crate::text::Step;
 use crate::word::Word;
 use faults::{Code, Fault, NoMemory};
 use formulas::{Binding, Instance};
 use std::alloc::Global;
-use typing::{ObjectId, SchemaId, Task};
+use typing::{ObjectId, SchemaId, Task, TypeUnion};
 
 /// The instances of these steps, in order.
 pub(super) fn instances_of(
@@ -42,36 +44,59 @@ fn instance_of(alloc: Global, task: &Task, step: &Step<'_>) -> Result<Instance, 
     let Some(schema) = schema_named(alloc, task, step.action)? else {
         return Err(step.action.refused(Code::UnknownAction));
     };
-    if step.objects.len() != parameters_of(task, schema) {
+    let parameters = parameters_of(task, schema);
+    if step.objects.len() != parameters.len() {
         return Err(step.action.refused(Code::StepArity));
     }
-    let objects = objects_of(alloc, task, &step.objects)?;
+    let objects = objects_of(alloc, task, parameters, &step.objects)?;
     Ok(Instance { schema, objects })
 }
 
-/// How many parameters a schema of the task has.
-fn parameters_of(task: &Task, schema: SchemaId) -> usize
+/// What each parameter of a schema of the task has to be.
+fn parameters_of(task: &Task, schema: SchemaId) -> &[TypeUnion]
     requires { schema.0 < length (task_of task.now).schemas }
-    ensures few { result ≤ 16 }
-    ensures count { option_map (λ s. s.parameters) (slice_get (task_of task.now).schemas schema.0) ≡ Some result }
+    ensures few { length result.now ≤ 16 }
+    ensures types { option_map (λ s. s.parameters) (slice_get (task_of task.now).schemas schema.0) ≡ Some (map union_of result.now) }
 {
-    task.schema(schema).unwrap().parameters
+    task.schema(schema).unwrap().parameters.as_slice()
 }
 
-/// The objects of these names, in order.
-fn objects_of(alloc: Global, task: &Task, names: &[Word<'_>]) -> Result<Binding, Fault>
-    requires { length names.now ≤ 16 }
-    ensures objects { IfOk result (λ found. AreNumbersOf (task_of task.now).objects (map name_of names.now) (map object_of found.items)) }
-    ensures refused { IfErr result (λ fault. IfSome (told_by fault) (IsUnknownObject (task_of task.now).objects (map name_of names.now))) }
+/// The objects of these names, in order, each of one of the types in its place.
+fn objects_of(
+    alloc: Global,
+    task: &Task,
+    parameters: &[TypeUnion],
+    names: &[Word<'_>],
+) -> Result<Binding, Fault>
+    requires few { length parameters.now ≤ 16 }
+    requires counts { length names.now ≡ length parameters.now }
+    ensures objects { IfOk result (λ found. AreNumbersOf (object_names (task_of task.now)) (map name_of names.now) (map object_of found.items)) }
+    ensures fit { IfOk result (λ found. IsTrue (pointwise (is_of (task_of task.now)) (map union_of parameters.now) (map object_of found.items))) }
+    ensures refused { IfErr result (λ fault. IfSome (told_by fault)
+        (IsWrongObject (task_of task.now) (map union_of parameters.now) (map name_of names.now))) }
 {
     let mut objects = Binding::new();
-    for name in names {
-        let Some(object) = object_named(alloc, task, *name)? else {
-            return Err(name.refused(Code::StepType));
-        };
-        objects.push(object);
+    for (types, name) in parameters.iter().zip(names) {
+        objects.push(object_of(alloc, task, types, *name)?);
     }
     Ok(objects)
+}
+
+/// The object of this name, which has to be of one of these types.
+fn object_of(
+    alloc: Global,
+    task: &Task,
+    types: &TypeUnion,
+    name: Word<'_>,
+) -> Result<ObjectId, Fault>
+    ensures number { IfOk result (λ object. IsNumberOf (object_names (task_of task.now)) (name_of name.entry) object.0) }
+    ensures fits { IfOk result (λ object. IsTrue (is_of (task_of task.now) (union_of types.now) object.0)) }
+    ensures refused { IfErr result (λ fault. IfSome (told_by fault) (IsNoObject (task_of task.now) (union_of types.now) (name_of name.entry))) }
+{
+    match object_named(alloc, task, name)? {
+        Some(object) if task.is_of(object, types) => Ok(object),
+        _ => Err(name.refused(Code::StepType)),
+    }
 }
 
 fn schema_named(alloc: Global, task: &Task, name: Word<'_>) -> Result<Option<SchemaId>, NoMemory>
@@ -84,7 +109,7 @@ fn schema_named(alloc: Global, task: &Task, name: Word<'_>) -> Result<Option<Sch
 
 fn object_named(alloc: Global, task: &Task, name: Word<'_>) -> Result<Option<ObjectId>, NoMemory>
     ensures { IfOk result (λ found.
-        option_map object_of found ≡ position (is_same (folded (name_of name.entry))) (task_of task.now).objects) }
+        option_map object_of found ≡ position (is_same (folded (name_of name.entry))) (object_names (task_of task.now))) }
 {
     let folded = name.text().to_ascii_lowercase(alloc)?;
     Ok(task.object_named(folded.as_slice()))

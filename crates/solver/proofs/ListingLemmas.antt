@@ -23,10 +23,10 @@ use Rattle.solver.proofs.TypedLemmas.{reachable_typed}
 use Rattle.solver.proofs.NumbersLemmas.{stands_in-state, stands_at, never_below_itself}
 use Rattle.model.specs.Task.{Task, Atom}
 use Rattle.model.specs.WellTyped.{is_task, is_atom}
-use Rattle.model.specs.Runs.{IsReachable}
+use Rattle.model.specs.Runs.{System, IsReachable}
 use Rattle.model.specs.Claims.{Claim, Line, IsClosed}
 use Rattle.model.specs.Meaning.{State, atom_cmp, system_of}
-use Rattle.model.specs.Certificates.{Certificate, StateLine, is_fluent, is_number, is_claim, is_state_line, keeps_limits, rise, static_atoms, state_of_line, lines_of}
+use Rattle.model.specs.Certificates.{Certificate, StateLine, is_fluent, is_number, is_claim, is_state_line, keeps_limits, rise, static_atoms, state_of_line, lines_of, value_of}
 use Rattle.model.proofs.Atoms.{stands_in, atoms_total}
 use Rattle.model.proofs.StaticLemmas.{state_of_fluent, and_false}
 
@@ -158,7 +158,7 @@ shown_by task well claim most states all fluent atoms lines certificate found ar
         atoms_are_fluent = all_fluent task well states reachable fluent are atoms same sorted;
         atoms_are_distinct = apart task well states reachable fluent are atoms same sorted;
         states_are_distinct = subst (AllPairs (λ (k l : Line State). k.state ≢ l.state)) (sym listing) (states_apart states all found.one_for_each found.distinct);
-        listing_is_closed = subst (IsClosed (system_of task) (λ _. 0) claim) (sym listing) found.closed;
+        listing_is_closed = subst (IsClosed (system_of task) (value_of made) claim) (sym listing) found.closed;
       };
       within_limit = omega (arith, length-map lines line_of, each.one_for_each);
     })
@@ -185,6 +185,17 @@ shown_by task well claim most states all fluent atoms lines certificate found ar
         })
 
 -- ---- limits
+
+-- what was found within a limit was found within a greater one
+pub found_within : {S A : Type 0} {t : System S A} {claim : Claim} {count most : ℕ} {states : List S} {all : List Reached} → AreFound t claim count states all → count ≤ most → AreFound t claim most states all
+found_within found le = record {
+  one_for_each = found.one_for_each;
+  within_limit = omega (arith, found.within_limit);
+  distinct = found.distinct;
+  reachable = found.reachable;
+  cheap = found.cheap;
+  closed = found.closed;
+}
 
 -- what is shown with so many states is shown with more
 pub more_allowed : {task : Task} {claim : Claim} {count most : ℕ} {certificate : Certificate} → IsShownBy task claim count certificate → count ≤ most → IsShownBy task claim most certificate

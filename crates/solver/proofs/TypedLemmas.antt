@@ -130,7 +130,7 @@ ground_typed : (task : Task) (scope : List Union) (binding : List ℕ) (a : Lift
     → is_atom task (ground_atom binding a) ≡ true
 ground_typed task scope binding a whole fit typed =
     elim (slice_get task.predicates a.predicate) as (λ o. option_map_or (λ (p : Predicate). pointwise (is_term task scope) p.arguments a.terms) o false ≡ true
-        → option_map_or (λ (p : Predicate). pointwise (is_of task) p.arguments (map (object_of binding) a.terms)) o false ≡ true) [
+    → option_map_or (λ (p : Predicate). pointwise (is_of task) p.arguments (map (object_of binding) a.terms)) o false ≡ true) [
       | None ↦ λ none. absurd (cc)
       | Some p ↦ λ terms. named_objects task scope binding p.arguments a.terms whole fit terms
     ] typed

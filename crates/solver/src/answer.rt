@@ -10,7 +10,7 @@ use faults::NoMemory;
 use formulas::Plan;
 use search::{Outcome, best_first};
 use std::alloc::Global;
-use task_system::{PlainStore, TaskSystem, instances_exceed};
+use task_system::{PlainStore, TaskSystem};
 use typing::Task;
 
 /// What is found out of a task.
@@ -61,11 +61,19 @@ pub enum Limit {
 pub fn solve(alloc: Global, task: &Task, limits: Limits) -> Result<Answer, NoMemory>
     ensures { IfOk result (IsTrueAnswer (task_of task.now) limits.states limits.instances) }
 {
-    if instances_exceed(task, limits.instances()) {
+    let system = TaskSystem::new(alloc, task)?;
+    solve_system(alloc, &system, limits)
+}
+
+/// The same of the system that a task is.
+fn solve_system(alloc: Global, system: &TaskSystem<'_>, limits: Limits) -> Result<Answer, NoMemory>
+    ensures { IfOk result (IsTrueAnswer (task_of system.now.task.now) limits.states limits.instances) }
+{
+    if system.instances_exceed(limits.instances()) {
         return Ok(Answer::Unknown(Limit::Instances));
     }
-    let system = TaskSystem(task);
-    match best_first(alloc, &system, PlainStore::new(alloc), limits.states())? {
+    let task = system.task();
+    match best_first(alloc, system, PlainStore::new(alloc), limits.states())? {
         Outcome::Found {
             steps,
             cost,

@@ -1,25 +1,60 @@
-use Rattle.std.proofs.Common.{rules, ◌+◌, ◌∙◌, sym, ap, map, take, drop}
-use Rattle.std.specs.Option.{option_map}
-use Rattle.faults.specs.Fault.{told_by}
+use Rattle.std.proofs.Common.{rules, arith, ◌≡◌, ◌+◌, ◌∙◌, sym, ap, map, take, true, subst, length, [], ◌∷◌, ◌++◌}
+use Rattle.std.specs.Cmp.Lexicographic.{pointwise}
+use Rattle.std.proofs.lemmas.List.{take_all, length_push}
+use Rattle.std.proofs.lemmas.Result.{err_from_is_err_and}
+use Rattle.std.proofs.lemmas.Slice.Zip.{zip_turn, zip_end}
 use Rattle.typing.specs.Task.{task_of}
-use Rattle.typing.specs.TaskParts.{object_of}
-use Rattle.model.specs.PlanText.{IsNumberOf}
+use Rattle.typing.specs.TaskParts.{object_of, union_of}
+use Rattle.model.specs.Meaning.{is_of}
+use Rattle.model.specs.PlanText.{AreNumbersOf, object_names}
 use Rattle.plan_file.specs.PlanFile.{name_of}
-use Rattle.plan_file.proofs.PlanSteps.{split_at, numbers_more, object_refused}
+use Rattle.plan_file.proofs.PlanSteps.{numbers_more, fit_more, object_refused}
 use Rattle.plan_file.proofs.steps.objects_of.Goals as goal
 
-pub returns-in_default-clause-refused : goal.returns-in_default-clause-refused
-returns-in_default-clause-refused c =
+pub returns-in_err-object_of-clause-refused : goal.returns-in_err-object_of-clause-refused
+returns-in_err-object_of-clause-refused c =
+    let p = err_from_is_err_and c.from_residual.result c.from_residual.ensures.1 in
+    let parameters = c.args.parameters.now in
     let names = c.args.names.now in
-    let i = c.loop-name.name-index in
-    object_refused (task_of c.args.task.now).objects (map name_of names) (map name_of (take i names)) (map name_of (drop (i + 1) names)) (name_of c.name-item.result) (map object_of c.loop-name.objects.items)
-    (split_at name_of names i c.name-item.result c.loop-name-test.true c.name-item.is) c.loop-name.invariant.are
-    (sym c.in_ok-object.ensures ∙ ap (option_map object_of) c.in_default.is) (told_by c.refused.result) c.refused.ensures
+    let first : c.into_iter-types-iterator.result.a.rest.now ≡ parameters = search rules in
+    let second : c.into_iter-types-iterator.result.b.rest.now ≡ names = search rules in
+    let turn = zip_turn parameters names c.loop-types.yielded _ _ c.next.new.self _ first second c.loop-types.yielded_by _ c.in-Some.is c.next.ensures.steps in
+    rw (p.1, p.2)
+    (object_refused (task_of c.args.task.now) union_of parameters name_of names (length c.loop-types.yielded) c.in-Some.types.now c.in-Some.name.now object_of c.loop-types.objects.items
+    turn.0 turn.1 (turn.2 c.in-Some.types.now) (turn.3 c.in-Some.name.now) c.loop-types.invariant.are c.loop-types.invariant.fit _ c.in_err-object_of.ensures.refused)
 
-pub loop-name-preserved : goal.loop-name-preserved
-loop-name-preserved c =
-    let number : IsNumberOf (task_of c.args.task.now).objects (name_of c.name-item.result) (object_of c.in-Some.object) = sym c.in_ok-object.ensures ∙ ap (option_map object_of) c.in-Some.is in
+pub loop-types-preserved : goal.loop-types-preserved
+loop-types-preserved c =
+    let task = task_of c.args.task.now in
+    let parameters = c.args.parameters.now in
+    let names = c.args.names.now in
+    let i = length c.loop-types.yielded in
+    let first : c.into_iter-types-iterator.result.a.rest.now ≡ parameters = search rules in
+    let second : c.into_iter-types-iterator.result.b.rest.now ≡ names = search rules in
+    let turn = zip_turn parameters names c.loop-types.yielded _ _ c.next.new.self _ first second c.loop-types.yielded_by _ c.in-Some.is c.next.ensures.steps in
+    let one_more : i + 1 ≡ length (c.loop-types.yielded ++ (c.in-Some.types, c.in-Some.name) ∷ []) = sym (length_push c.loop-types.yielded (c.in-Some.types, c.in-Some.name)) in
     record {
-      are = numbers_more (task_of c.args.task.now).objects name_of c.args.names.now c.loop-name.name-index c.name-item.result object_of c.loop-name.objects.items c.push.new.self.items c.in-Some.object c.loop-name-test.true c.name-item.is c.push.ensures.items c.loop-name.invariant.are number;
-      count = search rules;
+      are = subst (λ n. AreNumbersOf (object_names task) (map name_of (take n names)) (map object_of c.push.new.self.items)) one_more
+          (numbers_more (object_names task) name_of names i c.in-Some.name.now object_of c.loop-types.objects.items c.push.new.self.items c.in_ok-object_of.field-0
+          turn.1 (turn.3 c.in-Some.name.now) c.push.ensures.items c.loop-types.invariant.are c.in_ok-object_of.ensures.number);
+      fit = subst (λ n. pointwise (is_of task) (map union_of (take n parameters)) (map object_of c.push.new.self.items) ≡ true) one_more
+          (fit_more task union_of parameters i c.in-Some.types.now object_of c.loop-types.objects.items c.push.new.self.items c.in_ok-object_of.field-0
+          turn.0 (turn.2 c.in-Some.types.now) c.push.ensures.items c.loop-types.invariant.fit c.in_ok-object_of.ensures.fits);
+      count = c.push.ensures.len ∙ ap (λ n. n + 1) c.loop-types.invariant.count ∙ one_more;
+    }
+
+pub returns : goal.returns
+returns c =
+    let task = task_of c.args.task.now in
+    let parameters = c.args.parameters.now in
+    let names = c.args.names.now in
+    let objects = map object_of c.loop-types.objects.items in
+    let first : c.into_iter-types-iterator.result.a.rest.now ≡ parameters = search rules in
+    let second : c.into_iter-types-iterator.result.b.rest.now ≡ names = search rules in
+    let counts = zip_end parameters names c.loop-types.yielded _ _ c.next.new.self _ first second c.loop-types.yielded_by c.in-None.is c.next.ensures.steps in
+    let same = c.requires.counts in
+    record {
+      objects = subst (λ ns. AreNumbersOf (object_names task) (map name_of ns) objects) (take_all (length c.loop-types.yielded) names (omega (arith, counts, same))) c.loop-types.invariant.are;
+      fit = subst (λ us. pointwise (is_of task) (map union_of us) objects ≡ true) (take_all (length c.loop-types.yielded) parameters (omega (arith, counts, same))) c.loop-types.invariant.fit;
+      refused = tt;
     }
