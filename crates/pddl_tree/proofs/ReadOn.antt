@@ -117,6 +117,9 @@ is_reserved {n = n} e is = sym e ∙ ap (λ r. Some (reserved (reserved_view r) 
 pub told_by : {A T : Type 0} {p : Phrase A} {words : List Word} {at : ℕ} (r : Result T WordFault) {refusal : WordFault} → IsErrAnd r (λ e. e ≡ refusal) → IsTold p words at refusal → IfErr r (λ e. IsTold p words at e)
 told_by {p = p} {words} {at} r {refusal} = passed_on (IsTold p words at) r refusal
 
+pub told_at : {A T : Type 0} {p : Phrase A} {words : List Word} {at : ℕ} (r : Result T WordRefusal) {refusal : WordRefusal} → IsErrAnd r (λ e. e ≡ refusal) → IsTold p words at (At refusal) → IfErr r (λ e. IsTold p words at (At e))
+told_at {p = p} {words} {at} r {refusal} = passed_on (λ e. IsTold p words at (At e)) r refusal
+
 -- what was read with a tree, or told, where the tree is kept by another name
 pub read_as : {A B : Type 0} {p : Phrase A} {words : List Word} {at next : ℕ} {x : A} (f : A → B) → IsRead p words at x next → IsRead (and_then p (λ y. gives (f y))) words at (f x) next
 read_as {p = p} {words} {at} f a = record { runs = λ k. ap (run (from words at)) (in_turn p (λ y. gives (f y)) k) ∙ a.runs (λ y. k (f y)) }

@@ -11,9 +11,8 @@ use Rattle.pddl_words.specs.Refusal.{fault_of}
 use Rattle.pddl_tree.specs.Reading.{number_seen}
 use Rattle.model.specs.Words.{end_of}
 use Rattle.model.specs.Words as text
-use Rattle.model.specs.Trees as tree
-use Rattle.model.specs.Grammar.{IsDomain, IsProblem, Tree, domain_tree, problem_tree, gives, close}
-use Rattle.model.specs.GrammarWords.{File, domain_file, problem_file, Token, token_of, tokens_of}
+use Rattle.model.specs.Grammar.{IsFile, Tree, gives, close}
+use Rattle.model.specs.GrammarWords.{File, Token, token_of, tokens_of}
 use Rattle.model.specs.Refusals.{IsWhole, IsRefused, end_of_all, span_by, span_of_place, start}
 use Rattle.model.specs.GrammarMachine.{run, finished, stopped}
 use Rattle.model.proofs.GrammarMeaning.{run_file, file_run}
@@ -26,11 +25,8 @@ pub same_tokens : (words : List Word) → map token words ≡ tokens_of (map wor
 same_tokens [] = refl
 same_tokens (w ∷ words) = ap (λ ts. token w ∷ ts) (same_tokens words)
 
-pub domain_read : (words : List Word) (d : tree.Domain) → run (from words 0) (start domain_file) ≡ finished (domain_tree d) → IsDomain (tokens_of (map word_of words)) d
-domain_read words d e = run_file domain_file (tokens_of (map word_of words)) (domain_tree d) (ap (λ w. run w (start domain_file)) (sym (same_tokens words)) ∙ e)
-
-pub problem_read : (words : List Word) (p : tree.Problem) → run (from words 0) (start problem_file) ≡ finished (problem_tree p) → IsProblem (tokens_of (map word_of words)) p
-problem_read words p e = run_file problem_file (tokens_of (map word_of words)) (problem_tree p) (ap (λ w. run w (start problem_file)) (sym (same_tokens words)) ∙ e)
+pub file_read : (file : File) (words : List Word) (t : Tree) → run (from words 0) (start file) ≡ finished t → IsFile file (tokens_of (map word_of words)) t
+file_read file words t e = run_file file (tokens_of (map word_of words)) t (ap (λ w. run w (start file)) (sym (same_tokens words)) ∙ e)
 
 abbrev Stops : File → List Word → Option (ℕ × ℕ) → Type 0
 Stops file words told = IfSome told (λ p. run (from words 0) (start file) ≡ stopped p.0 (from words p.1))

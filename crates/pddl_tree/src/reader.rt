@@ -14,7 +14,7 @@ ghost use Rattle.tokens.specs.Word.{word_of};
 ghost use Rattle.model.specs.Fault as model;
 ghost use Rattle.model.specs.Words as text;
 ghost use Rattle.model.specs.GrammarWords.{File, domain_file, problem_file, tokens_of};
-ghost use Rattle.model.specs.Grammar.{EachIsOneDomain, EachIsOneProblem, IsDomain, IsProblem, Tree, domain_tree, problem_tree, gives};
+ghost use Rattle.model.specs.Grammar.{EachIsOneDomain, EachIsOneProblem, IsDomain, IsProblem, IsFile, Tree, tree_from, file as wants_file, gives};
 ghost use Rattle.model.specs.Refusals.{IsWhole, IsRefused, span_of_place, start};
 ghost use Rattle.model.specs.GrammarExamples.{AreAsTold};
 ghost use Rattle.model.specs.GrammarMachine.{run, finished};
@@ -22,7 +22,8 @@ ghost use Rattle.pddl_words.specs.Name.{name_of};
 ghost use Rattle.pddl_words.specs.Token.{from};
 ghost use Rattle.pddl_words.specs.Refusal.{told, fault_of};
 ghost use Rattle.pddl_tree.specs.Place.{file_view};
-ghost use Rattle.pddl_tree.specs.Reading.{StopsAs};
+ghost use Rattle.pddl_tree.specs.Reading.{the, IsTold, StopsAs};
+ghost use Rattle.pddl_tree.specs.Sections.{contents_of};
 ghost use Rattle.pddl_tree.specs.Head.{HasHead, HasNoHead, after_head};
 ghost use Rattle.pddl_tree.specs.Tree.{domain_of, problem_of};
 
@@ -42,7 +43,7 @@ use tokens::Word;
 ///
 /// - `RepeatedSection`: the keyword of a section or of a part of an action that stands a second time in its list.
 /// - `LeftOut`: the keyword of a section or part that the language profile leaves out, where one is wanted, or the name
-///   of a form that it leaves out, as `preference`.
+///   of a form that it leaves out, as `preference`; or the `(` of an `(either ..)` as the type of a name.
 /// - `UnknownSection`: any other keyword where that of a section or part is wanted.
 /// - `UnknownRequirement`: a keyword in `:requirements` that is no key.
 /// - `MissingSection`: the `)` of the file without `:predicates`, or of an action without `:parameters`.
@@ -72,14 +73,17 @@ pub fn domain<'a>(alloc: Global, words: &[Word<'a>]) -> Result<Domain<'a>, Fault
     // Words that stop within the head are refused for that, and never for want of memory.
     ensures head { HasNoHead domain_file (tokens_of (map word_of words.now)) → IsErrAnd result (λ fault. IsSome (told_by fault)) }
 {
-    let name = match head(words, FileKind::Domain) {
-        Ok(name) => name,
-        Err(refusal) => return Err(fault(words, Refused::At(refusal))),
+    let (name, contents) = match file(alloc, words, FileKind::Domain) {
+        Ok(read) => read,
+        Err(fault) => return Err(fault),
     };
-    match read_domain(alloc, words, name) {
-        Ok(domain) => Ok(domain),
-        Err(refusal) => Err(fault(words, refusal)),
-    }
+    Ok(Domain {
+        name,
+        types: contents.types,
+        constants: contents.constants,
+        predicates: contents.predicates,
+        actions: contents.actions,
+    })
 }
 
 /// The problem that the words are: the whole file, in the words of its text.
@@ -106,14 +110,17 @@ pub fn problem<'a>(alloc: Global, words: &[Word<'a>]) -> Result<Problem<'a>, Fau
     // Words that stop within the head are refused for that, and never for want of memory.
     ensures head { HasNoHead problem_file (tokens_of (map word_of words.now)) → IsErrAnd result (λ fault. IsSome (told_by fault)) }
 {
-    let name = match head(words, FileKind::Problem) {
-        Ok(name) => name,
-        Err(refusal) => return Err(fault(words, Refused::At(refusal))),
+    let (name, contents) = match file(alloc, words, FileKind::Problem) {
+        Ok(read) => read,
+        Err(fault) => return Err(fault),
     };
-    match read_problem(alloc, words, name) {
-        Ok(problem) => Ok(problem),
-        Err(refusal) => Err(fault(words, refusal)),
-    }
+    Ok(Problem {
+        name,
+        domain: contents.domain,
+        objects: contents.objects,
+        init: contents.init,
+        goal: contents.goal,
+    })
 }
 
 /// A law of the grammar: a list of words has at most one tree as a domain, and at most one as a problem.
@@ -163,66 +170,40 @@ fn span_at(words: &[Word], at: usize) -> Span
     Span { start: end, end }
 }
 
-/// The domain of this name that the words after the head are, or the refused word.
-fn read_domain<'a>(
+/// A file of this kind that the words are, whole: its name, and what stands in its sections.
+fn file<'a>(
     alloc: Global,
     words: &[Word<'a>],
-    name: Name<'a>,
-) -> Result<Domain<'a>, WordFault>
-    ensures read { IfOk result (λ tree. run (from words.now 6) (after_head domain_file (name_of name.entry)) ≡ finished (domain_tree (domain_of tree))) }
-    ensures told { IfErr result (λ refusal. StopsAs words.now 6 (after_head domain_file (name_of name.entry)) refusal) }
+    file: FileKind,
+) -> Result<(Name<'a>, Contents<'a>), Fault>
+    ensures read { IfOk result (λ r. IsFile (file_view file) (tokens_of (map word_of words.now)) (tree_from (file_view file) (name_of r.0) (contents_of r.1))) }
+    ensures refused { IfErr result (λ fault. IfSome (told_by fault) (IsRefused (file_view file) (map word_of words.now))) }
+    ensures taken { IsWhole (file_view file) (tokens_of (map word_of words.now)) → IfErr result (λ fault. told_by fault ≡ None) }
+    ensures head { HasNoHead (file_view file) (tokens_of (map word_of words.now)) → IsErrAnd result (λ fault. IsSome (told_by fault)) }
 {
-    let (contents, next) = sections(alloc, words, 6, FileKind::Domain)?;
-    let Contents {
-        types,
-        constants,
-        predicates,
-        actions,
-        domain: _,
-        objects: _,
-        init: _,
-        goal: _,
-    } = contents;
-    match end(words, next) {
-        Ok(()) => Ok(Domain {
-            name,
-            types,
-            constants,
-            predicates,
-            actions,
-        }),
-        Err(refusal) => Err(Refused::At(refusal)),
+    let name = match head(words, file) {
+        Ok(name) => name,
+        Err(refusal) => return Err(fault(words, Refused::At(refusal))),
+    };
+    match rest(alloc, words, file, name) {
+        Ok(contents) => Ok((name, contents)),
+        Err(refusal) => Err(fault(words, refusal)),
     }
 }
 
-/// The problem of this name that the words after the head are, or the refused word.
-fn read_problem<'a>(
+/// What follows the head of a file of this name: what stands in its sections, or the refused word.
+fn rest<'a>(
     alloc: Global,
     words: &[Word<'a>],
+    file: FileKind,
     name: Name<'a>,
-) -> Result<Problem<'a>, WordFault>
-    ensures read { IfOk result (λ tree. run (from words.now 6) (after_head problem_file (name_of name.entry)) ≡ finished (problem_tree (problem_of tree))) }
-    ensures told { IfErr result (λ refusal. StopsAs words.now 6 (after_head problem_file (name_of name.entry)) refusal) }
+) -> Result<Contents<'a>, WordFault>
+    ensures read { IfOk result (λ contents. run (from words.now 6) (after_head (file_view file) (name_of name.entry)) ≡ finished (tree_from (file_view file) (name_of name.entry) (contents_of contents))) }
+    ensures told { IfErr result (λ refusal. StopsAs words.now 6 (after_head (file_view file) (name_of name.entry)) refusal) }
 {
-    let (contents, next) = sections(alloc, words, 6, FileKind::Problem)?;
-    let Contents {
-        types: _,
-        constants: _,
-        predicates: _,
-        actions: _,
-        domain,
-        objects,
-        init,
-        goal,
-    } = contents;
+    let (contents, next) = sections(alloc, words, 6, file)?;
     match end(words, next) {
-        Ok(()) => Ok(Problem {
-            name,
-            domain,
-            objects,
-            init,
-            goal,
-        }),
+        Ok(()) => Ok(contents),
         Err(refusal) => Err(Refused::At(refusal)),
     }
 }
@@ -231,7 +212,7 @@ fn read_problem<'a>(
 fn head<'a>(words: &[Word<'a>], file: FileKind) -> Result<Name<'a>, WordRefusal>
     ensures head { IfOk result (λ _. HasHead (file_view file) (from words.now 0)) }
     ensures read { IfOk result (λ name. run (from words.now 0) (start (file_view file)) ≡ run (from words.now 6) (after_head (file_view file) (name_of name))) }
-    ensures told { IfErr result (λ refusal. StopsAs words.now 0 (start (file_view file)) (At refusal)) }
+    ensures told { IfErr result (λ refusal. IsTold (the (wants_file (file_view file))) words.now 0 (At refusal)) }
 {
     open(words, 0, Place::Elsewhere)?;
     define(words, 1)?;

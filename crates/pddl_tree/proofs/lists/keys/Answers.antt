@@ -1,9 +1,7 @@
 use Rattle.std.proofs.Common.{◌∙◌, sym, arith}
 use Rattle.model.specs.Grammar.{key}
 use Rattle.faults.specs.declared.refused.Refused.TheVariants.{At}
-use Rattle.faults.proofs.Results.{passed_on}
-use Rattle.pddl_tree.specs.Reading.{IsTold, keys_dropped}
-use Rattle.pddl_tree.proofs.ReadOn.{read_word}
+use Rattle.pddl_tree.proofs.ReadOn.{read_word, told_at}
 use Rattle.pddl_tree.proofs.Items.{one_key, keys_end, keys_told}
 use Rattle.pddl_tree.proofs.lists.keys.Goals as goal
 
@@ -18,5 +16,4 @@ returns-clause-read c = record { runs = λ k. c.keys.invariant.read (k tt) ∙ k
 
 pub returns-in_err-next-clause-told : goal.returns-in_err-next-clause-told
 returns-in_err-next-clause-told c =
-    passed_on (λ refusal. IsTold keys_dropped c.args.words.now c.args.at (At refusal)) c.from_residual.result c.in_err-next.field-0.0 c.from_residual.ensures.1
-    (keys_told c.args.words.now c.args.at c.keys.next (At c.in_err-next.field-0.0) c.keys.invariant.read (sym c.is_close.ensures.first ∙ c.keys-test.true) c.in_err-next.ensures.told)
+    told_at _ c.from_residual.ensures.1 (keys_told c.args.words.now c.args.at c.keys.next (At c.in_err-next.field-0.0) c.keys.invariant.read (sym c.is_close.ensures.first ∙ c.keys-test.true) c.in_err-next.ensures.told)

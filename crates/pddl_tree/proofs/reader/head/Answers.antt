@@ -1,43 +1,30 @@
 use Rattle.std.proofs.Common.{refl}
-use Rattle.model.specs.GrammarWords.{opens}
-use Rattle.model.specs.Grammar.{gives, file, define_word, kind_list, kind_word, a_name, close}
-use Rattle.model.specs.Refusals.{start}
-use Rattle.faults.specs.declared.refused.Refused.TheVariants.{At}
-use Rattle.faults.proofs.Results.{passed_on}
+use Rattle.model.specs.Grammar.{file, define_word, kind_list, kind_word, a_name, close}
 use Rattle.pddl_words.specs.Name.{name_of}
 use Rattle.pddl_tree.specs.Place.{file_view}
-use Rattle.pddl_tree.specs.Reading.{StopsAs}
-use Rattle.pddl_tree.proofs.ReadOn.{by_word_told, first_told, then_told}
+use Rattle.pddl_tree.proofs.ReadOn.{by_word_told, first_told, then_told, told_at}
 use Rattle.pddl_tree.proofs.Heads.{is_head, has_head, read_here, in_head}
 use Rattle.pddl_tree.proofs.reader.head.Goals as goal
 
 pub returns-in_err-define-clause-told : goal.returns-in_err-define-clause-told
 returns-in_err-define-clause-told c =
-    let f = file_view c.args.file in let words = c.args.words.now in
-    passed_on (λ refusal. StopsAs words 0 (start f) (At refusal)) c.from_residual-in_err-define.result c.in_err-define.field-0.0 c.from_residual-in_err-define.ensures.1
-    ((by_word_told (file f) {words = words} {at = 0} c.in_ok-open.ensures.word.0 refl
-    (first_told define_word c.in_err-define.ensures.told)).stops gives)
+    let f = file_view c.args.file in
+    told_at _ c.from_residual-in_err-define.ensures.1 (by_word_told (file f) c.in_ok-open.ensures.word.0 refl (first_told define_word c.in_err-define.ensures.told))
 
 pub returns-in_err-kind-clause-told : goal.returns-in_err-kind-clause-told
 returns-in_err-kind-clause-told c =
-    let f = file_view c.args.file in let words = c.args.words.now in
-    passed_on (λ refusal. StopsAs words 0 (start f) (At refusal)) c.from_residual-in_err-kind.result c.in_err-kind.field-0.0 c.from_residual-in_err-kind.ensures.1
-    ((by_word_told (file f) {words = words} {at = 0} c.in_ok-open.ensures.word.0 refl
-    (then_told define_word (read_here define_word c.in_ok-define.ensures.word) (then_told kind_list (in_head c.in_ok-open-2.ensures.word) (first_told (kind_word f) c.in_err-kind.ensures.told)))).stops gives)
+    let f = file_view c.args.file in
+    told_at _ c.from_residual-in_err-kind.ensures.1 (by_word_told (file f) c.in_ok-open.ensures.word.0 refl (then_told define_word (read_here define_word c.in_ok-define.ensures.word) (then_told kind_list (in_head c.in_ok-open-2.ensures.word) (first_told (kind_word f) c.in_err-kind.ensures.told))))
 
 pub returns-in_err-name-clause-told : goal.returns-in_err-name-clause-told
 returns-in_err-name-clause-told c =
-    let f = file_view c.args.file in let words = c.args.words.now in
-    passed_on (λ refusal. StopsAs words 0 (start f) (At refusal)) c.from_residual-in_err-name.result c.in_err-name.field-0.0 c.from_residual-in_err-name.ensures.1
-    ((by_word_told (file f) {words = words} {at = 0} c.in_ok-open.ensures.word.0 refl
-    (then_told define_word (read_here define_word c.in_ok-define.ensures.word) (then_told kind_list (in_head c.in_ok-open-2.ensures.word) (then_told (kind_word f) (read_here (kind_word f) c.in_ok-kind.ensures.word) (first_told a_name c.in_err-name.ensures.told))))).stops gives)
+    let f = file_view c.args.file in
+    told_at _ c.from_residual-in_err-name.ensures.1 (by_word_told (file f) c.in_ok-open.ensures.word.0 refl (then_told define_word (read_here define_word c.in_ok-define.ensures.word) (then_told kind_list (in_head c.in_ok-open-2.ensures.word) (then_told (kind_word f) (read_here (kind_word f) c.in_ok-kind.ensures.word) (first_told a_name c.in_err-name.ensures.told)))))
 
 pub returns-in_err-close-clause-told : goal.returns-in_err-close-clause-told
 returns-in_err-close-clause-told c =
-    let f = file_view c.args.file in let words = c.args.words.now in
-    passed_on (λ refusal. StopsAs words 0 (start f) (At refusal)) c.from_residual-in_err-close.result c.in_err-close.field-0.0 c.from_residual-in_err-close.ensures.1
-    ((by_word_told (file f) {words = words} {at = 0} c.in_ok-open.ensures.word.0 refl
-    (then_told define_word (read_here define_word c.in_ok-define.ensures.word) (then_told kind_list (in_head c.in_ok-open-2.ensures.word) (then_told (kind_word f) (read_here (kind_word f) c.in_ok-kind.ensures.word) (then_told a_name (read_here a_name c.in_ok-name.ensures.word) (first_told close c.in_err-close.ensures.told)))))).stops gives)
+    let f = file_view c.args.file in
+    told_at _ c.from_residual-in_err-close.ensures.1 (by_word_told (file f) c.in_ok-open.ensures.word.0 refl (then_told define_word (read_here define_word c.in_ok-define.ensures.word) (then_told kind_list (in_head c.in_ok-open-2.ensures.word) (then_told (kind_word f) (read_here (kind_word f) c.in_ok-kind.ensures.word) (then_told a_name (read_here a_name c.in_ok-name.ensures.word) (first_told close c.in_err-close.ensures.told))))))
 
 pub returns-clause-head : goal.returns-clause-head
 returns-clause-head c =
