@@ -24,3 +24,6 @@ pub mod TypingFaultsPhases
 pub mod TypingFaultsTold
 pub mod PlanExampleProofs
 pub mod CertificateExampleProofs
+pub mod TypeChains
+pub mod TypedDeclarations
+pub mod TypedTask

@@ -26,13 +26,21 @@ initial_state task = from_list task.init
 
 -- ---- objects and their types
 
+-- of these types, all that the objects of one are of
+abbrev pub supertypes_in : List ObjectType → ℕ → List ℕ
+supertypes_in all number = option_map_or (λ (t : ObjectType). t.supertypes) (slice_get all number) []
+
+-- of these types, one is one of some or stands below one of them
+abbrev pub is_below_in : List ObjectType → Union → ℕ → Bool
+is_below_in all types number = list_any (λ above. list_any (nat_eq above) types) (supertypes_in all number)
+
 -- all types that the objects of a type are of
 abbrev pub supertypes_of : Task → ℕ → List ℕ
-supertypes_of task number = option_map_or (λ (t : ObjectType). t.supertypes) (slice_get task.types number) []
+supertypes_of task = supertypes_in task.types
 
 -- the type is one of these or stands below one of them
 abbrev pub is_below : Task → Union → ℕ → Bool
-is_below task types number = list_any (λ above. list_any (nat_eq above) types) (supertypes_of task number)
+is_below task = is_below_in task.types
 
 -- the object is of one of these types: the type that it is declared with is one of them or stands below one
 abbrev pub is_of : Task → Union → ℕ → Bool

@@ -9,7 +9,8 @@ use Rattle.std.specs.Option.{option_map_or}
 use Rattle.std.specs.Ordering.{nat_cmp, is_lt}
 use Rattle.model.specs.Fault.{Fault}
 use Rattle.model.specs.Task as task
-use Rattle.model.specs.Trees.{Name, Group, names_of, Domain, Problem}
+use Rattle.model.specs.Meaning.{is_below_in}
+use Rattle.model.specs.Trees.{Name, Group, Domain, Problem}
 use Rattle.model.specs.Trees as tree
 
 -- ---- names
@@ -29,11 +30,47 @@ is_known names name = list_any (is_same (folded name)) names
 abbrev pub number_in : List task.Name → Name → ℕ
 number_in names name = position_or_len (is_same (folded name)) names
 
+-- these names and one more, unless it is among them
+abbrev pub with_name : List task.Name → Name → List task.Name
+with_name names name = if is_known names name then names else names ++ folded name ∷ []
+
+-- ---- what typed lists declare
+
+pub data File : Type 0 where
+  in_domain : File
+  in_problem : File
+
+-- a name that a typed list of a file declares, and the types after its `-`
+pub record Declared : Type 0 where
+  pub file : File
+  pub name : Name
+  pub types : List Name
+
+abbrev pub declared_in_group : File → Group → List Declared
+declared_in_group file g = map (λ (name : Name). record { file = file; name = name; types = g.types }) g.names
+
+-- what a typed list declares, in order
+abbrev pub declared : File → List Group → List Declared
+declared file groups = flat_map (declared_in_group file) groups
+
+abbrev pub names_of : List Declared → List Name
+names_of xs = map (λ (x : Declared). x.name) xs
+
+abbrev pub declared_types : Domain → List Declared
+declared_types d = declared in_domain d.types
+
+abbrev pub declared_constants : Domain → List Declared
+declared_constants d = declared in_domain d.constants
+
+-- the constants and the objects, which are declared in one space of names
+abbrev pub declared_objects : Domain → Problem → List Declared
+declared_objects d p = declared_constants d ++ declared in_problem p.objects
+
 -- ---- types
 
--- The names of all types: `object`, and then those that the domain declares.
+-- The names of all types: `object`, and then those that the domain declares, each once.
 abbrev pub type_names : Domain → List task.Name
-type_names d = codes "object" ∷ map folded (names_of d.types)
+type_names d = fold with_name (codes "object" ∷ []) (names_of (declared_types d))
 
 -- the types that are written after a `-`, by their numbers; where none is written, `object`
 abbrev pub union_in : List task.Name → List Name → task.Union
@@ -45,13 +82,12 @@ abbrev pub type_in : List task.Name → List Name → ℕ
 type_in types [] = 0
 type_in types (first ∷ others) = number_in types first
 
--- for each name of a typed list, in order, what its group's types say
-abbrev pub by_group : {T : Type 0} → (List Name → T) → List Group → List T
-by_group of groups = flat_map (λ (g : Group). map (λ _. of g.types) g.names) groups
+-- the parents of `object` and of these types, in the order of their numbers; `object` is its own
+abbrev pub parents_in : List task.Name → List Declared → List ℕ
+parents_in types xs = 0 ∷ map (λ (x : Declared). type_in types x.types) xs
 
--- the parent of each type, in the order of their numbers; `object` is its own
 abbrev pub parents_of : Domain → List ℕ
-parents_of d = 0 ∷ by_group (type_in (type_names d)) d.types
+parents_of d = parents_in (type_names d) (declared_types d)
 
 -- a type and those above it on its chain of parents, up to `object`; of a chain that comes back, so many
 abbrev pub chain : List ℕ → ℕ → ℕ → List ℕ
@@ -60,20 +96,15 @@ chain parents (suc most) zero = zero ∷ []
 chain parents (suc most) (suc number) = suc number ∷ chain parents most (slice_index parents (suc number))
 
 -- a chain that does not come back has no more types than there are
-abbrev pub supertypes_in : Domain → ℕ → List ℕ
-supertypes_in d number = chain (parents_of d) (length (parents_of d)) number
+abbrev pub whole_chain : List ℕ → ℕ → List ℕ
+whole_chain parents number = chain parents (length parents) number
 
-abbrev pub types_from : Domain → ℕ → List task.Name → List task.ObjectType
-types_from d number [] = []
-types_from d number (name ∷ names) = record { name = name; supertypes = supertypes_in d number } ∷ types_from d (number + 1) names
+abbrev pub types_from : List ℕ → ℕ → List task.Name → List task.ObjectType
+types_from parents number [] = []
+types_from parents number (name ∷ names) = record { name = name; supertypes = whole_chain parents number } ∷ types_from parents (number + 1) names
 
 abbrev pub types_of : Domain → List task.ObjectType
-types_of d = types_from d 0 (type_names d)
-
--- the type of this number is one of these or stands below one of them
-abbrev pub is_below : List task.ObjectType → task.Union → ℕ → Bool
-is_below types wanted number =
-    list_any (λ above. list_any (nat_eq above) wanted) (option_map_or (λ (t : task.ObjectType). t.supertypes) (slice_get types number) [])
+types_of d = types_from (parents_of d) 0 (type_names d)
 
 -- ---- the task of a domain and a problem
 
@@ -84,13 +115,11 @@ pub record Variable : Type 0 where
 
 -- what may be named where a formula, an effect or an atom stands
 pub record Known : Type 0 where
+  pub type_names : List task.Name
   pub types : List task.ObjectType
   pub predicates : List task.Predicate
   pub variables : List Variable
   pub objects : List task.Object
-
-abbrev pub names_of_types : List task.ObjectType → List task.Name
-names_of_types types = map (λ (t : task.ObjectType). t.name) types
 
 abbrev pub names_of_predicates : List task.Predicate → List task.Name
 names_of_predicates predicates = map (λ (p : task.Predicate). p.name) predicates
@@ -141,56 +170,74 @@ abbrev pub atoms_in : Known → tree.Fact → List task.Atom
 atoms_in known (tree.fact a) = atom_in known a ∷ []
 atoms_in known (tree.negated word a) = []
 
--- the objects of a typed list, each with its type
-abbrev pub objects_of_group : List task.Name → Group → List task.Object
-objects_of_group types g = map (λ (name : Name). record { name = folded name; type = type_in types g.types }) g.names
-
-abbrev pub objects_in : List task.Name → List Group → List task.Object
-objects_in types groups = flat_map (objects_of_group types) groups
+-- an object, with its type
+abbrev pub object_in : List task.Name → Declared → task.Object
+object_in types x = record { name = folded x.name; type = type_in types x.types }
 
 abbrev pub constants_of : Domain → List task.Object
-constants_of d = objects_in (type_names d) d.constants
+constants_of d = map (object_in (type_names d)) (declared_constants d)
 
 -- the domain's constants, and then the problem's objects
 abbrev pub objects_of : Domain → Problem → List task.Object
-objects_of d p = constants_of d ++ objects_in (type_names d) p.objects
+objects_of d p = map (object_in (type_names d)) (declared_objects d p)
 
 -- these variables and one more, unless one of its name is among them: the first declaration counts
 abbrev pub with_variable : List Variable → Variable → List Variable
 with_variable variables v = if list_any (is_same v.name) (names_of_variables variables) then variables else variables ++ v ∷ []
 
-abbrev pub variables_of_group : List task.Name → Group → List Variable
-variables_of_group types g = map (λ (name : Name). record { name = folded name; types = union_in types g.types }) g.names
+abbrev pub variable_in : List task.Name → Declared → Variable
+variable_in types x = record { name = folded x.name; types = union_in types x.types }
 
--- the variables of a typed list, each once
-abbrev pub variables_in : List task.Name → List Group → List Variable
-variables_in types groups = fold with_variable [] (flat_map (variables_of_group types) groups)
+-- the variables that are declared, each once
+abbrev pub variables_in : List task.Name → List Declared → List Variable
+variables_in types xs = fold with_variable [] (map (variable_in types) xs)
+
+-- what each of the variables has to be, in order
+abbrev pub unions_in : List task.Name → List Declared → List task.Union
+unions_in types xs = map (λ (x : Declared). union_in types x.types) xs
 
 abbrev pub predicate_in : List task.Name → tree.Predicate → task.Predicate
-predicate_in types p = record { name = folded p.name; arguments = by_group (union_in types) p.parameters }
+predicate_in types p = record { name = folded p.name; arguments = unions_in types (declared in_domain p.parameters) }
 
 abbrev pub predicates_of : Domain → List task.Predicate
 predicates_of d = map (predicate_in (type_names d)) d.predicates
 
+-- in the domain: what it declares
+abbrev pub known_in_domain : Domain → Known
+known_in_domain d = record {
+  type_names = type_names d;
+  types = types_of d;
+  predicates = predicates_of d;
+  variables = [];
+  objects = constants_of d;
+}
+
 -- in an action: what the domain declares, and the action's parameters
-abbrev pub known_in_action : List task.ObjectType → List task.Predicate → List task.Object → tree.Action → Known
-known_in_action types predicates constants a = record {
-  types = types;
-  predicates = predicates;
-  variables = variables_in (names_of_types types) a.parameters;
-  objects = constants;
+abbrev pub known_in_action : Known → tree.Action → Known
+known_in_action known a = record {
+  type_names = known.type_names;
+  types = known.types;
+  predicates = known.predicates;
+  variables = variables_in known.type_names (declared in_domain a.parameters);
+  objects = known.objects;
 }
 
 -- in the initial state and the goal: what the domain declares, and the problem's objects
 abbrev pub known_in_problem : Domain → Problem → Known
-known_in_problem d p = record { types = types_of d; predicates = predicates_of d; variables = []; objects = objects_of d p }
+known_in_problem d p = record {
+  type_names = type_names d;
+  types = types_of d;
+  predicates = predicates_of d;
+  variables = [];
+  objects = objects_of d p;
+}
 
-abbrev pub schema_in : List task.ObjectType → List task.Predicate → List task.Object → tree.Action → task.Schema
-schema_in types predicates constants a = record {
+abbrev pub schema_in : Known → tree.Action → task.Schema
+schema_in known a = record {
   name = folded a.name;
-  parameters = by_group (union_in (names_of_types types)) a.parameters;
-  precondition = formula_in (known_in_action types predicates constants a) a.precondition;
-  effect = effect_in (known_in_action types predicates constants a) a.effect;
+  parameters = unions_in known.type_names (declared in_domain a.parameters);
+  precondition = formula_in (known_in_action known a) a.precondition;
+  effect = effect_in (known_in_action known a) a.effect;
 }
 
 -- the task, where the pair is well-typed: each name is its number
@@ -199,16 +246,12 @@ task_of_trees d p = record {
   types = types_of d;
   objects = objects_of d p;
   predicates = predicates_of d;
-  schemas = map (schema_in (types_of d) (predicates_of d) (constants_of d)) d.actions;
+  schemas = map (schema_in (known_in_domain d)) d.actions;
   init = flat_map (atoms_in (known_in_problem d p)) p.init;
   goal = formula_in (known_in_problem d p) p.goal;
 }
 
 -- ---- faults
-
-pub data File : Type 0 where
-  in_domain : File
-  in_problem : File
 
 -- a fault of a pair of trees: the file that it is in, its number, and the span of the word that it refuses
 pub record TypingFault : Type 0 where
@@ -220,8 +263,12 @@ pub record Placed : Type 0 where
   pub file : File
   pub word : Name
 
-abbrev pub placed : File → List Name → List Placed
-placed file words = map (λ (word : Name). record { file = file; word = word }) words
+abbrev pub placed : File → Name → Placed
+placed file word = record { file = file; word = word }
+
+-- the words of declarations
+abbrev pub words_of : List Declared → List Placed
+words_of xs = map (λ (x : Declared). placed x.file x.name) xs
 
 -- each of these words is refused by this number
 abbrev pub refused : ℕ → List Placed → List TypingFault
@@ -234,7 +281,7 @@ refused_word file code word = record { file = file; fault = record { code = code
 -- the words that are the same as one that stands before them, in the list or among these
 abbrev pub repeated_after : List task.Name → List Placed → List Placed
 repeated_after before [] = []
-repeated_after before (w ∷ rest) = (if is_known before w.word then w ∷ [] else []) ++ repeated_after (before ++ folded w.word ∷ []) rest
+repeated_after before (w ∷ rest) = (if is_known before w.word then w ∷ [] else []) ++ repeated_after (with_name before w.word) rest
 
 abbrev pub repeated : List Placed → List Placed
 repeated words = repeated_after [] words
@@ -248,8 +295,11 @@ abbrev pub unknown_faults : File → ℕ → List task.Name → Name → List Ty
 unknown_faults file code names name = if is_known names name then [] else refused_word file code name
 
 -- 14: a type that is neither `object` nor declared
-abbrev pub type_faults : File → List task.Name → List Group → List TypingFault
-type_faults file types groups = flat_map (λ (g : Group). flat_map (unknown_faults file 14 types) g.types) groups
+abbrev pub types_faults : List task.Name → Declared → List TypingFault
+types_faults types x = flat_map (unknown_faults x.file 14 types) x.types
+
+abbrev pub type_faults : List task.Name → List Declared → List TypingFault
+type_faults types xs = flat_map (types_faults types) xs
 
 -- 17: there is no declaration. 18: it has another count of arguments
 abbrev pub faults_against : File → Option task.Predicate → Name → ℕ → List TypingFault
@@ -269,11 +319,11 @@ arguments_in known name = option_map_or (λ (p : task.Predicate). p.arguments) (
 
 -- A term fits an argument of these types: a variable each of whose types is one of them or stands below one, an object
 -- whose type does. What is not known is no misfit.
-abbrev pub fits_in : Known → task.Union → tree.Term → Bool
-fits_in known wanted (tree.variable name) =
-    option_map_or (λ (v : Variable). list_all (is_below known.types wanted) v.types) (slice_get known.variables (number_in (names_of_variables known.variables) name)) true
-fits_in known wanted (tree.object name) =
-    option_map_or (λ (o : task.Object). is_below known.types wanted o.type) (slice_get known.objects (number_in (names_of_objects known.objects) name)) true
+abbrev pub fits_in : Known → task.Union → task.Term → Bool
+fits_in known wanted (task.variable number) =
+    option_map_or (λ (v : Variable). list_all (is_below_in known.types wanted) v.types) (slice_get known.variables number) true
+fits_in known wanted (task.object number) =
+    option_map_or (λ (o : task.Object). is_below_in known.types wanted o.type) (slice_get known.objects number) true
 
 -- 17: a variable or an object that is not known
 abbrev pub term_faults : File → Known → tree.Term → List TypingFault
@@ -284,17 +334,19 @@ abbrev pub word_of : tree.Term → Name
 word_of (tree.variable name) = name
 word_of (tree.object name) = name
 
--- 19: a term that does not fit its argument
-abbrev pub misfit_faults : File → Known → Option task.Union → tree.Term → List TypingFault
-misfit_faults file known None term = []
-misfit_faults file known (Some wanted) term = if fits_in known wanted term then [] else refused_word file 19 (word_of term)
+-- it fits what is wanted, if anything is
+abbrev pub fits_wanted : Known → Option task.Union → task.Term → Bool
+fits_wanted known wanted term = option_map_or (λ types. fits_in known types term) wanted true
 
--- of terms that stand at the places of these arguments, as far as there are so many
+-- 19: a term that does not fit its argument, if there is such an argument
+abbrev pub misfit_faults : File → Known → Option task.Union → tree.Term → List TypingFault
+misfit_faults file known wanted term = if fits_wanted known wanted (term_in known term) then [] else refused_word file 19 (word_of term)
+
+-- of terms that stand at the places of these arguments
 abbrev pub terms_faults : File → Known → List task.Union → List tree.Term → List TypingFault
 terms_faults file known arguments [] = []
-terms_faults file known [] (term ∷ terms) = term_faults file known term ++ terms_faults file known [] terms
-terms_faults file known (wanted ∷ arguments) (term ∷ terms) =
-    term_faults file known term ++ misfit_faults file known (Some wanted) term ++ terms_faults file known arguments terms
+terms_faults file known arguments (term ∷ terms) =
+    term_faults file known term ++ misfit_faults file known (slice_get arguments 0) term ++ terms_faults file known (drop 1 arguments) terms
 
 abbrev pub atom_faults : File → Known → tree.Atom → List TypingFault
 atom_faults file known a =
@@ -338,61 +390,58 @@ domain_name_faults d p = if is_same (folded p.domain) (folded d.name) then [] el
 -- 16: a type declared before, or `object`. 14: a parent that is neither `object` nor declared. 25: the 4,096th type
 abbrev pub type_declaration_faults : Domain → List TypingFault
 type_declaration_faults d =
-    refused 16 (repeated_after (codes "object" ∷ []) (placed in_domain (names_of d.types)))
-    ++ type_faults in_domain (type_names d) d.types
-    ++ refused 25 (one_after 4095 (placed in_domain (names_of d.types)))
+    refused 16 (repeated_after (codes "object" ∷ []) (words_of (declared_types d)))
+    ++ type_faults (type_names d) (declared_types d)
+    ++ refused 25 (one_after 4095 (words_of (declared_types d)))
 
 -- the type of this number stands on the chain of its own parent
-abbrev pub comes_back : Domain → ℕ → Bool
-comes_back d number = list_any (nat_eq number) (supertypes_in d (slice_index (parents_of d) number))
+abbrev pub comes_back : List ℕ → ℕ → Bool
+comes_back parents number = list_any (nat_eq number) (whole_chain parents (slice_index parents number))
 
 -- 15: a type whose chain of parents comes back to it, where the first of these types has this number
-abbrev pub cycle_faults_from : Domain → ℕ → List Name → List TypingFault
-cycle_faults_from d number [] = []
-cycle_faults_from d number (name ∷ names) =
-    (if comes_back d number then refused_word in_domain 15 name else []) ++ cycle_faults_from d (number + 1) names
+abbrev pub cycle_faults_from : List ℕ → ℕ → List Declared → List TypingFault
+cycle_faults_from parents number [] = []
+cycle_faults_from parents number (x ∷ xs) =
+    (if comes_back parents number then refused_word x.file 15 x.name else []) ++ cycle_faults_from parents (number + 1) xs
 
 abbrev pub cycle_faults : Domain → List TypingFault
-cycle_faults d = cycle_faults_from d 1 (names_of d.types)
-
--- the names of the constants and of the objects, which are declared in one space of names
-abbrev pub object_words : Domain → Problem → List Placed
-object_words d p = placed in_domain (names_of d.constants) ++ placed in_problem (names_of p.objects)
+cycle_faults d = cycle_faults_from (parents_of d) 1 (declared_types d)
 
 -- 14: an unknown type. 16: a constant or object declared before, in either file. 25: the 65,536th
+abbrev pub objects_faults : List task.Name → List Declared → List TypingFault
+objects_faults types xs =
+    type_faults types xs ++ refused 16 (repeated (words_of xs)) ++ refused 25 (one_after 65535 (words_of xs))
+
 abbrev pub object_faults : Domain → Problem → List TypingFault
-object_faults d p =
-    type_faults in_domain (type_names d) d.constants
-    ++ type_faults in_problem (type_names d) p.objects
-    ++ refused 16 (repeated (object_words d p))
-    ++ refused 25 (one_after 65535 (object_words d p))
+object_faults d p = objects_faults (type_names d) (declared_objects d p)
 
 -- 14: an unknown type. 25: the ninth argument
 abbrev pub argument_faults : List task.Name → tree.Predicate → List TypingFault
 argument_faults types q =
-    type_faults in_domain types q.parameters ++ refused 25 (one_after 8 (placed in_domain (names_of q.parameters)))
+    type_faults types (declared in_domain q.parameters) ++ refused 25 (one_after 8 (words_of (declared in_domain q.parameters)))
 
 -- 16: a predicate declared before. And the faults of its arguments
-abbrev pub declaration_faults : Domain → List TypingFault
-declaration_faults d =
-    refused 16 (repeated (placed in_domain (map (λ (q : tree.Predicate). q.name) d.predicates)))
-    ++ flat_map (argument_faults (type_names d)) d.predicates
+abbrev pub declaration_faults : List task.Name → List tree.Predicate → List TypingFault
+declaration_faults types qs =
+    refused 16 (repeated (map (λ (q : tree.Predicate). placed in_domain q.name) qs)) ++ flat_map (argument_faults types) qs
 
--- 14: an unknown type. 16: a parameter declared before. 25: the 17th parameter. And the faults of the precondition and
--- of the effect
-abbrev pub schema_faults : List task.ObjectType → List task.Predicate → List task.Object → tree.Action → List TypingFault
-schema_faults types predicates constants a =
-    type_faults in_domain (names_of_types types) a.parameters
-    ++ refused 16 (repeated (placed in_domain (names_of a.parameters)))
-    ++ refused 25 (one_after 16 (placed in_domain (names_of a.parameters)))
-    ++ formula_faults in_domain (known_in_action types predicates constants a) a.precondition
-    ++ effect_faults in_domain (known_in_action types predicates constants a) a.effect
+-- 14: an unknown type. 16: a parameter declared before. 25: the 17th parameter
+abbrev pub parameter_faults : List task.Name → List Declared → List TypingFault
+parameter_faults types xs =
+    type_faults types xs ++ refused 16 (repeated (words_of xs)) ++ refused 25 (one_after 16 (words_of xs))
+
+-- the faults of the precondition and of the effect
+abbrev pub body_faults : File → Known → tree.Action → List TypingFault
+body_faults file known a = formula_faults file known a.precondition ++ effect_faults file known a.effect
+
+abbrev pub schema_faults : Known → tree.Action → List TypingFault
+schema_faults known a =
+    parameter_faults known.type_names (declared in_domain a.parameters) ++ body_faults in_domain (known_in_action known a) a
 
 -- 16: an action declared before. And the faults of each action
-abbrev pub action_faults : List task.ObjectType → List task.Predicate → List task.Object → Domain → List TypingFault
-action_faults types predicates constants d =
-    refused 16 (repeated (placed in_domain (map (λ (a : tree.Action). a.name) d.actions)))
-    ++ flat_map (schema_faults types predicates constants) d.actions
+abbrev pub action_faults : Known → List tree.Action → List TypingFault
+action_faults known as' =
+    refused 16 (repeated (map (λ (a : tree.Action). placed in_domain a.name) as')) ++ flat_map (schema_faults known) as'
 
 -- The faults of each phase, phase by phase: the names of the domain and of the types, the cycles of types, the objects,
 -- the predicates, the actions, the initial state and the goal.
@@ -401,8 +450,8 @@ phases d p =
     (domain_name_faults d p ++ type_declaration_faults d)
     ∷ cycle_faults d
     ∷ object_faults d p
-    ∷ declaration_faults d
-    ∷ action_faults (types_of d) (predicates_of d) (constants_of d) d
+    ∷ declaration_faults (type_names d) d.predicates
+    ∷ action_faults (known_in_domain d) d.actions
     ∷ flat_map (fact_faults in_problem (known_in_problem d p)) p.init
     ∷ formula_faults in_problem (known_in_problem d p) p.goal
     ∷ []
