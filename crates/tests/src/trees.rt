@@ -1,7 +1,9 @@
 //! Trees of domains and problems in memory, and what is told of words that stop too early.
 use crate::helpers::{read_domain, read_problem};
 use faults::{Code, Fault, Refusal, Span};
-use pddl_tree::{Action, Domain, Effect, Fact, Formula, Group, Name, Problem, Term, domain, problem};
+use pddl_tree::{
+    Action, Domain, Effect, Fact, Formula, Group, Name, Problem, Term, domain, problem,
+};
 use std::test::Fail;
 use tokens::scan;
 
@@ -109,7 +111,11 @@ fn is_untyped(groups: &[Group], names: &[&[u8]]) -> bool {
 
 /// Whether they are these names.
 fn are(names: &[Name], texts: &[&[u8]]) -> bool {
-    names.len() == texts.len() && names.iter().zip(texts).all(|(name, text)| name.text == *text)
+    names.len() == texts.len()
+        && names
+            .iter()
+            .zip(texts)
+            .all(|(name, text)| name.text == *text)
 }
 
 /// Whether it is the tree of `TRIP`.
@@ -125,12 +131,17 @@ fn is_trip(problem: &Problem) -> bool {
     }
 }
 
-const FLEET: &[u8] = b"(define (domain fleet) (:types truck van - vehicle vehicle) (:constants hub - place)
+const FLEET: &[u8] =
+    b"(define (domain fleet) (:types truck van - vehicle vehicle) (:constants hub - place)
  (:predicates (seen ?x ?y - (either place truck) ?z)))";
 
 /// Whether it is the tree of `FLEET`.
 fn is_fleet(domain: &Domain) -> bool {
-    match (domain.types.as_slice(), domain.constants.as_slice(), domain.predicates.as_slice()) {
+    match (
+        domain.types.as_slice(),
+        domain.constants.as_slice(),
+        domain.predicates.as_slice(),
+    ) {
         ([vehicles, others], [hub], [seen]) => {
             are(&vehicles.names, &[b"truck", b"van"])
                 && are(&vehicles.types, &[b"vehicle"])
