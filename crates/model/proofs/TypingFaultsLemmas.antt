@@ -1,21 +1,18 @@
 -- The faults of typing that are listed and those of the table of faults: how lists of faults are put together.
-use Rattle.std.proofs.Common.{◌≡◌, ℕ, zero, suc, inl, inr, Bool, true, false, List, [], ◌∷◌, ◌++◌, Some, refl, sym, ap, subst}
+use Rattle.std.proofs.Common.{◌≡◌, ℕ, zero, suc, inl, inr, Bool, true, false, List, [], ◌∷◌, ◌++◌, Some, map, refl, sym, ap, ◌∙◌, subst}
 use Rattle.std.specs.Prelude.{Contains, slice_get, if◌then◌else◌}
 use Rattle.std.specs.List.{flat_map}
 use Rattle.std.proofs.lemmas.List.Elements.{Contains-append_left, Contains-append_right, Contains-append_cases}
+use Rattle.std.proofs.lemmas.List.{map-append}
 use Rattle.model.specs.Task as task
-use Rattle.model.specs.Trees.{Name, Group}
-use Rattle.model.specs.Typing.{Placed, File, TypingFault, placed, refused, one_after, is_known, unknown_faults, type_faults}
-use Rattle.model.specs.TypingFaults.{HasType}
+use Rattle.model.specs.Trees.{Name, Group, names_of}
+use Rattle.model.specs.Typing.{Declared, File, Placed, TypingFault, declared, declared_in_group, words_of, placed, refused, one_after, is_known, unknown_faults, types_faults, type_faults}
+use Rattle.model.specs.TypingFaults.{HasType, type_words}
 use Rattle.model.proofs.ListLemmas.{Contains-here, Contains-cases, Contains-none, Contains-map, map-Contains, Contains-flat_map, flat_map-Contains}
 
 -- the fault that refuses the word by the number
 abbrev pub fault_at : ℕ → Placed → TypingFault
 fault_at code w = record { file = w.file; fault = record { code = code; span = w.word.span } }
-
--- a word of the file
-abbrev pub word_in : File → Name → Placed
-word_in file word = record { file = file; word = word }
 
 -- ---- each fault of a list is of the table
 
@@ -77,10 +74,10 @@ when_tells true code w fault = one_tells code w (fault refl)
 when_tells false code w fault = none_tells
 
 -- types that are neither `object` nor declared
-pub types_tell : {table : ℕ → Placed → Type 0} (file : File) (types : List task.Name) (groups : List Group)
-    → ((word : Name) → HasType groups word → is_known types word ≡ false → table 14 (word_in file word)) → AllTell table (type_faults file types groups)
-types_tell file types groups fault =
-    flat_map_tell _ _ (λ g among. flat_map_tell _ _ (λ word at. unless_tells (is_known types word) 14 (word_in file word) (fault word (g, among, at))))
+pub types_tell : {table : ℕ → Placed → Type 0} (types : List task.Name) (xs : List Declared)
+    → ((w : Placed) → HasType xs w → is_known types w.word ≡ false → table 14 w) → AllTell table (type_faults types xs)
+types_tell types xs fault =
+    flat_map_tell _ _ (λ x among. flat_map_tell _ _ (λ word at. unless_tells (is_known types word) 14 (placed x.file word) (fault (placed x.file word) (x, among, Contains-map (placed x.file) x.types word at))))
 
 -- ---- each fault of the table is in the list
 
@@ -107,18 +104,43 @@ pub refused_listed : (code : ℕ) (words : List Placed) (w : Placed) → Contain
 refused_listed code words w at = Contains-map (fault_at code) words w at
 
 -- a type that is neither `object` nor declared
-pub type_listed : (file : File) (types : List task.Name) (groups : List Group) (word : Name) → HasType groups word → is_known types word ≡ false
-    → Contains (type_faults file types groups) (fault_at 14 (word_in file word))
-type_listed file types groups word (g, among, at) unknown =
-    Contains-flat_map (λ (g : Group). flat_map (unknown_faults file 14 types) g.types) groups g (fault_at 14 (word_in file word)) among
-    (Contains-flat_map (unknown_faults file 14 types) g.types word (fault_at 14 (word_in file word)) at
-    (unless_listed (is_known types word) (fault_at 14 (word_in file word)) unknown))
+pub type_listed : (types : List task.Name) (xs : List Declared) (w : Placed) → HasType xs w → is_known types w.word ≡ false → Contains (type_faults types xs) (fault_at 14 w)
+type_listed types xs w (x, among, at) unknown =
+    let there = map-Contains (placed x.file) x.types w at in
+    subst (λ v. Contains (type_faults types xs) (fault_at 14 v)) there.2
+    (Contains-flat_map (types_faults types) xs x (fault_at 14 (placed x.file there.0)) among
+    (Contains-flat_map (unknown_faults x.file 14 types) x.types there.0 (fault_at 14 (placed x.file there.0)) there.1
+    (unless_listed (is_known types there.0) (fault_at 14 (placed x.file there.0)) (ap (λ (v : Placed). is_known types v.word) there.2 ∙ unknown))))
 
 -- ---- words
 
--- a word of some names in a file is one of these names there
-pub placed-Contains : (file : File) (words : List Name) (w : Placed) → Contains (placed file words) w → (word : Name) × Contains words word × (word_in file word ≡ w)
-placed-Contains file words w at = map-Contains (word_in file) words w at
+-- the words of a group are its names
+words_of-group : (file : File) (types : List Name) (names : List Name) → words_of (map (λ (name : Name). record { file = file; name = name; types = types }) names) ≡ map (placed file) names
+words_of-group file types [] = refl
+words_of-group file types (name ∷ names) = ap (λ words. placed file name ∷ words) (words_of-group file types names)
+
+-- the words of a typed list are the names of its groups
+pub words_of-declared : (file : File) (groups : List Group) → words_of (declared file groups) ≡ map (placed file) (names_of groups)
+words_of-declared file [] = refl
+words_of-declared file (g ∷ groups) =
+    map-append (λ (x : Declared). placed x.file x.name) (declared_in_group file g) (declared file groups)
+    ∙ (λ i. words_of-group file g.types g.names i ++ words_of-declared file groups i)
+    ∙ sym (map-append (placed file) g.names (names_of groups))
+
+-- a type of a typed list is one of a group that has a name
+pub HasType-group : (file : File) (groups : List Group) (w : Placed) → HasType (declared file groups) w
+    → (g : Group) × Contains groups g × (name : Name) × Contains g.names name × Contains (map (placed file) g.types) w
+HasType-group file groups w (x, among, at) =
+    let there = flat_map-Contains (declared_in_group file) groups x among in
+    let made = map-Contains (λ (name : Name). let y : Declared = record { file = file; name = name; types = there.0.types } in y) there.0.names x there.2 in
+    (there.0, there.1, made.0, made.1, subst (λ y. Contains (type_words y) w) (sym made.2) at)
+
+-- and the other way
+pub group-HasType : (file : File) (groups : List Group) (w : Placed) (g : Group) (name : Name) → Contains groups g → Contains g.names name → Contains (map (placed file) g.types) w
+    → HasType (declared file groups) w
+group-HasType file groups w g name among named at =
+    let x : Declared = record { file = file; name = name; types = g.types } in
+    (x, Contains-flat_map (declared_in_group file) groups g x among (Contains-map (λ (name : Name). let y : Declared = record { file = file; name = name; types = g.types } in y) g.names name named), at)
 
 -- the word that stands after so many
 pub Contains-one_after : (count : ℕ) (words : List Placed) (w : Placed) → slice_get words count ≡ Some w → Contains (one_after count words) w

@@ -1,11 +1,14 @@
 -- The words that are listed as repeated are those that stand after one that is the same.
 use Rattle.std.proofs.Common.{◌≡◌, ◌⊎◌, inl, inr, true, false, ◌||◌, true≢false, List, [], ◌∷◌, ◌++◌, refl, sym, ap, ◌∙◌, subst}
 use Rattle.std.specs.Prelude.{Contains, if◌then◌else◌}
+use Rattle.std.specs.Cmp.Lexicographic.{same_text}
+use Rattle.std.specs.List.{list_any}
 use Rattle.std.proofs.lemmas.Bool.{or_cases, or_left, or_right}
 use Rattle.std.proofs.lemmas.List.Folds.{list_any-append}
 use Rattle.std.proofs.lemmas.List.Elements.{Contains-append_left, Contains-append_right, Contains-append_cases}
 use Rattle.model.specs.Task as task
-use Rattle.model.specs.Typing.{Placed, folded, is_same, is_known, repeated_after, repeated}
+use Rattle.model.specs.Trees.{Name}
+use Rattle.model.specs.Typing.{Placed, folded, is_same, is_known, with_name, repeated_after, repeated}
 use Rattle.model.specs.TypingFaults.{IsRepeated}
 use Rattle.model.proofs.ListLemmas.{Contains-here, Contains-there, Contains-cases, Contains-none}
 
@@ -24,10 +27,46 @@ split (y ∷ xs) x at =
       | inr later ↦ let s = split xs x later in record { before = y ∷ s.before; after = s.after; stands = ap (λ zs. y ∷ zs) s.stands }
     ]
 
+-- ---- names and one more
+
+-- a name that is known of these and one more is one of these, or the one more
+known_with-cases : (before : List task.Name) (new name : Name) → is_known (with_name before new) name ≡ true → (is_known before name ≡ true) ⊎ (is_same (folded name) (folded new) ≡ true)
+known_with-cases before new name known =
+    elim (is_known before new) as (λ b. is_known (if b then before else before ++ folded new ∷ []) name ≡ true → (is_known before name ≡ true) ⊎ (is_same (folded name) (folded new) ≡ true)) [
+      | true ↦ λ there. inl there
+      | false ↦ λ there. elim (or_cases (is_known before name) _ (sym (list_any-append (is_same (folded name)) before (folded new ∷ [])) ∙ there)) [
+        | inl earlier ↦ inl earlier
+        | inr last ↦ inr (alone last)
+      ]
+    ] known
+  where
+    alone : (is_same (folded name) (folded new) || false) ≡ true → is_same (folded name) (folded new) ≡ true
+    alone either =
+        elim (or_cases (is_same (folded name) (folded new)) false either) [
+          | inl same ↦ same
+          | inr none ↦ absurd (true≢false (sym none))
+        ]
+
+-- what is known stays so
+known_with-before : (before : List task.Name) (new name : Name) → is_known before name ≡ true → is_known (with_name before new) name ≡ true
+known_with-before before new name known =
+    elim (is_known before new) as (λ b. is_known (if b then before else before ++ folded new ∷ []) name ≡ true) [
+      | true ↦ known
+      | false ↦ list_any-append (is_same (folded name)) before (folded new ∷ []) ∙ or_left (is_known before name) _ known
+    ]
+
+-- and the one more is known
+known_with-new : (before : List task.Name) (new name : Name) → is_same (folded name) (folded new) ≡ true → is_known (with_name before new) name ≡ true
+known_with-new before new name same =
+    elim (is_known before new) as (λ b. is_known before new ≡ b → is_known (if b then before else before ++ folded new ∷ []) name ≡ true) [
+      | true ↦ λ known. ap (λ text. list_any (is_same text) before) (same_text (folded name) (folded new) (sym same)) ∙ known
+      | false ↦ λ _. list_any-append (is_same (folded name)) before (folded new ∷ []) ∙ or_right (is_known before name) _ (or_left (is_same (folded name) (folded new)) false same)
+    ] refl
+
 -- ---- from the list
 
 -- what is repeated later
-again_there : (before : List task.Name) (v : Placed) (rest : List Placed) (w : Placed) → (Contains rest w × (is_known (before ++ folded v.word ∷ []) w.word ≡ true)) ⊎ IsRepeated rest w
+again_there : (before : List task.Name) (v : Placed) (rest : List Placed) (w : Placed) → (Contains rest w × (is_known (with_name before v.word) w.word ≡ true)) ⊎ IsRepeated rest w
     → (Contains (v ∷ rest) w × (is_known before w.word ≡ true)) ⊎ IsRepeated (v ∷ rest) w
 again_there before v rest w (inr r) = inr (record {
   before = v ∷ r.before;
@@ -38,22 +77,19 @@ again_there before v rest w (inr r) = inr (record {
   is_same = r.is_same;
 })
 again_there before v rest w (inl (at, known)) =
-    elim (or_cases (is_known before w.word) _ (sym (list_any-append (is_same (folded w.word)) before (folded v.word ∷ [])) ∙ known)) [
+    elim (known_with-cases before v.word w.word known) [
       | inl earlier ↦ inl (Contains-there v rest w at, earlier)
-      | inr is ↦ inr (after_first (split rest w at) is)
+      | inr same ↦ inr (after_first (split rest w at) same)
     ]
   where
-    after_first : Split rest w → (is_same (folded w.word) (folded v.word) || false) ≡ true → IsRepeated (v ∷ rest) w
-    after_first s is = record {
+    after_first : Split rest w → is_same (folded w.word) (folded v.word) ≡ true → IsRepeated (v ∷ rest) w
+    after_first s same = record {
       before = v ∷ s.before;
       after = s.after;
       stands = ap (λ ws. v ∷ ws) s.stands;
       earlier = v;
       is_before = Contains-here v s.before;
-      is_same = elim (or_cases (is_same (folded w.word) (folded v.word)) false is) [
-        | inl same ↦ same
-        | inr none ↦ absurd (true≢false (sym none))
-      ];
+      is_same = same;
     }
 
 -- the first word, where it is listed
@@ -72,10 +108,10 @@ pub repeated_after-Contains : (before : List task.Name) (words : List Placed) (w
     → (Contains words w × (is_known before w.word ≡ true)) ⊎ IsRepeated words w
 repeated_after-Contains before [] w at = absurd (Contains-none w at)
 repeated_after-Contains before (v ∷ rest) w at =
-    elim (Contains-append_cases (if is_known before v.word then v ∷ [] else []) (repeated_after (before ++ folded v.word ∷ []) rest) w at) [
+    elim (Contains-append_cases (if is_known before v.word then v ∷ [] else []) (repeated_after (with_name before v.word) rest) w at) [
       | inl here ↦ let first = first_again before v w here in
           inl (subst (λ u. Contains (v ∷ rest) u) first.0 (Contains-here v rest), subst (λ (u : Placed). is_known before u.word ≡ true) first.0 first.1)
-      | inr later ↦ again_there before v rest w (repeated_after-Contains (before ++ folded v.word ∷ []) rest w later)
+      | inr later ↦ again_there before v rest w (repeated_after-Contains (with_name before v.word) rest w later)
     ]
 
 -- with no names before the list, it stands after one that is
@@ -93,13 +129,11 @@ abbrev IsEarlier : List task.Name → List Placed → Placed → Type 0
 IsEarlier before words w = (is_known before w.word ≡ true) ⊎ ((earlier : Placed) × Contains words earlier × (is_same (folded w.word) (folded earlier.word) ≡ true))
 
 -- past the first word, which is then one of the names
-earlier_there : (before : List task.Name) (v : Placed) (words : List Placed) (w : Placed) → IsEarlier before (v ∷ words) w → IsEarlier (before ++ folded v.word ∷ []) words w
-earlier_there before v words w (inl known) =
-    inl (list_any-append (is_same (folded w.word)) before (folded v.word ∷ []) ∙ or_left (is_known before w.word) _ known)
+earlier_there : (before : List task.Name) (v : Placed) (words : List Placed) (w : Placed) → IsEarlier before (v ∷ words) w → IsEarlier (with_name before v.word) words w
+earlier_there before v words w (inl known) = inl (known_with-before before v.word w.word known)
 earlier_there before v words w (inr (earlier, at, same)) =
     elim (Contains-cases v words earlier at) [
-      | inl is ↦ inl (list_any-append (is_same (folded w.word)) before (folded v.word ∷ [])
-          ∙ or_right (is_known before w.word) _ (or_left (is_same (folded w.word) (folded v.word)) false (subst (λ (u : Placed). is_same (folded w.word) (folded u.word) ≡ true) (sym is) same)))
+      | inl is ↦ inl (known_with-new before v.word w.word (subst (λ (u : Placed). is_same (folded w.word) (folded u.word) ≡ true) (sym is) same))
       | inr later ↦ inr (earlier, later, same)
     ]
 
@@ -109,11 +143,11 @@ first_listed before w known = subst (λ b. Contains (if b then w ∷ [] else [])
 
 -- so is a word at any place
 split_listed : (before : List task.Name) (first : List Placed) (w : Placed) (after : List Placed) → IsEarlier before first w → Contains (repeated_after before (first ++ w ∷ after)) w
-split_listed before [] w after (inl known) = Contains-append_left _ (repeated_after (before ++ folded w.word ∷ []) after) w (first_listed before w known)
+split_listed before [] w after (inl known) = Contains-append_left _ (repeated_after (with_name before w.word) after) w (first_listed before w known)
 split_listed before [] w after (inr (earlier, at, same)) = absurd (Contains-none earlier at)
 split_listed before (v ∷ first) w after is =
-    Contains-append_right (if is_known before v.word then v ∷ [] else []) (repeated_after (before ++ folded v.word ∷ []) (first ++ w ∷ after)) w
-    (split_listed (before ++ folded v.word ∷ []) first w after (earlier_there before v first w is))
+    Contains-append_right (if is_known before v.word then v ∷ [] else []) (repeated_after (with_name before v.word) (first ++ w ∷ after)) w
+    (split_listed (with_name before v.word) first w after (earlier_there before v first w is))
 
 -- a word that stands after one that is the same
 pub repeated_listed : (before : List task.Name) (words : List Placed) (w : Placed) → IsRepeated words w → Contains (repeated_after before words) w

@@ -1,6 +1,6 @@
 -- The faults that are listed of an atom, a formula, an effect or a fact are those that the table has of its atoms.
 use Rattle.std.proofs.Common.{◌≡◌, ◌≢◌, ℕ, zero, suc, ◌+◌, inl, inr, Bool, true, false, not, ◌||◌, cond, List, [], ◌∷◌, ◌++◌, length, map, Option, None, Some, refl, sym, ap, ◌∙◌, subst, arith}
-use Rattle.std.specs.Prelude.{Contains, slice_get, ◌==◌}
+use Rattle.std.specs.Prelude.{Contains, drop, slice_get, ◌==◌}
 use Rattle.std.specs.List.{list_any, position_or_len}
 use Rattle.std.specs.Option.{option_map_or}
 use Rattle.std.proofs.lemmas.Bool.{eqb-true, eqb-false, false_from_ne_true}
@@ -8,10 +8,10 @@ use Rattle.std.proofs.lemmas.List.{length-map}
 use Rattle.model.specs.Task as task
 use Rattle.model.specs.Trees.{Name}
 use Rattle.model.specs.Trees as tree
-use Rattle.model.specs.Typing.{Known, File, Placed, folded, is_same, is_known, names_of_predicates, names_of_variables, names_of_objects, faults_against, predicate_in_known, predicate_faults, arguments_in, fits_in, term_faults, word_of, misfit_faults, terms_faults, atom_faults, formula_faults, formulas_faults, effect_faults, effects_faults, ground_atom_faults}
+use Rattle.model.specs.Typing.{Known, File, Placed, placed, folded, is_same, is_known, names_of_predicates, names_of_variables, names_of_objects, faults_against, predicate_in_known, predicate_faults, arguments_in, fits_in, fits_wanted, term_in, term_faults, word_of, misfit_faults, terms_faults, atom_faults, formula_faults, formulas_faults, effect_faults, effects_faults, ground_atom_faults}
 use Rattle.model.specs.TypingFaults.{HasAtom, SomeHasAtom, ChangesAtom, SomeChangesAtom, IsUnknown, IsAtomFault, unknown_predicate, unknown_term, wrong_count, wrong_type, as_atom}
 use Rattle.model.proofs.ListLemmas.{Contains-here, Contains-there, Contains-cases, Contains-none}
-use Rattle.model.proofs.TypingFaultsLemmas.{fault_at, word_in, AllTell, none_tells, both_tell, one_tells, unless_tells, on_left, on_right, unless_listed}
+use Rattle.model.proofs.TypingFaultsLemmas.{fault_at, AllTell, none_tells, both_tell, one_tells, unless_tells, on_left, on_right, unless_listed}
 
 -- ---- the predicate
 
@@ -40,86 +40,86 @@ not_found test (p ∷ rest) none =
     ] none
 
 -- 17 and 18, of the predicate
-predicate_tells : {table : ℕ → Placed → Type 0} (file : File) (known : Known) (a : tree.Atom) → ((code : ℕ) (word : Name) → IsAtomFault known a code word → table code (word_in file word))
+predicate_tells : {table : ℕ → Placed → Type 0} (file : File) (known : Known) (a : tree.Atom) → ((code : ℕ) (word : Name) → IsAtomFault known a code word → table code (placed file word))
     → AllTell table (predicate_faults file known a.predicate (length a.terms))
 predicate_tells {table} file known a fault = by_found (predicate_in_known known a.predicate) refl
   where
     by_found : (found : Option task.Predicate) → predicate_in_known known a.predicate ≡ found → AllTell table (faults_against file found a.predicate (length a.terms))
-    by_found None at = one_tells 17 (word_in file a.predicate)
+    by_found None at = one_tells 17 (placed file a.predicate)
         (fault 17 a.predicate (unknown_predicate (none_found (is_same (folded a.predicate)) known.predicates at)))
-    by_found (Some p) at = unless_tells (length a.terms == length p.arguments) 18 (word_in file a.predicate)
+    by_found (Some p) at = unless_tells (length a.terms == length p.arguments) 18 (placed file a.predicate)
         (λ other. fault 18 a.predicate (wrong_count p at (eqb-false (length a.terms) (length p.arguments) other)))
 
 -- a predicate that is not declared
 unknown_listed : (file : File) (known : Known) (a : tree.Atom) → is_known (names_of_predicates known.predicates) a.predicate ≡ false
-    → Contains (predicate_faults file known a.predicate (length a.terms)) (fault_at 17 (word_in file a.predicate))
+    → Contains (predicate_faults file known a.predicate (length a.terms)) (fault_at 17 (placed file a.predicate))
 unknown_listed file known a unknown =
-    subst (λ found. Contains (faults_against file found a.predicate (length a.terms)) (fault_at 17 (word_in file a.predicate)))
-    (sym (not_found (is_same (folded a.predicate)) known.predicates unknown)) (Contains-here (fault_at 17 (word_in file a.predicate)) [])
+    subst (λ found. Contains (faults_against file found a.predicate (length a.terms)) (fault_at 17 (placed file a.predicate)))
+    (sym (not_found (is_same (folded a.predicate)) known.predicates unknown)) (Contains-here (fault_at 17 (placed file a.predicate)) [])
 
 -- a predicate with another count of terms
 count_listed : (file : File) (known : Known) (a : tree.Atom) (p : task.Predicate) → predicate_in_known known a.predicate ≡ Some p → length a.terms ≢ length p.arguments
-    → Contains (predicate_faults file known a.predicate (length a.terms)) (fault_at 18 (word_in file a.predicate))
+    → Contains (predicate_faults file known a.predicate (length a.terms)) (fault_at 18 (placed file a.predicate))
 count_listed file known a p at other =
-    subst (λ found. Contains (faults_against file found a.predicate (length a.terms)) (fault_at 18 (word_in file a.predicate))) (sym at)
-    (unless_listed (length a.terms == length p.arguments) (fault_at 18 (word_in file a.predicate))
+    subst (λ found. Contains (faults_against file found a.predicate (length a.terms)) (fault_at 18 (placed file a.predicate))) (sym at)
+    (unless_listed (length a.terms == length p.arguments) (fault_at 18 (placed file a.predicate))
     (false_from_ne_true (length a.terms == length p.arguments) (λ same. other (eqb-true (length a.terms) (length p.arguments) same))))
 
 -- ---- the terms
 
 -- 17, of a term
-term_tells : {table : ℕ → Placed → Type 0} (file : File) (known : Known) (t : tree.Term) → (IsUnknown known t → table 17 (word_in file (word_of t))) → AllTell table (term_faults file known t)
-term_tells file known (tree.variable name) fault = unless_tells (is_known (names_of_variables known.variables) name) 17 (word_in file name) fault
-term_tells file known (tree.object name) fault = unless_tells (is_known (names_of_objects known.objects) name) 17 (word_in file name) fault
+term_tells : {table : ℕ → Placed → Type 0} (file : File) (known : Known) (t : tree.Term) → (IsUnknown known t → table 17 (placed file (word_of t))) → AllTell table (term_faults file known t)
+term_tells file known (tree.variable name) fault = unless_tells (is_known (names_of_variables known.variables) name) 17 (placed file name) fault
+term_tells file known (tree.object name) fault = unless_tells (is_known (names_of_objects known.objects) name) 17 (placed file name) fault
 
 -- and the other way
-term_listed : (file : File) (known : Known) (t : tree.Term) → IsUnknown known t → Contains (term_faults file known t) (fault_at 17 (word_in file (word_of t)))
-term_listed file known (tree.variable name) unknown = unless_listed (is_known (names_of_variables known.variables) name) (fault_at 17 (word_in file name)) unknown
-term_listed file known (tree.object name) unknown = unless_listed (is_known (names_of_objects known.objects) name) (fault_at 17 (word_in file name)) unknown
+term_listed : (file : File) (known : Known) (t : tree.Term) → IsUnknown known t → Contains (term_faults file known t) (fault_at 17 (placed file (word_of t)))
+term_listed file known (tree.variable name) unknown = unless_listed (is_known (names_of_variables known.variables) name) (fault_at 17 (placed file name)) unknown
+term_listed file known (tree.object name) unknown = unless_listed (is_known (names_of_objects known.objects) name) (fault_at 17 (placed file name)) unknown
+
+-- what a list has past its first
+got_later : (unions : List task.Union) (place : ℕ) → slice_get (drop 1 unions) place ≡ slice_get unions (suc place)
+got_later [] zero = refl
+got_later [] (suc place) = refl
+got_later (union ∷ unions) place = refl
 
 -- 17 and 19, of the terms
 terms_tell : {table : ℕ → Placed → Type 0} (file : File) (known : Known) (arguments : List task.Union) (terms : List tree.Term)
-    → ((t : tree.Term) → Contains terms t → IsUnknown known t → table 17 (word_in file (word_of t)))
-    → ((place : ℕ) (wanted : task.Union) (t : tree.Term) → slice_get arguments place ≡ Some wanted → slice_get terms place ≡ Some t → fits_in known wanted t ≡ false → table 19 (word_in file (word_of t)))
+    → ((t : tree.Term) → Contains terms t → IsUnknown known t → table 17 (placed file (word_of t)))
+    → ((place : ℕ) (wanted : task.Union) (t : tree.Term) → slice_get arguments place ≡ Some wanted → slice_get terms place ≡ Some t → fits_in known wanted (term_in known t) ≡ false → table 19 (placed file (word_of t)))
     → AllTell table (terms_faults file known arguments terms)
 terms_tell file known arguments [] unknown misfit = none_tells
-terms_tell file known [] (t ∷ terms) unknown misfit =
-    both_tell (term_tells file known t (unknown t (Contains-here t terms)))
-    (terms_tell file known [] terms (λ s at. unknown s (Contains-there t terms s at)) (λ place wanted s at of. absurd (cc)))
-terms_tell file known (wanted ∷ arguments) (t ∷ terms) unknown misfit =
+terms_tell {table} file known arguments (t ∷ terms) unknown misfit =
     both_tell (both_tell (term_tells file known t (unknown t (Contains-here t terms)))
-    (unless_tells (fits_in known wanted t) 19 (word_in file (word_of t)) (misfit 0 wanted t refl refl)))
-    (terms_tell file known arguments terms (λ s at. unknown s (Contains-there t terms s at)) (λ place. misfit (suc place)))
+    (unless_tells (fits_wanted known (slice_get arguments 0) (term_in known t)) 19 (placed file (word_of t)) (λ other. wanted_misfit (slice_get arguments 0) refl other)))
+    (terms_tell file known (drop 1 arguments) terms (λ s at. unknown s (Contains-there t terms s at)) (λ place wanted s of. misfit (suc place) wanted s (sym (got_later arguments place) ∙ of)))
+  where
+    wanted_misfit : (found : Option task.Union) → slice_get arguments 0 ≡ found → fits_wanted known found (term_in known t) ≡ false → table 19 (placed file (word_of t))
+    wanted_misfit None of other = absurd (cc)
+    wanted_misfit (Some wanted) of other = misfit 0 wanted t of refl other
 
 -- a term that is not known
 unknown_term_listed : (file : File) (known : Known) (arguments : List task.Union) (terms : List tree.Term) (t : tree.Term) → Contains terms t → IsUnknown known t
-    → Contains (terms_faults file known arguments terms) (fault_at 17 (word_in file (word_of t)))
+    → Contains (terms_faults file known arguments terms) (fault_at 17 (placed file (word_of t)))
 unknown_term_listed file known arguments [] t at unknown = absurd (Contains-none t at)
-unknown_term_listed file known [] (s ∷ terms) t at unknown =
+unknown_term_listed file known arguments (s ∷ terms) t at unknown =
     elim (Contains-cases s terms t at) [
-      | inl is ↦ on_left _ _ (subst (λ u. Contains (term_faults file known u) (fault_at 17 (word_in file (word_of t)))) (sym is) (term_listed file known t unknown))
-      | inr later ↦ on_right (term_faults file known s) _ (unknown_term_listed file known [] terms t later unknown)
-    ]
-unknown_term_listed file known (wanted ∷ arguments) (s ∷ terms) t at unknown =
-    elim (Contains-cases s terms t at) [
-      | inl is ↦ on_left _ _ (on_left _ _ (subst (λ u. Contains (term_faults file known u) (fault_at 17 (word_in file (word_of t)))) (sym is) (term_listed file known t unknown)))
-      | inr later ↦ on_right (term_faults file known s ++ misfit_faults file known (Some wanted) s) _ (unknown_term_listed file known arguments terms t later unknown)
+      | inl is ↦ on_left _ _ (on_left _ _ (subst (λ u. Contains (term_faults file known u) (fault_at 17 (placed file (word_of t)))) (sym is) (term_listed file known t unknown)))
+      | inr later ↦ on_right (term_faults file known s ++ misfit_faults file known (slice_get arguments 0) s) _ (unknown_term_listed file known (drop 1 arguments) terms t later unknown)
     ]
 
 -- a term that does not fit its argument
 misfit_listed : (file : File) (known : Known) (arguments : List task.Union) (terms : List tree.Term) (place : ℕ) (wanted : task.Union) (t : tree.Term)
-    → slice_get arguments place ≡ Some wanted → slice_get terms place ≡ Some t → fits_in known wanted t ≡ false
-    → Contains (terms_faults file known arguments terms) (fault_at 19 (word_in file (word_of t)))
+    → slice_get arguments place ≡ Some wanted → slice_get terms place ≡ Some t → fits_in known wanted (term_in known t) ≡ false
+    → Contains (terms_faults file known arguments terms) (fault_at 19 (placed file (word_of t)))
 misfit_listed file known arguments [] place wanted t of at misfit = absurd (cc)
-misfit_listed file known [] (s ∷ terms) place wanted t of at misfit = absurd (cc)
-misfit_listed file known (first ∷ arguments) (s ∷ terms) zero wanted t of at misfit =
-    let same : first ≡ wanted = cc in
+misfit_listed file known arguments (s ∷ terms) zero wanted t of at misfit =
     let is : s ≡ t = cc in
-    on_left _ _ (on_right (term_faults file known s) _ (subst (λ u. Contains (misfit_faults file known (Some u) s) (fault_at 19 (word_in file (word_of t)))) (sym same)
-    (subst (λ u. Contains (misfit_faults file known (Some wanted) u) (fault_at 19 (word_in file (word_of t)))) (sym is)
-    (unless_listed (fits_in known wanted t) (fault_at 19 (word_in file (word_of t))) misfit))))
-misfit_listed file known (first ∷ arguments) (s ∷ terms) (suc place) wanted t of at misfit =
-    on_right (term_faults file known s ++ misfit_faults file known (Some first) s) _ (misfit_listed file known arguments terms place wanted t of at misfit)
+    on_left _ _ (on_right (term_faults file known s) _ (subst (λ u. Contains (misfit_faults file known (slice_get arguments 0) u) (fault_at 19 (placed file (word_of t)))) (sym is)
+    (unless_listed (fits_wanted known (slice_get arguments 0) (term_in known t)) (fault_at 19 (placed file (word_of t))) (ap (λ found. fits_wanted known found (term_in known t)) of ∙ misfit))))
+misfit_listed file known arguments (s ∷ terms) (suc place) wanted t of at misfit =
+    on_right (term_faults file known s ++ misfit_faults file known (slice_get arguments 0) s) _
+    (misfit_listed file known (drop 1 arguments) terms place wanted t (got_later arguments place ∙ of) at misfit)
 
 -- ---- the atom
 
@@ -130,7 +130,7 @@ argument_declared None place wanted at = absurd (cc)
 argument_declared (Some p) place wanted at = (p, refl, at)
 
 -- each fault that is listed of an atom is one that the table has of it
-pub atom_tells : {table : ℕ → Placed → Type 0} (file : File) (known : Known) (a : tree.Atom) → ((code : ℕ) (word : Name) → IsAtomFault known a code word → table code (word_in file word))
+pub atom_tells : {table : ℕ → Placed → Type 0} (file : File) (known : Known) (a : tree.Atom) → ((code : ℕ) (word : Name) → IsAtomFault known a code word → table code (placed file word))
     → AllTell table (atom_faults file known a)
 atom_tells file known a fault =
     both_tell (predicate_tells file known a fault)
@@ -141,7 +141,7 @@ atom_tells file known a fault =
     fault 19 (word_of t) (wrong_type declared.0 place wanted t declared.1 declared.2 at misfit)))
 
 -- and the other way
-pub atom_listed : (file : File) (known : Known) (a : tree.Atom) (code : ℕ) (word : Name) → IsAtomFault known a code word → Contains (atom_faults file known a) (fault_at code (word_in file word))
+pub atom_listed : (file : File) (known : Known) (a : tree.Atom) (code : ℕ) (word : Name) → IsAtomFault known a code word → Contains (atom_faults file known a) (fault_at code (placed file word))
 atom_listed file known a code word (unknown_predicate unknown) = on_left _ _ (unknown_listed file known a unknown)
 atom_listed file known a code word (unknown_term t at unknown) =
     on_right (predicate_faults file known a.predicate (length a.terms)) _ (unknown_term_listed file known (arguments_in known a.predicate) a.terms t at unknown)
@@ -155,13 +155,13 @@ atom_listed file known a code word (wrong_type p place wanted t found of at misf
 mutual
   -- of a formula, by its atoms
   pub formula_tells : {table : ℕ → Placed → Type 0} (file : File) (known : Known) (formula : tree.Formula)
-      → ((b : tree.Atom) (code : ℕ) (word : Name) → HasAtom formula b → IsAtomFault known b code word → table code (word_in file word)) → AllTell table (formula_faults file known formula)
+      → ((b : tree.Atom) (code : ℕ) (word : Name) → HasAtom formula b → IsAtomFault known b code word → table code (placed file word)) → AllTell table (formula_faults file known formula)
   formula_tells file known (tree.atom a) fault = atom_tells file known a (λ code word. fault a code word refl)
   formula_tells file known (tree.and parts) fault = formulas_tell file known parts fault
 
   -- of its parts
   formulas_tell : {table : ℕ → Placed → Type 0} (file : File) (known : Known) (parts : tree.Formulas)
-      → ((b : tree.Atom) (code : ℕ) (word : Name) → SomeHasAtom parts b → IsAtomFault known b code word → table code (word_in file word)) → AllTell table (formulas_faults file known parts)
+      → ((b : tree.Atom) (code : ℕ) (word : Name) → SomeHasAtom parts b → IsAtomFault known b code word → table code (placed file word)) → AllTell table (formulas_faults file known parts)
   formulas_tell file known tree.no_formula fault = none_tells
   formulas_tell file known (tree.more_formulas first rest) fault =
       both_tell (formula_tells file known first (λ b code word has. fault b code word (inl has))) (formulas_tell file known rest (λ b code word has. fault b code word (inr has)))
@@ -169,14 +169,14 @@ mutual
 mutual
   -- and the other way
   pub formula_listed : (file : File) (known : Known) (formula : tree.Formula) (b : tree.Atom) (code : ℕ) (word : Name) → HasAtom formula b → IsAtomFault known b code word
-      → Contains (formula_faults file known formula) (fault_at code (word_in file word))
+      → Contains (formula_faults file known formula) (fault_at code (placed file word))
   formula_listed file known (tree.atom a) b code word has fault =
-      subst (λ c. Contains (atom_faults file known c) (fault_at code (word_in file word))) (sym has) (atom_listed file known b code word fault)
+      subst (λ c. Contains (atom_faults file known c) (fault_at code (placed file word))) (sym has) (atom_listed file known b code word fault)
   formula_listed file known (tree.and parts) b code word has fault = formulas_listed file known parts b code word has fault
 
   -- of its parts
   formulas_listed : (file : File) (known : Known) (parts : tree.Formulas) (b : tree.Atom) (code : ℕ) (word : Name) → SomeHasAtom parts b → IsAtomFault known b code word
-      → Contains (formulas_faults file known parts) (fault_at code (word_in file word))
+      → Contains (formulas_faults file known parts) (fault_at code (placed file word))
   formulas_listed file known tree.no_formula b code word has fault = absurd has
   formulas_listed file known (tree.more_formulas first rest) b code word (inl has) fault = on_left _ _ (formula_listed file known first b code word has fault)
   formulas_listed file known (tree.more_formulas first rest) b code word (inr has) fault =
@@ -185,14 +185,14 @@ mutual
 mutual
   -- of an effect, by its atoms
   pub effect_tells : {table : ℕ → Placed → Type 0} (file : File) (known : Known) (effect : tree.Effect)
-      → ((b : tree.Atom) (code : ℕ) (word : Name) → ChangesAtom effect b → IsAtomFault known b code word → table code (word_in file word)) → AllTell table (effect_faults file known effect)
+      → ((b : tree.Atom) (code : ℕ) (word : Name) → ChangesAtom effect b → IsAtomFault known b code word → table code (placed file word)) → AllTell table (effect_faults file known effect)
   effect_tells file known (tree.add a) fault = atom_tells file known a (λ code word. fault a code word refl)
   effect_tells file known (tree.delete a) fault = atom_tells file known a (λ code word. fault a code word refl)
   effect_tells file known (tree.both parts) fault = effects_tell file known parts fault
 
   -- of its parts
   effects_tell : {table : ℕ → Placed → Type 0} (file : File) (known : Known) (parts : tree.Effects)
-      → ((b : tree.Atom) (code : ℕ) (word : Name) → SomeChangesAtom parts b → IsAtomFault known b code word → table code (word_in file word)) → AllTell table (effects_faults file known parts)
+      → ((b : tree.Atom) (code : ℕ) (word : Name) → SomeChangesAtom parts b → IsAtomFault known b code word → table code (placed file word)) → AllTell table (effects_faults file known parts)
   effects_tell file known tree.no_effect fault = none_tells
   effects_tell file known (tree.more_effects first rest) fault =
       both_tell (effect_tells file known first (λ b code word has. fault b code word (inl has))) (effects_tell file known rest (λ b code word has. fault b code word (inr has)))
@@ -200,16 +200,16 @@ mutual
 mutual
   -- and the other way
   pub effect_listed : (file : File) (known : Known) (effect : tree.Effect) (b : tree.Atom) (code : ℕ) (word : Name) → ChangesAtom effect b → IsAtomFault known b code word
-      → Contains (effect_faults file known effect) (fault_at code (word_in file word))
+      → Contains (effect_faults file known effect) (fault_at code (placed file word))
   effect_listed file known (tree.add a) b code word has fault =
-      subst (λ c. Contains (atom_faults file known c) (fault_at code (word_in file word))) (sym has) (atom_listed file known b code word fault)
+      subst (λ c. Contains (atom_faults file known c) (fault_at code (placed file word))) (sym has) (atom_listed file known b code word fault)
   effect_listed file known (tree.delete a) b code word has fault =
-      subst (λ c. Contains (atom_faults file known c) (fault_at code (word_in file word))) (sym has) (atom_listed file known b code word fault)
+      subst (λ c. Contains (atom_faults file known c) (fault_at code (placed file word))) (sym has) (atom_listed file known b code word fault)
   effect_listed file known (tree.both parts) b code word has fault = effects_listed file known parts b code word has fault
 
   -- of its parts
   effects_listed : (file : File) (known : Known) (parts : tree.Effects) (b : tree.Atom) (code : ℕ) (word : Name) → SomeChangesAtom parts b → IsAtomFault known b code word
-      → Contains (effects_faults file known parts) (fault_at code (word_in file word))
+      → Contains (effects_faults file known parts) (fault_at code (placed file word))
   effects_listed file known tree.no_effect b code word has fault = absurd has
   effects_listed file known (tree.more_effects first rest) b code word (inl has) fault = on_left _ _ (effect_listed file known first b code word has fault)
   effects_listed file known (tree.more_effects first rest) b code word (inr has) fault =

@@ -1,7 +1,6 @@
 -- Worked examples of typing: which faults small trees have, and what task a well-typed pair is. Each is chosen so that a
 -- wrong reading says otherwise.
 use Rattle.std.specs.Prelude.{◌≡◌, ℕ, ◌+◌, List, [], ◌∷◌, codes}
-use Rattle.model.specs.Fault.{Fault}
 use Rattle.model.specs.Task as task
 use Rattle.model.specs.Task.{Task}
 use Rattle.model.specs.Trees as tree

@@ -2,12 +2,11 @@
 -- 1.2 manual ("Types", "Predicates", "Actions", "Problems"), with the limits of the language profile. A fault is of a
 -- phase, and the first phase that has one is the one that tells, since what a later phase says rests on the declarations
 -- of those before it.
-use Rattle.std.specs.Prelude.{◌≡◌, ◌≢◌, ℕ, ◌+◌, ◌<◌, ◌≤◌, ◌⊎◌, true, false, List, [], ◌∷◌, ◌++◌, codes, length, map, slice_get, Some, Contains}
-use Rattle.model.specs.Fault.{Fault}
+use Rattle.std.specs.Prelude.{◌≡◌, ◌≢◌, ℕ, ◌+◌, ◌<◌, ◌≤◌, ◌⊎◌, true, false, List, ◌∷◌, ◌++◌, codes, length, map, slice_get, Some, Contains}
 use Rattle.model.specs.Task as task
-use Rattle.model.specs.Trees.{Name, Group, names_of, Domain, Problem}
+use Rattle.model.specs.Trees.{Name, Domain, Problem}
 use Rattle.model.specs.Trees as tree
-use Rattle.model.specs.Typing.{Known, Placed, placed, folded, is_same, is_known, type_names, types_of, predicates_of, constants_of, objects_of, known_in_action, known_in_problem, names_of_predicates, names_of_variables, names_of_objects, predicate_in_known, fits_in, word_of, comes_back, object_words, File, in_domain, in_problem, TypingFault, rank_of}
+use Rattle.model.specs.Typing.{Known, Declared, Placed, placed, words_of, folded, is_same, is_known, declared, declared_types, declared_objects, type_names, parents_of, known_in_domain, known_in_action, known_in_problem, names_of_predicates, names_of_variables, names_of_objects, predicate_in_known, term_in, fits_in, word_of, comes_back, in_domain, in_problem, TypingFault, rank_of}
 
 -- the phases, in the order in which they are looked at
 pub data Phase : Type 0 where
@@ -39,13 +38,31 @@ pub record IsRepeated (words : List Placed) (w : Placed) : Type 0 where
   pub is_before : Contains before earlier
   pub is_same : is_same (folded w.word) (folded earlier.word) ≡ true
 
--- the words that a list of groups has for types
-abbrev pub HasType : List Group → Name → Type 0
-HasType groups word = (g : Group) × Contains groups g × Contains g.types word
+-- the words that stand after the `-` of a declaration
+abbrev pub type_words : Declared → List Placed
+type_words x = map (placed x.file) x.types
+
+-- one of the declarations has the word for a type
+abbrev pub HasType : List Declared → Placed → Type 0
+HasType xs w = (x : Declared) × Contains xs x × Contains (type_words x) w
 
 -- it is neither `object` nor a declared type
-abbrev pub IsUnknownType : Domain → Name → Type 0
-IsUnknownType d word = is_known (type_names d) word ≡ false
+abbrev pub IsUnknownType : Domain → Placed → Type 0
+IsUnknownType d w = is_known (type_names d) w.word ≡ false
+
+-- the words that declare predicates, and those that declare actions
+abbrev pub predicate_words : Domain → List Placed
+predicate_words d = map (λ (q : tree.Predicate). placed in_domain q.name) d.predicates
+
+abbrev pub action_words : Domain → List Placed
+action_words d = map (λ (a : tree.Action). placed in_domain a.name) d.actions
+
+-- what the parameters of a predicate or of an action declare
+abbrev pub arguments_of : tree.Predicate → List Declared
+arguments_of q = declared in_domain q.parameters
+
+abbrev pub parameters_of : tree.Action → List Declared
+parameters_of a = declared in_domain a.parameters
 
 -- ---- uses
 
@@ -82,7 +99,7 @@ pub data IsAtomFault (known : Known) (a : tree.Atom) : ℕ → Name → Type 0 w
       → IsAtomFault known a 18 a.predicate
   -- a term that does not fit the argument in whose place it stands
   wrong_type : (p : task.Predicate) (place : ℕ) (wanted : task.Union) (t : tree.Term) → predicate_in_known known a.predicate ≡ Some p
-      → slice_get p.arguments place ≡ Some wanted → slice_get a.terms place ≡ Some t → fits_in known wanted t ≡ false
+      → slice_get p.arguments place ≡ Some wanted → slice_get a.terms place ≡ Some t → fits_in known wanted (term_in known t) ≡ false
       → IsAtomFault known a 19 (word_of t)
 
 -- an atom of objects as one of terms
@@ -93,56 +110,47 @@ as_atom a = record { predicate = a.predicate; terms = map (λ (name : Name). tre
 
 -- what may be named in an action of the domain
 abbrev pub known_in : Domain → tree.Action → Known
-known_in d a = known_in_action (types_of d) (predicates_of d) (constants_of d) a
-
-abbrev pub in_domain_word : Name → Placed
-in_domain_word word = record { file = in_domain; word = word }
-
-abbrev pub in_problem_word : Name → Placed
-in_problem_word word = record { file = in_problem; word = word }
+known_in d a = known_in_action (known_in_domain d) a
 
 -- by this number, this word of the pair is refused in this phase
 pub data IsFaultIn (d : Domain) (p : Problem) : Phase → ℕ → Placed → Type 0 where
   -- 1: the name in `:domain`, the types
-  other_domain : is_same (folded p.domain) (folded d.name) ≡ false → IsFaultIn d p of_names 21 (in_problem_word p.domain)
-  type_again : (w : Placed) → IsRepeated (placed in_domain (names_of d.types)) w → IsFaultIn d p of_names 16 w
-  object_declared : (word : Name) → Contains (names_of d.types) word → is_same (folded word) (codes "object") ≡ true
-      → IsFaultIn d p of_names 16 (in_domain_word word)
-  unknown_parent : (word : Name) → HasType d.types word → IsUnknownType d word → IsFaultIn d p of_names 14 (in_domain_word word)
-  many_types : (w : Placed) → slice_get (placed in_domain (names_of d.types)) 4095 ≡ Some w → IsFaultIn d p of_names 25 w
+  other_domain : is_same (folded p.domain) (folded d.name) ≡ false → IsFaultIn d p of_names 21 (placed in_problem p.domain)
+  type_again : (w : Placed) → IsRepeated (words_of (declared_types d)) w → IsFaultIn d p of_names 16 w
+  object_declared : (w : Placed) → Contains (words_of (declared_types d)) w → is_same (folded w.word) (codes "object") ≡ true → IsFaultIn d p of_names 16 w
+  unknown_parent : (w : Placed) → HasType (declared_types d) w → IsUnknownType d w → IsFaultIn d p of_names 14 w
+  many_types : (w : Placed) → slice_get (words_of (declared_types d)) 4095 ≡ Some w → IsFaultIn d p of_names 25 w
   -- 2: a type whose chain of parents comes back to it; the first declared type has the number 1
-  type_cycle : (place : ℕ) (word : Name) → slice_get (names_of d.types) place ≡ Some word → comes_back d (place + 1) ≡ true
-      → IsFaultIn d p of_cycles 15 (in_domain_word word)
+  type_cycle : (place : ℕ) (w : Placed) → slice_get (words_of (declared_types d)) place ≡ Some w → comes_back (parents_of d) (place + 1) ≡ true
+      → IsFaultIn d p of_cycles 15 w
   -- 3: constants and objects, which share their names
-  type_of_constant : (word : Name) → HasType d.constants word → IsUnknownType d word → IsFaultIn d p of_objects 14 (in_domain_word word)
-  type_of_object : (word : Name) → HasType p.objects word → IsUnknownType d word → IsFaultIn d p of_objects 14 (in_problem_word word)
-  object_again : (w : Placed) → IsRepeated (object_words d p) w → IsFaultIn d p of_objects 16 w
-  many_objects : (w : Placed) → slice_get (object_words d p) 65535 ≡ Some w → IsFaultIn d p of_objects 25 w
+  type_of_object : (w : Placed) → HasType (declared_objects d p) w → IsUnknownType d w → IsFaultIn d p of_objects 14 w
+  object_again : (w : Placed) → IsRepeated (words_of (declared_objects d p)) w → IsFaultIn d p of_objects 16 w
+  many_objects : (w : Placed) → slice_get (words_of (declared_objects d p)) 65535 ≡ Some w → IsFaultIn d p of_objects 25 w
   -- 4: predicates
-  predicate_again : (w : Placed) → IsRepeated (placed in_domain (map (λ (q : tree.Predicate). q.name) d.predicates)) w → IsFaultIn d p of_predicates 16 w
-  type_of_argument : (q : tree.Predicate) (word : Name) → Contains d.predicates q → HasType q.parameters word → IsUnknownType d word
-      → IsFaultIn d p of_predicates 14 (in_domain_word word)
-  many_arguments : (q : tree.Predicate) (w : Placed) → Contains d.predicates q → slice_get (placed in_domain (names_of q.parameters)) 8 ≡ Some w
+  predicate_again : (w : Placed) → IsRepeated (predicate_words d) w → IsFaultIn d p of_predicates 16 w
+  type_of_argument : (q : tree.Predicate) (w : Placed) → Contains d.predicates q → HasType (arguments_of q) w → IsUnknownType d w
+      → IsFaultIn d p of_predicates 14 w
+  many_arguments : (q : tree.Predicate) (w : Placed) → Contains d.predicates q → slice_get (words_of (arguments_of q)) 8 ≡ Some w
       → IsFaultIn d p of_predicates 25 w
   -- 5: actions
-  action_again : (w : Placed) → IsRepeated (placed in_domain (map (λ (a : tree.Action). a.name) d.actions)) w → IsFaultIn d p of_actions 16 w
-  type_of_parameter : (a : tree.Action) (word : Name) → Contains d.actions a → HasType a.parameters word → IsUnknownType d word
-      → IsFaultIn d p of_actions 14 (in_domain_word word)
-  parameter_again : (a : tree.Action) (w : Placed) → Contains d.actions a → IsRepeated (placed in_domain (names_of a.parameters)) w
-      → IsFaultIn d p of_actions 16 w
-  many_parameters : (a : tree.Action) (w : Placed) → Contains d.actions a → slice_get (placed in_domain (names_of a.parameters)) 16 ≡ Some w
+  action_again : (w : Placed) → IsRepeated (action_words d) w → IsFaultIn d p of_actions 16 w
+  type_of_parameter : (a : tree.Action) (w : Placed) → Contains d.actions a → HasType (parameters_of a) w → IsUnknownType d w
+      → IsFaultIn d p of_actions 14 w
+  parameter_again : (a : tree.Action) (w : Placed) → Contains d.actions a → IsRepeated (words_of (parameters_of a)) w → IsFaultIn d p of_actions 16 w
+  many_parameters : (a : tree.Action) (w : Placed) → Contains d.actions a → slice_get (words_of (parameters_of a)) 16 ≡ Some w
       → IsFaultIn d p of_actions 25 w
   in_precondition : (a : tree.Action) (b : tree.Atom) (code : ℕ) (word : Name) → Contains d.actions a → HasAtom a.precondition b
-      → IsAtomFault (known_in d a) b code word → IsFaultIn d p of_actions code (in_domain_word word)
+      → IsAtomFault (known_in d a) b code word → IsFaultIn d p of_actions code (placed in_domain word)
   in_effect : (a : tree.Action) (b : tree.Atom) (code : ℕ) (word : Name) → Contains d.actions a → ChangesAtom a.effect b
-      → IsAtomFault (known_in d a) b code word → IsFaultIn d p of_actions code (in_domain_word word)
+      → IsAtomFault (known_in d a) b code word → IsFaultIn d p of_actions code (placed in_domain word)
   -- 6: the initial state
   in_init : (a : tree.GroundAtom) (code : ℕ) (word : Name) → Contains p.init (tree.fact a)
-      → IsAtomFault (known_in_problem d p) (as_atom a) code word → IsFaultIn d p of_init code (in_problem_word word)
-  negated : (word : Name) (a : tree.GroundAtom) → Contains p.init (tree.negated word a) → IsFaultIn d p of_init 24 (in_problem_word word)
+      → IsAtomFault (known_in_problem d p) (as_atom a) code word → IsFaultIn d p of_init code (placed in_problem word)
+  negated : (word : Name) (a : tree.GroundAtom) → Contains p.init (tree.negated word a) → IsFaultIn d p of_init 24 (placed in_problem word)
   -- 7: the goal
   in_goal : (b : tree.Atom) (code : ℕ) (word : Name) → HasAtom p.goal b
-      → IsAtomFault (known_in_problem d p) b code word → IsFaultIn d p of_goal code (in_problem_word word)
+      → IsAtomFault (known_in_problem d p) b code word → IsFaultIn d p of_goal code (placed in_problem word)
 
 -- ---- what is told
 
