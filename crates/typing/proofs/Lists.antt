@@ -1,7 +1,9 @@
 -- Places and members of lists that other lists give.
-use Rattle.std.proofs.Common.{◌≡◌, ℕ, ◌+◌, ◌≤◌, ◌<◌, Bool, true, false, not, cond, ◌||◌, List, [], ◌∷◌, map, length, refl, ap, sym, ◌∙◌, arith, nat_lt, None, Some, zero, suc, take, drop, get_or, ◌++◌}
-use Rattle.std.proofs.lemmas.List.{length-map, map_push, map_more}
-use Rattle.std.specs.List.{list_any, position, position_or_len}
+use Rattle.std.proofs.Common.{◌≡◌, ℕ, ◌+◌, ◌≤◌, ◌<◌, Bool, true, false, not, cond, ◌||◌, List, [], ◌∷◌, map, length, refl, ap, sym, ◌∙◌, arith, nat_eq, nat_lt, None, Some, zero, suc, take, drop, get_or, ◌++◌}
+use Rattle.std.proofs.lemmas.List.{length-map, map_push, map_more, map-id, append-nil}
+use Rattle.std.specs.Prelude.{filter}
+use Rattle.std.specs.List.{list_any, position, position_or_len, range_with_len}
+use Rattle.std.proofs.lemmas.List.FromFn.{filter_of_map_range_with_len_more}
 use Rattle.std.proofs.lemmas.Bool.Decides.{nat_tests}
 
 pub position_or_len-map : {X Y : Type 0} (p : Y → Bool) (f : X → Y) (xs : List X) → position_or_len p (map f xs) ≡ position_or_len (λ x. p (f x)) xs
@@ -11,6 +13,32 @@ position_or_len-map p f (x ∷ xs) = ap (λ n. cond (not (p (f x))) (1 + n) 0) (
 pub list_any-map : {X Y : Type 0} (p : Y → Bool) (f : X → Y) (xs : List X) → list_any p (map f xs) ≡ list_any (λ x. p (f x)) xs
 list_any-map p f [] = refl
 list_any-map p f (x ∷ xs) = ap (λ b. p (f x) || b) (list_any-map p f xs)
+
+-- whether a number is that of an element, from either side
+pub any_same : {X : Type 0} (number : X → ℕ) (n : ℕ) (xs : List X) → list_any (λ x. nat_eq (number x) n) xs ≡ list_any (nat_eq n) (map number xs)
+any_same number n [] = refl
+any_same number n (x ∷ xs) = let turned : nat_eq (number x) n ≡ nat_eq n (number x) = grind (arith, nat_tests) in (λ i. turned i || any_same number n xs i)
+
+-- one more of a list of the same
+pub same_more : {X Z : Type 0} (z : Z) (xs : List X) (i : ℕ) → i < length xs → map (λ _. z) (take (i + 1) xs) ≡ map (λ _. z) (take i xs) ++ z ∷ []
+same_more z [] i l = absurd (omega (arith, l))
+same_more z (x ∷ xs) i l = map_more (λ _. z) (x ∷ xs) i x l
+
+-- a range that grows by one
+pub filter_range_more : (p : ℕ → Bool) (n : ℕ) → filter p (range_with_len 0 (n + 1)) ≡ filter p (range_with_len 0 n) ++ cond (p n) (n ∷ []) []
+filter_range_more p n =
+    ap (filter p) (sym (map-id (range_with_len 0 (n + 1)))) ∙ filter_of_map_range_with_len_more p (λ k. k) 0 n n (omega arith)
+    ∙ ap (λ ks. filter p ks ++ cond (p n) (n ∷ []) []) (map-id (range_with_len 0 n))
+
+-- what is kept of a range that grows by one
+pub kept_so : {X : Type 0} (number : X → ℕ) (p : ℕ → Bool) (n : ℕ) (items : List X) (x : X) → number x ≡ n → p n ≡ true → map number items ≡ filter p (range_with_len 0 n)
+    → map number (items ++ x ∷ []) ≡ filter p (range_with_len 0 (n + 1))
+kept_so number p n items x is so kept =
+    map_push number items x ∙ (λ i. kept i ++ is i ∷ []) ∙ ap (λ b. filter p (range_with_len 0 n) ++ cond b (n ∷ []) []) (sym so) ∙ sym (filter_range_more p n)
+
+pub kept_not : {X : Type 0} (number : X → ℕ) (p : ℕ → Bool) (n : ℕ) (items : List X) → p n ≡ false → map number items ≡ filter p (range_with_len 0 n) → map number items ≡ filter p (range_with_len 0 (n + 1))
+kept_not number p n items not_so kept =
+    kept ∙ sym (append-nil (filter p (range_with_len 0 n))) ∙ ap (λ b. filter p (range_with_len 0 n) ++ cond b (n ∷ []) []) (sym not_so) ∙ sym (filter_range_more p n)
 
 -- some element passes where the first that does stands within the list
 pub list_any-position : {X : Type 0} (p : X → Bool) (xs : List X) → list_any p xs ≡ nat_lt (position_or_len p xs) (length xs)

@@ -1,5 +1,5 @@
--- A schema of the task, told by its shape: the count of its parameters, its precondition and its effect.
-use Rattle.std.specs.Prelude.{◌≡◌, ℕ, ◌≤◌, true, nat_le, slice_get, IsTrue, Option, None, Some, refl}
+-- A schema of the task, told by its shape: what its parameters have to be, its precondition and its effect.
+use Rattle.std.specs.Prelude.{◌≡◌, ℕ, ◌≤◌, true, nat_le, List, length, slice_get, IsTrue, Option, None, Some, refl}
 use Rattle.std.proofs.Common.{sym, subst, arith}
 use Rattle.std.specs.Cmp.{first_so, second_so}
 use Rattle.std.specs.Option.{option_map}
@@ -11,7 +11,7 @@ use Rattle.model.specs.WellTyped.{max_variables, is_task, is_schema}
 use Rattle.model.proofs.Tests.{passes_got}
 
 abbrev pub Shape : Type 0
-Shape = ℕ × task.Formula × task.Effect
+Shape = List task.Union × task.Formula × task.Effect
 
 -- the schema of this shape that a look-up found
 pub found : (o : Option task.Schema) (shape : Shape) → Some shape ≡ option_map shape_of_schema o → (s : task.Schema) × (o ≡ Some s) × (shape ≡ shape_of_schema s)
@@ -29,6 +29,6 @@ module _ (t : task.Task) (schema : ℕ) (shape : Shape) (is : Some shape ≡ opt
   typed_schema well = passes_got (is_schema t) t.schemas schema it.0 it.1 (second_so _ _ (first_so _ _ (first_so _ _ well)))
 
   -- a schema of a well-typed task has few parameters
-  pub few_parameters : IsTrue (is_task t) → shape.0 ≤ max_variables
+  pub few_parameters : IsTrue (is_task t) → length shape.0 ≤ max_variables
   few_parameters well =
-      subst (λ (s : Shape). s.0 ≤ max_variables) (sym it.2) (few_here it.0.parameters (first_so _ _ (first_so _ _ (typed_schema well))))
+      subst (λ (s : Shape). length s.0 ≤ max_variables) (sym it.2) (few_here (length it.0.parameters) (first_so _ _ (first_so _ _ (typed_schema well))))

@@ -1,7 +1,7 @@
 -- What a look-up in a table of names says of the names.
-use Rattle.std.proofs.Common.{◌==◌, ◌≤◌, arith, slice_get, ◌≡◌, ℕ, ◌+◌, Bool, true, false, cond, List, [], ◌∷◌, ◌++◌, map, length, refl, ap, sym, subst, ◌∙◌, None, Some, if◌then◌else◌, nat_eq, not, is_some, ◌||◌, true≢false, drop, get_or, ◌<◌}
+use Rattle.std.proofs.Common.{◌==◌, ◌≤◌, arith, slice_get, ◌≡◌, ℕ, ◌+◌, Bool, true, false, cond, List, [], ◌∷◌, ◌++◌, map, length, refl, ap, sym, subst, ◌∙◌, Option, None, Some, if◌then◌else◌, nat_eq, not, is_some, ◌||◌, true≢false, drop, get_or, ◌<◌}
 use Rattle.std.proofs.lemmas.Bool.Decides.{nat_tests}
-use Rattle.std.specs.Option.{option_map}
+use Rattle.std.specs.Option.{option_map, option_map_or}
 use Rattle.std.specs.Global.{Vec}
 use Rattle.std.specs.Cmp.Lexicographic.{pointwise}
 use Rattle.std.specs.List.{list_any, position, position_or_len}
@@ -13,8 +13,8 @@ use Rattle.indexmap.specs.IndexMap.{insert_entry}
 use Rattle.model.specs.Task as task
 use Rattle.model.specs.Trees as tree
 use Rattle.model.specs.Typing.{File, folded, is_same, is_known, number_in, with_name, names_of, refused, unknown_faults, faults_against, predicate_faults, repeated_after}
-use Rattle.typing.specs.Scope.{names_in}
-use Rattle.typing.proofs.Lists.{position_or_len-map, position_or_len-le, list_any-map, position-found, position-missing}
+use Rattle.typing.specs.Scope.{keys_in, names_in}
+use Rattle.typing.proofs.Lists.{position_or_len-map, position_or_len-le, list_any-map, position-found, position-map, position-missing}
 
 -- a test of the keys for a name
 abbrev pub key_is : List ℕ → Vec ℕ → Bool
@@ -49,6 +49,24 @@ names_in-insert_key name key is keys = by (list_any (key_is key.items) keys) (li
 pub number_in-le : (keys : List (Vec ℕ)) (name : tree.Name) → number_in (names_in keys) name ≤ length keys
 number_in-le keys name = omega (arith, position_or_len-le (is_same (folded name)) (names_in keys), length-map keys (λ (k : Vec ℕ). k.items))
 
+-- the names that a table shows are its keys
+pub keys_in-named : {V S : Type 0} (shown : Vec ℕ × V → S) (label : S → task.Name) (named : (e : Vec ℕ × V) → label (shown e) ≡ e.0.items) (entries : List (Vec ℕ × V))
+    → keys_in entries ≡ map label (map shown entries)
+keys_in-named shown label named [] = refl
+keys_in-named shown label named (e ∷ es) = λ i. sym (named e) i ∷ keys_in-named shown label named es i
+
+-- so a look-up of a key finds the place of the name
+pub named_at : {V S : Type 0} (shown : Vec ℕ × V → S) (label : S → task.Name) (named : (e : Vec ℕ × V) → label (shown e) ≡ e.0.items) (q : List ℕ) (entries : List (Vec ℕ × V))
+    → position (key_is q) (keys_of entries) ≡ position (is_same q) (map label (map shown entries))
+named_at shown label named q entries = position-map (is_same q) (λ (key : Vec ℕ). key.items) (keys_of entries) ∙ ap (position (is_same q)) (keys_in-named shown label named entries)
+
+-- the number that a name gets by a look-up, and whether it is refused
+pub number_told : (file : File) (name : tree.Name) (q : List ℕ) → q ≡ folded name → (keys : List (Vec ℕ)) (count : ℕ) → count ≡ length keys → (place : Option ℕ) → place ≡ position (key_is q) keys
+    → (option_map_or (λ n. n) place count ≡ number_in (names_in keys) name)
+    × ((if is_some place then [] else refused file 17 (name ∷ [])) ≡ unknown_faults file (names_in keys) name)
+number_told file name q is keys count all None e = let h = missing_in file name q is keys e in (all ∙ h.0, sym h.1)
+number_told file name q is keys count all (Some i) e = let h = found_in file name q is keys i e in (h.0, sym h.1)
+
 -- a table of predicates, each entry with the name of its key
 module _ {P : Type 0} (shown : Vec ℕ × P → task.Predicate) (named : (e : Vec ℕ × P) → (shown e).name ≡ e.0.items)
     (file : File) (name : tree.Name) (q : List ℕ) (is : q ≡ folded name) (entries : List (Vec ℕ × P)) (count : ℕ) where
@@ -64,7 +82,7 @@ module _ {P : Type 0} (shown : Vec ℕ × P → task.Predicate) (named : (e : Ve
 
   pub found_predicate : (i : ℕ) (k : Vec ℕ) (v : P) → Some i ≡ position (key_is q) (keys_of entries) → slice_get entries i ≡ Some (k, v)
       → (i ≡ number_in (names_of (map shown entries)) name)
-      × (predicate_faults file (map shown entries) name count ≡ (if count == (shown (k, v)).arity then [] else refused file 18 (name ∷ [])))
+      × (predicate_faults file (map shown entries) name count ≡ (if count == length (shown (k, v)).arguments then [] else refused file 18 (name ∷ [])))
   found_predicate i k v e at =
       let place = (position-found (key_is q) (keys_of entries) i e).0 ∙ number_of_key in (
         place,

@@ -1,41 +1,39 @@
 -- The parts that the phases make are the task of the trees, where no phase has a fault.
-use Rattle.std.proofs.Common.{◌≡◌, ℕ, ◌≤◌, true, List, [], ◌∷◌, ◌++◌, map, length, slice_get, refl, ap, sym, subst, ◌∙◌, arith, zero, suc, nat_le, true≢false}
+use Rattle.std.proofs.Common.{◌≡◌, ℕ, ◌≤◌, true, List, [], ◌∷◌, ◌++◌, map, length, slice_get, refl, ap, sym, subst, ◌∙◌, arith, nat_le, Some}
 use Rattle.std.specs.List.{flat_map, list_all}
 use Rattle.std.proofs.lemmas.Bool.Decides.{nat_tests}
 use Rattle.std.proofs.lemmas.List.{length-map, take_all}
 use Rattle.model.specs.Task as task
 use Rattle.model.specs.Trees as tree
-use Rattle.model.specs.Typing.{File, TypingFault, in_domain, in_problem, Known, number_in, names_of, one_after, refused, repeated, unknown_faults, predicate_faults, fact_faults, domain_name_faults, object_faults, declaration_faults, action_faults, init_faults, goal_faults, atom_in, formula_in, predicates_of, known_in_problem, task_of_trees, faults_of, first_filled, IsWellTyped}
-use Rattle.model.specs.WellTyped.{is_of_arity, is_task}
+use Rattle.model.specs.Typing.{File, TypingFault, in_domain, in_problem, Known, folded, number_in, names_of, object_of, one_after, refused, repeated, unknown_faults, predicate_faults, fact_faults, domain_name_faults, object_faults, declaration_faults, action_faults, init_faults, goal_faults, atom_in, formula_in, predicates_of, known_in_problem, task_of_trees, faults_of, first_filled, IsWellTyped}
+use Rattle.model.specs.WellTyped.{is_task}
+use Rattle.model.proofs.Tests.{passes_got}
 use Rattle.typing.specs.declared.names.Names.{Names}
 use Rattle.typing.specs.declared.names.Start.{Start}
 use Rattle.typing.specs.Task.{TaskFault, TellsLeastOf, TellsLeastFault}
-use Rattle.typing.specs.TaskParts.{atom_of, formula_of, task_of_parts}
+use Rattle.typing.specs.TaskParts.{atom_of, formula_of, object_entry_of, task_of_parts}
 use Rattle.typing.specs.Names.{declared_faults, stated_faults, known_by, AreDeclared}
-use Rattle.typing.specs.Scope.{narrow_atom_in}
+use Rattle.typing.specs.Scope.{keys_in, narrow_atom_in}
+use Rattle.typing.proofs.Found.{map-map}
+use Rattle.typing.proofs.Tables.{keys_in-named}
 use Rattle.typing.proofs.Tells.{tells_here, tells_later}
-use Rattle.typing.proofs.WellTyped.{nil_left, nil_right, declared_arity, arities_fit, is_task-task_of_trees}
+use Rattle.typing.proofs.WellTyped.{nil_left, nil_right, declared_count, arities_fit, is_task-task_of_trees}
 
--- a count that is that of a declaration is low where all of them are
-count_low : (ps : List task.Predicate) (n count : ℕ) → list_all (λ (p : task.Predicate). nat_le p.arity 8) ps ≡ true → is_of_arity (slice_get ps n) count ≡ true → count ≤ 8
-count_low [] n count low is = absurd (true≢false (sym is))
-count_low (p ∷ ps) zero count low is =
-    let first : nat_le p.arity 8 ≡ true = grind (arith, nat_tests) in
-    grind (arith, nat_tests)
-count_low (p ∷ ps) (suc n) count low is =
-    let rest : list_all (λ (p : task.Predicate). nat_le p.arity 8) ps ≡ true = grind (arith, nat_tests) in
-    count_low ps n count rest is
+-- a declaration has few arguments where all of them have
+few_arguments : (ps : List task.Predicate) (n : ℕ) (p : task.Predicate) → list_all (λ (q : task.Predicate). nat_le (length q.arguments) 8) ps ≡ true → slice_get ps n ≡ Some p → length p.arguments ≤ 8
+few_arguments ps n p low at = let few : nat_le (length p.arguments) 8 ≡ true = passes_got (λ (q : task.Predicate). nat_le (length q.arguments) 8) ps n p at low in grind (arith, nat_tests)
 
 -- no atom has more objects than are kept
-narrow_is_all : (file : File) (known : Known) → list_all (λ (p : task.Predicate). nat_le p.arity 8) known.predicates ≡ true → (fs : List tree.Fact) → flat_map (fact_faults file known) fs ≡ []
+narrow_is_all : (file : File) (known : Known) → list_all (λ (p : task.Predicate). nat_le (length p.arguments) 8) known.predicates ≡ true → (fs : List tree.Fact) → flat_map (fact_faults file known) fs ≡ []
     → map (narrow_atom_in known) fs ≡ map (atom_in known) fs
 narrow_is_all file known low [] e = refl
 narrow_is_all file known low (f ∷ fs) e =
     let faults = predicate_faults file known.predicates f.predicate (length f.objects) in
     let number = number_in (names_of known.predicates) f.predicate in
     let own = nil_left (fact_faults file known f) (flat_map (fact_faults file known) fs) e in
-    let few = count_low known.predicates number (length f.objects) low (declared_arity file known.predicates f.predicate (length f.objects) (nil_left faults (flat_map (unknown_faults file known.objects) f.objects) own)) in
-    let whole = take_all 8 (map (number_in known.objects) f.objects) (omega (arith, length-map f.objects (number_in known.objects), few)) in
+    let declared = declared_count file known.predicates f.predicate (length f.objects) (nil_left faults (flat_map (unknown_faults file known.objects) f.objects) own) in
+    let few = few_arguments known.predicates number declared.0 low declared.1 in
+    let whole = take_all 8 (map (number_in known.objects) f.objects) (omega (arith, length-map f.objects (number_in known.objects), few, declared.2)) in
     let rest = narrow_is_all file known low fs (nil_right (fact_faults file known f) (flat_map (fact_faults file known) fs) e) in
     λ i. record { predicate = number; objects = whole i } ∷ rest i
 
@@ -87,8 +85,12 @@ module _ (d : tree.Domain) (p : tree.Problem) where
     told_of_declared e h = told_by_parts e (tells_later (domain_name_faults d p) _ named e (tells_here (declared_faults d p) _ e h))
 
     module _ (declared : declared_faults d p ≡ []) (names : Names) (are : AreDeclared d p names) where
+      same_names : keys_in names.objects.entries ≡ map folded p.objects
+      same_names =
+          keys_in-named object_entry_of (λ o. o.name) (λ e. refl) names.objects.entries ∙ ap (map (λ (o : task.Object). o.name)) are.objects ∙ map-map (λ (o : task.Object). o.name) object_of p.objects
+
       same_known : known_by names ≡ known_in_problem (predicates_of d) p
-      same_known = λ i. record { predicates = are.predicates i; variables = []; objects = are.objects i }
+      same_known = λ i. record { predicates = are.predicates i; variables = []; objects = same_names i }
 
       -- and that of what is stated, where what is declared has none
       pub told_of_stated : (e : TaskFault) → TellsLeastOf (stated_faults (known_by names) p) e → TellsLeastFault d p e
@@ -98,7 +100,7 @@ module _ (d : tree.Domain) (p : tree.Problem) where
 
       pub made_by_phases : (start : Start) → stated_faults (known_by names) p ≡ []
           → map atom_of start.init.items ≡ map (narrow_atom_in (known_by names)) p.init → formula_of start.goal ≡ formula_in (known_by names) p.goal
-          → IsMade d p (task_of_parts names.objects.keys names.predicates.entries names.schemas.entries start.init.items start.goal)
+          → IsMade d p (task_of_parts names.types.entries names.objects.entries names.predicates.entries names.schemas.entries start.init.items start.goal)
       made_by_phases start stated init goal =
           let known = known_in_problem (predicates_of d) p in
           let no_stated = ap (λ k. stated_faults k p) (sym same_known) ∙ stated in
@@ -111,9 +113,9 @@ module _ (d : tree.Domain) (p : tree.Problem) where
           let low = arities_fit d.predicates (nil_right twice (flat_map (λ (r : tree.Predicate). refused in_domain 25 (one_after 8 r.parameters)) d.predicates) no_declaration) in
           let same_init = init ∙ ap (λ k. map (narrow_atom_in k) p.init) same_known ∙ narrow_is_all in_problem known low p.init no_init in
           let same_goal = goal ∙ ap (λ k. formula_in k p.goal) same_known in
-          let made : task.Task = task_of_parts names.objects.keys names.predicates.entries names.schemas.entries start.init.items start.goal in
+          let made : task.Task = task_of_parts names.types.entries names.objects.entries names.predicates.entries names.schemas.entries start.init.items start.goal in
           let same : made ≡ task_of_trees d p =
-          λ i. record { objects = are.objects i; predicates = are.predicates i; schemas = are.schemas i; init = same_init i; goal = same_goal i } in
+          λ i. record { types = are.types i; objects = are.objects i; predicates = are.predicates i; schemas = are.schemas i; init = same_init i; goal = same_goal i } in
           record {
             well_typed = faults_by_parts d p ∙ (λ i. first_filled (named i ∷ declared i ∷ no_stated i ∷ []));
             same = same;

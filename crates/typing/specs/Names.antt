@@ -2,12 +2,13 @@
 use Rattle.std.specs.Prelude.{◌≡◌, ℕ, List, [], ◌∷◌, map}
 use Rattle.std.specs.Global.{Vec}
 use Rattle.std.specs.List.{flat_map}
+use Rattle.typing.specs.declared.atoms.TypeId.{TypeId}
 use Rattle.typing.specs.declared.names.Names.{Names}
 use Rattle.typing.specs.declared.names.Start.{Start}
-use Rattle.typing.specs.Scope.{names_in, narrow_atom_in}
-use Rattle.typing.specs.TaskParts.{atom_of, formula_of, predicate_of, schema_of}
+use Rattle.typing.specs.Scope.{keys_in, narrow_atom_in}
+use Rattle.typing.specs.TaskParts.{atom_of, formula_of, object_entry_of, predicate_of, schema_of, type_entry_of}
 use Rattle.model.specs.Trees as tree
-use Rattle.model.specs.Typing.{File, in_problem, folded, first_filled, fact_faults, formula_faults, object_faults, declaration_faults, action_faults, predicates_of, schema_in, formula_in, Known, TypingFault}
+use Rattle.model.specs.Typing.{File, in_problem, first_filled, object_of, root_type, fact_faults, formula_faults, object_faults, declaration_faults, action_faults, predicates_of, schema_in, formula_in, Known, TypingFault}
 
 -- the faults of the declarations: those of the first phase that has any
 abbrev pub declared_faults : tree.Domain → tree.Problem → List TypingFault
@@ -26,18 +27,20 @@ stated_faults known p = stated_faults_in in_problem known p
 
 -- what may be named in the problem
 abbrev pub known_by : Names → Known
-known_by n = record { predicates = map predicate_of n.predicates.entries; variables = []; objects = names_in n.objects.keys }
+known_by n = record { predicates = map predicate_of n.predicates.entries; variables = []; objects = keys_in n.objects.entries }
 
 -- these are the names that the pair declares
 pub record AreDeclared (d : tree.Domain) (p : tree.Problem) (n : Names) : Type 0 where
-  pub objects : names_in n.objects.keys ≡ map folded p.objects
+  pub types : map type_entry_of n.types.entries ≡ root_type ∷ []
+  pub objects : map object_entry_of n.objects.entries ≡ map object_of p.objects
   pub predicates : map predicate_of n.predicates.entries ≡ predicates_of d
   pub schemas : map schema_of n.schemas.entries ≡ map (schema_in (predicates_of d)) d.actions
 
--- these are the names that the domain declares, which has no fault there, and these objects
-pub record AreOfDomain (d : tree.Domain) (keys : List (Vec ℕ)) (n : Names) : Type 0 where
+-- these are the names that the domain declares, which has no fault there, and these types and objects
+pub record AreOfDomain (d : tree.Domain) (types : List (Vec ℕ × Vec TypeId)) (objects : List (Vec ℕ × TypeId)) (n : Names) : Type 0 where
   pub right : domain_faults d ≡ []
-  pub objects : n.objects.keys ≡ keys
+  pub types_are : n.types.entries ≡ types
+  pub objects_are : n.objects.entries ≡ objects
   pub predicates : map predicate_of n.predicates.entries ≡ predicates_of d
   pub schemas : map schema_of n.schemas.entries ≡ map (schema_in (predicates_of d)) d.actions
 

@@ -1,6 +1,7 @@
 -- What the names of formulas, effects and atoms stand for, in the model's terms.
 use Rattle.std.specs.Prelude.{ℕ, List, [], map, take}
 use Rattle.std.specs.Global.{Vec}
+use Rattle.std.specs.Map.{keys_of}
 use Rattle.typing.specs.declared.schemas.Predicate.{Predicate}
 use Rattle.typing.specs.declared.scope.Scope.{Scope}
 use Rattle.typing.specs.TaskParts.{predicate_of}
@@ -12,11 +13,15 @@ use Rattle.model.specs.Typing.{Known, atom_in}
 abbrev pub names_in : List (Vec ℕ) → List task.Name
 names_in keys = map (λ name. name.items) keys
 
+-- the names that a table has for something
+abbrev pub keys_in : {V : Type 0} → List (Vec ℕ × V) → List task.Name
+keys_in entries = names_in (keys_of entries)
+
 abbrev pub known_of : Scope → Known
 known_of s = record {
   predicates = map predicate_of s.predicates.now.entries;
   variables = names_in s.variables.now.keys;
-  objects = names_in s.objects.now.keys;
+  objects = keys_in s.objects.now.entries;
 }
 
 -- what is known in an action of these predicates and variables

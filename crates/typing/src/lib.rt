@@ -5,10 +5,12 @@
 mod atoms;
 mod fault;
 mod names;
+mod objects;
 mod phases;
 mod schemas;
 mod scope;
 mod task;
+mod types;
 mod walk;
 
 pub use atoms::{

@@ -2,7 +2,9 @@
 ghost use Rattle.std.specs.Prelude.{◌≡◌, ◌≤◌, [], length, IfErr, IfOk};
 
 use crate::scope::Scope;
-use crate::{Atom, Formula, Predicate, Schema, TaskFault, TaskFile, phases};
+use crate::{
+    Atom, Formula, Predicate, Schema, TaskFault, TaskFile, TypeId, objects, phases, types,
+};
 use indexmap::{IndexMap, IndexSet};
 use pddl_tree::{Domain, Problem};
 use std::alloc::Global;
@@ -10,10 +12,12 @@ use std::alloc::Global;
 /// What a domain and a problem declare, by name: each in the place of its number.
 #[derive(Drop)]
 pub(crate) struct Names {
-    pub(crate) objects: IndexSet<Vec<u8>>,
+    pub(crate) types: IndexMap<Vec<u8>, Vec<TypeId>>,
+    pub(crate) objects: IndexMap<Vec<u8>, TypeId>,
     pub(crate) predicates: IndexMap<Vec<u8>, Predicate>,
     pub(crate) schemas: IndexMap<Vec<u8>, Schema>,
-    ghost few_objects: { length objects.keys ≤ 65535 },
+    ghost few_types: { length types.entries ≤ 4096 },
+    ghost few_objects: { length objects.entries ≤ 65535 },
 }
 
 /// What a problem states: where it begins, and what is to be reached.
@@ -40,23 +44,27 @@ impl Names {
             × AreDeclared (domain_of domain.now) (problem_of problem.now) n) }
         ensures err { IfErr result (TellsLeastOf (declared_faults (domain_of domain.now) (problem_of problem.now))) }
     {
-        let objects = phases::objects(alloc, problem)?;
-        Names::of_objects(alloc, objects, domain)
+        let types = types::types(alloc)?;
+        let objects = objects::objects(alloc, problem)?;
+        Names::of_objects(alloc, types, objects, domain)
     }
 
-    /// These objects, and the names that a domain declares.
+    /// These types and objects, and the names that a domain declares.
     fn of_objects(
         alloc: Global,
-        objects: IndexSet<Vec<u8>>,
+        types: IndexMap<Vec<u8>, Vec<TypeId>>,
+        objects: IndexMap<Vec<u8>, TypeId>,
         domain: &Domain<'_>,
     ) -> Result<Names, TaskFault>
-        requires { length objects.keys ≤ 65535 }
-        ensures ok { IfOk result (AreOfDomain (domain_of domain.now) objects.keys) }
+        requires few_types { length types.entries ≤ 4096 }
+        requires few_objects { length objects.entries ≤ 65535 }
+        ensures ok { IfOk result (AreOfDomain (domain_of domain.now) types.entries objects.entries) }
         ensures err { IfErr result (TellsLeastOf (domain_faults (domain_of domain.now))) }
     {
         let predicates = phases::predicates(alloc, domain)?;
         let schemas = phases::schemas(alloc, &predicates, domain)?;
         Ok(Names {
+            types,
             objects,
             predicates,
             schemas,

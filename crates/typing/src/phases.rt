@@ -1,5 +1,5 @@
 //! The phases of typing, in the order in which their faults are told.
-ghost use Rattle.std.specs.Prelude.{◌≡◌, ◌≤◌, [], ◌∷◌, ◌++◌, false, if◌then◌else◌, length, map, IfErr, IfOk, OnOk};
+ghost use Rattle.std.specs.Prelude.{◌≡◌, [], ◌∷◌, ◌++◌, false, if◌then◌else◌, map, IfErr, IfOk, OnOk};
 ghost use Rattle.typing.specs.TaskParts as parts;
 ghost use Rattle.typing.specs.Task.{file_of, TellsLeastOf};
 ghost use Rattle.typing.specs.Scope.{known_of, names_in, narrow_atom_in, over};
@@ -9,11 +9,9 @@ ghost use Rattle.model.specs.Typing as typing;
 ghost use Rattle.std.specs.List.{flat_map};
 
 use crate::scope::Scope;
+use crate::types::any_objects;
 use crate::walk::Walk;
-use crate::{
-    Atom, Formula, MAX_ARGUMENTS, MAX_OBJECTS, MAX_VARIABLES, Predicate, Schema, TaskFault,
-    TaskFile,
-};
+use crate::{Atom, Formula, MAX_ARGUMENTS, MAX_VARIABLES, Predicate, Schema, TaskFault, TaskFile};
 use faults::{Code, NoMemory};
 use indexmap::{IndexMap, IndexSet};
 use pddl_tree::{Action, Domain, Fact, Name, Predicate as Declaration, Problem};
@@ -44,7 +42,7 @@ pub(crate) fn domain_name(
 }
 
 /// Refuses a name that is declared again.
-fn refuse_again(walk: &mut Walk, file: TaskFile, name: &Name<'_>, again: bool)
+pub(crate) fn refuse_again(walk: &mut Walk, file: TaskFile, name: &Name<'_>, again: bool)
     ensures { Finds walk.old walk.new (typing.refused (file_of file) 16 (if again then read.name_of name.now ∷ [] else [])) }
 {
     if again {
@@ -87,26 +85,12 @@ fn declared(
 }
 
 /// The name after this many is one too many.
-fn limit(walk: &mut Walk, file: TaskFile, names: &[Name<'_>], most: usize)
+pub(crate) fn limit(walk: &mut Walk, file: TaskFile, names: &[Name<'_>], most: usize)
     ensures { Finds walk.old walk.new (typing.refused (file_of file) 25 (typing.one_after most (map read.name_of names.now))) }
 {
     if let Some(name) = names.get(most) {
         walk.refuse(file, Code::TooMany, name);
     }
-}
-
-/// The problem's objects.
-pub(crate) fn objects(alloc: Global, problem: &Problem<'_>) -> Result<IndexSet<Vec<u8>>, TaskFault>
-    ensures ok { IfOk result
-        (λ s. (typing.object_faults (read.problem_of problem.now) ≡ [])
-        × ((names_in s.keys ≡ map typing.folded (read.problem_of problem.now).objects) × (length s.keys ≤ 65535))) }
-    ensures err { IfErr result (TellsLeastOf (typing.object_faults (read.problem_of problem.now))) }
-{
-    let mut walk = Walk::new(alloc);
-    let names = problem.objects.as_slice();
-    let objects = declared(alloc, &mut walk, TaskFile::Problem, names)?;
-    limit(&mut walk, TaskFile::Problem, names, MAX_OBJECTS);
-    walk.finish(objects)
 }
 
 /// Declares a predicate. One that is declared before is refused.
@@ -124,9 +108,9 @@ fn declare_predicate(
     ensures finds { OnOk result (Finds walk.old walk.new (typing.refused typing.in_domain 16
         (if typing.is_known (typing.names_of (map parts.predicate_of predicates.old.entries)) (read.name_of declaration.now.name) then read.name_of declaration.now.name ∷ [] else []))) }
 {
-    let arity = declaration.parameters.len();
     let key = declaration.name.text.to_ascii_lowercase(alloc)?;
-    let before = predicates.insert(key, Predicate { arity })?;
+    let arguments = any_objects(alloc, declaration.parameters.as_slice())?;
+    let before = predicates.insert(key, Predicate { arguments })?;
     refuse_again(walk, TaskFile::Domain, &declaration.name, before.is_some());
     Ok(())
 }
@@ -203,7 +187,7 @@ fn schema_in(
     action: &Action<'_>,
 ) -> Result<Schema, NoMemory>
     ensures shape { IfOk result (λ s. parts.shape_of s ≡ (
-      length action.now.parameters.items,
+      typing.any_objects (map read.name_of action.now.parameters.items),
       typing.formula_in (known_of scope.now) (read.formula_of action.now.precondition),
       typing.effect_in (known_of scope.now) (read.effect_of action.now.effect),
     )) }
@@ -213,8 +197,9 @@ fn schema_in(
 {
     let precondition = scope.formula(alloc, walk, &action.precondition)?;
     let effect = scope.effect(alloc, walk, &action.effect)?;
+    let parameters = any_objects(alloc, action.parameters.as_slice())?;
     Ok(Schema {
-        parameters: action.parameters.len(),
+        parameters,
         precondition,
         effect,
     })
@@ -229,7 +214,7 @@ fn schema_over(
     action: &Action<'_>,
 ) -> Result<Schema, NoMemory>
     ensures shape { IfOk result (λ s. parts.shape_of s ≡ (
-      length action.now.parameters.items,
+      typing.any_objects (map read.name_of action.now.parameters.items),
       typing.formula_in (over predicates.now.entries variables.now.keys) (read.formula_of action.now.precondition),
       typing.effect_in (over predicates.now.entries variables.now.keys) (read.effect_of action.now.effect),
     )) }
@@ -241,7 +226,7 @@ fn schema_over(
         file: TaskFile::Domain,
         predicates,
         variables,
-        objects: &IndexSet::new(alloc),
+        objects: &IndexMap::new(alloc),
     };
     schema_in(alloc, walk, &scope, action)
 }

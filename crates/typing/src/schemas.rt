@@ -5,6 +5,19 @@ use crate::atoms::{LiftedAtom, TypeId};
 #[derive(Debug, Drop)]
 pub struct TypeUnion(pub Vec<TypeId>);
 
+impl TypeUnion {
+    ghost use Rattle.std.specs.Prelude.{◌≡◌, nat_eq};
+    ghost use Rattle.std.specs.List.{list_any};
+    ghost use Rattle.typing.specs.TaskParts.{union_of};
+
+    /// Whether the type is one of these.
+    pub(crate) fn has(&self, id: TypeId) -> bool
+        ensures { result ≡ list_any (nat_eq id.0) (union_of self.now) }
+    {
+        self.0.contains(&id)
+    }
+}
+
 /// A precondition or a goal.
 #[derive(Debug, Drop)]
 pub enum Formula {

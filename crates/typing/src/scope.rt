@@ -4,7 +4,7 @@ ghost use Rattle.std.specs.Prelude.{◌≤◌, length};
 use crate::walk::Walk;
 use crate::{
     Atom, Effect, Formula, LiftedAtom, MAX_ARGUMENTS, ObjectId, Predicate, PredicateId, TaskFile,
-    Term, VariableId,
+    Term, TypeId, VariableId,
 };
 use arrayvec::ArrayVec;
 use faults::{Code, NoMemory};
@@ -21,19 +21,20 @@ pub(crate) struct Scope<'s> {
     pub(crate) file: TaskFile,
     pub(crate) predicates: &'s IndexMap<Vec<u8>, Predicate>,
     pub(crate) variables: &'s IndexSet<Vec<u8>>,
-    pub(crate) objects: &'s IndexSet<Vec<u8>>,
-    ghost few: { length objects.now.keys ≤ 65535 },
+    pub(crate) objects: &'s IndexMap<Vec<u8>, TypeId>,
+    ghost few: { length objects.now.entries ≤ 65535 },
 }
 
 impl Scope<'_> {
-    ghost use Rattle.std.specs.Prelude.{◌≡◌, IfOk, OnOk};
+    ghost use Rattle.std.specs.Prelude.{◌≡◌, [], ◌∷◌, is_some, if◌then◌else◌, IfOk, OnOk};
+    ghost use Rattle.std.specs.Option.{option_map_or};
     ghost use Rattle.typing.specs.Task.{file_of};
     ghost use Rattle.typing.specs.Scope.{known_of, names_in, narrow_atom_in};
     ghost use Rattle.typing.specs.Walk.{Finds};
     ghost use Rattle.typing.specs.TaskParts as parts;
     ghost use Rattle.pddl_tree.specs.Tree as read;
     ghost use Rattle.model.specs.Task.{add, delete};
-    ghost use Rattle.model.specs.Typing.{atom_faults, effect_faults, effect_in, fact_faults, formula_faults, formula_in, lifted_atom_in, names_of, number_in, predicate_faults, term_faults, term_in, unknown_faults};
+    ghost use Rattle.model.specs.Typing.{atom_faults, effect_faults, effect_in, fact_faults, formula_faults, formula_in, lifted_atom_in, names_of, number_in, predicate_faults, refused, term_faults, term_in, unknown_faults};
 
     /// The predicate of this name, which stands with this count of terms.
     fn predicate(
@@ -48,7 +49,7 @@ impl Scope<'_> {
         walk.fold(name)?;
         match self.predicates.get_full(walk.folded.as_slice()) {
             Some((number, _, predicate)) => {
-                if predicate.arity != count {
+                if predicate.arguments.len() != count {
                     walk.refuse(self.file, Code::WrongArity, name);
                 }
                 Ok(PredicateId(number))
@@ -60,24 +61,29 @@ impl Scope<'_> {
         }
     }
 
-    /// The number of a name among these.
-    fn number(
-        &self,
-        walk: &mut Walk,
-        names: &IndexSet<Vec<u8>>,
-        name: &Name<'_>,
-    ) -> Result<usize, NoMemory>
-        ensures value { IfOk result (λ n. n ≡ number_in (names_in names.now.keys) (read.name_of name.now)) }
-        ensures finds { OnOk result (Finds walk.old walk.new (unknown_faults (file_of self.now.file) (names_in names.now.keys) (read.name_of name.now))) }
+    /// The number of a name: its place, where it has one. Another is refused, and gets the number after the last.
+    fn number(&self, walk: &mut Walk, place: Option<usize>, count: usize, name: &Name<'_>) -> usize
+        ensures value { result ≡ option_map_or (λ n. n) place count }
+        ensures finds { Finds walk.old walk.new (if is_some place then [] else refused (file_of self.now.file) 17 (read.name_of name.now ∷ [])) }
     {
-        walk.fold(name)?;
-        match names.get_index_of(walk.folded.as_slice()) {
-            Some(number) => Ok(number),
+        match place {
+            Some(number) => number,
             None => {
                 walk.refuse(self.file, Code::UnknownName, name);
-                Ok(names.len())
+                count
             }
         }
+    }
+
+    /// The parameter of this name.
+    fn variable(&self, walk: &mut Walk, name: &Name<'_>) -> Result<VariableId, NoMemory>
+        ensures value { IfOk result (λ v. v.0 ≡ number_in (known_of self.now).variables (read.name_of name.now)) }
+        ensures finds { OnOk result (Finds walk.old walk.new (unknown_faults (file_of self.now.file) (known_of self.now).variables (read.name_of name.now))) }
+    {
+        walk.fold(name)?;
+        let place = self.variables.get_index_of(walk.folded.as_slice());
+        let number = self.number(walk, place, self.variables.len(), name);
+        Ok(VariableId(number))
     }
 
     /// The object of this name.
@@ -85,7 +91,9 @@ impl Scope<'_> {
         ensures value { IfOk result (λ o. o.0 ≡ number_in (known_of self.now).objects (read.name_of name.now)) }
         ensures finds { OnOk result (Finds walk.old walk.new (unknown_faults (file_of self.now.file) (known_of self.now).objects (read.name_of name.now))) }
     {
-        let number = self.number(walk, self.objects, name)?;
+        walk.fold(name)?;
+        let place = self.objects.get_index_of(walk.folded.as_slice());
+        let number = self.number(walk, place, self.objects.len(), name);
         Ok(ObjectId(number as u32))
     }
 
@@ -95,10 +103,7 @@ impl Scope<'_> {
         ensures finds { OnOk result (Finds walk.old walk.new (term_faults (file_of self.now.file) (known_of self.now) (read.term_of term.now))) }
     {
         match term {
-            tree::Term::Variable(name) => {
-                let number = self.number(walk, self.variables, name)?;
-                Ok(Term::Variable(VariableId(number)))
-            }
+            tree::Term::Variable(name) => Ok(Term::Variable(self.variable(walk, name)?)),
             tree::Term::Object(name) => Ok(Term::Object(self.object(walk, name)?)),
         }
     }

@@ -133,7 +133,7 @@ impl Task {
     pub(crate) fn is_below(&self, id: TypeId, types: &TypeUnion) -> bool
         ensures { result ≡ is_below (task_of self.now) (union_of types.now) id.0 }
     {
-        self.supertypes(id).iter().any(|above| types.0.contains(above))
+        self.supertypes(id).iter().any(|above| types.has(*above))
     }
 
     /// The objects of these types, in order, each once.

@@ -1,10 +1,10 @@
-use Rattle.std.proofs.Common.{◌≡◌, ◌∙◌, [], ◌∷◌, map, length, refl, ap, sym, arith, if◌then◌else◌, is_some}
+use Rattle.std.proofs.Common.{◌∙◌, [], ◌∷◌, map, refl, ap, sym, if◌then◌else◌, is_some}
 use Rattle.typing.specs.Walk.{found, least_of}
 use Rattle.typing.specs.TaskParts as parts
+use Rattle.typing.specs.declared.schemas.Predicate.{Predicate}
 use Rattle.pddl_tree.specs.Tree as read
 use Rattle.model.specs.Typing as typing
 use Rattle.typing.proofs.Tables as tables
-use Rattle.std.proofs.lemmas.List.{length-map}
 use Rattle.typing.proofs.phases.declare_predicate.Goals as goal
 
 pub returns : goal.returns
@@ -13,15 +13,15 @@ returns c =
     let entries = c.args.predicates.now.entries in
     let key = c.in_ok-key.key in
     let is = c.in_ok-key.ensures.ok in
-    let parameters = c.args.declaration.now.parameters in
-    let count : c.len-arity.result ≡ length (map read.name_of parameters.items) = omega (arith, c.len-arity.ensures, parameters.ok.0, length-map parameters.items read.name_of) in
+    let declared : Predicate = record { arguments = c.in_ok-arguments.arguments } in
+    let arguments = c.in_ok-arguments.ensures ∙ ap (λ ns. typing.any_objects (map read.name_of ns)) c.as_slice.ensures.value in
     let known = c.is_some.ensures ∙ ap is_some c.in_ok-before.ensures.old ∙ tables.lookup-any (tables.key_is key.items) entries
-    ∙ sym (tables.is_known-entries parts.predicate_of (λ p. p.name) (λ e. refl) name key is (record { arity = c.len-arity.result }) entries) in
+    ∙ sym (tables.is_known-entries parts.predicate_of (λ p. p.name) (λ e. refl) name key is declared entries) in
     record {
       names = ap (λ es. typing.names_of (map parts.predicate_of es)) c.in_ok-before.ensures.entries
-          ∙ tables.labels-insert parts.predicate_of (λ p. p.name) (λ e. refl) name key is (record { arity = c.len-arity.result }) entries;
+          ∙ tables.labels-insert parts.predicate_of (λ p. p.name) (λ e. refl) name key is declared entries;
       added = λ new. ap (map parts.predicate_of) c.in_ok-before.ensures.entries
-          ∙ tables.shown-insert parts.predicate_of (λ p. p.name) (λ e. refl) name key is (record { arity = c.len-arity.result })
-          (typing.predicate_of (read.predicate_of c.args.declaration.now)) (λ i. record { name = is i; arity = count i }) entries new;
+          ∙ tables.shown-insert parts.predicate_of (λ p. p.name) (λ e. refl) name key is declared
+          (typing.predicate_of (read.predicate_of c.args.declaration.now)) (λ i. record { name = is i; arguments = arguments i }) entries new;
       finds = c.refuse_again.ensures ∙ ap (λ b. found (least_of c.args.walk.now) (typing.refused typing.in_domain 16 (if b then name ∷ [] else []))) known;
     }

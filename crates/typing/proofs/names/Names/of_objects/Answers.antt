@@ -21,7 +21,7 @@ returns-in_err-schemas-clause-err c =
     (tells_later (declaration_faults d) _ c.in_ok-predicates.ensures.ok.0 e (tells_here (action_faults (predicates_of d) d) _ e told))
 
 pub invariant_of-result : goal.invariant_of-result
-invariant_of-result c = record { few_objects = c.requires }
+invariant_of-result c = record { few_types = c.requires.few_types; few_objects = c.requires.few_objects }
 
 pub returns-clause-ok : goal.returns-clause-ok
 returns-clause-ok c =
@@ -29,7 +29,8 @@ returns-clause-ok c =
     let predicates = c.in_ok-predicates.ensures.ok.1 in
     let actions = ap (λ ps. action_faults ps d) (sym predicates) ∙ c.in_ok-schemas.ensures.ok.0 in record {
       right = λ i. first_filled (c.in_ok-predicates.ensures.ok.0 i ∷ actions i ∷ []);
-      objects = refl;
+      types_are = refl;
+      objects_are = refl;
       predicates = predicates;
       schemas = c.in_ok-schemas.ensures.ok.1 ∙ ap (λ ps. map (schema_in ps) d.actions) predicates;
     }

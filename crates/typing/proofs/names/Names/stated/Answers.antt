@@ -2,7 +2,7 @@ use Rattle.std.proofs.Common.{◌≡◌, map, ap, subst, IfOk, IfErr}
 use Rattle.pddl_tree.specs.Tree.{problem_of}
 use Rattle.typing.specs.Task.{TellsLeastOf}
 use Rattle.typing.specs.TaskParts as parts
-use Rattle.typing.specs.Scope.{names_in}
+use Rattle.typing.specs.Scope.{keys_in, names_in}
 use Rattle.typing.specs.Names.{known_by, stated_faults, Starts}
 use Rattle.model.specs.Typing.{in_problem, Known}
 use Rattle.typing.proofs.names.Names.stated.Goals.{After-new}
@@ -13,14 +13,14 @@ abbrev known : After-new → Known
 known c = record {
   predicates = map parts.predicate_of c.args.self.now.predicates.entries;
   variables = names_in c.new.result.keys;
-  objects = names_in c.args.self.now.objects.keys;
+  objects = keys_in c.args.self.now.objects.entries;
 }
 
 same : (c : After-new) → known c ≡ known_by c.args.self.now
 same c = λ i. record {
   predicates = map parts.predicate_of c.args.self.now.predicates.entries;
   variables = ap names_in c.new.ensures.empty i;
-  objects = names_in c.args.self.now.objects.keys;
+  objects = keys_in c.args.self.now.objects.entries;
 }
 
 pub returns-clause-ok : goal.returns-clause-ok

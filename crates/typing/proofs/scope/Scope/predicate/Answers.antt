@@ -1,8 +1,9 @@
-use Rattle.std.proofs.Common.{◌≡◌, ◌==◌, ◌∙◌, map, ap, sym, refl, [], ◌∷◌, if◌then◌else◌, List, Bool}
+use Rattle.std.proofs.Common.{◌≡◌, ◌==◌, ◌∙◌, map, length, ap, sym, refl, [], ◌∷◌, if◌then◌else◌, List, Bool, arith}
 use Rattle.std.specs.Option.{option_map}
 use Rattle.pddl_tree.specs.Tree.{name_of}
 use Rattle.model.specs.Typing.{refused, number_in, names_of, predicate_faults, TypingFault}
-use Rattle.typing.specs.TaskParts.{predicate_of}
+use Rattle.std.proofs.lemmas.List.{length-map}
+use Rattle.typing.specs.TaskParts.{predicate_of, union_of}
 use Rattle.typing.specs.Task.{file_of, refusal_of}
 use Rattle.typing.specs.Walk.{found, least_of}
 use Rattle.typing.proofs.Tables.{found_predicate, missing_predicate, other_count, same_count}
@@ -15,27 +16,27 @@ told c fits = if fits then [] else refused (file_of c.args.self.now.file) 18 (na
 
 -- what the look-up says of the number and of the faults
 there : (c : In-Some) → (c.in-Some.number ≡ number_in (names_of (map predicate_of c.args.self.now.predicates.now.entries)) (name_of c.args.name.now))
-    × (predicate_faults (file_of c.args.self.now.file) (map predicate_of c.args.self.now.predicates.now.entries) (name_of c.args.name.now) c.args.count ≡ told c (c.args.count == c.in-Some.predicate.now.arity))
+    × (predicate_faults (file_of c.args.self.now.file) (map predicate_of c.args.self.now.predicates.now.entries) (name_of c.args.name.now) c.args.count ≡ told c (c.args.count == length (map union_of c.in-Some.predicate.now.arguments.items)))
 unfolding told
 there c =
     found_predicate predicate_of (λ e. refl) (file_of c.args.self.now.file) (name_of c.args.name.now) _ (c.as_slice.ensures.value ∙ c.in_ok-fold.ensures.folded) c.args.self.now.predicates.now.entries c.args.count c.in-Some.number _ _ c.in-Some.ensures.index c.in-Some.ensures.entry
 
-pub returns-then-predicate-count : goal.returns-then-predicate-count
+pub returns-then-len-count : goal.returns-then-len-count
 unfolding told
-returns-then-predicate-count c =
-    let s = (goal.at.returns-then-predicate-count c).In-Some in
-    let faults = (there s).1 ∙ ap (told s) (other_count c.in-Some.predicate.now.arity c.args.count c.if-predicate-count.true) in
+returns-then-len-count c =
+    let s = (goal.at.returns-then-len-count c).In-Some in
+    let faults = (there s).1 ∙ ap (told s) (other_count (length (map union_of c.in-Some.predicate.now.arguments.items)) c.args.count (λ same. c.if-len-count.true (omega (arith, same, c.len.ensures, length-map c.in-Some.predicate.now.arguments.items union_of)))) in
     record {
       value = (there s).0;
       finds = c.refuse.ensures ∙ ap (λ o. found (option_map refusal_of o) (refused (file_of c.args.self.now.file) 18 (name_of c.args.name.now ∷ []))) c.fold.ensures.least
           ∙ ap (found (least_of c.args.walk.now)) (sym faults);
     }
 
-pub returns-else-predicate-count : goal.returns-else-predicate-count
+pub returns-else-len-count : goal.returns-else-len-count
 unfolding told
-returns-else-predicate-count c =
-    let s = (goal.at.returns-else-predicate-count c).In-Some in
-    let faults = (there s).1 ∙ ap (told s) (same_count c.in-Some.predicate.now.arity c.args.count c.if-predicate-count.false) in
+returns-else-len-count c =
+    let s = (goal.at.returns-else-len-count c).In-Some in
+    let faults = (there s).1 ∙ ap (told s) (same_count (length (map union_of c.in-Some.predicate.now.arguments.items)) c.args.count (omega (arith, c.if-len-count.false, c.len.ensures, length-map c.in-Some.predicate.now.arguments.items union_of))) in
     record { value = (there s).0; finds = ap (option_map refusal_of) c.fold.ensures.least ∙ ap (found (least_of c.args.walk.now)) (sym faults) }
 
 pub returns-in-None : goal.returns-in-None
@@ -43,6 +44,6 @@ returns-in-None c =
     let file = file_of c.args.self.now.file in let name = name_of c.args.name.now in
     let h = missing_predicate predicate_of (λ e. refl) file name _ (c.as_slice.ensures.value ∙ c.in_ok-fold.ensures.folded) c.args.self.now.predicates.now.entries c.args.count c.in-None.ensures.index in
     record {
-      value = c.len.ensures.len ∙ h.0;
+      value = c.len-in-None.ensures.len ∙ h.0;
       finds = c.refuse-in-None.ensures ∙ ap (λ o. found (option_map refusal_of o) (refused file 17 (name ∷ []))) c.fold.ensures.least ∙ ap (found (least_of c.args.walk.now)) (sym h.1);
     }

@@ -23,13 +23,13 @@ returns-in_err-start-clause-least c =
     passed_on (TellsLeastFault d p) c.from_residual-in_err-start.result e c.from_residual-in_err-start.ensures.1
     (told_of_stated d p c.in_ok-domain_name.ensures.ok c.in_ok-names.ensures.ok.0 c.in_ok-names.names c.in_ok-names.ensures.ok.1 e c.in_err-start.ensures.err)
 
-made : (c : In_ok-start) → IsMade (domain_of c.args.domain.now) (problem_of c.args.problem.now) (task_of_parts c.in_ok-names.names.objects.keys c.in_ok-names.names.predicates.entries c.in_ok-names.names.schemas.entries c.in_ok-start.start.init.items c.in_ok-start.start.goal)
+made : (c : In_ok-start) → IsMade (domain_of c.args.domain.now) (problem_of c.args.problem.now) (task_of_parts c.in_ok-names.names.types.entries c.in_ok-names.names.objects.entries c.in_ok-names.names.predicates.entries c.in_ok-names.names.schemas.entries c.in_ok-start.start.init.items c.in_ok-start.start.goal)
 made c =
     let stated = c.in_ok-start.ensures.ok in
     made_by_phases (domain_of c.args.domain.now) (problem_of c.args.problem.now) c.in_ok-domain_name.ensures.ok c.in_ok-names.ensures.ok.0 c.in_ok-names.names c.in_ok-names.ensures.ok.1 c.in_ok-start.start stated.right stated.init stated.goal
 
 pub invariant_of-result : goal.invariant_of-result
-invariant_of-result c = record { few_objects = c.in_ok-names.names.few_objects; well_typed = (made c).typed }
+invariant_of-result c = record { few_types = c.in_ok-names.names.few_types; few_objects = c.in_ok-names.names.few_objects; well_typed = (made c).typed }
 
 pub returns-clause-well_typed : goal.returns-clause-well_typed
 returns-clause-well_typed c = (made (goal.at.returns-clause-well_typed c).In_ok-start).well_typed
