@@ -1,22 +1,17 @@
 -- The head of a file, from its words one by one.
-use Rattle.std.proofs.Common.{◌≡◌, ℕ, ◌+◌, suc, inl, inr, List, [], ◌∷◌, map, take, length, Option, Some, None, false, refl, sym, ◌∙◌, ap, subst, arith}
+use Rattle.std.proofs.Common.{◌≡◌, ℕ, ◌+◌, suc, inl, inr, List, [], ◌∷◌, map, take, length, Some, refl, sym, ◌∙◌, ap, subst, arith}
 use Rattle.std.specs.Option.{option_map, option_and_then}
 use Rattle.tokens.specs.declared.word.Word.{Word}
 use Rattle.tokens.specs.Word.{word_of}
-use Rattle.faults.specs.declared.refused.Refused.TheVariants.{At}
-use Rattle.pddl_words.specs.declared.refusal.WordRefusal.{WordRefusal}
 use Rattle.pddl_words.specs.Token.{from, first}
-use Rattle.pddl_tree.specs.declared.refusal.Place.TheVariants.{Elsewhere, Incomplete}
-use Rattle.pddl_tree.specs.Reading.{the, IsRead, IsWord, IsTold, Opens, IsNotOpen, opens_first, number_seen}
+use Rattle.pddl_tree.specs.Reading.{the, IsRead, IsWord, Opens}
 use Rattle.pddl_tree.specs.Head.{HasHead, HasNoHead, after_head}
 use Rattle.model.specs.Trees.{Name}
 use Rattle.model.specs.GrammarWords.{File, Token, opens, closes, token_of, tokens_of}
-use Rattle.model.specs.Grammar.{Sort, Value, Phrase, gives, ◌>>=◌, and_then, after, file, define_word, kind_list, kind_word, a_name, close}
+use Rattle.model.specs.Grammar.{Sort, Value, Phrase, gives, ◌>>=◌, and_then, after, define_word, kind_list, kind_word, a_name, close}
 use Rattle.model.specs.Refusals.{Begins, start, after_all}
-use Rattle.model.specs.GrammarMachine.{run}
-use Rattle.model.proofs.GrammarStops.{leads}
 use Rattle.model.proofs.GrammarBegins.{begins}
-use Rattle.pddl_tree.proofs.ReadOn.{from_first, taken, IsRefusedAs, refused_as}
+use Rattle.pddl_tree.proofs.ReadOn.{from_first, taken}
 use Rattle.pddl_tree.proofs.Told.{same_tokens}
 
 -- one word more
@@ -57,9 +52,6 @@ pub has_head : (f : File) (words : List Word) (n : Name) → IsHead f words n �
 has_head f words n h =
     let size : length (from words 0) ≡ suc (suc (suc (suc (suc (suc (length (from words 6))))))) = ap length h.whole in
     (omega (arith, size), subst (λ w. Begins f (take 6 w)) (sym h.whole) (begins f (opens ∷ h.t1 ∷ opens ∷ h.t3 ∷ h.t4 ∷ closes ∷ []) (after_head f n) h.led))
-
-pub head_run : (f : File) (words : List Word) (n : Name) → IsHead f words n → run (from words 0) (start f) ≡ run (from words 6) (after_head f n)
-head_run f words n h = ap (λ w. run w (start f)) h.whole ∙ leads (opens ∷ h.t1 ∷ opens ∷ h.t3 ∷ h.t4 ∷ closes ∷ []) (start f) (after_head f n) (from words 6) h.led
 
 -- a head is not missing
 pub no_head : (f : File) (words : List Word) → HasHead f (from words 0) → HasNoHead f (tokens_of (map word_of words)) → ⊥

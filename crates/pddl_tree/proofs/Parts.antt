@@ -1,10 +1,9 @@
 -- The parts of an action, one after another.
 use Rattle.std.proofs.Common.{◌≡◌, ℕ, ◌+◌, true, false, cond, List, [], ◌∷◌, ◌++◌, fold, Option, Some, None, refl, sym, ◌∙◌, ap, subst}
-use Rattle.std.specs.Option.{option_and_then}
 use Rattle.tokens.specs.declared.word.Word.{Word}
 use Rattle.pddl_words.specs.Token.{from, first}
 use Rattle.pddl_words.specs.Refusal.{WordFault, told}
-use Rattle.pddl_tree.specs.Reading.{the, IsRead, IsTold, number_seen, closes_first, Opens}
+use Rattle.pddl_tree.specs.Reading.{the, IsRead, IsTold, closes_first, Opens}
 use Rattle.pddl_tree.proofs.ReadOn.{taken, told_later, IsRefusedAs}
 use Rattle.pddl_tree.proofs.ReadOn.{in_turn}
 use Rattle.model.specs.Trees.{Action}

@@ -66,11 +66,6 @@ IsRefusedAs s u o = (option_and_then (after s) o ≡ None) × (number_seen u o �
 pub refused_as : (s u : Sort) {words : List Word} {at : ℕ} {refusal : WordFault} → IsRefusedAs s u (first (from words at)) → told refusal ≡ Some (number_seen u (first (from words at)), at) → IsTold (the s) words at refusal
 refused_as s u {words} {at} {refusal} h e = not_there s words at refusal h.0 (e ∙ ap (λ n. Some (n, at)) h.1)
 
--- want of memory tells nothing
-pub no_memory : {A : Type 0} (p : Phrase A) (words : List Word) (at : ℕ) (refusal : WordFault) → told refusal ≡ None → IsTold p words at refusal
-no_memory p words at refusal e =
-    record { stops = λ k. (let P : Option (ℕ × ℕ) → Type 0 = λ o. IfSome o (λ x. run (from words at) (and_then p k) ≡ stopped x.0 (from words x.1)) in subst P (sym e) tt) }
-
 -- what stops later stops from the start on
 pub told_later : (words : List Word) (at next : ℕ) (p q : Phrase Tree) (refusal : WordFault) → run (from words at) p ≡ run (from words next) q → StopsAs words next q refusal → StopsAs words at p refusal
 told_later words at next p q refusal e h =
