@@ -10,7 +10,9 @@ use Rattle.model.specs.GrammarWords.{domain_file, problem_file, tokens_of}
 use Rattle.model.specs.Refusals.{IsRefused}
 use Rattle.model.specs.GrammarWords as grammar
 use Rattle.model.specs.Task.{Task, Instance}
-use Rattle.model.specs.Typing.{in_domain, in_problem, TypingFault, task_of_trees, IsWellTyped, IsLeastFault}
+use Rattle.model.specs.Typing.{in_domain, in_problem, TypingFault, task_of_trees}
+use Rattle.model.specs.TypingFaults as typing_faults
+use Rattle.model.specs.TypingFaults.{IsWellTyped}
 use Rattle.model.specs.Typing as typing
 use Rattle.model.specs.Runs.{Verdict, IsVerdict}
 use Rattle.model.specs.Meaning.{system_of}
@@ -68,7 +70,7 @@ pub data IsTaskFault (domain problem : List ℕ) (told : FileFault) : Type 0 whe
   in_the_problem : (d : Domain) → IsDomainText domain d → IsTextFault problem_file problem told.fault → told.file ≡ the_problem
       → IsTaskFault domain problem told
   in_the_pair : (d : Domain) (p : Problem) (typed : TypingFault) → IsDomainText domain d → IsProblemText problem p
-      → IsLeastFault d p typed → IsToldTyping typed told → IsTaskFault domain problem told
+      → typing_faults.IsTold d p typed → IsToldTyping typed told → IsTaskFault domain problem told
 
 -- what is told of three texts that are not a task and a plan for it: the first fault in the order of files
 pub data IsFileFault (domain problem plan : List ℕ) (told : FileFault) : Type 0 where

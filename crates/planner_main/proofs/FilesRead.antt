@@ -1,6 +1,6 @@
 -- From texts to their task: what is told of two texts, and that nothing is told of two that are a task.
 use Rattle.std.proofs.Common.{◌≡◌, ℕ, List, [], Option, Some, None, IfSome, sym, refl, ap, ◌∙◌, subst}
-use Rattle.std.specs.Prelude.{Contains, Result, Ok, Err, IfErr}
+use Rattle.std.specs.Prelude.{Result, Ok, Err, IfErr}
 use Rattle.std.specs.Option.{option_map}
 use Rattle.model.specs.Fault.{Fault}
 use Rattle.model.specs.Words.{Word, ReadsAs, IsTold}
@@ -11,10 +11,11 @@ use Rattle.model.specs.Refusals.{IsWhole, IsRefused}
 use Rattle.model.specs.GrammarWords as grammar
 use Rattle.model.specs.Grammar as tree
 use Rattle.model.specs.Task.{Task, Instance}
-use Rattle.model.specs.Typing.{TypingFault, faults_of, task_of_trees}
+use Rattle.model.specs.Typing.{task_of_trees}
+use Rattle.model.specs.TypingFaults.{IsWellTyped}
+use Rattle.model.proofs.TypingFaultsTold.{one_told}
 use Rattle.model.specs.PlanText.{IsPlanText, IsPlanFault}
 use Rattle.model.specs.Files.{the_domain, the_problem, the_plan, FileFault, IsDomainText, IsProblemText, IsTextFault, of_words, of_tree, IsTaskOf, IsTaskFault, in_the_domain, in_the_problem, in_the_pair, IsFileFault, in_the_task, in_the_plan, AreRead}
-use Rattle.model.proofs.ListLemmas.{Contains-none}
 use Rattle.model.proofs.GrammarMeaning.{one_domain, one_problem}
 use Rattle.model.proofs.GrammarOneRefusal.{whole_not_refused}
 use Rattle.faults.specs.Fault as code
@@ -22,7 +23,7 @@ use Rattle.faults.specs.Fault.{told_by}
 use Rattle.tokens.proofs.Words.{one_reading_lem}
 use Rattle.tokens.proofs.Order.{read_is_told_nothing}
 use Rattle.faults.specs.declared.refused.Refused.TheVariants.{At, NoMemory}
-use Rattle.typing.specs.Task.{TaskFault, TellsLeastFault, refusal_of}
+use Rattle.typing.specs.Task.{TaskFault, TellsFault, refusal_of}
 use Rattle.planner_main.specs.declared.task_file.FileFault as file
 use Rattle.planner_main.specs.Files.{told_in, told_of_pair}
 use Rattle.plan_file.proofs.PlanSteps.{no_fault_of_plan}
@@ -68,9 +69,6 @@ problem_of_text : (text : List ℕ) (p q : Problem) → IsProblemText text p →
 problem_of_text text p q h g =
     one_problem (tokens_of g.words) p q (subst (λ ws. IsProblem (tokens_of ws) p) (one_reading_lem text h.words g.words h.reads g.reads) h.tree) g.tree
 
-none_of_well_typed : (faults : List TypingFault) (f : TypingFault) → faults ≡ [] → Contains faults f → ⊥
-none_of_well_typed faults f none has = Contains-none f (subst (λ fs. Contains fs f) none has)
-
 -- Two texts are at most one task, and nothing is told of two that are one.
 module _ (domain problem : List ℕ) where
   pub one_task : (task other : Task) → IsTaskOf domain problem task → IsTaskOf domain problem other → task ≡ other
@@ -87,7 +85,7 @@ module _ (domain problem : List ℕ) where
   no_task_fault task told h (in_the_pair d p typed d_reads p_reads least tells) =
       let same_domain = domain_of_text domain d h.domain_tree d_reads h.domain_reads in
       let same_problem = problem_of_text problem p h.problem_tree p_reads h.problem_reads in
-      none_of_well_typed (faults_of d p) typed (ap (λ e. faults_of e p) same_domain ∙ ap (faults_of h.domain_tree) same_problem ∙ h.well_typed) least.is_fault
+      one_told d p typed (subst (λ e. IsWellTyped e p) (sym same_domain) (subst (IsWellTyped h.domain_tree) (sym same_problem) h.well_typed)) least
 
   no_file_fault : (plan : List ℕ) (task : Task) (steps : List Instance) (told : FileFault) → AreRead domain problem plan task steps → IsFileFault domain problem plan told → ⊥
   no_file_fault plan task steps told h (in_the_task fault) = no_task_fault task told h.is_task fault
@@ -114,7 +112,7 @@ module _ (domain problem : List ℕ) where
   problem_told d reads None h = tt
   problem_told d reads (Some fault) h = in_the_problem d reads h refl
 
-  pub pair_told : (d : Domain) (p : Problem) → IsDomainText domain d → IsProblemText problem p → (fault : TaskFault) → TellsLeastFault d p fault → IfSome (told_of_pair fault) (IsTaskFault domain problem)
+  pub pair_told : (d : Domain) (p : Problem) → IsDomainText domain d → IsProblemText problem p → (fault : TaskFault) → TellsFault d p fault → IfSome (told_of_pair fault) (IsTaskFault domain problem)
   pair_told d p d_reads p_reads (At r) least = in_the_pair d p (refusal_of r) d_reads p_reads least (record { file = refl; fault = refl })
   pair_told d p d_reads p_reads NoMemory h = tt
 
