@@ -1,7 +1,7 @@
 -- The codes' numbers, and what a fault tells in the model's terms.
 use Rattle.std.specs.Prelude.{ℕ, ◌==◌, if◌then◌else◌, List, [], ◌∷◌, codes, Option, None, Some}
 use Rattle.faults.specs.declared.code.Code.{Code}
-use Rattle.faults.specs.declared.code.Code.TheVariants.{BadByte, BadWord, Unbalanced, TooDeep, TooLong, Trailing, BadForm, UnknownSection, RepeatedSection, MissingSection, UnknownRequirement, LeftOut, Duplicate, UnknownName, WrongArity, DomainMismatch, TooMany, PlanForm, UnknownAction, StepArity, StepType}
+use Rattle.faults.specs.declared.code.Code.TheVariants.{BadByte, BadWord, Unbalanced, TooDeep, TooLong, Trailing, BadForm, UnknownSection, RepeatedSection, MissingSection, UnknownRequirement, LeftOut, UnknownType, TypeCycle, Duplicate, UnknownName, WrongArity, WrongType, DomainMismatch, NegativeInit, TooMany, PlanForm, UnknownAction, StepArity, StepType}
 use Rattle.faults.specs.declared.refused.Refusal.{Refusal}
 use Rattle.faults.specs.declared.refused.Refused.{Refused}
 use Rattle.faults.specs.declared.refused.Refused.TheVariants.{At, NoMemory}
@@ -20,10 +20,14 @@ number_of RepeatedSection = 9
 number_of MissingSection = 10
 number_of UnknownRequirement = 11
 number_of LeftOut = 12
+number_of UnknownType = 14
+number_of TypeCycle = 15
 number_of Duplicate = 16
 number_of UnknownName = 17
 number_of WrongArity = 18
+number_of WrongType = 19
 number_of DomainMismatch = 21
+number_of NegativeInit = 24
 number_of TooMany = 25
 number_of PlanForm = 30
 number_of UnknownAction = 32
@@ -45,10 +49,14 @@ names =
     (10, codes "MissingSection") ∷
     (11, codes "UnknownRequirement") ∷
     (12, codes "LeftOut") ∷
+    (14, codes "UnknownType") ∷
+    (15, codes "TypeCycle") ∷
     (16, codes "Duplicate") ∷
     (17, codes "UnknownName") ∷
     (18, codes "WrongArity") ∷
+    (19, codes "WrongType") ∷
     (21, codes "DomainMismatch") ∷
+    (24, codes "NegativeInit") ∷
     (25, codes "TooMany") ∷
     (30, codes "PlanForm") ∷
     (32, codes "UnknownAction") ∷

@@ -31,14 +31,22 @@ pub enum Code {
     UnknownRequirement = 11,
     /// A form of PDDL that is left out here.
     LeftOut = 12,
+    /// A type that is neither `object` nor declared.
+    UnknownType = 14,
+    /// A type whose chain of parents comes back to it.
+    TypeCycle = 15,
     /// A name that was declared before.
     Duplicate = 16,
     /// A predicate, variable or object that is not known where it stands.
     UnknownName = 17,
     /// A predicate with a count of terms that differs from its declaration.
     WrongArity = 18,
+    /// A term whose type does not fit its argument.
+    WrongType = 19,
     /// A problem of another domain.
     DomainMismatch = 21,
+    /// A negated fact in the initial state.
+    NegativeInit = 24,
     /// One more than a limit allows.
     TooMany = 25,
     /// A plan text that is no list of steps.
@@ -76,10 +84,14 @@ impl Code {
             Code::MissingSection => "MissingSection",
             Code::UnknownRequirement => "UnknownRequirement",
             Code::LeftOut => "LeftOut",
+            Code::UnknownType => "UnknownType",
+            Code::TypeCycle => "TypeCycle",
             Code::Duplicate => "Duplicate",
             Code::UnknownName => "UnknownName",
             Code::WrongArity => "WrongArity",
+            Code::WrongType => "WrongType",
             Code::DomainMismatch => "DomainMismatch",
+            Code::NegativeInit => "NegativeInit",
             Code::TooMany => "TooMany",
             Code::PlanForm => "PlanForm",
             Code::UnknownAction => "UnknownAction",

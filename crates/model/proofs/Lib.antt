@@ -24,6 +24,3 @@ pub mod TypingFaultsPhases
 pub mod TypingFaultsTold
 pub mod PlanExampleProofs
 pub mod CertificateExampleProofs
-pub mod TypeChains
-pub mod TypedDeclarations
-pub mod TypedTask

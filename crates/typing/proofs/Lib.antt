@@ -4,6 +4,11 @@ pub mod Tables
 pub mod Found
 pub mod Trees
 pub mod Tells
+pub mod Empty
+pub mod Declaring
+pub mod ParentChains
+pub mod ChainSteps
 pub mod WellTyped
 pub mod Tasks
 pub mod Shapes
+pub mod Arguments

@@ -1,8 +1,8 @@
 -- Places and members of lists that other lists give.
-use Rattle.std.proofs.Common.{◌≡◌, ℕ, ◌+◌, ◌≤◌, ◌<◌, Bool, true, false, not, cond, ◌||◌, List, [], ◌∷◌, map, length, refl, ap, sym, ◌∙◌, arith, nat_eq, nat_lt, None, Some, zero, suc, take, drop, get_or, ◌++◌}
+use Rattle.std.proofs.Common.{◌≡◌, ℕ, ◌+◌, ◌≤◌, ◌<◌, Bool, true, false, not, cond, ◌||◌, ◌&&◌, List, [], ◌∷◌, map, length, refl, ap, sym, ◌∙◌, arith, nat_eq, nat_lt, None, Some, zero, suc, take, drop, get_or, ◌++◌}
 use Rattle.std.proofs.lemmas.List.{length-map, map_push, map_more, map-id, append-nil}
 use Rattle.std.specs.Prelude.{filter}
-use Rattle.std.specs.List.{list_any, position, position_or_len, range_with_len}
+use Rattle.std.specs.List.{list_all, list_any, position, position_or_len, range_with_len}
 use Rattle.std.proofs.lemmas.List.FromFn.{filter_of_map_range_with_len_more}
 use Rattle.std.proofs.lemmas.Bool.Decides.{nat_tests}
 
@@ -110,3 +110,7 @@ pub kept_full : {X O N : Type 0} (F : X → N) (view : O → N) (n : ℕ) (xs : 
 kept_full F view n [] i l items kept high = absurd (omega (arith, l))
 kept_full F view n (y ∷ ys) i l items kept high =
     kept ∙ sym (take-full n (map F (take i (y ∷ ys))) (F (get_or (y ∷ ys) i y)) (omega (arith, ap length kept, length-map items view))) ∙ ap (take n) (sym (map_more F (y ∷ ys) i y l))
+
+pub list_all-map : {X Y : Type 0} (p : Y → Bool) (f : X → Y) (xs : List X) → list_all p (map f xs) ≡ list_all (λ x. p (f x)) xs
+list_all-map p f [] = refl
+list_all-map p f (x ∷ xs) = ap (λ b. p (f x) && b) (list_all-map p f xs)

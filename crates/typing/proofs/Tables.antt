@@ -12,27 +12,29 @@ use Rattle.indexmap.specs.IndexSet.{insert_key}
 use Rattle.indexmap.specs.IndexMap.{insert_entry}
 use Rattle.model.specs.Task as task
 use Rattle.model.specs.Trees as tree
-use Rattle.model.specs.Typing.{File, folded, is_same, is_known, number_in, with_name, names_of, refused, unknown_faults, faults_against, predicate_faults, repeated_after}
+use Rattle.model.specs.Typing.{File, Known, Placed, folded, is_same, is_known, number_in, with_name, names_of_predicates, refused, refused_word, faults_against, predicate_faults, repeated_after}
 use Rattle.typing.specs.Scope.{keys_in, names_in}
+use Rattle.typing.proofs.Found.{got_twice}
 use Rattle.typing.proofs.Lists.{position_or_len-map, position_or_len-le, list_any-map, position-found, position-map, position-missing}
 
 -- a test of the keys for a name
 abbrev pub key_is : List ℕ → Vec ℕ → Bool
 key_is q key = pointwise nat_eq q key.items
 
-pub found_in : (file : File) (name : tree.Name) (q : List ℕ) → q ≡ folded name → (keys : List (Vec ℕ)) (i : ℕ) → Some i ≡ position (key_is q) keys
-    → (i ≡ number_in (names_in keys) name) × (unknown_faults file (names_in keys) name ≡ [])
-found_in file name q is keys i e =
-    let h = position-found (key_is q) keys i e in
-    let P : List ℕ → Type 0 = λ r. (i ≡ position_or_len (is_same r) (names_in keys)) × ((if list_any (is_same r) (names_in keys) then [] else refused file 17 (name ∷ [])) ≡ []) in
-    subst P is (h.0 ∙ sym (position_or_len-map (is_same q) (λ key. key.items) keys), ap (λ b. if b then [] else refused file 17 (name ∷ [])) (list_any-map (is_same q) (λ key. key.items) keys ∙ h.1))
-
-pub missing_in : (file : File) (name : tree.Name) (q : List ℕ) → q ≡ folded name → (keys : List (Vec ℕ)) → None ≡ position (key_is q) keys
-    → (length keys ≡ number_in (names_in keys) name) × (unknown_faults file (names_in keys) name ≡ refused file 17 (name ∷ []))
-missing_in file name q is keys e =
-    let h = position-missing (key_is q) keys e in
-    let P : List ℕ → Type 0 = λ r. (length keys ≡ position_or_len (is_same r) (names_in keys)) × ((if list_any (is_same r) (names_in keys) then [] else refused file 17 (name ∷ [])) ≡ refused file 17 (name ∷ [])) in
-    subst P is (h.0 ∙ sym (position_or_len-map (is_same q) (λ key. key.items) keys), ap (λ b. if b then [] else refused file 17 (name ∷ [])) (list_any-map (is_same q) (λ key. key.items) keys ∙ h.1))
+-- the number that a name gets by a look-up, and whether it is known
+pub told_of_place : (name : tree.Name) (q : List ℕ) → q ≡ folded name → (keys : List (Vec ℕ)) (count : ℕ) → count ≡ length keys
+    → (place : Option ℕ) → place ≡ position (key_is q) keys
+    → (option_map_or (λ n. n) place count ≡ number_in (names_in keys) name) × (is_some place ≡ is_known (names_in keys) name)
+told_of_place name q is keys count all (Some i) e =
+    let h = position-found (key_is q) keys i e in (
+      h.0 ∙ sym (position_or_len-map (is_same q) (λ key. key.items) keys) ∙ ap (λ r. position_or_len (is_same r) (names_in keys)) is,
+      sym h.1 ∙ sym (list_any-map (is_same q) (λ key. key.items) keys) ∙ ap (λ r. list_any (is_same r) (names_in keys)) is,
+    )
+told_of_place name q is keys count all None e =
+    let h = position-missing (key_is q) keys e in (
+      all ∙ h.0 ∙ sym (position_or_len-map (is_same q) (λ key. key.items) keys) ∙ ap (λ r. position_or_len (is_same r) (names_in keys)) is,
+      sym h.1 ∙ sym (list_any-map (is_same q) (λ key. key.items) keys) ∙ ap (λ r. list_any (is_same r) (names_in keys)) is,
+    )
 
 -- a set of names after one more is inserted
 pub names_in-insert_key : (name : tree.Name) (key : Vec ℕ) → key.items ≡ folded name → (keys : List (Vec ℕ))
@@ -60,29 +62,30 @@ pub named_at : {V S : Type 0} (shown : Vec ℕ × V → S) (label : S → task.N
     → position (key_is q) (keys_of entries) ≡ position (is_same q) (map label (map shown entries))
 named_at shown label named q entries = position-map (is_same q) (λ (key : Vec ℕ). key.items) (keys_of entries) ∙ ap (position (is_same q)) (keys_in-named shown label named entries)
 
--- the number that a name gets by a look-up, and whether it is refused
-pub number_told : (file : File) (name : tree.Name) (q : List ℕ) → q ≡ folded name → (keys : List (Vec ℕ)) (count : ℕ) → count ≡ length keys → (place : Option ℕ) → place ≡ position (key_is q) keys
-    → (option_map_or (λ n. n) place count ≡ number_in (names_in keys) name)
-    × ((if is_some place then [] else refused file 17 (name ∷ [])) ≡ unknown_faults file (names_in keys) name)
-number_told file name q is keys count all None e = let h = missing_in file name q is keys e in (all ∙ h.0, sym h.1)
-number_told file name q is keys count all (Some i) e = let h = found_in file name q is keys i e in (h.0, sym h.1)
+-- the same of a table whose entries show the names of their keys
+pub told_of_entry : {V S : Type 0} (shown : Vec ℕ × V → S) (label : S → task.Name) (named : (e : Vec ℕ × V) → label (shown e) ≡ e.0.items)
+    → (name : tree.Name) (q : List ℕ) → q ≡ folded name → (entries : List (Vec ℕ × V)) (count : ℕ) → count ≡ length entries
+    → (place : Option ℕ) → place ≡ position (key_is q) (keys_of entries)
+    → (option_map_or (λ n. n) place count ≡ number_in (map label (map shown entries)) name) × (is_some place ≡ is_known (map label (map shown entries)) name)
+told_of_entry shown label named name q is entries count all place e =
+    let h = told_of_place name q is (keys_of entries) count (all ∙ sym (length-map entries (λ e. e.0))) place e in (
+      h.0 ∙ ap (λ ks. number_in ks name) (keys_in-named shown label named entries),
+      h.1 ∙ ap (λ ks. is_known ks name) (keys_in-named shown label named entries),
+    )
 
 -- a table of predicates, each entry with the name of its key
 module _ {P : Type 0} (shown : Vec ℕ × P → task.Predicate) (named : (e : Vec ℕ × P) → (shown e).name ≡ e.0.items)
     (file : File) (name : tree.Name) (q : List ℕ) (is : q ≡ folded name) (entries : List (Vec ℕ × P)) (count : ℕ) where
-  names : List task.Name
-  names = names_of (map shown entries)
-
-  place_of_key : (es : List (Vec ℕ × P)) → position_or_len (is_same q) (names_of (map shown es)) ≡ position_or_len (key_is q) (keys_of es)
-  place_of_key [] = refl
-  place_of_key (e ∷ es) = (λ i. cond (not (pointwise nat_eq q (named e i))) (1 + place_of_key es i) 0)
-
-  number_of_key : position_or_len (key_is q) (keys_of entries) ≡ number_in (names_of (map shown entries)) name
-  number_of_key = sym (place_of_key entries) ∙ ap (λ r. position_or_len (is_same r) (names_of (map shown entries))) is
+  number_of_key : position_or_len (key_is q) (keys_of entries) ≡ number_in (names_of_predicates (map shown entries)) name
+  number_of_key =
+      sym (position_or_len-map (is_same q) (λ (key : Vec ℕ). key.items) (keys_of entries))
+      ∙ ap (position_or_len (is_same q)) (keys_in-named shown (λ p. p.name) named entries)
+      ∙ ap (λ r. position_or_len (is_same r) (names_of_predicates (map shown entries))) is
 
   pub found_predicate : (i : ℕ) (k : Vec ℕ) (v : P) → Some i ≡ position (key_is q) (keys_of entries) → slice_get entries i ≡ Some (k, v)
-      → (i ≡ number_in (names_of (map shown entries)) name)
-      × (predicate_faults file (map shown entries) name count ≡ (if count == length (shown (k, v)).arguments then [] else refused file 18 (name ∷ [])))
+      → (i ≡ number_in (names_of_predicates (map shown entries)) name)
+      × (faults_against file (slice_get (map shown entries) (number_in (names_of_predicates (map shown entries)) name)) name count
+      ≡ (if count == length (shown (k, v)).arguments then [] else refused_word file 18 name))
   found_predicate i k v e at =
       let place = (position-found (key_is q) (keys_of entries) i e).0 ∙ number_of_key in (
         place,
@@ -91,8 +94,8 @@ module _ {P : Type 0} (shown : Vec ℕ × P → task.Predicate) (named : (e : Ve
       )
 
   pub missing_predicate : None ≡ position (key_is q) (keys_of entries)
-      → (length entries ≡ number_in (names_of (map shown entries)) name)
-      × (predicate_faults file (map shown entries) name count ≡ refused file 17 (name ∷ []))
+      → (length entries ≡ number_in (names_of_predicates (map shown entries)) name)
+      × (faults_against file (slice_get (map shown entries) (number_in (names_of_predicates (map shown entries)) name)) name count ≡ refused_word file 17 name)
   missing_predicate e =
       let place = sym (length-map entries (λ (x : Vec ℕ × P). x.0)) ∙ (position-missing (key_is q) (keys_of entries) e).0 ∙ number_of_key in (
         place,
@@ -107,14 +110,13 @@ other_count arity count h = grind (arith, nat_tests)
 pub same_count : (arity count : ℕ) → arity ≡ count → (count == arity) ≡ true
 same_count arity count h = grind (arith, nat_tests)
 
+-- whether a name in lower case is among those of a set of names
+pub is_known-folded : (name : tree.Name) (q : List ℕ) → q ≡ folded name → (keys : List (Vec ℕ)) → is_known (names_in keys) name ≡ list_any (key_is q) keys
+is_known-folded name q is keys = ap (λ r. list_any (is_same r) (names_in keys)) (sym is) ∙ list_any-map (is_same q) (λ k. k.items) keys
+
 -- whether a name is among those of a set of names
 pub is_known-keys : (name : tree.Name) (key : Vec ℕ) → key.items ≡ folded name → (keys : List (Vec ℕ)) → is_known (names_in keys) name ≡ list_any (key_is key.items) keys
 is_known-keys name key is keys = ap (λ r. list_any (is_same r) (names_in keys)) (sym is) ∙ list_any-map (is_same key.items) (λ k. k.items) keys
-
--- the faults of one more declaration
-pub declared_before : (file : File) (name : tree.Name) (b : Bool) → (known : Bool) → known ≡ b → refused file 16 (if known then name ∷ [] else []) ≡ (if b then refused file 16 (name ∷ []) else [])
-declared_before file name true known e = ap (λ k. refused file 16 (if k then name ∷ [] else [])) e
-declared_before file name false known e = ap (λ k. refused file 16 (if k then name ∷ [] else [])) e
 
 -- whether a look-up finds something
 pub lookup-any : {K V : Type 0} (test : K → Bool) (es : List (K × V)) → is_some (lookup test es) ≡ list_any (λ e. test e.0) es
@@ -178,11 +180,11 @@ module _ {V S : Type 0} (shown : Vec ℕ × V → S) (label : S → List ℕ) (n
       ap (map shown) (insert-new es (sym (is_known-entries es) ∙ new)) ∙ map-append shown es ((key, value) ∷ []) ∙ ap (λ s. map shown es ++ s ∷ []) shows
 
 -- a name that is not declared again: so are those after it, and it is new
-pub not_again : (before : List task.Name) (name : tree.Name) (rest : List tree.Name) → repeated_after before (name ∷ rest) ≡ []
-    → (is_known before name ≡ false) × (repeated_after (with_name before name) rest ≡ [])
-not_again before name rest e = by (is_known before name) e
+pub not_again : (before : List task.Name) (w : Placed) (rest : List Placed) → repeated_after before (w ∷ rest) ≡ []
+    → (is_known before w.word ≡ false) × (repeated_after (with_name before w.word) rest ≡ [])
+not_again before w rest e = by (is_known before w.word) e
   where
-    by : (b : Bool) → (if b then name ∷ [] else []) ++ repeated_after (with_name before name) rest ≡ [] → (b ≡ false) × (repeated_after (with_name before name) rest ≡ [])
+    by : (b : Bool) → (if b then w ∷ [] else []) ++ repeated_after (with_name before w.word) rest ≡ [] → (b ≡ false) × (repeated_after (with_name before w.word) rest ≡ [])
     by true f = absurd (cc)
     by false f = (refl, f)
 
@@ -194,21 +196,52 @@ was_there false true h = refl
 was_there false false h = absurd (true≢false (sym h))
 
 -- one step of a table that is filled along a list
-pub table_step : {X S : Type 0} (named_as : X → tree.Name) (made : X → S) (label : S → task.Name) (xs : List X) (i : ℕ) (x : X) → i < length xs → x ≡ get_or xs i x
+pub table_step : {X S : Type 0} (placed_as : X → Placed) (made : X → S) (label : S → task.Name) (xs : List X) (i : ℕ) (x : X) → i < length xs → x ≡ get_or xs i x
     → (old new whole : List S)
-    → map label new ≡ with_name (map label old) (named_as x)
-    → (is_known (map label old) (named_as x) ≡ false → new ≡ old ++ made x ∷ [])
-    → (repeated_after (map label old) (map named_as (drop i xs)) ≡ []) × (old ++ map made (drop i xs) ≡ whole)
-    → (repeated_after (map label new) (map named_as (drop (i + 1) xs)) ≡ []) × (new ++ map made (drop (i + 1) xs) ≡ whole)
-table_step named_as made label xs i x l is old new whole labels added h =
+    → map label new ≡ with_name (map label old) (placed_as x).word
+    → (is_known (map label old) (placed_as x).word ≡ false → new ≡ old ++ made x ∷ [])
+    → (repeated_after (map label old) (map placed_as (drop i xs)) ≡ []) × (old ++ map made (drop i xs) ≡ whole)
+    → (repeated_after (map label new) (map placed_as (drop (i + 1) xs)) ≡ []) × (new ++ map made (drop (i + 1) xs) ≡ whole)
+table_step placed_as made label xs i x l is old new whole labels added h =
     let rest = drop_more xs i x l in
     let split : drop i xs ≡ x ∷ drop (i + 1) xs = rest ∙ ap (λ y. y ∷ drop (i + 1) xs) (sym is) in
-    let again = not_again (map label old) (named_as x) (map named_as (drop (i + 1) xs)) (ap (λ ys. repeated_after (map label old) (map named_as ys)) (sym split) ∙ h.0) in (
-      ap (λ ks. repeated_after ks (map named_as (drop (i + 1) xs))) labels ∙ again.1,
+    let again = not_again (map label old) (placed_as x) (map placed_as (drop (i + 1) xs)) (ap (λ ys. repeated_after (map label old) (map placed_as ys)) (sym split) ∙ h.0) in (
+      ap (λ ks. repeated_after ks (map placed_as (drop (i + 1) xs))) labels ∙ again.1,
       ap (λ ss. ss ++ map made (drop (i + 1) xs)) (added again.0) ∙ append_assoc old (made x ∷ []) (map made (drop (i + 1) xs))
           ∙ ap (λ ys. old ++ map made ys) (sym split) ∙ h.1,
+    )
+
+pub table_step_at : {X S : Type 0} (placed_as : X → Placed) (made : X → S) (label : S → task.Name) (xs : List X) (i : ℕ) (d : X) → i < length xs
+    → (old new whole : List S)
+    → map label new ≡ with_name (map label old) (placed_as (get_or xs i d)).word
+    → (is_known (map label old) (placed_as (get_or xs i d)).word ≡ false → new ≡ old ++ made (get_or xs i d) ∷ [])
+    → (repeated_after (map label old) (map placed_as (drop i xs)) ≡ []) × (old ++ map made (drop i xs) ≡ whole)
+    → (repeated_after (map label new) (map placed_as (drop (i + 1) xs)) ≡ []) × (new ++ map made (drop (i + 1) xs) ≡ whole)
+table_step_at placed_as made label xs i d l = table_step placed_as made label xs i (get_or xs i d) l (got_twice xs i d l)
+
+-- the same where what is made also goes by its place
+pub numbered_step : {X S : Type 0} (placed_as : X → Placed) (made : ℕ → List X → List S) (one : ℕ → X → S) → ((n : ℕ) (x : X) (xs : List X) → made n (x ∷ xs) ≡ one n x ∷ made (n + 1) xs)
+    → (label : S → task.Name) (xs : List X) (i : ℕ) (d : X) → i < length xs
+    → (old new whole : List S)
+    → map label new ≡ with_name (map label old) (placed_as (get_or xs i d)).word
+    → (is_known (map label old) (placed_as (get_or xs i d)).word ≡ false → new ≡ old ++ one (i + 1) (get_or xs i d) ∷ [])
+    → (repeated_after (map label old) (map placed_as (drop i xs)) ≡ []) × (old ++ made (i + 1) (drop i xs) ≡ whole)
+    → (repeated_after (map label new) (map placed_as (drop (i + 1) xs)) ≡ []) × (new ++ made ((i + 1) + 1) (drop (i + 1) xs) ≡ whole)
+numbered_step placed_as made one by_one label xs i d l old new whole labels added h =
+    let x = get_or xs i d in
+    let split : drop i xs ≡ x ∷ drop (i + 1) xs = drop_more xs i d l in
+    let again = not_again (map label old) (placed_as x) (map placed_as (drop (i + 1) xs)) (ap (λ ys. repeated_after (map label old) (map placed_as ys)) (sym split) ∙ h.0) in (
+      ap (λ ks. repeated_after ks (map placed_as (drop (i + 1) xs))) labels ∙ again.1,
+      ap (λ ss. ss ++ made ((i + 1) + 1) (drop (i + 1) xs)) (added again.0) ∙ append_assoc old (one (i + 1) x ∷ []) (made ((i + 1) + 1) (drop (i + 1) xs))
+          ∙ ap (λ ss. old ++ ss) (sym (by_one (i + 1) x (drop (i + 1) xs))) ∙ ap (λ ys. old ++ made (i + 1) ys) (sym split) ∙ h.1,
     )
 
 -- the whole table
 pub table_end : {X S : Type 0} (made : X → S) (xs : List X) (i : ℕ) → length xs ≤ i → (shown whole : List S) → shown ++ map made (drop i xs) ≡ whole → shown ≡ whole
 table_end made xs i l shown whole h = sym (append-nil shown) ∙ ap (λ ys. shown ++ map made ys) (sym (drop_all i xs l)) ∙ h
+
+-- whether a name is among those that a table's entries show
+pub is_known-named : {V S : Type 0} (shown : Vec ℕ × V → S) (label : S → List ℕ) (named : (e : Vec ℕ × V) → label (shown e) ≡ e.0.items)
+    (name : tree.Name) (key : Vec ℕ) → key.items ≡ folded name → (es : List (Vec ℕ × V)) → is_known (map label (map shown es)) name ≡ list_any (λ e. key_is key.items e.0) es
+is_known-named shown label named name key is es =
+    sym (ap (λ ks. is_known ks name) (keys_in-named shown label named es)) ∙ is_known-folded name key.items is (keys_of es) ∙ list_any-map (key_is key.items) (λ e. e.0) es

@@ -1,41 +1,57 @@
 -- The parts that the phases make are the task of the trees, where no phase has a fault.
-use Rattle.std.proofs.Common.{◌≡◌, ℕ, ◌≤◌, true, List, [], ◌∷◌, ◌++◌, map, length, slice_get, refl, ap, sym, subst, ◌∙◌, arith, nat_le, Some}
+use Rattle.std.proofs.Common.{◌≡◌, ℕ, ◌+◌, ◌≤◌, ◌<◌, Bool, true, false, List, [], ◌∷◌, ◌++◌, codes, map, fold, length, slice_get, slice_index, nat_le, nat_lt, refl, ap, sym, subst, ◌∙◌, arith, zero, suc, Some, true≢false, if◌then◌else◌}
 use Rattle.std.specs.List.{flat_map, list_all}
 use Rattle.std.proofs.lemmas.Bool.Decides.{nat_tests}
-use Rattle.std.proofs.lemmas.List.{length-map, take_all}
+use Rattle.std.proofs.lemmas.List.{length-map, take_all, map-append, append_assoc, append-nil}
 use Rattle.model.specs.Task as task
 use Rattle.model.specs.Trees as tree
-use Rattle.model.specs.Typing.{File, TypingFault, in_domain, in_problem, Known, folded, number_in, names_of, object_of, one_after, refused, repeated, unknown_faults, predicate_faults, fact_faults, domain_name_faults, object_faults, declaration_faults, action_faults, init_faults, goal_faults, atom_in, formula_in, predicates_of, known_in_problem, task_of_trees, faults_of, first_filled, IsWellTyped}
+use Rattle.model.specs.Typing.{File, TypingFault, Declared, Variable, in_domain, in_problem, Known, is_known, is_same, folded, with_name, with_variable, variable_in, variables_in, union_in, unions_in, names_of, names_of_variables, names_of_objects, number_in, type_in, type_names, parents_of, parents_in, comes_back, cycle_faults_from, unknown_faults, types_faults, type_faults, words_of, one_after, refused, refused_word, repeated, repeated_after, predicate_faults, terms_faults, arguments_in, ground_atom_faults, fact_faults, formula_faults, domain_name_faults, type_declaration_faults, cycle_faults, object_faults, objects_faults, declaration_faults, action_faults, argument_faults, schema_faults, atom_in, atoms_in, formula_in, object_in, declared_types, declared_constants, declared_objects, declared, predicates_of, predicate_in, known_in_domain, known_in_problem, task_of_trees, faults_of, first_filled, IsWellTyped}
 use Rattle.model.specs.WellTyped.{is_task}
 use Rattle.model.proofs.Tests.{passes_got}
 use Rattle.typing.specs.declared.names.Names.{Names}
 use Rattle.typing.specs.declared.names.Start.{Start}
+use Rattle.typing.specs.Names.{type_faults_of, declared_faults, known_by, stated_faults_in, AreDeclared, Starts}
+use Rattle.typing.specs.TaskParts.{task_of_parts}
 use Rattle.typing.specs.Task.{TaskFault, TellsLeastOf, TellsLeastFault}
-use Rattle.typing.specs.TaskParts.{atom_of, formula_of, object_entry_of, task_of_parts}
-use Rattle.typing.specs.Names.{declared_faults, stated_faults, known_by, AreDeclared}
-use Rattle.typing.specs.Scope.{keys_in, narrow_atom_in}
-use Rattle.typing.proofs.Found.{map-map}
-use Rattle.typing.proofs.Tables.{keys_in-named}
+use Rattle.typing.specs.Scope.{narrow_atom_in, narrow_atoms_in}
 use Rattle.typing.proofs.Tells.{tells_here, tells_later}
-use Rattle.typing.proofs.WellTyped.{nil_left, nil_right, declared_count, arities_fit, is_task-task_of_trees}
+use Rattle.typing.proofs.Empty.{nil_left, nil_right, not_refused, not_repeated, and_true}
+use Rattle.typing.proofs.Found.{map-map}
+use Rattle.typing.proofs.Lists.{list_any-position}
+use Rattle.typing.proofs.ParentChains.{all_whole}
+use Rattle.typing.proofs.Declaring.{variables_are, names_are, parents_low, none_comes_back}
+use Rattle.typing.proofs.WellTyped.{Fits, declared_count, arities_fit, schemas_fit, facts_fit, formula_fits}
 
--- a declaration has few arguments where all of them have
-few_arguments : (ps : List task.Predicate) (n : ℕ) (p : task.Predicate) → list_all (λ (q : task.Predicate). nat_le (length q.arguments) 8) ps ≡ true → slice_get ps n ≡ Some p → length p.arguments ≤ 8
-few_arguments ps n p low at = let few : nat_le (length p.arguments) 8 ≡ true = passes_got (λ (q : task.Predicate). nat_le (length q.arguments) 8) ps n p at low in grind (arith, nat_tests)
+-- ---- objects
+
+pub got_first : {X : Type 0} (xs ys : List X) (n : ℕ) (x : X) → slice_get xs n ≡ Some x → slice_get (xs ++ ys) n ≡ Some x
+got_first [] ys n x e = absurd (cc)
+got_first (y ∷ xs) ys zero x e = e
+got_first (y ∷ xs) ys (suc n) x e = got_first xs ys n x e
+
+next : (k : ℕ) → suc k ≡ 1 + k
+next k = omega arith
+
+-- ---- atoms
+
+few_at : (count : ℕ) → nat_le count 8 ≡ true → count ≤ 8
+few_at count few = grind (arith, nat_tests)
 
 -- no atom has more objects than are kept
 narrow_is_all : (file : File) (known : Known) → list_all (λ (p : task.Predicate). nat_le (length p.arguments) 8) known.predicates ≡ true → (fs : List tree.Fact) → flat_map (fact_faults file known) fs ≡ []
-    → map (narrow_atom_in known) fs ≡ map (atom_in known) fs
+    → flat_map (narrow_atoms_in known) fs ≡ flat_map (atoms_in known) fs
 narrow_is_all file known low [] e = refl
-narrow_is_all file known low (f ∷ fs) e =
-    let faults = predicate_faults file known.predicates f.predicate (length f.objects) in
-    let number = number_in (names_of known.predicates) f.predicate in
-    let own = nil_left (fact_faults file known f) (flat_map (fact_faults file known) fs) e in
-    let declared = declared_count file known.predicates f.predicate (length f.objects) (nil_left faults (flat_map (unknown_faults file known.objects) f.objects) own) in
-    let few = few_arguments known.predicates number declared.0 low declared.1 in
-    let whole = take_all 8 (map (number_in known.objects) f.objects) (omega (arith, length-map f.objects (number_in known.objects), few, declared.2)) in
-    let rest = narrow_is_all file known low fs (nil_right (fact_faults file known f) (flat_map (fact_faults file known) fs) e) in
-    λ i. record { predicate = number; objects = whole i } ∷ rest i
+narrow_is_all file known low (tree.fact a ∷ fs) e =
+    let faults = predicate_faults file known a.predicate (length a.objects) in
+    let terms = terms_faults file known (arguments_in known a.predicate) (map (λ (n : tree.Name). tree.object n) a.objects) in
+    let own = nil_left (ground_atom_faults file known a) (flat_map (fact_faults file known) fs) e in
+    let found = declared_count file known a.predicate (length a.objects) (nil_left faults terms own) in
+    let few = few_at (length found.0.arguments) (passes_got (λ (p : task.Predicate). nat_le (length p.arguments) 8) known.predicates _ found.0 found.1 low) in
+    let number = number_in (names_of_objects known.objects) in
+    let whole = take_all 8 (map number a.objects) (omega (arith, length-map a.objects number, found.2, few)) in
+    let rest = narrow_is_all file known low fs (nil_right (ground_atom_faults file known a) (flat_map (fact_faults file known) fs) e) in
+    λ i. record { predicate = (atom_in known a).predicate; objects = whole i } ∷ rest i
+narrow_is_all file known low (tree.negated word a ∷ fs) e = absurd (cc)
 
 -- ---- the faults of the phases, phase by phase
 
@@ -53,14 +69,78 @@ first_filled-append [] later = refl
 first_filled-append ([] ∷ lists) later = first_filled-append lists later
 first_filled-append ((f ∷ more) ∷ lists) later = refl
 
--- the pair's faults: those of the domain's name, of what is declared and of what is stated of it
+-- the pair's faults: those of the types, of what else is declared, and of what is stated of it
 faults_by_parts : (d : tree.Domain) (p : tree.Problem)
-    → faults_of d p ≡ first_filled (domain_name_faults d p ∷ declared_faults d p ∷ stated_faults (known_in_problem (predicates_of d) p) p ∷ [])
+    → faults_of d p ≡ first_filled (type_faults_of d p ∷ declared_faults d p ∷ stated_faults_in in_problem (known_in_problem d p) p ∷ [])
 faults_by_parts d p =
-    let declared = object_faults p ∷ declaration_faults d ∷ action_faults (predicates_of d) d ∷ [] in
-    let stated = init_faults (predicates_of d) p ∷ goal_faults (predicates_of d) p ∷ [] in
-    first_filled-later (domain_name_faults d p) (declared ++ stated) (first_filled declared ∷ first_filled stated ∷ [])
-    (first_filled-append declared stated ∙ first_filled-later (first_filled declared) stated (first_filled stated ∷ []) (first_filled-append stated []))
+    let types = (domain_name_faults d p ++ type_declaration_faults d) ∷ cycle_faults d ∷ [] in
+    let others = object_faults d p ∷ declaration_faults (type_names d) d.predicates ∷ action_faults (known_in_domain d) d.actions ∷ [] in
+    let stated = flat_map (fact_faults in_problem (known_in_problem d p)) p.init ∷ formula_faults in_problem (known_in_problem d p) p.goal ∷ [] in
+    first_filled-append types (others ++ stated)
+    ∙ first_filled-later (first_filled types) (others ++ stated) (first_filled others ∷ first_filled stated ∷ [])
+    (first_filled-append others stated ∙ first_filled-later (first_filled others) stated (first_filled stated ∷ []) (first_filled-append stated []))
+
+-- ---- the task of a pair without faults
+
+module _ (d : tree.Domain) (p : tree.Problem) (no_type : type_faults_of d p ≡ []) (no_other : declared_faults d p ≡ []) (no_stated : stated_faults_in in_problem (known_in_problem d p) p ≡ []) where
+  no_names : type_declaration_faults d ≡ []
+  no_names = nil_right (domain_name_faults d p) (type_declaration_faults d) (none_filled _ _ no_type).0
+
+  no_cycle : cycle_faults d ≡ []
+  no_cycle = (none_filled _ _ (none_filled (domain_name_faults d p ++ type_declaration_faults d) (cycle_faults d ∷ []) no_type).1).0
+
+  no_declaration : declaration_faults (type_names d) d.predicates ≡ []
+  no_declaration = (none_filled _ _ (none_filled (object_faults d p) _ no_other).1).0
+
+  no_action : action_faults (known_in_domain d) d.actions ≡ []
+  no_action = (none_filled _ _ (none_filled (declaration_faults (type_names d) d.predicates) _ (none_filled (object_faults d p) _ no_other).1).1).0
+
+  no_init : flat_map (fact_faults in_problem (known_in_problem d p)) p.init ≡ []
+  no_init = (none_filled _ _ no_stated).0
+
+  no_goal : formula_faults in_problem (known_in_problem d p) p.goal ≡ []
+  no_goal = (none_filled _ _ (none_filled (flat_map (fact_faults in_problem (known_in_problem d p)) p.init) _ no_stated).1).0
+
+  abbrev twice_types : List TypingFault
+  twice_types = refused 16 (repeated_after (codes "object" ∷ []) (words_of (declared_types d)))
+
+  abbrev many_types : List TypingFault
+  many_types = refused 25 (one_after 4095 (words_of (declared_types d)))
+
+  count_types : length (type_names d) ≡ length (parents_of d)
+  count_types =
+      let once = not_refused 16 (repeated_after (codes "object" ∷ []) (words_of (declared_types d))) (nil_left twice_types (type_faults (type_names d) (declared_types d)) (nil_left (twice_types ++ type_faults (type_names d) (declared_types d)) many_types no_names)) in
+      omega (arith, ap length (names_are (declared_types d) once), length-map (names_of (declared_types d)) folded, length-map (declared_types d) (λ (x : Declared). x.name), length-map (declared_types d) (λ (x : Declared). type_in (type_names d) x.types))
+
+  pub low_arguments : list_all (λ (q : task.Predicate). nat_le (length q.arguments) 8) (predicates_of d) ≡ true
+  low_arguments = arities_fit (type_names d) d.predicates (nil_right (refused 16 (repeated (map (λ (q : tree.Predicate). record { file = in_domain; word = q.name }) d.predicates))) (flat_map (argument_faults (type_names d)) d.predicates) no_declaration)
+
+  pub typed : is_task (task_of_trees d p) ≡ true
+  typed =
+      let t = task_of_trees d p in
+      let known = known_in_problem d p in
+      let xs = declared_types d in
+      let parents = parents_of d in
+      let some : 0 < length (type_names d) = omega (arith, count_types, length-map xs (λ (x : Declared). type_in (type_names d) x.types)) in
+      let unknown = nil_right twice_types (type_faults (type_names d) xs) (nil_left (twice_types ++ type_faults (type_names d) xs) many_types no_names) in
+      let parents_fit : (k : ℕ) → slice_index parents k < length parents = λ k. fits_at k some unknown in
+      let fits : Fits t [] known = record { types = refl; predicates = refl; variables = refl; objects = λ n o e. e } in
+      and_true _ _
+      (and_true _ _
+      (and_true _ _
+      (and_true _ _
+      (all_whole parents parents_fit (λ k l. ap (comes_back parents) (next k) ∙ none_comes_back parents 1 xs no_cycle k (omega (arith, l, length-map xs (λ (x : Declared). type_in (type_names d) x.types)))) (type_names d) 0 (type_names d) (omega (arith, count_types)))
+      low_arguments)
+      (schemas_fit t (known_in_domain d) refl refl
+      (λ n o e. ap (λ os. slice_get os n) (map-append (object_in (type_names d)) (declared_constants d) (declared in_problem p.objects)) ∙ got_first (map (object_in (type_names d)) (declared_constants d)) (map (object_in (type_names d)) (declared in_problem p.objects)) n o e)
+      (variables_are (type_names d)) d.actions
+      (nil_right (refused 16 (repeated (map (λ (a : tree.Action). record { file = in_domain; word = a.name }) d.actions))) (flat_map (schema_faults (known_in_domain d)) d.actions) no_action)))
+      (facts_fit t [] in_problem known fits p.init no_init))
+      (formula_fits t [] in_problem known fits p.goal no_goal)
+    where
+      fits_at : (k : ℕ) → 0 < length (type_names d) → type_faults (type_names d) (declared_types d) ≡ [] → slice_index (parents_of d) k < length (parents_of d)
+      fits_at zero some unknown = omega (arith, count_types, some)
+      fits_at (suc k) some unknown = let low = parents_low (type_names d) some (declared_types d) unknown k in omega (arith, low, count_types)
 
 -- ---- the task that the phases make
 
@@ -71,53 +151,42 @@ pub record IsMade (d : tree.Domain) (p : tree.Problem) (made : task.Task) : Type
   pub typed : is_task made ≡ true
 
 module _ (d : tree.Domain) (p : tree.Problem) where
-  told_by_parts : (e : TaskFault) → TellsLeastOf (first_filled (domain_name_faults d p ∷ declared_faults d p ∷ stated_faults (known_in_problem (predicates_of d) p) p ∷ [])) e
+  told_by_parts : (e : TaskFault) → TellsLeastOf (first_filled (type_faults_of d p ∷ declared_faults d p ∷ stated_faults_in in_problem (known_in_problem d p) p ∷ [])) e
       → TellsLeastFault d p e
   told_by_parts e h = subst (λ fs. TellsLeastOf fs e) (sym (faults_by_parts d p)) h
 
-  -- the fault that is told of the domain's name is the pair's
-  pub told_of_name : (e : TaskFault) → TellsLeastOf (domain_name_faults d p) e → TellsLeastFault d p e
-  told_of_name e h = told_by_parts e (tells_here (domain_name_faults d p) _ e h)
+  -- the fault that is told of the types is the pair's
+  pub told_of_types : (e : TaskFault) → TellsLeastOf (type_faults_of d p) e → TellsLeastFault d p e
+  told_of_types e h = told_by_parts e (tells_here (type_faults_of d p) _ e h)
 
-  module _ (named : domain_name_faults d p ≡ []) where
-    -- and so is that of what is declared, where the name has none
+  module _ (no_type : type_faults_of d p ≡ []) where
+    -- and so is that of what else is declared, where the types have none
     pub told_of_declared : (e : TaskFault) → TellsLeastOf (declared_faults d p) e → TellsLeastFault d p e
-    told_of_declared e h = told_by_parts e (tells_later (domain_name_faults d p) _ named e (tells_here (declared_faults d p) _ e h))
+    told_of_declared e h = told_by_parts e (tells_later (type_faults_of d p) _ no_type e (tells_here (declared_faults d p) _ e h))
 
-    module _ (declared : declared_faults d p ≡ []) (names : Names) (are : AreDeclared d p names) where
-      same_names : keys_in names.objects.entries ≡ map folded p.objects
-      same_names =
-          keys_in-named object_entry_of (λ o. o.name) (λ e. refl) names.objects.entries ∙ ap (map (λ (o : task.Object). o.name)) are.objects ∙ map-map (λ (o : task.Object). o.name) object_of p.objects
-
-      same_known : known_by names ≡ known_in_problem (predicates_of d) p
-      same_known = λ i. record { predicates = are.predicates i; variables = []; objects = same_names i }
+    module _ (no_other : declared_faults d p ≡ []) (names : Names) (are : AreDeclared d p names) where
+      same_known : known_by names ≡ known_in_problem d p
+      same_known = λ i. record { type_names = are.types.names i; types = are.types.all i; predicates = are.predicates i; variables = []; objects = are.objects i }
 
       -- and that of what is stated, where what is declared has none
-      pub told_of_stated : (e : TaskFault) → TellsLeastOf (stated_faults (known_by names) p) e → TellsLeastFault d p e
+      pub told_of_stated : (e : TaskFault) → TellsLeastOf (stated_faults_in in_problem (known_by names) p) e → TellsLeastFault d p e
       told_of_stated e h =
-          told_by_parts e (tells_later (domain_name_faults d p) _ named e (tells_later (declared_faults d p) _ declared e
-          (tells_here (stated_faults (known_in_problem (predicates_of d) p) p) [] e (subst (λ k. TellsLeastOf (stated_faults k p) e) same_known h))))
+          told_by_parts e (tells_later (type_faults_of d p) _ no_type e (tells_later (declared_faults d p) _ no_other e
+          (tells_here (stated_faults_in in_problem (known_in_problem d p) p) [] e (subst (λ k. TellsLeastOf (stated_faults_in in_problem k p) e) same_known h))))
 
-      pub made_by_phases : (start : Start) → stated_faults (known_by names) p ≡ []
-          → map atom_of start.init.items ≡ map (narrow_atom_in (known_by names)) p.init → formula_of start.goal ≡ formula_in (known_by names) p.goal
-          → IsMade d p (task_of_parts names.types.entries names.objects.entries names.predicates.entries names.schemas.entries start.init.items start.goal)
-      made_by_phases start stated init goal =
-          let known = known_in_problem (predicates_of d) p in
-          let no_stated = ap (λ k. stated_faults k p) (sym same_known) ∙ stated in
-          let after_objects = (none_filled (object_faults p) _ declared).1 in
-          let no_declaration = (none_filled (declaration_faults d) _ after_objects).0 in
-          let no_action = (none_filled (action_faults (predicates_of d) d) _ (none_filled (declaration_faults d) _ after_objects).1).0 in
-          let no_init = (none_filled (init_faults (predicates_of d) p) _ no_stated).0 in
-          let no_goal = (none_filled (goal_faults (predicates_of d) p) _ (none_filled (init_faults (predicates_of d) p) _ no_stated).1).0 in
-          let twice = refused in_domain 16 (repeated (map (λ (r : tree.Predicate). r.name) d.predicates)) in
-          let low = arities_fit d.predicates (nil_right twice (flat_map (λ (r : tree.Predicate). refused in_domain 25 (one_after 8 r.parameters)) d.predicates) no_declaration) in
-          let same_init = init ∙ ap (λ k. map (narrow_atom_in k) p.init) same_known ∙ narrow_is_all in_problem known low p.init no_init in
-          let same_goal = goal ∙ ap (λ k. formula_in k p.goal) same_known in
-          let made : task.Task = task_of_parts names.types.entries names.objects.entries names.predicates.entries names.schemas.entries start.init.items start.goal in
+      pub made_by_phases : (start : Start) → Starts in_problem (known_by names) p start
+          → IsMade d p (task_of_parts names.types.all.entries names.objects.all.entries names.predicates.entries names.schemas.entries start.init.items start.goal)
+      made_by_phases start starts =
+          let known = known_in_problem d p in
+          let no_stated = ap (λ k. stated_faults_in in_problem k p) (sym same_known) ∙ starts.right in
+          let same_init = starts.init ∙ ap (λ k. flat_map (narrow_atoms_in k) p.init) same_known
+          ∙ narrow_is_all in_problem known (low_arguments d p no_type no_other no_stated) p.init (no_init d p no_type no_other no_stated) in
+          let same_goal = starts.goal ∙ ap (λ k. formula_in k p.goal) same_known in
+          let made : task.Task = task_of_parts names.types.all.entries names.objects.all.entries names.predicates.entries names.schemas.entries start.init.items start.goal in
           let same : made ≡ task_of_trees d p =
-          λ i. record { types = are.types i; objects = are.objects i; predicates = are.predicates i; schemas = are.schemas i; init = same_init i; goal = same_goal i } in
+          λ i. record { types = are.types.all i; objects = are.objects i; predicates = are.predicates i; schemas = are.schemas i; init = same_init i; goal = same_goal i } in
           record {
-            well_typed = faults_by_parts d p ∙ (λ i. first_filled (named i ∷ declared i ∷ no_stated i ∷ []));
+            well_typed = faults_by_parts d p ∙ (λ i. first_filled (no_type i ∷ no_other i ∷ no_stated i ∷ []));
             same = same;
-            typed = ap is_task same ∙ is_task-task_of_trees d p no_declaration no_action no_init no_goal;
+            typed = ap is_task same ∙ typed d p no_type no_other no_stated;
           }

@@ -38,3 +38,8 @@ given P made faults least is p (Ok t) h =
     let none = found-None faults (sym is ∙ h.1) in
     (none, subst P (sym h.0) (p none))
 given P made faults least is p (Err e) h = tt
+
+-- what holds where a call gave something, from what the call says
+pub on_ok_weaker : {A E : Type 0} {P Q : Type 0} (r : Result A E) → (P → Q) → OnOk r P → OnOk r Q
+on_ok_weaker (Ok x) f h = f h
+on_ok_weaker (Err e) f h = tt

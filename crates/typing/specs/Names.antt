@@ -1,51 +1,68 @@
 -- What the declared names stand for, and the faults of declaring them and of what is stated of them, in the model's terms.
-use Rattle.std.specs.Prelude.{◌≡◌, ℕ, List, [], ◌∷◌, map}
+use Rattle.std.specs.Prelude.{◌≡◌, ℕ, List, [], ◌∷◌, ◌++◌, map}
 use Rattle.std.specs.Global.{Vec}
 use Rattle.std.specs.List.{flat_map}
 use Rattle.typing.specs.declared.atoms.TypeId.{TypeId}
 use Rattle.typing.specs.declared.names.Names.{Names}
+use Rattle.typing.specs.declared.names.Types.{Types}
 use Rattle.typing.specs.declared.names.Start.{Start}
-use Rattle.typing.specs.Scope.{keys_in, narrow_atom_in}
+use Rattle.typing.specs.declared.schemas.Predicate.{Predicate}
+use Rattle.typing.specs.declared.schemas.Schema.{Schema}
+use Rattle.typing.specs.Scope.{names_in, narrow_atoms_in}
 use Rattle.typing.specs.TaskParts.{atom_of, formula_of, object_entry_of, predicate_of, schema_of, type_entry_of}
 use Rattle.model.specs.Trees as tree
-use Rattle.model.specs.Typing.{File, in_problem, first_filled, object_of, root_type, fact_faults, formula_faults, object_faults, declaration_faults, action_faults, predicates_of, schema_in, formula_in, Known, TypingFault}
+use Rattle.model.specs.Typing.{File, first_filled, fact_faults, formula_faults, domain_name_faults, type_declaration_faults, cycle_faults, object_faults, declaration_faults, action_faults, type_names, types_of, constants_of, objects_of, predicates_of, known_in_domain, schema_in, formula_in, Known, TypingFault}
 
--- the faults of the declarations: those of the first phase that has any
-abbrev pub declared_faults : tree.Domain → tree.Problem → List TypingFault
-declared_faults d p = first_filled (object_faults p ∷ declaration_faults d ∷ action_faults (predicates_of d) d ∷ [])
+-- the faults of the types: those of the first phase that has any
+abbrev pub type_faults_of : tree.Domain → tree.Problem → List TypingFault
+type_faults_of d p = first_filled ((domain_name_faults d p ++ type_declaration_faults d) ∷ cycle_faults d ∷ [])
 
--- those of what the domain declares
+-- those of what the domain declares besides
 abbrev pub domain_faults : tree.Domain → List TypingFault
-domain_faults d = first_filled (declaration_faults d ∷ action_faults (predicates_of d) d ∷ [])
+domain_faults d = first_filled (declaration_faults (type_names d) d.predicates ∷ action_faults (known_in_domain d) d.actions ∷ [])
+
+-- those of all declarations that are no types
+abbrev pub declared_faults : tree.Domain → tree.Problem → List TypingFault
+declared_faults d p =
+    first_filled (object_faults d p ∷ declaration_faults (type_names d) d.predicates ∷ action_faults (known_in_domain d) d.actions ∷ [])
 
 -- the faults of the initial state of a file, and else those of the goal
 abbrev pub stated_faults_in : File → Known → tree.Problem → List TypingFault
 stated_faults_in file known p = first_filled (flat_map (fact_faults file known) p.init ∷ formula_faults file known p.goal ∷ [])
 
-abbrev pub stated_faults : Known → tree.Problem → List TypingFault
-stated_faults known p = stated_faults_in in_problem known p
+-- what may be named where these are the types, the objects and the predicates
+abbrev pub known_in : Types → List (Vec ℕ × TypeId) → List (Vec ℕ × Predicate) → Known
+known_in t objects predicates = record {
+  type_names = names_in t.names.names.keys;
+  types = map type_entry_of t.all.entries;
+  predicates = map predicate_of predicates;
+  variables = [];
+  objects = map object_entry_of objects;
+}
 
 -- what may be named in the problem
 abbrev pub known_by : Names → Known
-known_by n = record { predicates = map predicate_of n.predicates.entries; variables = []; objects = keys_in n.objects.entries }
+known_by n = known_in n.types n.objects.all.entries n.predicates.entries
+
+-- these are the types that the domain declares
+pub record AreTypesOf (d : tree.Domain) (t : Types) : Type 0 where
+  pub names : names_in t.names.names.keys ≡ type_names d
+  pub all : map type_entry_of t.all.entries ≡ types_of d
 
 -- these are the names that the pair declares
 pub record AreDeclared (d : tree.Domain) (p : tree.Problem) (n : Names) : Type 0 where
-  pub types : map type_entry_of n.types.entries ≡ root_type ∷ []
-  pub objects : map object_entry_of n.objects.entries ≡ map object_of p.objects
+  pub types : AreTypesOf d n.types
+  pub objects : map object_entry_of n.objects.all.entries ≡ objects_of d p
   pub predicates : map predicate_of n.predicates.entries ≡ predicates_of d
-  pub schemas : map schema_of n.schemas.entries ≡ map (schema_in (predicates_of d)) d.actions
+  pub schemas : map schema_of n.schemas.entries ≡ map (schema_in (known_in_domain d)) d.actions
 
--- these are the names that the domain declares, which has no fault there, and these types and objects
-pub record AreOfDomain (d : tree.Domain) (types : List (Vec ℕ × Vec TypeId)) (objects : List (Vec ℕ × TypeId)) (n : Names) : Type 0 where
-  pub right : domain_faults d ≡ []
-  pub types_are : n.types.entries ≡ types
-  pub objects_are : n.objects.entries ≡ objects
-  pub predicates : map predicate_of n.predicates.entries ≡ predicates_of d
-  pub schemas : map schema_of n.schemas.entries ≡ map (schema_in (predicates_of d)) d.actions
+-- these are the schemas of the domain, which has no fault there
+pub record AreSchemasOf (known : Known) (d : tree.Domain) (entries : List (Vec ℕ × Schema)) : Type 0 where
+  pub right : action_faults known d.actions ≡ []
+  pub schemas : map schema_of entries ≡ map (schema_in known) d.actions
 
 -- the problem has no fault in what it states, and begins and ends so
 pub record Starts (file : File) (known : Known) (p : tree.Problem) (s : Start) : Type 0 where
   pub right : stated_faults_in file known p ≡ []
-  pub init : map atom_of s.init.items ≡ map (narrow_atom_in known) p.init
+  pub init : map atom_of s.init.items ≡ flat_map (narrow_atoms_in known) p.init
   pub goal : formula_of s.goal ≡ formula_in known p.goal

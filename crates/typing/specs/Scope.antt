@@ -1,13 +1,14 @@
 -- What the names of formulas, effects and atoms stand for, in the model's terms.
-use Rattle.std.specs.Prelude.{ℕ, List, [], map, take}
+use Rattle.std.specs.Prelude.{ℕ, List, [], ◌∷◌, map, take, ◌++◌, slice_get, Option}
 use Rattle.std.specs.Global.{Vec}
 use Rattle.std.specs.Map.{keys_of}
-use Rattle.typing.specs.declared.schemas.Predicate.{Predicate}
+use Rattle.std.specs.Option.{option_map_or}
+use Rattle.typing.specs.declared.schemas.TypeUnion.{TypeUnion}
 use Rattle.typing.specs.declared.scope.Scope.{Scope}
-use Rattle.typing.specs.TaskParts.{predicate_of}
+use Rattle.typing.specs.TaskParts.{object_entry_of, predicate_of, type_entry_of, union_of}
 use Rattle.model.specs.Task as task
 use Rattle.model.specs.Trees as tree
-use Rattle.model.specs.Typing.{Known, atom_in}
+use Rattle.model.specs.Typing.{File, Known, TypingFault, Variable, atom_in, term_faults, misfit_faults}
 
 -- the names that a table has
 abbrev pub names_in : List (Vec ℕ) → List task.Name
@@ -17,17 +18,31 @@ names_in keys = map (λ name. name.items) keys
 abbrev pub keys_in : {V : Type 0} → List (Vec ℕ × V) → List task.Name
 keys_in entries = names_in (keys_of entries)
 
+abbrev pub variable_entry_of : Vec ℕ × TypeUnion → Variable
+variable_entry_of entry = record { name = entry.0.items; types = union_of entry.1 }
+
 abbrev pub known_of : Scope → Known
 known_of s = record {
+  type_names = names_in s.type_names.now.names.keys;
+  types = map type_entry_of s.types.now.entries;
   predicates = map predicate_of s.predicates.now.entries;
-  variables = names_in s.variables.now.keys;
-  objects = keys_in s.objects.now.entries;
+  variables = map variable_entry_of s.variables.now.entries;
+  objects = map object_entry_of s.objects.now.entries;
 }
 
--- what is known in an action of these predicates and variables
-abbrev pub over : List (Vec ℕ × Predicate) → List (Vec ℕ) → Known
-over predicates variables = record { predicates = map predicate_of predicates; variables = names_in variables; objects = [] }
+-- what each argument of the predicate of this number has to be, if there is one
+abbrev pub arguments_at : Known → ℕ → List task.Union
+arguments_at known number = option_map_or (λ (p : task.Predicate). p.arguments) (slice_get known.predicates number) []
+
+-- the faults of a term where this is wanted
+abbrev pub argument_faults : File → Known → Option task.Union → tree.Term → List TypingFault
+argument_faults file known wanted term = term_faults file known term ++ misfit_faults file known wanted term
 
 -- an atom with as many of its objects as a predicate may have
-abbrev pub narrow_atom_in : Known → tree.Fact → task.Atom
+abbrev pub narrow_atom_in : Known → tree.GroundAtom → task.Atom
 narrow_atom_in known f = let a = atom_in known f in record { predicate = a.predicate; objects = take 8 a.objects }
+
+-- the atoms of the initial state, each with as many of its objects
+abbrev pub narrow_atoms_in : Known → tree.Fact → List task.Atom
+narrow_atoms_in known (tree.fact a) = narrow_atom_in known a ∷ []
+narrow_atoms_in known (tree.negated word a) = []

@@ -10,6 +10,7 @@ use Rattle.faults.specs.declared.refused.Refused.TheVariants.{At, NoMemory}
 use Rattle.typing.specs.TaskParts.{task_of_parts}
 use Rattle.model.specs.Task as task
 use Rattle.model.specs.Trees as tree
+use Rattle.model.specs.TypingFaults as typing_faults
 use Rattle.model.specs.Typing.{File, in_domain, in_problem, TypingFault, IsLeastOf, faults_of}
 
 abbrev pub task_of : Task → task.Task
@@ -37,3 +38,8 @@ TellsLeastOf faults (At r) = IsLeastOf faults (refusal_of r)
 -- the least fault of the pair is told; want of memory says nothing of the pair
 abbrev pub TellsLeastFault : tree.Domain → tree.Problem → TaskFault → Type 0
 TellsLeastFault d p = TellsLeastOf (faults_of d p)
+
+-- the fault is told of the pair that the table of faults says; want of memory says nothing of the pair
+abbrev pub TellsFault : tree.Domain → tree.Problem → TaskFault → Type 0
+TellsFault d p NoMemory = Unit {0}
+TellsFault d p (At r) = typing_faults.IsTold d p (refusal_of r)

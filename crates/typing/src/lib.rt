@@ -2,15 +2,21 @@
 //! first fault is told.
 #![tactic(auto)]
 
+mod actions;
 mod atoms;
+mod chains;
+mod declarations;
+mod domain;
 mod fault;
 mod laws;
 mod names;
 mod objects;
-mod phases;
 mod schemas;
 mod scope;
+mod statements;
 mod task;
+mod type_names;
+mod typed_lists;
 mod types;
 mod walk;
 

@@ -2,22 +2,40 @@
 ghost use Rattle.std.specs.Prelude.{◌≡◌, ◌≤◌, [], length, IfErr, IfOk};
 
 use crate::scope::Scope;
+use crate::type_names::TypeNames;
+use crate::typed_lists::collect;
 use crate::{
-    Atom, Formula, Predicate, Schema, TaskFault, TaskFile, TypeId, objects, phases, types,
+    Atom, Formula, Predicate, Schema, TaskFault, TaskFile, TypeId, actions, chains, declarations,
+    domain, objects, statements,
 };
-use indexmap::{IndexMap, IndexSet};
+use indexmap::IndexMap;
 use pddl_tree::{Domain, Problem};
 use std::alloc::Global;
+
+/// The types of a domain, by name: each in the place of its number.
+#[derive(Drop)]
+pub(crate) struct Types {
+    pub(crate) names: TypeNames,
+    pub(crate) all: IndexMap<Vec<u8>, Vec<TypeId>>,
+    ghost few: { length all.entries ≤ 4096 },
+}
+
+/// The constants alone, and all objects, the constants first.
+#[derive(Drop)]
+pub(crate) struct Objects {
+    pub(crate) constants: IndexMap<Vec<u8>, TypeId>,
+    pub(crate) all: IndexMap<Vec<u8>, TypeId>,
+    ghost few_constants: { length constants.entries ≤ 65535 },
+    ghost few: { length all.entries ≤ 65535 },
+}
 
 /// What a domain and a problem declare, by name: each in the place of its number.
 #[derive(Drop)]
 pub(crate) struct Names {
-    pub(crate) types: IndexMap<Vec<u8>, Vec<TypeId>>,
-    pub(crate) objects: IndexMap<Vec<u8>, TypeId>,
+    pub(crate) types: Types,
+    pub(crate) objects: Objects,
     pub(crate) predicates: IndexMap<Vec<u8>, Predicate>,
     pub(crate) schemas: IndexMap<Vec<u8>, Schema>,
-    ghost few_types: { length types.entries ≤ 4096 },
-    ghost few_objects: { length objects.entries ≤ 65535 },
 }
 
 /// What a problem states: where it begins, and what is to be reached.
@@ -27,42 +45,70 @@ pub(crate) struct Start {
     pub(crate) goal: Formula,
 }
 
-impl Names {
+impl Types {
     ghost use Rattle.typing.specs.Task.{TellsLeastOf};
-    ghost use Rattle.typing.specs.Names.{declared_faults, domain_faults, known_by, stated_faults, AreDeclared, AreOfDomain, Starts};
+    ghost use Rattle.typing.specs.Names.{type_faults_of, AreTypesOf};
     ghost use Rattle.pddl_tree.specs.Tree.{domain_of, problem_of};
-    ghost use Rattle.model.specs.Typing.{in_problem};
 
-    /// The names that a domain and a problem declare.
+    /// The types that a domain declares, where the problem is for it.
     pub(crate) fn declared(
         alloc: Global,
         domain: &Domain<'_>,
         problem: &Problem<'_>,
+    ) -> Result<Types, TaskFault>
+        ensures ok { IfOk result
+            (λ t. (type_faults_of (domain_of domain.now) (problem_of problem.now) ≡ []) × AreTypesOf (domain_of domain.now) t) }
+        ensures err { IfErr result (TellsLeastOf (type_faults_of (domain_of domain.now) (problem_of problem.now))) }
+    {
+        let groups = domain.types.as_slice();
+        let list = collect(alloc, TaskFile::Domain, groups)?;
+        let declared = list.as_slice();
+        let names = domain::names(alloc, domain, problem, declared)?;
+        let all = chains::types(alloc, &names, declared)?;
+        Ok(Types { names, all })
+    }
+}
+
+impl Names {
+    ghost use Rattle.typing.specs.Task.{TellsLeastOf};
+    ghost use Rattle.typing.specs.Names.{domain_faults, declared_faults, known_by, known_in, stated_faults_in, AreDeclared, AreSchemasOf, AreTypesOf, Starts};
+    ghost use Rattle.typing.specs.Objects.{AreObjectsOf};
+    ghost use Rattle.pddl_tree.specs.Tree.{domain_of, problem_of};
+    ghost use Rattle.model.specs.Typing.{in_problem, action_faults};
+
+    /// The names that a domain and a problem declare, where these are the types.
+    pub(crate) fn declared(
+        alloc: Global,
+        types: Types,
+        domain: &Domain<'_>,
+        problem: &Problem<'_>,
     ) -> Result<Names, TaskFault>
+        requires { AreTypesOf (domain_of domain.now) types }
         ensures ok { IfOk result
             (λ n. (declared_faults (domain_of domain.now) (problem_of problem.now) ≡ [])
             × AreDeclared (domain_of domain.now) (problem_of problem.now) n) }
         ensures err { IfErr result (TellsLeastOf (declared_faults (domain_of domain.now) (problem_of problem.now))) }
     {
-        let types = types::types(alloc)?;
-        let objects = objects::objects(alloc, problem)?;
-        Names::of_objects(alloc, types, objects, domain)
+        let objects = objects::of_pair(alloc, &types.names, domain, problem)?;
+        Names::of_objects(alloc, types, objects, domain, problem)
     }
 
     /// These types and objects, and the names that a domain declares.
     fn of_objects(
         alloc: Global,
-        types: IndexMap<Vec<u8>, Vec<TypeId>>,
-        objects: IndexMap<Vec<u8>, TypeId>,
+        types: Types,
+        objects: Objects,
         domain: &Domain<'_>,
+        problem: &Problem<'_>,
     ) -> Result<Names, TaskFault>
-        requires few_types { length types.entries ≤ 4096 }
-        requires few_objects { length objects.entries ≤ 65535 }
-        ensures ok { IfOk result (AreOfDomain (domain_of domain.now) types.entries objects.entries) }
+        requires types { AreTypesOf (domain_of domain.now) types }
+        requires objects { AreObjectsOf (domain_of domain.now) (problem_of problem.now) objects }
+        ensures ok { IfOk result
+            (λ n. (domain_faults (domain_of domain.now) ≡ []) × AreDeclared (domain_of domain.now) (problem_of problem.now) n) }
         ensures err { IfErr result (TellsLeastOf (domain_faults (domain_of domain.now))) }
     {
-        let predicates = phases::predicates(alloc, domain)?;
-        let schemas = phases::schemas(alloc, &predicates, domain)?;
+        let predicates = declarations::predicates(alloc, &types.names, domain)?;
+        let schemas = Names::schemas(alloc, &types, &objects, &predicates, domain)?;
         Ok(Names {
             types,
             objects,
@@ -71,16 +117,40 @@ impl Names {
         })
     }
 
+    /// The actions that a domain declares, over its types, constants and predicates.
+    fn schemas(
+        alloc: Global,
+        types: &Types,
+        objects: &Objects,
+        predicates: &IndexMap<Vec<u8>, Predicate>,
+        domain: &Domain<'_>,
+    ) -> Result<IndexMap<Vec<u8>, Schema>, TaskFault>
+        ensures ok { IfOk result (λ m. AreSchemasOf (known_in types.now objects.now.constants.entries predicates.now.entries) (domain_of domain.now) m.entries) }
+        ensures err { IfErr result (TellsLeastOf (action_faults (known_in types.now objects.now.constants.entries predicates.now.entries) (domain_of domain.now).actions)) }
+    {
+        let scope = Scope {
+            file: TaskFile::Domain,
+            type_names: &types.names,
+            types: &types.all,
+            predicates,
+            variables: &IndexMap::new(alloc),
+            objects: &objects.constants,
+        };
+        actions::schemas(alloc, &scope, domain)
+    }
+
     /// What the problem states, with numbers for the names.
     pub(crate) fn stated(&self, alloc: Global, problem: &Problem<'_>) -> Result<Start, TaskFault>
         ensures ok { IfOk result (Starts in_problem (known_by self.now) (problem_of problem.now)) }
-        ensures err { IfErr result (TellsLeastOf (stated_faults (known_by self.now) (problem_of problem.now))) }
+        ensures err { IfErr result (TellsLeastOf (stated_faults_in in_problem (known_by self.now) (problem_of problem.now))) }
     {
         let scope = Scope {
             file: TaskFile::Problem,
+            type_names: &self.types.names,
+            types: &self.types.all,
             predicates: &self.predicates,
-            variables: &IndexSet::new(alloc),
-            objects: &self.objects,
+            variables: &IndexMap::new(alloc),
+            objects: &self.objects.all,
         };
         Start::stated_in(alloc, &scope, problem)
     }
@@ -101,8 +171,8 @@ impl Start {
         ensures ok { IfOk result (Starts (file_of scope.now.file) (known_of scope.now) (problem_of problem.now)) }
         ensures err { IfErr result (TellsLeastOf (stated_faults_in (file_of scope.now.file) (known_of scope.now) (problem_of problem.now))) }
     {
-        let init = phases::init(alloc, scope, problem)?;
-        let goal = phases::goal(alloc, scope, problem)?;
+        let init = statements::init(alloc, scope, problem)?;
+        let goal = statements::goal(alloc, scope, problem)?;
         Ok(Start { init, goal })
     }
 }

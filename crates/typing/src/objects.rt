@@ -1,70 +1,132 @@
-//! The problem's objects, and their types.
-ghost use Rattle.std.specs.Prelude.{◌≡◌, ◌≤◌, [], ◌∷◌, ◌++◌, false, if◌then◌else◌, length, map, IfErr, IfOk, OnOk};
+//! The domain's constants and the problem's objects, and their types.
+ghost use Rattle.std.specs.Prelude.{◌≡◌, ◌≤◌, [], ◌∷◌, ◌++◌, false, if◌then◌else◌, length, map, List, IfErr, IfOk, OnOk};
 ghost use Rattle.typing.specs.TaskParts as parts;
+ghost use Rattle.typing.specs.TypedLists.{declared_of};
+ghost use Rattle.typing.specs.Objects.{AreMade, AreObjects};
+ghost use Rattle.typing.specs.Scope.{names_in};
 ghost use Rattle.typing.specs.Task.{TellsLeastOf};
 ghost use Rattle.typing.specs.Walk.{Finds};
 ghost use Rattle.pddl_tree.specs.Tree as read;
 ghost use Rattle.model.specs.Typing as typing;
 
-use crate::phases::{limit, refuse_again};
+use crate::domain::refuse_again;
+use crate::names::Objects;
+use crate::type_names::TypeNames;
+use crate::typed_lists::{Declared, add, collect, limit};
+use crate::types::check_all;
 use crate::walk::Walk;
 use crate::{MAX_OBJECTS, TaskFault, TaskFile, TypeId};
 use faults::NoMemory;
 use indexmap::IndexMap;
-use pddl_tree::{Name, Problem};
+use pddl_tree::{Domain, Group, Problem};
 use std::alloc::Global;
 
 /// Declares an object. One that is declared before is refused.
 fn declare_object(
     alloc: Global,
     walk: &mut Walk,
+    types: &TypeNames,
     objects: &mut IndexMap<Vec<u8>, TypeId>,
-    name: &Name<'_>,
+    declared: &Declared<'_>,
 ) -> Result<(), NoMemory>
-    ensures names { OnOk result (map (λ o. o.name) (map parts.object_entry_of objects.new.entries)
-        ≡ typing.with_name (map (λ o. o.name) (map parts.object_entry_of objects.old.entries)) (read.name_of name.now)) }
-    ensures added { OnOk result (typing.is_known (map (λ o. o.name) (map parts.object_entry_of objects.old.entries)) (read.name_of name.now) ≡ false
+    ensures names { OnOk result (typing.names_of_objects (map parts.object_entry_of objects.new.entries)
+        ≡ typing.with_name (typing.names_of_objects (map parts.object_entry_of objects.old.entries)) (declared_of declared.now).name) }
+    ensures added { OnOk result (typing.is_known (typing.names_of_objects (map parts.object_entry_of objects.old.entries)) (declared_of declared.now).name ≡ false
         → map parts.object_entry_of objects.new.entries
-        ≡ map parts.object_entry_of objects.old.entries ++ typing.object_of (read.name_of name.now) ∷ []) }
-    ensures finds { OnOk result (Finds walk.old walk.new (typing.refused typing.in_problem 16
-        (if typing.is_known (map (λ o. o.name) (map parts.object_entry_of objects.old.entries)) (read.name_of name.now) then read.name_of name.now ∷ [] else []))) }
+        ≡ map parts.object_entry_of objects.old.entries ++ typing.object_in (names_in types.now.names.keys) (declared_of declared.now) ∷ []) }
+    ensures finds { OnOk result (Finds walk.old walk.new (typing.refused 16
+        (if typing.is_known (typing.names_of_objects (map parts.object_entry_of objects.old.entries)) (declared_of declared.now).name then typing.placed (declared_of declared.now).file (declared_of declared.now).name ∷ [] else []))) }
 {
-    let key = name.text.to_ascii_lowercase(alloc)?;
-    let before = objects.insert(key, TypeId(0))?;
-    refuse_again(walk, TaskFile::Problem, name, before.is_some());
+    let key = declared.name.text.to_ascii_lowercase(alloc)?;
+    let of_type = types.declared_type(&mut walk.folded, declared.types)?;
+    let before = objects.insert(key, of_type)?;
+    refuse_again(walk, declared.file, &declared.name, before.is_some());
     Ok(())
 }
 
-/// The objects that a list declares.
-fn declared_objects(
+/// The objects that are declared.
+fn table(
     alloc: Global,
     walk: &mut Walk,
-    names: &[Name<'_>],
+    types: &TypeNames,
+    declared: &[Declared<'_>],
 ) -> Result<IndexMap<Vec<u8>, TypeId>, NoMemory>
-    ensures table { IfOk result (λ m. typing.repeated (map read.name_of names.now) ≡ []
-        → map parts.object_entry_of m.entries ≡ map (λ n. typing.object_of (read.name_of n)) names.now) }
-    ensures finds { OnOk result (Finds walk.old walk.new (typing.refused typing.in_problem 16 (typing.repeated (map read.name_of names.now)))) }
+    ensures table { IfOk result (λ m. typing.repeated (typing.words_of (map declared_of declared.now)) ≡ []
+        → map parts.object_entry_of m.entries ≡ map (typing.object_in (names_in types.now.names.keys)) (map declared_of declared.now)) }
+    ensures finds { OnOk result (Finds walk.old walk.new (typing.refused 16 (typing.repeated (typing.words_of (map declared_of declared.now))))) }
 {
     let mut objects = IndexMap::new(alloc);
-    for name in names {
-        declare_object(alloc, walk, &mut objects, name)?;
+    for one in declared {
+        declare_object(alloc, walk, types, &mut objects, one)?;
     }
     Ok(objects)
 }
 
-/// The problem's objects.
-pub(crate) fn objects(
+/// All objects that are declared.
+fn all(
     alloc: Global,
-    problem: &Problem<'_>,
+    types: &TypeNames,
+    declared: &[Declared<'_>],
 ) -> Result<IndexMap<Vec<u8>, TypeId>, TaskFault>
-    ensures ok { IfOk result
-        (λ m. (typing.object_faults (read.problem_of problem.now) ≡ [])
-        × ((map parts.object_entry_of m.entries ≡ map typing.object_of (read.problem_of problem.now).objects) × (length m.entries ≤ 65535))) }
-    ensures err { IfErr result (TellsLeastOf (typing.object_faults (read.problem_of problem.now))) }
+    ensures ok { IfOk result (λ m. (typing.objects_faults (names_in types.now.names.keys) (map declared_of declared.now) ≡ [])
+        × ((map parts.object_entry_of m.entries ≡ map (typing.object_in (names_in types.now.names.keys)) (map declared_of declared.now)) × (length m.entries ≤ 65535))) }
+    ensures err { IfErr result (TellsLeastOf (typing.objects_faults (names_in types.now.names.keys) (map declared_of declared.now))) }
 {
     let mut walk = Walk::new(alloc);
-    let names = problem.objects.as_slice();
-    let objects = declared_objects(alloc, &mut walk, names)?;
-    limit(&mut walk, TaskFile::Problem, names, MAX_OBJECTS);
+    check_all(&mut walk, &types.names, declared)?;
+    let objects = table(alloc, &mut walk, types, declared)?;
+    limit(&mut walk, declared, MAX_OBJECTS);
     walk.finish(objects)
+}
+
+/// What is declared of constants and of objects.
+fn words<'t>(
+    alloc: Global,
+    constants: &'t [Group<'t>],
+    objects: &'t [Group<'t>],
+) -> Result<Vec<Declared<'t>>, NoMemory>
+    ensures { IfOk result (λ v. map declared_of v.items ≡ typing.declared typing.in_domain (map read.group_of constants.now) ++ typing.declared typing.in_problem (map read.group_of objects.now)) }
+{
+    let mut list = Vec::new(alloc);
+    add(&mut list, TaskFile::Domain, constants)?;
+    add(&mut list, TaskFile::Problem, objects)?;
+    Ok(list)
+}
+
+/// The constants and the objects that are declared.
+fn made(
+    alloc: Global,
+    types: &TypeNames,
+    constants: &[Declared<'_>],
+    objects: &[Declared<'_>],
+) -> Result<Objects, TaskFault>
+    requires { (more : List typing.Declared) × (map declared_of objects.now ≡ map declared_of constants.now ++ more) }
+    ensures ok { IfOk result (AreMade (names_in types.now.names.keys) (map declared_of constants.now) (map declared_of objects.now)) }
+    ensures err { IfErr result (TellsLeastOf (typing.objects_faults (names_in types.now.names.keys) (map declared_of objects.now))) }
+{
+    let all = all(alloc, types, objects)?;
+    let constants = table(alloc, &mut Walk::new(alloc), types, constants)?;
+    Ok(Objects { constants, all })
+}
+
+/// The constants and the objects of a domain and a problem.
+pub(crate) fn of_pair(
+    alloc: Global,
+    types: &TypeNames,
+    domain: &Domain<'_>,
+    problem: &Problem<'_>,
+) -> Result<Objects, TaskFault>
+    ensures ok { IfOk result (AreObjects (names_in types.now.names.keys) (read.domain_of domain.now) (read.problem_of problem.now)) }
+    ensures err { IfErr result (TellsLeastOf (typing.objects_faults (names_in types.now.names.keys) (typing.declared_objects (read.domain_of domain.now) (read.problem_of problem.now)))) }
+{
+    let constants = domain.constants.as_slice();
+    let objects = problem.objects.as_slice();
+    let constant_words = collect(alloc, TaskFile::Domain, constants)?;
+    let object_words = words(alloc, constants, objects)?;
+    made(
+        alloc,
+        types,
+        constant_words.as_slice(),
+        object_words.as_slice(),
+    )
 }

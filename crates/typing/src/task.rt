@@ -5,9 +5,9 @@ ghost use Rattle.model.specs.WellTyped.{is_task};
 
 use crate::atoms::{Atom, MAX_VARIABLES, ObjectId, PredicateId, SchemaId, TypeId};
 use crate::fault::TaskFault;
-use crate::names::Names;
-use crate::phases;
+use crate::names::{Names, Types};
 use crate::schemas::{Formula, Predicate, Schema, TypeUnion};
+use crate::types::{self, is_below};
 use faults::NoMemory;
 use indexmap::IndexMap;
 use pddl_tree::{Domain, Problem};
@@ -30,7 +30,8 @@ pub struct Task {
 impl Task {
     ghost use Rattle.std.specs.Prelude.{◌≡◌, length, map, position, slice_get, IfErr, IfOk, IfSome, OnOk};
     ghost use Rattle.std.specs.Option.{option_copied, option_map};
-    ghost use Rattle.typing.specs.Task.{task_of, TellsLeastFault};
+    ghost use Rattle.typing.specs.Task.{task_of, TellsFault, TellsLeastFault};
+    ghost use Rattle.model.specs.TypingFaults as typing_faults;
     ghost use Rattle.pddl_tree.specs.Tree.{domain_of, problem_of};
     ghost use Rattle.typing.specs.TaskParts.{atom_of, formula_of, object_of, schema_id_of, shape_of, shape_of_schema, type_of, union_of};
     ghost use Rattle.model.specs.Meaning.{supertypes_of, is_of, is_below, objects_of};
@@ -41,9 +42,9 @@ impl Task {
     /// # Errors
     /// The least fault of the pair, where it has one; [`TaskFault::NoMemory`] where memory is refused.
     pub fn new(alloc: Global, domain: Domain<'_>, problem: Problem<'_>) -> Result<Task, TaskFault>
-        ensures well_typed { OnOk result (IsWellTyped (domain_of domain.entry) (problem_of problem.entry)) }
+        ensures well_typed { OnOk result (typing_faults.IsWellTyped (domain_of domain.entry) (problem_of problem.entry)) }
         ensures task { IfOk result (λ t. task_of t ≡ task_of_trees (domain_of domain.entry) (problem_of problem.entry)) }
-        ensures least { IfErr result (TellsLeastFault (domain_of domain.entry) (problem_of problem.entry)) }
+        ensures least { IfErr result (TellsFault (domain_of domain.entry) (problem_of problem.entry)) }
     {
         Task::of_trees(alloc, &domain, &problem)
     }
@@ -58,12 +59,14 @@ impl Task {
         ensures task { IfOk result (λ t. task_of t ≡ task_of_trees (domain_of domain.now) (problem_of problem.now)) }
         ensures least { IfErr result (TellsLeastFault (domain_of domain.now) (problem_of problem.now)) }
     {
-        phases::domain_name(alloc, domain, problem)?;
-        let names = Names::declared(alloc, domain, problem)?;
+        let types = Types::declared(alloc, domain, problem)?;
+        let names = Names::declared(alloc, types, domain, problem)?;
         let start = names.stated(alloc, problem)?;
+        let types = names.types;
+        let objects = names.objects;
         Ok(Task {
-            types: names.types,
-            objects: names.objects,
+            types: types.all,
+            objects: objects.all,
             predicates: names.predicates,
             schemas: names.schemas,
             init: start.init,
@@ -113,10 +116,7 @@ impl Task {
     pub fn supertypes(&self, id: TypeId) -> &[TypeId]
         ensures { map type_of result.now ≡ supertypes_of (task_of self.now) id.0 }
     {
-        match self.types.get_index(id.0 as usize) {
-            Some((_, supertypes)) => supertypes.as_slice(),
-            None => &[],
-        }
+        types::supertypes(&self.types, id)
     }
 
     /// Whether the object is of one of these types; false where the number is beyond the last.
@@ -133,7 +133,7 @@ impl Task {
     pub(crate) fn is_below(&self, id: TypeId, types: &TypeUnion) -> bool
         ensures { result ≡ is_below (task_of self.now) (union_of types.now) id.0 }
     {
-        self.supertypes(id).iter().any(|above| types.has(*above))
+        is_below(&self.types, types, id)
     }
 
     /// The objects of these types, in order, each once.

@@ -1,7 +1,7 @@
 //! What a walk over the trees gathers: the least fault so far.
-ghost use Rattle.std.specs.Prelude.{◌≡◌, ◌∷◌, [], None, IfErr, IfOk, OnOk};
+ghost use Rattle.std.specs.Prelude.{◌≡◌, [], if◌then◌else◌, None, IfErr, IfOk, OnOk};
 ghost use Rattle.pddl_tree.specs.Tree.{name_of};
-ghost use Rattle.model.specs.Typing.{folded, refused};
+ghost use Rattle.model.specs.Typing.{folded, refused_word};
 
 use crate::fault::{TaskFault, TaskFile, TaskRefusal};
 use faults::{Code, NoMemory};
@@ -13,6 +13,16 @@ use std::alloc::Global;
 pub(crate) struct Walk {
     pub(crate) least: Option<TaskRefusal>,
     pub(crate) folded: Vec<u8>,
+}
+
+/// Puts the name in lower case into the room for it.
+pub(crate) fn fold(room: &mut Vec<u8>, name: &Name<'_>) -> Result<(), NoMemory>
+    ensures { OnOk result (room.new.items ≡ folded (name_of name.now)) }
+{
+    room.clear();
+    room.extend_from_slice(name.text)?;
+    room.make_ascii_lowercase();
+    Ok(())
 }
 
 impl Walk {
@@ -32,7 +42,7 @@ impl Walk {
 
     /// Finds that the word is refused by the code.
     pub(crate) fn refuse(&mut self, file: TaskFile, code: Code, word: &Name<'_>)
-        ensures { least_of self.new ≡ found (least_of self.old) (refused (file_of file) (number_of code) (name_of word.now ∷ [])) }
+        ensures { least_of self.new ≡ found (least_of self.old) (refused_word (file_of file) (number_of code) (name_of word.now)) }
     {
         let refusal = TaskRefusal {
             file,
@@ -49,15 +59,21 @@ impl Walk {
         }
     }
 
+    /// Finds that the word is refused by the code, unless it is right.
+    pub(crate) fn refuse_unless(&mut self, right: bool, file: TaskFile, code: Code, word: &Name<'_>)
+        ensures { least_of self.new ≡ found (least_of self.old) (if right then [] else refused_word (file_of file) (number_of code) (name_of word.now)) }
+    {
+        if !right {
+            self.refuse(file, code, word);
+        }
+    }
+
     /// Puts the name in lower case into `folded`.
     pub(crate) fn fold(&mut self, name: &Name<'_>) -> Result<(), NoMemory>
         ensures folded { OnOk result (self.new.folded.items ≡ folded (name_of name.now)) }
         ensures least { self.new.least ≡ self.old.least }
     {
-        self.folded.clear();
-        self.folded.extend_from_slice(name.text)?;
-        self.folded.make_ascii_lowercase();
-        Ok(())
+        fold(&mut self.folded, name)
     }
 
     /// Ends the walk: what was made on it, if no fault was found, and else the least fault.

@@ -1,24 +1,27 @@
-use Rattle.std.proofs.Common.{◌≡◌, ◌∙◌, ap, length, map, arith}
+use Rattle.std.proofs.Common.{◌≡◌, ◌∙◌, ◌++◌, map, length, ap, sym, arith}
 use Rattle.std.proofs.lemmas.List.{length-map}
 use Rattle.typing.specs.Task.{file_of}
-use Rattle.typing.specs.Scope.{known_of}
+use Rattle.typing.specs.Scope.{arguments_at, known_of}
 use Rattle.typing.specs.Walk.{found, least_of}
+use Rattle.typing.specs.TaskParts as parts
 use Rattle.pddl_tree.specs.Tree as read
-use Rattle.model.specs.Typing.{predicate_faults, term_in, term_faults}
-use Rattle.typing.proofs.Found.{map_taken, found_walked_after}
+use Rattle.model.specs.Trees as tree
+use Rattle.model.specs.Typing as typing
+use Rattle.typing.proofs.Found.{found_after, map-map}
 use Rattle.typing.proofs.scope.Scope.lifted_atom.Goals as goal
 
 pub returns-clause-value : goal.returns-clause-value
 returns-clause-value c =
-    let terms = map_taken (term_in (known_of c.args.self.now)) read.term_of c.deref-term-items.result.now c.args.atom.now.terms.items c.loop-term.term-index _
-    c.loop-term.invariant.terms c.loop-term-test.false c.deref-term-items.ensures.value in
+    let known = known_of c.args.self.now in
+    let terms = c.in_ok-terms.ensures.value ∙ sym (map-map (typing.term_in known) read.term_of c.as_slice-given.result.now) ∙ ap (λ ts. map (typing.term_in known) (map read.term_of ts)) c.as_slice-given.ensures.value in
     λ i. record { predicate = c.in_ok-predicate.ensures.value i; terms = terms i }
 
 pub returns-clause-finds : goal.returns-clause-finds
 returns-clause-finds c =
-    let file = file_of c.args.self.now.file in let known = known_of c.args.self.now in let name = read.name_of c.args.atom.now.predicate in
-    let before = least_of c.args.walk.now in let terms = c.args.atom.now.terms.items in
-    let count : c.len.result ≡ length (map read.term_of terms) = omega (arith, c.len.ensures, c.args.atom.now.terms.ok.0, length-map terms read.term_of) in
-    found_walked_after (term_faults file known) read.term_of c.deref-term-items.result.now terms c.loop-term.term-index (least_of c.loop-term.walk) (least_of c.predicate.new.walk) before
-    (predicate_faults file known.predicates name (length (map read.term_of terms))) c.loop-term.invariant.finds c.loop-term-test.false c.deref-term-items.ensures.value
-    (c.in_ok-predicate.ensures.finds ∙ ap (λ n. found before (predicate_faults file known.predicates name n)) count)
+    let file = file_of c.args.self.now.file in let known = known_of c.args.self.now in let a = read.atom_of c.args.atom.now in
+    let before = least_of c.args.walk.now in
+    let count : length c.as_slice-given.result.now ≡ length a.terms = ap length c.as_slice-given.ensures.value ∙ sym (length-map c.args.atom.now.terms.items read.term_of) in
+    let number = c.in_ok-predicate.ensures.value in
+    found_after before (least_of c.predicate.new.walk) _ (typing.predicate_faults file known a.predicate (length a.terms)) (typing.terms_faults file known (typing.arguments_in known a.predicate) a.terms)
+    (c.in_ok-predicate.ensures.finds ∙ ap (λ n. found before (typing.predicate_faults file known a.predicate n)) count)
+    (c.in_ok-terms.ensures.finds ∙ (λ j. found (least_of c.predicate.new.walk) (typing.terms_faults file known (arguments_at known (number j)) (map read.term_of (c.as_slice-given.ensures.value j)))))

@@ -1,0 +1,54 @@
+-- How a chain of parents grows step by step, and how types and the faults of their chains go on by their numbers.
+use Rattle.std.proofs.Common.{◌≡◌, ℕ, ◌+◌, ◌-◌, ◌<◌, ◌≤◌, Bool, true, false, not, List, [], ◌∷◌, ◌++◌, map, length, get_or, drop, slice_index, Option, refl, ap, sym, subst, ◌∙◌, arith, zero, suc, if◌then◌else◌}
+use Rattle.std.proofs.lemmas.List.{append_assoc, append-nil, drop_more, drop_all}
+use Rattle.model.specs.Typing.{TypingFault, Declared, chain, comes_back, cycle_faults_from, refused_word}
+use Rattle.typing.specs.Walk.{found}
+use Rattle.typing.proofs.Found.{found-append}
+
+-- one type more, which is not `object`
+pub one_type_more : (parents : List ℕ) (n i next after : ℕ) (so_far whole : List ℕ) → i < n → (next ≡ 0 → ⊥) → after ≡ slice_index parents next
+    → so_far ++ chain parents (n - i) next ≡ whole → (so_far ++ next ∷ []) ++ chain parents (n - (i + 1)) after ≡ whole
+one_type_more parents n i zero after so_far whole l not_root is h = absurd (not_root refl)
+one_type_more parents n i (suc k) after so_far whole l not_root is h =
+    let left : n - i ≡ suc (n - (i + 1)) = omega (arith, l) in
+    ap (λ a. (so_far ++ suc k ∷ []) ++ chain parents (n - (i + 1)) a) is
+    ∙ append_assoc so_far (suc k ∷ []) (chain parents (n - (i + 1)) (slice_index parents (suc k)))
+    ∙ ap (λ m. so_far ++ chain parents m (suc k)) (sym left) ∙ h
+
+-- and `object` ends the chain
+pub root_ends : (parents : List ℕ) (n i next : ℕ) (so_far whole : List ℕ) → i < n → next ≡ 0
+    → so_far ++ chain parents (n - i) next ≡ whole → so_far ++ next ∷ [] ≡ whole
+root_ends parents n i next so_far whole l is h =
+    let left : n - i ≡ suc (n - (i + 1)) = omega (arith, l) in
+    ap (λ a. so_far ++ a ∷ []) is
+    ∙ sym (ap (λ a. so_far ++ chain parents (n - i) a) is ∙ ap (λ m. so_far ++ chain parents m 0) left) ∙ h
+
+-- no step is left
+pub steps_end : (parents : List ℕ) (n i next : ℕ) (so_far whole : List ℕ) → n ≤ i
+    → so_far ++ chain parents (n - i) next ≡ whole → so_far ≡ whole
+steps_end parents n i next so_far whole l h =
+    let none : n - i ≡ 0 = omega (arith, l) in
+    sym (append-nil so_far) ∙ sym (ap (λ m. so_far ++ chain parents m next) none) ∙ h
+
+-- the fault of a type whose chain comes back
+pub back_fault : (b : Bool) (faults : List TypingFault) → (if not b then [] else faults) ≡ (if b then faults else [])
+back_fault true faults = refl
+back_fault false faults = refl
+
+-- one type more is looked at
+pub cycle_step : {X : Type 0} (parents : List ℕ) (seen : X → Declared) (xs : List X) (i : ℕ) (d : X) → i < length xs
+    → (least new whole : Option TypingFault)
+    → new ≡ found least (if comes_back parents (i + 1) then refused_word (seen (get_or xs i d)).file 15 (seen (get_or xs i d)).name else [])
+    → found least (cycle_faults_from parents (i + 1) (map seen (drop i xs))) ≡ whole
+    → found new (cycle_faults_from parents ((i + 1) + 1) (map seen (drop (i + 1) xs))) ≡ whole
+cycle_step parents seen xs i d l least new whole finds h =
+    let x = seen (get_or xs i d) in
+    let own = if comes_back parents (i + 1) then refused_word x.file 15 x.name else [] in
+    let rest = cycle_faults_from parents ((i + 1) + 1) (map seen (drop (i + 1) xs)) in
+    ap (λ o. found o rest) finds ∙ sym (found-append least own rest)
+    ∙ sym (ap (λ ys. found least (cycle_faults_from parents (i + 1) (map seen ys))) (drop_more xs i d l)) ∙ h
+
+pub cycle_end : {X : Type 0} (parents : List ℕ) (seen : X → Declared) (xs : List X) (i : ℕ) → length xs ≤ i
+    → (least whole : Option TypingFault) → found least (cycle_faults_from parents (i + 1) (map seen (drop i xs))) ≡ whole → least ≡ whole
+cycle_end parents seen xs i l least whole h =
+    sym (ap (λ ys. found least (cycle_faults_from parents (i + 1) (map seen ys))) (drop_all i xs l)) ∙ h

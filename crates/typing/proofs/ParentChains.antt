@@ -1,0 +1,174 @@
+-- Chains of parents: where no type comes back on the chain of its own parent, each chain ends in `object`, and what stands
+-- above a type stands above all types below it.
+use Rattle.std.proofs.Common.{◌≡◌, ℕ, ◌+◌, ◌<◌, ◌≤◌, Bool, true, false, ◌||◌, ◌&&◌, List, [], ◌∷◌, length, slice_get, slice_index, nat_eq, refl, ap, sym, subst, ◌∙◌, arith, zero, suc, true≢false, None, Some, ◌⊎◌, inl, inr}
+use Rattle.std.specs.List.{list_all, list_any, AllByRecursion, IsDistinct}
+use Rattle.std.specs.Option.{option_map_or}
+use Rattle.std.proofs.lemmas.Bool.Decides.{nat_tests}
+use Rattle.std.proofs.lemmas.Bool.{eqb-true, or_from, or_parts}
+use Rattle.std.proofs.lemmas.Map.Steps.{length-le_from_distinct_below}
+use Rattle.model.specs.Task as task
+use Rattle.model.specs.Meaning.{supertypes_in}
+use Rattle.model.specs.Typing.{chain, whole_chain, comes_back, types_from}
+
+-- whether a number is among some
+abbrev pub among : ℕ → List ℕ → Bool
+among n xs = list_any (nat_eq n) xs
+
+or_cases : (a b : Bool) → (a || b) ≡ true → (a ≡ true) ⊎ (b ≡ true)
+or_cases true b h = inl refl
+or_cases false b h = inr h
+
+or_right : (a b : Bool) → b ≡ true → (a || b) ≡ true
+or_right true b h = refl
+or_right false b h = h
+
+same_true : (n : ℕ) → nat_eq n n ≡ true
+same_true n = grind (arith, nat_tests)
+
+both : (a b : Bool) → a ≡ true → b ≡ true → (a && b) ≡ true
+both a b p q = grind (arith, nat_tests)
+
+-- each element passes that is among them
+all_among : (p : ℕ → Bool) (xs : List ℕ) → ((x : ℕ) → among x xs ≡ true → p x ≡ true) → list_all p xs ≡ true
+all_among p [] h = refl
+all_among p (x ∷ xs) h =
+    both (p x) (list_all p xs) (h x (ap (λ b. b || among x xs) (same_true x))) (all_among p xs (λ y among_rest. h y (or_right (nat_eq y x) (among y xs) among_rest)))
+
+not_among : (x : ℕ) (xs : List ℕ) → among x xs ≡ false → AllByRecursion (λ y. nat_eq x y ≡ false) xs
+not_among x [] h = tt
+not_among x (y ∷ ys) h =
+    let each = or_parts (nat_eq x y) (among x ys) h in
+    (each.0, not_among x ys each.1)
+
+distinct_none : IsDistinct nat_eq []
+unfolding IsDistinct
+distinct_none = tt
+
+distinct_more : (x : ℕ) (xs : List ℕ) → among x xs ≡ false → IsDistinct nat_eq xs → IsDistinct nat_eq (x ∷ xs)
+unfolding IsDistinct
+distinct_more x xs h d = (not_among x xs h, d)
+
+module _ (parents : List ℕ) where
+  -- the chain comes to `object` within so many steps
+  abbrev pub ends : ℕ → ℕ → Bool
+  ends zero number = false
+  ends (suc most) zero = true
+  ends (suc most) (suc number) = ends most (slice_index parents (suc number))
+
+  -- then one step more changes nothing
+  one_more : (most number : ℕ) → ends most number ≡ true → (ends (suc most) number ≡ true) × (chain parents (suc most) number ≡ chain parents most number)
+  one_more zero number h = absurd (true≢false (sym h))
+  one_more (suc most) zero h = (refl, refl)
+  one_more (suc most) (suc number) h =
+      let rest = one_more most (slice_index parents (suc number)) h in
+      (rest.0, ap (λ xs. suc number ∷ xs) rest.1)
+
+  -- what stands on the chain has its chain within it
+  pub within_chain : (most number above : ℕ) → ends most number ≡ true → among above (chain parents most number) ≡ true
+      → (ends most above ≡ true) × ((higher : ℕ) → among higher (chain parents most above) ≡ true → among higher (chain parents most number) ≡ true)
+  within_chain zero number above h on = absurd (true≢false (sym h))
+  within_chain (suc most) zero above h on = by (or_cases (nat_eq above 0) false on)
+    where
+      by : (nat_eq above 0 ≡ true) ⊎ (false ≡ true) → (ends (suc most) above ≡ true) × ((higher : ℕ) → among higher (chain parents (suc most) above) ≡ true → among higher (chain parents (suc most) zero) ≡ true)
+      by (inl same) = let is = eqb-true above 0 same in
+          (ap (ends (suc most)) is, λ higher on_above. subst (λ a. among higher (chain parents (suc most) a) ≡ true) is on_above)
+      by (inr never) = absurd (true≢false (sym never))
+  within_chain (suc most) (suc number) above h on = by (or_cases (nat_eq above (suc number)) (among above (chain parents most (slice_index parents (suc number)))) on) (within_chain most (slice_index parents (suc number)) above h)
+    where
+      by : (nat_eq above (suc number) ≡ true) ⊎ (among above (chain parents most (slice_index parents (suc number))) ≡ true)
+          → (among above (chain parents most (slice_index parents (suc number))) ≡ true → (ends most above ≡ true) × ((higher : ℕ) → among higher (chain parents most above) ≡ true → among higher (chain parents most (slice_index parents (suc number))) ≡ true))
+          → (ends (suc most) above ≡ true) × ((higher : ℕ) → among higher (chain parents (suc most) above) ≡ true → among higher (chain parents (suc most) (suc number)) ≡ true)
+      by (inl same) next = let is = eqb-true above (suc number) same in
+          (ap (ends (suc most)) is ∙ h, λ higher on_above. subst (λ a. among higher (chain parents (suc most) a) ≡ true) is on_above)
+      by (inr later) next =
+          let rest = next later in
+          let more = one_more most above rest.0 in
+          (more.0, λ higher on_above. or_right (nat_eq higher (suc number)) (among higher (chain parents most (slice_index parents (suc number)))) (rest.1 higher (ap (among higher) (sym more.1) ∙ on_above)))
+
+  -- a longer chain has what a shorter one has
+  longer : (most further number x : ℕ) → most ≤ further → among x (chain parents most number) ≡ true → among x (chain parents further number) ≡ true
+  longer zero further number x l h = absurd (true≢false (sym h))
+  longer (suc most) zero number x l h = absurd (omega (arith, l))
+  longer (suc most) (suc further) zero x l h = h
+  longer (suc most) (suc further) (suc number) x l h = by (or_cases (nat_eq x (suc number)) (among x (chain parents most (slice_index parents (suc number)))) h) (longer most further (slice_index parents (suc number)) x (omega (arith, l)))
+    where
+      by : (nat_eq x (suc number) ≡ true) ⊎ (among x (chain parents most (slice_index parents (suc number))) ≡ true)
+          → (among x (chain parents most (slice_index parents (suc number))) ≡ true → among x (chain parents further (slice_index parents (suc number))) ≡ true) → among x (chain parents (suc further) (suc number)) ≡ true
+      by (inl same) next = ap (λ b. b || among x (chain parents further (slice_index parents (suc number)))) same
+      by (inr later) next = or_right (nat_eq x (suc number)) (among x (chain parents further (slice_index parents (suc number)))) (next later)
+
+  -- a chain that does not end has as many types as steps, and none of them is `object`
+  goes_on : (most number : ℕ) → ends most number ≡ false → (length (chain parents most number) ≡ most) × (among 0 (chain parents most number) ≡ false)
+  goes_on zero number h = (refl, refl)
+  goes_on (suc most) zero h = absurd (true≢false h)
+  goes_on (suc most) (suc number) h =
+      let rest = goes_on most (slice_index parents (suc number)) h in
+      (ap suc rest.0, or_from (nat_eq 0 (suc number)) (among 0 (chain parents most (slice_index parents (suc number)))) (grind (arith, nat_tests)) rest.1)
+
+  module _ (low : (k : ℕ) → slice_index parents k < length parents)
+      (none_back : (k : ℕ) → suc k < length parents → comes_back parents (suc k) ≡ false) where
+    -- each type on a chain has its number
+    below : (most number x : ℕ) → number < length parents → among x (chain parents most number) ≡ true → x < length parents
+    below zero number x l h = absurd (true≢false (sym h))
+    below (suc most) zero x l h = by (or_cases (nat_eq x 0) false h)
+      where
+        by : (nat_eq x 0 ≡ true) ⊎ (false ≡ true) → x < length parents
+        by (inl same) = omega (arith, eqb-true x 0 same, l)
+        by (inr never) = absurd (true≢false (sym never))
+    below (suc most) (suc number) x l h = by (or_cases (nat_eq x (suc number)) (among x (chain parents most (slice_index parents (suc number)))) h) (below most (slice_index parents (suc number)) x (low (suc number)))
+      where
+        by : (nat_eq x (suc number) ≡ true) ⊎ (among x (chain parents most (slice_index parents (suc number))) ≡ true)
+            → (among x (chain parents most (slice_index parents (suc number))) ≡ true → x < length parents) → x < length parents
+        by (inl same) next = omega (arith, eqb-true x (suc number) same, l)
+        by (inr later) next = next later
+
+    -- and none stands there twice
+    apart : (most number : ℕ) → most ≤ length parents → number < length parents → IsDistinct nat_eq (chain parents most number)
+    apart zero number l n = distinct_none
+    apart (suc most) zero l n = distinct_more 0 [] refl distinct_none
+    apart (suc most) (suc number) l n =
+        distinct_more (suc number) (chain parents most (slice_index parents (suc number))) (not_later (among (suc number) (chain parents most (slice_index parents (suc number)))) refl)
+        (apart most (slice_index parents (suc number)) (omega (arith, l)) (low (suc number)))
+      where
+        not_later : (b : Bool) → among (suc number) (chain parents most (slice_index parents (suc number))) ≡ b → among (suc number) (chain parents most (slice_index parents (suc number))) ≡ false
+        not_later false e = e
+        not_later true e =
+            absurd (true≢false (sym (longer most (length parents) (slice_index parents (suc number)) (suc number) (omega (arith, l)) e) ∙ none_back number n))
+
+    -- so each chain ends
+    pub all_end : (number : ℕ) → number < length parents → ends (length parents) number ≡ true
+    all_end number l = by (ends (length parents) number) refl
+      where
+        by : (b : Bool) → ends (length parents) number ≡ b → b ≡ true
+        by true e = refl
+        by false e =
+            let rest = goes_on (length parents) number e in
+            let within = length-le_from_distinct_below (0 ∷ chain parents (length parents) number) (length parents) (distinct_more 0 (chain parents (length parents) number) rest.1 (apart (length parents) number (omega arith) l))
+            (λ q h. zero_or (or_cases (nat_eq q 0) (among q (chain parents (length parents) number)) h)) in
+            absurd (omega (arith, within, rest.0))
+          where
+            zero_or : {q : ℕ} → (nat_eq q 0 ≡ true) ⊎ (among q (chain parents (length parents) number) ≡ true) → q < length parents
+            zero_or {q} (inl same) = omega (arith, eqb-true q 0 same, l)
+            zero_or {q} (inr on) = below (length parents) number q l on
+
+    -- what is found above a number
+    found_above : (start : ℕ) (names : List task.Name) (k higher : ℕ) → among higher (supertypes_in (types_from parents start names) k) ≡ true → among higher (whole_chain parents (start + k)) ≡ true
+    found_above start [] k higher h = absurd (true≢false (sym h))
+    found_above start (name ∷ names) zero higher h = subst (λ n. among higher (whole_chain parents n) ≡ true) (omega arith) h
+    found_above start (name ∷ names) (suc k) higher h = subst (λ n. among higher (whole_chain parents n) ≡ true) (omega arith) (found_above (start + 1) names k higher h)
+
+    from_zero : (n : ℕ) → n ≡ 0 + n
+    from_zero n = omega arith
+
+    -- what stands above a type stands above all types below it
+    whole_at : (names : List task.Name) (number : ℕ) → number < length parents
+        → list_all (λ above. list_all (λ higher. among higher (whole_chain parents number)) (supertypes_in (types_from parents 0 names) above)) (whole_chain parents number) ≡ true
+    whole_at names number l =
+        all_among (λ above. list_all (λ higher. among higher (whole_chain parents number)) (supertypes_in (types_from parents 0 names) above)) (whole_chain parents number)
+        (λ above on. all_among (λ higher. among higher (whole_chain parents number)) (supertypes_in (types_from parents 0 names) above)
+        (λ higher up. (within_chain (length parents) number above (all_end number l) on).1 higher (ap (λ n. among higher (whole_chain parents n)) (from_zero above) ∙ found_above 0 names above higher up)))
+
+    pub all_whole : (names : List task.Name) (start : ℕ) (rest : List task.Name) → start + length rest ≤ length parents
+        → list_all (λ (t : task.ObjectType). list_all (λ above. list_all (λ higher. among higher t.supertypes) (supertypes_in (types_from parents 0 names) above)) t.supertypes) (types_from parents start rest) ≡ true
+    all_whole names start [] l = refl
+    all_whole names start (name ∷ rest) l = both _ _ (whole_at names start (omega (arith, l))) (all_whole names (start + 1) rest (omega (arith, l)))

@@ -1,0 +1,26 @@
+use Rattle.std.proofs.Common.{map}
+use Rattle.typing.specs.Walk.{found, least_of}
+use Rattle.typing.specs.TaskParts as parts
+use Rattle.typing.specs.Scope.{known_of, names_in}
+use Rattle.pddl_tree.specs.Tree as read
+use Rattle.model.specs.Task as task
+use Rattle.model.specs.Typing as typing
+use Rattle.typing.proofs.Tables as tables
+use Rattle.typing.proofs.Found as finding
+use Rattle.pddl_tree.specs.declared.tree.Action.{Action}
+use Rattle.typing.proofs.actions.table.Goals as goal
+
+pub loop-action-preserved : goal.loop-action-preserved
+loop-action-preserved c =
+    let xs = c.args.actions.now in let i = c.loop-action.action-index in let x = c.action-item.result in
+    let known = known_of c.args.scope.now in
+    let placed_as = λ (a : Action). typing.placed typing.in_domain (read.name_of a.name) in
+    let made = λ (a : Action). typing.schema_in known (read.action_of a) in
+    let before = map parts.schema_of c.loop-action.schemas.entries in
+    let after = map parts.schema_of c.declare_schema.new.schemas.entries in
+    record {
+      finds = finding.found_step (λ (a : Action). typing.schema_faults known (read.action_of a)) xs i x c.loop-action-test.true c.action-item.is
+          (least_of c.loop-action.walk) (least_of c.declare_schema.new.walk) _ c.in_ok-declare_schema.ensures.finds c.loop-action.invariant.finds;
+      table = λ once. tables.table_step placed_as made (λ (s : task.Schema). s.name) xs i x c.loop-action-test.true c.action-item.is
+          before after (map made xs) c.in_ok-declare_schema.ensures.names c.in_ok-declare_schema.ensures.added (c.loop-action.invariant.table once);
+    }

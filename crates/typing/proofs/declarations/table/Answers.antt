@@ -1,0 +1,25 @@
+use Rattle.std.proofs.Common.{map}
+use Rattle.typing.specs.Walk.{found, least_of}
+use Rattle.typing.specs.TaskParts as parts
+use Rattle.typing.specs.Scope.{names_in}
+use Rattle.pddl_tree.specs.Tree as read
+use Rattle.model.specs.Task as task
+use Rattle.model.specs.Typing as typing
+use Rattle.typing.proofs.Tables as tables
+use Rattle.typing.proofs.Found as finding
+use Rattle.pddl_tree.specs.declared.tree.Predicate.{Predicate}
+use Rattle.typing.proofs.declarations.table.Goals as goal
+
+pub loop-declaration-preserved : goal.loop-declaration-preserved
+loop-declaration-preserved c =
+    let xs = c.args.declarations.now in let i = c.loop-declaration.declaration-index in let x = c.declaration-item.result in
+    let placed_as = λ (q : Predicate). typing.placed typing.in_domain (read.name_of q.name) in
+    let made = λ (q : Predicate). typing.predicate_in (names_in c.args.types.now.names.keys) (read.predicate_of q) in
+    let before = map parts.predicate_of c.loop-declaration.predicates.entries in
+    let after = map parts.predicate_of c.declare_predicate.new.predicates.entries in
+    record {
+      finds = finding.found_declared placed_as xs i x c.loop-declaration-test.true c.declaration-item.is (typing.names_of_predicates before) (typing.names_of_predicates after)
+          (least_of c.loop-declaration.walk) (least_of c.declare_predicate.new.walk) _ c.in_ok-declare_predicate.ensures.names c.in_ok-declare_predicate.ensures.finds c.loop-declaration.invariant.finds;
+      table = λ once. tables.table_step placed_as made (λ (p : task.Predicate). p.name) xs i x c.loop-declaration-test.true c.declaration-item.is
+          before after (map made xs) c.in_ok-declare_predicate.ensures.names c.in_ok-declare_predicate.ensures.added (c.loop-declaration.invariant.table once);
+    }

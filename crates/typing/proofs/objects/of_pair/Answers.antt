@@ -1,0 +1,14 @@
+use Rattle.std.proofs.Common.{◌∙◌, ◌++◌, map, ap, subst, IfErr}
+use Rattle.pddl_tree.specs.Tree as read
+use Rattle.typing.specs.Scope.{names_in}
+use Rattle.typing.specs.Task.{TellsLeastOf}
+use Rattle.typing.specs.TypedLists.{declared_of}
+use Rattle.model.specs.Typing as typing
+use Rattle.typing.proofs.objects.of_pair.Goals as goal
+
+pub returns-clause-err : goal.returns-clause-err
+returns-clause-err c =
+    let names = names_in c.args.types.now.names.keys in
+    let all = ap (map declared_of) c.as_slice-2.ensures.value ∙ c.in_ok-object_words.ensures
+    ∙ (λ i. typing.declared typing.in_domain (map read.group_of (c.as_slice-constants.ensures.value i)) ++ typing.declared typing.in_problem (map read.group_of (c.as_slice-objects.ensures.value i))) in
+    subst (λ xs. IfErr c.made.result (TellsLeastOf (typing.objects_faults names xs))) all c.made.ensures.err

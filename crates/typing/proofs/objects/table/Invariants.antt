@@ -1,0 +1,19 @@
+use Rattle.std.proofs.Common.{◌≡◌, [], ◌++◌, map, drop}
+use Rattle.typing.specs.Walk.{found, least_of}
+use Rattle.typing.specs.TaskParts as parts
+use Rattle.typing.specs.TypedLists.{declared_of, placed_of}
+use Rattle.typing.specs.Scope.{names_in}
+use Rattle.pddl_tree.specs.Tree as read
+use Rattle.model.specs.Task as task
+use Rattle.model.specs.Typing as typing
+use Rattle.typing.proofs.objects.table.Given as goal
+
+abbrev pub invariant-loop-one : goal.invariant-loop-one
+invariant-loop-one l = record {
+  finds : found (least_of l.walk) (typing.refused 16 (typing.repeated_after (typing.names_of_objects (map parts.object_entry_of l.objects.entries)) (map placed_of (drop l.one-index l.declared))))
+      ≡ found (least_of l.initial.walk) (typing.refused 16 (typing.repeated_after [] (map placed_of l.declared)));
+  table : typing.repeated_after [] (map placed_of l.declared) ≡ []
+      → (typing.repeated_after (typing.names_of_objects (map parts.object_entry_of l.objects.entries)) (map placed_of (drop l.one-index l.declared)) ≡ [])
+      × (map parts.object_entry_of l.objects.entries ++ map (λ x. typing.object_in (names_in l.types.names.keys) (declared_of x)) (drop l.one-index l.declared)
+      ≡ map (λ x. typing.object_in (names_in l.types.names.keys) (declared_of x)) l.declared);
+}

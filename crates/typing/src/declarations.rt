@@ -1,0 +1,126 @@
+//! The predicates of a domain.
+ghost use Rattle.std.specs.Prelude.{◌≡◌, [], ◌∷◌, ◌++◌, false, if◌then◌else◌, map, IfErr, IfOk, OnOk};
+ghost use Rattle.typing.specs.TaskParts as parts;
+ghost use Rattle.typing.specs.Scope.{names_in};
+ghost use Rattle.typing.specs.Task.{TellsLeastOf};
+ghost use Rattle.typing.specs.Walk.{Finds};
+ghost use Rattle.pddl_tree.specs.Tree as read;
+ghost use Rattle.model.specs.Typing as typing;
+ghost use Rattle.std.specs.List.{flat_map};
+
+use crate::domain::refuse_again;
+use crate::type_names::TypeNames;
+use crate::typed_lists::{collect, limit};
+use crate::types::check_all;
+use crate::walk::Walk;
+use crate::{MAX_ARGUMENTS, Predicate, TaskFault, TaskFile, TypeUnion};
+use faults::NoMemory;
+use indexmap::IndexMap;
+use pddl_tree::{Domain, Predicate as Declaration};
+use std::alloc::Global;
+
+/// What each argument of a declaration has to be.
+fn arguments(
+    alloc: Global,
+    room: &mut Vec<u8>,
+    types: &TypeNames,
+    declaration: &Declaration<'_>,
+) -> Result<Vec<TypeUnion>, NoMemory>
+    ensures { IfOk result (λ v. map parts.union_of v.items ≡ (typing.predicate_in (names_in types.now.names.keys) (read.predicate_of declaration.now)).arguments) }
+{
+    let groups = declaration.parameters.as_slice();
+    let list = collect(alloc, TaskFile::Domain, groups)?;
+    let declared = list.as_slice();
+    types.unions(alloc, room, declared)
+}
+
+/// Declares a predicate. One that is declared before is refused.
+fn declare_predicate(
+    alloc: Global,
+    walk: &mut Walk,
+    types: &TypeNames,
+    predicates: &mut IndexMap<Vec<u8>, Predicate>,
+    declaration: &Declaration<'_>,
+) -> Result<(), NoMemory>
+    ensures names { OnOk result (typing.names_of_predicates (map parts.predicate_of predicates.new.entries)
+        ≡ typing.with_name (typing.names_of_predicates (map parts.predicate_of predicates.old.entries)) (read.name_of declaration.now.name)) }
+    ensures added { OnOk result (typing.is_known (typing.names_of_predicates (map parts.predicate_of predicates.old.entries)) (read.name_of declaration.now.name) ≡ false
+        → map parts.predicate_of predicates.new.entries
+        ≡ map parts.predicate_of predicates.old.entries ++ typing.predicate_in (names_in types.now.names.keys) (read.predicate_of declaration.now) ∷ []) }
+    ensures finds { OnOk result (Finds walk.old walk.new (typing.refused 16
+        (if typing.is_known (typing.names_of_predicates (map parts.predicate_of predicates.old.entries)) (read.name_of declaration.now.name) then typing.placed typing.in_domain (read.name_of declaration.now.name) ∷ [] else []))) }
+{
+    let key = declaration.name.text.to_ascii_lowercase(alloc)?;
+    let arguments = arguments(alloc, &mut walk.folded, types, declaration)?;
+    let before = predicates.insert(key, Predicate { arguments })?;
+    refuse_again(walk, TaskFile::Domain, &declaration.name, before.is_some());
+    Ok(())
+}
+
+/// The predicates that a list declares.
+fn table(
+    alloc: Global,
+    walk: &mut Walk,
+    types: &TypeNames,
+    declarations: &[Declaration<'_>],
+) -> Result<IndexMap<Vec<u8>, Predicate>, NoMemory>
+    ensures table { IfOk result (λ m. typing.repeated (map (λ q. typing.placed typing.in_domain (read.name_of q.name)) declarations.now) ≡ []
+        → map parts.predicate_of m.entries ≡ map (λ q. typing.predicate_in (names_in types.now.names.keys) (read.predicate_of q)) declarations.now) }
+    ensures finds { OnOk result (Finds walk.old walk.new (typing.refused 16 (typing.repeated (map (λ q. typing.placed typing.in_domain (read.name_of q.name)) declarations.now)))) }
+{
+    let mut predicates = IndexMap::new(alloc);
+    for declaration in declarations {
+        declare_predicate(alloc, walk, types, &mut predicates, declaration)?;
+    }
+    Ok(predicates)
+}
+
+/// The types of a declaration's arguments that are not known, and the argument that is too many.
+fn check_arguments(
+    alloc: Global,
+    walk: &mut Walk,
+    types: &TypeNames,
+    declaration: &Declaration<'_>,
+) -> Result<(), NoMemory>
+    ensures { OnOk result (Finds walk.old walk.new (typing.argument_faults (names_in types.now.names.keys) (read.predicate_of declaration.now))) }
+{
+    let groups = declaration.parameters.as_slice();
+    let list = collect(alloc, TaskFile::Domain, groups)?;
+    let declared = list.as_slice();
+    check_all(walk, &types.names, declared)?;
+    limit(walk, declared, MAX_ARGUMENTS);
+    Ok(())
+}
+
+/// The same of all declarations.
+fn check_declarations(
+    alloc: Global,
+    walk: &mut Walk,
+    types: &TypeNames,
+    declarations: &[Declaration<'_>],
+) -> Result<(), NoMemory>
+    ensures { OnOk result (Finds walk.old walk.new (flat_map (λ q. typing.argument_faults (names_in types.now.names.keys) (read.predicate_of q)) declarations.now)) }
+{
+    for declaration in declarations {
+        check_arguments(alloc, walk, types, declaration)?;
+    }
+    Ok(())
+}
+
+/// The domain's predicates.
+pub(crate) fn predicates(
+    alloc: Global,
+    types: &TypeNames,
+    domain: &Domain<'_>,
+) -> Result<IndexMap<Vec<u8>, Predicate>, TaskFault>
+    ensures ok { IfOk result
+        (λ m. (typing.declaration_faults (names_in types.now.names.keys) (read.domain_of domain.now).predicates ≡ [])
+        × (map parts.predicate_of m.entries ≡ map (typing.predicate_in (names_in types.now.names.keys)) (read.domain_of domain.now).predicates)) }
+    ensures err { IfErr result (TellsLeastOf (typing.declaration_faults (names_in types.now.names.keys) (read.domain_of domain.now).predicates)) }
+{
+    let mut walk = Walk::new(alloc);
+    let declarations = domain.predicates.as_slice();
+    let predicates = table(alloc, &mut walk, types, declarations)?;
+    check_declarations(alloc, &mut walk, types, declarations)?;
+    walk.finish(predicates)
+}
