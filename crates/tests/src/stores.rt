@@ -43,7 +43,11 @@ fn has_its_successors(rt: &impl Abort, alloc: Global, task: &Task) -> Result<(),
     let start = system.initial(alloc)?;
     assert!(rt; !system.meets_goal(&start));
     are_in_order(rt, &system, &system.successors(alloc, &start)?);
-    are_in_order(rt, &system, &TransitionSystem::successors(&system, alloc, &start)?);
+    are_in_order(
+        rt,
+        &system,
+        &TransitionSystem::successors(&system, alloc, &start)?,
+    );
     Ok(())
 }
 

@@ -40,7 +40,9 @@ fn all_are_objects(rt: &impl Abort, alloc: Global, task: &Task) -> Result<(), Fa
     assert!(rt; above == (&[TypeId(0)], &[]));
     let objects = TypeUnion(vec![in alloc; TypeId(0)]?);
     assert!(rt; task.is_of(ObjectId(1), &objects) && !task.is_of(ObjectId(2), &objects));
-    assert!(rt; task.objects_of(alloc, &objects)?.as_slice() == [ObjectId(0), ObjectId(1)].as_slice());
+    assert!(rt;
+        task.objects_of(alloc, &objects)?.as_slice() == [ObjectId(0), ObjectId(1)].as_slice()
+    );
     Ok(())
 }
 
