@@ -53,8 +53,8 @@ pub record IsOpenClosed (task : Task) (c : Certificate) (state : State) (cost : 
   pub successors_listed : (i : Instance) (next : State) → step task state i ≡ Some next → IsListedWithin (lines_of task c) next (cost + (system_of task).cost i)
   pub goal_allowed : IsTrue (meets_goal task state) → Allows c.claim cost
 
--- the bound of what is still to pay, with which the state is cut at this cost, is at most the state's value, and with
--- the cost no less than is claimed
+-- Of a state that is cut at this cost: the bound of what is still to pay is at most the state's value, and comes with the
+-- cost to no less than is claimed.
 abbrev pub IsCutClosed : Certificate → State → ℕ → ℕ → Type 0
 IsCutClosed c state cost rest = (rest ≤ value_of c state) × Allows c.claim (cost + rest)
 
