@@ -118,13 +118,21 @@ fn are(names: &[Name], texts: &[&[u8]]) -> bool {
             .all(|(name, text)| name.text == *text)
 }
 
+/// Whether it is an atom of this predicate and one object.
+fn is_unary(fact: &Fact, predicate: &[u8]) -> bool {
+    match fact {
+        Fact::Atom(atom) => atom.predicate.text == predicate && atom.objects.len() == 1,
+        Fact::Negated(_, _) => false,
+    }
+}
+
 /// Whether it is the tree of `TRIP`.
 fn is_trip(problem: &Problem) -> bool {
     match problem.init.as_slice() {
-        [_, Fact::Atom(fact)] => {
+        [_, fact] => {
             (problem.name.text, problem.domain.text) == (b"trip".as_slice(), b"go".as_slice())
                 && is_untyped(&problem.objects, &[b"a", b"B"])
-                && (fact.predicate.text, fact.objects.len()) == (b"q".as_slice(), 1)
+                && is_unary(fact, b"q")
                 && matches!(&problem.goal, Formula::And(parts) if parts.len() == 3)
         }
         _ => false,
