@@ -14,7 +14,7 @@ pub const MAX_OBJECTS: usize = 65_535;
 #[derive(Clone, Copy, Debug, PartialEq, Eq)]
 pub struct TypeId(pub u16);
 
-/// An object: its place, from 0, among the problem's objects.
+/// An object: its place, from 0, among the domain's constants and then the problem's objects.
 #[derive(Clone, Copy, Debug, Default, PartialEq, Eq, PartialOrd, Ord, Hash)]
 pub struct ObjectId(pub u32);
 
