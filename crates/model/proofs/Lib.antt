@@ -6,6 +6,7 @@ pub mod InstancesLemmas
 pub mod StaticLemmas
 pub mod Steps
 pub mod ExampleProofs
+pub mod FormulaExampleProofs
 pub mod CertificateRefusalsLemmas
 pub mod PlanReading
 pub mod PlanMeaning

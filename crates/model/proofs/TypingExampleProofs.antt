@@ -18,4 +18,17 @@ are_typed = record {
   object_in_action = refl;
   wrong_fact = refl;
   other_domain = refl;
+  quantified = refl;
+  in_scope = refl;
+  of_the_root = refl;
+  out_of_scope = refl;
+  of_unknown_type = refl;
+  twice_in_a_list = refl;
+  as_a_parameter = refl;
+  as_one_around = refl;
+  as_one_before = refl;
+  sixteen = refl;
+  seventeen = refl;
+  of_two_types = refl;
+  unknown_terms = refl;
 }

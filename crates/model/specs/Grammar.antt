@@ -1,5 +1,5 @@
--- The grammar of domain and problem files (PDDL 1.2 manual, appendix: BNF; the language profile "STRIPS with
--- types"). It is a simple one in the sense of Korenjak and Hopcroft (1966): each production begins with a word, and no
+-- The grammar of domain and problem files (PDDL 1.2 manual, appendix: BNF; the language profile "types and
+-- ADL formulas"). It is a simple one in the sense of Korenjak and Hopcroft (1966): each production begins with a word, and no
 -- two productions of a nonterminal begin with the same one. So it is given as a function, `after`: where this is wanted
 -- and this word comes, what has to follow, and of which tree.
 use Rattle.std.specs.Prelude.{◌≡◌, Bool, true, false, List, [], ◌∷◌, ◌++◌, fold, Option, None, Some, cond, ⊤}
@@ -7,7 +7,7 @@ use Rattle.std.specs.List.{list_all, list_any}
 use Rattle.std.specs.Option.{option_map}
 use Rattle.model.specs.Trees.{Name, Term, Atom, Formula, Effect, Group, Predicate, Action, Domain, GroundAtom, Fact, Problem, formulas, effects, no_name}
 use Rattle.model.specs.Trees as tree
-use Rattle.model.specs.GrammarWords.{File, domain_file, problem_file, Token, opens, closes, free, reserved, variable, keyword, dash, SectionKeyword, of_section, PartKeyword, of_part, requirement_key}
+use Rattle.model.specs.GrammarWords.{File, domain_file, problem_file, Token, opens, closes, free, reserved, variable, keyword, dash, equals, SectionKeyword, of_section, PartKeyword, of_part, requirement_key}
 use Rattle.model.specs.GrammarWords as words
 
 infixr 20 ◌>>=◌
@@ -170,6 +170,7 @@ pub data Sort : Type 0 where
   many : Sort → Sort
   -- what follows the `(` of a list, up to its `)`
   formula : Sort
+  precondition_list : Sort
   effect_list : Sort
   atom : Sort
   declaration : Sort
@@ -202,6 +203,7 @@ Value key = ⊤
 Value (listed s) = Value s
 Value (many s) = List (Value s)
 Value formula = Formula
+Value precondition_list = Formula
 Value effect_list = Effect
 Value atom = Atom
 Value declaration = Predicate
@@ -240,7 +242,7 @@ and_then (s >>= h) k = s >>= λ x. and_then (h x) k
 -- after `:parameters`, `:precondition` or `:effect`, where these parts stand with it
 abbrev pub part_after : List PartKeyword → PartKeyword → Phrase Part
 part_after seen words.parameters = do value seen; gs ← typed variables; gives (parameters gs)
-part_after seen words.precondition = do value seen; f ← formula; gives (precondition f)
+part_after seen words.precondition = do value seen; f ← precondition_list; gives (precondition f)
 part_after seen words.effect = do value seen; e ← effect_list; gives (effect e)
 
 -- after the keyword of a section
@@ -287,6 +289,19 @@ listed_in variables t = variable_in t
 abbrev pub group_after : Listed → Name → Phrase (List Group)
 group_after l n = do gs ← group l; gives (with_name n gs)
 
+-- formula  ::= ( PREDICATE-NAME term* ) | ( = term term ) | ( and formula* ) | ( or formula* ) | ( not formula )
+--    | ( imply formula formula ) | ( exists ( variables ) formula ) | ( forall ( variables ) formula )
+abbrev pub formula_after : Token → Option (Phrase Formula)
+formula_after (free f n) = Some do ts ← many term; gives (tree.atom (record { predicate = n; terms = ts }))
+formula_after equals = Some do t ← term; u ← term; close; gives (tree.equal t u)
+formula_after (reserved words.and n) = Some do fs ← many (listed formula); gives (tree.and (formulas fs))
+formula_after (reserved words.or n) = Some do fs ← many (listed formula); gives (tree.or (formulas fs))
+formula_after (reserved words.not n) = Some do f ← listed formula; close; gives (tree.not f)
+formula_after (reserved words.imply n) = Some do f ← listed formula; g ← listed formula; close; gives (tree.imply f g)
+formula_after (reserved words.exists n) = Some do gs ← listed (typed variables); f ← listed formula; close; gives (tree.exists gs f)
+formula_after (reserved words.forall n) = Some do gs ← listed (typed variables); f ← listed formula; close; gives (tree.forall gs f)
+formula_after _ = None
+
 -- where s is wanted and this word comes: what has to follow the word, or none where it may not stand there
 abbrev pub after : (s : Sort) → Token → Option (Phrase (Value s))
 after close closes = Some (gives tt)
@@ -299,9 +314,10 @@ after key (keyword requirement_key) = Some (gives tt)
 after (listed s) opens = Some do x ← s; gives x
 after (many s) closes = Some (gives [])
 after (many s) t = option_map (more s) (after s t)
--- formula  ::= ( PREDICATE-NAME term* ) | ( and formula* )
-after formula (free f n) = Some do ts ← many term; gives (tree.atom (record { predicate = n; terms = ts }))
-after formula (reserved words.and n) = Some do fs ← many (listed formula); gives (tree.and (formulas fs))
+-- a formula, and precondition  ::= ( ) | formula
+after formula t = formula_after t
+after precondition_list closes = Some (gives (tree.and (formulas [])))
+after precondition_list t = formula_after t
 -- effect  ::= atom | ( not atom ) | ( and effect* )
 after effect_list (free f n) = Some do ts ← many term; gives (tree.add (record { predicate = n; terms = ts }))
 after effect_list (reserved words.not n) = Some do a ← listed atom; close; gives (tree.delete a)

@@ -1,12 +1,13 @@
 -- Worked examples of words and refusals: what the definitions say of small files, each chosen so that a wrong reading
 -- says otherwise.
-use Rattle.std.specs.Prelude.{ℕ, List, [], ◌∷◌, codes}
+use Rattle.std.specs.Prelude.{ℕ, List, [], ◌∷◌, ◌++◌, codes}
 use Rattle.model.specs.Fault.{Fault}
 use Rattle.model.specs.GrammarWords.{domain_file, problem_file, tokens_of}
 use Rattle.model.specs.Grammar.{IsDomain}
 use Rattle.model.specs.Refusals.{IsRefused}
-use Rattle.model.specs.Words.{Word, Kind, name, keyword, dash, opens, closes}
-use Rattle.model.specs.Trees.{Name, Group}
+use Rattle.model.specs.Words.{Word, Kind, name, variable, keyword, dash, equals, opens, closes}
+use Rattle.model.specs.Trees.{Name, Group, Formula, Domain, formulas, effects}
+use Rattle.model.specs.Trees as tree
 
 abbrev pub word : Kind → List ℕ → ℕ → Word
 word kind text start = record { kind = kind; text = text; start = start }
@@ -94,6 +95,71 @@ abbrev pub either_of_a_constant : List Word
 either_of_a_constant =
     domain_head (word opens (codes "(") 18 ∷ word keyword (codes ":constants") 19 ∷ word name (codes "a") 30 ∷ word dash (codes "-") 32 ∷ word opens (codes "(") 34 ∷ word name (codes "either") 35 ∷ [])
 
+-- (define (problem p)(:goal
+abbrev pub goal_head : List Word → List Word
+goal_head rest =
+    word opens (codes "(") 0 ∷ word name (codes "define") 1 ∷ word opens (codes "(") 8 ∷ word name (codes "problem") 9 ∷ word name (codes "p") 17 ∷ word closes (codes ")") 18
+    ∷ word opens (codes "(") 19 ∷ word keyword (codes ":goal") 20 ∷ rest
+
+-- .. (not(p)(
+abbrev pub not_of_two : List Word
+not_of_two = goal_head (word opens (codes "(") 26 ∷ word name (codes "not") 27 ∷ word opens (codes "(") 30 ∷ word name (codes "p") 31 ∷ word closes (codes ")") 32 ∷ word opens (codes "(") 33 ∷ [])
+
+-- .. (imply(p))
+abbrev pub imply_of_one : List Word
+imply_of_one = goal_head (word opens (codes "(") 26 ∷ word name (codes "imply") 27 ∷ word opens (codes "(") 32 ∷ word name (codes "p") 33 ∷ word closes (codes ")") 34 ∷ word closes (codes ")") 35 ∷ [])
+
+-- .. (exists ?x
+abbrev pub bare_variable : List Word
+bare_variable = goal_head (word opens (codes "(") 26 ∷ word name (codes "exists") 27 ∷ word variable (codes "?x") 34 ∷ [])
+
+-- .. (= a b c
+abbrev pub three_terms : List Word
+three_terms = goal_head (word opens (codes "(") 26 ∷ word equals (codes "=") 27 ∷ word name (codes "a") 29 ∷ word name (codes "b") 31 ∷ word name (codes "c") 33 ∷ [])
+
+-- .. (when
+abbrev pub form_of_an_effect : List Word
+form_of_an_effect = goal_head (word opens (codes "(") 26 ∷ word name (codes "when") 27 ∷ [])
+
+-- .. ()
+abbrev pub empty_goal : List Word
+empty_goal = goal_head (word opens (codes "(") 26 ∷ word closes (codes ")") 27 ∷ [])
+
+-- (define (DOMAIN d)(:predicates)(:action a :parameters() :precondition formula))
+abbrev pub with_precondition : List Word → List Word
+with_precondition formula =
+    domain_head (word opens (codes "(") 18 ∷ word keyword (codes ":predicates") 19 ∷ word closes (codes ")") 30
+    ∷ word opens (codes "(") 31 ∷ word keyword (codes ":action") 32 ∷ word name (codes "a") 40
+    ∷ word keyword (codes ":parameters") 42 ∷ word opens (codes "(") 53 ∷ word closes (codes ")") 54 ∷ word keyword (codes ":precondition") 56
+    ∷ formula ++ word closes (codes ")") 99 ∷ word closes (codes ")") 100 ∷ [])
+
+-- its tree
+abbrev pub domain_with : Formula → Domain
+domain_with formula = record {
+  name = named (codes "d") 16 17;
+  types = [];
+  constants = [];
+  predicates = [];
+  actions = record { name = named (codes "a") 40 41; parameters = []; precondition = formula; effect = tree.both (effects []) } ∷ [];
+}
+
+-- ()
+abbrev pub empty_precondition : List Word
+empty_precondition = with_precondition (word opens (codes "(") 70 ∷ word closes (codes ")") 71 ∷ [])
+
+-- (FORALL(?x - t)(imply(= ?x and)(p)))
+abbrev pub quantified : List Word
+quantified =
+    with_precondition
+    (word opens (codes "(") 70 ∷ word name (codes "FORALL") 71 ∷ word opens (codes "(") 77 ∷ word variable (codes "?x") 78 ∷ word dash (codes "-") 81 ∷ word name (codes "t") 83 ∷ word closes (codes ")") 84
+    ∷ word opens (codes "(") 85 ∷ word name (codes "imply") 86 ∷ word opens (codes "(") 87 ∷ word equals (codes "=") 88 ∷ word variable (codes "?x") 89 ∷ word name (codes "and") 91 ∷ word closes (codes ")") 94
+    ∷ word opens (codes "(") 95 ∷ word name (codes "p") 96 ∷ word closes (codes ")") 97 ∷ word closes (codes ")") 97 ∷ word closes (codes ")") 98 ∷ [])
+
+abbrev pub quantified_formula : Formula
+quantified_formula =
+    tree.forall (record { names = named (codes "?x") 78 80 ∷ []; types = named (codes "t") 83 84 ∷ [] } ∷ [])
+    (tree.imply (tree.equal (tree.variable (named (codes "?x") 89 91)) (tree.object (named (codes "and") 91 94))) (tree.atom (record { predicate = named (codes "p") 96 97; terms = [] })))
+
 -- what they are
 pub record AreAsTold : Type 0 where
   pub no_word : IsRefused domain_file [] (fault 7 0 0)
@@ -111,3 +177,11 @@ pub record AreAsTold : Type 0 where
   pub typed : IsDomain (tokens_of typed_list) (record { name = named (codes "d") 16 17; types = typed_groups; constants = []; predicates = []; actions = [] })
   pub untyped : IsRefused domain_file type_of_nothing (fault 7 26 27)
   pub one_type : IsRefused domain_file either_of_a_constant (fault 12 34 35)
+  pub negated_two : IsRefused problem_file not_of_two (fault 7 33 34)
+  pub implied_one : IsRefused problem_file imply_of_one (fault 7 35 36)
+  pub unparenthesized : IsRefused problem_file bare_variable (fault 7 34 36)
+  pub equal_three : IsRefused problem_file three_terms (fault 7 33 34)
+  pub when_in_a_goal : IsRefused problem_file form_of_an_effect (fault 7 27 31)
+  pub goal_of_nothing : IsRefused problem_file empty_goal (fault 7 27 28)
+  pub precondition_of_nothing : IsDomain (tokens_of empty_precondition) (domain_with (tree.and (formulas [])))
+  pub formula_of_all : IsDomain (tokens_of quantified) (domain_with quantified_formula)

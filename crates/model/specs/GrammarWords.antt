@@ -22,7 +22,11 @@ pub data FreeName : Type 0 where
 -- a name that heads a formula, an effect or a type of PDDL, and so is no predicate's
 pub data ReservedName : Type 0 where
   and : ReservedName
+  or : ReservedName
   not : ReservedName
+  imply : ReservedName
+  exists : ReservedName
+  forall : ReservedName
   either : ReservedName
   -- of a form of PDDL that the language profile leaves out
   left_out_name : ReservedName
@@ -64,7 +68,8 @@ pub data Token : Type 0 where
   variable : Name → Token
   keyword : Keyword → Token
   dash : Token
-  -- a number or `=`
+  equals : Token
+  -- a number
   other : Token
 
 abbrev pub name_from : Word → Name
@@ -78,7 +83,7 @@ abbrev pub left_out_names : List (List ℕ)
 left_out_names = codes "preference" ∷ codes "assign" ∷ codes "decrease" ∷ codes "scale-up" ∷ codes "scale-down" ∷ []
 
 abbrev pub other_reserved_names : List (List ℕ)
-other_reserved_names = codes "or" ∷ codes "imply" ∷ codes "exists" ∷ codes "forall" ∷ codes "when" ∷ codes "increase" ∷ codes "total-cost" ∷ []
+other_reserved_names = codes "when" ∷ codes "increase" ∷ codes "total-cost" ∷ []
 
 abbrev pub requirement_keys : List (List ℕ)
 requirement_keys = codes ":strips" ∷ codes ":typing" ∷ codes ":equality" ∷ codes ":negative-preconditions" ∷ codes ":disjunctive-preconditions" ∷ codes ":existential-preconditions" ∷ codes ":universal-preconditions" ∷ codes ":quantified-preconditions" ∷ codes ":conditional-effects" ∷ codes ":adl" ∷ codes ":action-costs" ∷ codes ":fluents" ∷ codes ":numeric-fluents" ∷ []
@@ -90,14 +95,18 @@ left_out_keywords = codes ":durative-action" ∷ codes ":derived" ∷ codes ":co
 abbrev pub named : List ℕ → Name → Token
 named text =
     if bytes_eq text (codes "and") then reserved and
+    else (if bytes_eq text (codes "or") then reserved or
     else (if bytes_eq text (codes "not") then reserved not
+    else (if bytes_eq text (codes "imply") then reserved imply
+    else (if bytes_eq text (codes "exists") then reserved exists
+    else (if bytes_eq text (codes "forall") then reserved forall
     else (if bytes_eq text (codes "either") then reserved either
     else (if bytes_eq text (codes "define") then free define
     else (if bytes_eq text (codes "domain") then free domain
     else (if bytes_eq text (codes "problem") then free problem
     else (if is_among text left_out_names then reserved left_out_name
     else (if is_among text other_reserved_names then reserved other_reserved
-    else free ordinary)))))))
+    else free ordinary)))))))))))
 
 -- what a keyword is, folded, that begins no section and no part
 abbrev pub other_keyword_of : List ℕ → Keyword
@@ -129,7 +138,7 @@ token_from words.variable text n = variable n
 token_from words.keyword text n = keyword (keyword_of text)
 token_from words.number text n = other
 token_from words.dash text n = dash
-token_from words.equals text n = other
+token_from words.equals text n = equals
 token_from words.opens text n = opens
 token_from words.closes text n = closes
 

@@ -14,10 +14,12 @@ pub mod TypingExamples
 pub mod Runs
 pub mod Meaning
 pub mod Instances
+pub mod SureLiterals
 pub mod Claims
 pub mod Certificates
 pub mod CertificateRefusals
 pub mod Examples
+pub mod FormulaExamples
 pub mod PlanExamples
 pub mod CertificateExamples
 pub mod PlanText

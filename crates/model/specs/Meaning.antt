@@ -1,14 +1,15 @@
 -- What a planning task means: states, when a formula holds, what an action does.
 -- The state after an action follows Fox & Long 2003, section 8 (the untimed part); the rest is that of the
--- PDDL 1.2 manual for types, actions with parameters and conjunctions.
-use Rattle.std.specs.Prelude.{ℕ, Bool, true, false, ◌&&◌, nat_eq, List, [], ◌∷◌, ◌++◌, length, map, filter, slice_get, slice_index, if◌then◌else◌, Option, None, Some}
-use Rattle.std.specs.List.{list_any, range_with_len}
+-- PDDL 1.2 manual for types, actions with parameters and formulas.
+use Rattle.std.specs.Prelude.{ℕ, Bool, true, false, ◌&&◌, ◌||◌, nat_eq, List, [], ◌∷◌, ◌++◌, length, map, filter, slice_get, slice_index, if◌then◌else◌, Option, None, Some}
+use Rattle.std.specs.List.{list_all, list_any, range_with_len}
 use Rattle.std.specs.Option.{option_map_or, option_and_then}
 use Rattle.std.specs.Cmp.Lexicographic.{slice_cmp, pointwise}
 use Rattle.std.specs.Ordering.{nat_cmp}
 use Rattle.std.specs.declared.cmp.Ordering.{Ordering}
 use Rattle.std.specs.FinSet.{FinSet, from_list, contains, union, difference}
-use Rattle.model.specs.Task.{ObjectType, Object, Union, Atom, LiftedAtom, Term, variable, object, Formula, Formulas, atom, and, no_formula, more_formulas, Effect, Effects, add, delete, both, no_effect, more_effects, Schema, Task, Instance}
+use Rattle.std.specs.Prelude as bool
+use Rattle.model.specs.Task.{ObjectType, Object, Union, Atom, LiftedAtom, Term, variable, object, Formula, Formulas, atom, equal, and, or, not, imply, exists, forall, no_formula, more_formulas, Effect, Effects, add, delete, both, no_effect, more_effects, Schema, Task, Instance}
 use Rattle.model.specs.Runs.{System}
 
 -- atoms in the order of their predicates, and then of their objects from the left
@@ -52,7 +53,7 @@ objects_of task types = filter (is_of task types) (range_with_len 0 (length task
 
 -- ---- formulas and effects
 
--- what a term names, where the parameters have these objects
+-- what a term names, where the variables have these objects
 abbrev pub object_of : List ℕ → Term → ℕ
 object_of binding (variable parameter) = slice_index binding parameter
 object_of binding (object number) = number
@@ -60,16 +61,28 @@ object_of binding (object number) = number
 abbrev pub ground_atom : List ℕ → LiftedAtom → Atom
 ground_atom binding a = record { predicate = a.predicate; objects = map (object_of binding) a.terms }
 
--- A formula of the task holds in a state where the parameters have these objects: an atom where it is in the state,
--- a conjunction where each of its parts holds, so `(and)` always.
+-- A formula of the task holds in a state where the variables have these objects: an atom where it is in the state, an
+-- equality where both terms name one object, `and`, `or`, `not` and `imply` as in logic, so `(and)` always and `(or)` never.
+-- `exists` and `forall` go over the objects of the variable's types: where there is none, `exists` is false and `forall`
+-- true.
 abbrev mutual
   pub holds : Task → Formula → List ℕ → State → Bool
   holds task (atom a) binding state = contains state (ground_atom binding a)
+  holds task (equal t u) binding state = nat_eq (object_of binding t) (object_of binding u)
   holds task (and parts) binding state = all_hold task parts binding state
+  holds task (or parts) binding state = some_holds task parts binding state
+  holds task (not part) binding state = bool.not (holds task part binding state)
+  holds task (imply premise conclusion) binding state = bool.not (holds task premise binding state) || holds task conclusion binding state
+  holds task (exists types part) binding state = list_any (λ one. holds task part (binding ++ one ∷ []) state) (objects_of task types)
+  holds task (forall types part) binding state = list_all (λ one. holds task part (binding ++ one ∷ []) state) (objects_of task types)
 
   pub all_hold : Task → Formulas → List ℕ → State → Bool
   all_hold task no_formula binding state = true
   all_hold task (more_formulas first rest) binding state = holds task first binding state && all_hold task rest binding state
+
+  pub some_holds : Task → Formulas → List ℕ → State → Bool
+  some_holds task no_formula binding state = false
+  some_holds task (more_formulas first rest) binding state = holds task first binding state || some_holds task rest binding state
 
 -- one atom that an effect makes true, or false
 pub data Change : Type 0 where

@@ -31,21 +31,29 @@ pub record Atom : Type 0 where
   pub predicate : ℕ
   pub objects : List ℕ
 
--- an argument of an atom in an action or a goal: a parameter of the action, or an object
+-- An argument of an atom in an action or a goal: a variable in scope, or an object. The parameters of the action come
+-- first in scope, then the variables of the quantifiers around, the outermost first.
 pub data Term : Type 0 where
   variable : ℕ → Term
   object : ℕ → Term
 
--- a predicate of some terms: an atom once the parameters have objects
+-- a predicate of some terms: an atom once the variables have objects
 pub record LiftedAtom : Type 0 where
   pub predicate : ℕ
   pub terms : List Term
 
--- a goal description (PDDL 1.2 manual, "Goal descriptions"): an atom, or the conjunction of some
+-- A goal description (PDDL 1.2 manual, "Goal descriptions"). A quantifier is of one variable of these types, which is
+-- the last in the scope of its formula.
 mutual
   pub data Formula : Type 0 where
     atom : LiftedAtom → Formula
+    equal : Term → Term → Formula
     and : Formulas → Formula
+    or : Formulas → Formula
+    not : Formula → Formula
+    imply : Formula → Formula → Formula
+    exists : Union → Formula → Formula
+    forall : Union → Formula → Formula
 
   pub data Formulas : Type 0 where
     no_formula : Formulas

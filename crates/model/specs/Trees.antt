@@ -21,11 +21,27 @@ pub record Atom : Type 0 where
   pub predicate : Name
   pub terms : List Term
 
+-- Names or variables of one type, as `a b - place` or `?x ?y - (either t u)`: the types after their `-`, and none where
+-- no type stands after them (PDDL 1.2 manual, "Types"). A typed list is a list of such groups.
+pub record Group : Type 0 where
+  pub names : List Name
+  pub types : List Name
+
+-- the names of a typed list, in order
+abbrev pub names_of : List Group → List Name
+names_of groups = flat_map (λ (g : Group). g.names) groups
+
 -- PDDL 1.2 manual, "Goal descriptions"
 mutual
   pub data Formula : Type 0 where
     atom : Atom → Formula
+    equal : Term → Term → Formula
     and : Formulas → Formula
+    or : Formulas → Formula
+    not : Formula → Formula
+    imply : Formula → Formula → Formula
+    exists : List Group → Formula → Formula
+    forall : List Group → Formula → Formula
 
   pub data Formulas : Type 0 where
     no_formula : Formulas
@@ -50,16 +66,6 @@ formulas (f ∷ fs) = more_formulas f (formulas fs)
 abbrev pub effects : List Effect → Effects
 effects [] = no_effect
 effects (e ∷ es) = more_effects e (effects es)
-
--- Names or variables of one type, as `a b - place` or `?x ?y - (either t u)`: the types after their `-`, and none where
--- no type stands after them (PDDL 1.2 manual, "Types"). A typed list is a list of such groups.
-pub record Group : Type 0 where
-  pub names : List Name
-  pub types : List Name
-
--- the names of a typed list, in order
-abbrev pub names_of : List Group → List Name
-names_of groups = flat_map (λ (g : Group). g.names) groups
 
 -- a predicate's declaration
 pub record Predicate : Type 0 where

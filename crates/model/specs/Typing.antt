@@ -1,7 +1,7 @@
 -- Which faults a domain and a problem have, when they are well-typed, and which task they are then.
 -- The rules are those of the PDDL 1.2 manual for types, declarations and uses ("Types", "Predicates", "Actions",
 -- "Problems"), with the limits of the language profile.
-use Rattle.std.specs.Prelude.{◌≡◌, ℕ, zero, suc, ◌+◌, Bool, true, false, ◌==◌, nat_eq, List, [], ◌∷◌, ◌++◌, codes, length, map, fold, take, drop, slice_get, slice_index, if◌then◌else◌, Option, None, Some, All, Contains}
+use Rattle.std.specs.Prelude.{◌≡◌, ℕ, zero, suc, ◌+◌, ◌-◌, Bool, true, false, ◌==◌, nat_eq, nat_le, List, [], ◌∷◌, ◌++◌, codes, length, map, filter, fold, take, drop, slice_get, slice_index, if◌then◌else◌, Option, None, Some, All, Contains}
 use Rattle.std.specs.Char.{to_ascii_lowercase}
 use Rattle.std.specs.Cmp.Lexicographic.{slice_cmp, pointwise}
 use Rattle.std.specs.List.{flat_map, list_all, list_any, position_or_len}
@@ -108,7 +108,7 @@ types_of d = types_from (parents_of d) 0 (type_names d)
 
 -- ---- the task of a domain and a problem
 
--- a variable and its types
+-- a variable in scope, and its types
 pub record Variable : Type 0 where
   pub name : task.Name
   pub types : task.Union
@@ -130,6 +130,21 @@ names_of_variables variables = map (λ (v : Variable). v.name) variables
 abbrev pub names_of_objects : List task.Object → List task.Name
 names_of_objects objects = map (λ (o : task.Object). o.name) objects
 
+-- these variables and one more, unless one of its name is among them: the first declaration counts
+abbrev pub with_variable : List Variable → Variable → List Variable
+with_variable variables v = if list_any (is_same v.name) (names_of_variables variables) then variables else variables ++ v ∷ []
+
+abbrev pub variable_in : List task.Name → Declared → Variable
+variable_in types x = record { name = folded x.name; types = union_in types x.types }
+
+-- these variables and those that are declared, each once
+abbrev pub variables_after : List task.Name → List Variable → List Declared → List Variable
+variables_after types variables xs = fold with_variable variables (map (variable_in types) xs)
+
+-- what each of the variables has to be, in order
+abbrev pub unions_in : List task.Name → List Declared → List task.Union
+unions_in types xs = map (λ (x : Declared). union_in types x.types) xs
+
 abbrev pub term_in : Known → tree.Term → task.Term
 term_in known (tree.variable name) = task.variable (number_in (names_of_variables known.variables) name)
 term_in known (tree.object name) = task.object (number_in (names_of_objects known.objects) name)
@@ -140,14 +155,35 @@ lifted_atom_in known a = record {
   terms = map (term_in known) a.terms;
 }
 
-abbrev mutual
-  pub formula_in : Known → tree.Formula → task.Formula
-  formula_in known (tree.atom a) = task.atom (lifted_atom_in known a)
-  formula_in known (tree.and parts) = task.and (formulas_in known parts)
+-- one quantifier for each of some variables, of these types
+abbrev pub exists_each : List task.Union → task.Formula → task.Formula
+exists_each [] part = part
+exists_each (types ∷ others) part = task.exists types (exists_each others part)
 
-  pub formulas_in : Known → tree.Formulas → task.Formulas
-  formulas_in known tree.no_formula = task.no_formula
-  formulas_in known (tree.more_formulas first rest) = task.more_formulas (formula_in known first) (formulas_in known rest)
+abbrev pub forall_each : List task.Union → task.Formula → task.Formula
+forall_each [] part = part
+forall_each (types ∷ others) part = task.forall types (forall_each others part)
+
+-- what may be named where these variables are in scope too
+abbrev pub known_with : Known → List Declared → Known
+known_with known xs = record known { variables = variables_after known.type_names known.variables xs }
+
+abbrev mutual
+  pub formula_in : File → Known → tree.Formula → task.Formula
+  formula_in file known (tree.atom a) = task.atom (lifted_atom_in known a)
+  formula_in file known (tree.equal t u) = task.equal (term_in known t) (term_in known u)
+  formula_in file known (tree.and parts) = task.and (formulas_in file known parts)
+  formula_in file known (tree.or parts) = task.or (formulas_in file known parts)
+  formula_in file known (tree.not part) = task.not (formula_in file known part)
+  formula_in file known (tree.imply premise conclusion) = task.imply (formula_in file known premise) (formula_in file known conclusion)
+  formula_in file known (tree.exists groups part) =
+      exists_each (unions_in known.type_names (declared file groups)) (formula_in file (known_with known (declared file groups)) part)
+  formula_in file known (tree.forall groups part) =
+      forall_each (unions_in known.type_names (declared file groups)) (formula_in file (known_with known (declared file groups)) part)
+
+  pub formulas_in : File → Known → tree.Formulas → task.Formulas
+  formulas_in file known tree.no_formula = task.no_formula
+  formulas_in file known (tree.more_formulas first rest) = task.more_formulas (formula_in file known first) (formulas_in file known rest)
 
 abbrev mutual
   pub effect_in : Known → tree.Effect → task.Effect
@@ -181,21 +217,6 @@ constants_of d = map (object_in (type_names d)) (declared_constants d)
 abbrev pub objects_of : Domain → Problem → List task.Object
 objects_of d p = map (object_in (type_names d)) (declared_objects d p)
 
--- these variables and one more, unless one of its name is among them: the first declaration counts
-abbrev pub with_variable : List Variable → Variable → List Variable
-with_variable variables v = if list_any (is_same v.name) (names_of_variables variables) then variables else variables ++ v ∷ []
-
-abbrev pub variable_in : List task.Name → Declared → Variable
-variable_in types x = record { name = folded x.name; types = union_in types x.types }
-
--- the variables that are declared, each once
-abbrev pub variables_in : List task.Name → List Declared → List Variable
-variables_in types xs = fold with_variable [] (map (variable_in types) xs)
-
--- what each of the variables has to be, in order
-abbrev pub unions_in : List task.Name → List Declared → List task.Union
-unions_in types xs = map (λ (x : Declared). union_in types x.types) xs
-
 abbrev pub predicate_in : List task.Name → tree.Predicate → task.Predicate
 predicate_in types p = record { name = folded p.name; arguments = unions_in types (declared in_domain p.parameters) }
 
@@ -214,13 +235,7 @@ known_in_domain d = record {
 
 -- in an action: what the domain declares, and the action's parameters
 abbrev pub known_in_action : Known → tree.Action → Known
-known_in_action known a = record {
-  type_names = known.type_names;
-  types = known.types;
-  predicates = known.predicates;
-  variables = variables_in known.type_names (declared in_domain a.parameters);
-  objects = known.objects;
-}
+known_in_action known a = record known { variables = variables_after known.type_names [] (declared in_domain a.parameters) }
 
 -- in the initial state and the goal: what the domain declares, and the problem's objects
 abbrev pub known_in_problem : Domain → Problem → Known
@@ -236,7 +251,7 @@ abbrev pub schema_in : Known → tree.Action → task.Schema
 schema_in known a = record {
   name = folded a.name;
   parameters = unions_in known.type_names (declared in_domain a.parameters);
-  precondition = formula_in (known_in_action known a) a.precondition;
+  precondition = formula_in in_domain (known_in_action known a) a.precondition;
   effect = effect_in (known_in_action known a) a.effect;
 }
 
@@ -248,7 +263,7 @@ task_of_trees d p = record {
   predicates = predicates_of d;
   schemas = map (schema_in (known_in_domain d)) d.actions;
   init = flat_map (atoms_in (known_in_problem d p)) p.init;
-  goal = formula_in (known_in_problem d p) p.goal;
+  goal = formula_in in_problem (known_in_problem d p) p.goal;
 }
 
 -- ---- faults
@@ -352,10 +367,35 @@ abbrev pub atom_faults : File → Known → tree.Atom → List TypingFault
 atom_faults file known a =
     predicate_faults file known a.predicate (length a.terms) ++ terms_faults file known (arguments_in known a.predicate) a.terms
 
+-- the words whose names are among these
+abbrev pub known_among : List task.Name → List Placed → List Placed
+known_among names words = filter (λ (w : Placed). is_known names w.word) words
+
+-- the variable that makes 17 in scope, where so many are in scope already
+abbrev pub one_too_many : ℕ → List Placed → List Placed
+one_too_many count words = if nat_le count 16 then one_after (16 - count) words else []
+
+-- Of a list of variables, where these are in scope. 14: an unknown type. 16: a variable twice in the list. 20: one whose
+-- name is in scope. 25: the one that makes 17 in scope.
+abbrev pub variable_faults : List task.Name → List Variable → List Declared → List TypingFault
+variable_faults types variables xs =
+    type_faults types xs
+    ++ refused 16 (repeated (words_of xs))
+    ++ refused 20 (known_among (names_of_variables variables) (words_of xs))
+    ++ refused 25 (one_too_many (length variables) (words_of xs))
+
 abbrev mutual
   pub formula_faults : File → Known → tree.Formula → List TypingFault
   formula_faults file known (tree.atom a) = atom_faults file known a
+  formula_faults file known (tree.equal t u) = term_faults file known t ++ term_faults file known u
   formula_faults file known (tree.and parts) = formulas_faults file known parts
+  formula_faults file known (tree.or parts) = formulas_faults file known parts
+  formula_faults file known (tree.not part) = formula_faults file known part
+  formula_faults file known (tree.imply premise conclusion) = formula_faults file known premise ++ formula_faults file known conclusion
+  formula_faults file known (tree.exists groups part) =
+      variable_faults known.type_names known.variables (declared file groups) ++ formula_faults file (known_with known (declared file groups)) part
+  formula_faults file known (tree.forall groups part) =
+      variable_faults known.type_names known.variables (declared file groups) ++ formula_faults file (known_with known (declared file groups)) part
 
   pub formulas_faults : File → Known → tree.Formulas → List TypingFault
   formulas_faults file known tree.no_formula = []
@@ -425,18 +465,13 @@ abbrev pub declaration_faults : List task.Name → List tree.Predicate → List 
 declaration_faults types qs =
     refused 16 (repeated (map (λ (q : tree.Predicate). placed in_domain q.name) qs)) ++ flat_map (argument_faults types) qs
 
--- 14: an unknown type. 16: a parameter declared before. 25: the 17th parameter
-abbrev pub parameter_faults : List task.Name → List Declared → List TypingFault
-parameter_faults types xs =
-    type_faults types xs ++ refused 16 (repeated (words_of xs)) ++ refused 25 (one_after 16 (words_of xs))
-
 -- the faults of the precondition and of the effect
 abbrev pub body_faults : File → Known → tree.Action → List TypingFault
 body_faults file known a = formula_faults file known a.precondition ++ effect_faults file known a.effect
 
 abbrev pub schema_faults : Known → tree.Action → List TypingFault
 schema_faults known a =
-    parameter_faults known.type_names (declared in_domain a.parameters) ++ body_faults in_domain (known_in_action known a) a
+    variable_faults known.type_names [] (declared in_domain a.parameters) ++ body_faults in_domain (known_in_action known a) a
 
 -- 16: an action declared before. And the faults of each action
 abbrev pub action_faults : Known → List tree.Action → List TypingFault

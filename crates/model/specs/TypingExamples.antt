@@ -82,6 +82,30 @@ with_types groups = record fleet { types = groups }
 abbrev pub with_parameter : List Name → Domain
 with_parameter types = record fleet { actions = record park { parameters = group (at 41 (codes "?y") ∷ []) types ∷ [] } ∷ [] }
 
+-- the same problem with another goal
+abbrev pub with_goal : Formula → Problem
+with_goal goal = record parked { goal = goal }
+
+abbrev pub variable : ℕ → List ℕ → Term
+variable start text = tree.variable (at start text)
+
+-- (p ?x), where ?x stands at the offset after it
+abbrev pub p_of_x : ℕ → Formula
+p_of_x start = tree.atom (atom (at start (codes "p")) (variable (start + 1) (codes "?x") ∷ []))
+
+-- (exists (?x ..) ..) with these types and this part
+abbrev pub some_x : List Name → Formula → Formula
+some_x types part = tree.exists (group (at 31 (codes "?x") ∷ []) types ∷ []) part
+
+-- variables of these letters, one after another
+abbrev pub letters : ℕ → List ℕ → List Name
+letters start [] = []
+letters start (letter ∷ rest) = at start (letter ∷ []) ∷ letters (start + 1) rest
+
+-- the action a with this precondition
+abbrev pub with_precondition : Formula → Domain
+with_precondition formula = record fleet { actions = record park { precondition = formula } ∷ [] }
+
 pub record AreTyped : Type 0 where
   -- Each name is its number, in letters of either case.
   pub no_fault : faults_of fleet parked ≡ []
@@ -112,3 +136,25 @@ pub record AreTyped : Type 0 where
       ≡ fault in_problem 19 21 ∷ fault in_problem 24 22 ∷ []
   -- Another name of the domain is told with the faults of types.
   pub other_domain : faults_of fleet (record parked { domain = at 2 (codes "e") }) ≡ fault in_problem 21 2 ∷ []
+  -- A quantifier of two variables is two quantifiers, and its variables come after those in scope: in
+  -- (exists (?x - v ?z) (forall (?w - t) (= ?w ?z))) the variables are 0, 1 and 2.
+  pub quantified : (task_of_trees fleet (with_goal (tree.exists (group (at 31 (codes "?x") ∷ []) (at 32 (codes "v") ∷ []) ∷ group (at 33 (codes "?z") ∷ []) [] ∷ [])
+      (tree.forall (group (at 34 (codes "?w") ∷ []) (at 35 (codes "t") ∷ []) ∷ []) (tree.equal (variable 36 (codes "?w")) (variable 37 (codes "?Z"))))))).goal
+      ≡ task.exists (2 ∷ []) (task.exists (0 ∷ []) (task.forall (1 ∷ []) (task.equal (task.variable 2) (task.variable 1))))
+  -- Its variable is known in it, with its types, and not after it.
+  pub in_scope : faults_of fleet (with_goal (some_x (at 32 (codes "v") ∷ []) (p_of_x 33))) ≡ []
+  pub of_the_root : faults_of fleet (with_goal (some_x [] (p_of_x 33))) ≡ fault in_problem 19 34 ∷ []
+  pub out_of_scope : faults_of fleet (with_goal (tree.and (formulas (some_x (at 32 (codes "v") ∷ []) (p_of_x 33) ∷ p_of_x 35 ∷ [])))) ≡ fault in_problem 17 36 ∷ []
+  -- Its types are known, and no variable stands twice in its list.
+  pub of_unknown_type : faults_of fleet (with_goal (tree.forall (group (at 31 (codes "?x") ∷ []) (at 32 (codes "u") ∷ []) ∷ []) nothing)) ≡ fault in_problem 14 32 ∷ []
+  pub twice_in_a_list : faults_of fleet (with_goal (tree.exists (untyped (at 31 (codes "?x") ∷ at 32 (codes "?X") ∷ [])) nothing)) ≡ fault in_problem 16 32 ∷ []
+  -- None has the name of one in scope, of a parameter or of a quantifier around it; one after it may.
+  pub as_a_parameter : faults_of (with_precondition (tree.not (tree.exists (untyped (at 50 (codes "?Y") ∷ [])) nothing))) parked ≡ fault in_domain 20 50 ∷ []
+  pub as_one_around : faults_of fleet (with_goal (some_x [] (tree.or (formulas (tree.forall (untyped (at 40 (codes "?x") ∷ [])) nothing ∷ []))))) ≡ fault in_problem 20 40 ∷ []
+  pub as_one_before : faults_of fleet (with_goal (tree.imply (some_x [] nothing) (tree.exists (untyped (at 40 (codes "?x") ∷ [])) nothing))) ≡ []
+  -- At most 16 are in scope: with the parameter ?y, the sixteenth of a list is one too many.
+  pub sixteen : faults_of (with_precondition (tree.exists (untyped (letters 50 (codes "abcdefghijklmno"))) nothing)) parked ≡ []
+  pub seventeen : faults_of (with_precondition (tree.exists (untyped (letters 50 (codes "abcdefghijklmnopq"))) nothing)) parked ≡ fault in_domain 25 65 ∷ []
+  -- The terms of an equality are known, of whatever types.
+  pub of_two_types : faults_of (with_precondition (tree.equal (variable 50 (codes "?y")) (tree.object (at 51 (codes "k"))))) parked ≡ []
+  pub unknown_terms : faults_of fleet (with_goal (tree.equal (variable 31 (codes "?x")) (tree.object (at 32 (codes "n"))))) ≡ fault in_problem 17 31 ∷ fault in_problem 17 32 ∷ []

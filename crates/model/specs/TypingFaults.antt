@@ -6,7 +6,7 @@ use Rattle.std.specs.Prelude.{◌≡◌, ◌≢◌, ℕ, ◌+◌, ◌<◌, ◌�
 use Rattle.model.specs.Task as task
 use Rattle.model.specs.Trees.{Name, Domain, Problem}
 use Rattle.model.specs.Trees as tree
-use Rattle.model.specs.Typing.{Known, Declared, Placed, placed, words_of, folded, is_same, is_known, declared, declared_types, declared_objects, type_names, parents_of, known_in_domain, known_in_action, known_in_problem, names_of_predicates, names_of_variables, names_of_objects, predicate_in_known, term_in, fits_in, word_of, comes_back, in_domain, in_problem, TypingFault, rank_of}
+use Rattle.model.specs.Typing.{File, Known, Declared, Placed, placed, words_of, folded, is_same, is_known, declared, declared_types, declared_objects, type_names, parents_of, known_in_domain, known_in_action, known_with, known_in_problem, names_of_predicates, names_of_variables, names_of_objects, predicate_in_known, term_in, fits_in, word_of, comes_back, in_domain, in_problem, TypingFault, rank_of}
 
 -- the phases, in the order in which they are looked at
 pub data Phase : Type 0 where
@@ -66,16 +66,7 @@ parameters_of a = declared in_domain a.parameters
 
 -- ---- uses
 
--- the atom stands in the formula, or in the effect
-abbrev mutual
-  pub HasAtom : tree.Formula → tree.Atom → Type 0
-  HasAtom (tree.atom a) b = a ≡ b
-  HasAtom (tree.and parts) b = SomeHasAtom parts b
-
-  pub SomeHasAtom : tree.Formulas → tree.Atom → Type 0
-  SomeHasAtom tree.no_formula b = ⊥
-  SomeHasAtom (tree.more_formulas first rest) b = HasAtom first b ⊎ SomeHasAtom rest b
-
+-- the effect makes the atom true, or false
 abbrev mutual
   pub ChangesAtom : tree.Effect → tree.Atom → Type 0
   ChangesAtom (tree.add a) b = a ≡ b
@@ -91,16 +82,49 @@ abbrev pub IsUnknown : Known → tree.Term → Type 0
 IsUnknown known (tree.variable name) = is_known (names_of_variables known.variables) name ≡ false
 IsUnknown known (tree.object name) = is_known (names_of_objects known.objects) name ≡ false
 
--- by this number, this word of an atom is refused, where these may be named in it
-pub data IsAtomFault (known : Known) (a : tree.Atom) : ℕ → Name → Type 0 where
-  unknown_predicate : is_known (names_of_predicates known.predicates) a.predicate ≡ false → IsAtomFault known a 17 a.predicate
-  unknown_term : (t : tree.Term) → Contains a.terms t → IsUnknown known t → IsAtomFault known a 17 (word_of t)
+-- 17: a variable or an object that is not known
+pub record IsTermFault (file : File) (known : Known) (t : tree.Term) (code : ℕ) (w : Placed) : Type 0 where
+  pub is_unknown : IsUnknown known t
+  pub number : code ≡ 17
+  pub word : w ≡ placed file (word_of t)
+
+-- by this number, this word of an atom of the file is refused, where these may be named in it
+pub data IsAtomFault (file : File) (known : Known) (a : tree.Atom) : ℕ → Placed → Type 0 where
+  unknown_predicate : is_known (names_of_predicates known.predicates) a.predicate ≡ false → IsAtomFault file known a 17 (placed file a.predicate)
+  unknown_term : (t : tree.Term) → Contains a.terms t → IsUnknown known t → IsAtomFault file known a 17 (placed file (word_of t))
   wrong_count : (p : task.Predicate) → predicate_in_known known a.predicate ≡ Some p → length a.terms ≢ length p.arguments
-      → IsAtomFault known a 18 a.predicate
+      → IsAtomFault file known a 18 (placed file a.predicate)
   -- a term that does not fit the argument in whose place it stands
   wrong_type : (p : task.Predicate) (place : ℕ) (wanted : task.Union) (t : tree.Term) → predicate_in_known known a.predicate ≡ Some p
       → slice_get p.arguments place ≡ Some wanted → slice_get a.terms place ≡ Some t → fits_in known wanted (term_in known t) ≡ false
-      → IsAtomFault known a 19 (word_of t)
+      → IsAtomFault file known a 19 (placed file (word_of t))
+
+-- by this number, this word of a list of variables is refused, where these may be named already
+pub data IsVariableFault (known : Known) (xs : List Declared) : ℕ → Placed → Type 0 where
+  type_of_variable : (w : Placed) → HasType xs w → is_known known.type_names w.word ≡ false → IsVariableFault known xs 14 w
+  variable_again : (w : Placed) → IsRepeated (words_of xs) w → IsVariableFault known xs 16 w
+  in_scope_already : (w : Placed) → Contains (words_of xs) w → is_known (names_of_variables known.variables) w.word ≡ true → IsVariableFault known xs 20 w
+  -- the one that makes 17 in scope
+  many_variables : (w : Placed) (place : ℕ) → slice_get (words_of xs) place ≡ Some w → place + length known.variables ≡ 16 → IsVariableFault known xs 25 w
+
+-- By this number, this word of a formula of the file is refused, where these may be named in it: a word of one of its
+-- atoms, a term of an equality that is not known, or a word of a quantifier's variables, which are in scope in its part.
+abbrev mutual
+  pub IsFormulaFault : File → Known → tree.Formula → ℕ → Placed → Type 0
+  IsFormulaFault file known (tree.atom a) code w = IsAtomFault file known a code w
+  IsFormulaFault file known (tree.equal t u) code w = IsTermFault file known t code w ⊎ IsTermFault file known u code w
+  IsFormulaFault file known (tree.and parts) code w = IsSomeFault file known parts code w
+  IsFormulaFault file known (tree.or parts) code w = IsSomeFault file known parts code w
+  IsFormulaFault file known (tree.not part) code w = IsFormulaFault file known part code w
+  IsFormulaFault file known (tree.imply premise conclusion) code w = IsFormulaFault file known premise code w ⊎ IsFormulaFault file known conclusion code w
+  IsFormulaFault file known (tree.exists groups part) code w =
+      IsVariableFault known (declared file groups) code w ⊎ IsFormulaFault file (known_with known (declared file groups)) part code w
+  IsFormulaFault file known (tree.forall groups part) code w =
+      IsVariableFault known (declared file groups) code w ⊎ IsFormulaFault file (known_with known (declared file groups)) part code w
+
+  pub IsSomeFault : File → Known → tree.Formulas → ℕ → Placed → Type 0
+  IsSomeFault file known tree.no_formula code w = ⊥
+  IsSomeFault file known (tree.more_formulas first rest) code w = IsFormulaFault file known first code w ⊎ IsSomeFault file known rest code w
 
 -- an atom of objects as one of terms
 abbrev pub as_atom : tree.GroundAtom → tree.Atom
@@ -135,22 +159,18 @@ pub data IsFaultIn (d : Domain) (p : Problem) : Phase → ℕ → Placed → Typ
       → IsFaultIn d p of_predicates 25 w
   -- 5: actions
   action_again : (w : Placed) → IsRepeated (action_words d) w → IsFaultIn d p of_actions 16 w
-  type_of_parameter : (a : tree.Action) (w : Placed) → Contains d.actions a → HasType (parameters_of a) w → IsUnknownType d w
-      → IsFaultIn d p of_actions 14 w
-  parameter_again : (a : tree.Action) (w : Placed) → Contains d.actions a → IsRepeated (words_of (parameters_of a)) w → IsFaultIn d p of_actions 16 w
-  many_parameters : (a : tree.Action) (w : Placed) → Contains d.actions a → slice_get (words_of (parameters_of a)) 16 ≡ Some w
-      → IsFaultIn d p of_actions 25 w
-  in_precondition : (a : tree.Action) (b : tree.Atom) (code : ℕ) (word : Name) → Contains d.actions a → HasAtom a.precondition b
-      → IsAtomFault (known_in d a) b code word → IsFaultIn d p of_actions code (placed in_domain word)
-  in_effect : (a : tree.Action) (b : tree.Atom) (code : ℕ) (word : Name) → Contains d.actions a → ChangesAtom a.effect b
-      → IsAtomFault (known_in d a) b code word → IsFaultIn d p of_actions code (placed in_domain word)
+  of_parameters : (a : tree.Action) (code : ℕ) (w : Placed) → Contains d.actions a → IsVariableFault (known_in_domain d) (parameters_of a) code w
+      → IsFaultIn d p of_actions code w
+  in_precondition : (a : tree.Action) (code : ℕ) (w : Placed) → Contains d.actions a → IsFormulaFault in_domain (known_in d a) a.precondition code w
+      → IsFaultIn d p of_actions code w
+  in_effect : (a : tree.Action) (b : tree.Atom) (code : ℕ) (w : Placed) → Contains d.actions a → ChangesAtom a.effect b
+      → IsAtomFault in_domain (known_in d a) b code w → IsFaultIn d p of_actions code w
   -- 6: the initial state
-  in_init : (a : tree.GroundAtom) (code : ℕ) (word : Name) → Contains p.init (tree.fact a)
-      → IsAtomFault (known_in_problem d p) (as_atom a) code word → IsFaultIn d p of_init code (placed in_problem word)
+  in_init : (a : tree.GroundAtom) (code : ℕ) (w : Placed) → Contains p.init (tree.fact a)
+      → IsAtomFault in_problem (known_in_problem d p) (as_atom a) code w → IsFaultIn d p of_init code w
   negated : (word : Name) (a : tree.GroundAtom) → Contains p.init (tree.negated word a) → IsFaultIn d p of_init 24 (placed in_problem word)
   -- 7: the goal
-  in_goal : (b : tree.Atom) (code : ℕ) (word : Name) → HasAtom p.goal b
-      → IsAtomFault (known_in_problem d p) b code word → IsFaultIn d p of_goal code (placed in_problem word)
+  in_goal : (code : ℕ) (w : Placed) → IsFormulaFault in_problem (known_in_problem d p) p.goal code w → IsFaultIn d p of_goal code w
 
 -- ---- what is told
 

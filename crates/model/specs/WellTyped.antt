@@ -1,10 +1,10 @@
 -- Which resolved formulas, effects, atoms and tasks are well-typed: each number names something, each predicate has the
 -- arguments that its declaration asks for, and the limits of the language profile are kept.
-use Rattle.std.specs.Prelude.{ℕ, Bool, true, false, ◌&&◌, nat_eq, nat_le, List, [], length, slice_get}
+use Rattle.std.specs.Prelude.{ℕ, Bool, true, false, ◌&&◌, nat_eq, nat_le, nat_lt, List, [], ◌∷◌, ◌++◌, length, slice_get}
 use Rattle.std.specs.Cmp.Lexicographic.{pointwise}
 use Rattle.std.specs.List.{list_all, list_any}
 use Rattle.std.specs.Option.{option_map_or}
-use Rattle.model.specs.Task.{ObjectType, Union, Predicate, Atom, LiftedAtom, Term, variable, object, Formula, Formulas, atom, and, no_formula, more_formulas, Effect, Effects, add, delete, both, no_effect, more_effects, Schema, Task}
+use Rattle.model.specs.Task.{ObjectType, Union, Predicate, Atom, LiftedAtom, Term, variable, object, Formula, Formulas, atom, equal, and, or, not, imply, exists, forall, no_formula, more_formulas, Effect, Effects, add, delete, both, no_effect, more_effects, Schema, Task}
 use Rattle.model.specs.Meaning.{supertypes_of, is_below, is_of}
 
 -- the most arguments of a predicate, and the most variables in scope at once
@@ -14,13 +14,18 @@ max_arguments = 8
 abbrev pub max_variables : ℕ
 max_variables = 16
 
--- A term may stand where an object of one of these types is wanted: an object that is of one, or a parameter each of
--- whose own types is one of them or stands below one.
+-- A term may stand where an object of one of these types is wanted: an object that is of one, or a variable each of
+-- whose own types is one of them or stands below one. These are the types of the variables in scope.
 abbrev pub is_term : Task → List Union → Union → Term → Bool
 is_term task scope types (variable parameter) = option_map_or (list_all (is_below task types)) (slice_get scope parameter) false
 is_term task scope types (object number) = is_of task types number
 
--- a predicate of the task with a term for each argument, where these are the types of the parameters
+-- a term of whatever type: a variable in scope, or an object of the task
+abbrev pub is_some_term : Task → List Union → Term → Bool
+is_some_term task scope (variable number) = nat_lt number (length scope)
+is_some_term task scope (object number) = nat_lt number (length task.objects)
+
+-- a predicate of the task with a term for each argument
 abbrev pub is_lifted_atom : Task → List Union → LiftedAtom → Bool
 is_lifted_atom task scope a =
     option_map_or (λ (p : Predicate). pointwise (is_term task scope) p.arguments a.terms) (slice_get task.predicates a.predicate) false
@@ -33,7 +38,13 @@ is_atom task a =
 abbrev mutual
   pub is_formula : Task → List Union → Formula → Bool
   is_formula task scope (atom a) = is_lifted_atom task scope a
+  is_formula task scope (equal t u) = is_some_term task scope t && is_some_term task scope u
   is_formula task scope (and parts) = are_formulas task scope parts
+  is_formula task scope (or parts) = are_formulas task scope parts
+  is_formula task scope (not part) = is_formula task scope part
+  is_formula task scope (imply premise conclusion) = is_formula task scope premise && is_formula task scope conclusion
+  is_formula task scope (exists types part) = nat_lt (length scope) max_variables && is_formula task (scope ++ types ∷ []) part
+  is_formula task scope (forall types part) = nat_lt (length scope) max_variables && is_formula task (scope ++ types ∷ []) part
 
   pub are_formulas : Task → List Union → Formulas → Bool
   are_formulas task scope no_formula = true

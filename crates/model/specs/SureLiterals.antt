@@ -1,0 +1,49 @@
+-- The sure literals of a formula: what it says outright, so that it holds in no state where one of them does not. They
+-- are what an instance may be ruled out by before any state is looked at (a planner's own notion; the meaning of a task
+-- does not rest on it).
+use Rattle.std.specs.Prelude.{ℕ, Bool, ◌≡◌, nat_eq, true, IsTrue, List, [], ◌∷◌, ◌++◌}
+use Rattle.std.specs.Prelude as bool
+use Rattle.std.specs.List.{flat_map, list_all}
+use Rattle.std.specs.FinSet.{contains}
+use Rattle.model.specs.Task.{Task, Atom, Formula, Formulas, atom, equal, and, not, forall, no_formula, more_formulas}
+use Rattle.model.specs.Meaning.{State, object_of, objects_of, ground_atom, holds}
+
+-- an atom that is true or false, or two objects that are one or are not
+pub data Literal : Type 0 where
+  is_true : Atom → Literal
+  is_false : Atom → Literal
+  are_same : ℕ → ℕ → Literal
+  are_different : ℕ → ℕ → Literal
+
+abbrev pub literal_holds : State → Literal → Bool
+literal_holds state (is_true a) = contains state a
+literal_holds state (is_false a) = bool.not (contains state a)
+literal_holds state (are_same a b) = nat_eq a b
+literal_holds state (are_different a b) = bool.not (nat_eq a b)
+
+-- the literal that says that this formula does not hold, if it is an atom or an equality
+abbrev pub sure_not : Formula → List ℕ → List Literal
+sure_not (atom a) binding = is_false (ground_atom binding a) ∷ []
+sure_not (equal t u) binding = are_different (object_of binding t) (object_of binding u) ∷ []
+sure_not _ binding = []
+
+-- The sure literals where the variables have these objects: the atoms, the equalities and the `not` of one of these under
+-- nothing but `and` and `forall`, for each object of the variable of a `forall`.
+abbrev mutual
+  pub sure : Task → Formula → List ℕ → List Literal
+  sure task (atom a) binding = is_true (ground_atom binding a) ∷ []
+  sure task (equal t u) binding = are_same (object_of binding t) (object_of binding u) ∷ []
+  sure task (not part) binding = sure_not part binding
+  sure task (and parts) binding = all_sure task parts binding
+  sure task (forall types part) binding = flat_map (λ one. sure task part (binding ++ one ∷ [])) (objects_of task types)
+  sure task _ binding = []
+
+  pub all_sure : Task → Formulas → List ℕ → List Literal
+  all_sure task no_formula binding = []
+  all_sure task (more_formulas first rest) binding = sure task first binding ++ all_sure task rest binding
+
+-- where a formula holds, its sure literals do
+abbrev pub SureLiteralsHold : Type 0
+SureLiteralsHold =
+    (task : Task) (formula : Formula) (binding : List ℕ) (state : State) → IsTrue (holds task formula binding state)
+    → IsTrue (list_all (literal_holds state) (sure task formula binding))
