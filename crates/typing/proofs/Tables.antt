@@ -1,5 +1,5 @@
 -- What a look-up in a table of names says of the names.
-use Rattle.std.proofs.Common.{◌==◌, ◌≤◌, arith, slice_get, ◌≡◌, ℕ, ◌+◌, Bool, true, false, cond, List, [], ◌∷◌, ◌++◌, map, length, refl, ap, sym, subst, ◌∙◌, Option, None, Some, if◌then◌else◌, nat_eq, not, is_some, ◌||◌, true≢false, drop, get_or, ◌<◌}
+use Rattle.std.proofs.Common.{◌==◌, ◌≤◌, arith, slice_get, ◌≡◌, ℕ, ◌+◌, Bool, true, false, cond, List, [], ◌∷◌, ◌++◌, map, length, refl, ap, sym, ◌∙◌, Option, None, Some, if◌then◌else◌, nat_eq, not, is_some, ◌||◌, true≢false, drop, get_or, ◌<◌}
 use Rattle.std.proofs.lemmas.Bool.Decides.{nat_tests}
 use Rattle.std.specs.Option.{option_map, option_map_or}
 use Rattle.std.specs.Global.{Vec}
@@ -12,7 +12,7 @@ use Rattle.indexmap.specs.IndexSet.{insert_key}
 use Rattle.indexmap.specs.IndexMap.{insert_entry}
 use Rattle.model.specs.Task as task
 use Rattle.model.specs.Trees as tree
-use Rattle.model.specs.Typing.{File, Known, Placed, folded, is_same, is_known, number_in, with_name, names_of_predicates, refused, refused_word, faults_against, predicate_faults, repeated_after}
+use Rattle.model.specs.Typing.{File, Placed, folded, is_same, is_known, number_in, with_name, names_of_predicates, refused_word, faults_against, repeated_after}
 use Rattle.typing.specs.Scope.{keys_in, names_in}
 use Rattle.typing.proofs.Found.{got_twice}
 use Rattle.typing.proofs.Lists.{position_or_len-map, position_or_len-le, list_any-map, position-found, position-map, position-missing}

@@ -1,11 +1,11 @@
 -- The parts that the phases make are the task of the trees, where no phase has a fault.
-use Rattle.std.proofs.Common.{◌≡◌, ℕ, ◌+◌, ◌≤◌, ◌<◌, Bool, true, false, List, [], ◌∷◌, ◌++◌, codes, map, fold, length, slice_get, slice_index, nat_le, nat_lt, refl, ap, sym, subst, ◌∙◌, arith, zero, suc, Some, true≢false, if◌then◌else◌}
+use Rattle.std.proofs.Common.{◌≡◌, ℕ, ◌+◌, ◌≤◌, ◌<◌, true, List, [], ◌∷◌, ◌++◌, codes, map, length, slice_get, slice_index, nat_le, refl, ap, sym, subst, ◌∙◌, arith, zero, suc, Some}
 use Rattle.std.specs.List.{flat_map, list_all}
 use Rattle.std.proofs.lemmas.Bool.Decides.{nat_tests}
-use Rattle.std.proofs.lemmas.List.{length-map, take_all, map-append, append_assoc, append-nil}
+use Rattle.std.proofs.lemmas.List.{length-map, take_all, map-append}
 use Rattle.model.specs.Task as task
 use Rattle.model.specs.Trees as tree
-use Rattle.model.specs.Typing.{File, TypingFault, Declared, Variable, in_domain, in_problem, Known, is_known, is_same, folded, with_name, with_variable, variable_in, union_in, unions_in, names_of, names_of_variables, names_of_objects, number_in, type_in, type_names, parents_of, parents_in, comes_back, cycle_faults_from, unknown_faults, types_faults, type_faults, words_of, one_after, refused, refused_word, repeated, repeated_after, predicate_faults, terms_faults, arguments_in, ground_atom_faults, fact_faults, formula_faults, domain_name_faults, type_declaration_faults, cycle_faults, object_faults, objects_faults, declaration_faults, action_faults, argument_faults, schema_faults, atom_in, atoms_in, formula_in, object_in, declared_types, declared_constants, declared_objects, declared, predicates_of, predicate_in, known_in_domain, known_in_problem, task_of_trees, faults_of, first_filled, IsWellTyped}
+use Rattle.model.specs.Typing.{File, TypingFault, Declared, in_domain, in_problem, Known, folded, names_of, names_of_objects, number_in, type_in, type_names, parents_of, comes_back, type_faults, words_of, one_after, refused, repeated, repeated_after, predicate_faults, terms_faults, arguments_in, ground_atom_faults, fact_faults, formula_faults, domain_name_faults, type_declaration_faults, cycle_faults, object_faults, declaration_faults, action_faults, argument_faults, schema_faults, atom_in, atoms_in, formula_in, object_in, declared_types, declared_constants, declared, predicates_of, known_in_domain, known_in_problem, task_of_trees, faults_of, first_filled, IsWellTyped}
 use Rattle.model.specs.WellTyped.{is_task}
 use Rattle.model.proofs.Tests.{passes_got}
 use Rattle.typing.specs.declared.names.Names.{Names}
@@ -13,11 +13,9 @@ use Rattle.typing.specs.declared.names.Start.{Start}
 use Rattle.typing.specs.Names.{type_faults_of, declared_faults, known_by, stated_faults_in, AreDeclared, Starts}
 use Rattle.typing.specs.TaskParts.{task_of_parts}
 use Rattle.typing.specs.Task.{TaskFault, TellsLeastOf, TellsLeastFault}
-use Rattle.typing.specs.Scope.{narrow_atom_in, narrow_atoms_in}
+use Rattle.typing.specs.Scope.{narrow_atoms_in}
 use Rattle.typing.proofs.Tells.{tells_here, tells_later}
-use Rattle.typing.proofs.Empty.{nil_left, nil_right, not_refused, not_repeated, and_true}
-use Rattle.typing.proofs.Found.{map-map}
-use Rattle.typing.proofs.Lists.{list_any-position}
+use Rattle.typing.proofs.Empty.{nil_left, nil_right, not_refused, and_true}
 use Rattle.typing.proofs.ParentChains.{all_whole}
 use Rattle.typing.proofs.Declaring.{names_are, parents_low, none_comes_back}
 use Rattle.typing.proofs.WellTyped.{Fits, declared_count, arities_fit, schemas_fit, facts_fit, formula_fits}

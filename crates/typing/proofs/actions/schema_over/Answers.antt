@@ -1,7 +1,7 @@
 use Rattle.std.proofs.Common.{◌≡◌, ◌∙◌, [], map, ap}
 use Rattle.std.proofs.lemmas.Result.{IfOk-weaker}
 use Rattle.typing.specs.TaskParts as parts
-use Rattle.typing.specs.Scope.{known_outside, names_in, variable_entry_of}
+use Rattle.typing.specs.Scope.{known_outside, variable_entry_of}
 use Rattle.typing.specs.Walk.{found, least_of}
 use Rattle.pddl_tree.specs.Tree as read
 use Rattle.model.specs.Typing as typing

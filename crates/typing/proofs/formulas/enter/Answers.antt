@@ -1,7 +1,7 @@
 use Rattle.std.proofs.Common.{◌≡◌, ◌∙◌, map, ap}
 use Rattle.typing.specs.Task.{file_of}
 use Rattle.typing.specs.TypedLists.{declared_of}
-use Rattle.typing.specs.Scope.{known_over, variable_entry_of}
+use Rattle.typing.specs.Scope.{known_over}
 use Rattle.typing.specs.Walk.{found, least_of}
 use Rattle.pddl_tree.specs.Tree as read
 use Rattle.model.specs.Typing as typing

@@ -1,5 +1,5 @@
-use Rattle.std.proofs.Common.{◌∙◌, ◌+◌, ◌++◌, [], refl, ap, sym, map, fold, drop}
-use Rattle.std.proofs.lemmas.List.{drop_more, drop_all, append_assoc, append-nil}
+use Rattle.std.proofs.Common.{◌∙◌, ◌+◌, [], refl, ap, sym, map, fold, drop}
+use Rattle.std.proofs.lemmas.List.{drop_more, drop_all, append-nil}
 use Rattle.typing.specs.TypedLists.{declared_of}
 use Rattle.typing.specs.Scope.{names_in, variable_entry_of}
 use Rattle.typing.specs.declared.typed_lists.Declared.{Declared}

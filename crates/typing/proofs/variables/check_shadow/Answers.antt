@@ -1,5 +1,4 @@
-use Rattle.std.proofs.Common.{◌≡◌, ◌∙◌, Bool, true, false, not, List, [], ap, sym, refl, is_some, if◌then◌else◌}
-use Rattle.std.specs.Map.{lookup}
+use Rattle.std.proofs.Common.{◌≡◌, ◌∙◌, Bool, true, false, not, List, [], ap, sym, refl, if◌then◌else◌}
 use Rattle.std.specs.Option.{option_map}
 use Rattle.typing.specs.TypedLists.{declared_of}
 use Rattle.typing.specs.Scope.{variable_entry_of}

@@ -1,4 +1,4 @@
-use Rattle.std.proofs.Common.{◌≡◌, [], map, drop, if◌then◌else◌}
+use Rattle.std.proofs.Common.{◌≡◌, map, drop}
 use Rattle.std.specs.List.{flat_map}
 use Rattle.typing.specs.TypedLists.{declared_of}
 use Rattle.typing.specs.Scope.{variable_entry_of}

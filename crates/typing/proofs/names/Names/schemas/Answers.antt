@@ -1,4 +1,3 @@
-use Rattle.std.proofs.Common.{◌≡◌}
 use Rattle.std.proofs.lemmas.Result.{IfOk-weaker}
 use Rattle.pddl_tree.specs.Tree.{domain_of}
 use Rattle.typing.specs.Names.{known_in, AreSchemasOf}
