@@ -118,7 +118,7 @@ pub(crate) fn copied(binding: &Binding) -> Binding
     ensures { result.items ≡ binding.now.items }
 {
     let mut copy = Binding::new();
-    for object in binding {
+    for object in binding.as_slice() {
         copy.push(*object);
     }
     copy
