@@ -1,6 +1,6 @@
 -- One more variable and its objects, one after another.
-use Rattle.std.proofs.Common.{◌≡◌, ℕ, ◌+◌, ◌-◌, ◌≤◌, ◌<◌, Bool, true, false, ◌&&◌, ◌||◌, List, [], ◌∷◌, ◌++◌, length, map, take, cond, nat_lt, refl, sym, ap, subst, ◌∙◌, arith, zero, suc}
-use Rattle.std.specs.Prelude.{filter, IsTrue}
+use Rattle.std.proofs.Common.{◌≡◌, ℕ, ◌+◌, ◌-◌, ◌<◌, Bool, true, false, ◌&&◌, ◌||◌, List, [], ◌∷◌, ◌++◌, length, map, take, cond, nat_lt, refl, sym, ap, ◌∙◌, arith, zero, suc}
+use Rattle.std.specs.Prelude.{filter}
 use Rattle.std.specs.Cmp.{first_so, second_so}
 use Rattle.std.specs.Cmp.Lexicographic.{pointwise, as_long}
 use Rattle.std.specs.List.{list_all, list_any, flat_map, range_with_len}
@@ -15,7 +15,7 @@ use Rattle.typing.specs.TaskParts.{object_of}
 use Rattle.formulas.specs.State.{FitsFormula}
 use Rattle.model.specs.Task as task
 use Rattle.model.specs.WellTyped.{is_formula, max_variables}
-use Rattle.model.specs.Meaning.{State, is_of, holds}
+use Rattle.model.specs.Meaning.{is_of}
 
 -- ---- the numbers that pass a test, one after another
 
