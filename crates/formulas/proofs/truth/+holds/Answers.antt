@@ -47,13 +47,17 @@ holds-some_holds-requires t c = (
 
 pub holds-returns-in-And : goal.holds-returns-in-And
 holds-returns-in-And t c =
-    c.all_hold.ensures
-    ∙ sym (holds_by_all c.args.formula.now c.in-And.parts c.deref.result.now c.in-And.is c.deref.ensures.value (task_of c.args.task.now) (map object_of c.args.binding.now.items) (state_of c.args.state.now))
+    search (
+      rules,
+      holds_by_all c.args.formula.now c.in-And.parts c.deref.result.now c.in-And.is c.deref.ensures.value (task_of c.args.task.now) (map object_of c.args.binding.now.items) (state_of c.args.state.now),
+    )
 
 pub holds-returns-in-Or : goal.holds-returns-in-Or
 holds-returns-in-Or t c =
-    c.some_holds.ensures
-    ∙ sym (holds_by_some c.args.formula.now c.in-Or.parts c.deref-in-Or.result.now c.in-Or.is c.deref-in-Or.ensures.value (task_of c.args.task.now) (map object_of c.args.binding.now.items) (state_of c.args.state.now))
+    search (
+      rules,
+      holds_by_some c.args.formula.now c.in-Or.parts c.deref-in-Or.result.now c.in-Or.is c.deref-in-Or.ensures.value (task_of c.args.task.now) (map object_of c.args.binding.now.items) (state_of c.args.state.now),
+    )
 
 -- ---- their lists
 
@@ -163,11 +167,11 @@ pub holds_for_some-holds-requires : goal.holds_for_some-holds-requires
 holds_for_some-holds-requires t c =
     let task = task_of c.args.task.now in
     let part = formula_of c.args.part.now in
-    let one : ObjectId = record { 0 = c.loop-number.number } in
-    let objects = one_more c.loop-number.extended.items c.push.new.self.items one c.args.binding.now.items c.loop-number.invariant.0 c.push.ensures.items in (
+    let one : ObjectId = record { 0 = c.loop-candidate.candidate } in
+    let objects = one_more c.loop-candidate.tried.items c.push.new.self.items one c.args.binding.now.items c.loop-candidate.invariant.0 c.push.ensures.items in (
       search (rules, the_lemmas),
       subst (FitsFormula task part) (sym objects)
-          (extended_fits task (union_of c.args.types.now) part c.args.binding.now.items c.requires c.loop-number.number (sym c.is_of.ensures ∙ c.if-is_of.true)),
+          (extended_fits task (union_of c.args.types.now) part c.args.binding.now.items c.requires c.loop-candidate.candidate (sym c.is_of.ensures ∙ c.if-is_of.true)),
     )
 
 pub holds_for_some-returns-then-holds : goal.holds_for_some-returns-then-holds
@@ -176,35 +180,35 @@ holds_for_some-returns-then-holds t c =
     let part = formula_of c.args.part.now in
     let state = state_of c.args.state.now in
     let binding = c.args.binding.now.items in
-    let one : ObjectId = record { 0 = c.loop-number.number } in
-    let objects = one_more c.loop-number.extended.items c.push.new.self.items one binding c.loop-number.invariant.0 c.push.ensures.items in
-    passes_below (meaning.is_of task (union_of c.args.types.now)) (λ n. meaning.holds task part (map object_of binding ++ n ∷ []) state) c.loop-number.number (length task.objects)
-    (omega (arith, c.loop-number-test.true, c.object_count-number-end.ensures))
+    let one : ObjectId = record { 0 = c.loop-candidate.candidate } in
+    let objects = one_more c.loop-candidate.tried.items c.push.new.self.items one binding c.loop-candidate.invariant.0 c.push.ensures.items in
+    passes_below (meaning.is_of task (union_of c.args.types.now)) (λ n. meaning.holds task part (map object_of binding ++ n ∷ []) state) c.loop-candidate.candidate (length task.objects)
+    (omega (arith, c.loop-candidate-test.true, c.object_count-candidate-end.ensures))
     (sym c.is_of.ensures ∙ c.if-is_of.true)
     (ap (λ l. meaning.holds task part l state) (sym objects) ∙ sym c.holds.ensures ∙ c.if-holds.true)
 
-pub holds_for_some-loop-number-preserved : goal.holds_for_some-loop-number-preserved
-holds_for_some-loop-number-preserved t c =
+pub holds_for_some-loop-candidate-preserved : goal.holds_for_some-loop-candidate-preserved
+holds_for_some-loop-candidate-preserved t c =
     let task = task_of c.args.task.now in
     let part = formula_of c.args.part.now in
     let state = state_of c.args.state.now in
     let binding = c.args.binding.now.items in
-    let before = c.loop-number.extended.items in
-    let number = c.loop-number.number in
+    let before = c.loop-candidate.tried.items in
+    let number = c.loop-candidate.candidate in
     let one : ObjectId = record { 0 = number } in
     let among = meaning.is_of task (union_of c.args.types.now) in
     let test : ℕ → Bool = λ n. meaning.holds task part (map object_of binding ++ n ∷ []) state in
     elim c.if-is_of.branch [
       | holds_for_some-then-is_of+else-holds w ↦ (
-        ap (λ v. v.items) w.extended-is
-            ∙ one_less before w.push.new.self.items w.pop.new.self.items one binding c.loop-number.invariant.0 w.push.ensures.items _ (omega (arith, w.push.ensures.len)) w.pop.ensures.rest,
+        ap (λ v. v.items) w.tried-is
+            ∙ one_less before w.push.new.self.items w.pop.new.self.items one binding c.loop-candidate.invariant.0 w.push.ensures.items _ (omega (arith, w.push.ensures.len)) w.pop.ensures.rest,
         none_with among test number (sym c.is_of.ensures ∙ w.if-is_of.true)
-            (ap (λ l. meaning.holds task part l state) (sym (one_more before w.push.new.self.items one binding c.loop-number.invariant.0 w.push.ensures.items))
+            (ap (λ l. meaning.holds task part l state) (sym (one_more before w.push.new.self.items one binding c.loop-candidate.invariant.0 w.push.ensures.items))
             ∙ sym w.holds.ensures ∙ w.if-holds.false)
-            c.loop-number.invariant.1,
+            c.loop-candidate.invariant.1,
       )
       | holds_for_some-else-is_of w ↦ (
-        ap (λ v. v.items) w.extended-is ∙ c.loop-number.invariant.0,
-        none_without among test number (sym c.is_of.ensures ∙ w.if-is_of.false) c.loop-number.invariant.1,
+        ap (λ v. v.items) w.tried-is ∙ c.loop-candidate.invariant.0,
+        none_without among test number (sym c.is_of.ensures ∙ w.if-is_of.false) c.loop-candidate.invariant.1,
       )
     ]

@@ -25,8 +25,8 @@ invariant-holds_for_all-loop-number l =
     (among (meaning.is_of (task_of l.task) (union_of l.types)) l.number) ≡ true)
 
 -- and for none of them
-abbrev pub invariant-holds_for_some-loop-number : goal.invariant-holds_for_some-loop-number
-invariant-holds_for_some-loop-number l =
-    (l.extended.items ≡ l.binding.items)
+abbrev pub invariant-holds_for_some-loop-candidate : goal.invariant-holds_for_some-loop-candidate
+invariant-holds_for_some-loop-candidate l =
+    (l.tried.items ≡ l.binding.items)
     × (list_any (λ one. meaning.holds (task_of l.task) (formula_of l.part) (map object_of l.binding.items ++ one ∷ []) (state_of l.state))
-    (among (meaning.is_of (task_of l.task) (union_of l.types)) l.number) ≡ false)
+    (among (meaning.is_of (task_of l.task) (union_of l.types)) l.candidate) ≡ false)
