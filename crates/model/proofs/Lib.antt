@@ -20,6 +20,7 @@ pub mod GrammarExampleProofs
 pub mod TypingExampleProofs
 pub mod TypingFaultsLemmas
 pub mod TypingFaultsRepeats
+pub mod TypingFaultsVariables
 pub mod TypingFaultsUses
 pub mod TypingFaultsPhases
 pub mod TypingFaultsTold
