@@ -4,6 +4,7 @@ pub mod Tests
 pub mod ClaimsLemmas
 pub mod InstancesLemmas
 pub mod StaticLemmas
+pub mod SureLiteralsHold
 pub mod Steps
 pub mod ExampleProofs
 pub mod FormulaExampleProofs
