@@ -1,5 +1,5 @@
 -- Formulas: the reserved word that begins one, and what the grammar makes of what follows.
-use Rattle.std.specs.Prelude.{◌≡◌, ℕ, ◌×◌, List, Some}
+use Rattle.std.specs.Prelude.{◌≡◌, ◌<◌, ℕ, List, length, Some}
 use Rattle.tokens.specs.declared.word.Word.{Word}
 use Rattle.pddl_words.specs.Token.{from, first, reserved_view}
 use Rattle.pddl_words.specs.declared.token.ReservedName.{ReservedName}
@@ -12,6 +12,7 @@ use Rattle.model.specs.Grammar.{Phrase, gives, ◌>>=◌, ◌>>◌, listed, type
 pub record IsReserved (words : List Word) (at : ℕ) (word : ReservedName) : Type 0 where
   pub name : Name
   pub stands : first (from words at) ≡ Some (reserved (reserved_view word) name)
+  pub within : at < length words
 
 -- after the `=` of an equality
 abbrev pub the_equality : Phrase Formula

@@ -1,5 +1,6 @@
 //! Formulas, from the word after their parenthesis on.
 ghost use Rattle.std.specs.Prelude.{IfOk, IfErr, map};
+ghost use Rattle.faults.specs.declared.refused.Refused.TheVariants.{At};
 ghost use Rattle.model.specs.Grammar.{many, listed, formula as wants_formula};
 ghost use Rattle.pddl_tree.specs.Formula.{IsReserved, the_equality, the_last, the_implication, the_quantified};
 ghost use Rattle.pddl_tree.specs.Reading.{the, IsAfter, IsRead, IsTold};
