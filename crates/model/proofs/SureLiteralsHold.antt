@@ -1,5 +1,5 @@
 -- Where a formula holds, its sure literals do.
-use Rattle.std.proofs.Common.{◌≡◌, ℕ, Bool, true, ◌&&◌, List, [], ◌∷◌, ◌++◌, refl, ◌∙◌}
+use Rattle.std.proofs.Common.{◌≡◌, ℕ, Bool, true, List, [], ◌∷◌, ◌++◌, refl, ◌∙◌}
 use Rattle.std.specs.List.{flat_map, list_all}
 use Rattle.std.specs.FinSet.{contains}
 use Rattle.std.specs.Prelude.{nat_eq}
@@ -8,7 +8,7 @@ use Rattle.std.proofs.lemmas.Bool.{and_parts, and_from}
 use Rattle.std.proofs.lemmas.List.Folds.{list_all-append}
 use Rattle.model.specs.Task.{Task, Formula, Formulas, atom, equal, and, or, not, imply, exists, forall, no_formula, more_formulas}
 use Rattle.model.specs.Meaning.{State, object_of, objects_of, ground_atom, holds, all_hold}
-use Rattle.model.specs.SureLiterals.{Literal, literal_holds, sure_not, sure, all_sure, SureLiteralsHold}
+use Rattle.model.specs.SureLiterals.{literal_holds, sure_not, sure, all_sure, SureLiteralsHold}
 
 -- all pass in two lists in turn
 both_pass : {X : Type 0} (test : X → Bool) (first rest : List X) → list_all test first ≡ true → list_all test rest ≡ true → list_all test (first ++ rest) ≡ true

@@ -6,7 +6,7 @@ use Rattle.std.proofs.lemmas.Bool.{or_cases, or_left}
 use Rattle.model.specs.Trees.{Name, Domain, Problem}
 use Rattle.model.specs.Trees as tree
 use Rattle.model.specs.Typing.{Declared, Placed, placed, words_of, folded, is_same, declared_types, declared_objects, type_names, parents_of, known_in_domain, known_in_problem, TypingFault, in_domain, in_problem, refused, refused_word, repeated_after, repeated, one_after, type_faults, domain_name_faults, type_declaration_faults, comes_back, cycle_faults_from, cycle_faults, object_faults, argument_faults, declaration_faults, variable_faults, body_faults, schema_faults, action_faults, formula_faults, fact_faults}
-use Rattle.model.specs.TypingFaults.{Phase, of_names, of_cycles, of_objects, of_predicates, of_actions, of_init, of_goal, predicate_words, action_words, arguments_of, parameters_of, known_in, as_atom, IsRepeated, IsFaultIn, other_domain, type_again, object_declared, unknown_parent, many_types, type_cycle, type_of_object, object_again, many_objects, predicate_again, type_of_argument, many_arguments, action_again, IsVariableFault, of_parameters, in_precondition, in_effect, in_init, negated, in_goal}
+use Rattle.model.specs.TypingFaults.{Phase, of_names, of_cycles, of_objects, of_predicates, of_actions, of_init, of_goal, predicate_words, action_words, arguments_of, parameters_of, known_in, as_atom, IsRepeated, IsFaultIn, other_domain, type_again, object_declared, unknown_parent, many_types, type_cycle, type_of_object, object_again, many_objects, predicate_again, type_of_argument, many_arguments, action_again, of_parameters, in_precondition, in_effect, in_init, negated, in_goal}
 use Rattle.model.proofs.ListLemmas.{Contains-here, Contains-flat_map}
 use Rattle.model.proofs.TypingFaultsLemmas.{fault_at, Tells, AllTell, none_tells, both_tell, one_tells, flat_map_tell, refused_tell, unless_tells, when_tells, types_tell, on_left, on_right, unless_listed, when_listed, refused_listed, type_listed, Contains-one_after, one_after-Contains}
 use Rattle.model.proofs.TypingFaultsRepeats.{repeated_after-Contains, repeated-Contains, repeated_listed, known_listed}

@@ -1,5 +1,5 @@
 -- The faults that are listed of some variables are those that the table has of them.
-use Rattle.std.proofs.Common.{◌≡◌, ℕ, ◌+◌, ◌-◌, Bool, true, false, true≢false, ◌++◌, [], List, length, Some, refl, sym, ap, ◌∙◌, subst, arith}
+use Rattle.std.proofs.Common.{◌≡◌, ℕ, ◌+◌, ◌-◌, true, false, ◌++◌, [], List, length, Some, refl, sym, subst, arith}
 use Rattle.std.specs.Prelude.{Contains, nat_le, slice_get, if◌then◌else◌}
 use Rattle.std.proofs.lemmas.Bool.{leb-true, le-leb}
 use Rattle.model.specs.Typing.{Known, Declared, Placed, words_of, is_known, names_of_variables, refused, repeated, one_after, known_among, one_too_many, type_faults, variable_faults}
