@@ -1,7 +1,6 @@
 use Rattle.std.proofs.Common.{◌∙◌, refl, sym, ap, arith}
 use Rattle.model.specs.Grammar.{many, listed, typed, variables, term, formula, close}
 use Rattle.model.specs.Trees as tree
-use Rattle.faults.specs.declared.refused.Refused.TheVariants.{At}
 use Rattle.faults.proofs.Results.{if_ok, if_err}
 use Rattle.pddl_tree.specs.Tree.{formula_of, groups_of}
 use Rattle.pddl_tree.proofs.ReadOn.{given, then_read, first_told, then_told, by_word, by_word_told, in_list, in_list_told, not_open, of_tree, read_word, told_by, read_as, told_as}
@@ -111,7 +110,7 @@ pub last-returns-in_err-next-clause-told : goal.last-returns-in_err-next-clause-
 last-returns-in_err-next-clause-told t c = told_by _ c.from_residual-in_err-next.ensures.1 (then_told (listed formula) c.in_ok-part.ensures.read (first_told close c.in_err-next.ensures.told))
 
 pub part-returns-clause-read : goal.part-returns-clause-read
-part-returns-clause-read t c = of_tree (in_list formula c.in_ok-inside.ensures.word c.in_ok-part.ensures.read) (ap formula_of (sym c.in_ok-part-2.ensures))
+part-returns-clause-read t c = of_tree (in_list formula c.in_ok-inside.ensures.word c.in_ok-part.ensures.read) (ap formula_of (sym c.in_ok-part-2.ensures.ok))
 
 pub part-returns-in_err-part-clause-told : goal.part-returns-in_err-part-clause-told
 part-returns-in_err-part-clause-told t c = told_by _ c.from_residual-in_err-part.ensures.1 (in_list_told formula c.in_ok-inside.ensures.word c.in_err-part.ensures.told)
