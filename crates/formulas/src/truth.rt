@@ -99,15 +99,15 @@ fn holds_for_some(
     requires { FitsFormula (task_of task.now) (exists (union_of types.now) (formula_of part.now)) (map object_of binding.now.items) }
     ensures { result ≡ meaning.holds (task_of task.now) (exists (union_of types.now) (formula_of part.now)) (map object_of binding.now.items) (state_of state.now) }
 {
-    let mut extended = copied(binding);
-    for number in 0..task.object_count() {
-        let object = ObjectId(number as u32);
+    let mut tried = copied(binding);
+    for candidate in 0..task.object_count() {
+        let object = ObjectId(candidate as u32);
         if task.is_of(object, types) {
-            extended.push(object);
-            if holds(task, part, &extended, state) {
+            tried.push(object);
+            if holds(task, part, &tried, state) {
                 return true;
             }
-            extended.pop();
+            tried.pop();
         }
     }
     false
@@ -118,7 +118,7 @@ pub(crate) fn copied(binding: &Binding) -> Binding
     ensures { result.items ≡ binding.now.items }
 {
     let mut copy = Binding::new();
-    for object in binding {
+    for object in binding.as_slice() {
         copy.push(*object);
     }
     copy
