@@ -4,6 +4,7 @@ pub mod Tests
 pub mod ClaimsLemmas
 pub mod InstancesLemmas
 pub mod StaticLemmas
+pub mod SureLiteralsHold
 pub mod Steps
 pub mod ExampleProofs
 pub mod FormulaExampleProofs
@@ -20,6 +21,7 @@ pub mod GrammarExampleProofs
 pub mod TypingExampleProofs
 pub mod TypingFaultsLemmas
 pub mod TypingFaultsRepeats
+pub mod TypingFaultsVariables
 pub mod TypingFaultsUses
 pub mod TypingFaultsPhases
 pub mod TypingFaultsTold

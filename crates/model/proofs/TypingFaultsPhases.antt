@@ -5,11 +5,12 @@ use Rattle.std.specs.List.{flat_map}
 use Rattle.std.proofs.lemmas.Bool.{or_cases, or_left}
 use Rattle.model.specs.Trees.{Name, Domain, Problem}
 use Rattle.model.specs.Trees as tree
-use Rattle.model.specs.Typing.{Declared, Placed, placed, words_of, folded, is_same, declared_types, declared_objects, type_names, parents_of, known_in_domain, known_in_problem, TypingFault, in_domain, in_problem, refused, refused_word, repeated_after, repeated, one_after, type_faults, domain_name_faults, type_declaration_faults, comes_back, cycle_faults_from, cycle_faults, object_faults, argument_faults, declaration_faults, parameter_faults, body_faults, schema_faults, action_faults, formula_faults, fact_faults}
-use Rattle.model.specs.TypingFaults.{Phase, of_names, of_cycles, of_objects, of_predicates, of_actions, of_init, of_goal, predicate_words, action_words, arguments_of, parameters_of, known_in, as_atom, IsRepeated, IsFaultIn, other_domain, type_again, object_declared, unknown_parent, many_types, type_cycle, type_of_object, object_again, many_objects, predicate_again, type_of_argument, many_arguments, action_again, type_of_parameter, parameter_again, many_parameters, in_precondition, in_effect, in_init, negated, in_goal}
+use Rattle.model.specs.Typing.{Declared, Placed, placed, words_of, folded, is_same, declared_types, declared_objects, type_names, parents_of, known_in_domain, known_in_problem, TypingFault, in_domain, in_problem, refused, refused_word, repeated_after, repeated, one_after, type_faults, domain_name_faults, type_declaration_faults, comes_back, cycle_faults_from, cycle_faults, object_faults, argument_faults, declaration_faults, variable_faults, body_faults, schema_faults, action_faults, formula_faults, fact_faults}
+use Rattle.model.specs.TypingFaults.{Phase, of_names, of_cycles, of_objects, of_predicates, of_actions, of_init, of_goal, predicate_words, action_words, arguments_of, parameters_of, known_in, as_atom, IsRepeated, IsFaultIn, other_domain, type_again, object_declared, unknown_parent, many_types, type_cycle, type_of_object, object_again, many_objects, predicate_again, type_of_argument, many_arguments, action_again, of_parameters, in_precondition, in_effect, in_init, negated, in_goal}
 use Rattle.model.proofs.ListLemmas.{Contains-here, Contains-flat_map}
 use Rattle.model.proofs.TypingFaultsLemmas.{fault_at, Tells, AllTell, none_tells, both_tell, one_tells, flat_map_tell, refused_tell, unless_tells, when_tells, types_tell, on_left, on_right, unless_listed, when_listed, refused_listed, type_listed, Contains-one_after, one_after-Contains}
 use Rattle.model.proofs.TypingFaultsRepeats.{repeated_after-Contains, repeated-Contains, repeated_listed, known_listed}
+use Rattle.model.proofs.TypingFaultsVariables.{variables_tell, variable_listed}
 use Rattle.model.proofs.TypingFaultsUses.{atom_tells, atom_listed, formula_tells, formula_listed, effect_tells, effect_listed, ground_atom_as_atom}
 
 -- the faults that are listed of the phase
@@ -94,11 +95,9 @@ predicates_tell d p =
 -- the faults of one action
 schema_tells : (d : Domain) (p : Problem) (a : tree.Action) → Contains d.actions a → AllTell (IsFaultIn d p of_actions) (schema_faults (known_in_domain d) a)
 schema_tells d p a among =
-    both_tell (both_tell (both_tell (types_tell (type_names d) (parameters_of a) (λ w has unknown. type_of_parameter a w among has unknown))
-    (refused_tell _ _ (λ w at. parameter_again a w among (repeated-Contains (words_of (parameters_of a)) w at))))
-    (refused_tell _ _ (λ w at. many_parameters a w among (one_after-Contains 16 (words_of (parameters_of a)) w at))))
-    (both_tell (formula_tells in_domain (known_in d a) a.precondition (λ b code word has fault. in_precondition a b code word among has fault))
-    (effect_tells in_domain (known_in d a) a.effect (λ b code word has fault. in_effect a b code word among has fault)))
+    both_tell (variables_tell (known_in_domain d) (parameters_of a) (λ code w fault. of_parameters a code w among fault))
+    (both_tell (formula_tells in_domain (known_in d a) a.precondition (λ code w fault. in_precondition a code w among fault))
+    (effect_tells in_domain (known_in d a) a.effect (λ b code w has fault. in_effect a b code w among has fault)))
 
 -- 5: actions
 actions_tell : (d : Domain) (p : Problem) → AllTell (IsFaultIn d p of_actions) (phase_faults d p of_actions)
@@ -110,7 +109,7 @@ actions_tell d p =
 fact_tells : (d : Domain) (p : Problem) (f : tree.Fact) → Contains p.init f → AllTell (IsFaultIn d p of_init) (fact_faults in_problem (known_in_problem d p) f)
 fact_tells d p (tree.fact a) among =
     subst (AllTell (IsFaultIn d p of_init)) (sym (ground_atom_as_atom in_problem (known_in_problem d p) a))
-    (atom_tells in_problem (known_in_problem d p) (as_atom a) (λ code word fault. in_init a code word among fault))
+    (atom_tells in_problem (known_in_problem d p) (as_atom a) (λ code w fault. in_init a code w among fault))
 fact_tells d p (tree.negated word a) among = one_tells 24 (placed in_problem word) (negated word a among)
 
 -- each phase; 2, the cycles of types, and 7, the goal, at once
@@ -154,13 +153,13 @@ in_predicate d p q {f} among at = on_right (refused 16 (repeated (predicate_word
 in_action : (d : Domain) (p : Problem) (a : tree.Action) {f : TypingFault} → Contains d.actions a → Contains (schema_faults (known_in_domain d) a) f → Contains (phase_faults d p of_actions) f
 in_action d p a {f} among at = on_right (refused 16 (repeated (action_words d))) _ (Contains-flat_map (schema_faults (known_in_domain d)) d.actions a f among at)
 
--- those of its parameters
-in_parameters : (d : Domain) (p : Problem) (a : tree.Action) {f : TypingFault} → Contains d.actions a → Contains (parameter_faults (type_names d) (parameters_of a)) f → Contains (phase_faults d p of_actions) f
-in_parameters d p a among at = in_action d p a among (on_left _ _ at)
+-- the faults that are listed of its parameters
+abbrev faults_of_parameters : Domain → tree.Action → List TypingFault
+faults_of_parameters d a = variable_faults (type_names d) [] (parameters_of a)
 
--- and those of its precondition and its effect
+-- those of its precondition and its effect are, too
 in_body : (d : Domain) (p : Problem) (a : tree.Action) {f : TypingFault} → Contains d.actions a → Contains (body_faults in_domain (known_in d a) a) f → Contains (phase_faults d p of_actions) f
-in_body d p a among at = in_action d p a among (on_right (parameter_faults (type_names d) (parameters_of a)) _ at)
+in_body d p a among at = in_action d p a among (on_right (faults_of_parameters d a) _ at)
 
 -- each entry of the table
 pub phase_listed : (d : Domain) (p : Problem) (phase : Phase) (code : ℕ) (w : Placed) → IsFaultIn d p phase code w → Contains (phase_faults d p phase) (fault_at code w)
@@ -183,25 +182,20 @@ phase_listed d p phase code w (type_of_argument q v among has unknown) = in_pred
 phase_listed d p phase code w (many_arguments q v among at) =
     in_predicate d p q among (on_right (type_faults (type_names d) (arguments_of q)) _ (one_too_many_listed 8 (words_of (arguments_of q)) v at))
 phase_listed d p phase code w (action_again v again) = on_left _ _ (again_listed v again)
-phase_listed d p phase code w (type_of_parameter a v among has unknown) =
-    in_parameters d p a among (on_left _ _ (on_left _ _ (type_listed (type_names d) (parameters_of a) v has unknown)))
-phase_listed d p phase code w (parameter_again a v among again) =
-    in_parameters d p a among (on_left _ _ (on_right (type_faults (type_names d) (parameters_of a)) _ (again_listed v again)))
-phase_listed d p phase code w (many_parameters a v among at) =
-    in_parameters d p a among (on_right (type_faults (type_names d) (parameters_of a) ++ refused 16 (repeated (words_of (parameters_of a)))) _
-    (one_too_many_listed 16 (words_of (parameters_of a)) v at))
-phase_listed d p phase code w (in_precondition a b number word among has fault) =
-    in_body d p a among (on_left _ _ (formula_listed in_domain (known_in d a) a.precondition b number word has fault))
-phase_listed d p phase code w (in_effect a b number word among has fault) =
-    in_body d p a among (on_right (formula_faults in_domain (known_in d a) a.precondition) _ (effect_listed in_domain (known_in d a) a.effect b number word has fault))
-phase_listed d p phase code w (in_init a number word among fault) =
-    Contains-flat_map (fact_faults in_problem (known_in_problem d p)) p.init (tree.fact a) (fault_at number (placed in_problem word)) among
-    (subst (λ faults. Contains faults (fault_at number (placed in_problem word))) (sym (ground_atom_as_atom in_problem (known_in_problem d p) a))
-    (atom_listed in_problem (known_in_problem d p) (as_atom a) number word fault))
+phase_listed d p phase code w (of_parameters a number v among fault) =
+    in_action d p a among (on_left _ _ (variable_listed (known_in_domain d) (parameters_of a) number v fault))
+phase_listed d p phase code w (in_precondition a number v among fault) =
+    in_body d p a among (on_left _ _ (formula_listed in_domain (known_in d a) a.precondition number v fault))
+phase_listed d p phase code w (in_effect a b number v among has fault) =
+    in_body d p a among (on_right (formula_faults in_domain (known_in d a) a.precondition) _ (effect_listed in_domain (known_in d a) a.effect b number v has fault))
+phase_listed d p phase code w (in_init a number v among fault) =
+    Contains-flat_map (fact_faults in_problem (known_in_problem d p)) p.init (tree.fact a) (fault_at number v) among
+    (subst (λ faults. Contains faults (fault_at number v)) (sym (ground_atom_as_atom in_problem (known_in_problem d p) a))
+    (atom_listed in_problem (known_in_problem d p) (as_atom a) number v fault))
 phase_listed d p phase code w (negated word a among) =
     Contains-flat_map (fact_faults in_problem (known_in_problem d p)) p.init (tree.negated word a) (fault_at 24 (placed in_problem word)) among
     (Contains-here (fault_at 24 (placed in_problem word)) [])
-phase_listed d p phase code w (in_goal b number word has fault) = formula_listed in_problem (known_in_problem d p) p.goal b number word has fault
+phase_listed d p phase code w (in_goal number v fault) = formula_listed in_problem (known_in_problem d p) p.goal number v fault
 
 -- the faults that are listed of a phase are those that the table tells of it
 pub told_listed : (d : Domain) (p : Problem) (phase : Phase) (f : TypingFault) → Tells (IsFaultIn d p phase) f → Contains (phase_faults d p phase) f

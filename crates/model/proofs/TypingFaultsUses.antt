@@ -8,10 +8,11 @@ use Rattle.std.proofs.lemmas.List.{length-map}
 use Rattle.model.specs.Task as task
 use Rattle.model.specs.Trees.{Name}
 use Rattle.model.specs.Trees as tree
-use Rattle.model.specs.Typing.{Known, File, Placed, placed, folded, is_same, is_known, names_of_predicates, names_of_variables, names_of_objects, faults_against, predicate_in_known, predicate_faults, arguments_in, fits_in, fits_wanted, term_in, term_faults, word_of, misfit_faults, terms_faults, atom_faults, formula_faults, formulas_faults, effect_faults, effects_faults, ground_atom_faults}
-use Rattle.model.specs.TypingFaults.{HasAtom, SomeHasAtom, ChangesAtom, SomeChangesAtom, IsUnknown, IsAtomFault, unknown_predicate, unknown_term, wrong_count, wrong_type, as_atom}
+use Rattle.model.specs.Typing.{Known, File, Placed, placed, declared, known_with, variable_faults, folded, is_same, is_known, names_of_predicates, names_of_variables, names_of_objects, faults_against, predicate_in_known, predicate_faults, arguments_in, fits_in, fits_wanted, term_in, term_faults, word_of, misfit_faults, terms_faults, atom_faults, formula_faults, formulas_faults, effect_faults, effects_faults, ground_atom_faults}
+use Rattle.model.specs.TypingFaults.{ChangesAtom, SomeChangesAtom, IsUnknown, IsTermFault, IsAtomFault, IsFormulaFault, IsSomeFault, unknown_predicate, unknown_term, wrong_count, wrong_type, as_atom}
 use Rattle.model.proofs.ListLemmas.{Contains-here, Contains-there, Contains-cases, Contains-none}
 use Rattle.model.proofs.TypingFaultsLemmas.{fault_at, AllTell, none_tells, both_tell, one_tells, unless_tells, on_left, on_right, unless_listed}
+use Rattle.model.proofs.TypingFaultsVariables.{variables_tell, variable_listed}
 
 -- ---- the predicate
 
@@ -40,15 +41,15 @@ not_found test (p ∷ rest) none =
     ] none
 
 -- 17 and 18, of the predicate
-predicate_tells : {table : ℕ → Placed → Type 0} (file : File) (known : Known) (a : tree.Atom) → ((code : ℕ) (word : Name) → IsAtomFault known a code word → table code (placed file word))
+predicate_tells : {table : ℕ → Placed → Type 0} (file : File) (known : Known) (a : tree.Atom) → ((code : ℕ) (w : Placed) → IsAtomFault file known a code w → table code w)
     → AllTell table (predicate_faults file known a.predicate (length a.terms))
 predicate_tells {table} file known a fault = by_found (predicate_in_known known a.predicate) refl
   where
     by_found : (found : Option task.Predicate) → predicate_in_known known a.predicate ≡ found → AllTell table (faults_against file found a.predicate (length a.terms))
     by_found None at = one_tells 17 (placed file a.predicate)
-        (fault 17 a.predicate (unknown_predicate (none_found (is_same (folded a.predicate)) known.predicates at)))
+        (fault 17 (placed file a.predicate) (unknown_predicate (none_found (is_same (folded a.predicate)) known.predicates at)))
     by_found (Some p) at = unless_tells (length a.terms == length p.arguments) 18 (placed file a.predicate)
-        (λ other. fault 18 a.predicate (wrong_count p at (eqb-false (length a.terms) (length p.arguments) other)))
+        (λ other. fault 18 (placed file a.predicate) (wrong_count p at (eqb-false (length a.terms) (length p.arguments) other)))
 
 -- a predicate that is not declared
 unknown_listed : (file : File) (known : Known) (a : tree.Atom) → is_known (names_of_predicates known.predicates) a.predicate ≡ false
@@ -76,6 +77,16 @@ term_tells file known (tree.object name) fault = unless_tells (is_known (names_o
 term_listed : (file : File) (known : Known) (t : tree.Term) → IsUnknown known t → Contains (term_faults file known t) (fault_at 17 (placed file (word_of t)))
 term_listed file known (tree.variable name) unknown = unless_listed (is_known (names_of_variables known.variables) name) (fault_at 17 (placed file name)) unknown
 term_listed file known (tree.object name) unknown = unless_listed (is_known (names_of_objects known.objects) name) (fault_at 17 (placed file name)) unknown
+
+-- of a term of an equality
+equal_tells : {table : ℕ → Placed → Type 0} (file : File) (known : Known) (t : tree.Term) → ((code : ℕ) (w : Placed) → IsTermFault file known t code w → table code w)
+    → AllTell table (term_faults file known t)
+equal_tells file known t fault = term_tells file known t (λ unknown. fault 17 (placed file (word_of t)) (record { is_unknown = unknown; number = refl; word = refl }))
+
+-- and the other way
+equal_listed : (file : File) (known : Known) (t : tree.Term) (code : ℕ) (w : Placed) → IsTermFault file known t code w → Contains (term_faults file known t) (fault_at code w)
+equal_listed file known t code w fault =
+    subst (Contains (term_faults file known t)) (sym (λ i. fault_at (fault.number i) (fault.word i))) (term_listed file known t fault.is_unknown)
 
 -- what a list has past its first
 got_later : (unions : List task.Union) (place : ℕ) → slice_get (drop 1 unions) place ≡ slice_get unions (suc place)
@@ -130,90 +141,114 @@ argument_declared None place wanted at = absurd (cc)
 argument_declared (Some p) place wanted at = (p, refl, at)
 
 -- each fault that is listed of an atom is one that the table has of it
-pub atom_tells : {table : ℕ → Placed → Type 0} (file : File) (known : Known) (a : tree.Atom) → ((code : ℕ) (word : Name) → IsAtomFault known a code word → table code (placed file word))
+pub atom_tells : {table : ℕ → Placed → Type 0} (file : File) (known : Known) (a : tree.Atom) → ((code : ℕ) (w : Placed) → IsAtomFault file known a code w → table code w)
     → AllTell table (atom_faults file known a)
 atom_tells file known a fault =
     both_tell (predicate_tells file known a fault)
     (terms_tell file known (arguments_in known a.predicate) a.terms
-    (λ t at unknown. fault 17 (word_of t) (unknown_term t at unknown))
+    (λ t at unknown. fault 17 (placed file (word_of t)) (unknown_term t at unknown))
     (λ place wanted t of at misfit.
     let declared = argument_declared (predicate_in_known known a.predicate) place wanted of in
-    fault 19 (word_of t) (wrong_type declared.0 place wanted t declared.1 declared.2 at misfit)))
+    fault 19 (placed file (word_of t)) (wrong_type declared.0 place wanted t declared.1 declared.2 at misfit)))
 
 -- and the other way
-pub atom_listed : (file : File) (known : Known) (a : tree.Atom) (code : ℕ) (word : Name) → IsAtomFault known a code word → Contains (atom_faults file known a) (fault_at code (placed file word))
-atom_listed file known a code word (unknown_predicate unknown) = on_left _ _ (unknown_listed file known a unknown)
-atom_listed file known a code word (unknown_term t at unknown) =
+pub atom_listed : (file : File) (known : Known) (a : tree.Atom) (code : ℕ) (w : Placed) → IsAtomFault file known a code w → Contains (atom_faults file known a) (fault_at code w)
+atom_listed file known a code w (unknown_predicate unknown) = on_left _ _ (unknown_listed file known a unknown)
+atom_listed file known a code w (unknown_term t at unknown) =
     on_right (predicate_faults file known a.predicate (length a.terms)) _ (unknown_term_listed file known (arguments_in known a.predicate) a.terms t at unknown)
-atom_listed file known a code word (wrong_count p at other) = on_left _ _ (count_listed file known a p at other)
-atom_listed file known a code word (wrong_type p place wanted t found of at misfit) =
+atom_listed file known a code w (wrong_count p at other) = on_left _ _ (count_listed file known a p at other)
+atom_listed file known a code w (wrong_type p place wanted t found of at misfit) =
     on_right (predicate_faults file known a.predicate (length a.terms)) _ (misfit_listed file known (arguments_in known a.predicate) a.terms place wanted t
     (ap (λ (o : Option task.Predicate). slice_get (option_map_or (λ (q : task.Predicate). q.arguments) o []) place) found ∙ of) at misfit)
 
 -- ---- formulas and effects
 
 mutual
-  -- of a formula, by its atoms
+  -- of a formula
   pub formula_tells : {table : ℕ → Placed → Type 0} (file : File) (known : Known) (formula : tree.Formula)
-      → ((b : tree.Atom) (code : ℕ) (word : Name) → HasAtom formula b → IsAtomFault known b code word → table code (placed file word)) → AllTell table (formula_faults file known formula)
-  formula_tells file known (tree.atom a) fault = atom_tells file known a (λ code word. fault a code word refl)
+      → ((code : ℕ) (w : Placed) → IsFormulaFault file known formula code w → table code w) → AllTell table (formula_faults file known formula)
+  formula_tells file known (tree.atom a) fault = atom_tells file known a fault
+  formula_tells file known (tree.equal t u) fault =
+      both_tell (equal_tells file known t (λ code w here. fault code w (inl here))) (equal_tells file known u (λ code w here. fault code w (inr here)))
   formula_tells file known (tree.and parts) fault = formulas_tell file known parts fault
+  formula_tells file known (tree.or parts) fault = formulas_tell file known parts fault
+  formula_tells file known (tree.not part) fault = formula_tells file known part fault
+  formula_tells file known (tree.imply premise conclusion) fault =
+      both_tell (formula_tells file known premise (λ code w here. fault code w (inl here))) (formula_tells file known conclusion (λ code w here. fault code w (inr here)))
+  formula_tells file known (tree.exists groups part) fault =
+      both_tell (variables_tell known (declared file groups) (λ code w here. fault code w (inl here)))
+      (formula_tells file (known_with known (declared file groups)) part (λ code w here. fault code w (inr here)))
+  formula_tells file known (tree.forall groups part) fault =
+      both_tell (variables_tell known (declared file groups) (λ code w here. fault code w (inl here)))
+      (formula_tells file (known_with known (declared file groups)) part (λ code w here. fault code w (inr here)))
 
   -- of its parts
   formulas_tell : {table : ℕ → Placed → Type 0} (file : File) (known : Known) (parts : tree.Formulas)
-      → ((b : tree.Atom) (code : ℕ) (word : Name) → SomeHasAtom parts b → IsAtomFault known b code word → table code (placed file word)) → AllTell table (formulas_faults file known parts)
+      → ((code : ℕ) (w : Placed) → IsSomeFault file known parts code w → table code w) → AllTell table (formulas_faults file known parts)
   formulas_tell file known tree.no_formula fault = none_tells
   formulas_tell file known (tree.more_formulas first rest) fault =
-      both_tell (formula_tells file known first (λ b code word has. fault b code word (inl has))) (formulas_tell file known rest (λ b code word has. fault b code word (inr has)))
+      both_tell (formula_tells file known first (λ code w here. fault code w (inl here))) (formulas_tell file known rest (λ code w here. fault code w (inr here)))
 
 mutual
   -- and the other way
-  pub formula_listed : (file : File) (known : Known) (formula : tree.Formula) (b : tree.Atom) (code : ℕ) (word : Name) → HasAtom formula b → IsAtomFault known b code word
-      → Contains (formula_faults file known formula) (fault_at code (placed file word))
-  formula_listed file known (tree.atom a) b code word has fault =
-      subst (λ c. Contains (atom_faults file known c) (fault_at code (placed file word))) (sym has) (atom_listed file known b code word fault)
-  formula_listed file known (tree.and parts) b code word has fault = formulas_listed file known parts b code word has fault
+  pub formula_listed : (file : File) (known : Known) (formula : tree.Formula) (code : ℕ) (w : Placed) → IsFormulaFault file known formula code w
+      → Contains (formula_faults file known formula) (fault_at code w)
+  formula_listed file known (tree.atom a) code w fault = atom_listed file known a code w fault
+  formula_listed file known (tree.equal t u) code w (inl fault) = on_left _ _ (equal_listed file known t code w fault)
+  formula_listed file known (tree.equal t u) code w (inr fault) = on_right (term_faults file known t) _ (equal_listed file known u code w fault)
+  formula_listed file known (tree.and parts) code w fault = formulas_listed file known parts code w fault
+  formula_listed file known (tree.or parts) code w fault = formulas_listed file known parts code w fault
+  formula_listed file known (tree.not part) code w fault = formula_listed file known part code w fault
+  formula_listed file known (tree.imply premise conclusion) code w (inl fault) = on_left _ _ (formula_listed file known premise code w fault)
+  formula_listed file known (tree.imply premise conclusion) code w (inr fault) =
+      on_right (formula_faults file known premise) _ (formula_listed file known conclusion code w fault)
+  formula_listed file known (tree.exists groups part) code w (inl fault) = on_left _ _ (variable_listed known (declared file groups) code w fault)
+  formula_listed file known (tree.exists groups part) code w (inr fault) =
+      on_right (variable_faults known.type_names known.variables (declared file groups)) _ (formula_listed file (known_with known (declared file groups)) part code w fault)
+  formula_listed file known (tree.forall groups part) code w (inl fault) = on_left _ _ (variable_listed known (declared file groups) code w fault)
+  formula_listed file known (tree.forall groups part) code w (inr fault) =
+      on_right (variable_faults known.type_names known.variables (declared file groups)) _ (formula_listed file (known_with known (declared file groups)) part code w fault)
 
   -- of its parts
-  formulas_listed : (file : File) (known : Known) (parts : tree.Formulas) (b : tree.Atom) (code : ℕ) (word : Name) → SomeHasAtom parts b → IsAtomFault known b code word
-      → Contains (formulas_faults file known parts) (fault_at code (placed file word))
-  formulas_listed file known tree.no_formula b code word has fault = absurd has
-  formulas_listed file known (tree.more_formulas first rest) b code word (inl has) fault = on_left _ _ (formula_listed file known first b code word has fault)
-  formulas_listed file known (tree.more_formulas first rest) b code word (inr has) fault =
-      on_right (formula_faults file known first) _ (formulas_listed file known rest b code word has fault)
+  formulas_listed : (file : File) (known : Known) (parts : tree.Formulas) (code : ℕ) (w : Placed) → IsSomeFault file known parts code w
+      → Contains (formulas_faults file known parts) (fault_at code w)
+  formulas_listed file known tree.no_formula code w fault = absurd fault
+  formulas_listed file known (tree.more_formulas first rest) code w (inl fault) = on_left _ _ (formula_listed file known first code w fault)
+  formulas_listed file known (tree.more_formulas first rest) code w (inr fault) =
+      on_right (formula_faults file known first) _ (formulas_listed file known rest code w fault)
 
 mutual
   -- of an effect, by its atoms
   pub effect_tells : {table : ℕ → Placed → Type 0} (file : File) (known : Known) (effect : tree.Effect)
-      → ((b : tree.Atom) (code : ℕ) (word : Name) → ChangesAtom effect b → IsAtomFault known b code word → table code (placed file word)) → AllTell table (effect_faults file known effect)
-  effect_tells file known (tree.add a) fault = atom_tells file known a (λ code word. fault a code word refl)
-  effect_tells file known (tree.delete a) fault = atom_tells file known a (λ code word. fault a code word refl)
+      → ((b : tree.Atom) (code : ℕ) (w : Placed) → ChangesAtom effect b → IsAtomFault file known b code w → table code w) → AllTell table (effect_faults file known effect)
+  effect_tells file known (tree.add a) fault = atom_tells file known a (λ code w. fault a code w refl)
+  effect_tells file known (tree.delete a) fault = atom_tells file known a (λ code w. fault a code w refl)
   effect_tells file known (tree.both parts) fault = effects_tell file known parts fault
 
   -- of its parts
   effects_tell : {table : ℕ → Placed → Type 0} (file : File) (known : Known) (parts : tree.Effects)
-      → ((b : tree.Atom) (code : ℕ) (word : Name) → SomeChangesAtom parts b → IsAtomFault known b code word → table code (placed file word)) → AllTell table (effects_faults file known parts)
+      → ((b : tree.Atom) (code : ℕ) (w : Placed) → SomeChangesAtom parts b → IsAtomFault file known b code w → table code w) → AllTell table (effects_faults file known parts)
   effects_tell file known tree.no_effect fault = none_tells
   effects_tell file known (tree.more_effects first rest) fault =
-      both_tell (effect_tells file known first (λ b code word has. fault b code word (inl has))) (effects_tell file known rest (λ b code word has. fault b code word (inr has)))
+      both_tell (effect_tells file known first (λ b code w has. fault b code w (inl has))) (effects_tell file known rest (λ b code w has. fault b code w (inr has)))
 
 mutual
   -- and the other way
-  pub effect_listed : (file : File) (known : Known) (effect : tree.Effect) (b : tree.Atom) (code : ℕ) (word : Name) → ChangesAtom effect b → IsAtomFault known b code word
-      → Contains (effect_faults file known effect) (fault_at code (placed file word))
-  effect_listed file known (tree.add a) b code word has fault =
-      subst (λ c. Contains (atom_faults file known c) (fault_at code (placed file word))) (sym has) (atom_listed file known b code word fault)
-  effect_listed file known (tree.delete a) b code word has fault =
-      subst (λ c. Contains (atom_faults file known c) (fault_at code (placed file word))) (sym has) (atom_listed file known b code word fault)
-  effect_listed file known (tree.both parts) b code word has fault = effects_listed file known parts b code word has fault
+  pub effect_listed : (file : File) (known : Known) (effect : tree.Effect) (b : tree.Atom) (code : ℕ) (w : Placed) → ChangesAtom effect b → IsAtomFault file known b code w
+      → Contains (effect_faults file known effect) (fault_at code w)
+  effect_listed file known (tree.add a) b code w has fault =
+      subst (λ c. Contains (atom_faults file known c) (fault_at code w)) (sym has) (atom_listed file known b code w fault)
+  effect_listed file known (tree.delete a) b code w has fault =
+      subst (λ c. Contains (atom_faults file known c) (fault_at code w)) (sym has) (atom_listed file known b code w fault)
+  effect_listed file known (tree.both parts) b code w has fault = effects_listed file known parts b code w has fault
 
   -- of its parts
-  effects_listed : (file : File) (known : Known) (parts : tree.Effects) (b : tree.Atom) (code : ℕ) (word : Name) → SomeChangesAtom parts b → IsAtomFault known b code word
-      → Contains (effects_faults file known parts) (fault_at code (placed file word))
-  effects_listed file known tree.no_effect b code word has fault = absurd has
-  effects_listed file known (tree.more_effects first rest) b code word (inl has) fault = on_left _ _ (effect_listed file known first b code word has fault)
-  effects_listed file known (tree.more_effects first rest) b code word (inr has) fault =
-      on_right (effect_faults file known first) _ (effects_listed file known rest b code word has fault)
+  effects_listed : (file : File) (known : Known) (parts : tree.Effects) (b : tree.Atom) (code : ℕ) (w : Placed) → SomeChangesAtom parts b → IsAtomFault file known b code w
+      → Contains (effects_faults file known parts) (fault_at code w)
+  effects_listed file known tree.no_effect b code w has fault = absurd has
+  effects_listed file known (tree.more_effects first rest) b code w (inl has) fault = on_left _ _ (effect_listed file known first b code w has fault)
+  effects_listed file known (tree.more_effects first rest) b code w (inr has) fault =
+      on_right (effect_faults file known first) _ (effects_listed file known rest b code w has fault)
 
 -- ---- facts
 

@@ -1,6 +1,6 @@
 -- Worked examples of certificates: which are closed for a small task, and what is wrong with others. Each is chosen so
 -- that a wrong reading says otherwise.
-use Rattle.std.specs.Prelude.{◌≡◌, ℕ, true, false, List, [], ◌∷◌, Option, None, Some}
+use Rattle.std.specs.Prelude.{◌≡◌, ℕ, true, false, List, [], ◌∷◌, None, Some}
 use Rattle.model.specs.Task.{Atom}
 use Rattle.model.specs.Examples.{ground, tie_task}
 use Rattle.model.specs.Claims.{Claim, bound, none}

@@ -1,7 +1,7 @@
 -- Worked examples of formulas: which hold, whatever the state, and what they say outright. Each is chosen so that a wrong
 -- reading says otherwise.
 use Rattle.std.specs.Prelude.{◌≡◌, ℕ, Bool, true, false, List, [], ◌∷◌, ◌++◌, codes, replicate}
-use Rattle.model.specs.Task.{Task, Union, Term, variable, object, Formula, atom, equal, and, or, not, imply, exists, forall}
+use Rattle.model.specs.Task.{Task, Union, variable, object, Formula, atom, equal, and, or, not, imply, exists, forall}
 use Rattle.model.specs.Meaning.{State, holds}
 use Rattle.model.specs.WellTyped.{is_formula}
 use Rattle.model.specs.SureLiterals.{is_true, is_false, are_same, are_different, sure}

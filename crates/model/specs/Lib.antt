@@ -7,7 +7,9 @@ pub mod Grammar
 pub mod Refusals
 pub mod GrammarMachine
 pub mod Task
+pub mod Limits
 pub mod WellTyped
+pub mod Resolution
 pub mod Typing
 pub mod TypingFaults
 pub mod TypingExamples

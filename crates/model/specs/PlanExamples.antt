@@ -1,6 +1,6 @@
 -- Worked examples of plan texts: what the definitions say of small texts, each chosen so that a wrong reading says
 -- otherwise.
-use Rattle.std.specs.Prelude.{ℕ, List, [], ◌∷◌, codes}
+use Rattle.std.specs.Prelude.{ℕ, [], ◌∷◌, codes}
 use Rattle.model.specs.Fault.{Fault}
 use Rattle.model.specs.Examples.{fleet_task, instance}
 use Rattle.model.specs.PlanText.{IsPlanText, IsPlanFault}

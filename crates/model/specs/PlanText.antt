@@ -2,13 +2,13 @@
 -- are this repository's profile of what planners write and validators read: steps `(action object ..)`, each the name of
 -- an action (PDDL 1.2 manual, "Actions") and of an object for each of its parameters, with blanks and comments as in a
 -- domain file. Runs may have any length, and case does not matter.
-use Rattle.std.specs.Prelude.{◌≡◌, ◌≢◌, ℕ, ◌+◌, ◌<◌, ◌≤◌, Bool, true, false, IsTrue, if◌then◌else◌, List, [], ◌∷◌, ◌++◌, length, map, position, slice_get, Some, ⊤}
+use Rattle.std.specs.Prelude.{◌≡◌, ◌≢◌, ℕ, ◌+◌, ◌<◌, ◌≤◌, IsTrue, if◌then◌else◌, List, [], ◌∷◌, ◌++◌, length, map, position, slice_get, Some, ⊤}
 use Rattle.model.specs.Fault.{Span, Fault}
 use Rattle.model.specs.Words.{opening, closing, Part, form, bytes, size, is_gap, AreParts, is_name, longest_text}
 use Rattle.model.specs.Trees.{Name}
 use Rattle.model.specs.Task.{Union, Object, Task, Schema, Instance}
 use Rattle.model.specs.Meaning.{is_of, is_instance}
-use Rattle.model.specs.Typing.{folded, is_same}
+use Rattle.model.specs.Resolution.{folded, is_same}
 
 -- a parenthesis, a run or a stray byte of a text, and the offset of its first byte
 pub record Placed : Type 0 where

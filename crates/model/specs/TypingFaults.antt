@@ -3,10 +3,11 @@
 -- phase, and the first phase that has one is the one that tells, since what a later phase says rests on the declarations
 -- of those before it.
 use Rattle.std.specs.Prelude.{◌≡◌, ◌≢◌, ℕ, ◌+◌, ◌<◌, ◌≤◌, ◌⊎◌, true, false, List, ◌∷◌, ◌++◌, codes, length, map, slice_get, Some, Contains}
+use Rattle.model.specs.Limits.{max_types, max_objects, max_arguments, max_variables}
 use Rattle.model.specs.Task as task
 use Rattle.model.specs.Trees.{Name, Domain, Problem}
 use Rattle.model.specs.Trees as tree
-use Rattle.model.specs.Typing.{File, Known, Declared, Placed, placed, words_of, folded, is_same, is_known, declared, declared_types, declared_objects, type_names, parents_of, known_in_domain, known_in_action, known_with, known_in_problem, names_of_predicates, names_of_variables, names_of_objects, predicate_in_known, term_in, fits_in, word_of, comes_back, in_domain, in_problem, TypingFault, rank_of}
+use Rattle.model.specs.Resolution.{File, Known, Declared, Placed, placed, words_of, folded, is_same, is_known, declared, declared_types, declared_objects, type_names, parents_of, known_in_domain, known_in_action, known_with, known_in_problem, names_of_predicates, names_of_variables, names_of_objects, predicate_in_known, term_in, fits_in, word_of, comes_back, in_domain, in_problem, TypingFault, rank_of}
 
 -- the phases, in the order in which they are looked at
 pub data Phase : Type 0 where
@@ -104,8 +105,8 @@ pub data IsVariableFault (known : Known) (xs : List Declared) : ℕ → Placed �
   type_of_variable : (w : Placed) → HasType xs w → is_known known.type_names w.word ≡ false → IsVariableFault known xs 14 w
   variable_again : (w : Placed) → IsRepeated (words_of xs) w → IsVariableFault known xs 16 w
   in_scope_already : (w : Placed) → Contains (words_of xs) w → is_known (names_of_variables known.variables) w.word ≡ true → IsVariableFault known xs 20 w
-  -- the one that makes 17 in scope
-  many_variables : (w : Placed) (place : ℕ) → slice_get (words_of xs) place ≡ Some w → place + length known.variables ≡ 16 → IsVariableFault known xs 25 w
+  -- the first one beyond the limit
+  many_variables : (w : Placed) (place : ℕ) → slice_get (words_of xs) place ≡ Some w → place + length known.variables ≡ max_variables → IsVariableFault known xs 25 w
 
 -- By this number, this word of a formula of the file is refused, where these may be named in it: a word of one of its
 -- atoms, a term of an equality that is not known, or a word of a quantifier's variables, which are in scope in its part.
@@ -143,19 +144,19 @@ pub data IsFaultIn (d : Domain) (p : Problem) : Phase → ℕ → Placed → Typ
   type_again : (w : Placed) → IsRepeated (words_of (declared_types d)) w → IsFaultIn d p of_names 16 w
   object_declared : (w : Placed) → Contains (words_of (declared_types d)) w → is_same (folded w.word) (codes "object") ≡ true → IsFaultIn d p of_names 16 w
   unknown_parent : (w : Placed) → HasType (declared_types d) w → IsUnknownType d w → IsFaultIn d p of_names 14 w
-  many_types : (w : Placed) → slice_get (words_of (declared_types d)) 4095 ≡ Some w → IsFaultIn d p of_names 25 w
+  many_types : (w : Placed) → slice_get (words_of (declared_types d)) max_types ≡ Some w → IsFaultIn d p of_names 25 w
   -- 2: a type whose chain of parents comes back to it; the first declared type has the number 1
   type_cycle : (place : ℕ) (w : Placed) → slice_get (words_of (declared_types d)) place ≡ Some w → comes_back (parents_of d) (place + 1) ≡ true
       → IsFaultIn d p of_cycles 15 w
   -- 3: constants and objects, which share their names
   type_of_object : (w : Placed) → HasType (declared_objects d p) w → IsUnknownType d w → IsFaultIn d p of_objects 14 w
   object_again : (w : Placed) → IsRepeated (words_of (declared_objects d p)) w → IsFaultIn d p of_objects 16 w
-  many_objects : (w : Placed) → slice_get (words_of (declared_objects d p)) 65535 ≡ Some w → IsFaultIn d p of_objects 25 w
+  many_objects : (w : Placed) → slice_get (words_of (declared_objects d p)) max_objects ≡ Some w → IsFaultIn d p of_objects 25 w
   -- 4: predicates
   predicate_again : (w : Placed) → IsRepeated (predicate_words d) w → IsFaultIn d p of_predicates 16 w
   type_of_argument : (q : tree.Predicate) (w : Placed) → Contains d.predicates q → HasType (arguments_of q) w → IsUnknownType d w
       → IsFaultIn d p of_predicates 14 w
-  many_arguments : (q : tree.Predicate) (w : Placed) → Contains d.predicates q → slice_get (words_of (arguments_of q)) 8 ≡ Some w
+  many_arguments : (q : tree.Predicate) (w : Placed) → Contains d.predicates q → slice_get (words_of (arguments_of q)) max_arguments ≡ Some w
       → IsFaultIn d p of_predicates 25 w
   -- 5: actions
   action_again : (w : Placed) → IsRepeated (action_words d) w → IsFaultIn d p of_actions 16 w
