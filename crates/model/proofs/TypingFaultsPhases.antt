@@ -3,9 +3,9 @@ use Rattle.std.proofs.Common.{◌≡◌, ℕ, zero, suc, ◌+◌, inl, inr, true
 use Rattle.std.specs.Prelude.{Contains, codes, slice_get, if◌then◌else◌}
 use Rattle.std.specs.List.{flat_map}
 use Rattle.std.proofs.lemmas.Bool.{or_cases, or_left}
-use Rattle.model.specs.Trees.{Name, Domain, Problem}
+use Rattle.model.specs.Trees.{domain_file, problem_file, Name, Domain, Problem}
 use Rattle.model.specs.Trees as tree
-use Rattle.model.specs.Typing.{Declared, Placed, placed, words_of, folded, is_same, declared_types, declared_objects, type_names, parents_of, known_in_domain, known_in_problem, TypingFault, in_domain, in_problem, refused, refused_word, repeated_after, repeated, one_after, type_faults, domain_name_faults, type_declaration_faults, comes_back, cycle_faults_from, cycle_faults, object_faults, argument_faults, declaration_faults, variable_faults, body_faults, schema_faults, action_faults, formula_faults, fact_faults}
+use Rattle.model.specs.Typing.{Declared, Placed, placed, words_of, folded, is_same, declared_types, declared_objects, type_names, parents_of, known_in_domain, known_in_problem, TypingFault, refused, refused_word, repeated_after, repeated, one_after, type_faults, domain_name_faults, type_declaration_faults, comes_back, cycle_faults_from, cycle_faults, object_faults, argument_faults, declaration_faults, variable_faults, body_faults, schema_faults, action_faults, formula_faults, fact_faults}
 use Rattle.model.specs.TypingFaults.{Phase, of_names, of_cycles, of_objects, of_predicates, of_actions, of_init, of_goal, predicate_words, action_words, arguments_of, parameters_of, known_in, as_atom, IsRepeated, IsFaultIn, other_domain, type_again, object_declared, unknown_parent, many_types, type_cycle, type_of_object, object_again, many_objects, predicate_again, type_of_argument, many_arguments, action_again, of_parameters, in_precondition, in_effect, in_init, negated, in_goal}
 use Rattle.model.proofs.ListLemmas.{Contains-here, Contains-flat_map}
 use Rattle.model.proofs.TypingFaultsLemmas.{fault_at, Tells, AllTell, none_tells, both_tell, one_tells, flat_map_tell, refused_tell, unless_tells, when_tells, types_tell, on_left, on_right, unless_listed, when_listed, refused_listed, type_listed, Contains-one_after, one_after-Contains}
@@ -20,8 +20,8 @@ phase_faults d p of_cycles = cycle_faults d
 phase_faults d p of_objects = object_faults d p
 phase_faults d p of_predicates = declaration_faults (type_names d) d.predicates
 phase_faults d p of_actions = action_faults (known_in_domain d) d.actions
-phase_faults d p of_init = flat_map (fact_faults in_problem (known_in_problem d p)) p.init
-phase_faults d p of_goal = formula_faults in_problem (known_in_problem d p) p.goal
+phase_faults d p of_init = flat_map (fact_faults problem_file (known_in_problem d p)) p.init
+phase_faults d p of_goal = formula_faults problem_file (known_in_problem d p) p.goal
 
 -- ---- cycles of types
 
@@ -74,7 +74,7 @@ again_or_object d p w at =
 -- 1: the name in `:domain`, the types
 names_tell : (d : Domain) (p : Problem) → AllTell (IsFaultIn d p of_names) (phase_faults d p of_names)
 names_tell d p =
-    both_tell (unless_tells (is_same (folded p.domain) (folded d.name)) 21 (placed in_problem p.domain) other_domain)
+    both_tell (unless_tells (is_same (folded p.domain) (folded d.name)) 21 (placed problem_file p.domain) other_domain)
     (both_tell (both_tell (refused_tell _ _ (again_or_object d p)) (types_tell (type_names d) (declared_types d) unknown_parent))
     (refused_tell _ _ (λ w at. many_types w (one_after-Contains 4095 (words_of (declared_types d)) w at))))
 
@@ -96,8 +96,8 @@ predicates_tell d p =
 schema_tells : (d : Domain) (p : Problem) (a : tree.Action) → Contains d.actions a → AllTell (IsFaultIn d p of_actions) (schema_faults (known_in_domain d) a)
 schema_tells d p a among =
     both_tell (variables_tell (known_in_domain d) (parameters_of a) (λ code w fault. of_parameters a code w among fault))
-    (both_tell (formula_tells in_domain (known_in d a) a.precondition (λ code w fault. in_precondition a code w among fault))
-    (effect_tells in_domain (known_in d a) a.effect (λ b code w has fault. in_effect a b code w among has fault)))
+    (both_tell (formula_tells domain_file (known_in d a) a.precondition (λ code w fault. in_precondition a code w among fault))
+    (effect_tells domain_file (known_in d a) a.effect (λ b code w has fault. in_effect a b code w among has fault)))
 
 -- 5: actions
 actions_tell : (d : Domain) (p : Problem) → AllTell (IsFaultIn d p of_actions) (phase_faults d p of_actions)
@@ -106,11 +106,11 @@ actions_tell d p =
     (flat_map_tell _ _ (schema_tells d p))
 
 -- 6: what stands in `:init`
-fact_tells : (d : Domain) (p : Problem) (f : tree.Fact) → Contains p.init f → AllTell (IsFaultIn d p of_init) (fact_faults in_problem (known_in_problem d p) f)
+fact_tells : (d : Domain) (p : Problem) (f : tree.Fact) → Contains p.init f → AllTell (IsFaultIn d p of_init) (fact_faults problem_file (known_in_problem d p) f)
 fact_tells d p (tree.fact a) among =
-    subst (AllTell (IsFaultIn d p of_init)) (sym (ground_atom_as_atom in_problem (known_in_problem d p) a))
-    (atom_tells in_problem (known_in_problem d p) (as_atom a) (λ code w fault. in_init a code w among fault))
-fact_tells d p (tree.negated word a) among = one_tells 24 (placed in_problem word) (negated word a among)
+    subst (AllTell (IsFaultIn d p of_init)) (sym (ground_atom_as_atom problem_file (known_in_problem d p) a))
+    (atom_tells problem_file (known_in_problem d p) (as_atom a) (λ code w fault. in_init a code w among fault))
+fact_tells d p (tree.negated word a) among = one_tells 24 (placed problem_file word) (negated word a among)
 
 -- each phase; 2, the cycles of types, and 7, the goal, at once
 pub phase_tells : (d : Domain) (p : Problem) (phase : Phase) → AllTell (IsFaultIn d p phase) (phase_faults d p phase)
@@ -120,7 +120,7 @@ phase_tells d p of_objects = objects_tell d p
 phase_tells d p of_predicates = predicates_tell d p
 phase_tells d p of_actions = actions_tell d p
 phase_tells d p of_init = flat_map_tell _ _ (fact_tells d p)
-phase_tells d p of_goal = formula_tells in_problem (known_in_problem d p) p.goal in_goal
+phase_tells d p of_goal = formula_tells problem_file (known_in_problem d p) p.goal in_goal
 
 -- ---- each fault of the table is in its phase's list
 
@@ -158,12 +158,12 @@ abbrev faults_of_parameters : Domain → tree.Action → List TypingFault
 faults_of_parameters d a = variable_faults (type_names d) [] (parameters_of a)
 
 -- those of its precondition and its effect are, too
-in_body : (d : Domain) (p : Problem) (a : tree.Action) {f : TypingFault} → Contains d.actions a → Contains (body_faults in_domain (known_in d a) a) f → Contains (phase_faults d p of_actions) f
+in_body : (d : Domain) (p : Problem) (a : tree.Action) {f : TypingFault} → Contains d.actions a → Contains (body_faults domain_file (known_in d a) a) f → Contains (phase_faults d p of_actions) f
 in_body d p a among at = in_action d p a among (on_right (faults_of_parameters d a) _ at)
 
 -- each entry of the table
 pub phase_listed : (d : Domain) (p : Problem) (phase : Phase) (code : ℕ) (w : Placed) → IsFaultIn d p phase code w → Contains (phase_faults d p phase) (fault_at code w)
-phase_listed d p phase code w (other_domain other) = on_left _ _ (unless_listed (is_same (folded p.domain) (folded d.name)) (fault_at 21 (placed in_problem p.domain)) other)
+phase_listed d p phase code w (other_domain other) = on_left _ _ (unless_listed (is_same (folded p.domain) (folded d.name)) (fault_at 21 (placed problem_file p.domain)) other)
 phase_listed d p phase code w (type_again v again) = type_word_listed d p v (repeated_listed (codes "object" ∷ []) (words_of_types d) v again)
 phase_listed d p phase code w (object_declared v at same) =
     type_word_listed d p v (known_listed (codes "object" ∷ []) (words_of_types d) v at (or_left (is_same (folded v.word) (codes "object")) false same))
@@ -185,17 +185,17 @@ phase_listed d p phase code w (action_again v again) = on_left _ _ (again_listed
 phase_listed d p phase code w (of_parameters a number v among fault) =
     in_action d p a among (on_left _ _ (variable_listed (known_in_domain d) (parameters_of a) number v fault))
 phase_listed d p phase code w (in_precondition a number v among fault) =
-    in_body d p a among (on_left _ _ (formula_listed in_domain (known_in d a) a.precondition number v fault))
+    in_body d p a among (on_left _ _ (formula_listed domain_file (known_in d a) a.precondition number v fault))
 phase_listed d p phase code w (in_effect a b number v among has fault) =
-    in_body d p a among (on_right (formula_faults in_domain (known_in d a) a.precondition) _ (effect_listed in_domain (known_in d a) a.effect b number v has fault))
+    in_body d p a among (on_right (formula_faults domain_file (known_in d a) a.precondition) _ (effect_listed domain_file (known_in d a) a.effect b number v has fault))
 phase_listed d p phase code w (in_init a number v among fault) =
-    Contains-flat_map (fact_faults in_problem (known_in_problem d p)) p.init (tree.fact a) (fault_at number v) among
-    (subst (λ faults. Contains faults (fault_at number v)) (sym (ground_atom_as_atom in_problem (known_in_problem d p) a))
-    (atom_listed in_problem (known_in_problem d p) (as_atom a) number v fault))
+    Contains-flat_map (fact_faults problem_file (known_in_problem d p)) p.init (tree.fact a) (fault_at number v) among
+    (subst (λ faults. Contains faults (fault_at number v)) (sym (ground_atom_as_atom problem_file (known_in_problem d p) a))
+    (atom_listed problem_file (known_in_problem d p) (as_atom a) number v fault))
 phase_listed d p phase code w (negated word a among) =
-    Contains-flat_map (fact_faults in_problem (known_in_problem d p)) p.init (tree.negated word a) (fault_at 24 (placed in_problem word)) among
-    (Contains-here (fault_at 24 (placed in_problem word)) [])
-phase_listed d p phase code w (in_goal number v fault) = formula_listed in_problem (known_in_problem d p) p.goal number v fault
+    Contains-flat_map (fact_faults problem_file (known_in_problem d p)) p.init (tree.negated word a) (fault_at 24 (placed problem_file word)) among
+    (Contains-here (fault_at 24 (placed problem_file word)) [])
+phase_listed d p phase code w (in_goal number v fault) = formula_listed problem_file (known_in_problem d p) p.goal number v fault
 
 -- the faults that are listed of a phase are those that the table tells of it
 pub told_listed : (d : Domain) (p : Problem) (phase : Phase) (f : TypingFault) → Tells (IsFaultIn d p phase) f → Contains (phase_faults d p phase) f

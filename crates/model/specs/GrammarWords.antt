@@ -7,11 +7,6 @@ use Rattle.model.specs.Words.{Word, Kind, end_of}
 use Rattle.model.specs.Words as words
 use Rattle.model.specs.Trees.{Name}
 
--- which of the two files it is
-pub data File : Type 0 where
-  domain_file : File
-  problem_file : File
-
 -- a name that may be a predicate's: one with which a file begins, or any other
 pub data FreeName : Type 0 where
   define : FreeName

@@ -10,7 +10,7 @@ use Rattle.std.specs.Option.{option_map_or}
 use Rattle.model.specs.Fault.{Fault}
 use Rattle.model.specs.Task as task
 use Rattle.model.specs.Meaning.{is_below_in}
-use Rattle.model.specs.Trees.{Name, Group, Domain, Problem}
+use Rattle.model.specs.Trees.{File, domain_file, problem_file, Name, Group, Domain, Problem}
 use Rattle.model.specs.Trees as tree
 
 -- ---- names
@@ -36,10 +36,6 @@ with_name names name = if is_known names name then names else names ++ folded na
 
 -- ---- what typed lists declare
 
-pub data File : Type 0 where
-  in_domain : File
-  in_problem : File
-
 -- a name that a typed list of a file declares, and the types after its `-`
 pub record Declared : Type 0 where
   pub file : File
@@ -57,14 +53,14 @@ abbrev pub names_of : List Declared → List Name
 names_of xs = map (λ (x : Declared). x.name) xs
 
 abbrev pub declared_types : Domain → List Declared
-declared_types d = declared in_domain d.types
+declared_types d = declared domain_file d.types
 
 abbrev pub declared_constants : Domain → List Declared
-declared_constants d = declared in_domain d.constants
+declared_constants d = declared domain_file d.constants
 
 -- the constants and the objects, which are declared in one space of names
 abbrev pub declared_objects : Domain → Problem → List Declared
-declared_objects d p = declared_constants d ++ declared in_problem p.objects
+declared_objects d p = declared_constants d ++ declared problem_file p.objects
 
 -- ---- types
 
@@ -218,7 +214,7 @@ abbrev pub objects_of : Domain → Problem → List task.Object
 objects_of d p = map (object_in (type_names d)) (declared_objects d p)
 
 abbrev pub predicate_in : List task.Name → tree.Predicate → task.Predicate
-predicate_in types p = record { name = folded p.name; arguments = unions_in types (declared in_domain p.parameters) }
+predicate_in types p = record { name = folded p.name; arguments = unions_in types (declared domain_file p.parameters) }
 
 abbrev pub predicates_of : Domain → List task.Predicate
 predicates_of d = map (predicate_in (type_names d)) d.predicates
@@ -235,7 +231,7 @@ known_in_domain d = record {
 
 -- in an action: what the domain declares, and the action's parameters
 abbrev pub known_in_action : Known → tree.Action → Known
-known_in_action known a = record known { variables = variables_after known.type_names [] (declared in_domain a.parameters) }
+known_in_action known a = record known { variables = variables_after known.type_names [] (declared domain_file a.parameters) }
 
 -- in the initial state and the goal: what the domain declares, and the problem's objects
 abbrev pub known_in_problem : Domain → Problem → Known
@@ -250,8 +246,8 @@ known_in_problem d p = record {
 abbrev pub schema_in : Known → tree.Action → task.Schema
 schema_in known a = record {
   name = folded a.name;
-  parameters = unions_in known.type_names (declared in_domain a.parameters);
-  precondition = formula_in in_domain (known_in_action known a) a.precondition;
+  parameters = unions_in known.type_names (declared domain_file a.parameters);
+  precondition = formula_in domain_file (known_in_action known a) a.precondition;
   effect = effect_in (known_in_action known a) a.effect;
 }
 
@@ -263,7 +259,7 @@ task_of_trees d p = record {
   predicates = predicates_of d;
   schemas = map (schema_in (known_in_domain d)) d.actions;
   init = flat_map (atoms_in (known_in_problem d p)) p.init;
-  goal = formula_in in_problem (known_in_problem d p) p.goal;
+  goal = formula_in problem_file (known_in_problem d p) p.goal;
 }
 
 -- ---- words and faults
@@ -287,8 +283,8 @@ words_of xs = map (λ (x : Declared). placed x.file x.name) xs
 
 -- the domain comes before the problem
 abbrev pub rank_of : File → ℕ
-rank_of in_domain = 0
-rank_of in_problem = 1
+rank_of domain_file = 0
+rank_of problem_file = 1
 
 -- ---- what the rules of use look up
 

@@ -4,6 +4,7 @@ use Rattle.typing.specs.TaskParts as parts
 use Rattle.typing.specs.Scope.{known_outside, variable_entry_of}
 use Rattle.typing.specs.Walk.{found, least_of}
 use Rattle.pddl_tree.specs.Tree as read
+use Rattle.model.specs.Trees.{domain_file}
 use Rattle.model.specs.Typing as typing
 use Rattle.typing.proofs.Found.{found_after}
 use Rattle.typing.proofs.Tells.{on_ok_weaker}
@@ -25,7 +26,7 @@ returns-clause-shape c =
     let is = same (goal.at.returns-clause-shape c).In_ok-parameters in
     let parameters = c.in_ok-parameters.ensures ∙ ap (typing.unions_in known.type_names) c.requires in
     IfOk-weaker c.body.result _ (λ s. parts.shape_of s ≡ parts.shape_of_schema (typing.schema_in known a))
-    (λ s shape. shape ∙ (λ j. (parameters j, typing.formula_in typing.in_domain (is j) a.precondition, typing.effect_in (is j) a.effect))) c.body.ensures.shape
+    (λ s shape. shape ∙ (λ j. (parameters j, typing.formula_in domain_file (is j) a.precondition, typing.effect_in (is j) a.effect))) c.body.ensures.shape
 
 pub returns-clause-finds : goal.returns-clause-finds
 returns-clause-finds c =
@@ -33,6 +34,6 @@ returns-clause-finds c =
     let is = same (goal.at.returns-clause-finds c).In_ok-parameters in
     let before = least_of c.args.walk.now in let middle = least_of c.declare_variables.new.walk in
     on_ok_weaker c.body.result
-    (λ finds. found_after before middle _ (typing.variable_faults known.type_names [] (typing.declared typing.in_domain a.parameters)) (typing.body_faults typing.in_domain (typing.known_in_action known a) a)
+    (λ finds. found_after before middle _ (typing.variable_faults known.type_names [] (typing.declared domain_file a.parameters)) (typing.body_faults domain_file (typing.known_in_action known a) a)
     (c.in_ok-declare_variables.ensures.finds ∙ (λ j. found before (typing.variable_faults known.type_names (map variable_entry_of (c.new-variables.ensures.empty j)) (c.requires j))))
-    (finds ∙ ap (λ k. found middle (typing.body_faults typing.in_domain k a)) is)) c.body.ensures.finds
+    (finds ∙ ap (λ k. found middle (typing.body_faults domain_file k a)) is)) c.body.ensures.finds
