@@ -9,8 +9,8 @@ ghost use Rattle.pddl_tree.specs.Place.{listed_view};
 ghost use Rattle.pddl_tree.specs.Reading.{the, IsAfter, IsWord, IsTold, Opens, IsNotOpen, Heads, IsNoPredicate, closes_first};
 ghost use Rattle.pddl_tree.specs.Typed.{IsListed, IsNotListed, ends_group_first};
 
-use crate::tree::TaskFile;
 use crate::refusal::{Listed, Place, refusal};
+use crate::tree::TaskFile;
 use pddl_words::{FreeName, Keyword, Name, ReservedName, Term, Token, WordRefusal, token_at};
 use tokens::Word;
 

@@ -30,7 +30,7 @@ ghost use Rattle.pddl_tree.specs.Tree.{file_of, domain_of, problem_of};
 use crate::look::{close, define, kind, name, open};
 use crate::refusal::{Place, refusal};
 use crate::sections::{Contents, sections};
-use crate::tree::{TaskFile, Domain, Problem};
+use crate::tree::{Domain, Problem, TaskFile};
 use faults::{Fault, Refusal, Refused, Span};
 use pddl_words::{Name, WordFault, WordRefusal};
 use std::alloc::Global;

@@ -16,7 +16,7 @@ use crate::formulas::formula;
 use crate::lists::keys;
 use crate::look::{close, is_close, name, open};
 use crate::refusal::{Listed, Place, has_section, refusal};
-use crate::tree::{TaskFile, Action, Fact, Formula, Group, Predicate};
+use crate::tree::{Action, Fact, Formula, Group, Predicate, TaskFile};
 use crate::typed::typed;
 use faults::{NoMemory, Refused, Span};
 use pddl_words::{Keyword, Name, SectionKeyword, Token, WordFault, WordRefusal, token_at};
