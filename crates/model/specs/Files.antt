@@ -10,10 +10,10 @@ use Rattle.model.specs.GrammarWords.{domain_file, problem_file, tokens_of}
 use Rattle.model.specs.Refusals.{IsRefused}
 use Rattle.model.specs.GrammarWords as grammar
 use Rattle.model.specs.Task.{Task, Instance}
-use Rattle.model.specs.Typing.{in_domain, in_problem, TypingFault, task_of_trees}
+use Rattle.model.specs.Resolution.{in_domain, in_problem, TypingFault, task_of_trees}
 use Rattle.model.specs.TypingFaults as typing_faults
 use Rattle.model.specs.TypingFaults.{IsWellTyped}
-use Rattle.model.specs.Typing as typing
+use Rattle.model.specs.Resolution as resolution
 use Rattle.model.specs.Runs.{Verdict, IsVerdict}
 use Rattle.model.specs.Meaning.{system_of}
 use Rattle.model.specs.PlanText.{IsPlanText, IsPlanFault}
@@ -55,7 +55,7 @@ pub record IsTaskOf (domain problem : List ℕ) (task : Task) : Type 0 where
   pub well_typed : IsWellTyped domain_tree problem_tree
   pub resolved : task ≡ task_of_trees domain_tree problem_tree
 
-abbrev pub file_of : typing.File → File
+abbrev pub file_of : resolution.File → File
 file_of in_domain = the_domain
 file_of in_problem = the_problem
 

@@ -8,6 +8,7 @@ pub mod Refusals
 pub mod GrammarMachine
 pub mod Task
 pub mod WellTyped
+pub mod Resolution
 pub mod Typing
 pub mod TypingFaults
 pub mod TypingExamples

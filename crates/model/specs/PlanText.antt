@@ -8,7 +8,7 @@ use Rattle.model.specs.Words.{opening, closing, Part, form, bytes, size, is_gap,
 use Rattle.model.specs.Trees.{Name}
 use Rattle.model.specs.Task.{Union, Object, Task, Schema, Instance}
 use Rattle.model.specs.Meaning.{is_of, is_instance}
-use Rattle.model.specs.Typing.{folded, is_same}
+use Rattle.model.specs.Resolution.{folded, is_same}
 
 -- a parenthesis, a run or a stray byte of a text, and the offset of its first byte
 pub record Placed : Type 0 where

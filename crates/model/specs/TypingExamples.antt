@@ -5,7 +5,8 @@ use Rattle.model.specs.Task as task
 use Rattle.model.specs.Task.{Task}
 use Rattle.model.specs.Trees as tree
 use Rattle.model.specs.Trees.{Name, Group, GroundAtom, Fact, Predicate, Action, Domain, Problem, Term, Atom, Formula, Effect, formulas, effects}
-use Rattle.model.specs.Typing.{File, in_domain, in_problem, TypingFault, faults_of, task_of_trees}
+use Rattle.model.specs.Resolution.{File, in_domain, in_problem, TypingFault, task_of_trees}
+use Rattle.model.specs.Typing.{faults_of}
 
 -- a name that stands at this offset
 abbrev pub at : ℕ → List ℕ → Name

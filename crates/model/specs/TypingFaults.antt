@@ -6,7 +6,7 @@ use Rattle.std.specs.Prelude.{◌≡◌, ◌≢◌, ℕ, ◌+◌, ◌<◌, ◌�
 use Rattle.model.specs.Task as task
 use Rattle.model.specs.Trees.{Name, Domain, Problem}
 use Rattle.model.specs.Trees as tree
-use Rattle.model.specs.Typing.{File, Known, Declared, Placed, placed, words_of, folded, is_same, is_known, declared, declared_types, declared_objects, type_names, parents_of, known_in_domain, known_in_action, known_with, known_in_problem, names_of_predicates, names_of_variables, names_of_objects, predicate_in_known, term_in, fits_in, word_of, comes_back, in_domain, in_problem, TypingFault, rank_of}
+use Rattle.model.specs.Resolution.{File, Known, Declared, Placed, placed, words_of, folded, is_same, is_known, declared, declared_types, declared_objects, type_names, parents_of, known_in_domain, known_in_action, known_with, known_in_problem, names_of_predicates, names_of_variables, names_of_objects, predicate_in_known, term_in, fits_in, word_of, comes_back, in_domain, in_problem, TypingFault, rank_of}
 
 -- the phases, in the order in which they are looked at
 pub data Phase : Type 0 where

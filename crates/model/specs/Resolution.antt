@@ -1,0 +1,314 @@
+-- What the names of a domain and a problem resolve to: which names are the same, what typed lists declare, the types and
+-- those above them, what may be named where, and the task of the pair. The rules are those of the PDDL 1.2 manual for
+-- types, declarations and uses ("Types", "Predicates", "Actions", "Problems"). `TypingFaults` says by these definitions
+-- which faults a pair has.
+use Rattle.std.specs.Prelude.{ℕ, zero, suc, ◌+◌, Bool, true, ◌==◌, nat_eq, List, [], ◌∷◌, ◌++◌, codes, length, map, fold, slice_get, slice_index, if◌then◌else◌, Option}
+use Rattle.std.specs.Char.{to_ascii_lowercase}
+use Rattle.std.specs.Cmp.Lexicographic.{pointwise}
+use Rattle.std.specs.List.{flat_map, list_all, list_any, position_or_len}
+use Rattle.std.specs.Option.{option_map_or}
+use Rattle.model.specs.Fault.{Fault}
+use Rattle.model.specs.Task as task
+use Rattle.model.specs.Meaning.{is_below_in}
+use Rattle.model.specs.Trees.{Name, Group, Domain, Problem}
+use Rattle.model.specs.Trees as tree
+
+-- ---- names
+
+-- a name in lower case, as names are compared (PDDL 1.2 manual, "Syntax": names are not case-sensitive)
+abbrev pub folded : Name → task.Name
+folded name = map to_ascii_lowercase name.text
+
+abbrev pub is_same : task.Name → task.Name → Bool
+is_same = pointwise ◌==◌
+
+-- whether the name is one of these
+abbrev pub is_known : List task.Name → Name → Bool
+is_known names name = list_any (is_same (folded name)) names
+
+-- the number of a name: the place of the first that is the same, or how many there are where none is
+abbrev pub number_in : List task.Name → Name → ℕ
+number_in names name = position_or_len (is_same (folded name)) names
+
+-- these names and one more, unless it is among them
+abbrev pub with_name : List task.Name → Name → List task.Name
+with_name names name = if is_known names name then names else names ++ folded name ∷ []
+
+-- ---- what typed lists declare
+
+pub data File : Type 0 where
+  in_domain : File
+  in_problem : File
+
+-- a name that a typed list of a file declares, and the types after its `-`
+pub record Declared : Type 0 where
+  pub file : File
+  pub name : Name
+  pub types : List Name
+
+abbrev pub declared_in_group : File → Group → List Declared
+declared_in_group file g = map (λ (name : Name). record { file = file; name = name; types = g.types }) g.names
+
+-- what a typed list declares, in order
+abbrev pub declared : File → List Group → List Declared
+declared file groups = flat_map (declared_in_group file) groups
+
+abbrev pub names_of : List Declared → List Name
+names_of xs = map (λ (x : Declared). x.name) xs
+
+abbrev pub declared_types : Domain → List Declared
+declared_types d = declared in_domain d.types
+
+abbrev pub declared_constants : Domain → List Declared
+declared_constants d = declared in_domain d.constants
+
+-- the constants and the objects, which are declared in one space of names
+abbrev pub declared_objects : Domain → Problem → List Declared
+declared_objects d p = declared_constants d ++ declared in_problem p.objects
+
+-- ---- types
+
+-- The names of all types: `object`, and then those that the domain declares, each once.
+abbrev pub type_names : Domain → List task.Name
+type_names d = fold with_name (codes "object" ∷ []) (names_of (declared_types d))
+
+-- the types that are written after a `-`, by their numbers; where none is written, `object`
+abbrev pub union_in : List task.Name → List Name → task.Union
+union_in types [] = 0 ∷ []
+union_in types (first ∷ others) = map (number_in types) (first ∷ others)
+
+-- the number of the type that is written after a `-`, or that of `object`
+abbrev pub type_in : List task.Name → List Name → ℕ
+type_in types [] = 0
+type_in types (first ∷ others) = number_in types first
+
+-- the parents of `object` and of these types, in the order of their numbers; `object` is its own
+abbrev pub parents_in : List task.Name → List Declared → List ℕ
+parents_in types xs = 0 ∷ map (λ (x : Declared). type_in types x.types) xs
+
+abbrev pub parents_of : Domain → List ℕ
+parents_of d = parents_in (type_names d) (declared_types d)
+
+-- a type and those above it on its chain of parents, up to `object`; of a chain that comes back, so many
+abbrev pub chain : List ℕ → ℕ → ℕ → List ℕ
+chain parents zero number = []
+chain parents (suc most) zero = zero ∷ []
+chain parents (suc most) (suc number) = suc number ∷ chain parents most (slice_index parents (suc number))
+
+-- a chain that does not come back has no more types than there are
+abbrev pub whole_chain : List ℕ → ℕ → List ℕ
+whole_chain parents number = chain parents (length parents) number
+
+abbrev pub types_from : List ℕ → ℕ → List task.Name → List task.ObjectType
+types_from parents number [] = []
+types_from parents number (name ∷ names) = record { name = name; supertypes = whole_chain parents number } ∷ types_from parents (number + 1) names
+
+abbrev pub types_of : Domain → List task.ObjectType
+types_of d = types_from (parents_of d) 0 (type_names d)
+
+-- ---- the task of a domain and a problem
+
+-- a variable in scope, and its types
+pub record Variable : Type 0 where
+  pub name : task.Name
+  pub types : task.Union
+
+-- what may be named where a formula, an effect or an atom stands
+pub record Known : Type 0 where
+  pub type_names : List task.Name
+  pub types : List task.ObjectType
+  pub predicates : List task.Predicate
+  pub variables : List Variable
+  pub objects : List task.Object
+
+abbrev pub names_of_predicates : List task.Predicate → List task.Name
+names_of_predicates predicates = map (λ (p : task.Predicate). p.name) predicates
+
+abbrev pub names_of_variables : List Variable → List task.Name
+names_of_variables variables = map (λ (v : Variable). v.name) variables
+
+abbrev pub names_of_objects : List task.Object → List task.Name
+names_of_objects objects = map (λ (o : task.Object). o.name) objects
+
+-- these variables and one more, unless one of its name is among them: the first declaration counts
+abbrev pub with_variable : List Variable → Variable → List Variable
+with_variable variables v = if list_any (is_same v.name) (names_of_variables variables) then variables else variables ++ v ∷ []
+
+abbrev pub variable_in : List task.Name → Declared → Variable
+variable_in types x = record { name = folded x.name; types = union_in types x.types }
+
+-- these variables and those that are declared, each once
+abbrev pub variables_after : List task.Name → List Variable → List Declared → List Variable
+variables_after types variables xs = fold with_variable variables (map (variable_in types) xs)
+
+-- what each of the variables has to be, in order
+abbrev pub unions_in : List task.Name → List Declared → List task.Union
+unions_in types xs = map (λ (x : Declared). union_in types x.types) xs
+
+abbrev pub term_in : Known → tree.Term → task.Term
+term_in known (tree.variable name) = task.variable (number_in (names_of_variables known.variables) name)
+term_in known (tree.object name) = task.object (number_in (names_of_objects known.objects) name)
+
+abbrev pub lifted_atom_in : Known → tree.Atom → task.LiftedAtom
+lifted_atom_in known a = record {
+  predicate = number_in (names_of_predicates known.predicates) a.predicate;
+  terms = map (term_in known) a.terms;
+}
+
+-- one quantifier for each of some variables, of these types
+abbrev pub exists_each : List task.Union → task.Formula → task.Formula
+exists_each [] part = part
+exists_each (types ∷ others) part = task.exists types (exists_each others part)
+
+abbrev pub forall_each : List task.Union → task.Formula → task.Formula
+forall_each [] part = part
+forall_each (types ∷ others) part = task.forall types (forall_each others part)
+
+-- what may be named where these variables are in scope too
+abbrev pub known_with : Known → List Declared → Known
+known_with known xs = record known { variables = variables_after known.type_names known.variables xs }
+
+abbrev mutual
+  pub formula_in : File → Known → tree.Formula → task.Formula
+  formula_in file known (tree.atom a) = task.atom (lifted_atom_in known a)
+  formula_in file known (tree.equal t u) = task.equal (term_in known t) (term_in known u)
+  formula_in file known (tree.and parts) = task.and (formulas_in file known parts)
+  formula_in file known (tree.or parts) = task.or (formulas_in file known parts)
+  formula_in file known (tree.not part) = task.not (formula_in file known part)
+  formula_in file known (tree.imply premise conclusion) = task.imply (formula_in file known premise) (formula_in file known conclusion)
+  formula_in file known (tree.exists groups part) =
+      exists_each (unions_in known.type_names (declared file groups)) (formula_in file (known_with known (declared file groups)) part)
+  formula_in file known (tree.forall groups part) =
+      forall_each (unions_in known.type_names (declared file groups)) (formula_in file (known_with known (declared file groups)) part)
+
+  pub formulas_in : File → Known → tree.Formulas → task.Formulas
+  formulas_in file known tree.no_formula = task.no_formula
+  formulas_in file known (tree.more_formulas first rest) = task.more_formulas (formula_in file known first) (formulas_in file known rest)
+
+abbrev mutual
+  pub effect_in : Known → tree.Effect → task.Effect
+  effect_in known (tree.add a) = task.add (lifted_atom_in known a)
+  effect_in known (tree.delete a) = task.delete (lifted_atom_in known a)
+  effect_in known (tree.both parts) = task.both (effects_in known parts)
+
+  pub effects_in : Known → tree.Effects → task.Effects
+  effects_in known tree.no_effect = task.no_effect
+  effects_in known (tree.more_effects first rest) = task.more_effects (effect_in known first) (effects_in known rest)
+
+abbrev pub atom_in : Known → tree.GroundAtom → task.Atom
+atom_in known a = record {
+  predicate = number_in (names_of_predicates known.predicates) a.predicate;
+  objects = map (number_in (names_of_objects known.objects)) a.objects;
+}
+
+-- the atoms of the initial state; a negated one is a fault
+abbrev pub atoms_in : Known → tree.Fact → List task.Atom
+atoms_in known (tree.fact a) = atom_in known a ∷ []
+atoms_in known (tree.negated word a) = []
+
+-- an object, with its type
+abbrev pub object_in : List task.Name → Declared → task.Object
+object_in types x = record { name = folded x.name; type = type_in types x.types }
+
+abbrev pub constants_of : Domain → List task.Object
+constants_of d = map (object_in (type_names d)) (declared_constants d)
+
+-- the domain's constants, and then the problem's objects
+abbrev pub objects_of : Domain → Problem → List task.Object
+objects_of d p = map (object_in (type_names d)) (declared_objects d p)
+
+abbrev pub predicate_in : List task.Name → tree.Predicate → task.Predicate
+predicate_in types p = record { name = folded p.name; arguments = unions_in types (declared in_domain p.parameters) }
+
+abbrev pub predicates_of : Domain → List task.Predicate
+predicates_of d = map (predicate_in (type_names d)) d.predicates
+
+-- in the domain: what it declares
+abbrev pub known_in_domain : Domain → Known
+known_in_domain d = record {
+  type_names = type_names d;
+  types = types_of d;
+  predicates = predicates_of d;
+  variables = [];
+  objects = constants_of d;
+}
+
+-- in an action: what the domain declares, and the action's parameters
+abbrev pub known_in_action : Known → tree.Action → Known
+known_in_action known a = record known { variables = variables_after known.type_names [] (declared in_domain a.parameters) }
+
+-- in the initial state and the goal: what the domain declares, and the problem's objects
+abbrev pub known_in_problem : Domain → Problem → Known
+known_in_problem d p = record {
+  type_names = type_names d;
+  types = types_of d;
+  predicates = predicates_of d;
+  variables = [];
+  objects = objects_of d p;
+}
+
+abbrev pub schema_in : Known → tree.Action → task.Schema
+schema_in known a = record {
+  name = folded a.name;
+  parameters = unions_in known.type_names (declared in_domain a.parameters);
+  precondition = formula_in in_domain (known_in_action known a) a.precondition;
+  effect = effect_in (known_in_action known a) a.effect;
+}
+
+-- the task, where the pair is well-typed: each name is its number
+abbrev pub task_of_trees : Domain → Problem → task.Task
+task_of_trees d p = record {
+  types = types_of d;
+  objects = objects_of d p;
+  predicates = predicates_of d;
+  schemas = map (schema_in (known_in_domain d)) d.actions;
+  init = flat_map (atoms_in (known_in_problem d p)) p.init;
+  goal = formula_in in_problem (known_in_problem d p) p.goal;
+}
+
+-- ---- words and faults
+
+-- a fault of a pair of trees: the file that it is in, its number, and the span of the word that it refuses
+pub record TypingFault : Type 0 where
+  pub file : File
+  pub fault : Fault
+
+-- a word of one of the files
+pub record Placed : Type 0 where
+  pub file : File
+  pub word : Name
+
+abbrev pub placed : File → Name → Placed
+placed file word = record { file = file; word = word }
+
+-- the words of declarations
+abbrev pub words_of : List Declared → List Placed
+words_of xs = map (λ (x : Declared). placed x.file x.name) xs
+
+-- the domain comes before the problem
+abbrev pub rank_of : File → ℕ
+rank_of in_domain = 0
+rank_of in_problem = 1
+
+-- ---- what the rules of use look up
+
+-- the declaration of a predicate, if there is one
+abbrev pub predicate_in_known : Known → Name → Option task.Predicate
+predicate_in_known known name = slice_get known.predicates (number_in (names_of_predicates known.predicates) name)
+
+-- A term fits an argument of these types: a variable each of whose types is one of them or stands below one, an object
+-- whose type does. What is not known is no misfit.
+abbrev pub fits_in : Known → task.Union → task.Term → Bool
+fits_in known wanted (task.variable number) =
+    option_map_or (λ (v : Variable). list_all (is_below_in known.types wanted) v.types) (slice_get known.variables number) true
+fits_in known wanted (task.object number) =
+    option_map_or (λ (o : task.Object). is_below_in known.types wanted o.type) (slice_get known.objects number) true
+
+-- the word of a term
+abbrev pub word_of : tree.Term → Name
+word_of (tree.variable name) = name
+word_of (tree.object name) = name
+
+-- the type of this number stands on the chain of its own parent
+abbrev pub comes_back : List ℕ → ℕ → Bool
+comes_back parents number = list_any (nat_eq number) (whole_chain parents (slice_index parents number))
