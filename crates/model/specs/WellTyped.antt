@@ -4,7 +4,7 @@ use Rattle.std.specs.Prelude.{ℕ, Bool, true, false, ◌&&◌, nat_eq, nat_le, 
 use Rattle.std.specs.Cmp.Lexicographic.{pointwise}
 use Rattle.std.specs.List.{list_all, list_any}
 use Rattle.std.specs.Option.{option_map_or}
-use Rattle.model.specs.Task.{ObjectType, Union, Predicate, Atom, LiftedAtom, Term, variable, object, Formula, Formulas, atom, equal, and, or, not, imply, exists, forall, no_formula, more_formulas, Effect, Effects, add, delete, both, no_effect, more_effects, Schema, Task}
+use Rattle.model.specs.Task.{ObjectType, Union, Predicate, Atom, LiftedAtom, Term, variable, object, Formula, Formulas, atom, equal, and, or, not, imply, exists, forall, no_formula, more_formulas, EffectLiteral, add, delete, Effect, Effects, literal, both, each, when, no_effect, more_effects, Schema, Task}
 use Rattle.model.specs.Meaning.{supertypes_of, is_below, is_of}
 
 -- the most arguments of a predicate, and the most variables in scope at once
@@ -50,11 +50,16 @@ abbrev mutual
   are_formulas task scope no_formula = true
   are_formulas task scope (more_formulas first rest) = is_formula task scope first && are_formulas task scope rest
 
+abbrev pub is_effect_literal : Task → List Union → EffectLiteral → Bool
+is_effect_literal task scope (add a) = is_lifted_atom task scope a
+is_effect_literal task scope (delete a) = is_lifted_atom task scope a
+
 abbrev mutual
   pub is_effect : Task → List Union → Effect → Bool
-  is_effect task scope (add a) = is_lifted_atom task scope a
-  is_effect task scope (delete a) = is_lifted_atom task scope a
+  is_effect task scope (literal l) = is_effect_literal task scope l
   is_effect task scope (both parts) = are_effects task scope parts
+  is_effect task scope (each types part) = nat_lt (length scope) max_variables && is_effect task (scope ++ types ∷ []) part
+  is_effect task scope (when condition literals) = is_formula task scope condition && list_all (is_effect_literal task scope) literals
 
   pub are_effects : Task → List Union → Effects → Bool
   are_effects task scope no_effect = true
@@ -62,7 +67,7 @@ abbrev mutual
 
 abbrev pub is_schema : Task → Schema → Bool
 is_schema task s =
-    nat_le (length s.parameters) max_variables && is_formula task s.parameters s.precondition && is_effect task s.parameters s.effect
+    nat_le s.cost max_number && nat_le (length s.parameters) max_variables && is_formula task s.parameters s.precondition && is_effect task s.parameters s.effect
 
 -- what stands above a type stands above all types below it
 abbrev pub is_whole_chain : Task → ObjectType → Bool
