@@ -7,6 +7,7 @@ pub mod Grammar
 pub mod Refusals
 pub mod GrammarMachine
 pub mod Task
+pub mod Limits
 pub mod WellTyped
 pub mod Resolution
 pub mod Typing

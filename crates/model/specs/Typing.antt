@@ -6,6 +6,7 @@ use Rattle.std.specs.Cmp.Lexicographic.{slice_cmp}
 use Rattle.std.specs.List.{flat_map}
 use Rattle.std.specs.Option.{option_map_or}
 use Rattle.std.specs.Ordering.{nat_cmp, is_lt}
+use Rattle.model.specs.Limits.{max_types, max_objects, max_arguments, max_variables}
 use Rattle.model.specs.Task as task
 use Rattle.model.specs.Trees.{Name, Domain, Problem}
 use Rattle.model.specs.Trees as tree
@@ -84,12 +85,12 @@ atom_faults file known a =
 abbrev pub known_among : List task.Name → List Placed → List Placed
 known_among names words = filter (λ (w : Placed). is_known names w.word) words
 
--- the variable that makes 17 in scope, where so many are in scope already
+-- the first variable beyond the limit, where so many are in scope already
 abbrev pub one_too_many : ℕ → List Placed → List Placed
-one_too_many count words = if nat_le count 16 then one_after (16 - count) words else []
+one_too_many count words = if nat_le count max_variables then one_after (max_variables - count) words else []
 
 -- Of a list of variables, where these are in scope. 14: an unknown type. 16: a variable twice in the list. 20: one whose
--- name is in scope. 25: the one that makes 17 in scope.
+-- name is in scope. 25: the first one beyond the limit.
 abbrev pub variable_faults : List task.Name → List Variable → List Declared → List TypingFault
 variable_faults types variables xs =
     type_faults types xs
@@ -157,12 +158,13 @@ init_faults file known facts = flat_map (fact_faults file known) facts ++ refuse
 abbrev pub domain_name_faults : Domain → Problem → List TypingFault
 domain_name_faults d p = if is_same (folded p.domain) (folded d.name) then [] else refused_word in_problem 21 p.domain
 
--- 16: a type declared before, or `object`. 14: a parent that is neither `object` nor declared. 25: the 4,096th type
+-- 16: a type declared before, or `object`. 14: a parent that is neither `object` nor declared. 25: the first one beyond
+-- the limit
 abbrev pub type_declaration_faults : Domain → List TypingFault
 type_declaration_faults d =
     refused 16 (repeated_after (codes "object" ∷ []) (words_of (declared_types d)))
     ++ type_faults (type_names d) (declared_types d)
-    ++ refused 25 (one_after 4095 (words_of (declared_types d)))
+    ++ refused 25 (one_after max_types (words_of (declared_types d)))
 
 -- 15: a type whose chain of parents comes back to it, where the first of these types has this number
 abbrev pub cycle_faults_from : List ℕ → ℕ → List Declared → List TypingFault
@@ -173,18 +175,19 @@ cycle_faults_from parents number (x ∷ xs) =
 abbrev pub cycle_faults : Domain → List TypingFault
 cycle_faults d = cycle_faults_from (parents_of d) 1 (declared_types d)
 
--- 14: an unknown type. 16: a constant or object declared before, in either file. 25: the 65,536th
+-- 14: an unknown type. 16: a constant or object declared before, in either file. 25: the first one beyond the limit
 abbrev pub objects_faults : List task.Name → List Declared → List TypingFault
 objects_faults types xs =
-    type_faults types xs ++ refused 16 (repeated (words_of xs)) ++ refused 25 (one_after 65535 (words_of xs))
+    type_faults types xs ++ refused 16 (repeated (words_of xs)) ++ refused 25 (one_after max_objects (words_of xs))
 
 abbrev pub object_faults : Domain → Problem → List TypingFault
 object_faults d p = objects_faults (type_names d) (declared_objects d p)
 
--- 14: an unknown type. 25: the ninth argument
+-- 14: an unknown type. 25: the first argument beyond the limit
 abbrev pub argument_faults : List task.Name → tree.Predicate → List TypingFault
 argument_faults types q =
-    type_faults types (declared in_domain q.parameters) ++ refused 25 (one_after 8 (words_of (declared in_domain q.parameters)))
+    type_faults types (declared in_domain q.parameters)
+    ++ refused 25 (one_after max_arguments (words_of (declared in_domain q.parameters)))
 
 -- 16: a predicate declared before. And the faults of its arguments
 abbrev pub declaration_faults : List task.Name → List tree.Predicate → List TypingFault

@@ -3,6 +3,7 @@
 -- phase, and the first phase that has one is the one that tells, since what a later phase says rests on the declarations
 -- of those before it.
 use Rattle.std.specs.Prelude.{◌≡◌, ◌≢◌, ℕ, ◌+◌, ◌<◌, ◌≤◌, ◌⊎◌, true, false, List, ◌∷◌, ◌++◌, codes, length, map, slice_get, Some, Contains}
+use Rattle.model.specs.Limits.{max_types, max_objects, max_arguments, max_variables}
 use Rattle.model.specs.Task as task
 use Rattle.model.specs.Trees.{Name, Domain, Problem}
 use Rattle.model.specs.Trees as tree
@@ -95,8 +96,8 @@ pub data IsVariableFault (known : Known) (xs : List Declared) : ℕ → Placed �
   type_of_variable : (w : Placed) → HasType xs w → is_known known.type_names w.word ≡ false → IsVariableFault known xs 14 w
   variable_again : (w : Placed) → IsRepeated (words_of xs) w → IsVariableFault known xs 16 w
   in_scope_already : (w : Placed) → Contains (words_of xs) w → is_known (names_of_variables known.variables) w.word ≡ true → IsVariableFault known xs 20 w
-  -- the one that makes 17 in scope
-  many_variables : (w : Placed) (place : ℕ) → slice_get (words_of xs) place ≡ Some w → place + length known.variables ≡ 16 → IsVariableFault known xs 25 w
+  -- the first one beyond the limit
+  many_variables : (w : Placed) (place : ℕ) → slice_get (words_of xs) place ≡ Some w → place + length known.variables ≡ max_variables → IsVariableFault known xs 25 w
 
 -- By this number, this word of a formula of the file is refused, where these may be named in it: a word of one of its
 -- atoms, a term of an equality that is not known, or a word of a quantifier's variables, which are in scope in its part.
@@ -152,19 +153,19 @@ pub data IsFaultIn (d : Domain) (p : Problem) : Phase → ℕ → Placed → Typ
   type_again : (w : Placed) → IsRepeated (words_of (declared_types d)) w → IsFaultIn d p of_names 16 w
   object_declared : (w : Placed) → Contains (words_of (declared_types d)) w → is_same (folded w.word) (codes "object") ≡ true → IsFaultIn d p of_names 16 w
   unknown_parent : (w : Placed) → HasType (declared_types d) w → IsUnknownType d w → IsFaultIn d p of_names 14 w
-  many_types : (w : Placed) → slice_get (words_of (declared_types d)) 4095 ≡ Some w → IsFaultIn d p of_names 25 w
+  many_types : (w : Placed) → slice_get (words_of (declared_types d)) max_types ≡ Some w → IsFaultIn d p of_names 25 w
   -- 2: a type whose chain of parents comes back to it; the first declared type has the number 1
   type_cycle : (place : ℕ) (w : Placed) → slice_get (words_of (declared_types d)) place ≡ Some w → comes_back (parents_of d) (place + 1) ≡ true
       → IsFaultIn d p of_cycles 15 w
   -- 3: constants and objects, which share their names
   type_of_object : (w : Placed) → HasType (declared_objects d p) w → IsUnknownType d w → IsFaultIn d p of_objects 14 w
   object_again : (w : Placed) → IsRepeated (words_of (declared_objects d p)) w → IsFaultIn d p of_objects 16 w
-  many_objects : (w : Placed) → slice_get (words_of (declared_objects d p)) 65535 ≡ Some w → IsFaultIn d p of_objects 25 w
+  many_objects : (w : Placed) → slice_get (words_of (declared_objects d p)) max_objects ≡ Some w → IsFaultIn d p of_objects 25 w
   -- 4: predicates
   predicate_again : (w : Placed) → IsRepeated (predicate_words d) w → IsFaultIn d p of_predicates 16 w
   type_of_argument : (q : tree.Predicate) (w : Placed) → Contains d.predicates q → HasType (arguments_of q) w → IsUnknownType d w
       → IsFaultIn d p of_predicates 14 w
-  many_arguments : (q : tree.Predicate) (w : Placed) → Contains d.predicates q → slice_get (words_of (arguments_of q)) 8 ≡ Some w
+  many_arguments : (q : tree.Predicate) (w : Placed) → Contains d.predicates q → slice_get (words_of (arguments_of q)) max_arguments ≡ Some w
       → IsFaultIn d p of_predicates 25 w
   -- 5: functions, and the metric
   function_again : (place : ℕ) (n : Name) → slice_get d.functions (place + 1) ≡ Some n → IsFaultIn d p of_functions 16 (placed in_domain n)

@@ -1,18 +1,13 @@
 -- Which resolved formulas, effects, atoms and tasks are well-typed: each number names something, each predicate has the
 -- arguments that its declaration asks for, and the limits of the language profile are kept.
-use Rattle.std.specs.Prelude.{ℕ, Bool, true, false, ◌&&◌, nat_eq, nat_le, nat_lt, List, [], ◌∷◌, ◌++◌, length, slice_get}
+use Rattle.std.specs.Prelude.{Bool, true, false, ◌&&◌, nat_eq, nat_le, nat_lt, List, [], ◌∷◌, ◌++◌, length, slice_get}
 use Rattle.std.specs.Cmp.Lexicographic.{pointwise}
 use Rattle.std.specs.List.{list_all, list_any}
 use Rattle.std.specs.Option.{option_map_or}
+pub use Rattle.model.specs.Limits.{max_arguments, max_variables}
+use Rattle.model.specs.Limits.{max_number}
 use Rattle.model.specs.Task.{ObjectType, Union, Predicate, Atom, LiftedAtom, Term, variable, object, Formula, Formulas, atom, equal, and, or, not, imply, exists, forall, no_formula, more_formulas, EffectLiteral, add, delete, Effect, Effects, literal, both, each, when, no_effect, more_effects, Schema, Task}
 use Rattle.model.specs.Meaning.{supertypes_of, is_below, is_of}
-
--- the most arguments of a predicate, and the most variables in scope at once
-abbrev pub max_arguments : ℕ
-max_arguments = 8
-
-abbrev pub max_variables : ℕ
-max_variables = 16
 
 -- A term may stand where an object of one of these types is wanted: an object that is of one, or a variable each of
 -- whose own types is one of them or stands below one. These are the types of the variables in scope.

@@ -1,0 +1,22 @@
+-- The limits of the language profile on what a domain and a problem have. Each is the most that is taken.
+use Rattle.std.specs.Prelude.{ℕ}
+
+-- the most types that a domain declares, beside `object`
+abbrev pub max_types : ℕ
+max_types = 4095
+
+-- the most constants and objects together
+abbrev pub max_objects : ℕ
+max_objects = 65535
+
+-- the most arguments of a predicate
+abbrev pub max_arguments : ℕ
+max_arguments = 8
+
+-- the most variables in scope at once, the parameters of an action among them
+abbrev pub max_variables : ℕ
+max_variables = 16
+
+-- the greatest number that is written
+abbrev pub max_number : ℕ
+max_number = 2147483647
