@@ -15,7 +15,7 @@ as_told = record {
   empty = refused_at domain_file empty_list 10 1 refl;
   unkind = refused_at domain_file no_kind 10 2 refl;
   unpredicated = refused_at domain_file no_predicates 10 6 refl;
-  shortest = run_file domain_file (tokens_of shortest_domain) (domain_tree (record { name = record { text = codes "d"; span = record { start = 16; end = 17 } }; types = []; constants = []; predicates = []; actions = [] })) refl;
+  shortest = run_file domain_file (tokens_of shortest_domain) (domain_tree (record { name = record { text = codes "d"; span = record { start = 16; end = 17 } }; types = []; constants = []; predicates = []; functions = []; actions = [] })) refl;
   no_problem = refused_at problem_file shortest_domain 7 3 refl;
   too_many = refused_at domain_file word_too_many 7 10 refl;
   repeated = refused_at domain_file repeated_section 9 10 refl;
@@ -23,7 +23,7 @@ as_told = record {
   left_out = refused_at domain_file section_left_out 12 7 refl;
   unparametrized = refused_at domain_file no_parameters 10 10 refl;
   full = refused_at problem_file full_problem 7 25 refl;
-  typed = run_file domain_file (tokens_of typed_list) (domain_tree (record { name = named (codes "d") 16 17; types = typed_groups; constants = []; predicates = []; actions = [] })) refl;
+  typed = run_file domain_file (tokens_of typed_list) (domain_tree (record { name = named (codes "d") 16 17; types = typed_groups; constants = []; predicates = []; functions = []; actions = [] })) refl;
   untyped = refused_at domain_file type_of_nothing 7 8 refl;
   one_type = refused_at domain_file either_of_a_constant 12 10 refl;
   negated_two = refused_at problem_file not_of_two 7 13 refl;

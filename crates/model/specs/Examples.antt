@@ -1,7 +1,7 @@
 -- Worked examples: what the definitions say of small tasks, each chosen so that a wrong reading says otherwise.
 use Rattle.std.specs.Prelude.{◌≡◌, ℕ, true, false, List, [], ◌∷◌, codes, replicate}
 use Rattle.std.specs.FinSet.{len}
-use Rattle.model.specs.Task.{ObjectType, Object, Union, Atom, LiftedAtom, Term, variable, object, Formula, Formulas, atom, and, no_formula, more_formulas, Effect, Effects, add, delete, both, no_effect, more_effects, Schema, Task, Instance}
+use Rattle.model.specs.Task.{ObjectType, Object, Union, Atom, LiftedAtom, Term, variable, object, Formula, Formulas, atom, and, no_formula, more_formulas, EffectLiteral, add, delete, Effect, Effects, literal, both, each, when, no_effect, more_effects, Schema, Task, Instance}
 use Rattle.model.specs.Runs.{IsVerdict, valid, not_applicable, goal_missed}
 use Rattle.model.specs.Meaning.{objects_of, is_instance, initial_state, system_of}
 use Rattle.model.specs.Instances.{all_instances}
@@ -48,7 +48,8 @@ go = record {
   name = codes "go";
   parameters = [];
   precondition = and (formulas []);
-  effect = both (effects (delete (lifted 0 []) ∷ add (lifted 0 []) ∷ add (lifted 1 []) ∷ []));
+  effect = both (effects (literal (delete (lifted 0 [])) ∷ literal (add (lifted 0 [])) ∷ literal (add (lifted 1 [])) ∷ []));
+  cost = 0;
 }
 
 abbrev pub go_task : Task
@@ -59,6 +60,7 @@ go_task = record {
   schemas = go ∷ [];
   init = ground 0 [] ∷ [];
   goal = and (formulas (atom (lifted 0 []) ∷ atom (lifted 1 []) ∷ []));
+  has_metric = false;
 }
 
 -- ---- a task with one object for two parameters
@@ -71,7 +73,8 @@ tie = record {
   name = codes "tie";
   parameters = any 2;
   precondition = atom (lifted 0 (variable 0 ∷ variable 1 ∷ []));
-  effect = add (lifted 1 []);
+  effect = literal (add (lifted 1 []));
+  cost = 0;
 }
 
 abbrev pub tie_task : Task
@@ -82,6 +85,7 @@ tie_task = record {
   schemas = tie ∷ [];
   init = ground 0 (0 ∷ 0 ∷ []) ∷ [];
   goal = atom (lifted 1 []);
+  has_metric = false;
 }
 
 -- ---- a walk over places
@@ -95,7 +99,8 @@ move = record {
   name = codes "move";
   parameters = any 2;
   precondition = and (formulas (atom (lifted 0 (variable 0 ∷ [])) ∷ atom (lifted 1 (variable 0 ∷ variable 1 ∷ [])) ∷ []));
-  effect = both (effects (delete (lifted 0 (variable 0 ∷ [])) ∷ add (lifted 0 (variable 1 ∷ [])) ∷ []));
+  effect = both (effects (literal (delete (lifted 0 (variable 0 ∷ []))) ∷ literal (add (lifted 0 (variable 1 ∷ []))) ∷ []));
+  cost = 0;
 }
 
 abbrev pub walk_to : ℕ → Task
@@ -106,6 +111,7 @@ walk_to place = record {
   schemas = move ∷ [];
   init = ground 0 (0 ∷ []) ∷ ground 1 (0 ∷ 0 ∷ []) ∷ ground 1 (0 ∷ 1 ∷ []) ∷ ground 1 (1 ∷ 2 ∷ []) ∷ ground 0 (0 ∷ []) ∷ [];
   goal = atom (lifted 0 (object place ∷ []));
+  has_metric = false;
 }
 
 abbrev pub a_to_a : Instance
@@ -136,7 +142,8 @@ see = record {
   name = codes "see";
   parameters = place_or_truck ∷ [];
   precondition = and (formulas []);
-  effect = add (lifted 0 (variable 0 ∷ []));
+  effect = literal (add (lifted 0 (variable 0 ∷ [])));
+  cost = 0;
 }
 
 abbrev pub fleet_task : Task
@@ -147,6 +154,7 @@ fleet_task = record {
   schemas = see ∷ [];
   init = [];
   goal = atom (lifted 0 (object 2 ∷ []));
+  has_metric = false;
 }
 
 -- ---- what is true of them

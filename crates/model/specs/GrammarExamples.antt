@@ -140,7 +140,8 @@ domain_with formula = record {
   types = [];
   constants = [];
   predicates = [];
-  actions = record { name = named (codes "a") 40 41; parameters = []; precondition = formula; effect = tree.both (effects []) } ∷ [];
+  functions = [];
+  actions = record { name = named (codes "a") 40 41; parameters = []; precondition = formula; effect = tree.both (effects []); increases = [] } ∷ [];
 }
 
 -- ()
@@ -166,7 +167,7 @@ pub record AreAsTold : Type 0 where
   pub empty : IsRefused domain_file empty_list (fault 10 1 2)
   pub unkind : IsRefused domain_file no_kind (fault 10 7 8)
   pub unpredicated : IsRefused domain_file no_predicates (fault 10 18 19)
-  pub shortest : IsDomain (tokens_of shortest_domain) (record { name = record { text = codes "d"; span = record { start = 16; end = 17 } }; types = []; constants = []; predicates = []; actions = [] })
+  pub shortest : IsDomain (tokens_of shortest_domain) (record { name = record { text = codes "d"; span = record { start = 16; end = 17 } }; types = []; constants = []; predicates = []; functions = []; actions = [] })
   pub no_problem : IsRefused problem_file shortest_domain (fault 7 9 15)
   pub too_many : IsRefused domain_file word_too_many (fault 7 32 33)
   pub repeated : IsRefused domain_file repeated_section (fault 9 32 43)
@@ -174,7 +175,7 @@ pub record AreAsTold : Type 0 where
   pub left_out : IsRefused domain_file section_left_out (fault 12 19 27)
   pub unparametrized : IsRefused domain_file no_parameters (fault 10 36 37)
   pub full : IsRefused problem_file full_problem (fault 7 72 73)
-  pub typed : IsDomain (tokens_of typed_list) (record { name = named (codes "d") 16 17; types = typed_groups; constants = []; predicates = []; actions = [] })
+  pub typed : IsDomain (tokens_of typed_list) (record { name = named (codes "d") 16 17; types = typed_groups; constants = []; predicates = []; functions = []; actions = [] })
   pub untyped : IsRefused domain_file type_of_nothing (fault 7 26 27)
   pub one_type : IsRefused domain_file either_of_a_constant (fault 12 34 35)
   pub negated_two : IsRefused problem_file not_of_two (fault 7 33 34)

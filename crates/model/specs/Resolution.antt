@@ -315,7 +315,7 @@ words_of xs = map (λ (x : Declared). placed x.file x.name) xs
 abbrev pub equals_in : File → List tree.Fact → List Placed
 equals_in file [] = []
 equals_in file (tree.initial_cost c ∷ facts) = placed file c.equals ∷ equals_in file facts
-equals_in file (fact ∷ facts) = equals_in file facts
+equals_in file (other ∷ facts) = equals_in file facts
 
 -- the domain comes before the problem
 abbrev pub rank_of : File → ℕ

@@ -1,6 +1,6 @@
 -- Worked examples of typing: which faults small trees have, and what task a well-typed pair is. Each is chosen so that a
 -- wrong reading says otherwise.
-use Rattle.std.specs.Prelude.{◌≡◌, ℕ, ◌+◌, List, [], ◌∷◌, codes}
+use Rattle.std.specs.Prelude.{◌≡◌, ℕ, ◌+◌, false, List, [], ◌∷◌, codes, None}
 use Rattle.model.specs.Task as task
 use Rattle.model.specs.Task.{Task}
 use Rattle.model.specs.Trees as tree
@@ -35,7 +35,8 @@ park = record {
   name = at 40 (codes "a");
   parameters = group (at 41 (codes "?y") ∷ []) (at 42 (codes "t") ∷ []) ∷ [];
   precondition = nothing;
-  effect = tree.add (atom (at 43 (codes "p")) (tree.variable (at 44 (codes "?y")) ∷ []));
+  effect = tree.literal (tree.add (atom (at 43 (codes "p")) (tree.variable (at 44 (codes "?y")) ∷ [])));
+  increases = [];
 }
 
 abbrev pub fleet : Domain
@@ -44,6 +45,7 @@ fleet = record {
   types = group (at 10 (codes "t") ∷ []) (at 11 (codes "v") ∷ []) ∷ group (at 12 (codes "v") ∷ []) [] ∷ [];
   constants = group (at 20 (codes "k") ∷ []) (at 21 (codes "v") ∷ []) ∷ [];
   predicates = record { name = at 30 (codes "p"); parameters = group (at 31 (codes "?x") ∷ []) (at 32 (codes "v") ∷ []) ∷ [] } ∷ [];
+  functions = [];
   actions = park ∷ [];
 }
 
@@ -55,6 +57,7 @@ parked = record {
   objects = group (at 10 (codes "o") ∷ []) (at 11 (codes "T") ∷ []) ∷ [];
   init = tree.fact (record { predicate = at 20 (codes "p"); objects = at 21 (codes "k") ∷ [] }) ∷ [];
   goal = tree.atom (atom (at 30 (codes "p")) (tree.object (at 31 (codes "o")) ∷ []));
+  metric = None;
 }
 
 -- its task: `object`, t and v are the types 0, 1 and 2; the constant is object 0
@@ -69,10 +72,12 @@ fleet_task = record {
     name = codes "a";
     parameters = (1 ∷ []) ∷ [];
     precondition = task.and task.no_formula;
-    effect = task.add (record { predicate = 0; terms = task.variable 0 ∷ [] });
+    effect = task.literal (task.add (record { predicate = 0; terms = task.variable 0 ∷ [] }));
+    cost = 0;
   } ∷ [];
   init = record { predicate = 0; objects = 0 ∷ [] } ∷ [];
   goal = task.atom (record { predicate = 0; terms = task.object 1 ∷ [] });
+  has_metric = false;
 }
 
 -- the same domain with other types
