@@ -32,12 +32,12 @@ len-from_list (a ∷ atoms) =
 -- ---- go
 
 abbrev once : List (List Change)
-once = changes_of go.effect [] ∷ []
+once = changes_of go_task go.effect [] ∷ []
 
 abbrev twice : List (List Change)
-twice = changes_of go.effect [] ∷ once
+twice = changes_of go_task go.effect [] ∷ once
 
-go_leads : (s : State) → step go_task s (instance 0 []) ≡ Some (after_changes s (changes_of go.effect []))
+go_leads : (s : State) → step go_task s (instance 0 []) ≡ Some (after_changes go_task s (changes_of go_task go.effect []))
 go_leads s = leads go_task s (instance 0 []) go refl refl refl
 
 -- ---- walk
@@ -46,39 +46,39 @@ abbrev start : List Atom
 start = (walk_to 0).init
 
 abbrev at_a : List (List Change)
-at_a = changes_of move.effect (0 ∷ 0 ∷ []) ∷ []
+at_a = changes_of (walk_to 0) move.effect (0 ∷ 0 ∷ []) ∷ []
 
 abbrev at_b : List (List Change)
-at_b = changes_of move.effect (0 ∷ 1 ∷ []) ∷ []
+at_b = changes_of (walk_to 0) move.effect (0 ∷ 1 ∷ []) ∷ []
 
 abbrev at_c : List (List Change)
-at_c = changes_of move.effect (1 ∷ 2 ∷ []) ∷ at_b
+at_c = changes_of (walk_to 0) move.effect (1 ∷ 2 ∷ []) ∷ at_b
 
-moves_a_to_a : (place : ℕ) → step (walk_to place) (state_after start []) a_to_a ≡ Some (state_after start at_a)
+moves_a_to_a : (place : ℕ) → step (walk_to place) (state_after (walk_to 0) start []) a_to_a ≡ Some (state_after (walk_to 0) start at_a)
 moves_a_to_a place =
-    leads (walk_to place) (state_after start []) a_to_a move refl refl
-    (λ i. contains-state_after start [] (ground 0 (0 ∷ [])) i && (contains-state_after start [] (ground 1 (0 ∷ 0 ∷ [])) i && true))
+    leads (walk_to place) (state_after (walk_to 0) start []) a_to_a move refl refl
+    (λ i. contains-state_after (walk_to 0) start [] (ground 0 (0 ∷ [])) i && (contains-state_after (walk_to 0) start [] (ground 1 (0 ∷ 0 ∷ [])) i && true))
 
-moves_a_to_b : (place : ℕ) → step (walk_to place) (state_after start []) a_to_b ≡ Some (state_after start at_b)
+moves_a_to_b : (place : ℕ) → step (walk_to place) (state_after (walk_to 0) start []) a_to_b ≡ Some (state_after (walk_to 0) start at_b)
 moves_a_to_b place =
-    leads (walk_to place) (state_after start []) a_to_b move refl refl
-    (λ i. contains-state_after start [] (ground 0 (0 ∷ [])) i && (contains-state_after start [] (ground 1 (0 ∷ 1 ∷ [])) i && true))
+    leads (walk_to place) (state_after (walk_to 0) start []) a_to_b move refl refl
+    (λ i. contains-state_after (walk_to 0) start [] (ground 0 (0 ∷ [])) i && (contains-state_after (walk_to 0) start [] (ground 1 (0 ∷ 1 ∷ [])) i && true))
 
-moves_b_to_c : (place : ℕ) → step (walk_to place) (state_after start at_b) b_to_c ≡ Some (state_after start at_c)
+moves_b_to_c : (place : ℕ) → step (walk_to place) (state_after (walk_to 0) start at_b) b_to_c ≡ Some (state_after (walk_to 0) start at_c)
 moves_b_to_c place =
-    leads (walk_to place) (state_after start at_b) b_to_c move refl refl
-    (λ i. contains-state_after start at_b (ground 0 (1 ∷ [])) i && (contains-state_after start at_b (ground 1 (1 ∷ 2 ∷ [])) i && true))
+    leads (walk_to place) (state_after (walk_to 0) start at_b) b_to_c move refl refl
+    (λ i. contains-state_after (walk_to 0) start at_b (ground 0 (1 ∷ [])) i && (contains-state_after (walk_to 0) start at_b (ground 1 (1 ∷ 2 ∷ [])) i && true))
 
 -- not at b at the start, and not at a once at b
-stays_at_a : (place : ℕ) → step (walk_to place) (state_after start []) b_to_c ≡ None
+stays_at_a : (place : ℕ) → step (walk_to place) (state_after (walk_to 0) start []) b_to_c ≡ None
 stays_at_a place =
-    leads_nowhere (walk_to place) (state_after start []) b_to_c move refl refl
-    (λ i. contains-state_after start [] (ground 0 (1 ∷ [])) i && (contains (state_after start []) (ground 1 (1 ∷ 2 ∷ [])) && true))
+    leads_nowhere (walk_to place) (state_after (walk_to 0) start []) b_to_c move refl refl
+    (λ i. contains-state_after (walk_to 0) start [] (ground 0 (1 ∷ [])) i && (contains (state_after (walk_to 0) start []) (ground 1 (1 ∷ 2 ∷ [])) && true))
 
-stays_at_b : (place : ℕ) → step (walk_to place) (state_after start at_b) a_to_b ≡ None
+stays_at_b : (place : ℕ) → step (walk_to place) (state_after (walk_to 0) start at_b) a_to_b ≡ None
 stays_at_b place =
-    leads_nowhere (walk_to place) (state_after start at_b) a_to_b move refl refl
-    (λ i. contains-state_after start at_b (ground 0 (0 ∷ [])) i && (contains (state_after start at_b) (ground 1 (0 ∷ 1 ∷ [])) && true))
+    leads_nowhere (walk_to place) (state_after (walk_to 0) start at_b) a_to_b move refl refl
+    (λ i. contains-state_after (walk_to 0) start at_b (ground 0 (0 ∷ [])) i && (contains (state_after (walk_to 0) start at_b) (ground 1 (0 ∷ 1 ∷ [])) && true))
 
 -- ---- together
 
@@ -86,36 +86,36 @@ pub worked_examples : WorkedExamples
 worked_examples = record {
   add_wins_over_delete = (
     (
-      state_after go_task.init once,
-      one (system_of go_task) (state_after go_task.init []) (state_after go_task.init once) (instance 0 []) (go_leads (state_after go_task.init [])),
-      λ i. contains-state_after go_task.init once (ground 0 []) i && (contains-state_after go_task.init once (ground 1 []) i && true),
+      state_after go_task go_task.init once,
+      one (system_of go_task) (state_after go_task go_task.init []) (state_after go_task go_task.init once) (instance 0 []) (go_leads (state_after go_task go_task.init [])),
+      λ i. contains-state_after go_task go_task.init once (ground 0 []) i && (contains-state_after go_task go_task.init once (ground 1 []) i && true),
     ),
     refl,
   );
   add_wins_over_another_literal = (
     (
-      state_after start at_a,
-      one (system_of (walk_to 0)) (state_after start []) (state_after start at_a) a_to_a (moves_a_to_a 0),
-      contains-state_after start at_a (ground 0 (0 ∷ [])),
+      state_after (walk_to 0) start at_a,
+      one (system_of (walk_to 0)) (state_after (walk_to 0) start []) (state_after (walk_to 0) start at_a) a_to_a (moves_a_to_a 0),
+      contains-state_after (walk_to 0) start at_a (ground 0 (0 ∷ [])),
     ),
     refl,
   );
   each_instance_costs = (
     (
-      state_after go_task.init twice,
-      two (system_of go_task) (state_after go_task.init []) (state_after go_task.init once) (state_after go_task.init twice) (instance 0 []) (instance 0 [])
-          (go_leads (state_after go_task.init [])) (go_leads (state_after go_task.init once)),
-      λ i. contains-state_after go_task.init twice (ground 0 []) i && (contains-state_after go_task.init twice (ground 1 []) i && true),
+      state_after go_task go_task.init twice,
+      two (system_of go_task) (state_after go_task go_task.init []) (state_after go_task go_task.init once) (state_after go_task go_task.init twice) (instance 0 []) (instance 0 [])
+          (go_leads (state_after go_task go_task.init [])) (go_leads (state_after go_task go_task.init once)),
+      λ i. contains-state_after go_task go_task.init twice (ground 0 []) i && (contains-state_after go_task go_task.init twice (ground 1 []) i && true),
     ),
     refl,
   );
   one_object_for_two_parameters =
-      let after = changes_of tie.effect (0 ∷ 0 ∷ []) ∷ [] in (
+      let after = changes_of tie_task tie.effect (0 ∷ 0 ∷ []) ∷ [] in (
         (
-          state_after tie_task.init after,
-          one (system_of tie_task) (state_after tie_task.init []) (state_after tie_task.init after) (instance 0 (0 ∷ 0 ∷ []))
-              (leads tie_task (state_after tie_task.init []) (instance 0 (0 ∷ 0 ∷ [])) tie refl refl (contains-state_after tie_task.init [] (ground 0 (0 ∷ 0 ∷ [])))),
-          contains-state_after tie_task.init after (ground 1 []),
+          state_after tie_task tie_task.init after,
+          one (system_of tie_task) (state_after tie_task tie_task.init []) (state_after tie_task tie_task.init after) (instance 0 (0 ∷ 0 ∷ []))
+              (leads tie_task (state_after tie_task tie_task.init []) (instance 0 (0 ∷ 0 ∷ [])) tie refl refl (contains-state_after tie_task tie_task.init [] (ground 0 (0 ∷ 0 ∷ [])))),
+          contains-state_after tie_task tie_task.init after (ground 1 []),
         ),
         refl,
       );
@@ -126,7 +126,7 @@ worked_examples = record {
   atom_twice_in_init = len-from_list start;
   first_step_not_applicable = record {
     counted_from_one = omega arith;
-    before = state_after start [];
+    before = state_after (walk_to 0) start [];
     next = b_to_c;
     runs = refl;
     stands_there = refl;
@@ -134,28 +134,28 @@ worked_examples = record {
   };
   later_step_not_applicable = record {
     counted_from_one = omega arith;
-    before = state_after start at_b;
+    before = state_after (walk_to 0) start at_b;
     next = a_to_b;
-    runs = one (system_of (walk_to 1)) (state_after start []) (state_after start at_b) a_to_b (moves_a_to_b 1);
+    runs = one (system_of (walk_to 1)) (state_after (walk_to 0) start []) (state_after (walk_to 0) start at_b) a_to_b (moves_a_to_b 1);
     stands_there = refl;
     is_not_applicable = stays_at_b 1;
   };
-  empty_plan_solves = ((state_after start [], refl, contains-state_after start [] (ground 0 (0 ∷ []))), refl);
+  empty_plan_solves = ((state_after (walk_to 0) start [], refl, contains-state_after (walk_to 0) start [] (ground 0 (0 ∷ []))), refl);
   empty_plan_misses = (
-    state_after go_task.init [],
+    state_after go_task go_task.init [],
     refl,
-    λ i. contains-state_after go_task.init [] (ground 0 []) i && (contains-state_after go_task.init [] (ground 1 []) i && true),
+    λ i. contains-state_after go_task go_task.init [] (ground 0 []) i && (contains-state_after go_task go_task.init [] (ground 1 []) i && true),
   );
   goal_left_behind = (
-    state_after start at_c,
-    two (system_of (walk_to 1)) (state_after start []) (state_after start at_b) (state_after start at_c) a_to_b b_to_c (moves_a_to_b 1) (moves_b_to_c 1),
-    contains-state_after start at_c (ground 0 (1 ∷ [])),
+    state_after (walk_to 0) start at_c,
+    two (system_of (walk_to 1)) (state_after (walk_to 0) start []) (state_after (walk_to 0) start at_b) (state_after (walk_to 0) start at_c) a_to_b b_to_c (moves_a_to_b 1) (moves_b_to_c 1),
+    contains-state_after (walk_to 0) start at_c (ground 0 (1 ∷ [])),
   );
   two_steps = (
     (
-      state_after start at_c,
-      two (system_of (walk_to 2)) (state_after start []) (state_after start at_b) (state_after start at_c) a_to_b b_to_c (moves_a_to_b 2) (moves_b_to_c 2),
-      contains-state_after start at_c (ground 0 (2 ∷ [])),
+      state_after (walk_to 0) start at_c,
+      two (system_of (walk_to 2)) (state_after (walk_to 0) start []) (state_after (walk_to 0) start at_b) (state_after (walk_to 0) start at_c) a_to_b b_to_c (moves_a_to_b 2) (moves_b_to_c 2),
+      contains-state_after (walk_to 0) start at_c (ground 0 (2 ∷ [])),
     ),
     refl,
   );

@@ -2,7 +2,7 @@
 -- 1.2 manual ("Types", "Predicates", "Actions", "Problems"), with the limits of the language profile. A fault is of a
 -- phase, and the first phase that has one is the one that tells, since what a later phase says rests on the declarations
 -- of those before it.
-use Rattle.std.specs.Prelude.{◌≡◌, ◌≢◌, ℕ, ◌+◌, ◌<◌, ◌≤◌, ◌⊎◌, true, false, List, ◌∷◌, ◌++◌, codes, length, map, slice_get, Some, Contains}
+use Rattle.std.specs.Prelude.{◌≡◌, ◌≢◌, ℕ, ◌+◌, ◌<◌, ◌≤◌, ◌⊎◌, true, false, List, [], ◌∷◌, ◌++◌, codes, length, map, slice_get, Some, Contains}
 use Rattle.model.specs.Limits.{max_types, max_objects, max_arguments, max_variables}
 use Rattle.model.specs.Task as task
 use Rattle.model.specs.Trees.{Name, Domain, Problem}
