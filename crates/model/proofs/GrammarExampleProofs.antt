@@ -22,7 +22,7 @@ as_told = record {
   of_the_other_file = refused_at domain_file section_of_the_other_file 8 7 refl;
   left_out = refused_at domain_file section_left_out 12 7 refl;
   unparametrized = refused_at domain_file no_parameters 10 10 refl;
-  full = refused_at problem_file full_problem 7 25 refl;
+  full = refused_at problem_file full_problem 7 32 refl;
   typed = run_file domain_file (tokens_of typed_list) (domain_tree (record { name = named (codes "d") 16 17; types = typed_groups; constants = []; predicates = []; functions = []; actions = [] })) refl;
   untyped = refused_at domain_file type_of_nothing 7 8 refl;
   one_type = refused_at domain_file either_of_a_constant 12 10 refl;

@@ -1,7 +1,7 @@
 -- Worked examples: what the definitions say of small tasks, each chosen so that a wrong reading says otherwise.
 use Rattle.std.specs.Prelude.{◌≡◌, ℕ, true, false, List, [], ◌∷◌, codes, replicate}
 use Rattle.std.specs.FinSet.{len}
-use Rattle.model.specs.Task.{ObjectType, Object, Union, Atom, LiftedAtom, Term, variable, object, Formula, Formulas, atom, and, no_formula, more_formulas, EffectLiteral, add, delete, Effect, Effects, literal, both, each, when, no_effect, more_effects, Schema, Task, Instance}
+use Rattle.model.specs.Task.{ObjectType, Object, Union, Atom, LiftedAtom, Term, variable, object, Formula, Formulas, atom, and, no_formula, more_formulas, add, delete, Effect, Effects, literal, both, no_effect, more_effects, Schema, Task, Instance}
 use Rattle.model.specs.Runs.{IsVerdict, valid, not_applicable, goal_missed}
 use Rattle.model.specs.Meaning.{objects_of, is_instance, initial_state, system_of}
 use Rattle.model.specs.Instances.{all_instances}

@@ -61,7 +61,7 @@ abbrev pub no_parameters : List Word
 no_parameters =
     domain_head (word opens (codes "(") 18 ∷ word keyword (codes ":action") 19 ∷ word name (codes "a") 27 ∷ word keyword (codes ":effect") 29 ∷ word closes (codes ")") 36 ∷ [])
 
--- (define (problem p)(:domain d)(:requirements)(:objects)(:init)(:goal(x))(
+-- (define (problem p)(:domain d)(:requirements)(:objects)(:init)(:goal(x))(:metric minimize(total-cost))(
 abbrev pub full_problem : List Word
 full_problem =
     word opens (codes "(") 0 ∷ word name (codes "define") 1 ∷ word opens (codes "(") 8 ∷ word name (codes "problem") 9 ∷ word name (codes "p") 17 ∷ word closes (codes ")") 18
@@ -69,7 +69,8 @@ full_problem =
     ∷ word opens (codes "(") 30 ∷ word keyword (codes ":requirements") 31 ∷ word closes (codes ")") 44 ∷ word opens (codes "(") 45 ∷ word keyword (codes ":objects") 46 ∷ word closes (codes ")") 54
     ∷ word opens (codes "(") 55 ∷ word keyword (codes ":init") 56 ∷ word closes (codes ")") 61
     ∷ word opens (codes "(") 62 ∷ word keyword (codes ":goal") 63 ∷ word opens (codes "(") 68 ∷ word name (codes "x") 69 ∷ word closes (codes ")") 70 ∷ word closes (codes ")") 71
-    ∷ word opens (codes "(") 72 ∷ []
+    ∷ word opens (codes "(") 72 ∷ word keyword (codes ":metric") 73 ∷ word name (codes "minimize") 81 ∷ word opens (codes "(") 89 ∷ word name (codes "total-cost") 90 ∷ word closes (codes ")") 100 ∷ word closes (codes ")") 101
+    ∷ word opens (codes "(") 102 ∷ []
 
 -- (define (DOMAIN d)(:types a b - c d)(:predicates)
 abbrev pub typed_list : List Word
@@ -174,7 +175,7 @@ pub record AreAsTold : Type 0 where
   pub of_the_other_file : IsRefused domain_file section_of_the_other_file (fault 8 19 27)
   pub left_out : IsRefused domain_file section_left_out (fault 12 19 27)
   pub unparametrized : IsRefused domain_file no_parameters (fault 10 36 37)
-  pub full : IsRefused problem_file full_problem (fault 7 72 73)
+  pub full : IsRefused problem_file full_problem (fault 7 102 103)
   pub typed : IsDomain (tokens_of typed_list) (record { name = named (codes "d") 16 17; types = typed_groups; constants = []; predicates = []; functions = []; actions = [] })
   pub untyped : IsRefused domain_file type_of_nothing (fault 7 26 27)
   pub one_type : IsRefused domain_file either_of_a_constant (fault 12 34 35)
