@@ -1,14 +1,14 @@
 -- The worked examples are true.
-use Rattle.std.specs.Prelude.{◌≡◌, ℕ, ◌+◌, true, ◌&&◌, cond, List, [], ◌∷◌, Some, None, refl}
+use Rattle.std.specs.Prelude.{◌≡◌, ℕ, ◌+◌, Bool, true, false, ◌&&◌, cond, List, [], ◌∷◌, map, Some, None, refl}
 use Rattle.std.proofs.Common.{◌∙◌, ap, arith}
 use Rattle.std.specs.Option.{option_and_then}
 use Rattle.std.specs.FinSet.{contains, len, from_list, len-insert, len-empty, contains-from_list}
-use Rattle.model.specs.Task.{Atom}
-use Rattle.model.specs.Runs.{System, run}
-use Rattle.model.specs.Meaning.{State, atom_cmp, step, changes_of, after_changes, system_of, Change}
-use Rattle.model.specs.Examples.{go, go_task, tie, tie_task, move, walk_to, a_to_a, a_to_b, b_to_c, instance, ground, WorkedExamples}
+use Rattle.model.specs.Task.{Union, Atom, LiftedAtom, Formula, and, Effect, Task, Instance}
+use Rattle.model.specs.Runs.{System, run, Solves}
+use Rattle.model.specs.Meaning.{State, atom_cmp, ground_atom, fits, step, changes_of, after_changes, system_of, Change}
+use Rattle.model.specs.Examples.{formulas, go, go_task, tie, tie_task, move, walk_to, a_to_a, a_to_b, b_to_c, instance, ground, doer, doing, LeadsWith, priced, WorkedExamples}
 use Rattle.model.proofs.Atoms.{atoms_total}
-use Rattle.model.proofs.Steps.{state_after, contains-state_after, is_in, leads, leads_nowhere}
+use Rattle.model.proofs.Steps.{holds_where, state_after, true_after, contains-state_after, holds-after, is_in, leads, leads_nowhere}
 
 -- a run of one step, and of two
 module _ {S A : Type 0} (t : System S A) where
@@ -79,6 +79,59 @@ stays_at_b : (place : ℕ) → step (walk_to place) (state_after (walk_to 0) sta
 stays_at_b place =
     leads_nowhere (walk_to place) (state_after (walk_to 0) start at_b) a_to_b move refl refl
     (λ i. contains-state_after (walk_to 0) start at_b (ground 0 (0 ∷ [])) i && (contains (state_after (walk_to 0) start at_b) (ground 1 (0 ∷ 1 ∷ [])) && true))
+
+-- ---- effects
+
+-- what the action of a task changes, with these objects
+abbrev changes_by : Task → Effect → List ℕ → List (List Change)
+changes_by t effect objects = changes_of t effect objects ∷ []
+
+-- where this computes, the action leads to the goal
+does : {parameters : List Union} {objects : List ℕ} {before : List LiftedAtom} {effect : Effect} {goals : List Formula}
+    → fits (doing parameters effect before goals) (doer parameters effect) objects ≡ true
+    → holds_where (doing parameters effect before goals) (true_after (doing parameters effect before goals) (map (ground_atom []) before) (changes_by (doing parameters effect before goals) effect objects)) (and (formulas goals)) [] ≡ true
+    → LeadsWith parameters objects before effect goals
+does {parameters} {objects} {before} {effect} {goals} fit holding =
+    let t : Task = doing parameters effect before goals in
+    let after = changes_by t effect objects in
+    let leads_there = leads t (state_after t t.init []) (instance 0 objects) (doer parameters effect) refl fit refl in
+    record {
+      is_solved = (
+        (
+          state_after t t.init after,
+          one (system_of t) (state_after t t.init []) (state_after t t.init after) (instance 0 objects) leads_there,
+          holds-after t t.init after t.goal [] ∙ holding,
+        ),
+        refl,
+      );
+    }
+
+-- ---- costs
+
+abbrev once_of : Bool → List (List Change)
+once_of has_metric = changes_of (priced has_metric) go.effect [] ∷ []
+
+abbrev twice_of : Bool → List (List Change)
+twice_of has_metric = changes_of (priced has_metric) go.effect [] ∷ once_of has_metric
+
+-- either action of the task with costs leads on
+goes : (has_metric : Bool) (s : State) → step (priced has_metric) s (instance 0 []) ≡ Some (after_changes (priced has_metric) s (changes_of (priced has_metric) go.effect []))
+goes has_metric s = leads (priced has_metric) s (instance 0 []) (record go { cost = 3 }) refl refl refl
+
+goes_free : (has_metric : Bool) (s : State) → step (priced has_metric) s (instance 1 []) ≡ Some (after_changes (priced has_metric) s (changes_of (priced has_metric) go.effect []))
+goes_free has_metric s = leads (priced has_metric) s (instance 1 []) go refl refl refl
+
+-- so two of them lead to the goal
+goes_on : (has_metric : Bool) (a b : Instance)
+    → step (priced has_metric) (state_after (priced has_metric) go_task.init []) a ≡ Some (state_after (priced has_metric) go_task.init (once_of has_metric))
+    → step (priced has_metric) (state_after (priced has_metric) go_task.init (once_of has_metric)) b ≡ Some (state_after (priced has_metric) go_task.init (twice_of has_metric))
+    → Solves (system_of (priced has_metric)) (a ∷ b ∷ [])
+goes_on has_metric a b first second =
+    let t : Task = priced has_metric in (
+      state_after t go_task.init (twice_of has_metric),
+      two (system_of t) (state_after t go_task.init []) (state_after t go_task.init (once_of has_metric)) (state_after t go_task.init (twice_of has_metric)) a b first second,
+      holds-after t go_task.init (twice_of has_metric) go_task.goal [],
+    )
 
 -- ---- together
 
@@ -169,4 +222,39 @@ worked_examples = record {
   subtype_fits = refl;
   supertype_does_not = refl;
   one_of_two_does_not = refl;
+  under_one_condition = does refl refl;
+  under_two_conditions = does refl refl;
+  under_the_delete = does refl refl;
+  under_the_add = does refl refl;
+  under_none = does refl refl;
+  add_under_a_condition = does refl refl;
+  delete_without = does refl refl;
+  delete_under_a_condition = does refl refl;
+  made_false = does refl refl;
+  made_true = does refl refl;
+  for_each = does refl refl;
+  for_none = does refl refl;
+  for_one_and_another = does refl refl;
+  for_another_and_one = does refl refl;
+  over_one_another = does refl refl;
+  each_is_seen = does refl refl;
+  one_is_not = does refl refl;
+  variables_around = does refl refl;
+  one_in_another = does refl refl;
+  its_changes = refl;
+  in_its_effect = refl;
+  after_its_effect = refl;
+  sixteen_variables = refl;
+  seventeen_variables = refl;
+  changed_under_when = refl;
+  read_in_a_condition = refl;
+  with_an_increase = refl;
+  without_an_increase = refl;
+  an_increase_without_the_metric = refl;
+  none_without_the_metric = refl;
+  sum_of_costs = (goes_on true (instance 0 []) (instance 0 []) (goes true _) (goes true _), refl);
+  sum_with_none = (goes_on true (instance 0 []) (instance 1 []) (goes true _) (goes_free true _), refl);
+  count_of_steps = (goes_on false (instance 0 []) (instance 1 []) (goes false _) (goes_free false _), refl);
+  greatest_cost = refl;
+  greater_cost = refl;
 }
