@@ -7,3 +7,4 @@ pub mod Parts
 pub mod Files
 pub mod Told
 pub mod Heads
+pub mod Reserved

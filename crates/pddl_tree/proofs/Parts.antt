@@ -6,10 +6,10 @@ use Rattle.pddl_words.specs.Refusal.{WordFault, told}
 use Rattle.pddl_tree.specs.Reading.{the, IsRead, IsTold, closes_first, Opens}
 use Rattle.pddl_tree.proofs.ReadOn.{taken, told_later, IsRefusedAs}
 use Rattle.pddl_tree.proofs.ReadOn.{in_turn}
-use Rattle.model.specs.Trees.{Action}
+use Rattle.model.specs.Trees.{Action, Formula}
 use Rattle.model.specs.GrammarWords.{Token, opens, closes, keyword, PartKeyword, of_part, of_section, requirement_key, left_out_keyword, unknown_keyword}
 use Rattle.model.specs.GrammarWords as words
-use Rattle.model.specs.Grammar.{Tree, Part, Phrase, gives, ◌>>=◌, and_then, after, value, parts, part_after, parts_after, with_part, has_part}
+use Rattle.model.specs.Grammar.{Tree, Part, Phrase, gives, ◌>>=◌, and_then, after, value, formula, precondition_list, parts, part_after, parts_after, with_part, has_part}
 use Rattle.model.specs.GrammarMachine.{run}
 
 -- a part that is new, and those after it
@@ -67,3 +67,22 @@ parameters_missing seen o e none = absurd (cc)
 -- the `(` of a value
 pub opened : (seen : List PartKeyword) {list : List Word} {at inside : ℕ} → Opens list at inside → IsRead (the (value seen)) list at tt inside
 opened seen {list} {at} {inside} o = record { runs = λ k. taken (value seen) list at opens o.0 refl k ∙ ap (λ i. run (from list i) (k tt)) (sym o.1) }
+
+-- `)` as a precondition, or a formula
+pub is_closes : (o : Option Token) → closes_first o ≡ true → o ≡ Some closes
+is_closes (Some closes) e = refl
+is_closes o e = absurd (cc)
+
+some_word : (t : Token) (w : List Token) (k : Formula → Phrase Tree) → closes_first (Some t) ≡ false → run (t ∷ w) (precondition_list >>= k) ≡ run (t ∷ w) (formula >>= k)
+some_word closes w k e = absurd (cc)
+some_word t w k e = refl
+
+a_formula : (w : List Token) (k : Formula → Phrase Tree) → closes_first (first w) ≡ false → run w (precondition_list >>= k) ≡ run w (formula >>= k)
+a_formula [] k e = refl
+a_formula (t ∷ w) k e = some_word t w k e
+
+pub formula_read : {list : List Word} {at next : ℕ} {f : Formula} → closes_first (first (from list at)) ≡ false → IsRead (the formula) list at f next → IsRead (the precondition_list) list at f next
+formula_read {list} {at} e a = record { runs = λ k. a_formula (from list at) k e ∙ a.runs k }
+
+pub formula_told : {list : List Word} {at : ℕ} {refusal : WordFault} → closes_first (first (from list at)) ≡ false → IsTold (the formula) list at refusal → IsTold (the precondition_list) list at refusal
+formula_told {list} {at} {refusal} e a = record { stops = λ k. told_later list at at (precondition_list >>= k) (formula >>= k) refusal (a_formula (from list at) k e) (a.stops k) }

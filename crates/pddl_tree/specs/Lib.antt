@@ -4,3 +4,4 @@ pub mod Place
 pub mod Sections
 pub mod Head
 pub mod Typed
+pub mod Formula

@@ -10,7 +10,7 @@ use Rattle.pddl_tree.specs.declared.tree.GroundAtom.{GroundAtom}
 use Rattle.pddl_tree.specs.declared.tree.Fact.{Fact}
 use Rattle.pddl_tree.specs.declared.tree.Fact.TheVariants as fact
 use Rattle.pddl_tree.specs.declared.tree.Problem.{Problem}
-use Rattle.pddl_tree.specs.declared.tree.Formula.{Formula, And', Row_of-Formula, end_of-Formula, more_of-Formula}
+use Rattle.pddl_tree.specs.declared.tree.Formula.{Formula, Row_of-Formula, end_of-Formula, more_of-Formula}
 use Rattle.pddl_tree.specs.declared.tree.Formula as formula
 use Rattle.pddl_tree.specs.declared.tree.Effect.{Effect, Row_of-Effect, end_of-Effect, more_of-Effect}
 use Rattle.pddl_tree.specs.declared.tree.Effect as effect
@@ -20,10 +20,22 @@ pub use Rattle.pddl_words.specs.Name.{name_of, term_of}
 abbrev pub atom_of : Atom → tree.Atom
 atom_of a = record { predicate = name_of a.predicate; terms = map term_of a.terms.items }
 
+abbrev pub group_of : Group → tree.Group
+group_of g = record { names = map name_of g.names.items; types = map name_of g.types.items }
+
+abbrev pub groups_of : Vec Group → List tree.Group
+groups_of groups = map group_of groups.items
+
 abbrev mutual
   pub formula_of : Formula → tree.Formula
   formula_of (formula.Atom a) = tree.atom (atom_of a)
+  formula_of (formula.Equal t u) = tree.equal (term_of t) (term_of u)
   formula_of (formula.And' shape parts) = tree.and (formulas_of parts)
+  formula_of (formula.Or' shape parts) = tree.or (formulas_of parts)
+  formula_of (formula.Not' place part) = tree.not (formula_of part)
+  formula_of (formula.Imply' place premise other conclusion) = tree.imply (formula_of premise) (formula_of conclusion)
+  formula_of (formula.Exists' variables place part) = tree.exists (groups_of variables) (formula_of part)
+  formula_of (formula.Forall' variables place part) = tree.forall (groups_of variables) (formula_of part)
 
   pub formulas_of : {m : _} → Row_of-Formula m → tree.Formulas
   formulas_of end_of-Formula = tree.no_formula
@@ -38,12 +50,6 @@ abbrev mutual
   pub effects_of : {m : _} → Row_of-Effect m → tree.Effects
   effects_of end_of-Effect = tree.no_effect
   effects_of (more_of-Effect first rest) = tree.more_effects (effect_of first) (effects_of rest)
-
-abbrev pub group_of : Group → tree.Group
-group_of g = record { names = map name_of g.names.items; types = map name_of g.types.items }
-
-abbrev pub groups_of : Vec Group → List tree.Group
-groups_of groups = map group_of groups.items
 
 abbrev pub predicate_of : Predicate → tree.Predicate
 predicate_of p = record { name = name_of p.name; parameters = groups_of p.parameters }

@@ -6,7 +6,7 @@ ghost use Rattle.model.specs.Grammar as grammar;
 ghost use Rattle.pddl_words.specs.Token.{from, first, part_view};
 ghost use Rattle.pddl_tree.specs.Reading.{the, IsAfter, IsRead, IsTold, closes_first};
 ghost use Rattle.pddl_words.specs.Name.{name_of};
-ghost use Rattle.pddl_tree.specs.Tree.{action_of};
+ghost use Rattle.pddl_tree.specs.Tree.{action_of, formula_of};
 ghost use Rattle.pddl_tree.specs.Sections.{part_tree, the_action, parts_on};
 
 use crate::effects::effect;
@@ -131,12 +131,29 @@ fn value<'a>(
             Ok((Part::Parameters(parameters), next))
         }
         PartKeyword::Precondition => {
-            let (precondition, next) = formula(alloc, words, inside)?;
+            let (precondition, next) = precondition(alloc, words, inside)?;
             Ok((Part::Precondition(precondition), next))
         }
         PartKeyword::Effect => {
             let (effect, next) = effect(alloc, words, inside)?;
             Ok((Part::Effect(effect), next))
         }
+    }
+}
+
+/// A precondition whose `(` was read, and the index after its `)`: a formula, or nothing, which is `(and)`.
+fn precondition<'a>(
+    alloc: Global,
+    words: &[Word<'a>],
+    at: usize,
+) -> Result<(Formula<'a>, usize), WordFault>
+    ensures after { IfOk result (λ r. IsAfter words.now at r.1) }
+    ensures read { IfOk result (λ r. IsRead (the grammar.precondition_list) words.now at (formula_of r.0) r.1) }
+    ensures told { IfErr result (λ refusal. IsTold (the grammar.precondition_list) words.now at refusal) }
+{
+    if is_close(words, at) {
+        Ok((Formula::And(Vec::new(alloc)), at + 1))
+    } else {
+        formula(alloc, words, at)
     }
 }

@@ -1,15 +1,18 @@
 //! Formulas, from the word after their parenthesis on.
 ghost use Rattle.std.specs.Prelude.{IfOk, IfErr, map};
+ghost use Rattle.faults.specs.declared.refused.Refused.TheVariants.{At};
 ghost use Rattle.model.specs.Grammar.{many, listed, formula as wants_formula};
+ghost use Rattle.pddl_tree.specs.Formula.{IsReserved, the_equality, the_last, the_implication, the_quantified};
 ghost use Rattle.pddl_tree.specs.Reading.{the, IsAfter, IsRead, IsTold};
-ghost use Rattle.pddl_tree.specs.Tree.{formula_of};
+ghost use Rattle.pddl_tree.specs.Tree.{formula_of, groups_of};
 
 use crate::lists::terms;
-use crate::look::{is_close, open};
-use crate::refusal::{Place, refusal};
-use crate::tree::{Atom, Formula};
+use crate::look::{close, is_close, open, term};
+use crate::refusal::{Listed, Place, refusal};
+use crate::tree::{Atom, Formula, Group};
+use crate::typed::typed;
 use faults::Refused;
-use pddl_words::{ReservedName, Token, WordFault, token_at};
+use pddl_words::{ReservedName, Token, WordFault, WordRefusal, token_at};
 use std::alloc::Global;
 use tokens::Word;
 
@@ -29,17 +32,135 @@ pub(crate) fn formula<'a>(
             let (terms, next) = terms(alloc, words, at + 1)?;
             Ok((Formula::Atom(Atom { predicate, terms }), next))
         }
-        Token::Reserved(ReservedName::And, _) => {
-            let (parts, next) = conjuncts(alloc, words, at + 1)?;
+        Token::Equals => {
+            let (equality, next) = equality(words, at + 1)?;
+            Ok((equality, next))
+        }
+        Token::Reserved(word, _) => compound(alloc, words, at, word),
+        _ => Err(Refused::At(refusal(words, at, Place::Elsewhere))),
+    }
+}
+
+/// A formula that begins with this reserved word, and the index after its `)`.
+#[cycle(formula)]
+fn compound<'a>(
+    alloc: Global,
+    words: &[Word<'a>],
+    at: usize,
+    word: ReservedName,
+) -> Result<(Formula<'a>, usize), WordFault>
+    requires { IsReserved words.now at word }
+    ensures after { IfOk result (λ r. IsAfter words.now at r.1) }
+    ensures read { IfOk result (λ r. IsRead (the wants_formula) words.now at (formula_of r.0) r.1) }
+    ensures told { IfErr result (λ refusal. IsTold (the wants_formula) words.now at refusal) }
+{
+    match word {
+        ReservedName::And => {
+            let (parts, next) = formulas(alloc, words, at + 1)?;
             Ok((Formula::And(parts), next))
+        }
+        ReservedName::Or => {
+            let (parts, next) = formulas(alloc, words, at + 1)?;
+            Ok((Formula::Or(parts), next))
+        }
+        ReservedName::Not => {
+            let (part, next) = last(alloc, words, at + 1)?;
+            Ok((Formula::Not(part), next))
+        }
+        ReservedName::Imply => implication(alloc, words, at + 1),
+        ReservedName::Exists => {
+            let (variables, part, next) = quantified(alloc, words, at + 1)?;
+            Ok((Formula::Exists(variables, part), next))
+        }
+        ReservedName::Forall => {
+            let (variables, part, next) = quantified(alloc, words, at + 1)?;
+            Ok((Formula::Forall(variables, part), next))
         }
         _ => Err(Refused::At(refusal(words, at, Place::Elsewhere))),
     }
 }
 
+/// Two terms, and `)`: that they are one object, and the index after the parenthesis.
+fn equality<'a>(words: &[Word<'a>], at: usize) -> Result<(Formula<'a>, usize), WordRefusal>
+    ensures after { IfOk result (λ r. IsAfter words.now at r.1) }
+    ensures read { IfOk result (λ r. IsRead the_equality words.now at (formula_of r.0) r.1) }
+    ensures told { IfErr result (λ refusal. IsTold the_equality words.now at (At refusal)) }
+{
+    let (first, next) = term(words, at)?;
+    let (second, next) = term(words, next)?;
+    let next = close(words, next)?;
+    Ok((Formula::Equal(first, second), next))
+}
+
+/// Two formulas, and `)`: that the first implies the second, and the index after the parenthesis.
+#[cycle(formula)]
+fn implication<'a>(
+    alloc: Global,
+    words: &[Word<'a>],
+    at: usize,
+) -> Result<(Formula<'a>, usize), WordFault>
+    ensures after { IfOk result (λ r. IsAfter words.now at r.1) }
+    ensures read { IfOk result (λ r. IsRead the_implication words.now at (formula_of r.0) r.1) }
+    ensures told { IfErr result (λ refusal. IsTold the_implication words.now at refusal) }
+{
+    let (premise, next) = part(alloc, words, at)?;
+    let (conclusion, next) = last(alloc, words, next)?;
+    Ok((Formula::Imply(premise, conclusion), next))
+}
+
+/// A typed list of variables in its parentheses, a formula, and `)`: both, and the index after the parenthesis.
+#[cycle(formula)]
+fn quantified<'a>(
+    alloc: Global,
+    words: &[Word<'a>],
+    at: usize,
+) -> Result<(Vec<Group<'a>>, Box<Formula<'a>>, usize), WordFault>
+    ensures after { IfOk result (λ r. IsAfter words.now at r.2) }
+    ensures read { IfOk result (λ r. IsRead the_quantified words.now at (groups_of r.0, formula_of r.1.value) r.2) }
+    ensures told { IfErr result (λ refusal. IsTold the_quantified words.now at refusal) }
+{
+    let inside = open(words, at, Place::Elsewhere)?;
+    let (variables, next) = typed(alloc, words, inside, Listed::Variables)?;
+    let (part, next) = last(alloc, words, next)?;
+    Ok((variables, part, next))
+}
+
+/// A formula, and `)`: the formula, and the index after the parenthesis.
+#[cycle(formula)]
+fn last<'a>(
+    alloc: Global,
+    words: &[Word<'a>],
+    at: usize,
+) -> Result<(Box<Formula<'a>>, usize), WordFault>
+    ensures after { IfOk result (λ r. IsAfter words.now at r.1) }
+    ensures read { IfOk result (λ r. IsRead the_last words.now at (formula_of r.0.value) r.1) }
+    ensures told { IfErr result (λ refusal. IsTold the_last words.now at refusal) }
+{
+    let (part, next) = part(alloc, words, at)?;
+    let next = close(words, next)?;
+    Ok((part, next))
+}
+
+/// A formula in its parentheses, and the index after them.
+#[cycle(formula)]
+fn part<'a>(
+    alloc: Global,
+    words: &[Word<'a>],
+    at: usize,
+) -> Result<(Box<Formula<'a>>, usize), WordFault>
+    ensures after { IfOk result (λ r. IsAfter words.now at r.1) }
+    ensures read { IfOk result (λ r. IsRead (the (listed wants_formula)) words.now at (formula_of r.0.value) r.1) }
+    ensures told { IfErr result (λ refusal. IsTold (the (listed wants_formula)) words.now at refusal) }
+{
+    let inside = open(words, at, Place::Elsewhere)?;
+    let (part, next) = formula(alloc, words, inside)?;
+    let part = Box::new(alloc, part)?;
+    Ok((part, next))
+}
+
 /// Formulas, and `)`: the formulas, and the index after the parenthesis.
 #[cycle(formula)]
-fn conjuncts<'a>(
+fn formulas<'a>(
     alloc: Global,
     words: &[Word<'a>],
     at: usize,

@@ -15,8 +15,20 @@ pub struct Atom<'a> {
 pub enum Formula<'a> {
     /// An atom.
     Atom(Atom<'a>),
+    /// `(= t u)`: two terms are one object.
+    Equal(Term<'a>, Term<'a>),
     /// `(and ..)`, which holds where each part does.
     And(Vec<Formula<'a>>),
+    /// `(or ..)`, which holds where some part does.
+    Or(Vec<Formula<'a>>),
+    /// `(not f)`, which holds where its part does not.
+    Not(Box<Formula<'a>>),
+    /// `(imply f g)`, which holds where the second part does or the first does not.
+    Imply(Box<Formula<'a>>, Box<Formula<'a>>),
+    /// `(exists (variables) f)`, which holds where the part does for some objects of the variables' types.
+    Exists(Vec<Group<'a>>, Box<Formula<'a>>),
+    /// `(forall (variables) f)`, which holds where the part does for all of them.
+    Forall(Vec<Group<'a>>, Box<Formula<'a>>),
 }
 
 /// An effect of an action.

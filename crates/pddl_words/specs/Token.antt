@@ -26,7 +26,11 @@ free_view free.Ordinary = words.ordinary
 
 abbrev pub reserved_view : ReservedName → words.ReservedName
 reserved_view reserved.And = words.and
+reserved_view reserved.Or = words.or
 reserved_view reserved.Not = words.not
+reserved_view reserved.Imply = words.imply
+reserved_view reserved.Exists = words.exists
+reserved_view reserved.Forall = words.forall
 reserved_view reserved.Either = words.either
 reserved_view reserved.LeftOut = words.left_out_name
 reserved_view reserved.Other = words.other_reserved
@@ -63,6 +67,7 @@ seen (token.Reserved r n) = Some (words.reserved (reserved_view r) (name_of n))
 seen (token.Variable n) = Some (words.variable (name_of n))
 seen (token.Keyword k) = Some (words.keyword (keyword_view k))
 seen token.Dash = Some words.dash
+seen token.Equals = Some words.equals
 seen token.Other = Some words.other
 seen token.End = None
 

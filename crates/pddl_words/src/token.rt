@@ -30,8 +30,16 @@ pub enum FreeName {
 pub enum ReservedName {
     /// `and`
     And,
+    /// `or`
+    Or,
     /// `not`
     Not,
+    /// `imply`
+    Imply,
+    /// `exists`
+    Exists,
+    /// `forall`
+    Forall,
     /// `either`
     Either,
     /// The name of a form that is left out.
@@ -106,7 +114,9 @@ pub enum Token<'a> {
     Keyword(Keyword),
     /// `-`
     Dash,
-    /// A number or `=`.
+    /// `=`
+    Equals,
+    /// A number.
     Other,
     /// No word: the words run out.
     End,
@@ -159,7 +169,8 @@ fn token_of<'a>(word: &Word<'a>) -> Token<'a>
         Kind::Variable => Token::Variable(name),
         Kind::Keyword => Token::Keyword(keyword_of(word.text())),
         Kind::Dash => Token::Dash,
-        Kind::Number | Kind::Equals => Token::Other,
+        Kind::Equals => Token::Equals,
+        Kind::Number => Token::Other,
         Kind::Open => Token::Open,
         Kind::Close => Token::Close,
     }
@@ -172,8 +183,16 @@ fn named(name: Name) -> Token
     let text = name.text;
     if is(text, b"and") {
         Token::Reserved(ReservedName::And, name)
+    } else if is(text, b"or") {
+        Token::Reserved(ReservedName::Or, name)
     } else if is(text, b"not") {
         Token::Reserved(ReservedName::Not, name)
+    } else if is(text, b"imply") {
+        Token::Reserved(ReservedName::Imply, name)
+    } else if is(text, b"exists") {
+        Token::Reserved(ReservedName::Exists, name)
+    } else if is(text, b"forall") {
+        Token::Reserved(ReservedName::Forall, name)
     } else if is(text, b"either") {
         Token::Reserved(ReservedName::Either, name)
     } else if is(text, b"define") {
@@ -255,17 +274,11 @@ fn is_left_out_name(text: &[u8]) -> bool
         || is(text, b"scale-down")
 }
 
-/// Whether a name is reserved otherwise, `and`, `not` and `either` aside.
+/// Whether a name is reserved otherwise, those of formulas and `either` aside.
 fn is_other_reserved(text: &[u8]) -> bool
     ensures { result ≡ is_among (str_to_ascii_lowercase text.now) other_reserved_names }
 {
-    is(text, b"or")
-        || is(text, b"imply")
-        || is(text, b"exists")
-        || is(text, b"forall")
-        || is(text, b"when")
-        || is(text, b"increase")
-        || is(text, b"total-cost")
+    is(text, b"when") || is(text, b"increase") || is(text, b"total-cost")
 }
 
 /// Whether a keyword is a key of `:requirements`.

@@ -1,5 +1,5 @@
 use Rattle.std.proofs.Common.{map}
-use Rattle.model.specs.Grammar.{value, typed, variables, formula, effect_list}
+use Rattle.model.specs.Grammar.{value, typed, variables, precondition_list, effect_list}
 use Rattle.pddl_words.specs.Token.{part_view}
 use Rattle.pddl_tree.proofs.ReadOn.{given, then_read, first_told, then_told, told_by}
 use Rattle.pddl_tree.proofs.Parts.{opened}
@@ -18,12 +18,12 @@ returns-in_err-parameters-in-Parameters-clause-told c =
 pub returns-in_ok-precondition-in-Precondition-clause-read : goal.returns-in_ok-precondition-in-Precondition-clause-read
 returns-in_ok-precondition-in-Precondition-clause-read c =
     let seen = map part_view c.args.seen.now in
-    rw c.in-Precondition.is (then_read (value seen) (opened seen c.in_ok-inside.ensures.word) (then_read formula c.in_ok-precondition-in-Precondition.ensures.read given))
+    rw c.in-Precondition.is (then_read (value seen) (opened seen c.in_ok-inside.ensures.word) (then_read precondition_list c.in_ok-precondition-in-Precondition.ensures.read given))
 
 pub returns-in_err-precondition-in-Precondition-clause-told : goal.returns-in_err-precondition-in-Precondition-clause-told
 returns-in_err-precondition-in-Precondition-clause-told c =
     let seen = map part_view c.args.seen.now in
-    rw c.in-Precondition.is (told_by _ c.from_residual-in_err-precondition-in-Precondition.ensures.1 (then_told (value seen) (opened seen c.in_ok-inside.ensures.word) (first_told formula c.in_err-precondition-in-Precondition.ensures.told)))
+    rw c.in-Precondition.is (told_by _ c.from_residual-in_err-precondition-in-Precondition.ensures.1 (then_told (value seen) (opened seen c.in_ok-inside.ensures.word) (first_told precondition_list c.in_err-precondition-in-Precondition.ensures.told)))
 
 pub returns-in_ok-effect-in-Effect-clause-read : goal.returns-in_ok-effect-in-Effect-clause-read
 returns-in_ok-effect-in-Effect-clause-read c =

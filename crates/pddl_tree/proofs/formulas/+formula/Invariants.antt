@@ -1,20 +1,36 @@
-use Rattle.std.proofs.Common.{◌-◌, ◌≤◌, length, map}
+use Rattle.std.proofs.Common.{◌-◌, ◌+◌, ◌*◌, ◌≤◌, length, map}
 use Rattle.model.specs.Grammar.{listed, formula}
 use Rattle.pddl_tree.specs.Tree.{formula_of}
 use Rattle.pddl_tree.proofs.Items.{IsReadOn, items}
 use Rattle.pddl_tree.proofs.formulas.+formula.Given as goal
 
-abbrev pub decreases-conjuncts : goal.decreases-conjuncts
-decreases-conjuncts l = length l.words.now - l.at
-
+-- twice the words left, and one more where a call takes none of them
 abbrev pub decreases-formula : goal.decreases-formula
-decreases-formula l = length l.words.now - l.at
+decreases-formula l = 2 * (length l.words.now - l.at) + 1
 
-abbrev pub invariant-conjuncts-parts : goal.invariant-conjuncts-parts
-invariant-conjuncts-parts l = record {
+abbrev pub decreases-compound : goal.decreases-compound
+decreases-compound l = 2 * (length l.words.now - l.at)
+
+abbrev pub decreases-implication : goal.decreases-implication
+decreases-implication l = 2 * (length l.words.now - l.at) + 1
+
+abbrev pub decreases-quantified : goal.decreases-quantified
+decreases-quantified l = 2 * (length l.words.now - l.at) + 1
+
+abbrev pub decreases-last : goal.decreases-last
+decreases-last l = 2 * (length l.words.now - l.at) + 1
+
+abbrev pub decreases-part : goal.decreases-part
+decreases-part l = 2 * (length l.words.now - l.at)
+
+abbrev pub decreases-formulas : goal.decreases-formulas
+decreases-formulas l = 2 * (length l.words.now - l.at)
+
+abbrev pub invariant-formulas-parts : goal.invariant-formulas-parts
+invariant-formulas-parts l = record {
   moved : l.at ≤ l.next;
   read : IsReadOn (items (listed formula)) l.words l.at (map formula_of l.parts.items) l.next;
 }
 
-abbrev pub decreases-conjuncts-parts : goal.decreases-conjuncts-parts
-decreases-conjuncts-parts l = length l.words - l.next
+abbrev pub decreases-formulas-parts : goal.decreases-formulas-parts
+decreases-formulas-parts l = length l.words - l.next
