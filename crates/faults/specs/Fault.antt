@@ -1,7 +1,7 @@
 -- The codes' numbers, and what a fault tells in the model's terms.
 use Rattle.std.specs.Prelude.{ℕ, ◌==◌, if◌then◌else◌, List, [], ◌∷◌, codes, Option, None, Some}
 use Rattle.faults.specs.declared.code.Code.{Code}
-use Rattle.faults.specs.declared.code.Code.TheVariants.{BadByte, BadWord, Unbalanced, TooDeep, TooLong, Trailing, BadForm, UnknownSection, RepeatedSection, MissingSection, UnknownRequirement, LeftOut, UnknownType, TypeCycle, Duplicate, UnknownName, WrongArity, WrongType, DomainMismatch, NegativeInit, TooMany, PlanForm, UnknownAction, StepArity, StepType}
+use Rattle.faults.specs.declared.code.Code.TheVariants.{BadByte, BadWord, Unbalanced, TooDeep, TooLong, Trailing, BadForm, UnknownSection, RepeatedSection, MissingSection, UnknownRequirement, LeftOut, UnknownType, TypeCycle, Duplicate, UnknownName, WrongArity, WrongType, Shadowed, DomainMismatch, NegativeInit, TooMany, PlanForm, UnknownAction, StepArity, StepType}
 use Rattle.faults.specs.declared.refused.Refusal.{Refusal}
 use Rattle.faults.specs.declared.refused.Refused.{Refused}
 use Rattle.faults.specs.declared.refused.Refused.TheVariants.{At, NoMemory}
@@ -26,6 +26,7 @@ number_of Duplicate = 16
 number_of UnknownName = 17
 number_of WrongArity = 18
 number_of WrongType = 19
+number_of Shadowed = 20
 number_of DomainMismatch = 21
 number_of NegativeInit = 24
 number_of TooMany = 25
@@ -55,6 +56,7 @@ names =
     (17, codes "UnknownName") ∷
     (18, codes "WrongArity") ∷
     (19, codes "WrongType") ∷
+    (20, codes "Shadowed") ∷
     (21, codes "DomainMismatch") ∷
     (24, codes "NegativeInit") ∷
     (25, codes "TooMany") ∷

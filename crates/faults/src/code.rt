@@ -43,6 +43,8 @@ pub enum Code {
     WrongArity = 18,
     /// A term whose type does not fit its argument.
     WrongType = 19,
+    /// A variable of a quantifier whose name is in scope already.
+    Shadowed = 20,
     /// A problem of another domain.
     DomainMismatch = 21,
     /// A negated fact in the initial state.
@@ -90,6 +92,7 @@ impl Code {
             Code::UnknownName => "UnknownName",
             Code::WrongArity => "WrongArity",
             Code::WrongType => "WrongType",
+            Code::Shadowed => "Shadowed",
             Code::DomainMismatch => "DomainMismatch",
             Code::NegativeInit => "NegativeInit",
             Code::TooMany => "TooMany",

@@ -65,4 +65,4 @@ pub record AreSchemasOf (known : Known) (d : tree.Domain) (entries : List (Vec �
 pub record Starts (file : File) (known : Known) (p : tree.Problem) (s : Start) : Type 0 where
   pub right : stated_faults_in file known p ≡ []
   pub init : map atom_of s.init.items ≡ flat_map (narrow_atoms_in known) p.init
-  pub goal : formula_of s.goal ≡ formula_in known p.goal
+  pub goal : formula_of s.goal ≡ formula_in file known p.goal

@@ -1,9 +1,10 @@
 -- What the names of formulas, effects and atoms stand for, in the model's terms.
-use Rattle.std.specs.Prelude.{ℕ, List, [], ◌∷◌, map, take, ◌++◌, slice_get, Option}
+use Rattle.std.specs.Prelude.{◌≡◌, ℕ, List, [], ◌∷◌, length, map, take, ◌++◌, slice_get, Option}
 use Rattle.std.specs.Global.{Vec}
 use Rattle.std.specs.Map.{keys_of}
 use Rattle.std.specs.Option.{option_map_or}
 use Rattle.typing.specs.declared.schemas.TypeUnion.{TypeUnion}
+use Rattle.typing.specs.declared.scope.Globals.{Globals}
 use Rattle.typing.specs.declared.scope.Scope.{Scope}
 use Rattle.typing.specs.TaskParts.{object_entry_of, predicate_of, type_entry_of, union_of}
 use Rattle.model.specs.Task as task
@@ -29,6 +30,24 @@ known_of s = record {
   variables = map variable_entry_of s.variables.now.entries;
   objects = map object_entry_of s.objects.now.entries;
 }
+
+-- the variables that were in scope stand first among those that are
+abbrev pub BeginsWith : List (Vec ℕ × TypeUnion) → List (Vec ℕ × TypeUnion) → Type 0
+BeginsWith before after = take (length before) after ≡ before
+
+-- what may be named in a file where these are the variables in scope
+abbrev pub known_over : Globals → List (Vec ℕ × TypeUnion) → Known
+known_over g variables = record {
+  type_names = names_in g.type_names.now.names.keys;
+  types = map type_entry_of g.types.now.entries;
+  predicates = map predicate_of g.predicates.now.entries;
+  variables = map variable_entry_of variables;
+  objects = map object_entry_of g.objects.now.entries;
+}
+
+-- what may be named where no variable is in scope
+abbrev pub known_outside : Globals → Known
+known_outside g = known_over g []
 
 -- what each argument of the predicate of this number has to be, if there is one
 abbrev pub arguments_at : Known → ℕ → List task.Union

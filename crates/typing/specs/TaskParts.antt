@@ -39,10 +39,22 @@ term_of (Object o) = task.object o.0
 abbrev pub lifted_atom_of : LiftedAtom → task.LiftedAtom
 lifted_atom_of a = record { predicate = a.predicate.0; terms = map term_of a.terms.items }
 
+abbrev pub type_of : TypeId → ℕ
+type_of t = t.0
+
+abbrev pub union_of : TypeUnion → task.Union
+union_of types = map type_of types.0.items
+
 abbrev mutual
   pub formula_of : Formula → task.Formula
   formula_of (formula.Atom a) = task.atom (lifted_atom_of a)
+  formula_of (formula.Equal t u) = task.equal (term_of t) (term_of u)
   formula_of (formula.And' shape parts) = task.and (formulas_of parts)
+  formula_of (formula.Or' shape parts) = task.or (formulas_of parts)
+  formula_of (formula.Not' p part) = task.not (formula_of part)
+  formula_of (formula.Imply' p premise q conclusion) = task.imply (formula_of premise) (formula_of conclusion)
+  formula_of (formula.Exists' types p part) = task.exists (union_of types) (formula_of part)
+  formula_of (formula.Forall' types p part) = task.forall (union_of types) (formula_of part)
 
   pub formulas_of : {m : _} → Row_of-Formula m → task.Formulas
   formulas_of end_of-Formula = task.no_formula
@@ -57,12 +69,6 @@ abbrev mutual
   pub effects_of : {m : _} → Row_of-Effect m → task.Effects
   effects_of end_of-Effect = task.no_effect
   effects_of (more_of-Effect first rest) = task.more_effects (effect_of first) (effects_of rest)
-
-abbrev pub type_of : TypeId → ℕ
-type_of t = t.0
-
-abbrev pub union_of : TypeUnion → task.Union
-union_of types = map type_of types.0.items
 
 -- a schema without its name: what its parameters have to be, its precondition and its effect
 abbrev pub shape_of : Schema → List task.Union × task.Formula × task.Effect

@@ -26,7 +26,8 @@ pub struct PredicateId(pub usize);
 #[derive(Clone, Copy, Debug, PartialEq, Eq)]
 pub struct SchemaId(pub usize);
 
-/// A parameter of a schema: its place, from 0, among the schema's parameters.
+/// A variable: its place, from 0, in the scope that it stands in, where the parameters of the action come first, and then
+/// the variables of the quantifiers around, the outermost first.
 #[derive(Clone, Copy, Debug, PartialEq, Eq)]
 pub struct VariableId(pub usize);
 
@@ -42,13 +43,13 @@ pub struct Atom {
 /// An argument of an atom in an action or a goal.
 #[derive(Clone, Copy, Debug)]
 pub enum Term {
-    /// What a parameter of the action stands for.
+    /// What a variable stands for.
     Variable(VariableId),
     /// An object.
     Object(ObjectId),
 }
 
-/// A predicate of some terms: an atom, once the parameters have objects.
+/// A predicate of some terms: an atom, once the variables have objects.
 #[derive(Debug, Drop)]
 pub struct LiftedAtom {
     /// The predicate.

@@ -8,6 +8,7 @@ mod chains;
 mod declarations;
 mod domain;
 mod fault;
+mod formulas;
 mod laws;
 mod names;
 mod objects;
@@ -18,6 +19,7 @@ mod task;
 mod type_names;
 mod typed_lists;
 mod types;
+mod variables;
 mod walk;
 
 pub use atoms::{

@@ -1,7 +1,7 @@
 //! The names that a domain and a problem declare, and what the problem says in them.
 ghost use Rattle.std.specs.Prelude.{◌≡◌, ◌≤◌, [], length, IfErr, IfOk};
 
-use crate::scope::Scope;
+use crate::scope::Globals;
 use crate::type_names::TypeNames;
 use crate::typed_lists::collect;
 use crate::{
@@ -128,15 +128,14 @@ impl Names {
         ensures ok { IfOk result (λ m. AreSchemasOf (known_in types.now objects.now.constants.entries predicates.now.entries) (domain_of domain.now) m.entries) }
         ensures err { IfErr result (TellsLeastOf (action_faults (known_in types.now objects.now.constants.entries predicates.now.entries) (domain_of domain.now).actions)) }
     {
-        let scope = Scope {
+        let globals = Globals {
             file: TaskFile::Domain,
             type_names: &types.names,
             types: &types.all,
             predicates,
-            variables: &IndexMap::new(alloc),
             objects: &objects.constants,
         };
-        actions::schemas(alloc, &scope, domain)
+        actions::schemas(alloc, &globals, domain)
     }
 
     /// What the problem states, with numbers for the names.
@@ -144,35 +143,35 @@ impl Names {
         ensures ok { IfOk result (Starts in_problem (known_by self.now) (problem_of problem.now)) }
         ensures err { IfErr result (TellsLeastOf (stated_faults_in in_problem (known_by self.now) (problem_of problem.now))) }
     {
-        let scope = Scope {
+        let globals = Globals {
             file: TaskFile::Problem,
             type_names: &self.types.names,
             types: &self.types.all,
             predicates: &self.predicates,
-            variables: &IndexMap::new(alloc),
             objects: &self.objects.all,
         };
-        Start::stated_in(alloc, &scope, problem)
+        Start::stated_in(alloc, &globals, problem)
     }
 }
 
 impl Start {
     ghost use Rattle.typing.specs.Task.{file_of, TellsLeastOf};
-    ghost use Rattle.typing.specs.Scope.{known_of};
+    ghost use Rattle.typing.specs.Scope.{known_outside};
     ghost use Rattle.typing.specs.Names.{stated_faults_in, Starts};
     ghost use Rattle.pddl_tree.specs.Tree.{problem_of};
 
     /// What the problem states, where this may be named in it.
     pub(crate) fn stated_in(
         alloc: Global,
-        scope: &Scope<'_>,
+        globals: &Globals<'_>,
         problem: &Problem<'_>,
     ) -> Result<Start, TaskFault>
-        ensures ok { IfOk result (Starts (file_of scope.now.file) (known_of scope.now) (problem_of problem.now)) }
-        ensures err { IfErr result (TellsLeastOf (stated_faults_in (file_of scope.now.file) (known_of scope.now) (problem_of problem.now))) }
+        ensures ok { IfOk result (Starts (file_of globals.now.file) (known_outside globals.now) (problem_of problem.now)) }
+        ensures err { IfErr result (TellsLeastOf (stated_faults_in (file_of globals.now.file) (known_outside globals.now) (problem_of problem.now))) }
     {
-        let init = statements::init(alloc, scope, problem)?;
-        let goal = statements::goal(alloc, scope, problem)?;
+        let variables = IndexMap::new(alloc);
+        let init = statements::init(alloc, &globals.with(&variables), problem)?;
+        let goal = statements::goal(alloc, globals, problem)?;
         Ok(Start { init, goal })
     }
 }

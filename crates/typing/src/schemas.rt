@@ -1,5 +1,5 @@
 //! Formulas, effects and the action schemas that they make up.
-use crate::atoms::{LiftedAtom, TypeId};
+use crate::atoms::{LiftedAtom, Term, TypeId};
 
 /// Types of which an object has to be of one, as `(either t u)` says.
 #[derive(Debug, Drop)]
@@ -23,8 +23,20 @@ impl TypeUnion {
 pub enum Formula {
     /// An atom.
     Atom(LiftedAtom),
+    /// It holds where both terms name one object.
+    Equal(Term, Term),
     /// It holds where each part does.
     And(Vec<Formula>),
+    /// It holds where some part does.
+    Or(Vec<Formula>),
+    /// It holds where its part does not.
+    Not(Box<Formula>),
+    /// It holds where the second part does, and where the first does not.
+    Imply(Box<Formula>, Box<Formula>),
+    /// It holds where its part does for some object of these types: the last variable in the part's scope.
+    Exists(TypeUnion, Box<Formula>),
+    /// It holds where its part does for each object of these types: the last variable in the part's scope.
+    Forall(TypeUnion, Box<Formula>),
 }
 
 /// An effect of an action.

@@ -1,4 +1,4 @@
-//! Names of formulas, effects and atoms become numbers.
+//! Names of effects and atoms become numbers.
 ghost use Rattle.std.specs.Prelude.{◌≡◌, ◌≤◌, length};
 ghost use Rattle.pddl_tree.specs.Tree as read;
 ghost use Rattle.model.specs.Typing.{word_of};
@@ -7,8 +7,8 @@ use crate::type_names::TypeNames;
 use crate::types::{all_below, is_below};
 use crate::walk::Walk;
 use crate::{
-    Atom, Effect, Formula, LiftedAtom, MAX_ARGUMENTS, ObjectId, Predicate, PredicateId, TaskFile,
-    Term, TypeId, TypeUnion, VariableId,
+    Atom, Effect, LiftedAtom, MAX_ARGUMENTS, ObjectId, Predicate, PredicateId, TaskFile, Term,
+    TypeId, TypeUnion, VariableId,
 };
 use arrayvec::ArrayVec;
 use faults::{Code, NoMemory};
@@ -17,7 +17,18 @@ use pddl_tree as tree;
 use pddl_tree::{GroundAtom, Name};
 use std::alloc::Global;
 
-/// What may be named where a formula, an effect or an atom of a file stands.
+/// What may be named all over a file: what is declared outside its actions.
+#[derive(Drop)]
+pub(crate) struct Globals<'g> {
+    pub(crate) file: TaskFile,
+    pub(crate) type_names: &'g TypeNames,
+    pub(crate) types: &'g IndexMap<Vec<u8>, Vec<TypeId>>,
+    pub(crate) predicates: &'g IndexMap<Vec<u8>, Predicate>,
+    pub(crate) objects: &'g IndexMap<Vec<u8>, TypeId>,
+    ghost few: { length objects.now.entries ≤ 65535 },
+}
+
+/// What may be named where an effect or an atom of a file stands.
 ///
 /// A name that is not known gets the number after the last: the fault is told, and no task is made of it.
 #[derive(Drop)]
@@ -31,6 +42,25 @@ pub(crate) struct Scope<'s> {
     ghost few: { length objects.now.entries ≤ 65535 },
 }
 
+impl Globals<'_> {
+    ghost use Rattle.typing.specs.Scope.{known_of, known_over};
+
+    /// What may be named where these variables are in scope.
+    pub(crate) fn with<'v>(&'v self, variables: &'v IndexMap<Vec<u8>, TypeUnion>) -> Scope<'v>
+        ensures file { result.file ≡ self.now.file }
+        ensures known { known_of result ≡ known_over self.now variables.now.entries }
+    {
+        Scope {
+            file: self.file,
+            type_names: self.type_names,
+            types: self.types,
+            predicates: self.predicates,
+            variables,
+            objects: self.objects,
+        }
+    }
+}
+
 impl Scope<'_> {
     ghost use Rattle.std.specs.Prelude.{[], slice_get, is_some, if◌then◌else◌, map, take, IfOk, OnOk};
     ghost use Rattle.std.specs.Option.{option_map, option_map_or};
@@ -40,7 +70,7 @@ impl Scope<'_> {
     ghost use Rattle.typing.specs.TaskParts as parts;
     ghost use Rattle.model.specs.Task.{add, delete, variable, object};
     ghost use Rattle.model.specs.Trees as tree;
-    ghost use Rattle.model.specs.Typing.{atom_faults, effect_faults, effect_in, fits_in, fits_wanted, formula_faults, formula_in, ground_atom_faults, lifted_atom_in, names_of_objects, names_of_predicates, names_of_variables, number_in, predicate_faults, refused_word, term_faults, term_in, terms_faults, unknown_faults};
+    ghost use Rattle.model.specs.Typing.{atom_faults, effect_faults, effect_in, fits_in, fits_wanted, ground_atom_faults, lifted_atom_in, names_of_objects, names_of_predicates, names_of_variables, number_in, predicate_faults, refused_word, term_faults, term_in, terms_faults, unknown_faults};
 
     /// The predicate of this name, which stands with this count of terms.
     fn predicate(
@@ -81,7 +111,7 @@ impl Scope<'_> {
         }
     }
 
-    /// The parameter of this name.
+    /// The variable of this name.
     fn variable(&self, walk: &mut Walk, name: &Name<'_>) -> Result<VariableId, NoMemory>
         ensures value { IfOk result (λ v. v.0 ≡ number_in (names_of_variables (known_of self.now).variables) (read.name_of name.now)) }
         ensures finds { OnOk result (Finds walk.old walk.new (unknown_faults (file_of self.now.file) 17 (names_of_variables (known_of self.now).variables) (read.name_of name.now))) }
@@ -103,8 +133,8 @@ impl Scope<'_> {
         Ok(ObjectId(number as u32))
     }
 
-    /// The variable or the object that stands in an atom.
-    fn term(&self, walk: &mut Walk, term: &tree::Term<'_>) -> Result<Term, NoMemory>
+    /// The variable or the object that stands in an atom or an equality.
+    pub(crate) fn term(&self, walk: &mut Walk, term: &tree::Term<'_>) -> Result<Term, NoMemory>
         ensures value { IfOk result (λ t. parts.term_of t ≡ term_in (known_of self.now) (read.term_of term.now)) }
         ensures finds { OnOk result (Finds walk.old walk.new (term_faults (file_of self.now.file) (known_of self.now) (read.term_of term.now))) }
     {
@@ -212,7 +242,7 @@ impl Scope<'_> {
     }
 
     /// An atom of an action or a goal.
-    fn lifted_atom(
+    pub(crate) fn lifted_atom(
         &self,
         alloc: Global,
         walk: &mut Walk,
@@ -225,28 +255,6 @@ impl Scope<'_> {
         let predicate = self.predicate(walk, &atom.predicate, given.len())?;
         let terms = self.terms(alloc, walk, predicate, given)?;
         Ok(LiftedAtom { predicate, terms })
-    }
-
-    /// A precondition or a goal.
-    pub(crate) fn formula(
-        &self,
-        alloc: Global,
-        walk: &mut Walk,
-        formula: &tree::Formula<'_>,
-    ) -> Result<Formula, NoMemory>
-        ensures value { IfOk result (λ f. parts.formula_of f ≡ formula_in (known_of self.now) (read.formula_of formula.now)) }
-        ensures finds { OnOk result (Finds walk.old walk.new (formula_faults (file_of self.now.file) (known_of self.now) (read.formula_of formula.now))) }
-    {
-        match formula {
-            tree::Formula::Atom(atom) => Ok(Formula::Atom(self.lifted_atom(alloc, walk, atom)?)),
-            tree::Formula::And(parts) => {
-                let mut resolved = Vec::with_capacity(alloc, parts.len())?;
-                for part in parts {
-                    resolved.push(self.formula(alloc, walk, part)?)?;
-                }
-                Ok(Formula::And(resolved))
-            }
-        }
     }
 
     /// The effect that makes the atom true.

@@ -2,16 +2,18 @@
 ghost use Rattle.std.specs.Prelude.{◌≡◌, [], ◌++◌, map, IfErr, IfOk, OnOk};
 ghost use Rattle.typing.specs.TaskParts as parts;
 ghost use Rattle.typing.specs.Task.{file_of, TellsLeastOf};
-ghost use Rattle.typing.specs.Scope.{known_of, narrow_atoms_in};
+ghost use Rattle.typing.specs.Scope.{known_of, known_outside, narrow_atoms_in};
 ghost use Rattle.typing.specs.Walk.{Finds};
 ghost use Rattle.pddl_tree.specs.Tree as read;
 ghost use Rattle.model.specs.Typing as typing;
 ghost use Rattle.std.specs.List.{flat_map};
 
-use crate::scope::Scope;
+use crate::formulas::formula;
+use crate::scope::{Globals, Scope};
 use crate::walk::Walk;
 use crate::{Atom, Formula, TaskFault};
 use faults::{Code, NoMemory};
+use indexmap::IndexMap;
 use pddl_tree::{Fact, Problem};
 use std::alloc::Global;
 
@@ -74,15 +76,16 @@ pub(crate) fn init(
 /// The goal.
 pub(crate) fn goal(
     alloc: Global,
-    scope: &Scope<'_>,
+    globals: &Globals<'_>,
     problem: &Problem<'_>,
 ) -> Result<Formula, TaskFault>
     ensures ok { IfOk result
-        (λ f. (typing.formula_faults (file_of scope.now.file) (known_of scope.now) (read.problem_of problem.now).goal ≡ [])
-        × (parts.formula_of f ≡ typing.formula_in (known_of scope.now) (read.problem_of problem.now).goal)) }
-    ensures err { IfErr result (TellsLeastOf (typing.formula_faults (file_of scope.now.file) (known_of scope.now) (read.problem_of problem.now).goal)) }
+        (λ f. (typing.formula_faults (file_of globals.now.file) (known_outside globals.now) (read.problem_of problem.now).goal ≡ [])
+        × (parts.formula_of f ≡ typing.formula_in (file_of globals.now.file) (known_outside globals.now) (read.problem_of problem.now).goal)) }
+    ensures err { IfErr result (TellsLeastOf (typing.formula_faults (file_of globals.now.file) (known_outside globals.now) (read.problem_of problem.now).goal)) }
 {
     let mut walk = Walk::new(alloc);
-    let goal = scope.formula(alloc, &mut walk, &problem.goal)?;
+    let mut variables = IndexMap::new(alloc);
+    let goal = formula(alloc, &mut walk, globals, &mut variables, &problem.goal)?;
     walk.finish(goal)
 }
