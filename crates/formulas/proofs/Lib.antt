@@ -2,6 +2,7 @@ pub mod States
 pub mod Equality
 pub mod Trees
 pub mod Tasks
+pub mod Quantifiers
 pub mod Changes
 pub mod Instances
 pub mod FluentPredicates

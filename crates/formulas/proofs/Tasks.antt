@@ -13,10 +13,12 @@ use Rattle.std.proofs.Math.ListN.{length-map}
 use Rattle.typing.specs.declared.atoms.ObjectId.{ObjectId}
 use Rattle.typing.specs.declared.atoms.Term.{Term}
 use Rattle.typing.specs.declared.atoms.LiftedAtom.{LiftedAtom}
-use Rattle.typing.specs.TaskParts.{object_of, term_of, lifted_atom_of}
-use Rattle.formulas.specs.State.{is_bound}
+use Rattle.typing.specs.declared.schemas.Formula.{Formula}
+use Rattle.typing.specs.declared.schemas.Formula as formula
+use Rattle.typing.specs.TaskParts.{object_of, term_of, lifted_atom_of, formula_of}
+use Rattle.formulas.specs.State.{is_bound, FitsFormula}
 use Rattle.model.specs.Task as task
-use Rattle.model.specs.WellTyped.{is_task, is_term, is_lifted_atom, max_arguments}
+use Rattle.model.specs.WellTyped.{is_task, is_term, is_lifted_atom, is_formula, max_arguments}
 use Rattle.model.specs.Meaning as meaning
 use Rattle.model.specs.Meaning.{is_below}
 use Rattle.model.proofs.Tests.{passes_index, passes_map, passes_got}
@@ -71,6 +73,17 @@ lifted_few t scope a well typed =
 pub terms_few : (t : task.Task) (scope : List task.Union) (a : LiftedAtom) → IsTrue (is_task t) → IsTrue (is_lifted_atom t scope (lifted_atom_of a)) → length a.terms.items ≤ max_arguments
 terms_few t scope a well typed =
     subst (λ n. n ≤ max_arguments) (length-map a.terms.items term_of) (lifted_few t scope (lifted_atom_of a) well typed)
+
+-- so of a formula that is an atom, in which objects may stand for the variables
+module _ (t : task.Task) (f : Formula) (a : LiftedAtom) (objects : List ObjectId) (is : f ≡ formula.Atom a) (given : FitsFormula t (formula_of f) (map object_of objects)) where
+  typed_atom : IsTrue (is_lifted_atom t given.scope (lifted_atom_of a))
+  typed_atom = ap (λ g. is_formula t given.scope (formula_of g)) (sym is) ∙ given.typed
+
+  pub atom_few : IsTrue (is_task t) → length a.terms.items ≤ max_arguments
+  atom_few well = terms_few t given.scope a well typed_atom
+
+  pub atom_bound : IsTrue (list_all (is_bound (length objects)) (map term_of a.terms.items))
+  atom_bound = lifted_bound t given.scope objects (lifted_atom_of a) typed_atom given.fits
 
 -- ---- the objects that terms name
 

@@ -1,17 +1,18 @@
--- The parts of a conjunction as a list: what formulas and effects mean, part by part.
-use Rattle.std.specs.Prelude.{◌≡◌, ℕ, true, ◌&&◌, List, [], ◌∷◌, ◌++◌, IsTrue, refl}
+-- The parts of formulas and effects as lists: what they mean, part by part.
+use Rattle.std.specs.Prelude.{◌≡◌, ℕ, Bool, true, ◌&&◌, ◌||◌, List, [], ◌∷◌, ◌++◌, map, IsTrue, refl}
 use Rattle.std.proofs.Common.{sym, ◌∙◌, ap}
 use Rattle.std.specs.Global.{Vec}
-use Rattle.std.specs.List.{list_all, flat_map}
+use Rattle.std.specs.List.{list_all, list_any, flat_map}
 use mathlib.Core.Former.{Count}
-use Rattle.typing.specs.declared.schemas.Formula.{Formula, And', Row_of-Formula, end_of-Formula, more_of-Formula, items-the_row-Formula, items_hidden-the_row-Formula-0}
+use Rattle.typing.specs.declared.schemas.Formula.{Formula, Row_of-Formula, end_of-Formula, more_of-Formula, items-the_row-Formula, items_hidden-the_row-Formula-0}
 use Rattle.typing.specs.declared.schemas.Formula as formula
 use Rattle.typing.specs.declared.schemas.Effect.{Effect, Row_of-Effect, end_of-Effect, more_of-Effect, items-the_row-Effect, items_hidden-the_row-Effect-0}
 use Rattle.typing.specs.declared.schemas.Effect as effect
 use Rattle.typing.specs.TaskParts.{formula_of, formulas_of, effect_of, effects_of}
 use Rattle.model.specs.Task as task
 use Rattle.model.specs.WellTyped.{is_formula, are_formulas, is_effect, are_effects}
-use Rattle.model.specs.Meaning.{State, holds, all_hold, changes_of, changes_of_all}
+use Rattle.model.specs.Meaning.{State, holds, all_hold, some_holds, changes_of, changes_of_all}
+use Rattle.model.specs.SureLiterals.{sure, all_sure}
 
 -- ---- formulas
 
@@ -25,6 +26,7 @@ formulas_row n (more_of-Formula part rest) = ap (task.more_formulas (formula_of 
 
 abbrev formula_row : Formula → (n : Count) × Row_of-Formula n
 formula_row (formula.And' _ row) = (_, row)
+formula_row (formula.Or' _ row) = (_, row)
 formula_row _ = (_, end_of-Formula)
 
 pub formula_of-And : (parts : Vec Formula) → formula_of (formula.And parts) ≡ task.and (formulas_in parts.items)
@@ -32,31 +34,55 @@ formula_of-And parts =
     let row = formula_row (formula.And parts) in
     ap task.and (formulas_row row.0 row.1 ∙ ap formulas_in (items_hidden-the_row-Formula-0 parts))
 
-pub all_hold-list : (t : task.Task) (binding : List ℕ) (s : State) (parts : List Formula) → all_hold t (formulas_in parts) binding s ≡ list_all (λ part. holds t (formula_of part) binding s) parts
+pub formula_of-Or : (parts : Vec Formula) → formula_of (formula.Or parts) ≡ task.or (formulas_in parts.items)
+formula_of-Or parts =
+    let row = formula_row (formula.Or parts) in
+    ap task.or (formulas_row row.0 row.1 ∙ ap formulas_in (items_hidden-the_row-Formula-0 parts))
+
+all_hold-list : (t : task.Task) (binding : List ℕ) (s : State) (parts : List Formula) → all_hold t (formulas_in parts) binding s ≡ list_all (λ part. holds t part binding s) (map formula_of parts)
 all_hold-list t binding s [] = refl
 all_hold-list t binding s (part ∷ rest) = ap (λ b. holds t (formula_of part) binding s && b) (all_hold-list t binding s rest)
 
-pub are_formulas-list : (t : task.Task) (scope : List task.Union) (parts : List Formula) → are_formulas t scope (formulas_in parts) ≡ list_all (λ part. is_formula t scope (formula_of part)) parts
+pub list_any_map : {X Y : Type 0} (p : Y → Bool) (f : X → Y) (xs : List X) → list_any p (map f xs) ≡ list_any (λ x. p (f x)) xs
+list_any_map p f [] = refl
+list_any_map p f (x ∷ xs) = ap (λ b. p (f x) || b) (list_any_map p f xs)
+
+some_holds-list : (t : task.Task) (binding : List ℕ) (s : State) (parts : List Formula) → some_holds t (formulas_in parts) binding s ≡ list_any (λ part. holds t part binding s) (map formula_of parts)
+some_holds-list t binding s [] = refl
+some_holds-list t binding s (part ∷ rest) = ap (λ b. holds t (formula_of part) binding s || b) (some_holds-list t binding s rest)
+
+are_formulas-list : (t : task.Task) (scope : List task.Union) (parts : List Formula) → are_formulas t scope (formulas_in parts) ≡ list_all (is_formula t scope) (map formula_of parts)
 are_formulas-list t scope [] = refl
 are_formulas-list t scope (part ∷ rest) = ap (λ b. is_formula t scope (formula_of part) && b) (are_formulas-list t scope rest)
 
--- a conjunction holds where each part does
-pub holds-And : (t : task.Task) (binding : List ℕ) (s : State) (parts : Vec Formula) → holds t (formula_of (formula.And parts)) binding s ≡ list_all (λ part. holds t (formula_of part) binding s) parts.items
-holds-And t binding s parts = ap (λ f. holds t f binding s) (formula_of-And parts) ∙ all_hold-list t binding s parts.items
+all_sure-list : (t : task.Task) (binding : List ℕ) (parts : List Formula) → all_sure t (formulas_in parts) binding ≡ flat_map (λ part. sure t (formula_of part) binding) parts
+all_sure-list t binding [] = refl
+all_sure-list t binding (part ∷ rest) = ap (λ l. sure t (formula_of part) binding ++ l) (all_sure-list t binding rest)
 
-pub is_formula-And : (t : task.Task) (scope : List task.Union) (parts : Vec Formula) → is_formula t scope (formula_of (formula.And parts)) ≡ list_all (λ part. is_formula t scope (formula_of part)) parts.items
-is_formula-And t scope parts = ap (is_formula t scope) (formula_of-And parts) ∙ are_formulas-list t scope parts.items
+-- a formula that is a conjunction, by the list of its parts
+module _ (f : Formula) (parts : Vec Formula) (items : List Formula) (is : f ≡ formula.And parts) (same : items ≡ parts.items) where
+  conjunction : formula_of f ≡ task.and (formulas_in items)
+  conjunction = ap formula_of is ∙ formula_of-And parts ∙ ap (λ l. task.and (formulas_in l)) (sym same)
 
--- the same of a formula that is a conjunction
-pub holds_by_parts : (t : task.Task) (binding : List ℕ) (s : State) (f : Formula) (parts : Vec Formula) (items : List Formula) → f ≡ formula.And parts → items ≡ parts.items
-    → holds t (formula_of f) binding s ≡ list_all (λ part. holds t (formula_of part) binding s) items
-holds_by_parts t binding s f parts items is same =
-    ap (λ g. holds t (formula_of g) binding s) is ∙ holds-And t binding s parts ∙ ap (list_all (λ part. holds t (formula_of part) binding s)) (sym same)
+  pub holds_by_all : (t : task.Task) (binding : List ℕ) (s : State) → holds t (formula_of f) binding s ≡ list_all (λ part. holds t part binding s) (map formula_of items)
+  holds_by_all t binding s = ap (λ g. holds t g binding s) conjunction ∙ all_hold-list t binding s items
 
-pub typed_by_parts : (t : task.Task) (scope : List task.Union) (f : Formula) (parts : Vec Formula) (items : List Formula) → f ≡ formula.And parts → items ≡ parts.items
-    → IsTrue (is_formula t scope (formula_of f)) → list_all (λ part. is_formula t scope (formula_of part)) items ≡ true
-typed_by_parts t scope f parts items is same typed =
-    ap (list_all (λ part. is_formula t scope (formula_of part))) same ∙ sym (ap (λ g. is_formula t scope (formula_of g)) is ∙ is_formula-And t scope parts) ∙ typed
+  pub typed_by_all : (t : task.Task) (scope : List task.Union) → IsTrue (is_formula t scope (formula_of f)) → IsTrue (list_all (is_formula t scope) (map formula_of items))
+  typed_by_all t scope typed = sym (ap (is_formula t scope) conjunction ∙ are_formulas-list t scope items) ∙ typed
+
+  pub sure_by_parts : (t : task.Task) (binding : List ℕ) → sure t (formula_of f) binding ≡ flat_map (λ part. sure t (formula_of part) binding) items
+  sure_by_parts t binding = ap (λ g. sure t g binding) conjunction ∙ all_sure-list t binding items
+
+-- and one that is a disjunction
+module _ (f : Formula) (parts : Vec Formula) (items : List Formula) (is : f ≡ formula.Or parts) (same : items ≡ parts.items) where
+  disjunction : formula_of f ≡ task.or (formulas_in items)
+  disjunction = ap formula_of is ∙ formula_of-Or parts ∙ ap (λ l. task.or (formulas_in l)) (sym same)
+
+  pub holds_by_some : (t : task.Task) (binding : List ℕ) (s : State) → holds t (formula_of f) binding s ≡ list_any (λ part. holds t part binding s) (map formula_of items)
+  holds_by_some t binding s = ap (λ g. holds t g binding s) disjunction ∙ some_holds-list t binding s items
+
+  pub typed_by_some : (t : task.Task) (scope : List task.Union) → IsTrue (is_formula t scope (formula_of f)) → IsTrue (list_all (is_formula t scope) (map formula_of items))
+  typed_by_some t scope typed = sym (ap (is_formula t scope) disjunction ∙ are_formulas-list t scope items) ∙ typed
 
 -- ---- effects
 

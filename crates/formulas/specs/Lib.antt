@@ -1,2 +1,3 @@
 pub mod State
 pub mod Equality
+pub mod Literals

@@ -2,6 +2,7 @@
 use Rattle.std.specs.Prelude.{ℕ, Bool, true, nat_lt, IsTrue, List, map}
 use Rattle.std.specs.Cmp.Lexicographic.{pointwise}
 use Rattle.std.specs.FinSet.{from_list}
+use Rattle.std.specs.List.{list_all}
 use Rattle.formulas.specs.declared.state.State.{State}
 use Rattle.formulas.specs.declared.instance.Instance.{Instance}
 use Rattle.formulas.specs.declared.plan.Plan.{Plan}
@@ -20,20 +21,24 @@ instance_of i = record { schema = i.schema.0; objects = map object_of i.objects.
 abbrev pub plan_of : Plan → List task.Instance
 plan_of p = map instance_of p.steps.items
 
--- a term that is a parameter is one of the first so many
+-- a term that is a variable is one of the first so many
 abbrev pub is_bound : ℕ → task.Term → Bool
 is_bound scope (task.variable parameter) = nat_lt parameter scope
 is_bound scope (task.object number) = true
 
--- There are types of parameters for which something is well-typed, and of which these objects are, one for each.
+-- There are types of variables for which something is well-typed, and of which these objects are, one for each.
 pub record FitsScope (t : task.Task) (is_typed : List task.Union → Bool) (objects : List ℕ) : Type 0 where
   pub scope : List task.Union
   pub typed : IsTrue (is_typed scope)
   pub fits : IsTrue (pointwise (meaning.is_of t) scope objects)
 
--- these objects may stand for the parameters in the formula
+-- these objects may stand for the variables in the formula
 abbrev pub FitsFormula : task.Task → task.Formula → List ℕ → Type 0
 FitsFormula t formula objects = FitsScope t (λ scope. is_formula t scope formula) objects
+
+-- in each of the formulas
+abbrev pub FitsFormulas : task.Task → List task.Formula → List ℕ → Type 0
+FitsFormulas t formulas objects = FitsScope t (λ scope. list_all (is_formula t scope) formulas) objects
 
 -- and in the effect
 abbrev pub FitsEffect : task.Task → task.Effect → List ℕ → Type 0

@@ -1,33 +1,127 @@
 //! Truth: which atoms terms name, and whether a formula holds.
 ghost use Rattle.std.specs.Prelude.{◌≡◌, ◌≤◌, length, map, IsTrue};
-ghost use Rattle.std.specs.List.{list_all};
-ghost use Rattle.typing.specs.TaskParts.{atom_of, object_of, formula_of, lifted_atom_of, term_of};
+ghost use Rattle.std.specs.List.{list_all, list_any};
+ghost use Rattle.typing.specs.TaskParts.{atom_of, object_of, formula_of, lifted_atom_of, term_of, union_of};
 ghost use Rattle.typing.specs.Task.{task_of};
-ghost use Rattle.formulas.specs.State.{is_bound, state_of, FitsFormula};
+ghost use Rattle.formulas.specs.State.{is_bound, state_of, FitsFormula, FitsFormulas};
+ghost use Rattle.model.specs.Task.{exists, forall};
 ghost use Rattle.model.specs.Meaning as meaning;
 
 use crate::instance::Binding;
 use crate::state::State;
 use arrayvec::ArrayVec;
-use typing::{Atom, Formula, LiftedAtom, MAX_ARGUMENTS, ObjectId, Task, Term};
+use typing::{Atom, Formula, LiftedAtom, MAX_ARGUMENTS, ObjectId, Task, Term, TypeUnion};
 
-/// Whether the formula holds in the state, where the parameters have these objects. The formula is well-typed for
-/// parameters of some types that the objects are of.
+/// Whether the formula holds in the state, where the variables in scope have these objects. The formula is well-typed for
+/// variables of some types that the objects are of. No memory is taken, and what decides ends the search.
+#[cycle(holds)]
 pub fn holds(task: &Task, formula: &Formula, binding: &Binding, state: &State) -> bool
     requires { FitsFormula (task_of task.now) (formula_of formula.now) (map object_of binding.now.items) }
     ensures { result ≡ meaning.holds (task_of task.now) (formula_of formula.now) (map object_of binding.now.items) (state_of state.now) }
 {
     match formula {
         Formula::Atom(atom) => state.contains(&ground_atom(atom, binding)),
-        Formula::And(parts) => {
-            for part in parts {
-                if !holds(task, part, binding, state) {
-                    return false;
-                }
-            }
-            true
+        Formula::Equal(first, second) => named_by(first, binding) == named_by(second, binding),
+        Formula::And(parts) => all_hold(task, parts, binding, state),
+        Formula::Or(parts) => some_holds(task, parts, binding, state),
+        Formula::Not(part) => !holds(task, part, binding, state),
+        Formula::Imply(premise, conclusion) => {
+            !holds(task, premise, binding, state) || holds(task, conclusion, binding, state)
+        }
+        Formula::Exists(types, part) => holds_for_some(task, types, part, binding, state),
+        Formula::Forall(types, part) => holds_for_all(task, types, part, binding, state),
+    }
+}
+
+/// Whether each of the formulas holds.
+#[cycle(holds)]
+fn all_hold(task: &Task, parts: &[Formula], binding: &Binding, state: &State) -> bool
+    requires { FitsFormulas (task_of task.now) (map formula_of parts.now) (map object_of binding.now.items) }
+    ensures { result ≡ list_all (λ part. meaning.holds (task_of task.now) part (map object_of binding.now.items) (state_of state.now)) (map formula_of parts.now) }
+{
+    for part in parts {
+        if !holds(task, part, binding, state) {
+            return false;
         }
     }
+    true
+}
+
+/// Whether one of the formulas holds.
+#[cycle(holds)]
+fn some_holds(task: &Task, parts: &[Formula], binding: &Binding, state: &State) -> bool
+    requires { FitsFormulas (task_of task.now) (map formula_of parts.now) (map object_of binding.now.items) }
+    ensures { result ≡ list_any (λ part. meaning.holds (task_of task.now) part (map object_of binding.now.items) (state_of state.now)) (map formula_of parts.now) }
+{
+    for part in parts {
+        if holds(task, part, binding, state) {
+            return true;
+        }
+    }
+    false
+}
+
+/// Whether the formula holds for each object of these types, as that of the next variable.
+#[cycle(holds)]
+fn holds_for_all(
+    task: &Task,
+    types: &TypeUnion,
+    part: &Formula,
+    binding: &Binding,
+    state: &State,
+) -> bool
+    requires { FitsFormula (task_of task.now) (forall (union_of types.now) (formula_of part.now)) (map object_of binding.now.items) }
+    ensures { result ≡ meaning.holds (task_of task.now) (forall (union_of types.now) (formula_of part.now)) (map object_of binding.now.items) (state_of state.now) }
+{
+    let mut extended = copied(binding);
+    for number in 0..task.object_count() {
+        let object = ObjectId(number as u32);
+        if task.is_of(object, types) {
+            extended.push(object);
+            if !holds(task, part, &extended, state) {
+                return false;
+            }
+            extended.pop();
+        }
+    }
+    true
+}
+
+/// Whether the formula holds for one of the objects of these types, as that of the next variable.
+#[cycle(holds)]
+fn holds_for_some(
+    task: &Task,
+    types: &TypeUnion,
+    part: &Formula,
+    binding: &Binding,
+    state: &State,
+) -> bool
+    requires { FitsFormula (task_of task.now) (exists (union_of types.now) (formula_of part.now)) (map object_of binding.now.items) }
+    ensures { result ≡ meaning.holds (task_of task.now) (exists (union_of types.now) (formula_of part.now)) (map object_of binding.now.items) (state_of state.now) }
+{
+    let mut tried = copied(binding);
+    for candidate in 0..task.object_count() {
+        let object = ObjectId(candidate as u32);
+        if task.is_of(object, types) {
+            tried.push(object);
+            if holds(task, part, &tried, state) {
+                return true;
+            }
+            tried.pop();
+        }
+    }
+    false
+}
+
+/// The same objects, to which those of further variables may be added.
+pub(crate) fn copied(binding: &Binding) -> Binding
+    ensures { result.items ≡ binding.now.items }
+{
+    let mut copy = Binding::new();
+    for object in binding.as_slice() {
+        copy.push(*object);
+    }
+    copy
 }
 
 /// Whether the goal holds in the state.
@@ -37,7 +131,7 @@ pub fn meets_goal(task: &Task, state: &State) -> bool
     holds(task, task.goal(), &Binding::new(), state)
 }
 
-/// The atom that a predicate of some terms becomes, where the parameters have these objects.
+/// The atom that a predicate of some terms becomes, where the variables have these objects.
 pub(crate) fn ground_atom(atom: &LiftedAtom, binding: &Binding) -> Atom
     requires few { length atom.now.terms.items ≤ MAX_ARGUMENTS }
     requires bound { IsTrue (list_all (is_bound (length binding.now.items)) (map term_of atom.now.terms.items)) }
@@ -53,8 +147,8 @@ pub(crate) fn ground_atom(atom: &LiftedAtom, binding: &Binding) -> Atom
     }
 }
 
-/// The object that the term names, where the parameters have these objects.
-fn named_by(term: &Term, binding: &Binding) -> ObjectId
+/// The object that the term names, where the variables have these objects.
+pub(crate) fn named_by(term: &Term, binding: &Binding) -> ObjectId
     requires { IsTrue (is_bound (length binding.now.items) (term_of term.now)) }
     ensures { result.0 ≡ meaning.object_of (map object_of binding.now.items) (term_of term.now) }
 {

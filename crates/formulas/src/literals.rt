@@ -1,0 +1,118 @@
+//! What a formula says outright.
+ghost use Rattle.std.specs.Prelude.{◌≡◌, ◌++◌, map, IfOk, OnOk};
+ghost use Rattle.typing.specs.TaskParts.{object_of, formula_of, union_of};
+ghost use Rattle.typing.specs.Task.{task_of};
+ghost use Rattle.formulas.specs.State.{FitsFormula};
+ghost use Rattle.formulas.specs.Literals.{literal_of};
+ghost use Rattle.model.specs.Task.{forall};
+ghost use Rattle.model.specs.SureLiterals as literals;
+
+use crate::instance::Binding;
+use crate::truth::{copied, ground_atom, named_by};
+use faults::NoMemory;
+use std::alloc::Global;
+use typing::{Atom, Formula, ObjectId, Task, TypeUnion};
+
+/// What a formula says outright of an atom, or of two objects.
+#[derive(Debug, Drop)]
+pub enum Literal {
+    /// The atom is true.
+    IsTrue(Atom),
+    /// The atom is false.
+    IsFalse(Atom),
+    /// Both are one object.
+    AreSame(ObjectId, ObjectId),
+    /// They are two objects.
+    AreDifferent(ObjectId, ObjectId),
+}
+
+/// The sure literals of the formula, where the variables in scope have these objects: the atoms, the equalities and the
+/// `not` of one of these under nothing but `and` and `forall`, for each object of the variable of a `forall`. The formula is
+/// well-typed for variables of some types that the objects are of.
+pub fn sure(
+    alloc: Global,
+    task: &Task,
+    formula: &Formula,
+    binding: &Binding,
+) -> Result<Vec<Literal>, NoMemory>
+    requires { FitsFormula (task_of task.now) (formula_of formula.now) (map object_of binding.now.items) }
+    ensures { IfOk result (λ found. map literal_of found.items ≡ literals.sure (task_of task.now) (formula_of formula.now) (map object_of binding.now.items)) }
+{
+    let mut found = Vec::new(alloc);
+    add_sure(task, formula, binding, &mut found)?;
+    Ok(found)
+}
+
+/// Adds the sure literals of the formula.
+#[cycle(sure)]
+fn add_sure(
+    task: &Task,
+    formula: &Formula,
+    binding: &Binding,
+    found: &mut Vec<Literal>,
+) -> Result<(), NoMemory>
+    requires { FitsFormula (task_of task.now) (formula_of formula.now) (map object_of binding.now.items) }
+    ensures { OnOk result (map literal_of found.new.items ≡ map literal_of found.old.items ++ literals.sure (task_of task.now) (formula_of formula.now) (map object_of binding.now.items)) }
+{
+    match formula {
+        Formula::Atom(atom) => found.push(Literal::IsTrue(ground_atom(atom, binding)))?,
+        Formula::Equal(first, second) => found.push(Literal::AreSame(
+            named_by(first, binding),
+            named_by(second, binding),
+        ))?,
+        Formula::Not(part) => add_sure_not(task, part, binding, found)?,
+        Formula::And(parts) => {
+            for part in parts {
+                add_sure(task, part, binding, found)?;
+            }
+        }
+        Formula::Forall(types, part) => add_sure_of_each(task, types, part, binding, found)?,
+        Formula::Or(_) | Formula::Imply(_, _) | Formula::Exists(_, _) => {}
+    }
+    Ok(())
+}
+
+/// Adds the literal that says that the formula does not hold, if it is an atom or an equality.
+fn add_sure_not(
+    task: &Task,
+    formula: &Formula,
+    binding: &Binding,
+    found: &mut Vec<Literal>,
+) -> Result<(), NoMemory>
+    requires { FitsFormula (task_of task.now) (formula_of formula.now) (map object_of binding.now.items) }
+    ensures { OnOk result (map literal_of found.new.items ≡ map literal_of found.old.items ++ literals.sure_not (formula_of formula.now) (map object_of binding.now.items)) }
+{
+    match formula {
+        Formula::Atom(atom) => found.push(Literal::IsFalse(ground_atom(atom, binding)))?,
+        Formula::Equal(first, second) => found.push(Literal::AreDifferent(
+            named_by(first, binding),
+            named_by(second, binding),
+        ))?,
+        _ => {}
+    }
+    Ok(())
+}
+
+/// Adds the sure literals of the formula for each object of these types, as that of the next variable.
+#[cycle(sure)]
+fn add_sure_of_each(
+    task: &Task,
+    types: &TypeUnion,
+    part: &Formula,
+    binding: &Binding,
+    found: &mut Vec<Literal>,
+) -> Result<(), NoMemory>
+    requires { FitsFormula (task_of task.now) (forall (union_of types.now) (formula_of part.now)) (map object_of binding.now.items) }
+    ensures { OnOk result (map literal_of found.new.items ≡ map literal_of found.old.items ++ literals.sure (task_of task.now) (forall (union_of types.now) (formula_of part.now)) (map object_of binding.now.items)) }
+{
+    let mut extended = copied(binding);
+    for number in 0..task.object_count() {
+        let object = ObjectId(number as u32);
+        if task.is_of(object, types) {
+            extended.push(object);
+            add_sure(task, part, &extended, found)?;
+            extended.pop();
+        }
+    }
+    Ok(())
+}
