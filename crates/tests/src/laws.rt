@@ -1,6 +1,6 @@
 //! The laws that are stated of all values, and proved: each is called once.
 use cert_checker::{closed_claim_holds, examples_are_judged, solving_list_stays_listed};
-use formulas::one_state;
+use formulas::{formula_examples_are_judged, one_state, sure_literals_hold};
 use planner_main::one_task;
 use typing::examples_are_typed;
 use validator::{exactly_one_verdict_is_true, worked_examples_are_true};
@@ -18,6 +18,8 @@ fn laws_are_called() {
     plan_file::one_fault();
     plan_file::examples_are_as_told();
     one_state();
+    sure_literals_hold();
+    formula_examples_are_judged();
     exactly_one_verdict_is_true();
     worked_examples_are_true();
     closed_claim_holds();

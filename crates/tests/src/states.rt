@@ -2,7 +2,7 @@
 use crate::helpers::{Term, Texts, atom, atoms, instance, is_of, on_task};
 use faults::NoMemory;
 use formulas::{
-    Binding, Instance, Plan, State, apply, holds, is_atom, is_fluent, is_instance, meets_goal,
+    Binding, Instance, Plan, State, apply, holds, is_atom, is_fluent, is_instance, meets_goal, sure,
 };
 use std::alloc::Global;
 use std::process::Abort;
@@ -75,6 +75,32 @@ fn is_a_walk(rt: &impl Abort, alloc: Global, task: &Task) -> Result<(), Fail> {
 #[test]
 fn states_of_a_walk(rt: HostRuntime) -> Result<(), Fail> {
     on_task(&rt, rt.alloc(), &WALK, is_a_walk)
+}
+
+/// A goal with each form, of which five say something outright.
+const OUTRIGHT: Texts = [
+    "(define (domain say) (:predicates (p ?x) (q)))",
+    "(define (problem s) (:domain say) (:objects a b) (:init)
+ (:goal (and (p b) (not (q)) (= a b) (not (= b a)) (forall (?x) (and (p ?x) (or (q)))) (or (p a)) (imply (q) (p a))
+  (exists (?x) (p ?x)) (not (or (p a))) (not (not (p a))))))",
+];
+
+/// What the goal says outright.
+const SAID: &str = "[IsTrue(Atom { predicate: PredicateId(0), objects: [ObjectId(1)] }), \
+IsFalse(Atom { predicate: PredicateId(1), objects: [] }), \
+AreSame(ObjectId(0), ObjectId(1)), AreDifferent(ObjectId(1), ObjectId(0)), \
+IsTrue(Atom { predicate: PredicateId(0), objects: [ObjectId(0)] }), \
+IsTrue(Atom { predicate: PredicateId(0), objects: [ObjectId(1)] })]";
+
+fn says_outright(rt: &impl Abort, alloc: Global, task: &Task) -> Result<(), Fail> {
+    let said = sure(alloc, task, task.goal(), &Binding::new())?;
+    assert_eq!(rt; format!(in alloc; "{said:?}")?.as_str(), SAID);
+    Ok(())
+}
+
+#[test]
+fn some_is_said_outright(rt: HostRuntime) -> Result<(), Fail> {
+    on_task(&rt, rt.alloc(), &OUTRIGHT, says_outright)
 }
 
 /// The state of these atoms, which are put in one after another.

@@ -8,7 +8,8 @@ use typing::{ObjectId, PredicateId, SchemaId, Task, TypeId, TypeUnion};
 /// Names with letters of either case.
 const MIXED: Texts = [
     "(define (domain Go) (:predicates (p ?x) (Q))
- (:action GO :parameters (?a ?b) :precondition (and (P ?B)) :effect (not (q))))",
+ (:action GO :parameters (?a ?b)
+  :precondition (exists (?c ?D) (imply (= ?a ?d) (or (P ?B) (forall () (not (Q)))))) :effect (not (q))))",
     "(define (problem g) (:domain gO) (:objects one Two)
  (:init (p TWO) (P two)) (:goal (p two)))",
 ];
@@ -56,11 +57,14 @@ fn declarations(alloc: Global, task: &Task) -> Result<String, AllocError> {
     format!(in alloc; "{p:?} {q:?}\n{go:?}\n{init:?}\n{goal:?}")
 }
 
-/// The declarations of `MIXED`; the start is told as it stands in the file.
+/// The declarations of `MIXED`, with one quantifier for each variable; the start is told as it stands in the file.
 const DECLARATIONS: &str = "\
 Some(Predicate { arguments: [TypeUnion([TypeId(0)])] }) Some(Predicate { arguments: [] })
 Some(Schema { parameters: [TypeUnion([TypeId(0)]), TypeUnion([TypeId(0)])], \
-precondition: And([Atom(LiftedAtom { predicate: PredicateId(0), terms: [Variable(VariableId(1))] })]), \
+precondition: Exists(TypeUnion([TypeId(0)]), Exists(TypeUnion([TypeId(0)]), \
+Imply(Equal(Variable(VariableId(0)), Variable(VariableId(3))), \
+Or([Atom(LiftedAtom { predicate: PredicateId(0), terms: [Variable(VariableId(1))] }), \
+Not(Atom(LiftedAtom { predicate: PredicateId(1), terms: [] }))])))), \
 effect: Delete(LiftedAtom { predicate: PredicateId(1), terms: [] }) })
 [Atom { predicate: PredicateId(0), objects: [ObjectId(1)] }, Atom { predicate: PredicateId(0), objects: [ObjectId(1)] }]
 Atom(LiftedAtom { predicate: PredicateId(0), terms: [Object(ObjectId(1))] })";

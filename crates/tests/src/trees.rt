@@ -11,7 +11,8 @@ const GO: &[u8] =
     b"(define (domain go) (:predicates (p) (q ?x)) (:action go :parameters (?a) :effect (and (not (p)) (p) (q ?a) (Q b))))";
 
 const TRIP: &[u8] =
-    b"(define (problem trip) (:domain go) (:objects a B) (:init (p) (q a)) (:goal (and (p) (and) (q B))))";
+    b"(define (problem trip) (:domain go) (:objects a B) (:init (p) (q a)) (:goal (and (p) (or) (not (q B))
+ (imply (p) (and (p))) (= ?x B) (exists (?x ?y - (either place truck) ?z) (q ?y)) (forall () (p)))))";
 
 /// The words that stand before this place are refused there, since more is wanted.
 fn refused_at(end: usize) -> Option<Fault> {
@@ -133,10 +134,41 @@ fn is_trip(problem: &Problem) -> bool {
             (problem.name.text, problem.domain.text) == (b"trip".as_slice(), b"go".as_slice())
                 && is_untyped(&problem.objects, &[b"a", b"B"])
                 && is_unary(fact, b"q")
-                && matches!(&problem.goal, Formula::And(parts) if parts.len() == 3)
+                && matches!(&problem.goal, Formula::And(parts) if are_of_each_form(parts))
         }
         _ => false,
     }
+}
+
+/// Whether they are the formulas of the goal: one of each form.
+fn are_of_each_form(parts: &[Formula]) -> bool {
+    match parts {
+        [
+            Formula::Atom(_),
+            Formula::Or(none),
+            Formula::Not(q),
+            Formula::Imply(premise, conclusion),
+            Formula::Equal(Term::Variable(x), Term::Object(b)),
+            Formula::Exists(variables, of_some),
+            Formula::Forall(no_variables, of_all),
+        ] => {
+            none.is_empty()
+                && is_atom(q, b"q", 1)
+                && is_atom(premise, b"p", 0)
+                && matches!(&**conclusion, Formula::And(_))
+                && (x.text, b.text) == (b"?x".as_slice(), b"B".as_slice())
+                && are_seen(variables)
+                && is_atom(of_some, b"q", 1)
+                && no_variables.is_empty()
+                && is_atom(of_all, b"p", 0)
+        }
+        _ => false,
+    }
+}
+
+/// Whether it is an atom of this predicate, and of so many terms.
+fn is_atom(formula: &Formula, predicate: &[u8], count: usize) -> bool {
+    matches!(formula, Formula::Atom(atom) if atom.predicate.text == predicate && atom.terms.len() == count)
 }
 
 const FLEET: &[u8] =
@@ -156,14 +188,14 @@ fn is_fleet(domain: &Domain) -> bool {
                 && are(&others.names, &[b"vehicle"])
                 && others.types.is_empty()
                 && are(&hub.types, &[b"place"])
-                && is_seen(&seen.parameters)
+                && are_seen(&seen.parameters)
         }
         _ => false,
     }
 }
 
-/// Whether they are the variables of `seen`.
-fn is_seen(groups: &[Group]) -> bool {
+/// Whether they are the variables of `seen`, which are those of the `exists` of `TRIP` too.
+fn are_seen(groups: &[Group]) -> bool {
     match groups {
         [first, second] => {
             are(&first.names, &[b"?x", b"?y"])
