@@ -1,9 +1,9 @@
 -- A file begins with the words that the machine goes through: from each nonterminal some words are derived.
 use Rattle.std.proofs.Common.{◌≡◌, ℕ, Bool, true, false, cond, ◌&&◌, ◌||◌, List, [], ◌∷◌, ◌++◌, fold, None, Some, refl, sym, ◌∙◌, ap, subst}
 use Rattle.std.proofs.lemmas.List.{append_assoc, append-nil}
-use Rattle.model.specs.Trees.{Name, no_name, formulas, effects}
+use Rattle.model.specs.Trees.{File, domain_file, problem_file, Name, no_name, formulas, effects}
 use Rattle.model.specs.Trees as tree
-use Rattle.model.specs.GrammarWords.{File, domain_file, problem_file, Token, opens, closes, free, ordinary, define, reserved, variable, keyword, number, SectionKeyword, of_section, PartKeyword, of_part, requirement_key}
+use Rattle.model.specs.GrammarWords.{Token, opens, closes, free, ordinary, define, reserved, variable, keyword, number, SectionKeyword, of_section, PartKeyword, of_part, requirement_key}
 use Rattle.model.specs.GrammarWords as words
 use Rattle.model.specs.Grammar
 use Rattle.model.specs.Grammar.{Sort, Value, Phrase, gives, ◌>>=◌, Section, Part, change, value_of_all, after, Derives, by, Follows, nothing, next, Tree, file, sections, section, parts, section_after, section_of, seen_with, keyword_in, left_of, sections_of, has_all, required_of, has_section, has_part, is_section, IsFile, tree_from, action_from, with_section, no_contents}

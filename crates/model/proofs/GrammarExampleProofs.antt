@@ -1,9 +1,9 @@
 -- What the definitions say of the worked examples: each computes.
 use Rattle.std.proofs.Common.{[], refl}
 use Rattle.std.specs.Prelude.{codes}
-use Rattle.model.specs.GrammarWords.{domain_file, problem_file, tokens_of}
+use Rattle.model.specs.GrammarWords.{tokens_of}
 use Rattle.model.specs.Grammar.{domain_tree}
-use Rattle.model.specs.Trees.{formulas}
+use Rattle.model.specs.Trees.{domain_file, problem_file, formulas}
 use Rattle.model.specs.Trees as tree
 use Rattle.model.specs.GrammarExamples.{AreAsTold, empty_list, no_kind, no_predicates, shortest_domain, word_too_many, repeated_section, section_of_the_other_file, section_left_out, no_parameters, full_problem, typed_list, typed_groups, named, type_of_nothing, either_of_a_constant, not_of_two, imply_of_one, bare_variable, three_terms, form_of_an_effect, empty_goal, empty_precondition, domain_with, quantified, quantified_formula}
 use Rattle.model.proofs.GrammarMeaning.{run_file}

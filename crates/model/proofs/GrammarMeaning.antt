@@ -1,8 +1,8 @@
 -- The machine and the grammar: it finishes on exactly the words that derive, with their tree.
 use Rattle.std.proofs.Common.{◌≡◌, ℕ, List, [], ◌∷◌, Option, None, Some, refl, ◌∙◌, ap, subst}
 use Rattle.std.specs.Option.{option_map}
-use Rattle.model.specs.Trees.{Domain, Problem}
-use Rattle.model.specs.GrammarWords.{File, Token}
+use Rattle.model.specs.Trees.{File, Domain, Problem}
+use Rattle.model.specs.GrammarWords.{Token}
 use Rattle.model.specs.Grammar.{Sort, Value, Phrase, gives, ◌>>=◌, and_then, after, Derives, by, Follows, nothing, next, Tree, file, IsFile, IsDomain, IsProblem}
 use Rattle.model.specs.GrammarMachine.{finished, stopped, go_on, run}
 use Rattle.model.specs.Refusals.{number_after, start}

@@ -4,7 +4,8 @@ use Rattle.std.proofs.Common.{◌≡◌, ℕ, List, [], ◌∷◌, ◌++◌, sym
 use Rattle.std.proofs.lemmas.List.{map-append, append_assoc, append-nil}
 use Rattle.model.specs.Fault.{Fault}
 use Rattle.model.specs.Words.{Word, end_of}
-use Rattle.model.specs.GrammarWords.{File, Token, token_of, tokens_of}
+use Rattle.model.specs.Trees.{File}
+use Rattle.model.specs.GrammarWords.{Token, token_of, tokens_of}
 use Rattle.model.specs.Refusals.{IsWhole, Begins, IsToldOf, IsRefused, at_word, at_end, number_after}
 use Rattle.model.proofs.GrammarBegins.{fewer}
 use Rattle.model.proofs.Places.{Places, at_one, stands_before, stands_after, places}

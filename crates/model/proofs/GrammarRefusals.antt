@@ -3,7 +3,8 @@ use Rattle.std.proofs.Common.{◌≡◌, ℕ, zero, suc, List, [], ◌∷◌, �
 use Rattle.std.specs.Prelude.{slice_get}
 use Rattle.std.proofs.lemmas.List.{map-append}
 use Rattle.model.specs.Words.{Word, end_of}
-use Rattle.model.specs.GrammarWords.{File, Token, token_of, tokens_of}
+use Rattle.model.specs.Trees.{File}
+use Rattle.model.specs.GrammarWords.{Token, token_of, tokens_of}
 use Rattle.model.specs.Grammar.{Tree}
 use Rattle.model.specs.Refusals.{end_of_all, span_by, span_of_place, IsRefused, at_word, at_end, start}
 use Rattle.model.specs.GrammarMachine.{finished, stopped, run}

@@ -5,8 +5,8 @@ use Rattle.std.specs.List.{flat_map}
 use Rattle.std.proofs.lemmas.List.Elements.{Contains-append_left, Contains-append_right, Contains-append_cases}
 use Rattle.std.proofs.lemmas.List.{map-append}
 use Rattle.model.specs.Task as task
-use Rattle.model.specs.Trees.{Name, Group, names_of}
-use Rattle.model.specs.Typing.{Declared, File, Placed, TypingFault, declared, declared_in_group, words_of, placed, refused, one_after, is_known, unknown_faults, types_faults, type_faults}
+use Rattle.model.specs.Trees.{File, Name, Group, names_of}
+use Rattle.model.specs.Typing.{Declared, Placed, TypingFault, declared, declared_in_group, words_of, placed, refused, one_after, is_known, unknown_faults, types_faults, type_faults}
 use Rattle.model.specs.TypingFaults.{HasType, type_words}
 use Rattle.model.proofs.ListLemmas.{Contains-here, Contains-cases, Contains-none, Contains-map, map-Contains, Contains-flat_map, flat_map-Contains}
 

@@ -7,8 +7,8 @@ use Rattle.std.proofs.lemmas.Bool.{cases_eq}
 use Rattle.std.proofs.lemmas.Cmp.{ranked}
 use Rattle.std.proofs.lemmas.List.Elements.{All-contains_itself}
 use Rattle.model.specs.Fault.{Span}
-use Rattle.model.specs.Trees.{Domain, Problem}
-use Rattle.model.specs.Typing.{Placed, File, TypingFault, rank_of, key_of, is_before, phases, first_filled, faults_of, IsLeastFault}
+use Rattle.model.specs.Trees.{File, Domain, Problem}
+use Rattle.model.specs.Typing.{Placed, TypingFault, rank_of, key_of, is_before, phases, first_filled, faults_of, IsLeastFault}
 use Rattle.model.specs.Typing as typing
 use Rattle.model.specs.TypingFaults.{Phase, of_names, of_cycles, of_objects, of_predicates, of_functions, of_actions, of_init, of_goal, order_of, IsFaultIn, IsWellTyped, ComesNoLater, IsTold}
 use Rattle.model.proofs.ListLemmas.{Contains-here, Contains-none}

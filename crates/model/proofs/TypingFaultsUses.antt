@@ -6,9 +6,9 @@ use Rattle.std.specs.Option.{option_map_or}
 use Rattle.std.proofs.lemmas.Bool.{eqb-true, eqb-false, false_from_ne_true}
 use Rattle.std.proofs.lemmas.List.{length-map}
 use Rattle.model.specs.Task as task
-use Rattle.model.specs.Trees.{Name}
+use Rattle.model.specs.Trees.{File, Name}
 use Rattle.model.specs.Trees as tree
-use Rattle.model.specs.Typing.{Known, File, Placed, placed, declared, known_with, variable_faults, folded, is_same, is_known, names_of_predicates, names_of_variables, names_of_objects, faults_against, predicate_in_known, predicate_faults, arguments_in, fits_in, fits_wanted, term_in, term_faults, word_of, misfit_faults, terms_faults, atom_faults, formula_faults, formulas_faults, effect_literal_faults, effect_faults, effects_faults, ground_atom_faults}
+use Rattle.model.specs.Typing.{Known, Placed, placed, declared, known_with, variable_faults, folded, is_same, is_known, names_of_predicates, names_of_variables, names_of_objects, faults_against, predicate_in_known, predicate_faults, arguments_in, fits_in, fits_wanted, term_in, term_faults, word_of, misfit_faults, terms_faults, atom_faults, formula_faults, formulas_faults, effect_literal_faults, effect_faults, effects_faults, ground_atom_faults}
 use Rattle.model.specs.TypingFaults.{IsUnknown, IsTermFault, IsAtomFault, IsFormulaFault, IsSomeFault, IsLiteralFault, IsEffectFault, IsSomeEffectFault, unknown_predicate, unknown_term, wrong_count, wrong_type, as_atom}
 use Rattle.model.proofs.ListLemmas.{Contains-here, Contains-there, Contains-cases, Contains-none, Contains-flat_map}
 use Rattle.model.proofs.TypingFaultsLemmas.{fault_at, AllTell, none_tells, both_tell, one_tells, flat_map_tell, unless_tells, on_left, on_right, unless_listed}

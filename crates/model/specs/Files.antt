@@ -4,23 +4,22 @@
 use Rattle.std.specs.Prelude.{◌≡◌, ℕ, List}
 use Rattle.model.specs.Fault.{Fault}
 use Rattle.model.specs.Words.{Word, ReadsAs, IsTold}
-use Rattle.model.specs.Trees.{Domain, Problem}
+use Rattle.model.specs.Trees.{domain_file, problem_file, Domain, Problem}
+use Rattle.model.specs.Trees as tree
 use Rattle.model.specs.Grammar.{IsDomain, IsProblem}
-use Rattle.model.specs.GrammarWords.{domain_file, problem_file, tokens_of}
+use Rattle.model.specs.GrammarWords.{tokens_of}
 use Rattle.model.specs.Refusals.{IsRefused}
-use Rattle.model.specs.GrammarWords as grammar
 use Rattle.model.specs.Task.{Task, Instance}
-use Rattle.model.specs.Resolution.{in_domain, in_problem, TypingFault, task_of_trees}
+use Rattle.model.specs.Resolution.{TypingFault, task_of_trees}
 use Rattle.model.specs.TypingFaults as typing_faults
 use Rattle.model.specs.TypingFaults.{IsWellTyped}
-use Rattle.model.specs.Resolution as resolution
 use Rattle.model.specs.Runs.{Verdict, IsVerdict}
 use Rattle.model.specs.Meaning.{system_of}
 use Rattle.model.specs.PlanText.{IsPlanText, IsPlanFault}
 
+-- a file that is handed in: one of the task's two, or the plan
 pub data File : Type 0 where
-  the_domain : File
-  the_problem : File
+  of_task : tree.File → File
   the_plan : File
 
 -- a fault, and the file that it is told of
@@ -42,7 +41,7 @@ pub record IsProblemText (text : List ℕ) (problem : Problem) : Type 0 where
 
 -- what is told of a text that is no file of this kind: what keeps it from reading as words, or else what keeps its
 -- words from having a tree
-pub data IsTextFault (kind : grammar.File) (text : List ℕ) (fault : Fault) : Type 0 where
+pub data IsTextFault (kind : tree.File) (text : List ℕ) (fault : Fault) : Type 0 where
   of_words : IsTold text fault → IsTextFault kind text fault
   of_tree : (words : List Word) → ReadsAs text words → IsRefused kind words fault → IsTextFault kind text fault
 
@@ -55,19 +54,15 @@ pub record IsTaskOf (domain problem : List ℕ) (task : Task) : Type 0 where
   pub well_typed : IsWellTyped domain_tree problem_tree
   pub resolved : task ≡ task_of_trees domain_tree problem_tree
 
-abbrev pub file_of : resolution.File → File
-file_of in_domain = the_domain
-file_of in_problem = the_problem
-
 -- a fault of typing is told of its file, with its number and span
 pub record IsToldTyping (typed : TypingFault) (told : FileFault) : Type 0 where
-  pub file : told.file ≡ file_of typed.file
+  pub file : told.file ≡ of_task typed.file
   pub fault : told.fault ≡ typed.fault
 
 -- what is told of two texts that are no task: the first fault in the order of files
 pub data IsTaskFault (domain problem : List ℕ) (told : FileFault) : Type 0 where
-  in_the_domain : IsTextFault domain_file domain told.fault → told.file ≡ the_domain → IsTaskFault domain problem told
-  in_the_problem : (d : Domain) → IsDomainText domain d → IsTextFault problem_file problem told.fault → told.file ≡ the_problem
+  in_the_domain : IsTextFault domain_file domain told.fault → told.file ≡ of_task domain_file → IsTaskFault domain problem told
+  in_the_problem : (d : Domain) → IsDomainText domain d → IsTextFault problem_file problem told.fault → told.file ≡ of_task problem_file
       → IsTaskFault domain problem told
   in_the_pair : (d : Domain) (p : Problem) (typed : TypingFault) → IsDomainText domain d → IsProblemText problem p
       → typing_faults.IsTold d p typed → IsToldTyping typed told → IsTaskFault domain problem told

@@ -5,9 +5,9 @@
 use Rattle.std.specs.Prelude.{◌≡◌, ℕ, Bool, true, false, List, [], ◌∷◌, ◌++◌, fold, Option, None, Some, cond, ⊤}
 use Rattle.std.specs.List.{list_all, list_any}
 use Rattle.std.specs.Option.{option_map}
-use Rattle.model.specs.Trees.{Name, Term, Atom, Formula, EffectLiteral, Effect, Group, Predicate, Increase, Action, Domain, GroundAtom, Fact, Problem, formulas, effects, no_name}
+use Rattle.model.specs.Trees.{File, domain_file, problem_file, Name, Term, Atom, Formula, EffectLiteral, Effect, Group, Predicate, Increase, Action, Domain, GroundAtom, Fact, Problem, formulas, effects, no_name}
 use Rattle.model.specs.Trees as tree
-use Rattle.model.specs.GrammarWords.{File, domain_file, problem_file, Token, opens, closes, free, reserved, variable, keyword, dash, equals, number, number_word, SectionKeyword, of_section, PartKeyword, of_part, requirement_key}
+use Rattle.model.specs.GrammarWords.{Token, opens, closes, free, reserved, variable, keyword, dash, equals, number, number_word, SectionKeyword, of_section, PartKeyword, of_part, requirement_key}
 use Rattle.model.specs.GrammarWords as words
 
 infixr 20 ◌>>=◌

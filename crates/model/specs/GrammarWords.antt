@@ -8,11 +8,6 @@ use Rattle.model.specs.Words as words
 use Rattle.model.specs.Trees.{Name}
 use Rattle.model.specs.Limits.{max_number}
 
--- which of the two files it is
-pub data File : Type 0 where
-  domain_file : File
-  problem_file : File
-
 -- a name that may be a predicate's: one that the grammar asks for somewhere, or any other
 pub data FreeName : Type 0 where
   define : FreeName

@@ -4,7 +4,8 @@ use Rattle.std.specs.Prelude.{◌≡◌, ℕ, List, [], ◌∷◌, ◌++◌, Opt
 use Rattle.std.specs.Option.{option_map, option_and_then}
 use Rattle.model.specs.Fault.{Fault, Span}
 use Rattle.model.specs.Words.{Word, end_of}
-use Rattle.model.specs.GrammarWords.{File, Token, opens, closes, free, reserved, maximize, when, forall, left_out_name, large_number, keyword, Keyword, of_section, PartKeyword, of_part, parameters, left_out_keyword, token_of, tokens_of}
+use Rattle.model.specs.Trees.{File}
+use Rattle.model.specs.GrammarWords.{Token, opens, closes, free, reserved, maximize, when, forall, left_out_name, large_number, keyword, Keyword, of_section, PartKeyword, of_part, parameters, left_out_keyword, token_of, tokens_of}
 use Rattle.model.specs.Grammar
 use Rattle.model.specs.Grammar.{Tree, Sort, names, type, many, conditional, conditional_literal, conditional_atom, total_cost, amount, minimize_word, key, action_name, parts, value, sections, section, define_word, kind_list, Phrase, gives, ◌>>=◌, and_then, after, has_section, has_part, sections_of, IsFile}
 

@@ -10,7 +10,7 @@ use Rattle.std.specs.Option.{option_map_or}
 use Rattle.model.specs.Fault.{Fault}
 use Rattle.model.specs.Task as task
 use Rattle.model.specs.Meaning.{is_below_in}
-use Rattle.model.specs.Trees.{Name, Group, Domain, Problem}
+use Rattle.model.specs.Trees.{File, domain_file, problem_file, Name, Group, Domain, Problem}
 use Rattle.model.specs.Trees as tree
 
 -- ---- names
@@ -36,10 +36,6 @@ with_name names name = if is_known names name then names else names ++ folded na
 
 -- ---- what typed lists declare
 
-pub data File : Type 0 where
-  in_domain : File
-  in_problem : File
-
 -- a name that a typed list of a file declares, and the types after its `-`
 pub record Declared : Type 0 where
   pub file : File
@@ -57,14 +53,14 @@ abbrev pub names_of : List Declared → List Name
 names_of xs = map (λ (x : Declared). x.name) xs
 
 abbrev pub declared_types : Domain → List Declared
-declared_types d = declared in_domain d.types
+declared_types d = declared domain_file d.types
 
 abbrev pub declared_constants : Domain → List Declared
-declared_constants d = declared in_domain d.constants
+declared_constants d = declared domain_file d.constants
 
 -- the constants and the objects, which are declared in one space of names
 abbrev pub declared_objects : Domain → Problem → List Declared
-declared_objects d p = declared_constants d ++ declared in_problem p.objects
+declared_objects d p = declared_constants d ++ declared problem_file p.objects
 
 -- ---- types
 
@@ -232,7 +228,7 @@ abbrev pub objects_of : Domain → Problem → List task.Object
 objects_of d p = map (object_in (type_names d)) (declared_objects d p)
 
 abbrev pub predicate_in : List task.Name → tree.Predicate → task.Predicate
-predicate_in types p = record { name = folded p.name; arguments = unions_in types (declared in_domain p.parameters) }
+predicate_in types p = record { name = folded p.name; arguments = unions_in types (declared domain_file p.parameters) }
 
 abbrev pub predicates_of : Domain → List task.Predicate
 predicates_of d = map (predicate_in (type_names d)) d.predicates
@@ -254,7 +250,7 @@ known_in_domain d = record {
 
 -- in an action: what the domain declares, and the action's parameters
 abbrev pub known_in_action : Known → tree.Action → Known
-known_in_action known a = record known { variables = variables_after known.type_names [] (declared in_domain a.parameters) }
+known_in_action known a = record known { variables = variables_after known.type_names [] (declared domain_file a.parameters) }
 
 -- in the initial state and the goal: what the domain declares, and the problem's objects
 abbrev pub known_in_problem : Domain → Problem → Known
@@ -274,9 +270,9 @@ increase_of a = option_map_or (λ (i : tree.Increase). i.amount) (slice_get a.in
 abbrev pub schema_in : Known → tree.Action → task.Schema
 schema_in known a = record {
   name = folded a.name;
-  parameters = unions_in known.type_names (declared in_domain a.parameters);
-  precondition = formula_in in_domain (known_in_action known a) a.precondition;
-  effect = effect_in in_domain (known_in_action known a) a.effect;
+  parameters = unions_in known.type_names (declared domain_file a.parameters);
+  precondition = formula_in domain_file (known_in_action known a) a.precondition;
+  effect = effect_in domain_file (known_in_action known a) a.effect;
   cost = increase_of a;
 }
 
@@ -288,7 +284,7 @@ task_of_trees d p = record {
   predicates = predicates_of d;
   schemas = map (schema_in (known_in_domain d)) d.actions;
   init = flat_map (atoms_in (known_in_problem d p)) p.init;
-  goal = formula_in in_problem (known_in_problem d p) p.goal;
+  goal = formula_in problem_file (known_in_problem d p) p.goal;
   has_metric = is_some p.metric;
 }
 
@@ -319,8 +315,8 @@ equals_in file (other ∷ facts) = equals_in file facts
 
 -- the domain comes before the problem
 abbrev pub rank_of : File → ℕ
-rank_of in_domain = 0
-rank_of in_problem = 1
+rank_of domain_file = 0
+rank_of problem_file = 1
 
 -- ---- what the rules of use look up
 

@@ -3,6 +3,11 @@ use Rattle.std.specs.Prelude.{ℕ, List, [], ◌∷◌, Option}
 use Rattle.std.specs.List.{flat_map}
 use Rattle.model.specs.Fault.{Span}
 
+-- the two files that a task is read from
+pub data File : Type 0 where
+  domain_file : File
+  problem_file : File
+
 -- a name or a variable: its bytes as they stand in its file, and where they stand
 pub record Name : Type 0 where
   pub text : List ℕ

@@ -8,9 +8,9 @@ use Rattle.std.specs.Option.{option_map_or}
 use Rattle.std.specs.Ordering.{nat_cmp, is_lt}
 use Rattle.model.specs.Limits.{max_types, max_objects, max_arguments, max_variables}
 use Rattle.model.specs.Task as task
-use Rattle.model.specs.Trees.{Name, Domain, Problem}
+use Rattle.model.specs.Trees.{File, domain_file, problem_file, Name, Domain, Problem}
 use Rattle.model.specs.Trees as tree
-pub use Rattle.model.specs.Resolution.{folded, is_same, is_known, number_in, with_name, File, in_domain, in_problem, Declared, declared_in_group, declared, names_of, declared_types, declared_constants, declared_objects, type_names, union_in, type_in, parents_in, parents_of, chain, whole_chain, types_from, types_of, Variable, Known, names_of_predicates, names_of_variables, names_of_objects, with_variable, variable_in, variables_after, unions_in, term_in, lifted_atom_in, exists_each, forall_each, known_with, formula_in, formulas_in, effect_literal_in, each_of, effect_in, effects_in, atom_in, atoms_in, object_in, constants_of, objects_of, predicate_in, predicates_of, declares_cost, known_in_domain, known_in_action, known_in_problem, increase_of, schema_in, task_of_trees, TypingFault, Placed, placed, words_of, equals_in, rank_of, predicate_in_known, fits_in, word_of, comes_back}
+pub use Rattle.model.specs.Resolution.{folded, is_same, is_known, number_in, with_name, Declared, declared_in_group, declared, names_of, declared_types, declared_constants, declared_objects, type_names, union_in, type_in, parents_in, parents_of, chain, whole_chain, types_from, types_of, Variable, Known, names_of_predicates, names_of_variables, names_of_objects, with_variable, variable_in, variables_after, unions_in, term_in, lifted_atom_in, exists_each, forall_each, known_with, formula_in, formulas_in, effect_literal_in, each_of, effect_in, effects_in, atom_in, atoms_in, object_in, constants_of, objects_of, predicate_in, predicates_of, declares_cost, known_in_domain, known_in_action, known_in_problem, increase_of, schema_in, task_of_trees, TypingFault, Placed, placed, words_of, equals_in, rank_of, predicate_in_known, fits_in, word_of, comes_back}
 
 -- ---- faults
 
@@ -156,7 +156,7 @@ init_faults file known facts = flat_map (fact_faults file known) facts ++ refuse
 
 -- 21: the problem is for a domain of another name
 abbrev pub domain_name_faults : Domain → Problem → List TypingFault
-domain_name_faults d p = if is_same (folded p.domain) (folded d.name) then [] else refused_word in_problem 21 p.domain
+domain_name_faults d p = if is_same (folded p.domain) (folded d.name) then [] else refused_word problem_file 21 p.domain
 
 -- 16: a type declared before, or `object`. 14: a parent that is neither `object` nor declared. 25: the first one beyond
 -- the limit
@@ -186,13 +186,13 @@ object_faults d p = objects_faults (type_names d) (declared_objects d p)
 -- 14: an unknown type. 25: the first argument beyond the limit
 abbrev pub argument_faults : List task.Name → tree.Predicate → List TypingFault
 argument_faults types q =
-    type_faults types (declared in_domain q.parameters)
-    ++ refused 25 (one_after max_arguments (words_of (declared in_domain q.parameters)))
+    type_faults types (declared domain_file q.parameters)
+    ++ refused 25 (one_after max_arguments (words_of (declared domain_file q.parameters)))
 
 -- 16: a predicate declared before. And the faults of its arguments
 abbrev pub declaration_faults : List task.Name → List tree.Predicate → List TypingFault
 declaration_faults types qs =
-    refused 16 (repeated (map (λ (q : tree.Predicate). placed in_domain q.name) qs)) ++ flat_map (argument_faults types) qs
+    refused 16 (repeated (map (λ (q : tree.Predicate). placed domain_file q.name) qs)) ++ flat_map (argument_faults types) qs
 
 -- the words `increase` of an action
 abbrev pub increase_words : File → tree.Action → List Placed
@@ -209,18 +209,18 @@ body_faults file known a =
 
 abbrev pub schema_faults : Known → tree.Action → List TypingFault
 schema_faults known a =
-    variable_faults known.type_names [] (declared in_domain a.parameters) ++ body_faults in_domain (known_in_action known a) a
+    variable_faults known.type_names [] (declared domain_file a.parameters) ++ body_faults domain_file (known_in_action known a) a
 
 -- 16: an action declared before. And the faults of each action
 abbrev pub action_faults : Known → List tree.Action → List TypingFault
 action_faults known as' =
-    refused 16 (repeated (map (λ (a : tree.Action). placed in_domain a.name) as')) ++ flat_map (schema_faults known) as'
+    refused 16 (repeated (map (λ (a : tree.Action). placed domain_file a.name) as')) ++ flat_map (schema_faults known) as'
 
 -- 16: `total-cost` after the first in `:functions`. 22: in `:metric`, where it is not declared
 abbrev pub function_faults : Domain → Problem → List TypingFault
 function_faults d p =
-    refused 16 (drop 1 (map (placed in_domain) d.functions))
-    ++ option_map_or (λ n. if declares_cost d then [] else refused_word in_problem 22 n) p.metric []
+    refused 16 (drop 1 (map (placed domain_file) d.functions))
+    ++ option_map_or (λ n. if declares_cost d then [] else refused_word problem_file 22 n) p.metric []
 
 -- The faults of each phase, phase by phase: the names of the domain and of the types, the cycles of types, the objects,
 -- the predicates, the functions, the actions, the initial state and the goal.
@@ -232,8 +232,8 @@ phases d p =
     ∷ declaration_faults (type_names d) d.predicates
     ∷ function_faults d p
     ∷ action_faults (known_in_domain d) d.actions
-    ∷ init_faults in_problem (known_in_problem d p) p.init
-    ∷ formula_faults in_problem (known_in_problem d p) p.goal
+    ∷ init_faults problem_file (known_in_problem d p) p.init
+    ∷ formula_faults problem_file (known_in_problem d p) p.goal
     ∷ []
 
 -- the first of the lists that is not empty

@@ -5,9 +5,9 @@
 use Rattle.std.specs.Prelude.{◌≡◌, ◌≢◌, ℕ, ◌+◌, ◌<◌, ◌≤◌, ◌⊎◌, true, false, List, [], ◌∷◌, ◌++◌, codes, length, map, slice_get, Some, Contains}
 use Rattle.model.specs.Limits.{max_types, max_objects, max_arguments, max_variables}
 use Rattle.model.specs.Task as task
-use Rattle.model.specs.Trees.{Name, Domain, Problem}
+use Rattle.model.specs.Trees.{File, domain_file, problem_file, Name, Domain, Problem}
 use Rattle.model.specs.Trees as tree
-use Rattle.model.specs.Resolution.{File, Known, Declared, Placed, placed, words_of, equals_in, folded, is_same, is_known, declared, declared_types, declared_objects, type_names, parents_of, known_in_domain, known_in_action, known_with, known_in_problem, names_of_predicates, names_of_variables, names_of_objects, predicate_in_known, term_in, fits_in, word_of, comes_back, in_domain, in_problem, TypingFault, rank_of}
+use Rattle.model.specs.Resolution.{Known, Declared, Placed, placed, words_of, equals_in, folded, is_same, is_known, declared, declared_types, declared_objects, type_names, parents_of, known_in_domain, known_in_action, known_with, known_in_problem, names_of_predicates, names_of_variables, names_of_objects, predicate_in_known, term_in, fits_in, word_of, comes_back, TypingFault, rank_of}
 
 -- the phases, in the order in which they are looked at
 pub data Phase : Type 0 where
@@ -55,17 +55,17 @@ IsUnknownType d w = is_known (type_names d) w.word ≡ false
 
 -- the words that declare predicates, and those that declare actions
 abbrev pub predicate_words : Domain → List Placed
-predicate_words d = map (λ (q : tree.Predicate). placed in_domain q.name) d.predicates
+predicate_words d = map (λ (q : tree.Predicate). placed domain_file q.name) d.predicates
 
 abbrev pub action_words : Domain → List Placed
-action_words d = map (λ (a : tree.Action). placed in_domain a.name) d.actions
+action_words d = map (λ (a : tree.Action). placed domain_file a.name) d.actions
 
 -- what the parameters of a predicate or of an action declare
 abbrev pub arguments_of : tree.Predicate → List Declared
-arguments_of q = declared in_domain q.parameters
+arguments_of q = declared domain_file q.parameters
 
 abbrev pub parameters_of : tree.Action → List Declared
-parameters_of a = declared in_domain a.parameters
+parameters_of a = declared domain_file a.parameters
 
 -- ---- uses
 
@@ -149,7 +149,7 @@ known_in d a = known_in_action (known_in_domain d) a
 -- by this number, this word of the pair is refused in this phase
 pub data IsFaultIn (d : Domain) (p : Problem) : Phase → ℕ → Placed → Type 0 where
   -- 1: the name in `:domain`, the types
-  other_domain : is_same (folded p.domain) (folded d.name) ≡ false → IsFaultIn d p of_names 21 (placed in_problem p.domain)
+  other_domain : is_same (folded p.domain) (folded d.name) ≡ false → IsFaultIn d p of_names 21 (placed problem_file p.domain)
   type_again : (w : Placed) → IsRepeated (words_of (declared_types d)) w → IsFaultIn d p of_names 16 w
   object_declared : (w : Placed) → Contains (words_of (declared_types d)) w → is_same (folded w.word) (codes "object") ≡ true → IsFaultIn d p of_names 16 w
   unknown_parent : (w : Placed) → HasType (declared_types d) w → IsUnknownType d w → IsFaultIn d p of_names 14 w
@@ -168,29 +168,29 @@ pub data IsFaultIn (d : Domain) (p : Problem) : Phase → ℕ → Placed → Typ
   many_arguments : (q : tree.Predicate) (w : Placed) → Contains d.predicates q → slice_get (words_of (arguments_of q)) max_arguments ≡ Some w
       → IsFaultIn d p of_predicates 25 w
   -- 5: functions, and the metric
-  function_again : (place : ℕ) (n : Name) → slice_get d.functions (place + 1) ≡ Some n → IsFaultIn d p of_functions 16 (placed in_domain n)
-  metric_undeclared : (n : Name) → p.metric ≡ Some n → d.functions ≡ [] → IsFaultIn d p of_functions 22 (placed in_problem n)
+  function_again : (place : ℕ) (n : Name) → slice_get d.functions (place + 1) ≡ Some n → IsFaultIn d p of_functions 16 (placed domain_file n)
+  metric_undeclared : (n : Name) → p.metric ≡ Some n → d.functions ≡ [] → IsFaultIn d p of_functions 22 (placed problem_file n)
   -- 6: actions
   action_again : (w : Placed) → IsRepeated (action_words d) w → IsFaultIn d p of_actions 16 w
   of_parameters : (a : tree.Action) (code : ℕ) (w : Placed) → Contains d.actions a → IsVariableFault (known_in_domain d) (parameters_of a) code w
       → IsFaultIn d p of_actions code w
-  in_precondition : (a : tree.Action) (code : ℕ) (w : Placed) → Contains d.actions a → IsFormulaFault in_domain (known_in d a) a.precondition code w
+  in_precondition : (a : tree.Action) (code : ℕ) (w : Placed) → Contains d.actions a → IsFormulaFault domain_file (known_in d a) a.precondition code w
       → IsFaultIn d p of_actions code w
-  in_effect : (a : tree.Action) (code : ℕ) (w : Placed) → Contains d.actions a → IsEffectFault in_domain (known_in d a) a.effect code w
+  in_effect : (a : tree.Action) (code : ℕ) (w : Placed) → Contains d.actions a → IsEffectFault domain_file (known_in d a) a.effect code w
       → IsFaultIn d p of_actions code w
   increase_undeclared : (a : tree.Action) (i : tree.Increase) → Contains d.actions a → Contains a.increases i → d.functions ≡ []
-      → IsFaultIn d p of_actions 23 (placed in_domain i.word)
+      → IsFaultIn d p of_actions 23 (placed domain_file i.word)
   increase_again : (a : tree.Action) (place : ℕ) (i : tree.Increase) → Contains d.actions a → slice_get a.increases (place + 1) ≡ Some i
-      → IsFaultIn d p of_actions 23 (placed in_domain i.word)
+      → IsFaultIn d p of_actions 23 (placed domain_file i.word)
   -- 7: the initial state
   in_init : (a : tree.GroundAtom) (code : ℕ) (w : Placed) → Contains p.init (tree.fact a)
-      → IsAtomFault in_problem (known_in_problem d p) (as_atom a) code w → IsFaultIn d p of_init code w
-  cost_undeclared : (c : tree.InitialCost) → Contains p.init (tree.initial_cost c) → d.functions ≡ [] → IsFaultIn d p of_init 23 (placed in_problem c.function)
-  cost_not_zero : (c : tree.InitialCost) → Contains p.init (tree.initial_cost c) → c.amount ≢ 0 → IsFaultIn d p of_init 23 (placed in_problem c.number)
-  cost_again : (place : ℕ) (w : Placed) → slice_get (equals_in in_problem p.init) (place + 1) ≡ Some w → IsFaultIn d p of_init 23 w
-  negated : (word : Name) (a : tree.GroundAtom) → Contains p.init (tree.negated word a) → IsFaultIn d p of_init 24 (placed in_problem word)
+      → IsAtomFault problem_file (known_in_problem d p) (as_atom a) code w → IsFaultIn d p of_init code w
+  cost_undeclared : (c : tree.InitialCost) → Contains p.init (tree.initial_cost c) → d.functions ≡ [] → IsFaultIn d p of_init 23 (placed problem_file c.function)
+  cost_not_zero : (c : tree.InitialCost) → Contains p.init (tree.initial_cost c) → c.amount ≢ 0 → IsFaultIn d p of_init 23 (placed problem_file c.number)
+  cost_again : (place : ℕ) (w : Placed) → slice_get (equals_in problem_file p.init) (place + 1) ≡ Some w → IsFaultIn d p of_init 23 w
+  negated : (word : Name) (a : tree.GroundAtom) → Contains p.init (tree.negated word a) → IsFaultIn d p of_init 24 (placed problem_file word)
   -- 8: the goal
-  in_goal : (code : ℕ) (w : Placed) → IsFormulaFault in_problem (known_in_problem d p) p.goal code w → IsFaultIn d p of_goal code w
+  in_goal : (code : ℕ) (w : Placed) → IsFormulaFault problem_file (known_in_problem d p) p.goal code w → IsFaultIn d p of_goal code w
 
 -- ---- what is told
 

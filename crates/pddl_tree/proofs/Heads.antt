@@ -6,8 +6,8 @@ use Rattle.tokens.specs.Word.{word_of}
 use Rattle.pddl_words.specs.Token.{from, first}
 use Rattle.pddl_tree.specs.Reading.{the, IsRead, IsWord, Opens}
 use Rattle.pddl_tree.specs.Head.{HasHead, HasNoHead, after_head}
-use Rattle.model.specs.Trees.{Name}
-use Rattle.model.specs.GrammarWords.{File, Token, opens, closes, token_of, tokens_of}
+use Rattle.model.specs.Trees.{File, Name}
+use Rattle.model.specs.GrammarWords.{Token, opens, closes, token_of, tokens_of}
 use Rattle.model.specs.Grammar.{Sort, Value, Phrase, gives, ◌>>=◌, and_then, after, define_word, kind_list, kind_word, a_name, close}
 use Rattle.model.specs.Refusals.{Begins, start, after_all}
 use Rattle.model.proofs.GrammarBegins.{begins}

@@ -12,7 +12,8 @@ use Rattle.pddl_tree.specs.Reading.{number_seen}
 use Rattle.model.specs.Words.{end_of}
 use Rattle.model.specs.Words as text
 use Rattle.model.specs.Grammar.{IsFile, Tree, gives, close}
-use Rattle.model.specs.GrammarWords.{File, Token, token_of, tokens_of}
+use Rattle.model.specs.Trees.{File}
+use Rattle.model.specs.GrammarWords.{Token, token_of, tokens_of}
 use Rattle.model.specs.Refusals.{IsWhole, IsRefused, end_of_all, span_by, span_of_place, start}
 use Rattle.model.specs.GrammarMachine.{run, finished, stopped}
 use Rattle.model.proofs.GrammarMeaning.{run_file, file_run}

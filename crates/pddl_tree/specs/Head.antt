@@ -1,7 +1,7 @@
 -- The head of a file: `( define ( domain NAME )`, or `problem` in place of `domain`.
 use Rattle.std.specs.Prelude.{ℕ, ◌<◌, ◌≤◌, ◌⊎◌, List, [], length, take, fold}
-use Rattle.model.specs.GrammarWords.{File, Token}
-use Rattle.model.specs.Trees.{Name}
+use Rattle.model.specs.GrammarWords.{Token}
+use Rattle.model.specs.Trees.{File, Name}
 use Rattle.model.specs.Grammar.{Tree, Phrase, gives, ◌>>=◌, sections, tree_from, with_section, no_contents}
 use Rattle.model.specs.Refusals.{Begins}
 

@@ -2,18 +2,13 @@
 use Rattle.std.specs.Prelude.{[], map}
 use Rattle.pddl_tree.specs.declared.refusal.Place.{Place}
 use Rattle.pddl_tree.specs.declared.refusal.Place.TheVariants as place
-use Rattle.pddl_tree.specs.declared.refusal.FileKind.{FileKind}
-use Rattle.pddl_tree.specs.declared.refusal.FileKind.TheVariants as kind
+use Rattle.pddl_tree.specs.Tree.{file_of}
 use Rattle.pddl_tree.specs.declared.refusal.Listed.{Listed}
 use Rattle.pddl_tree.specs.declared.refusal.Listed.TheVariants as listed
 use Rattle.pddl_words.specs.Token.{part_view}
-use Rattle.model.specs.GrammarWords.{File, domain_file, problem_file, requirements}
+use Rattle.model.specs.GrammarWords.{requirements}
 use Rattle.model.specs.Grammar.{Sort, close, key, define_word, parts, value, section, type}
 use Rattle.model.specs.Grammar as grammar
-
-abbrev pub file_view : FileKind → File
-file_view kind.Domain = domain_file
-file_view kind.Problem = problem_file
 
 abbrev pub listed_view : Listed → grammar.Listed
 listed_view listed.Names = grammar.names
@@ -24,7 +19,7 @@ abbrev pub wanted : Place → Sort
 wanted place.Incomplete = define_word
 wanted place.Parts = parts []
 wanted (place.Value seen) = value (map part_view seen.now)
-wanted (place.Section f) = section (file_view f) requirements []
+wanted (place.Section f) = section (file_of f) requirements []
 wanted place.Keys = key
 wanted (place.Type l) = type (listed_view l)
 wanted place.Elsewhere = close

@@ -13,8 +13,8 @@ use Rattle.pddl_words.specs.declared.refusal.WordRefusal.{WordRefusal}
 use Rattle.pddl_words.specs.Token.{from, first}
 use Rattle.pddl_words.specs.Refusal.{told}
 use Rattle.pddl_tree.specs.Reading.{number_seen}
-use Rattle.model.specs.Trees.{Name, Action, Formula}
-use Rattle.model.specs.GrammarWords.{File, SectionKeyword, keyword, of_section}
+use Rattle.model.specs.Trees.{File, Name, Action, Formula}
+use Rattle.model.specs.GrammarWords.{SectionKeyword, keyword, of_section}
 use Rattle.model.specs.Grammar.{Phrase, gives, ◌>>=◌, ◌>>◌, a_name, close, listed, formula, action_name, parts, with_part, action_from, sections, with_section, no_contents, has_section, sections_of}
 use Rattle.model.specs.Grammar as grammar
 use Rattle.model.specs.GrammarWords as grammar_words

@@ -1,6 +1,8 @@
 -- The code's trees, in the model's terms.
 use Rattle.std.specs.Prelude.{List, map}
 use Rattle.std.specs.Global.{Vec}
+use Rattle.pddl_tree.specs.declared.tree.TaskFile.{TaskFile}
+use Rattle.pddl_tree.specs.declared.tree.TaskFile.TheVariants as file
 use Rattle.pddl_tree.specs.declared.tree.Atom.{Atom}
 use Rattle.pddl_tree.specs.declared.tree.Predicate.{Predicate}
 use Rattle.pddl_tree.specs.declared.tree.Action.{Action}
@@ -16,6 +18,10 @@ use Rattle.pddl_tree.specs.declared.tree.Effect.{Effect, Row_of-Effect, end_of-E
 use Rattle.pddl_tree.specs.declared.tree.Effect as effect
 use Rattle.model.specs.Trees as tree
 pub use Rattle.pddl_words.specs.Name.{name_of, term_of}
+
+abbrev pub file_of : TaskFile → tree.File
+file_of file.Domain = tree.domain_file
+file_of file.Problem = tree.problem_file
 
 abbrev pub atom_of : Atom → tree.Atom
 atom_of a = record { predicate = name_of a.predicate; terms = map term_of a.terms.items }

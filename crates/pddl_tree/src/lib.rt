@@ -16,5 +16,5 @@ mod typed;
 pub use pddl_words::{Name, Term};
 pub use reader::{domain, examples_are_as_told, one_fault, one_reading, problem};
 pub use tree::{
-    Action, Atom, Domain, Effect, Fact, Formula, GroundAtom, Group, Predicate, Problem,
+    Action, Atom, Domain, Effect, Fact, Formula, GroundAtom, Group, Predicate, Problem, TaskFile,
 };

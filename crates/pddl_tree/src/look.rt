@@ -4,11 +4,13 @@ ghost use Rattle.faults.specs.declared.refused.Refused.TheVariants.{At};
 ghost use Rattle.model.specs.Grammar.{a_name, action_name as wants_action_name, term as wants_term, close as wants_close, key as wants_key, either_word as wants_either, define_word, kind_word};
 ghost use Rattle.pddl_words.specs.Name.{name_of, term_of};
 ghost use Rattle.pddl_words.specs.Token.{from, first};
-ghost use Rattle.pddl_tree.specs.Place.{file_view, listed_view};
+ghost use Rattle.pddl_tree.specs.Tree.{file_of};
+ghost use Rattle.pddl_tree.specs.Place.{listed_view};
 ghost use Rattle.pddl_tree.specs.Reading.{the, IsAfter, IsWord, IsTold, Opens, IsNotOpen, Heads, IsNoPredicate, closes_first};
 ghost use Rattle.pddl_tree.specs.Typed.{IsListed, IsNotListed, ends_group_first};
 
-use crate::refusal::{FileKind, Listed, Place, refusal};
+use crate::tree::TaskFile;
+use crate::refusal::{Listed, Place, refusal};
 use pddl_words::{FreeName, Keyword, Name, ReservedName, Term, Token, WordRefusal, token_at};
 use tokens::Word;
 
@@ -170,16 +172,16 @@ pub(crate) fn either_word(words: &[Word], at: usize) -> Result<usize, WordRefusa
 }
 
 /// `domain` or `problem`, as the file is, and the index after it.
-pub(crate) fn kind(words: &[Word], at: usize, file: FileKind) -> Result<usize, WordRefusal>
-    ensures word { IfOk result (λ next. IsWord (kind_word (file_view file)) words.now at tt next) }
-    ensures told { IfErr result (λ refusal. IsTold (the (kind_word (file_view file))) words.now at (At refusal)) }
+pub(crate) fn kind(words: &[Word], at: usize, file: TaskFile) -> Result<usize, WordRefusal>
+    ensures word { IfOk result (λ next. IsWord (kind_word (file_of file)) words.now at tt next) }
+    ensures told { IfErr result (λ refusal. IsTold (the (kind_word (file_of file))) words.now at (At refusal)) }
 {
     match file {
-        FileKind::Domain => match token_at(words, at) {
+        TaskFile::Domain => match token_at(words, at) {
             Token::Free(FreeName::Domain, _) => Ok(at + 1),
             _ => Err(refusal(words, at, Place::Elsewhere)),
         },
-        FileKind::Problem => match token_at(words, at) {
+        TaskFile::Problem => match token_at(words, at) {
             Token::Free(FreeName::Problem, _) => Ok(at + 1),
             _ => Err(refusal(words, at, Place::Elsewhere)),
         },

@@ -13,7 +13,8 @@ ghost use Rattle.faults.specs.declared.refused.Refused.TheVariants.{At};
 ghost use Rattle.tokens.specs.Word.{word_of};
 ghost use Rattle.model.specs.Fault as model;
 ghost use Rattle.model.specs.Words as text;
-ghost use Rattle.model.specs.GrammarWords.{File, domain_file, problem_file, tokens_of};
+ghost use Rattle.model.specs.Trees.{File, domain_file, problem_file};
+ghost use Rattle.model.specs.GrammarWords.{tokens_of};
 ghost use Rattle.model.specs.Grammar.{EachIsOneDomain, EachIsOneProblem, IsDomain, IsProblem, IsFile, Tree, tree_from, file as wants_file, gives};
 ghost use Rattle.model.specs.Refusals.{IsWhole, IsRefused, span_of_place, start};
 ghost use Rattle.model.specs.GrammarExamples.{AreAsTold};
@@ -21,16 +22,15 @@ ghost use Rattle.model.specs.GrammarMachine.{run, finished};
 ghost use Rattle.pddl_words.specs.Name.{name_of};
 ghost use Rattle.pddl_words.specs.Token.{from};
 ghost use Rattle.pddl_words.specs.Refusal.{told, fault_of};
-ghost use Rattle.pddl_tree.specs.Place.{file_view};
 ghost use Rattle.pddl_tree.specs.Reading.{the, IsTold, StopsAs};
 ghost use Rattle.pddl_tree.specs.Sections.{contents_of};
 ghost use Rattle.pddl_tree.specs.Head.{HasHead, HasNoHead, after_head};
-ghost use Rattle.pddl_tree.specs.Tree.{domain_of, problem_of};
+ghost use Rattle.pddl_tree.specs.Tree.{file_of, domain_of, problem_of};
 
 use crate::look::{close, define, kind, name, open};
-use crate::refusal::{FileKind, Place, refusal};
+use crate::refusal::{Place, refusal};
 use crate::sections::{Contents, sections};
-use crate::tree::{Domain, Problem};
+use crate::tree::{TaskFile, Domain, Problem};
 use faults::{Fault, Refusal, Refused, Span};
 use pddl_words::{Name, WordFault, WordRefusal};
 use std::alloc::Global;
@@ -73,7 +73,7 @@ pub fn domain<'a>(alloc: Global, words: &[Word<'a>]) -> Result<Domain<'a>, Fault
     // Words that stop within the head are refused for that, and never for want of memory.
     ensures head { HasNoHead domain_file (tokens_of (map word_of words.now)) → IsErrAnd result (λ fault. IsSome (told_by fault)) }
 {
-    let (name, contents) = match file(alloc, words, FileKind::Domain) {
+    let (name, contents) = match file(alloc, words, TaskFile::Domain) {
         Ok(read) => read,
         Err(fault) => return Err(fault),
     };
@@ -110,7 +110,7 @@ pub fn problem<'a>(alloc: Global, words: &[Word<'a>]) -> Result<Problem<'a>, Fau
     // Words that stop within the head are refused for that, and never for want of memory.
     ensures head { HasNoHead problem_file (tokens_of (map word_of words.now)) → IsErrAnd result (λ fault. IsSome (told_by fault)) }
 {
-    let (name, contents) = match file(alloc, words, FileKind::Problem) {
+    let (name, contents) = match file(alloc, words, TaskFile::Problem) {
         Ok(read) => read,
         Err(fault) => return Err(fault),
     };
@@ -174,12 +174,12 @@ fn span_at(words: &[Word], at: usize) -> Span
 fn file<'a>(
     alloc: Global,
     words: &[Word<'a>],
-    file: FileKind,
+    file: TaskFile,
 ) -> Result<(Name<'a>, Contents<'a>), Fault>
-    ensures read { IfOk result (λ r. IsFile (file_view file) (tokens_of (map word_of words.now)) (tree_from (file_view file) (name_of r.0) (contents_of r.1))) }
-    ensures refused { IfErr result (λ fault. IfSome (told_by fault) (IsRefused (file_view file) (map word_of words.now))) }
-    ensures taken { IsWhole (file_view file) (tokens_of (map word_of words.now)) → IfErr result (λ fault. told_by fault ≡ None) }
-    ensures head { HasNoHead (file_view file) (tokens_of (map word_of words.now)) → IsErrAnd result (λ fault. IsSome (told_by fault)) }
+    ensures read { IfOk result (λ r. IsFile (file_of file) (tokens_of (map word_of words.now)) (tree_from (file_of file) (name_of r.0) (contents_of r.1))) }
+    ensures refused { IfErr result (λ fault. IfSome (told_by fault) (IsRefused (file_of file) (map word_of words.now))) }
+    ensures taken { IsWhole (file_of file) (tokens_of (map word_of words.now)) → IfErr result (λ fault. told_by fault ≡ None) }
+    ensures head { HasNoHead (file_of file) (tokens_of (map word_of words.now)) → IsErrAnd result (λ fault. IsSome (told_by fault)) }
 {
     let name = match head(words, file) {
         Ok(name) => name,
@@ -195,11 +195,11 @@ fn file<'a>(
 fn rest<'a>(
     alloc: Global,
     words: &[Word<'a>],
-    file: FileKind,
+    file: TaskFile,
     name: Name<'a>,
 ) -> Result<Contents<'a>, WordFault>
-    ensures read { IfOk result (λ contents. run (from words.now 6) (after_head (file_view file) (name_of name.entry)) ≡ finished (tree_from (file_view file) (name_of name.entry) (contents_of contents))) }
-    ensures told { IfErr result (λ refusal. StopsAs words.now 6 (after_head (file_view file) (name_of name.entry)) refusal) }
+    ensures read { IfOk result (λ contents. run (from words.now 6) (after_head (file_of file) (name_of name.entry)) ≡ finished (tree_from (file_of file) (name_of name.entry) (contents_of contents))) }
+    ensures told { IfErr result (λ refusal. StopsAs words.now 6 (after_head (file_of file) (name_of name.entry)) refusal) }
 {
     let (contents, next) = sections(alloc, words, 6, file)?;
     match end(words, next) {
@@ -209,10 +209,10 @@ fn rest<'a>(
 }
 
 /// `( define ( domain NAME )`, or `problem` in place of `domain`: the name.
-fn head<'a>(words: &[Word<'a>], file: FileKind) -> Result<Name<'a>, WordRefusal>
-    ensures head { IfOk result (λ _. HasHead (file_view file) (from words.now 0)) }
-    ensures read { IfOk result (λ name. run (from words.now 0) (start (file_view file)) ≡ run (from words.now 6) (after_head (file_view file) (name_of name))) }
-    ensures told { IfErr result (λ refusal. IsTold (the (wants_file (file_view file))) words.now 0 (At refusal)) }
+fn head<'a>(words: &[Word<'a>], file: TaskFile) -> Result<Name<'a>, WordRefusal>
+    ensures head { IfOk result (λ _. HasHead (file_of file) (from words.now 0)) }
+    ensures read { IfOk result (λ name. run (from words.now 0) (start (file_of file)) ≡ run (from words.now 6) (after_head (file_of file) (name_of name))) }
+    ensures told { IfErr result (λ refusal. IsTold (the (wants_file (file_of file))) words.now 0 (At refusal)) }
 {
     open(words, 0, Place::Elsewhere)?;
     define(words, 1)?;

@@ -8,35 +8,30 @@ ghost use Rattle.model.specs.Grammar as grammar;
 ghost use Rattle.model.specs.GrammarWords as model_words;
 ghost use Rattle.model.specs.Refusals.{number_at, number_of_keyword, number_in_file, number_in_action, number_at_value};
 ghost use Rattle.pddl_tree.specs.Reading.{number_seen};
-ghost use Rattle.pddl_tree.specs.Place.{file_view, wanted};
+ghost use Rattle.pddl_tree.specs.Tree.{file_of};
+ghost use Rattle.pddl_tree.specs.Place.{wanted};
 
+use crate::tree::TaskFile;
 use faults::Code;
 use pddl_words::{
     Keyword, PartKeyword, ReservedName, SectionKeyword, Token, WordRefusal, token_at,
 };
 use tokens::Word;
 
-/// Which of the two files it is.
-#[derive(Clone, Copy)]
-pub(crate) enum FileKind {
-    Domain,
-    Problem,
-}
-
-impl FileKind {
+impl TaskFile {
     /// The sections that may stand in it.
     pub(crate) fn sections(self) -> &'static [SectionKeyword]
-        ensures { map section_view result.now ≡ grammar.sections_of (file_view self) }
+        ensures { map section_view result.now ≡ grammar.sections_of (file_of self) }
     {
         match self {
-            FileKind::Domain => &[
+            TaskFile::Domain => &[
                 SectionKeyword::Requirements,
                 SectionKeyword::Types,
                 SectionKeyword::Constants,
                 SectionKeyword::Predicates,
                 SectionKeyword::Action,
             ],
-            FileKind::Problem => &[
+            TaskFile::Problem => &[
                 SectionKeyword::Domain,
                 SectionKeyword::Requirements,
                 SectionKeyword::Objects,
@@ -48,11 +43,11 @@ impl FileKind {
 
     /// The sections that have to.
     pub(crate) fn required(self) -> &'static [SectionKeyword]
-        ensures { map section_view result.now ≡ grammar.required_of (file_view self) }
+        ensures { map section_view result.now ≡ grammar.required_of (file_of self) }
     {
         match self {
-            FileKind::Domain => &[SectionKeyword::Predicates],
-            FileKind::Problem => &[
+            TaskFile::Domain => &[SectionKeyword::Predicates],
+            TaskFile::Problem => &[
                 SectionKeyword::Domain,
                 SectionKeyword::Init,
                 SectionKeyword::Goal,
@@ -80,7 +75,7 @@ pub(crate) enum Place<'s> {
     /// Where the value of a part is wanted; these parts are seen.
     Value(&'s [PartKeyword]),
     /// After the `(` of a section.
-    Section(FileKind),
+    Section(TaskFile),
     /// In `:requirements`.
     Keys,
     /// After the `-` of a typed list.
@@ -167,8 +162,8 @@ fn code_of_keyword(keyword: Keyword, place: Place) -> Code
 }
 
 /// What is told of a keyword where a section's is wanted: one that stands already, or that is none of the file's.
-fn code_in_file(keyword: Keyword, file: FileKind) -> Code
-    ensures { number_of result ≡ number_in_file (file_view file) (keyword_view keyword) }
+fn code_in_file(keyword: Keyword, file: TaskFile) -> Code
+    ensures { number_of result ≡ number_in_file (file_of file) (keyword_view keyword) }
 {
     match keyword {
         Keyword::Section(section) => {

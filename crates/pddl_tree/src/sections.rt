@@ -6,9 +6,8 @@ ghost use Rattle.model.specs.GrammarWords.{keyword, of_section};
 ghost use Rattle.model.specs.Grammar as grammar;
 ghost use Rattle.pddl_words.specs.Name.{name_of};
 ghost use Rattle.pddl_words.specs.Token.{from, first, section_view};
-ghost use Rattle.pddl_tree.specs.Place.{file_view};
 ghost use Rattle.pddl_tree.specs.Reading.{the, IsAfter, IsRead, IsTold, Opens, closes_first};
-ghost use Rattle.pddl_tree.specs.Tree.{formula_of};
+ghost use Rattle.pddl_tree.specs.Tree.{file_of, formula_of};
 ghost use Rattle.pddl_tree.specs.Sections.{section_tree, contents_of, the_domain, the_goal, the_sections, IsNotNew};
 
 use crate::action::action;
@@ -16,8 +15,8 @@ use crate::declared::{declarations, facts};
 use crate::formulas::formula;
 use crate::lists::keys;
 use crate::look::{close, is_close, name, open};
-use crate::refusal::{FileKind, Listed, Place, has_section, refusal};
-use crate::tree::{Action, Fact, Formula, Group, Predicate};
+use crate::refusal::{Listed, Place, has_section, refusal};
+use crate::tree::{TaskFile, Action, Fact, Formula, Group, Predicate};
 use crate::typed::typed;
 use faults::{NoMemory, Refused, Span};
 use pddl_words::{Keyword, Name, SectionKeyword, Token, WordFault, WordRefusal, token_at};
@@ -96,11 +95,11 @@ pub(crate) fn sections<'a>(
     alloc: Global,
     words: &[Word<'a>],
     at: usize,
-    file: FileKind,
+    file: TaskFile,
 ) -> Result<(Contents<'a>, usize), WordFault>
     ensures after { IfOk result (λ r. IsAfter words.now at r.1) }
-    ensures read { IfOk result (λ r. IsRead (the_sections (file_view file)) words.now at (contents_of r.0) r.1) }
-    ensures told { IfErr result (λ refusal. IsTold (the_sections (file_view file)) words.now at refusal) }
+    ensures read { IfOk result (λ r. IsRead (the_sections (file_of file)) words.now at (contents_of r.0) r.1) }
+    ensures told { IfErr result (λ refusal. IsTold (the_sections (file_of file)) words.now at refusal) }
 {
     let mut contents = Contents::new(alloc);
     let mut seen = Vec::new(alloc);
@@ -140,13 +139,13 @@ fn see(seen: &mut Vec<SectionKeyword>, section: SectionKeyword) -> Result<(), No
 fn section_head(
     words: &[Word],
     at: usize,
-    file: FileKind,
+    file: TaskFile,
     seen: &[SectionKeyword],
 ) -> Result<SectionKeyword, WordRefusal>
     ensures opens { IfOk result (λ _. Opens words.now at (at + 1)) }
     ensures word { IfOk result (λ section. first (from words.now (at + 1)) ≡ Some (keyword (of_section (section_view section)))) }
-    ensures new { IfOk result (λ section. (grammar.has_section (grammar.sections_of (file_view file)) (section_view section) ≡ true) × (grammar.has_section (map section_view seen.now) (section_view section) ≡ false)) }
-    ensures told { IfErr result (λ refusal. closes_first (first (from words.now at)) ≡ false → IsTold (the (grammar.sections (file_view file) (map section_view seen.now))) words.now at (At refusal)) }
+    ensures new { IfOk result (λ section. (grammar.has_section (grammar.sections_of (file_of file)) (section_view section) ≡ true) × (grammar.has_section (map section_view seen.now) (section_view section) ≡ false)) }
+    ensures told { IfErr result (λ refusal. closes_first (first (from words.now at)) ≡ false → IsTold (the (grammar.sections (file_of file) (map section_view seen.now))) words.now at (At refusal)) }
 {
     if has_all(seen, file.sections()) {
         return Err(refusal(words, at, Place::Incomplete));
@@ -159,12 +158,12 @@ fn section_head(
 fn section_keyword(
     words: &[Word],
     at: usize,
-    file: FileKind,
+    file: TaskFile,
     seen: &[SectionKeyword],
 ) -> Result<SectionKeyword, WordRefusal>
     ensures word { IfOk result (λ section. first (from words.now at) ≡ Some (keyword (of_section (section_view section)))) }
-    ensures new { IfOk result (λ section. (grammar.has_section (grammar.sections_of (file_view file)) (section_view section) ≡ true) × (grammar.has_section (map section_view seen.now) (section_view section) ≡ false)) }
-    ensures told { IfErr result (λ refusal. IsNotNew words.now at (file_view file) (map section_view seen.now) refusal) }
+    ensures new { IfOk result (λ section. (grammar.has_section (grammar.sections_of (file_of file)) (section_view section) ≡ true) × (grammar.has_section (map section_view seen.now) (section_view section) ≡ false)) }
+    ensures told { IfErr result (λ refusal. IsNotNew words.now at (file_of file) (map section_view seen.now) refusal) }
 {
     match token_at(words, at) {
         Token::Keyword(Keyword::Section(section)) => {

@@ -1,6 +1,15 @@
 //! What stands in a domain and in a problem, name by name, before any name is resolved.
 use pddl_words::{Name, Term};
 
+/// One of the two files that a task is read from.
+#[derive(Clone, Copy, Debug, PartialEq, Eq)]
+pub enum TaskFile {
+    /// The domain file.
+    Domain,
+    /// The problem file.
+    Problem,
+}
+
 /// A predicate of some terms.
 #[derive(Debug, Drop)]
 pub struct Atom<'a> {

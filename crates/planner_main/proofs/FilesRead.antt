@@ -4,9 +4,9 @@ use Rattle.std.specs.Prelude.{Result, Ok, Err, IfErr}
 use Rattle.std.specs.Option.{option_map}
 use Rattle.model.specs.Fault.{Fault}
 use Rattle.model.specs.Words.{Word, ReadsAs, IsTold}
-use Rattle.model.specs.Trees.{Domain, Problem}
+use Rattle.model.specs.Trees.{domain_file, problem_file, Domain, Problem}
 use Rattle.model.specs.Grammar.{IsDomain, IsProblem}
-use Rattle.model.specs.GrammarWords.{tokens_of, domain_file, problem_file}
+use Rattle.model.specs.GrammarWords.{tokens_of}
 use Rattle.model.specs.Refusals.{IsWhole, IsRefused}
 use Rattle.model.specs.GrammarWords as grammar
 use Rattle.model.specs.Grammar as tree
@@ -15,7 +15,7 @@ use Rattle.model.specs.Typing.{task_of_trees}
 use Rattle.model.specs.TypingFaults.{IsWellTyped}
 use Rattle.model.proofs.TypingFaultsTold.{one_told}
 use Rattle.model.specs.PlanText.{IsPlanText, IsPlanFault}
-use Rattle.model.specs.Files.{the_domain, the_problem, the_plan, FileFault, IsDomainText, IsProblemText, IsTextFault, of_words, of_tree, IsTaskOf, IsTaskFault, in_the_domain, in_the_problem, in_the_pair, IsFileFault, in_the_task, in_the_plan, AreRead}
+use Rattle.model.specs.Files.{of_task, the_plan, FileFault, IsDomainText, IsProblemText, IsTextFault, of_words, of_tree, IsTaskOf, IsTaskFault, in_the_domain, in_the_problem, in_the_pair, IsFileFault, in_the_task, in_the_plan, AreRead}
 use Rattle.model.proofs.GrammarMeaning.{one_domain, one_problem}
 use Rattle.model.proofs.GrammarOneRefusal.{whole_not_refused}
 use Rattle.faults.specs.Fault as code
@@ -104,11 +104,11 @@ module _ (domain problem : List ℕ) where
   pub none_told_of_task : (o : Option FileFault) → IfSome o (IsTaskFault domain problem) → (task : Task) → IsTaskOf domain problem task → o ≡ None
   none_told_of_task o h task is = told_none_in (IsTaskFault domain problem) o h (λ told. no_task_fault task told is)
 
-  pub domain_told : (o : Option Fault) → IfSome o (IsTextFault domain_file domain) → IfSome (option_map (λ (f : Fault). let t : FileFault = record { file = the_domain; fault = f } in t) o) (IsTaskFault domain problem)
+  pub domain_told : (o : Option Fault) → IfSome o (IsTextFault domain_file domain) → IfSome (option_map (λ (f : Fault). let t : FileFault = record { file = of_task domain_file; fault = f } in t) o) (IsTaskFault domain problem)
   domain_told None h = tt
   domain_told (Some fault) h = in_the_domain h refl
 
-  pub problem_told : (d : Domain) → IsDomainText domain d → (o : Option Fault) → IfSome o (IsTextFault problem_file problem) → IfSome (option_map (λ (f : Fault). let t : FileFault = record { file = the_problem; fault = f } in t) o) (IsTaskFault domain problem)
+  pub problem_told : (d : Domain) → IsDomainText domain d → (o : Option Fault) → IfSome o (IsTextFault problem_file problem) → IfSome (option_map (λ (f : Fault). let t : FileFault = record { file = of_task problem_file; fault = f } in t) o) (IsTaskFault domain problem)
   problem_told d reads None h = tt
   problem_told d reads (Some fault) h = in_the_problem d reads h refl
 

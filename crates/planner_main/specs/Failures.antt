@@ -2,7 +2,8 @@
 use Rattle.std.specs.Prelude.{ℕ, List, ◌++◌, codes}
 use Rattle.std.specs.Fmt.{decimal}
 use Rattle.faults.specs.Fault.{name_in, names}
-use Rattle.model.specs.Files.{File, the_domain, the_problem, the_plan, FileFault}
+use Rattle.model.specs.Trees.{domain_file, problem_file}
+use Rattle.model.specs.Files.{File, of_task, the_plan, FileFault}
 
 -- how the program is used
 abbrev pub usage : List ℕ
@@ -10,8 +11,8 @@ usage = codes "usage: optplan solve DOMAIN PROBLEM [--states N]\n       optplan 
 
 -- the name of a file
 abbrev pub name_of_file : File → List ℕ
-name_of_file the_domain = codes "domain"
-name_of_file the_problem = codes "problem"
+name_of_file (of_task domain_file) = codes "domain"
+name_of_file (of_task problem_file) = codes "problem"
 name_of_file the_plan = codes "plan"
 
 -- the line of a fault: `fault CODE Name in FILE at S..E`

@@ -10,12 +10,13 @@ use Rattle.planner_main.specs.declared.task_file.File.{File}
 use Rattle.planner_main.specs.declared.task_file.File.TheVariants.{Domain, Problem, Plan}
 use Rattle.planner_main.specs.declared.task_file.FileFault.{FileFault}
 use Rattle.planner_main.specs.declared.task_file.FileFault.TheVariants.{At, NoMemory}
+use Rattle.model.specs.Trees.{domain_file, problem_file}
 use Rattle.model.specs.Fault as told
 use Rattle.model.specs.Files as model
 
 abbrev pub file_view : File → model.File
-file_view Domain = model.the_domain
-file_view Problem = model.the_problem
+file_view Domain = model.of_task domain_file
+file_view Problem = model.of_task problem_file
 file_view Plan = model.the_plan
 
 -- this code, of what stands at this place of this file

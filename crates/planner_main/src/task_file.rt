@@ -6,7 +6,7 @@ ghost use Rattle.typing.specs.Task.{task_of};
 ghost use Rattle.planner_main.specs.Files.{told_in};
 ghost use Rattle.model.specs.Task as model;
 ghost use Rattle.model.specs.Files as told;
-ghost use Rattle.model.specs.GrammarWords.{domain_file, problem_file};
+ghost use Rattle.model.specs.Trees.{domain_file, problem_file};
 ghost use Rattle.model.specs.Files.{IsDomainText, IsProblemText, IsTextFault, IsTaskOf, IsTaskFault};
 
 use faults::{Code, Fault, NoMemory, Refusal, Refused, Span};

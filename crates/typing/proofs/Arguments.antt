@@ -3,7 +3,8 @@ use Rattle.std.proofs.Common.{◌≡◌, ℕ, ◌+◌, ◌<◌, ◌≤◌, List,
 use Rattle.std.proofs.lemmas.List.{drop_more, drop_all, append_assoc}
 use Rattle.model.specs.Task as task
 use Rattle.model.specs.Trees as tree
-use Rattle.model.specs.Typing.{File, Known, TypingFault, terms_faults, term_faults, misfit_faults}
+use Rattle.model.specs.Trees.{File}
+use Rattle.model.specs.Typing.{Known, TypingFault, terms_faults, term_faults, misfit_faults}
 use Rattle.typing.specs.Scope.{argument_faults}
 use Rattle.typing.specs.Walk.{found}
 use Rattle.typing.proofs.Found.{found-append}

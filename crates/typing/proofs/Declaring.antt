@@ -5,7 +5,8 @@ use Rattle.std.proofs.lemmas.Bool.Decides.{nat_tests}
 use Rattle.std.proofs.lemmas.List.{map-append, append_assoc, append-nil}
 use Rattle.model.specs.Task as task
 use Rattle.model.specs.Trees as tree
-use Rattle.model.specs.Typing.{File, Declared, Placed, Variable, is_known, is_same, folded, with_name, with_variable, variable_in, variables_in, unions_in, names_of, names_of_variables, number_in, type_in, types_from, comes_back, cycle_faults_from, unknown_faults, types_faults, type_faults, words_of, refused, refused_word, repeated, repeated_after}
+use Rattle.model.specs.Trees.{File}
+use Rattle.model.specs.Typing.{Declared, Placed, Variable, is_known, is_same, folded, with_name, with_variable, variable_in, variables_in, unions_in, names_of, names_of_variables, number_in, type_in, types_from, comes_back, cycle_faults_from, unknown_faults, types_faults, type_faults, words_of, refused, refused_word, repeated, repeated_after}
 use Rattle.typing.proofs.Empty.{nil_left, nil_right, not_refused, not_repeated}
 use Rattle.typing.proofs.Found.{map-map}
 use Rattle.typing.proofs.Lists.{list_any-position}

@@ -5,7 +5,8 @@ use Rattle.std.proofs.lemmas.Bool.Decides.{nat_tests}
 use Rattle.std.proofs.lemmas.List.{length-map, take_all, map-append, append_assoc, append-nil}
 use Rattle.model.specs.Task as task
 use Rattle.model.specs.Trees as tree
-use Rattle.model.specs.Typing.{File, TypingFault, Declared, Variable, in_domain, in_problem, Known, is_known, is_same, folded, with_name, with_variable, variable_in, variables_in, union_in, unions_in, names_of, names_of_variables, names_of_objects, number_in, type_in, type_names, parents_of, parents_in, comes_back, cycle_faults_from, unknown_faults, types_faults, type_faults, words_of, one_after, refused, refused_word, repeated, repeated_after, predicate_faults, terms_faults, arguments_in, ground_atom_faults, fact_faults, formula_faults, domain_name_faults, type_declaration_faults, cycle_faults, object_faults, objects_faults, declaration_faults, action_faults, argument_faults, schema_faults, atom_in, atoms_in, formula_in, object_in, declared_types, declared_constants, declared_objects, declared, predicates_of, predicate_in, known_in_domain, known_in_problem, task_of_trees, faults_of, first_filled, IsWellTyped}
+use Rattle.model.specs.Trees.{File, domain_file, problem_file}
+use Rattle.model.specs.Typing.{TypingFault, Declared, Variable, Known, is_known, is_same, folded, with_name, with_variable, variable_in, variables_in, union_in, unions_in, names_of, names_of_variables, names_of_objects, number_in, type_in, type_names, parents_of, parents_in, comes_back, cycle_faults_from, unknown_faults, types_faults, type_faults, words_of, one_after, refused, refused_word, repeated, repeated_after, predicate_faults, terms_faults, arguments_in, ground_atom_faults, fact_faults, formula_faults, domain_name_faults, type_declaration_faults, cycle_faults, object_faults, objects_faults, declaration_faults, action_faults, argument_faults, schema_faults, atom_in, atoms_in, formula_in, object_in, declared_types, declared_constants, declared_objects, declared, predicates_of, predicate_in, known_in_domain, known_in_problem, task_of_trees, faults_of, first_filled, IsWellTyped}
 use Rattle.model.specs.WellTyped.{is_task}
 use Rattle.model.proofs.Tests.{passes_got}
 use Rattle.typing.specs.declared.names.Names.{Names}
@@ -71,18 +72,18 @@ first_filled-append ((f ∷ more) ∷ lists) later = refl
 
 -- the pair's faults: those of the types, of what else is declared, and of what is stated of it
 faults_by_parts : (d : tree.Domain) (p : tree.Problem)
-    → faults_of d p ≡ first_filled (type_faults_of d p ∷ declared_faults d p ∷ stated_faults_in in_problem (known_in_problem d p) p ∷ [])
+    → faults_of d p ≡ first_filled (type_faults_of d p ∷ declared_faults d p ∷ stated_faults_in problem_file (known_in_problem d p) p ∷ [])
 faults_by_parts d p =
     let types = (domain_name_faults d p ++ type_declaration_faults d) ∷ cycle_faults d ∷ [] in
     let others = object_faults d p ∷ declaration_faults (type_names d) d.predicates ∷ action_faults (known_in_domain d) d.actions ∷ [] in
-    let stated = flat_map (fact_faults in_problem (known_in_problem d p)) p.init ∷ formula_faults in_problem (known_in_problem d p) p.goal ∷ [] in
+    let stated = flat_map (fact_faults problem_file (known_in_problem d p)) p.init ∷ formula_faults problem_file (known_in_problem d p) p.goal ∷ [] in
     first_filled-append types (others ++ stated)
     ∙ first_filled-later (first_filled types) (others ++ stated) (first_filled others ∷ first_filled stated ∷ [])
     (first_filled-append others stated ∙ first_filled-later (first_filled others) stated (first_filled stated ∷ []) (first_filled-append stated []))
 
 -- ---- the task of a pair without faults
 
-module _ (d : tree.Domain) (p : tree.Problem) (no_type : type_faults_of d p ≡ []) (no_other : declared_faults d p ≡ []) (no_stated : stated_faults_in in_problem (known_in_problem d p) p ≡ []) where
+module _ (d : tree.Domain) (p : tree.Problem) (no_type : type_faults_of d p ≡ []) (no_other : declared_faults d p ≡ []) (no_stated : stated_faults_in problem_file (known_in_problem d p) p ≡ []) where
   no_names : type_declaration_faults d ≡ []
   no_names = nil_right (domain_name_faults d p) (type_declaration_faults d) (none_filled _ _ no_type).0
 
@@ -95,11 +96,11 @@ module _ (d : tree.Domain) (p : tree.Problem) (no_type : type_faults_of d p ≡ 
   no_action : action_faults (known_in_domain d) d.actions ≡ []
   no_action = (none_filled _ _ (none_filled (declaration_faults (type_names d) d.predicates) _ (none_filled (object_faults d p) _ no_other).1).1).0
 
-  no_init : flat_map (fact_faults in_problem (known_in_problem d p)) p.init ≡ []
+  no_init : flat_map (fact_faults problem_file (known_in_problem d p)) p.init ≡ []
   no_init = (none_filled _ _ no_stated).0
 
-  no_goal : formula_faults in_problem (known_in_problem d p) p.goal ≡ []
-  no_goal = (none_filled _ _ (none_filled (flat_map (fact_faults in_problem (known_in_problem d p)) p.init) _ no_stated).1).0
+  no_goal : formula_faults problem_file (known_in_problem d p) p.goal ≡ []
+  no_goal = (none_filled _ _ (none_filled (flat_map (fact_faults problem_file (known_in_problem d p)) p.init) _ no_stated).1).0
 
   abbrev twice_types : List TypingFault
   twice_types = refused 16 (repeated_after (codes "object" ∷ []) (words_of (declared_types d)))
@@ -113,7 +114,7 @@ module _ (d : tree.Domain) (p : tree.Problem) (no_type : type_faults_of d p ≡ 
       omega (arith, ap length (names_are (declared_types d) once), length-map (names_of (declared_types d)) folded, length-map (declared_types d) (λ (x : Declared). x.name), length-map (declared_types d) (λ (x : Declared). type_in (type_names d) x.types))
 
   pub low_arguments : list_all (λ (q : task.Predicate). nat_le (length q.arguments) 8) (predicates_of d) ≡ true
-  low_arguments = arities_fit (type_names d) d.predicates (nil_right (refused 16 (repeated (map (λ (q : tree.Predicate). record { file = in_domain; word = q.name }) d.predicates))) (flat_map (argument_faults (type_names d)) d.predicates) no_declaration)
+  low_arguments = arities_fit (type_names d) d.predicates (nil_right (refused 16 (repeated (map (λ (q : tree.Predicate). record { file = domain_file; word = q.name }) d.predicates))) (flat_map (argument_faults (type_names d)) d.predicates) no_declaration)
 
   pub typed : is_task (task_of_trees d p) ≡ true
   typed =
@@ -132,11 +133,11 @@ module _ (d : tree.Domain) (p : tree.Problem) (no_type : type_faults_of d p ≡ 
       (all_whole parents parents_fit (λ k l. ap (comes_back parents) (next k) ∙ none_comes_back parents 1 xs no_cycle k (omega (arith, l, length-map xs (λ (x : Declared). type_in (type_names d) x.types)))) (type_names d) 0 (type_names d) (omega (arith, count_types)))
       low_arguments)
       (schemas_fit t (known_in_domain d) refl refl
-      (λ n o e. ap (λ os. slice_get os n) (map-append (object_in (type_names d)) (declared_constants d) (declared in_problem p.objects)) ∙ got_first (map (object_in (type_names d)) (declared_constants d)) (map (object_in (type_names d)) (declared in_problem p.objects)) n o e)
+      (λ n o e. ap (λ os. slice_get os n) (map-append (object_in (type_names d)) (declared_constants d) (declared problem_file p.objects)) ∙ got_first (map (object_in (type_names d)) (declared_constants d)) (map (object_in (type_names d)) (declared problem_file p.objects)) n o e)
       (variables_are (type_names d)) d.actions
-      (nil_right (refused 16 (repeated (map (λ (a : tree.Action). record { file = in_domain; word = a.name }) d.actions))) (flat_map (schema_faults (known_in_domain d)) d.actions) no_action)))
-      (facts_fit t [] in_problem known fits p.init no_init))
-      (formula_fits t [] in_problem known fits p.goal no_goal)
+      (nil_right (refused 16 (repeated (map (λ (a : tree.Action). record { file = domain_file; word = a.name }) d.actions))) (flat_map (schema_faults (known_in_domain d)) d.actions) no_action)))
+      (facts_fit t [] problem_file known fits p.init no_init))
+      (formula_fits t [] problem_file known fits p.goal no_goal)
     where
       fits_at : (k : ℕ) → 0 < length (type_names d) → type_faults (type_names d) (declared_types d) ≡ [] → slice_index (parents_of d) k < length (parents_of d)
       fits_at zero some unknown = omega (arith, count_types, some)
@@ -151,7 +152,7 @@ pub record IsMade (d : tree.Domain) (p : tree.Problem) (made : task.Task) : Type
   pub typed : is_task made ≡ true
 
 module _ (d : tree.Domain) (p : tree.Problem) where
-  told_by_parts : (e : TaskFault) → TellsLeastOf (first_filled (type_faults_of d p ∷ declared_faults d p ∷ stated_faults_in in_problem (known_in_problem d p) p ∷ [])) e
+  told_by_parts : (e : TaskFault) → TellsLeastOf (first_filled (type_faults_of d p ∷ declared_faults d p ∷ stated_faults_in problem_file (known_in_problem d p) p ∷ [])) e
       → TellsLeastFault d p e
   told_by_parts e h = subst (λ fs. TellsLeastOf fs e) (sym (faults_by_parts d p)) h
 
@@ -169,18 +170,18 @@ module _ (d : tree.Domain) (p : tree.Problem) where
       same_known = λ i. record { type_names = are.types.names i; types = are.types.all i; predicates = are.predicates i; variables = []; objects = are.objects i }
 
       -- and that of what is stated, where what is declared has none
-      pub told_of_stated : (e : TaskFault) → TellsLeastOf (stated_faults_in in_problem (known_by names) p) e → TellsLeastFault d p e
+      pub told_of_stated : (e : TaskFault) → TellsLeastOf (stated_faults_in problem_file (known_by names) p) e → TellsLeastFault d p e
       told_of_stated e h =
           told_by_parts e (tells_later (type_faults_of d p) _ no_type e (tells_later (declared_faults d p) _ no_other e
-          (tells_here (stated_faults_in in_problem (known_in_problem d p) p) [] e (subst (λ k. TellsLeastOf (stated_faults_in in_problem k p) e) same_known h))))
+          (tells_here (stated_faults_in problem_file (known_in_problem d p) p) [] e (subst (λ k. TellsLeastOf (stated_faults_in problem_file k p) e) same_known h))))
 
-      pub made_by_phases : (start : Start) → Starts in_problem (known_by names) p start
+      pub made_by_phases : (start : Start) → Starts problem_file (known_by names) p start
           → IsMade d p (task_of_parts names.types.all.entries names.objects.all.entries names.predicates.entries names.schemas.entries start.init.items start.goal)
       made_by_phases start starts =
           let known = known_in_problem d p in
-          let no_stated = ap (λ k. stated_faults_in in_problem k p) (sym same_known) ∙ starts.right in
+          let no_stated = ap (λ k. stated_faults_in problem_file k p) (sym same_known) ∙ starts.right in
           let same_init = starts.init ∙ ap (λ k. flat_map (narrow_atoms_in k) p.init) same_known
-          ∙ narrow_is_all in_problem known (low_arguments d p no_type no_other no_stated) p.init (no_init d p no_type no_other no_stated) in
+          ∙ narrow_is_all problem_file known (low_arguments d p no_type no_other no_stated) p.init (no_init d p no_type no_other no_stated) in
           let same_goal = starts.goal ∙ ap (λ k. formula_in k p.goal) same_known in
           let made : task.Task = task_of_parts names.types.all.entries names.objects.all.entries names.predicates.entries names.schemas.entries start.init.items start.goal in
           let same : made ≡ task_of_trees d p =

@@ -13,8 +13,8 @@ use Rattle.pddl_tree.specs.Tree as read
 use Rattle.pddl_tree.proofs.Rows as rows
 use Rattle.typing.specs.TaskParts.{formula_of, formulas_of, effect_of, effects_of}
 use Rattle.model.specs.Task as task
-use Rattle.model.specs.Trees.{formulas, effects}
-use Rattle.model.specs.Typing.{File, Known, TypingFault, formula_in, formulas_in, effect_in, effects_in, formula_faults, formulas_faults, effect_faults, effects_faults}
+use Rattle.model.specs.Trees.{File, formulas, effects}
+use Rattle.model.specs.Typing.{Known, TypingFault, formula_in, formulas_in, effect_in, effects_in, formula_faults, formulas_faults, effect_faults, effects_faults}
 use Rattle.typing.specs.Walk.{found}
 use Rattle.typing.proofs.Found.{map_to_end, found_to_end}
 

@@ -9,7 +9,8 @@ use Rattle.std.proofs.lemmas.List.{length-map}
 use Rattle.std.proofs.lemmas.Option.{slice_get-map}
 use Rattle.model.specs.Task as task
 use Rattle.model.specs.Trees as tree
-use Rattle.model.specs.Typing.{File, in_domain, in_problem, Known, Placed, Variable, Declared, declared, folded, is_same, is_known, number_in, names_of_objects, names_of_predicates, names_of_variables, object_in, variable_in, variables_in, unions_in, union_in, with_variable, repeated_after, repeated, one_after, refused, refused_word, words_of, unknown_faults, faults_against, predicate_faults, predicate_in_known, arguments_in, fits_in, term_faults, misfit_faults, terms_faults, atom_faults, formula_faults, formulas_faults, effect_faults, effects_faults, ground_atom_faults, fact_faults, type_faults, argument_faults, parameter_faults, body_faults, schema_faults, term_in, lifted_atom_in, formula_in, formulas_in, effect_in, effects_in, atom_in, atoms_in, predicate_in, known_in_action, schema_in}
+use Rattle.model.specs.Trees.{File, domain_file}
+use Rattle.model.specs.Typing.{Known, Placed, Variable, Declared, declared, folded, is_same, is_known, number_in, names_of_objects, names_of_predicates, names_of_variables, object_in, variable_in, variables_in, unions_in, union_in, with_variable, repeated_after, repeated, one_after, refused, refused_word, words_of, unknown_faults, faults_against, predicate_faults, predicate_in_known, arguments_in, fits_in, term_faults, misfit_faults, terms_faults, atom_faults, formula_faults, formulas_faults, effect_faults, effects_faults, ground_atom_faults, fact_faults, type_faults, argument_faults, parameter_faults, body_faults, schema_faults, term_in, lifted_atom_in, formula_in, formulas_in, effect_in, effects_in, atom_in, atoms_in, predicate_in, known_in_action, schema_in}
 use Rattle.model.specs.Meaning.{is_below_in, is_of}
 use Rattle.model.specs.WellTyped.{is_term, is_lifted_atom, is_atom, is_formula, are_formulas, is_effect, are_effects, is_schema}
 use Rattle.typing.proofs.Lists.{list_any-position}
@@ -166,7 +167,7 @@ pub arities_fit : (types : List task.Name) (qs : List tree.Predicate) → flat_m
     → list_all (λ (p : task.Predicate). nat_le (length p.arguments) 8) (map (predicate_in types) qs) ≡ true
 arities_fit types [] e = refl
 arities_fit types (q ∷ qs) e =
-    let xs = declared in_domain q.parameters in
+    let xs = declared domain_file q.parameters in
     let own = nil_left (argument_faults types q) (flat_map (argument_faults types) qs) e in
     let low = within 25 8 (words_of xs) (nil_right (type_faults types xs) (refused 25 (one_after 8 (words_of xs))) own) in
     and_true _ _ (few_unions types xs 8 low) (arities_fit types qs (nil_right (argument_faults types q) (flat_map (argument_faults types) qs) e))
@@ -178,11 +179,11 @@ module _ (t : task.Task) (known : Known) (types : known.types ≡ t.types) (pred
   schema_fits : (variables_are : (xs : List Declared) → refused 16 (repeated (words_of xs)) ≡ [] → map (λ (v : Variable). v.types) (variables_in known.type_names xs) ≡ unions_in known.type_names xs)
       → (a : tree.Action) → schema_faults known a ≡ [] → is_schema t (schema_in known a) ≡ true
   schema_fits variables_are a e =
-      let xs = declared in_domain a.parameters in
+      let xs = declared domain_file a.parameters in
       let inner = known_in_action known a in
       let heads = parameter_faults known.type_names xs in
-      let precondition = formula_faults in_domain inner a.precondition in
-      let effect = effect_faults in_domain inner a.effect in
+      let precondition = formula_faults domain_file inner a.precondition in
+      let effect = effect_faults domain_file inner a.effect in
       let head = nil_left heads (precondition ++ effect) e in
       let body = nil_right heads (precondition ++ effect) e in
       let twice = refused 16 (repeated (words_of xs)) in
@@ -191,8 +192,8 @@ module _ (t : task.Task) (known : Known) (types : known.types ≡ t.types) (pred
       let low = within 25 16 (words_of xs) (nil_right (unknown ++ twice) many head) in
       let fits : Fits t (unions_in known.type_names xs) inner =
       record { types = types; predicates = predicates; variables = variables_are xs (nil_right unknown twice (nil_left (unknown ++ twice) many head)); objects = objects } in
-      and_true _ _ (and_true _ _ (few_unions known.type_names xs 16 low) (formula_fits t (unions_in known.type_names xs) in_domain inner fits a.precondition (nil_left precondition effect body)))
-      (effect_fits t (unions_in known.type_names xs) in_domain inner fits a.effect (nil_right precondition effect body))
+      and_true _ _ (and_true _ _ (few_unions known.type_names xs 16 low) (formula_fits t (unions_in known.type_names xs) domain_file inner fits a.precondition (nil_left precondition effect body)))
+      (effect_fits t (unions_in known.type_names xs) domain_file inner fits a.effect (nil_right precondition effect body))
 
   pub schemas_fit : (variables_are : (xs : List Declared) → refused 16 (repeated (words_of xs)) ≡ [] → map (λ (v : Variable). v.types) (variables_in known.type_names xs) ≡ unions_in known.type_names xs)
       → (as' : List tree.Action) → flat_map (schema_faults known) as' ≡ [] → list_all (is_schema t) (map (schema_in known) as') ≡ true

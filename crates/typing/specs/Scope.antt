@@ -9,7 +9,8 @@ use Rattle.typing.specs.declared.scope.Scope.{Scope}
 use Rattle.typing.specs.TaskParts.{object_entry_of, predicate_of, type_entry_of, union_of}
 use Rattle.model.specs.Task as task
 use Rattle.model.specs.Trees as tree
-use Rattle.model.specs.Typing.{File, Known, TypingFault, Variable, atom_in, term_faults, misfit_faults}
+use Rattle.model.specs.Trees.{File}
+use Rattle.model.specs.Typing.{Known, TypingFault, Variable, atom_in, term_faults, misfit_faults}
 
 -- the names that a table has
 abbrev pub names_in : List (Vec ℕ) → List task.Name

@@ -2,8 +2,7 @@
 use Rattle.std.specs.Prelude.{List}
 use Rattle.faults.specs.Fault.{number_of}
 use Rattle.typing.specs.declared.task.Task.{Task}
-use Rattle.typing.specs.declared.fault.TaskFile.{TaskFile}
-use Rattle.typing.specs.declared.fault.TaskFile.TheVariants.{Domain, Problem}
+pub use Rattle.pddl_tree.specs.Tree.{file_of}
 use Rattle.typing.specs.declared.fault.TaskRefusal.{TaskRefusal}
 use Rattle.faults.specs.declared.refused.Refused.{Refused}
 use Rattle.faults.specs.declared.refused.Refused.TheVariants.{At, NoMemory}
@@ -11,14 +10,10 @@ use Rattle.typing.specs.TaskParts.{task_of_parts}
 use Rattle.model.specs.Task as task
 use Rattle.model.specs.Trees as tree
 use Rattle.model.specs.TypingFaults as typing_faults
-use Rattle.model.specs.Typing.{File, in_domain, in_problem, TypingFault, IsLeastOf, faults_of}
+use Rattle.model.specs.Typing.{TypingFault, IsLeastOf, faults_of}
 
 abbrev pub task_of : Task → task.Task
 task_of t = task_of_parts t.types.entries t.objects.entries t.predicates.entries t.schemas.entries t.init.items t.goal
-
-abbrev pub file_of : TaskFile → File
-file_of Domain = in_domain
-file_of Problem = in_problem
 
 -- what a refusal tells
 abbrev pub refusal_of : TaskRefusal → TypingFault

@@ -4,6 +4,7 @@ use Rattle.typing.specs.declared.typed_lists.Declared.{Declared}
 use Rattle.typing.specs.Task.{file_of}
 use Rattle.pddl_tree.specs.Tree.{name_of}
 use Rattle.pddl_words.specs.declared.name.Name.{Name}
+use Rattle.model.specs.Trees.{File}
 use Rattle.model.specs.Trees as tree
 use Rattle.model.specs.Typing as typing
 
@@ -11,7 +12,7 @@ abbrev pub declared_of : Declared → typing.Declared
 declared_of d = record { file = file_of d.file; name = name_of d.name; types = map name_of d.types.now }
 
 -- what is declared by a name of a group with these types
-abbrev pub declared_by : typing.File → List tree.Name → Name → typing.Declared
+abbrev pub declared_by : File → List tree.Name → Name → typing.Declared
 declared_by file types n = record { file = file; name = name_of n; types = types }
 
 -- the word that a declaration is

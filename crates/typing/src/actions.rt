@@ -6,6 +6,7 @@ ghost use Rattle.typing.specs.Scope.{known_outside, known_over};
 ghost use Rattle.typing.specs.Task.{file_of, TellsLeastOf};
 ghost use Rattle.typing.specs.Walk.{Finds};
 ghost use Rattle.pddl_tree.specs.Tree as read;
+ghost use Rattle.model.specs.Trees.{domain_file};
 ghost use Rattle.model.specs.Typing as typing;
 ghost use Rattle.std.specs.List.{flat_map};
 
@@ -54,7 +55,7 @@ fn schema_over(
     declared: &[Declared<'_>],
     action: &Action<'_>,
 ) -> Result<Schema, NoMemory>
-    requires { map declared_of declared.now ≡ typing.declared typing.in_domain (read.action_of action.now).parameters }
+    requires { map declared_of declared.now ≡ typing.declared domain_file (read.action_of action.now).parameters }
     ensures shape { IfOk result (λ s. parts.shape_of s ≡ parts.shape_of_schema (typing.schema_in (known_outside globals.now) (read.action_of action.now))) }
     ensures finds { OnOk result (Finds walk.old walk.new (typing.schema_faults (known_outside globals.now) (read.action_of action.now))) }
 {
@@ -91,7 +92,7 @@ fn schema(
 
 /// The actions that are declared before are refused.
 fn declare_actions(alloc: Global, walk: &mut Walk, actions: &[Action<'_>]) -> Result<(), NoMemory>
-    ensures { OnOk result (Finds walk.old walk.new (typing.refused 16 (typing.repeated (map (λ a. typing.placed typing.in_domain (read.name_of a.name)) actions.now)))) }
+    ensures { OnOk result (Finds walk.old walk.new (typing.refused 16 (typing.repeated (map (λ a. typing.placed domain_file (read.name_of a.name)) actions.now)))) }
 {
     let mut names = IndexSet::new(alloc);
     for action in actions {
@@ -128,7 +129,7 @@ fn table(
     globals: &Globals<'_>,
     actions: &[Action<'_>],
 ) -> Result<IndexMap<Vec<u8>, Schema>, NoMemory>
-    ensures table { IfOk result (λ m. typing.repeated (map (λ a. typing.placed typing.in_domain (read.name_of a.name)) actions.now) ≡ []
+    ensures table { IfOk result (λ m. typing.repeated (map (λ a. typing.placed domain_file (read.name_of a.name)) actions.now) ≡ []
         → map parts.schema_of m.entries ≡ map (λ a. typing.schema_in (known_outside globals.now) (read.action_of a)) actions.now) }
     ensures finds { OnOk result (Finds walk.old walk.new (flat_map (λ a. typing.schema_faults (known_outside globals.now) (read.action_of a)) actions.now)) }
 {

@@ -5,6 +5,7 @@ ghost use Rattle.typing.specs.Scope.{names_in};
 ghost use Rattle.typing.specs.Task.{TellsLeastOf};
 ghost use Rattle.typing.specs.Walk.{Finds};
 ghost use Rattle.pddl_tree.specs.Tree as read;
+ghost use Rattle.model.specs.Trees.{domain_file};
 ghost use Rattle.model.specs.Typing as typing;
 ghost use Rattle.std.specs.List.{flat_map};
 
@@ -48,7 +49,7 @@ fn declare_predicate(
         → map parts.predicate_of predicates.new.entries
         ≡ map parts.predicate_of predicates.old.entries ++ typing.predicate_in (names_in types.now.names.keys) (read.predicate_of declaration.now) ∷ []) }
     ensures finds { OnOk result (Finds walk.old walk.new (typing.refused 16
-        (if typing.is_known (typing.names_of_predicates (map parts.predicate_of predicates.old.entries)) (read.name_of declaration.now.name) then typing.placed typing.in_domain (read.name_of declaration.now.name) ∷ [] else []))) }
+        (if typing.is_known (typing.names_of_predicates (map parts.predicate_of predicates.old.entries)) (read.name_of declaration.now.name) then typing.placed domain_file (read.name_of declaration.now.name) ∷ [] else []))) }
 {
     let key = declaration.name.text.to_ascii_lowercase(alloc)?;
     let arguments = arguments(alloc, &mut walk.folded, types, declaration)?;
@@ -64,9 +65,9 @@ fn table(
     types: &TypeNames,
     declarations: &[Declaration<'_>],
 ) -> Result<IndexMap<Vec<u8>, Predicate>, NoMemory>
-    ensures table { IfOk result (λ m. typing.repeated (map (λ q. typing.placed typing.in_domain (read.name_of q.name)) declarations.now) ≡ []
+    ensures table { IfOk result (λ m. typing.repeated (map (λ q. typing.placed domain_file (read.name_of q.name)) declarations.now) ≡ []
         → map parts.predicate_of m.entries ≡ map (λ q. typing.predicate_in (names_in types.now.names.keys) (read.predicate_of q)) declarations.now) }
-    ensures finds { OnOk result (Finds walk.old walk.new (typing.refused 16 (typing.repeated (map (λ q. typing.placed typing.in_domain (read.name_of q.name)) declarations.now)))) }
+    ensures finds { OnOk result (Finds walk.old walk.new (typing.refused 16 (typing.repeated (map (λ q. typing.placed domain_file (read.name_of q.name)) declarations.now)))) }
 {
     let mut predicates = IndexMap::new(alloc);
     for declaration in declarations {

@@ -5,6 +5,7 @@ ghost use Rattle.typing.specs.Scope.{names_in};
 ghost use Rattle.typing.specs.Task.{file_of, TellsLeastOf};
 ghost use Rattle.typing.specs.Walk.{Finds};
 ghost use Rattle.pddl_tree.specs.Tree as read;
+ghost use Rattle.model.specs.Trees.{problem_file};
 ghost use Rattle.model.specs.Typing as typing;
 
 use crate::type_names::TypeNames;
@@ -22,7 +23,7 @@ const MAX_TYPES: usize = 4095;
 
 /// The name of the domain that the problem is for is this one. Another is refused.
 fn compare(walk: &mut Walk, domain: &Name<'_>, wanted: &Name<'_>)
-    ensures { Finds walk.old walk.new (if typing.is_same (typing.folded (read.name_of wanted.now)) (typing.folded (read.name_of domain.now)) then [] else typing.refused_word typing.in_problem 21 (read.name_of wanted.now)) }
+    ensures { Finds walk.old walk.new (if typing.is_same (typing.folded (read.name_of wanted.now)) (typing.folded (read.name_of domain.now)) then [] else typing.refused_word problem_file 21 (read.name_of wanted.now)) }
 {
     let same = wanted.text.eq_ignore_ascii_case(domain.text);
     walk.refuse_unless(same, TaskFile::Problem, Code::DomainMismatch, wanted);

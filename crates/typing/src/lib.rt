@@ -26,7 +26,8 @@ pub use atoms::{
     Atom, LiftedAtom, MAX_ARGUMENTS, MAX_OBJECTS, MAX_VARIABLES, ObjectId, PredicateId, SchemaId,
     Term, TypeId, VariableId,
 };
-pub use fault::{TaskFault, TaskFile, TaskRefusal};
+pub use fault::{TaskFault, TaskRefusal};
 pub use laws::examples_are_typed;
+pub use pddl_tree::TaskFile;
 pub use schemas::{Effect, Formula, Predicate, Schema, TypeUnion};
 pub use task::Task;

@@ -74,7 +74,8 @@ impl Names {
     ghost use Rattle.typing.specs.Names.{domain_faults, declared_faults, known_by, known_in, stated_faults_in, AreDeclared, AreSchemasOf, AreTypesOf, Starts};
     ghost use Rattle.typing.specs.Objects.{AreObjectsOf};
     ghost use Rattle.pddl_tree.specs.Tree.{domain_of, problem_of};
-    ghost use Rattle.model.specs.Typing.{in_problem, action_faults};
+    ghost use Rattle.model.specs.Trees.{problem_file};
+    ghost use Rattle.model.specs.Typing.{action_faults};
 
     /// The names that a domain and a problem declare, where these are the types.
     pub(crate) fn declared(
@@ -140,8 +141,8 @@ impl Names {
 
     /// What the problem states, with numbers for the names.
     pub(crate) fn stated(&self, alloc: Global, problem: &Problem<'_>) -> Result<Start, TaskFault>
-        ensures ok { IfOk result (Starts in_problem (known_by self.now) (problem_of problem.now)) }
-        ensures err { IfErr result (TellsLeastOf (stated_faults_in in_problem (known_by self.now) (problem_of problem.now))) }
+        ensures ok { IfOk result (Starts problem_file (known_by self.now) (problem_of problem.now)) }
+        ensures err { IfErr result (TellsLeastOf (stated_faults_in problem_file (known_by self.now) (problem_of problem.now))) }
     {
         let globals = Globals {
             file: TaskFile::Problem,

@@ -7,6 +7,7 @@ ghost use Rattle.typing.specs.Scope.{names_in};
 ghost use Rattle.typing.specs.Task.{TellsLeastOf};
 ghost use Rattle.typing.specs.Walk.{Finds};
 ghost use Rattle.pddl_tree.specs.Tree as read;
+ghost use Rattle.model.specs.Trees.{domain_file, problem_file};
 ghost use Rattle.model.specs.Typing as typing;
 
 use crate::domain::refuse_again;
@@ -85,7 +86,7 @@ fn words<'t>(
     constants: &'t [Group<'t>],
     objects: &'t [Group<'t>],
 ) -> Result<Vec<Declared<'t>>, NoMemory>
-    ensures { IfOk result (λ v. map declared_of v.items ≡ typing.declared typing.in_domain (map read.group_of constants.now) ++ typing.declared typing.in_problem (map read.group_of objects.now)) }
+    ensures { IfOk result (λ v. map declared_of v.items ≡ typing.declared domain_file (map read.group_of constants.now) ++ typing.declared problem_file (map read.group_of objects.now)) }
 {
     let mut list = Vec::new(alloc);
     add(&mut list, TaskFile::Domain, constants)?;

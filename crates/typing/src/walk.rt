@@ -3,7 +3,8 @@ ghost use Rattle.std.specs.Prelude.{◌≡◌, [], if◌then◌else◌, None, If
 ghost use Rattle.pddl_tree.specs.Tree.{name_of};
 ghost use Rattle.model.specs.Typing.{folded, refused_word};
 
-use crate::fault::{TaskFault, TaskFile, TaskRefusal};
+use crate::TaskFile;
+use crate::fault::{TaskFault, TaskRefusal};
 use faults::{Code, NoMemory};
 use pddl_tree::Name;
 use std::alloc::Global;

@@ -1,7 +1,7 @@
 use Rattle.std.proofs.Common.{map}
 use Rattle.std.proofs.lemmas.Result.{err_from_is_err_and}
 use Rattle.tokens.specs.Word.{word_of}
-use Rattle.model.specs.GrammarWords.{problem_file}
+use Rattle.model.specs.Trees.{problem_file}
 use Rattle.planner_main.proofs.FilesRead.{words_refused, tree_refused_in}
 use Rattle.planner_main.proofs.task_file.read_problem.Goals as goal
 

@@ -2,6 +2,7 @@ use Rattle.typing.specs.Walk.{found, least_of}
 use Rattle.typing.specs.TaskParts as parts
 use Rattle.typing.specs.Scope.{names_in}
 use Rattle.pddl_tree.specs.Tree as read
+use Rattle.model.specs.Trees.{domain_file}
 use Rattle.model.specs.Task as task
 use Rattle.model.specs.Typing as typing
 use Rattle.typing.proofs.Found as finding
@@ -10,6 +11,6 @@ use Rattle.typing.proofs.actions.declare_actions.Goals as goal
 
 pub loop-action-preserved : goal.loop-action-preserved
 loop-action-preserved c =
-    finding.found_declared (λ (a : Action). typing.placed typing.in_domain (read.name_of a.name)) c.args.actions.now c.loop-action.action-index c.action-item.result c.loop-action-test.true c.action-item.is
+    finding.found_declared (λ (a : Action). typing.placed domain_file (read.name_of a.name)) c.args.actions.now c.loop-action.action-index c.action-item.result c.loop-action-test.true c.action-item.is
     (names_in c.loop-action.names.keys) (names_in c.declare.new.names.keys) (least_of c.loop-action.walk) (least_of c.declare.new.walk) _
     c.in_ok-declare.ensures.names c.in_ok-declare.ensures.finds c.loop-action.invariant

@@ -3,11 +3,12 @@ use Rattle.typing.specs.Walk.{found, least_of}
 use Rattle.typing.specs.TaskParts as parts
 use Rattle.typing.specs.Scope.{names_in}
 use Rattle.pddl_tree.specs.Tree as read
+use Rattle.model.specs.Trees.{domain_file}
 use Rattle.model.specs.Task as task
 use Rattle.model.specs.Typing as typing
 use Rattle.typing.proofs.actions.declare_actions.Given as goal
 
 abbrev pub invariant-loop-action : goal.invariant-loop-action
 invariant-loop-action l =
-    found (least_of l.walk) (typing.refused 16 (typing.repeated_after (names_in l.names.keys) (map (λ a. typing.placed typing.in_domain (read.name_of a.name)) (drop l.action-index l.actions))))
-    ≡ found (least_of l.initial.walk) (typing.refused 16 (typing.repeated_after [] (map (λ a. typing.placed typing.in_domain (read.name_of a.name)) l.actions)))
+    found (least_of l.walk) (typing.refused 16 (typing.repeated_after (names_in l.names.keys) (map (λ a. typing.placed domain_file (read.name_of a.name)) (drop l.action-index l.actions))))
+    ≡ found (least_of l.initial.walk) (typing.refused 16 (typing.repeated_after [] (map (λ a. typing.placed domain_file (read.name_of a.name)) l.actions)))

@@ -5,6 +5,7 @@ use Rattle.typing.specs.TypedLists.{declared_of, placed_of}
 use Rattle.typing.specs.Scope.{known_of, names_in, variable_entry_of}
 use Rattle.typing.specs.Walk.{found, least_of}
 use Rattle.pddl_tree.specs.Tree as read
+use Rattle.model.specs.Trees.{domain_file}
 use Rattle.model.specs.Typing as typing
 use Rattle.typing.proofs.Found.{found_after}
 use Rattle.typing.proofs.Tells.{on_ok_weaker}
@@ -33,6 +34,6 @@ returns-clause-finds c =
     let known = known_of c.args.scope.now in let a = read.action_of c.args.action.now in
     let is = same (goal.at.returns-clause-finds c).In_ok-parameters in
     on_ok_weaker c.body.result
-    (λ finds. found_after (least_of c.args.walk.now) (least_of c.variables.new.walk) _ (typing.parameter_faults known.type_names (typing.declared typing.in_domain a.parameters)) (typing.body_faults typing.in_domain (typing.known_in_action known a) a)
+    (λ finds. found_after (least_of c.args.walk.now) (least_of c.variables.new.walk) _ (typing.parameter_faults known.type_names (typing.declared domain_file a.parameters)) (typing.body_faults domain_file (typing.known_in_action known a) a)
     (c.in_ok-variables.ensures.finds ∙ ap (λ xs. found (least_of c.args.walk.now) (typing.parameter_faults known.type_names xs)) c.requires)
-    (finds ∙ ap (λ k. found (least_of c.variables.new.walk) (typing.body_faults typing.in_domain k a)) is)) c.body.ensures.finds
+    (finds ∙ ap (λ k. found (least_of c.variables.new.walk) (typing.body_faults domain_file k a)) is)) c.body.ensures.finds

@@ -4,6 +4,7 @@ use Rattle.typing.specs.Walk.{found, least_of}
 use Rattle.typing.specs.TaskParts as parts
 use Rattle.typing.specs.Scope.{known_of, names_in}
 use Rattle.pddl_tree.specs.Tree as read
+use Rattle.model.specs.Trees.{domain_file}
 use Rattle.model.specs.Task as task
 use Rattle.model.specs.Typing as typing
 use Rattle.typing.proofs.Found as finding
@@ -22,11 +23,11 @@ returns c =
     let known = known_of c.args.scope.now in
     let faults = typing.action_faults known (map read.action_of ys) in
     let whole = map (typing.schema_in known) (map read.action_of ys) in
-    let placed_as = λ (a : Action). typing.placed typing.in_domain (read.name_of a.name) in
+    let placed_as = λ (a : Action). typing.placed domain_file (read.name_of a.name) in
     let twice = λ (zs : List Action). typing.refused 16 (typing.repeated (map placed_as zs)) in
     let inner = λ (zs : List Action). flat_map (λ (a : Action). typing.schema_faults known (read.action_of a)) zs in
     let same : twice ys ++ inner ys ≡ faults =
-    λ i. typing.refused 16 (typing.repeated (sym (finding.map-map (λ (a : tree.Action). typing.placed typing.in_domain a.name) read.action_of ys) i))
+    λ i. typing.refused 16 (typing.repeated (sym (finding.map-map (λ (a : tree.Action). typing.placed domain_file a.name) read.action_of ys) i))
     ++ sym (flat_map-map (typing.schema_faults known) read.action_of ys) i in
     let total : least_of c.table.new.walk ≡ found None faults =
     finding.found_after (least_of c.new-walk.result) _ _ (twice xs) (inner xs) c.in_ok-declare_actions.ensures c.in_ok-schemas.ensures.finds

@@ -3,6 +3,7 @@ use Rattle.typing.specs.Walk.{found, least_of}
 use Rattle.typing.specs.TaskParts as parts
 use Rattle.typing.specs.Scope.{known_of, names_in}
 use Rattle.pddl_tree.specs.Tree as read
+use Rattle.model.specs.Trees.{domain_file}
 use Rattle.model.specs.Task as task
 use Rattle.model.specs.Typing as typing
 use Rattle.typing.proofs.Tables as tables
@@ -14,7 +15,7 @@ pub loop-action-preserved : goal.loop-action-preserved
 loop-action-preserved c =
     let xs = c.args.actions.now in let i = c.loop-action.action-index in let x = c.action-item.result in
     let known = known_of c.args.scope.now in
-    let placed_as = λ (a : Action). typing.placed typing.in_domain (read.name_of a.name) in
+    let placed_as = λ (a : Action). typing.placed domain_file (read.name_of a.name) in
     let made = λ (a : Action). typing.schema_in known (read.action_of a) in
     let before = map parts.schema_of c.loop-action.schemas.entries in
     let after = map parts.schema_of c.declare_schema.new.schemas.entries in

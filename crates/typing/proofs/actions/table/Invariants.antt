@@ -4,6 +4,7 @@ use Rattle.typing.specs.Walk.{found, least_of}
 use Rattle.typing.specs.TaskParts as parts
 use Rattle.typing.specs.Scope.{known_of, names_in}
 use Rattle.pddl_tree.specs.Tree as read
+use Rattle.model.specs.Trees.{domain_file}
 use Rattle.model.specs.Task as task
 use Rattle.model.specs.Typing as typing
 use Rattle.typing.proofs.actions.table.Given as goal
@@ -12,8 +13,8 @@ abbrev pub invariant-loop-action : goal.invariant-loop-action
 invariant-loop-action l = record {
   finds : found (least_of l.walk) (flat_map (λ a. typing.schema_faults (known_of l.scope) (read.action_of a)) (drop l.action-index l.actions))
       ≡ found (least_of l.initial.walk) (flat_map (λ a. typing.schema_faults (known_of l.scope) (read.action_of a)) l.actions);
-  table : typing.repeated_after [] (map (λ a. typing.placed typing.in_domain (read.name_of a.name)) l.actions) ≡ []
-      → (typing.repeated_after (map (λ s. s.name) (map parts.schema_of l.schemas.entries)) (map (λ a. typing.placed typing.in_domain (read.name_of a.name)) (drop l.action-index l.actions)) ≡ [])
+  table : typing.repeated_after [] (map (λ a. typing.placed domain_file (read.name_of a.name)) l.actions) ≡ []
+      → (typing.repeated_after (map (λ s. s.name) (map parts.schema_of l.schemas.entries)) (map (λ a. typing.placed domain_file (read.name_of a.name)) (drop l.action-index l.actions)) ≡ [])
       × (map parts.schema_of l.schemas.entries ++ map (λ a. typing.schema_in (known_of l.scope) (read.action_of a)) (drop l.action-index l.actions)
       ≡ map (λ a. typing.schema_in (known_of l.scope) (read.action_of a)) l.actions);
 }

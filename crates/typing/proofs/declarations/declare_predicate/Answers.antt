@@ -4,6 +4,7 @@ use Rattle.typing.specs.Walk.{found, least_of}
 use Rattle.typing.specs.TaskParts as parts
 use Rattle.typing.specs.Scope.{names_in}
 use Rattle.pddl_tree.specs.Tree as read
+use Rattle.model.specs.Trees.{domain_file}
 use Rattle.model.specs.Task as task
 use Rattle.model.specs.Typing as typing
 use Rattle.typing.proofs.Tables as tables
@@ -24,5 +25,5 @@ returns c =
       added = λ new. ap (map parts.predicate_of) c.in_ok-before.ensures.entries
           ∙ tables.shown-insert parts.predicate_of (λ p. p.name) (λ e. refl) name key is declared
           (typing.predicate_in (names_in c.args.types.now.names.keys) (read.predicate_of c.args.declaration.now)) (λ i. record { name = is i; arguments = c.in_ok-arguments.ensures i }) entries new;
-      finds = c.refuse_again.ensures ∙ ap (λ b. found (least_of c.args.walk.now) (typing.refused 16 (if b then typing.placed typing.in_domain name ∷ [] else []))) known;
+      finds = c.refuse_again.ensures ∙ ap (λ b. found (least_of c.args.walk.now) (typing.refused 16 (if b then typing.placed domain_file name ∷ [] else []))) known;
     }

@@ -4,6 +4,7 @@ use Rattle.typing.specs.Walk.{found, least_of}
 use Rattle.typing.specs.TaskParts as parts
 use Rattle.typing.specs.Scope.{names_in}
 use Rattle.pddl_tree.specs.Tree as read
+use Rattle.model.specs.Trees.{domain_file}
 use Rattle.model.specs.Task as task
 use Rattle.model.specs.Typing as typing
 use Rattle.typing.proofs.Found as finding
@@ -22,11 +23,11 @@ returns c =
     let predicates = c.in_ok-predicates.predicates in
     let faults = typing.declaration_faults names (map read.predicate_of ys) in
     let whole = map (typing.predicate_in names) (map read.predicate_of ys) in
-    let placed_as = λ (q : Predicate). typing.placed typing.in_domain (read.name_of q.name) in
+    let placed_as = λ (q : Predicate). typing.placed domain_file (read.name_of q.name) in
     let twice = λ (zs : List Predicate). typing.refused 16 (typing.repeated (map placed_as zs)) in
     let inner = λ (zs : List Predicate). flat_map (λ (q : Predicate). typing.argument_faults names (read.predicate_of q)) zs in
     let same : twice ys ++ inner ys ≡ faults =
-    λ i. typing.refused 16 (typing.repeated (sym (finding.map-map (λ (q : tree.Predicate). typing.placed typing.in_domain q.name) read.predicate_of ys) i))
+    λ i. typing.refused 16 (typing.repeated (sym (finding.map-map (λ (q : tree.Predicate). typing.placed domain_file q.name) read.predicate_of ys) i))
     ++ sym (flat_map-map (typing.argument_faults names) read.predicate_of ys) i in
     let total : least_of c.check_declarations.new.walk ≡ found None faults =
     finding.found_after (least_of c.new-walk.result) _ _ (twice xs) (inner xs) c.in_ok-predicates.ensures.finds c.in_ok-check_declarations.ensures

@@ -3,6 +3,7 @@ use Rattle.typing.specs.Walk.{found, least_of}
 use Rattle.typing.specs.TaskParts as parts
 use Rattle.typing.specs.Scope.{names_in}
 use Rattle.pddl_tree.specs.Tree as read
+use Rattle.model.specs.Trees.{domain_file}
 use Rattle.model.specs.Task as task
 use Rattle.model.specs.Typing as typing
 use Rattle.typing.proofs.Tables as tables
@@ -13,7 +14,7 @@ use Rattle.typing.proofs.declarations.table.Goals as goal
 pub loop-declaration-preserved : goal.loop-declaration-preserved
 loop-declaration-preserved c =
     let xs = c.args.declarations.now in let i = c.loop-declaration.declaration-index in let x = c.declaration-item.result in
-    let placed_as = λ (q : Predicate). typing.placed typing.in_domain (read.name_of q.name) in
+    let placed_as = λ (q : Predicate). typing.placed domain_file (read.name_of q.name) in
     let made = λ (q : Predicate). typing.predicate_in (names_in c.args.types.now.names.keys) (read.predicate_of q) in
     let before = map parts.predicate_of c.loop-declaration.predicates.entries in
     let after = map parts.predicate_of c.declare_predicate.new.predicates.entries in

@@ -3,16 +3,17 @@ use Rattle.typing.specs.Walk.{found, least_of}
 use Rattle.typing.specs.TaskParts as parts
 use Rattle.typing.specs.Scope.{names_in}
 use Rattle.pddl_tree.specs.Tree as read
+use Rattle.model.specs.Trees.{domain_file}
 use Rattle.model.specs.Task as task
 use Rattle.model.specs.Typing as typing
 use Rattle.typing.proofs.declarations.table.Given as goal
 
 abbrev pub invariant-loop-declaration : goal.invariant-loop-declaration
 invariant-loop-declaration l = record {
-  finds : found (least_of l.walk) (typing.refused 16 (typing.repeated_after (typing.names_of_predicates (map parts.predicate_of l.predicates.entries)) (map (λ q. typing.placed typing.in_domain (read.name_of q.name)) (drop l.declaration-index l.declarations))))
-      ≡ found (least_of l.initial.walk) (typing.refused 16 (typing.repeated_after [] (map (λ q. typing.placed typing.in_domain (read.name_of q.name)) l.declarations)));
-  table : typing.repeated_after [] (map (λ q. typing.placed typing.in_domain (read.name_of q.name)) l.declarations) ≡ []
-      → (typing.repeated_after (typing.names_of_predicates (map parts.predicate_of l.predicates.entries)) (map (λ q. typing.placed typing.in_domain (read.name_of q.name)) (drop l.declaration-index l.declarations)) ≡ [])
+  finds : found (least_of l.walk) (typing.refused 16 (typing.repeated_after (typing.names_of_predicates (map parts.predicate_of l.predicates.entries)) (map (λ q. typing.placed domain_file (read.name_of q.name)) (drop l.declaration-index l.declarations))))
+      ≡ found (least_of l.initial.walk) (typing.refused 16 (typing.repeated_after [] (map (λ q. typing.placed domain_file (read.name_of q.name)) l.declarations)));
+  table : typing.repeated_after [] (map (λ q. typing.placed domain_file (read.name_of q.name)) l.declarations) ≡ []
+      → (typing.repeated_after (typing.names_of_predicates (map parts.predicate_of l.predicates.entries)) (map (λ q. typing.placed domain_file (read.name_of q.name)) (drop l.declaration-index l.declarations)) ≡ [])
       × (map parts.predicate_of l.predicates.entries ++ map (λ q. typing.predicate_in (names_in l.types.names.keys) (read.predicate_of q)) (drop l.declaration-index l.declarations)
       ≡ map (λ q. typing.predicate_in (names_in l.types.names.keys) (read.predicate_of q)) l.declarations);
 }

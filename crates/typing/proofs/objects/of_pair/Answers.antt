@@ -3,6 +3,7 @@ use Rattle.pddl_tree.specs.Tree as read
 use Rattle.typing.specs.Scope.{names_in}
 use Rattle.typing.specs.Task.{TellsLeastOf}
 use Rattle.typing.specs.TypedLists.{declared_of}
+use Rattle.model.specs.Trees.{domain_file, problem_file}
 use Rattle.model.specs.Typing as typing
 use Rattle.typing.proofs.objects.of_pair.Goals as goal
 
@@ -10,5 +11,5 @@ pub returns-clause-err : goal.returns-clause-err
 returns-clause-err c =
     let names = names_in c.args.types.now.names.keys in
     let all = ap (map declared_of) c.as_slice-2.ensures.value ∙ c.in_ok-object_words.ensures
-    ∙ (λ i. typing.declared typing.in_domain (map read.group_of (c.as_slice-constants.ensures.value i)) ++ typing.declared typing.in_problem (map read.group_of (c.as_slice-objects.ensures.value i))) in
+    ∙ (λ i. typing.declared domain_file (map read.group_of (c.as_slice-constants.ensures.value i)) ++ typing.declared problem_file (map read.group_of (c.as_slice-objects.ensures.value i))) in
     subst (λ xs. IfErr c.made.result (TellsLeastOf (typing.objects_faults names xs))) all c.made.ensures.err

@@ -4,7 +4,8 @@ use Rattle.typing.specs.Task.{TellsLeastOf}
 use Rattle.typing.specs.TaskParts as parts
 use Rattle.typing.specs.Scope.{names_in, variable_entry_of}
 use Rattle.typing.specs.Names.{known_by, stated_faults_in, Starts}
-use Rattle.model.specs.Typing.{in_problem, Known}
+use Rattle.model.specs.Trees.{problem_file}
+use Rattle.model.specs.Typing.{Known}
 use Rattle.typing.proofs.names.Names.stated.Goals.{After-new}
 use Rattle.typing.proofs.names.Names.stated.Goals as goal
 
@@ -29,8 +30,8 @@ same c = λ i. record {
 
 pub returns-clause-ok : goal.returns-clause-ok
 returns-clause-ok c =
-    subst (λ k. IfOk c.stated_in.result (Starts in_problem k (problem_of c.args.problem.now))) (same (goal.at.returns-clause-ok c).After-new) c.stated_in.ensures.ok
+    subst (λ k. IfOk c.stated_in.result (Starts problem_file k (problem_of c.args.problem.now))) (same (goal.at.returns-clause-ok c).After-new) c.stated_in.ensures.ok
 
 pub returns-clause-err : goal.returns-clause-err
 returns-clause-err c =
-    subst (λ k. IfErr c.stated_in.result (TellsLeastOf (stated_faults_in in_problem k (problem_of c.args.problem.now)))) (same (goal.at.returns-clause-err c).After-new) c.stated_in.ensures.err
+    subst (λ k. IfErr c.stated_in.result (TellsLeastOf (stated_faults_in problem_file k (problem_of c.args.problem.now)))) (same (goal.at.returns-clause-err c).After-new) c.stated_in.ensures.err

@@ -7,6 +7,7 @@ use Rattle.typing.specs.Task.{TellsLeastOf}
 use Rattle.typing.specs.TaskParts.{type_entry_of}
 use Rattle.typing.specs.TypedLists.{declared_of}
 use Rattle.typing.specs.Names.{type_faults_of}
+use Rattle.model.specs.Trees.{domain_file}
 use Rattle.model.specs.Trees as tree
 use Rattle.model.specs.Typing as typing
 use Rattle.typing.proofs.Empty as empty
@@ -18,7 +19,7 @@ use Rattle.typing.proofs.names.Types.declared.Goals.{In_ok-names, In_ok-all}
 use Rattle.typing.proofs.names.Types.declared.Goals as goal
 
 same : (c : In_ok-names) → map declared_of c.as_slice-declared.result.now ≡ typing.declared_types (domain_of c.args.domain.now)
-same c = ap (map declared_of) c.as_slice-declared.ensures.value ∙ c.in_ok-list.ensures ∙ ap (λ gs. typing.declared typing.in_domain (map group_of gs)) c.as_slice-groups.ensures.value
+same c = ap (map declared_of) c.as_slice-declared.ensures.value ∙ c.in_ok-list.ensures ∙ ap (λ gs. typing.declared domain_file (map group_of gs)) c.as_slice-groups.ensures.value
 
 -- the types are not repeated, and few
 once_of : (d : tree.Domain) (p : tree.Problem) → typing.domain_name_faults d p ++ typing.type_declaration_faults d ≡ []
@@ -40,7 +41,7 @@ names_same : (c : In_ok-names) → names_in c.in_ok-names.names.names.keys ≡ t
 names_same c = c.in_ok-names.ensures.ok.1
 
 pub names-requires : goal.names-requires
-names-requires c = ap (map declared_of) c.as_slice-declared.ensures.value ∙ c.in_ok-list.ensures ∙ ap (λ gs. typing.declared typing.in_domain (map group_of gs)) c.as_slice-groups.ensures.value
+names-requires c = ap (map declared_of) c.as_slice-declared.ensures.value ∙ c.in_ok-list.ensures ∙ ap (λ gs. typing.declared domain_file (map group_of gs)) c.as_slice-groups.ensures.value
 
 pub types-requires : goal.types-requires
 types-requires c =
@@ -65,7 +66,7 @@ all_same : (c : In_ok-all) → map type_entry_of c.in_ok-all.all.entries ≡ typ
 all_same c =
     let d = domain_of c.args.domain.now in
     let o = once_of d (problem_of c.args.problem.now) c.in_ok-names.ensures.ok.0 in
-    let xs = ap (map declared_of) c.as_slice-declared.ensures.value ∙ c.in_ok-list.ensures ∙ ap (λ gs. typing.declared typing.in_domain (map group_of gs)) c.as_slice-groups.ensures.value in
+    let xs = ap (map declared_of) c.as_slice-declared.ensures.value ∙ c.in_ok-list.ensures ∙ ap (λ gs. typing.declared domain_file (map group_of gs)) c.as_slice-groups.ensures.value in
     let ns = c.in_ok-names.ensures.ok.1 in
     c.in_ok-all.ensures.ok.types (ap (λ ys. typing.repeated_after (codes "object" ∷ []) (typing.words_of ys)) xs ∙ o.0)
     ∙ (λ i. typing.types_from (typing.parents_in (ns i) (xs i)) 0 (codes "object" ∷ map typing.folded (typing.names_of (xs i))))
