@@ -239,10 +239,10 @@ the_vehicle = object 1
 -- (and (p) (forall (?x - vehicle) (when (seen ?x) (and (not (seen ?x)) (q)))) (forall (?x - truck) (seen ?x)))
 abbrev pub of_each_kind : Effect
 of_each_kind = all (
-  adds p
-  ∷ each vehicles (when (atom (seen (variable 0))) (delete (seen (variable 0)) ∷ add q ∷ []))
-  ∷ each trucks (adds (seen (variable 0))) ∷ []
-)
+    adds p
+    ∷ each vehicles (when (atom (seen (variable 0))) (delete (seen (variable 0)) ∷ add q ∷ []))
+    ∷ each trucks (adds (seen (variable 0))) ∷ []
+    )
 
 abbrev pub change : Formula → List ℕ → GroundLiteral → Change
 change condition binding l = record { condition = condition; binding = binding; literal = l }
