@@ -6,7 +6,6 @@ pub mod InstancesLemmas
 pub mod StaticLemmas
 pub mod SureLiteralsHold
 pub mod Steps
-pub mod Costs
 pub mod ExampleProofs
 pub mod FormulaExampleProofs
 pub mod CertificateRefusalsLemmas
