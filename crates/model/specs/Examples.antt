@@ -6,7 +6,7 @@ use Rattle.model.specs.Runs.{IsVerdict, valid, not_applicable, goal_missed}
 use Rattle.model.specs.Meaning.{objects_of, ground_atom, GroundLiteral, Change, changes_of, is_instance, cost_of, initial_state, system_of}
 use Rattle.model.specs.Meaning as meaning
 use Rattle.model.specs.Instances.{all_instances}
-use Rattle.model.specs.WellTyped.{is_term, is_effect, is_schema}
+use Rattle.model.specs.WellTyped.{is_term, is_effect}
 use Rattle.model.specs.Certificates.{is_fluent}
 
 -- ---- formulas and effects from lists
@@ -354,6 +354,3 @@ pub record WorkedExamples : Type 0 where
   pub sum_of_costs : IsVerdict (system_of (priced true)) (instance 0 [] ∷ instance 0 [] ∷ []) (valid 6)
   pub sum_with_none : IsVerdict (system_of (priced true)) (instance 0 [] ∷ instance 1 [] ∷ []) (valid 3)
   pub count_of_steps : IsVerdict (system_of (priced false)) (instance 0 [] ∷ instance 1 [] ∷ []) (valid 2)
-  -- An action costs at most 2,147,483,647.
-  pub greatest_cost : is_schema fleet (record go { effect = all []; cost = 2147483647 }) ≡ true
-  pub greater_cost : is_schema fleet (record go { effect = all []; cost = 2147483648 }) ≡ false
