@@ -2,11 +2,11 @@
 -- says otherwise.
 use Rattle.std.specs.Prelude.{ℕ, List, [], ◌∷◌, ◌++◌, codes, Some}
 use Rattle.model.specs.Fault.{Fault}
-use Rattle.model.specs.GrammarWords.{domain_file, problem_file, tokens_of}
+use Rattle.model.specs.GrammarWords.{tokens_of}
 use Rattle.model.specs.Grammar.{IsDomain, IsProblem}
 use Rattle.model.specs.Refusals.{IsRefused}
 use Rattle.model.specs.Words.{Word, Kind, name, variable, keyword, number, dash, equals, opens, closes}
-use Rattle.model.specs.Trees.{Name, Group, Formula, Effect, Increase, Domain, Problem, formulas, effects}
+use Rattle.model.specs.Trees.{domain_file, problem_file, Name, Group, Formula, Effect, Increase, Domain, Problem, formulas, effects}
 use Rattle.model.specs.Trees as tree
 
 abbrev pub word : Kind → List ℕ → ℕ → Word
