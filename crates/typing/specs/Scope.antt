@@ -1,5 +1,5 @@
 -- What the names of formulas, effects and atoms stand for, in the model's terms.
-use Rattle.std.specs.Prelude.{◌≡◌, ℕ, List, [], ◌∷◌, length, map, take, ◌++◌, slice_get, Option}
+use Rattle.std.specs.Prelude.{◌≡◌, ℕ, List, [], ◌∷◌, map, take, ◌++◌, slice_get, Option}
 use Rattle.std.specs.Global.{Vec}
 use Rattle.std.specs.Map.{keys_of}
 use Rattle.std.specs.Option.{option_map_or}
@@ -34,7 +34,7 @@ known_of s = record {
 
 -- the variables that were in scope stand first among those that are
 abbrev pub BeginsWith : List (Vec ℕ × TypeUnion) → List (Vec ℕ × TypeUnion) → Type 0
-BeginsWith before after = take (length before) after ≡ before
+BeginsWith before after = (more : List (Vec ℕ × TypeUnion)) × (after ≡ before ++ more)
 
 -- what may be named in a file where these are the variables in scope
 abbrev pub known_over : Globals → List (Vec ℕ × TypeUnion) → Known

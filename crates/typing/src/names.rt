@@ -171,7 +171,7 @@ impl Start {
         ensures err { IfErr result (TellsLeastOf (stated_faults_in (file_of globals.now.file) (known_outside globals.now) (problem_of problem.now))) }
     {
         let variables = IndexMap::new(alloc);
-        let init = statements::init(alloc, &globals.with(&variables), problem)?;
+        let init = statements::init(alloc, globals, &variables, problem)?;
         let goal = statements::goal(alloc, globals, problem)?;
         Ok(Start { init, goal })
     }

@@ -2,7 +2,7 @@
 ghost use Rattle.std.specs.Prelude.{◌≡◌, [], ◌++◌, map, IfErr, IfOk, OnOk};
 ghost use Rattle.typing.specs.TaskParts as parts;
 ghost use Rattle.typing.specs.Task.{file_of, TellsLeastOf};
-ghost use Rattle.typing.specs.Scope.{known_of, known_outside, narrow_atoms_in};
+ghost use Rattle.typing.specs.Scope.{known_of, known_outside, known_over, narrow_atoms_in};
 ghost use Rattle.typing.specs.Walk.{Finds};
 ghost use Rattle.pddl_tree.specs.Tree as read;
 ghost use Rattle.model.specs.Typing as typing;
@@ -11,7 +11,7 @@ ghost use Rattle.std.specs.List.{flat_map};
 use crate::formulas::formula;
 use crate::scope::{Globals, Scope};
 use crate::walk::Walk;
-use crate::{Atom, Formula, TaskFault};
+use crate::{Atom, Formula, TaskFault, TypeUnion};
 use faults::{Code, NoMemory};
 use indexmap::IndexMap;
 use pddl_tree::{Fact, Problem};
@@ -56,20 +56,22 @@ fn atoms(
     Ok(atoms)
 }
 
-/// The atoms of the initial state.
+/// The atoms of the initial state, where these variables are in scope.
 pub(crate) fn init(
     alloc: Global,
-    scope: &Scope<'_>,
+    globals: &Globals<'_>,
+    variables: &IndexMap<Vec<u8>, TypeUnion>,
     problem: &Problem<'_>,
 ) -> Result<Vec<Atom>, TaskFault>
     ensures ok { IfOk result
-        (λ v. (flat_map (typing.fact_faults (file_of scope.now.file) (known_of scope.now)) (read.problem_of problem.now).init ≡ [])
-        × (map parts.atom_of v.items ≡ flat_map (narrow_atoms_in (known_of scope.now)) (read.problem_of problem.now).init)) }
-    ensures err { IfErr result (TellsLeastOf (flat_map (typing.fact_faults (file_of scope.now.file) (known_of scope.now)) (read.problem_of problem.now).init)) }
+        (λ v. (flat_map (typing.fact_faults (file_of globals.now.file) (known_over globals.now variables.now.entries)) (read.problem_of problem.now).init ≡ [])
+        × (map parts.atom_of v.items ≡ flat_map (narrow_atoms_in (known_over globals.now variables.now.entries)) (read.problem_of problem.now).init)) }
+    ensures err { IfErr result (TellsLeastOf (flat_map (typing.fact_faults (file_of globals.now.file) (known_over globals.now variables.now.entries)) (read.problem_of problem.now).init)) }
 {
     let mut walk = Walk::new(alloc);
     let facts = problem.init.as_slice();
-    let init = atoms(alloc, &mut walk, scope, facts)?;
+    let scope = globals.with(variables);
+    let init = atoms(alloc, &mut walk, &scope, facts)?;
     walk.finish(init)
 }
 

@@ -1,14 +1,12 @@
-use Rattle.std.proofs.Common.{◌≡◌, ◌∙◌, Bool, true, false, List, [], ◌∷◌, ◌++◌, map, is_some, refl, ap, sym, if◌then◌else◌}
+use Rattle.std.proofs.Common.{◌≡◌, ◌∙◌, Bool, List, [], ◌∷◌, ◌++◌, map, is_some, refl, ap, sym, if◌then◌else◌}
 use Rattle.std.specs.Map.{lookup}
-use Rattle.typing.specs.TaskParts as parts
-use Rattle.typing.specs.TypedLists.{declared_of, placed_of}
+use Rattle.std.proofs.lemmas.List.{append-nil}
+use Rattle.typing.specs.TypedLists.{declared_of}
 use Rattle.typing.specs.Scope.{names_in, variable_entry_of}
-use Rattle.typing.specs.Walk.{found, least_of}
-use Rattle.pddl_tree.specs.Tree as read
 use Rattle.model.specs.Typing as typing
 use Rattle.typing.proofs.Tables as tables
-use Rattle.typing.proofs.actions.add_variable.Goals.{After-contains_key}
-use Rattle.typing.proofs.actions.add_variable.Goals as goal
+use Rattle.typing.proofs.variables.add_variable.Goals.{After-contains_key}
+use Rattle.typing.proofs.variables.add_variable.Goals as goal
 
 -- what the look-up says of the name
 known : (c : After-contains_key) → c.contains_key.result ≡ typing.is_known (typing.names_of_variables (map variable_entry_of c.args.variables.now.entries)) (declared_of c.args.declared.now).name
@@ -28,7 +26,7 @@ returns-then-contains_key c =
     let is = known (goal.at.returns-then-contains_key c).After-contains_key in
     record {
       variables = sym (ap (λ b. pick b vs v) (sym is ∙ c.if-contains_key.true));
-      again = sym c.if-contains_key.true ∙ is;
+      kept = ([], sym (append-nil _));
     }
 
 pub returns : goal.returns
@@ -43,5 +41,5 @@ returns c =
       variables = ap (map variable_entry_of) c.in_ok-insert.ensures.entries
           ∙ tables.shown-insert variable_entry_of (λ w. w.name) (λ e. refl) x.name key c.in_ok-key.ensures.ok c.in_ok-union.union v (λ i. record { name = c.in_ok-key.ensures.ok i; types = c.in_ok-union.ensures i }) entries new
           ∙ sym (ap (λ b. pick b vs v) new);
-      again = sym new;
+      kept = ((key, c.in_ok-union.union) ∷ [], c.in_ok-insert.ensures.entries ∙ tables.insert-new variable_entry_of (λ w. w.name) (λ e. refl) x.name key c.in_ok-key.ensures.ok c.in_ok-union.union entries (sym (tables.is_known-entries variable_entry_of (λ w. w.name) (λ e. refl) x.name key c.in_ok-key.ensures.ok c.in_ok-union.union entries) ∙ new));
     }
