@@ -1,5 +1,5 @@
 -- Action costs: what the grammar makes of the words of the total cost.
-use Rattle.std.specs.Prelude.{◌≡◌, ◌+◌, ℕ, Bool, true, false, List, Option, Some}
+use Rattle.std.specs.Prelude.{◌≡◌, ◌+◌, ℕ, Bool, true, false, List, Option, Some, None}
 use Rattle.tokens.specs.declared.word.Word.{Word}
 use Rattle.pddl_words.specs.Name.{name_of}
 use Rattle.pddl_words.specs.Token.{from, first}
@@ -12,6 +12,11 @@ use Rattle.model.specs.Grammar.{Tree, Phrase, gives, ◌>>=◌, ◌>>◌, listed
 -- the word `total-cost` was read
 abbrev pub IsTotalCost : List Word → ℕ → Name → ℕ → Type 0
 IsTotalCost list at n next = (first (from list at) ≡ Some (reserved words.total_cost n)) × (next ≡ at + 1)
+
+-- the word `increase`
+abbrev pub increase_in : Token → Option Name
+increase_in (reserved words.increase n) = Some n
+increase_in _ = None
 
 -- a look at a `-`
 abbrev pub dash_first : Option Token → Bool

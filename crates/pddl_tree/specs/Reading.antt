@@ -9,7 +9,7 @@ use Rattle.faults.specs.declared.refused.Refused.TheVariants.{At}
 use Rattle.pddl_tree.specs.declared.refusal.Place.{Place}
 use Rattle.pddl_tree.specs.Place.{wanted}
 use Rattle.model.specs.Trees.{Name}
-use Rattle.model.specs.GrammarWords.{Token, opens, closes, FreeName, free}
+use Rattle.model.specs.GrammarWords.{Token, opens, closes, FreeName, free, reserved, and}
 use Rattle.model.specs.Grammar.{Tree, Sort, many, key, close, Value, Phrase, gives, ◌>>=◌, ◌>>◌, and_then, after}
 use Rattle.model.specs.GrammarMachine.{run, stopped}
 use Rattle.model.specs.Refusals.{number_at}
@@ -50,6 +50,10 @@ number_seen s (Some t) = number_at s t
 abbrev pub closes_first : Option Token → Bool
 closes_first (Some closes) = true
 closes_first _ = false
+
+abbrev pub and_first : Option Token → Bool
+and_first (Some (reserved and n)) = true
+and_first _ = false
 
 abbrev pub opens_first : Option Token → Bool
 opens_first (Some opens) = true

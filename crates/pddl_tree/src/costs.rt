@@ -55,10 +55,10 @@ fn function<'a>(words: &[Word<'a>], at: usize) -> Result<(Name<'a>, usize), Word
 {
     let inside = open(words, at, Place::Elsewhere)?;
     let (function, next) = total_cost(words, inside)?;
-    if !is_dash(words, next) {
-        return Ok((function, next));
+    if is_dash(words, next) {
+        let end = number_word(words, next + 1)?;
+        return Ok((function, end));
     }
-    let next = number_word(words, next + 1)?;
     Ok((function, next))
 }
 

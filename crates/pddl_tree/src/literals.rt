@@ -6,7 +6,7 @@ ghost use Rattle.pddl_tree.specs.Reading.{the, IsAfter, IsRead, IsTold};
 ghost use Rattle.pddl_tree.specs.Tree.{atom_of, effect_literal_of};
 
 use crate::lists::terms;
-use crate::look::{close, is_close, open, predicate};
+use crate::look::{close, is_and, is_close, open, predicate};
 use crate::refusal::{Literals, Place, refusal};
 use crate::tree::{Atom, EffectLiteral};
 use faults::Refused;
@@ -24,13 +24,12 @@ pub(crate) fn conditional<'a>(
     ensures read { IfOk result (λ r. IsRead (the wants_conditional) words.now at (map effect_literal_of r.0.items) r.1) }
     ensures told { IfErr result (λ refusal. IsTold (the wants_conditional) words.now at refusal) }
 {
-    match token_at(words, at) {
-        Token::Reserved(ReservedName::And, _) => literals(alloc, words, at + 1),
-        _ => {
-            let (literal, next) = literal(alloc, words, at)?;
-            Ok((vec![in alloc; literal]?, next))
-        }
+    if is_and(words, at) {
+        return literals(alloc, words, at + 1);
     }
+    let (literal, next) = literal(alloc, words, at)?;
+    let literals = vec![in alloc; literal]?;
+    Ok((literals, next))
 }
 
 /// Literals under a `when`, and `)`: the literals, and the index after the parenthesis.

@@ -1,13 +1,14 @@
 //! Single words: what stands at an index, taken or refused.
-ghost use Rattle.std.specs.Prelude.{◌≡◌, ◌<◌, IfOk, IfErr, IsTrue, length};
+ghost use Rattle.std.specs.Prelude.{◌≡◌, ◌<◌, IfOk, IfErr, IfSome, IsTrue, length};
+ghost use Rattle.std.specs.Option.{option_map, option_and_then};
 ghost use Rattle.faults.specs.declared.refused.Refused.TheVariants.{At};
 ghost use Rattle.model.specs.Grammar.{a_name, action_name as wants_action_name, term as wants_term, close as wants_close, key as wants_key, either_word as wants_either, define_word, kind_word, total_cost, amount as wants_amount, number_type, minimize_word};
 ghost use Rattle.pddl_words.specs.Name.{name_of, term_of};
 ghost use Rattle.pddl_words.specs.Token.{from, first};
 ghost use Rattle.pddl_tree.specs.Tree.{file_of};
 ghost use Rattle.pddl_tree.specs.Place.{listed_view};
-ghost use Rattle.pddl_tree.specs.Reading.{the, IsAfter, IsWord, IsTold, Opens, IsNotOpen, Heads, IsNoPredicate, closes_first};
-ghost use Rattle.pddl_tree.specs.Costs.{IsTotalCost, dash_first};
+ghost use Rattle.pddl_tree.specs.Reading.{the, IsAfter, IsWord, IsTold, Opens, IsNotOpen, Heads, IsNoPredicate, closes_first, and_first};
+ghost use Rattle.pddl_tree.specs.Costs.{IsTotalCost, dash_first, increase_in};
 ghost use Rattle.pddl_tree.specs.Typed.{IsListed, IsNotListed, ends_group_first};
 
 use crate::refusal::{Listed, Place, refusal};
@@ -23,6 +24,28 @@ pub(crate) fn is_close(words: &[Word], at: usize) -> bool
     match token_at(words, at) {
         Token::Close => true,
         _ => false,
+    }
+}
+
+/// Whether `and` stands at an index.
+pub(crate) fn is_and(words: &[Word], at: usize) -> bool
+    ensures within { IsTrue result → at < length words.now }
+    ensures first { result ≡ and_first (first (from words.now at)) }
+{
+    match token_at(words, at) {
+        Token::Reserved(ReservedName::And, _) => true,
+        _ => false,
+    }
+}
+
+/// The word `increase`, where it stands at an index.
+pub(crate) fn increase_word<'a>(words: &[Word<'a>], at: usize) -> Option<Name<'a>>
+    ensures within { IfSome result (λ _. at < length words.now) }
+    ensures word { option_map name_of result ≡ option_and_then increase_in (first (from words.now at)) }
+{
+    match token_at(words, at) {
+        Token::Reserved(ReservedName::Increase, word) => Some(word),
+        _ => None,
     }
 }
 
