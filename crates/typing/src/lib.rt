@@ -29,5 +29,5 @@ pub use atoms::{
 pub use fault::{TaskFault, TaskRefusal};
 pub use laws::examples_are_typed;
 pub use pddl_tree::TaskFile;
-pub use schemas::{Effect, Formula, Predicate, Schema, TypeUnion};
+pub use schemas::{Effect, EffectLiteral, Formula, Predicate, Schema, TypeUnion};
 pub use task::Task;
