@@ -36,3 +36,7 @@ equals_more false file word rest old new is = ap (λ o. found o (refused 23 rest
 pub equals_end : (none_yet : Bool) (least : Option TypingFault) → found least (refused 23 (drop (if none_yet then 1 else 0) [])) ≡ least
 equals_end true least = refl
 equals_end false least = refl
+
+pub is_some-map : {X Y : Type 0} (f : X → Y) (o : Option X) → is_some (option_map f o) ≡ is_some o
+is_some-map f None = refl
+is_some-map f (Some x) = refl
