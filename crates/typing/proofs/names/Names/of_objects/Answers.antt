@@ -15,8 +15,13 @@ predicates c = c.in_ok-predicates.ensures.ok.1 ∙ ap (λ ns. map (predicate_in 
 -- what may be named in the domain
 same : (c : In_ok-has_cost) → known_in c.args.types c.args.objects.constants.entries c.in_ok-predicates.predicates.entries c.in_ok-has_cost.has_cost ≡ known_in_domain (domain_of c.args.domain.now)
 same c = λ i. record {
-    type_names = c.requires.types.names i; types = c.requires.types.all i; predicates = predicates c.In_ok-predicates i; variables = []; objects = c.requires.objects.constants i; has_cost = c.in_ok-has_cost.ensures.ok.1 i;
-  }
+  type_names = c.requires.types.names i;
+  types = c.requires.types.all i;
+  predicates = predicates c.In_ok-predicates i;
+  variables = [];
+  objects = c.requires.objects.constants i;
+  has_cost = c.in_ok-has_cost.ensures.ok.1 i;
+}
 
 none : (c : In_ok-predicates) → declaration_faults (type_names (domain_of c.args.domain.now)) (domain_of c.args.domain.now).predicates ≡ []
 none c = sym (ap (λ ns. declaration_faults ns (domain_of c.args.domain.now).predicates) c.requires.types.names) ∙ c.in_ok-predicates.ensures.ok.0
