@@ -35,5 +35,5 @@ in_file file = option_map (λ (fault : told.Fault). record { file = file_view fi
 -- what the fault of a pair tells of its files
 abbrev pub told_of_pair : TaskFault → Option model.FileFault
 told_of_pair (refused.At r) =
-    Some (record { file = model.file_of (file_of r.file); fault = record { code = number_of r.code; span = record { start = r.span.start; end = r.span.end } } })
+    Some (record { file = model.of_task (file_of r.file); fault = record { code = number_of r.code; span = record { start = r.span.start; end = r.span.end } } })
 told_of_pair refused.NoMemory = None
