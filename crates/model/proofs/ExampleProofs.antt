@@ -255,6 +255,4 @@ worked_examples = record {
   sum_of_costs = (goes_on true (instance 0 []) (instance 0 []) (goes true _) (goes true _), refl);
   sum_with_none = (goes_on true (instance 0 []) (instance 1 []) (goes true _) (goes_free true _), refl);
   count_of_steps = (goes_on false (instance 0 []) (instance 1 []) (goes false _) (goes_free false _), refl);
-  greatest_cost = refl;
-  greater_cost = refl;
 }

@@ -6,7 +6,7 @@ use Rattle.model.specs.Runs.{IsVerdict, valid, not_applicable, goal_missed}
 use Rattle.model.specs.Meaning.{objects_of, ground_atom, GroundLiteral, Change, changes_of, is_instance, cost_of, initial_state, system_of}
 use Rattle.model.specs.Meaning as meaning
 use Rattle.model.specs.Instances.{all_instances}
-use Rattle.model.specs.WellTyped.{is_term, is_effect, is_schema}
+use Rattle.model.specs.WellTyped.{is_term, is_effect}
 use Rattle.model.specs.Certificates.{is_fluent}
 
 -- ---- formulas and effects from lists
@@ -161,19 +161,20 @@ fleet_task = record {
 
 -- ---- tasks of one action, for its effect
 
--- (define (domain effects) (:types truck - vehicle vehicle place boat - vehicle) (:predicates (seen ?x) (p) (q) (r))
---  (:action do ..))
--- (define (problem e) (:domain effects) (:objects t - truck v - vehicle p - place z) ..)
+-- the objects t, v, p and z, a truck, a vehicle, a place and one of no type; and boats, of which there is none
+abbrev pub fleet : Task
+fleet = record fleet_task { types = fleet_task.types ++ object_type (codes "boat") (4 ∷ 2 ∷ 0 ∷ []) ∷ [] }
+
 abbrev pub trucks : Union
 trucks = 1 ∷ []
 
 abbrev pub vehicles : Union
 vehicles = 2 ∷ []
 
--- of which there is none
 abbrev pub boats : Union
 boats = 4 ∷ []
 
+-- (:predicates (seen ?x) (p) (q) (r))
 abbrev pub seen : Term → LiftedAtom
 seen t = lifted 0 (t ∷ [])
 
@@ -186,17 +187,19 @@ q = lifted 2 []
 abbrev pub r : LiftedAtom
 r = lifted 3 []
 
+-- a predicate without arguments
 abbrev pub fact : List ℕ → Predicate
 fact name = record { name = name; arguments = [] }
 
+-- an action of these parameters and of this effect, which is always applicable
 abbrev pub doer : List Union → Effect → Schema
 doer parameters effect = record { name = codes "do"; parameters = parameters; precondition = and (formulas []); effect = effect; cost = 0 }
 
--- its action has these parameters and this effect, these atoms are true at the start, and the goal is that all of these hold
+-- the task of that action in which these atoms are true at the start, and the goal is that all of these formulas hold
 abbrev pub doing : List Union → Effect → List LiftedAtom → List Formula → Task
 doing parameters effect before goals = record {
-  types = fleet_task.types ++ object_type (codes "boat") (4 ∷ 2 ∷ 0 ∷ []) ∷ [];
-  objects = fleet_task.objects;
+  types = fleet.types;
+  objects = fleet.objects;
   predicates = record { name = codes "seen"; arguments = any 1 } ∷ fact (codes "p") ∷ fact (codes "q") ∷ fact (codes "r") ∷ [];
   schemas = doer parameters effect ∷ [];
   init = map (ground_atom []) before;
@@ -239,10 +242,10 @@ the_vehicle = object 1
 -- (and (p) (forall (?x - vehicle) (when (seen ?x) (and (not (seen ?x)) (q)))) (forall (?x - truck) (seen ?x)))
 abbrev pub of_each_kind : Effect
 of_each_kind = all (
-  adds p
-  ∷ each vehicles (when (atom (seen (variable 0))) (delete (seen (variable 0)) ∷ add q ∷ []))
-  ∷ each trucks (adds (seen (variable 0))) ∷ []
-)
+    adds p
+    ∷ each vehicles (when (atom (seen (variable 0))) (delete (seen (variable 0)) ∷ add q ∷ []))
+    ∷ each trucks (adds (seen (variable 0))) ∷ []
+    )
 
 abbrev pub change : Formula → List ℕ → GroundLiteral → Change
 change condition binding l = record { condition = condition; binding = binding; literal = l }
@@ -334,10 +337,10 @@ pub record WorkedExamples : Type 0 where
       ∷ change (atom (seen (variable 0))) (1 ∷ []) (meaning.deletes (ground 0 (1 ∷ []))) ∷ change (atom (seen (variable 0))) (1 ∷ []) (meaning.adds (ground 2 []))
       ∷ change (and no_formula) (0 ∷ []) (meaning.adds (ground 0 (0 ∷ []))) ∷ []
   -- The variable of a `forall` is in scope in its effect and not after it, and 16 may be.
-  pub in_its_effect : is_effect fleet_task [] (each vehicles (when (equal (variable 0) the_truck) [])) ≡ true
-  pub after_its_effect : is_effect fleet_task [] (all (each vehicles (all []) ∷ when (equal (variable 0) the_truck) [] ∷ [])) ≡ false
-  pub sixteen_variables : is_effect fleet_task (replicate 15 vehicles) (each vehicles (all [])) ≡ true
-  pub seventeen_variables : is_effect fleet_task (replicate 16 vehicles) (each vehicles (all [])) ≡ false
+  pub in_its_effect : is_effect fleet [] (each vehicles (when (equal (variable 0) the_truck) [])) ≡ true
+  pub after_its_effect : is_effect fleet [] (all (each vehicles (all []) ∷ when (equal (variable 0) the_truck) [] ∷ [])) ≡ false
+  pub sixteen_variables : is_effect fleet (replicate 15 vehicles) (each vehicles (all [])) ≡ true
+  pub seventeen_variables : is_effect fleet (replicate 16 vehicles) (each vehicles (all [])) ≡ false
   -- A literal under `when` and `forall` makes its predicate fluent, and a condition does not.
   pub changed_under_when : is_fluent (doing [] (each vehicles (when_p (add (seen (variable 0))))) [] []) 0 ≡ true
   pub read_in_a_condition : is_fluent (doing [] (each vehicles (when_p (add (seen (variable 0))))) [] []) 1 ≡ false
@@ -351,6 +354,3 @@ pub record WorkedExamples : Type 0 where
   pub sum_of_costs : IsVerdict (system_of (priced true)) (instance 0 [] ∷ instance 0 [] ∷ []) (valid 6)
   pub sum_with_none : IsVerdict (system_of (priced true)) (instance 0 [] ∷ instance 1 [] ∷ []) (valid 3)
   pub count_of_steps : IsVerdict (system_of (priced false)) (instance 0 [] ∷ instance 1 [] ∷ []) (valid 2)
-  -- An action costs at most 2,147,483,647.
-  pub greatest_cost : is_schema fleet_task (record go { effect = all []; cost = 2147483647 }) ≡ true
-  pub greater_cost : is_schema fleet_task (record go { effect = all []; cost = 2147483648 }) ≡ false

@@ -153,10 +153,10 @@ each_x part = tree.each (group (at 51 (codes "?x") ∷ []) (at 52 (codes "v") �
 abbrev pub of_two_variables : Effect
 of_two_variables =
     tree.both (effects (
-      tree.each (group (at 51 (codes "?x") ∷ []) (at 52 (codes "v") ∷ []) ∷ group (at 53 (codes "?z") ∷ []) [] ∷ [])
-          (tree.when (tree.equal (variable 54 (codes "?z")) (variable 55 (codes "?y")))
-          (tree.add (atom (at 56 (codes "p")) (variable 57 (codes "?X") ∷ [])) ∷ tree.delete (atom (at 58 (codes "p")) (tree.object (at 59 (codes "k")) ∷ [])) ∷ []))
-      ∷ p_of 60 (variable 61 (codes "?y")) ∷ []
+    tree.each (group (at 51 (codes "?x") ∷ []) (at 52 (codes "v") ∷ []) ∷ group (at 53 (codes "?z") ∷ []) [] ∷ [])
+    (tree.when (tree.equal (variable 54 (codes "?z")) (variable 55 (codes "?y")))
+    (tree.add (atom (at 56 (codes "p")) (variable 57 (codes "?X") ∷ [])) ∷ tree.delete (atom (at 58 (codes "p")) (tree.object (at 59 (codes "k")) ∷ [])) ∷ []))
+    ∷ p_of 60 (variable 61 (codes "?y")) ∷ []
     ))
 
 pub record AreTyped : Type 0 where

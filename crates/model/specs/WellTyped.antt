@@ -5,7 +5,6 @@ use Rattle.std.specs.Cmp.Lexicographic.{pointwise}
 use Rattle.std.specs.List.{list_all, list_any}
 use Rattle.std.specs.Option.{option_map_or}
 pub use Rattle.model.specs.Limits.{max_arguments, max_variables}
-use Rattle.model.specs.Limits.{max_number}
 use Rattle.model.specs.Task.{ObjectType, Union, Predicate, Atom, LiftedAtom, Term, variable, object, Formula, Formulas, atom, equal, and, or, not, imply, exists, forall, no_formula, more_formulas, EffectLiteral, add, delete, Effect, Effects, literal, both, each, when, no_effect, more_effects, Schema, Task}
 use Rattle.model.specs.Meaning.{supertypes_of, is_below, is_of}
 
@@ -62,7 +61,7 @@ abbrev mutual
 
 abbrev pub is_schema : Task → Schema → Bool
 is_schema task s =
-    nat_le s.cost max_number && nat_le (length s.parameters) max_variables && is_formula task s.parameters s.precondition && is_effect task s.parameters s.effect
+    nat_le (length s.parameters) max_variables && is_formula task s.parameters s.precondition && is_effect task s.parameters s.effect
 
 -- what stands above a type stands above all types below it
 abbrev pub is_whole_chain : Task → ObjectType → Bool
