@@ -71,9 +71,9 @@ abbrev pub free_first : Option Token → Bool
 free_first (Some (free f n)) = true
 free_first _ = false
 
-abbrev pub IsNoPredicate : List Word → ℕ → WordRefusal → Type 0
-IsNoPredicate words at refusal =
-    (free_first (first (from words at)) ≡ false) × (told (At refusal) ≡ Some (number_seen close (first (from words at)), at))
+abbrev pub IsNoPredicate : List Word → ℕ → Place → WordRefusal → Type 0
+IsNoPredicate words at place refusal =
+    (free_first (first (from words at)) ≡ false) × (told (At refusal) ≡ Some (number_seen (wanted place) (first (from words at)), at))
 
 -- keys up to `)`: they switch nothing on or off, and nothing is kept of them
 abbrev pub keys_dropped : Phrase (Value close)
