@@ -1,5 +1,5 @@
 -- What the names of formulas, effects and atoms stand for, in the model's terms.
-use Rattle.std.specs.Prelude.{◌≡◌, ℕ, List, [], ◌∷◌, length, map, take, ◌++◌, slice_get, Option}
+use Rattle.std.specs.Prelude.{◌≡◌, ℕ, List, [], ◌∷◌, map, take, ◌++◌, slice_get, Option}
 use Rattle.std.specs.Global.{Vec}
 use Rattle.std.specs.Map.{keys_of}
 use Rattle.std.specs.Option.{option_map_or}
@@ -30,11 +30,12 @@ known_of s = record {
   predicates = map predicate_of s.predicates.now.entries;
   variables = map variable_entry_of s.variables.now.entries;
   objects = map object_entry_of s.objects.now.entries;
+  has_cost = s.has_cost;
 }
 
 -- the variables that were in scope stand first among those that are
 abbrev pub BeginsWith : List (Vec ℕ × TypeUnion) → List (Vec ℕ × TypeUnion) → Type 0
-BeginsWith before after = take (length before) after ≡ before
+BeginsWith before after = (more : List (Vec ℕ × TypeUnion)) × (after ≡ before ++ more)
 
 -- what may be named in a file where these are the variables in scope
 abbrev pub known_over : Globals → List (Vec ℕ × TypeUnion) → Known
@@ -44,6 +45,7 @@ known_over g variables = record {
   predicates = map predicate_of g.predicates.now.entries;
   variables = map variable_entry_of variables;
   objects = map object_entry_of g.objects.now.entries;
+  has_cost = g.has_cost;
 }
 
 -- what may be named where no variable is in scope
@@ -66,3 +68,4 @@ narrow_atom_in known f = let a = atom_in known f in record { predicate = a.predi
 abbrev pub narrow_atoms_in : Known → tree.Fact → List task.Atom
 narrow_atoms_in known (tree.fact a) = narrow_atom_in known a ∷ []
 narrow_atoms_in known (tree.negated word a) = []
+narrow_atoms_in known (tree.initial_cost c) = []

@@ -2,7 +2,7 @@
 ghost use Rattle.std.specs.Prelude.{◌≡◌, ◌++◌, map, IfOk, OnOk};
 ghost use Rattle.std.specs.List.{flat_map};
 ghost use Rattle.typing.specs.TaskParts as parts;
-ghost use Rattle.typing.specs.Scope.{known_over};
+ghost use Rattle.typing.specs.Scope.{known_over, BeginsWith};
 ghost use Rattle.typing.specs.Task.{file_of};
 ghost use Rattle.typing.specs.Walk.{Finds};
 ghost use Rattle.pddl_tree.specs.Tree as read;
@@ -95,6 +95,32 @@ fn forall_each(alloc: Global, unions: Vec<TypeUnion>, part: Formula) -> Result<F
     Ok(formula)
 }
 
+/// Brings the variables of a quantifier or of an effect's `forall` into scope. It gives what each has to be.
+pub(crate) fn enter(
+    alloc: Global,
+    walk: &mut Walk,
+    globals: &Globals<'_>,
+    variables: &mut IndexMap<Vec<u8>, TypeUnion>,
+    groups: &Vec<Group<'_>>,
+) -> Result<Vec<TypeUnion>, NoMemory>
+    ensures unions { IfOk result (λ v. map parts.union_of v.items
+        ≡ typing.unions_in (known_over globals.now variables.old.entries).type_names (typing.declared (file_of globals.now.file) (read.groups_of groups.now))) }
+    ensures known { OnOk result (known_over globals.now variables.new.entries
+        ≡ typing.known_with (known_over globals.now variables.old.entries) (typing.declared (file_of globals.now.file) (read.groups_of groups.now))) }
+    ensures kept { OnOk result (BeginsWith variables.old.entries variables.new.entries) }
+    ensures finds { OnOk result (Finds walk.old walk.new
+        (typing.variable_faults (known_over globals.now variables.old.entries).type_names (known_over globals.now variables.old.entries).variables (typing.declared (file_of globals.now.file) (read.groups_of groups.now)))) }
+{
+    let groups = groups.as_slice();
+    let list = collect(alloc, globals.file, groups)?;
+    let declared = list.as_slice();
+    let unions = globals
+        .type_names
+        .unions(alloc, &mut walk.folded, declared)?;
+    declare_variables(alloc, walk, globals.type_names, variables, declared)?;
+    Ok(unions)
+}
+
 /// What each variable of a quantifier has to be, and its part, in which they are in scope.
 #[derive(Drop)]
 struct Quantified {
@@ -109,26 +135,21 @@ fn quantifier(
     walk: &mut Walk,
     globals: &Globals<'_>,
     variables: &mut IndexMap<Vec<u8>, TypeUnion>,
-    groups: &[Group<'_>],
+    groups: &Vec<Group<'_>>,
     part: &tree::Formula<'_>,
 ) -> Result<Quantified, NoMemory>
     ensures unions { IfOk result (λ q. map parts.union_of q.unions.items
-        ≡ typing.unions_in (known_over globals.now variables.old.entries).type_names (typing.declared (file_of globals.now.file) (map read.group_of groups.now))) }
+        ≡ typing.unions_in (known_over globals.now variables.old.entries).type_names (typing.declared (file_of globals.now.file) (read.groups_of groups.now))) }
     ensures part { IfOk result (λ q. parts.formula_of q.part ≡ typing.formula_in (file_of globals.now.file)
-        (typing.known_with (known_over globals.now variables.old.entries) (typing.declared (file_of globals.now.file) (map read.group_of groups.now))) (read.formula_of part.now)) }
+        (typing.known_with (known_over globals.now variables.old.entries) (typing.declared (file_of globals.now.file) (read.groups_of groups.now))) (read.formula_of part.now)) }
     ensures finds { OnOk result (Finds walk.old walk.new
-        (typing.variable_faults (known_over globals.now variables.old.entries).type_names (known_over globals.now variables.old.entries).variables (typing.declared (file_of globals.now.file) (map read.group_of groups.now))
+        (typing.variable_faults (known_over globals.now variables.old.entries).type_names (known_over globals.now variables.old.entries).variables (typing.declared (file_of globals.now.file) (read.groups_of groups.now))
         ++ typing.formula_faults (file_of globals.now.file)
-        (typing.known_with (known_over globals.now variables.old.entries) (typing.declared (file_of globals.now.file) (map read.group_of groups.now))) (read.formula_of part.now))) }
+        (typing.known_with (known_over globals.now variables.old.entries) (typing.declared (file_of globals.now.file) (read.groups_of groups.now))) (read.formula_of part.now))) }
     ensures variables { OnOk result (variables.new.entries ≡ variables.old.entries) }
 {
-    let list = collect(alloc, globals.file, groups)?;
-    let declared = list.as_slice();
-    let unions = globals
-        .type_names
-        .unions(alloc, &mut walk.folded, declared)?;
     let before = variables.len();
-    declare_variables(alloc, walk, globals.type_names, variables, declared)?;
+    let unions = enter(alloc, walk, globals, variables, groups)?;
     let part = formula(alloc, walk, globals, variables, part)?;
     variables.truncate(before);
     Ok(Quantified { unions, part })
@@ -141,16 +162,16 @@ fn several(
     walk: &mut Walk,
     globals: &Globals<'_>,
     variables: &mut IndexMap<Vec<u8>, TypeUnion>,
-    parts: &[tree::Formula<'_>],
+    given: &[tree::Formula<'_>],
 ) -> Result<Vec<Formula>, NoMemory>
     ensures value { IfOk result (λ v. map parts.formula_of v.items
-        ≡ map (λ x. typing.formula_in (file_of globals.now.file) (known_over globals.now variables.old.entries) (read.formula_of x)) parts.now) }
+        ≡ map (λ x. typing.formula_in (file_of globals.now.file) (known_over globals.now variables.old.entries) (read.formula_of x)) given.now) }
     ensures finds { OnOk result (Finds walk.old walk.new
-        (flat_map (λ x. typing.formula_faults (file_of globals.now.file) (known_over globals.now variables.old.entries) (read.formula_of x)) parts.now)) }
+        (flat_map (λ x. typing.formula_faults (file_of globals.now.file) (known_over globals.now variables.old.entries) (read.formula_of x)) given.now)) }
     ensures variables { OnOk result (variables.new.entries ≡ variables.old.entries) }
 {
-    let mut resolved = Vec::with_capacity(alloc, parts.len())?;
-    for part in parts {
+    let mut resolved = Vec::with_capacity(alloc, given.len())?;
+    for part in given {
         resolved.push(formula(alloc, walk, globals, variables, part)?)?;
     }
     Ok(resolved)
