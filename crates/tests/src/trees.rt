@@ -12,7 +12,7 @@ const GO: &[u8] =
 
 const TRIP: &[u8] =
     b"(define (problem trip) (:domain go) (:objects a B) (:init (p) (q a)) (:goal (and (p) (or) (not (q B))
- (imply (p) (and (p))) (= ?x B) (exists (?x ?y - (either place truck) ?z) (q ?y)) (forall () (p)))))";
+ (imply (p) (q a)) (= ?x B) (exists (?x ?y - (either place truck) ?z) (q ?y)) (forall () (p)))))";
 
 /// The words that stand before this place are refused there, since more is wanted.
 fn refused_at(end: usize) -> Option<Fault> {
@@ -143,24 +143,17 @@ fn is_trip(problem: &Problem) -> bool {
 /// Whether they are the formulas of the goal: one of each form.
 fn are_of_each_form(parts: &[Formula]) -> bool {
     match parts {
-        [
-            Formula::Atom(_),
-            Formula::Or(none),
-            Formula::Not(q),
-            Formula::Imply(premise, conclusion),
-            Formula::Equal(Term::Variable(x), Term::Object(b)),
-            Formula::Exists(variables, of_some),
-            Formula::Forall(no_variables, of_all),
-        ] => {
-            none.is_empty()
-                && is_atom(q, b"q", 1)
-                && is_atom(premise, b"p", 0)
-                && matches!(&**conclusion, Formula::And(_))
-                && (x.text, b.text) == (b"?x".as_slice(), b"B".as_slice())
-                && are_seen(variables)
-                && is_atom(of_some, b"q", 1)
-                && no_variables.is_empty()
-                && is_atom(of_all, b"p", 0)
+        [_, or, not, imply, equal, exists, forall] => {
+            matches!(or, Formula::Or(parts) if parts.is_empty())
+                && matches!(not, Formula::Not(part) if is_atom(part, b"q", 1))
+                && matches!(imply, Formula::Imply(premise, conclusion)
+                    if is_atom(premise, b"p", 0) && is_atom(conclusion, b"q", 1))
+                && matches!(equal, Formula::Equal(Term::Variable(x), Term::Object(b))
+                    if (x.text, b.text) == (b"?x".as_slice(), b"B".as_slice()))
+                && matches!(exists, Formula::Exists(variables, part)
+                    if are_seen(variables) && is_atom(part, b"q", 1))
+                && matches!(forall, Formula::Forall(variables, part)
+                    if variables.is_empty() && is_atom(part, b"p", 0))
         }
         _ => false,
     }
@@ -168,7 +161,8 @@ fn are_of_each_form(parts: &[Formula]) -> bool {
 
 /// Whether it is an atom of this predicate, and of so many terms.
 fn is_atom(formula: &Formula, predicate: &[u8], count: usize) -> bool {
-    matches!(formula, Formula::Atom(atom) if atom.predicate.text == predicate && atom.terms.len() == count)
+    matches!(formula, Formula::Atom(atom)
+        if atom.predicate.text == predicate && atom.terms.len() == count)
 }
 
 const FLEET: &[u8] =

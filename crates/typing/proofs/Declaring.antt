@@ -1,13 +1,17 @@
 -- What variables and types are where none is declared twice, and where their types are known.
-use Rattle.std.proofs.Common.{◌≡◌, ℕ, ◌+◌, ◌<◌, Bool, true, false, List, [], ◌∷◌, ◌++◌, codes, map, fold, length, slice_index, nat_lt, refl, ap, sym, ◌∙◌, arith, zero, suc, if◌then◌else◌}
+use Rattle.std.proofs.Common.{◌≡◌, ℕ, ◌+◌, ◌-◌, ◌<◌, ◌≤◌, nat_le, cond, ◌||◌, Bool, true, false, List, [], ◌∷◌, ◌++◌, codes, map, fold, take, length, slice_index, nat_lt, refl, ap, sym, ◌∙◌, arith, zero, suc, if◌then◌else◌}
 use Rattle.std.specs.List.{flat_map}
 use Rattle.std.proofs.lemmas.Bool.Decides.{nat_tests}
 use Rattle.std.proofs.lemmas.List.{map-append, append_assoc, append-nil}
+use Rattle.std.proofs.lemmas.List.Folds.{list_any-append}
+use Rattle.std.specs.Global.{Vec}
+use Rattle.typing.specs.declared.schemas.TypeUnion.{TypeUnion}
+use Rattle.typing.specs.Scope.{BeginsWith}
 use Rattle.model.specs.Task as task
 use Rattle.model.specs.Trees as tree
 use Rattle.model.specs.Trees.{File}
-use Rattle.model.specs.Typing.{Declared, Placed, Variable, is_known, is_same, folded, with_name, with_variable, variable_in, variables_in, unions_in, names_of, names_of_variables, number_in, type_in, types_from, comes_back, cycle_faults_from, unknown_faults, types_faults, type_faults, words_of, refused, refused_word, repeated, repeated_after}
-use Rattle.typing.proofs.Empty.{nil_left, nil_right, not_refused, not_repeated}
+use Rattle.model.specs.Typing.{Declared, Placed, TypingFault, Variable, is_known, is_same, folded, with_name, with_variable, variable_in, variables_after, known_among, one_after, one_too_many, unions_in, names_of, names_of_variables, number_in, type_in, types_from, comes_back, cycle_faults_from, unknown_faults, types_faults, type_faults, words_of, refused, refused_word, repeated, repeated_after}
+use Rattle.typing.proofs.Empty.{nil_left, nil_right, not_refused, not_repeated, within}
 use Rattle.typing.proofs.Found.{map-map}
 use Rattle.typing.proofs.Lists.{list_any-position}
 
@@ -36,10 +40,69 @@ kept_variables types vs (x ∷ xs) e = by (is_known (names_of_variables vs) x.na
         ∙ ap (λ (b : Bool). (if b then vs else vs ++ variable_in types x ∷ []) ++ map (variable_in types) xs) t
         ∙ append_assoc vs (variable_in types x ∷ []) (map (variable_in types) xs)
 
-pub variables_are : (types : List task.Name) (xs : List Declared) → refused 16 (repeated (words_of xs)) ≡ [] → map (λ (v : Variable). v.types) (variables_in types xs) ≡ unions_in types xs
-variables_are types xs e =
-    ap (map (λ (v : Variable). v.types)) (kept_variables types [] xs (not_refused 16 (repeated (words_of xs)) e))
-    ∙ map-map (λ (v : Variable). v.types) (variable_in types) xs
+-- words that are not repeated, and none of which is in scope, are not repeated after those in scope either
+repeated_apart : (scope before : List task.Name) (ws : List Placed) → repeated_after before ws ≡ [] → known_among scope ws ≡ [] → repeated_after (scope ++ before) ws ≡ []
+repeated_apart scope before [] e f = refl
+repeated_apart scope before (w ∷ rest) e f = by (is_known before w.word) refl (is_known scope w.word) refl e f (repeated_apart scope (with_name before w.word) rest)
+  where
+    by : (b : Bool) → is_known before w.word ≡ b → (s : Bool) → is_known scope w.word ≡ s
+        → (if b then w ∷ [] else []) ++ repeated_after (with_name before w.word) rest ≡ []
+        → cond s (w ∷ known_among scope rest) (known_among scope rest) ≡ []
+        → (repeated_after (with_name before w.word) rest ≡ [] → known_among scope rest ≡ [] → repeated_after (scope ++ with_name before w.word) rest ≡ [])
+        → repeated_after (scope ++ before) (w ∷ rest) ≡ []
+    by true t s u e f next = absurd (cc)
+    by false t true u e f next = absurd (cc)
+    by false t false u e f next =
+        let new : is_known (scope ++ before) w.word ≡ false = list_any-append (is_same (folded w.word)) scope before ∙ (λ i. u i || t i) in
+        let names : with_name (scope ++ before) w.word ≡ scope ++ with_name before w.word =
+        ap (λ b. if b then scope ++ before else (scope ++ before) ++ folded w.word ∷ []) new ∙ append_assoc scope before (folded w.word ∷ [])
+        ∙ ap (λ b. scope ++ (if b then before else before ++ folded w.word ∷ [])) (sym t) in
+        (λ i. (if new i then w ∷ [] else []) ++ repeated_after (names i) rest) ∙ next e f
+
+-- variables of a list without faults come after those in scope, each
+pub variables_are : (types : List task.Name) (vs : List Variable) (xs : List Declared) → refused 16 (repeated (words_of xs)) ≡ [] → refused 20 (known_among (names_of_variables vs) (words_of xs)) ≡ []
+    → map (λ (v : Variable). v.types) (variables_after types vs xs) ≡ map (λ (v : Variable). v.types) vs ++ unions_in types xs
+variables_are types vs xs once apart =
+    let names = names_of_variables vs in
+    let new = ap (λ ns. repeated_after ns (words_of xs)) (sym (append-nil names))
+    ∙ repeated_apart names [] (words_of xs) (not_refused 16 (repeated (words_of xs)) once) (not_refused 20 (known_among names (words_of xs)) apart) in
+    ap (map (λ (v : Variable). v.types)) (kept_variables types vs xs new) ∙ map-append (λ (v : Variable). v.types) vs (map (variable_in types) xs)
+    ∙ ap (λ us. map (λ (v : Variable). v.types) vs ++ us) (map-map (λ (v : Variable). v.types) (variable_in types) xs)
+
+-- and no more of them than fit
+pub few_variables : (count : ℕ) (words : List Placed) → count ≤ 16 → refused 25 (one_too_many count words) ≡ [] → count + length words ≤ 16
+few_variables count words low e = by (nat_le count 16) refl e
+  where
+    by : (b : Bool) → nat_le count 16 ≡ b → refused 25 (if b then one_after (16 - count) words else []) ≡ [] → count + length words ≤ 16
+    by true t f = omega (arith, within 25 (16 - count) words f, low)
+    by false t f = absurd (grind (arith, nat_tests))
+
+-- the fault of a variable whose name is in scope
+abbrev pub shadow_faults : List task.Name → Declared → List TypingFault
+shadow_faults names x = if is_known names x.name then refused_word x.file 20 x.name else []
+
+-- they are found one after another
+pub among_one_by_one : (names : List task.Name) (xs : List Declared) → flat_map (shadow_faults names) xs ≡ refused 20 (known_among names (words_of xs))
+among_one_by_one names [] = refl
+among_one_by_one names (x ∷ xs) = by (is_known names x.name) (among_one_by_one names xs)
+  where
+    by : (b : Bool) → flat_map (shadow_faults names) xs ≡ refused 20 (known_among names (words_of xs))
+        → (if b then refused_word x.file 20 x.name else []) ++ flat_map (shadow_faults names) xs
+        ≡ refused 20 (cond b (record { file = x.file; word = x.name } ∷ known_among names (words_of xs)) (known_among names (words_of xs)))
+    by true e = ap (λ fs. refused_word x.file 20 x.name ++ fs) e
+    by false e = e
+
+-- lists that begin with one another
+pub begins_further : (before middle after : List (Vec ℕ × TypeUnion)) → BeginsWith before middle → BeginsWith middle after → BeginsWith before after
+begins_further before middle after first second = (first.0 ++ second.0, second.1 ∙ ap (λ vs. vs ++ second.0) first.1 ∙ append_assoc before first.0 second.0)
+
+-- and the first of them again
+pub taken_again : (before after : List (Vec ℕ × TypeUnion)) → BeginsWith before after → take (length before) after ≡ before
+taken_again before after begins = ap (take (length before)) begins.1 ∙ taken before begins.0
+  where
+    taken : {X : Type 0} (xs ys : List X) → take (length xs) (xs ++ ys) ≡ xs
+    taken [] ys = refl
+    taken (x ∷ xs) ys = ap (λ zs. x ∷ zs) (taken xs ys)
 
 -- ---- types
 

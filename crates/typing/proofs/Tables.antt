@@ -1,5 +1,5 @@
 -- What a look-up in a table of names says of the names.
-use Rattle.std.proofs.Common.{◌==◌, ◌≤◌, arith, slice_get, ◌≡◌, ℕ, ◌+◌, Bool, true, false, cond, List, [], ◌∷◌, ◌++◌, map, length, refl, ap, sym, subst, ◌∙◌, Option, None, Some, if◌then◌else◌, nat_eq, not, is_some, ◌||◌, true≢false, drop, get_or, ◌<◌}
+use Rattle.std.proofs.Common.{◌==◌, ◌≤◌, arith, slice_get, ◌≡◌, ℕ, ◌+◌, Bool, true, false, cond, List, [], ◌∷◌, ◌++◌, map, length, refl, ap, sym, ◌∙◌, Option, None, Some, if◌then◌else◌, nat_eq, not, is_some, ◌||◌, true≢false, drop, get_or, ◌<◌}
 use Rattle.std.proofs.lemmas.Bool.Decides.{nat_tests}
 use Rattle.std.specs.Option.{option_map, option_map_or}
 use Rattle.std.specs.Global.{Vec}
@@ -242,7 +242,11 @@ pub table_end : {X S : Type 0} (made : X → S) (xs : List X) (i : ℕ) → leng
 table_end made xs i l shown whole h = sym (append-nil shown) ∙ ap (λ ys. shown ++ map made ys) (sym (drop_all i xs l)) ∙ h
 
 -- whether a name is among those that a table's entries show
+pub is_known-shown : {V S : Type 0} (shown : Vec ℕ × V → S) (label : S → List ℕ) (named : (e : Vec ℕ × V) → label (shown e) ≡ e.0.items)
+    (name : tree.Name) (q : List ℕ) → q ≡ folded name → (es : List (Vec ℕ × V)) → is_known (map label (map shown es)) name ≡ list_any (λ e. key_is q e.0) es
+is_known-shown shown label named name q is es =
+    sym (ap (λ ks. is_known ks name) (keys_in-named shown label named es)) ∙ is_known-folded name q is (keys_of es) ∙ list_any-map (key_is q) (λ e. e.0) es
+
 pub is_known-named : {V S : Type 0} (shown : Vec ℕ × V → S) (label : S → List ℕ) (named : (e : Vec ℕ × V) → label (shown e) ≡ e.0.items)
     (name : tree.Name) (key : Vec ℕ) → key.items ≡ folded name → (es : List (Vec ℕ × V)) → is_known (map label (map shown es)) name ≡ list_any (λ e. key_is key.items e.0) es
-is_known-named shown label named name key is es =
-    sym (ap (λ ks. is_known ks name) (keys_in-named shown label named es)) ∙ is_known-folded name key.items is (keys_of es) ∙ list_any-map (key_is key.items) (λ e. e.0) es
+is_known-named shown label named name key is es = is_known-shown shown label named name key.items is es

@@ -56,9 +56,7 @@ fn lone(
     ensures finds { OnOk result (Finds walk.old walk.new
         (typing.effect_literal_faults (file_of globals.now.file) (known_over globals.now variables.now.entries) (read.effect_literal_of given.now))) }
 {
-    Ok(Effect::Literal(literal(
-        alloc, walk, globals, variables, given,
-    )?))
+    Ok(Effect::Literal(literal(alloc, walk, globals, variables, given)?))
 }
 
 /// The literals under a condition.

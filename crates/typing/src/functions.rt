@@ -70,12 +70,7 @@ fn refuse_increases(walk: &mut Walk, file: TaskFile, increases: &[Increase<'_>])
 }
 
 /// The increases of an action after the first are refused, and the first too where the total cost is not declared.
-pub(crate) fn check_increases(
-    walk: &mut Walk,
-    file: TaskFile,
-    has_cost: bool,
-    action: &Action<'_>,
-)
+pub(crate) fn check_increases(walk: &mut Walk, file: TaskFile, has_cost: bool, action: &Action<'_>)
     ensures { Finds walk.old walk.new (typing.refused 23 (drop (if has_cost then 1 else 0) (typing.increase_words (file_of file) (read.action_of action.now)))) }
 {
     let increases = action.increases.as_slice();

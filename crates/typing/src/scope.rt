@@ -7,8 +7,8 @@ use crate::type_names::TypeNames;
 use crate::types::{all_below, is_below};
 use crate::walk::Walk;
 use crate::{
-    Atom, LiftedAtom, MAX_ARGUMENTS, ObjectId, Predicate, PredicateId, TaskFile, Term,
-    TypeId, TypeUnion, VariableId,
+    Atom, LiftedAtom, MAX_ARGUMENTS, ObjectId, Predicate, PredicateId, TaskFile, Term, TypeId,
+    TypeUnion, VariableId,
 };
 use arrayvec::ArrayVec;
 use faults::{Code, NoMemory};

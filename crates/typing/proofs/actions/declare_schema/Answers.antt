@@ -1,7 +1,6 @@
 use Rattle.std.proofs.Common.{◌≡◌, ◌∙◌, map, refl, ap}
-use Rattle.typing.specs.Walk.{found, least_of}
 use Rattle.typing.specs.TaskParts as parts
-use Rattle.typing.specs.Scope.{known_of, names_in}
+use Rattle.typing.specs.Scope.{known_outside}
 use Rattle.pddl_tree.specs.Tree as read
 use Rattle.model.specs.Task as task
 use Rattle.model.specs.Typing as typing
@@ -16,8 +15,8 @@ returns-clause-names c =
 pub returns-clause-added : goal.returns-clause-added
 returns-clause-added c = λ new.
     let key = c.in_ok-key.key in let schema = c.in_ok-schema.schema in let shape = c.in_ok-schema.ensures.shape in
-    let made = typing.schema_in (known_of c.args.scope.now) (read.action_of c.args.action.now) in
+    let made = typing.schema_in (known_outside c.args.globals.now) (read.action_of c.args.action.now) in
     let shows : parts.schema_of (key, schema) ≡ made =
-    λ j. record { name = c.in_ok-key.ensures.ok j; parameters = (shape j).0; precondition = (shape j).1; effect = (shape j).2 } in
+    λ j. record { name = c.in_ok-key.ensures.ok j; parameters = (shape j).0; precondition = (shape j).1; effect = (shape j).2; cost = (shape j).3 } in
     ap (map parts.schema_of) c.in_ok-insert.ensures.entries
     ∙ tables.shown-insert parts.schema_of (λ s. s.name) (λ e. refl) (read.name_of c.args.action.now.name) key c.in_ok-key.ensures.ok schema made shows c.args.schemas.now.entries new

@@ -2,7 +2,7 @@ use Rattle.std.proofs.Common.{◌≡◌, ◌∙◌, List, [], ◌++◌, map, Non
 use Rattle.std.specs.List.{flat_map}
 use Rattle.typing.specs.Walk.{found, least_of}
 use Rattle.typing.specs.TaskParts as parts
-use Rattle.typing.specs.Scope.{known_of, names_in}
+use Rattle.typing.specs.Scope.{known_outside}
 use Rattle.pddl_tree.specs.Tree as read
 use Rattle.model.specs.Trees.{domain_file}
 use Rattle.model.specs.Task as task
@@ -20,7 +20,7 @@ returns c =
     let xs = c.as_slice-actions.result.now in
     let ys = c.args.domain.now.actions.items in
     let schemas = c.in_ok-schemas.schemas in
-    let known = known_of c.args.scope.now in
+    let known = known_outside c.args.globals.now in
     let faults = typing.action_faults known (map read.action_of ys) in
     let whole = map (typing.schema_in known) (map read.action_of ys) in
     let placed_as = λ (a : Action). typing.placed domain_file (read.name_of a.name) in

@@ -1,7 +1,7 @@
 use Rattle.std.proofs.Common.{map}
-use Rattle.typing.specs.Walk.{found, least_of}
+use Rattle.typing.specs.Walk.{least_of}
 use Rattle.typing.specs.TaskParts as parts
-use Rattle.typing.specs.Scope.{known_of, names_in}
+use Rattle.typing.specs.Scope.{known_outside}
 use Rattle.pddl_tree.specs.Tree as read
 use Rattle.model.specs.Trees.{domain_file}
 use Rattle.model.specs.Task as task
@@ -14,7 +14,7 @@ use Rattle.typing.proofs.actions.table.Goals as goal
 pub loop-action-preserved : goal.loop-action-preserved
 loop-action-preserved c =
     let xs = c.args.actions.now in let i = c.loop-action.action-index in let x = c.action-item.result in
-    let known = known_of c.args.scope.now in
+    let known = known_outside c.args.globals.now in
     let placed_as = λ (a : Action). typing.placed domain_file (read.name_of a.name) in
     let made = λ (a : Action). typing.schema_in known (read.action_of a) in
     let before = map parts.schema_of c.loop-action.schemas.entries in

@@ -2,7 +2,7 @@ use Rattle.std.proofs.Common.{◌≡◌, [], ◌++◌, map, drop}
 use Rattle.std.specs.List.{flat_map}
 use Rattle.typing.specs.Walk.{found, least_of}
 use Rattle.typing.specs.TaskParts as parts
-use Rattle.typing.specs.Scope.{known_of, names_in}
+use Rattle.typing.specs.Scope.{known_outside}
 use Rattle.pddl_tree.specs.Tree as read
 use Rattle.model.specs.Trees.{domain_file}
 use Rattle.model.specs.Task as task
@@ -11,10 +11,10 @@ use Rattle.typing.proofs.actions.table.Given as goal
 
 abbrev pub invariant-loop-action : goal.invariant-loop-action
 invariant-loop-action l = record {
-  finds : found (least_of l.walk) (flat_map (λ a. typing.schema_faults (known_of l.scope) (read.action_of a)) (drop l.action-index l.actions))
-      ≡ found (least_of l.initial.walk) (flat_map (λ a. typing.schema_faults (known_of l.scope) (read.action_of a)) l.actions);
+  finds : found (least_of l.walk) (flat_map (λ a. typing.schema_faults (known_outside l.globals) (read.action_of a)) (drop l.action-index l.actions))
+      ≡ found (least_of l.initial.walk) (flat_map (λ a. typing.schema_faults (known_outside l.globals) (read.action_of a)) l.actions);
   table : typing.repeated_after [] (map (λ a. typing.placed domain_file (read.name_of a.name)) l.actions) ≡ []
       → (typing.repeated_after (map (λ s. s.name) (map parts.schema_of l.schemas.entries)) (map (λ a. typing.placed domain_file (read.name_of a.name)) (drop l.action-index l.actions)) ≡ [])
-      × (map parts.schema_of l.schemas.entries ++ map (λ a. typing.schema_in (known_of l.scope) (read.action_of a)) (drop l.action-index l.actions)
-      ≡ map (λ a. typing.schema_in (known_of l.scope) (read.action_of a)) l.actions);
+      × (map parts.schema_of l.schemas.entries ++ map (λ a. typing.schema_in (known_outside l.globals) (read.action_of a)) (drop l.action-index l.actions)
+      ≡ map (λ a. typing.schema_in (known_outside l.globals) (read.action_of a)) l.actions);
 }

@@ -1,4 +1,4 @@
-use Rattle.std.proofs.Common.{◌≡◌, ◌∙◌, ◌<◌, ◌≤◌, ◌++◌, ◌-◌, ◌+◌, length, map, ap, arith}
+use Rattle.std.proofs.Common.{◌≡◌, ◌∙◌, ◌++◌, ◌-◌, ◌+◌, length, map, ap, arith}
 use Rattle.std.proofs.lemmas.List.{length-map, map_push}
 use Rattle.typing.specs.TaskParts as parts
 use Rattle.model.specs.Typing as typing

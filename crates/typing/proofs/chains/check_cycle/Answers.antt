@@ -1,4 +1,4 @@
-use Rattle.std.proofs.Common.{◌∙◌, Bool, not, [], ap, if◌then◌else◌}
+use Rattle.std.proofs.Common.{◌∙◌, Bool, [], ap, if◌then◌else◌}
 use Rattle.typing.specs.TypedLists.{declared_of}
 use Rattle.typing.specs.Walk.{found, least_of}
 use Rattle.model.specs.Typing as typing

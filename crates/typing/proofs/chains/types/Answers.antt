@@ -1,11 +1,9 @@
-use Rattle.std.proofs.Common.{◌≡◌, ◌∙◌, [], ◌∷◌, codes, map, None, ap, sym}
+use Rattle.std.proofs.Common.{◌≡◌, ◌∙◌, [], ◌∷◌, codes, map, None, ap}
 use Rattle.std.proofs.lemmas.Result.{IfOk-weaker}
 use Rattle.typing.specs.TaskParts as parts
-use Rattle.typing.specs.TypedLists.{declared_of, placed_of}
+use Rattle.typing.specs.TypedLists.{declared_of}
 use Rattle.typing.specs.Scope.{names_in}
 use Rattle.typing.specs.Walk.{found, least_of}
-use Rattle.pddl_tree.specs.Tree as read
-use Rattle.model.specs.Task as task
 use Rattle.model.specs.Typing as typing
 use Rattle.typing.specs.Chains.{AreTypes, cycles}
 use Rattle.typing.proofs.Tells as telling

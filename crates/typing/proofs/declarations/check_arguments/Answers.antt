@@ -1,4 +1,4 @@
-use Rattle.std.proofs.Common.{◌≡◌, ◌∙◌, ◌++◌, List, ap, map}
+use Rattle.std.proofs.Common.{◌∙◌, ◌++◌, List, ap, map}
 use Rattle.typing.specs.TypedLists.{declared_of}
 use Rattle.typing.specs.Walk.{found, least_of}
 use Rattle.typing.specs.Scope.{names_in}

@@ -1,5 +1,5 @@
 use Rattle.std.proofs.Common.{map}
-use Rattle.typing.specs.Walk.{found, least_of}
+use Rattle.typing.specs.Walk.{least_of}
 use Rattle.typing.specs.TaskParts as parts
 use Rattle.typing.specs.Scope.{names_in}
 use Rattle.pddl_tree.specs.Tree as read

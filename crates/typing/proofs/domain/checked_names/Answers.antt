@@ -1,7 +1,6 @@
-use Rattle.std.proofs.Common.{◌≡◌, ◌≤◌, ◌∙◌, List, [], ◌∷◌, ◌++◌, codes, fold, map, length, None, ap, sym, arith}
+use Rattle.std.proofs.Common.{◌≡◌, ◌≤◌, ◌∙◌, List, [], ◌∷◌, ◌++◌, codes, fold, length, None, ap, arith}
 use Rattle.std.proofs.lemmas.List.{length-map}
 use Rattle.typing.specs.Scope.{names_in}
-use Rattle.typing.specs.TypedLists.{declared_of}
 use Rattle.typing.specs.Walk.{found, least_of}
 use Rattle.pddl_tree.specs.Tree as read
 use Rattle.model.specs.Typing as typing

@@ -1,10 +1,8 @@
-use Rattle.std.proofs.Common.{◌≡◌, ◌≤◌, ◌∙◌, List, [], ◌++◌, map, length, None, ap, sym, arith}
+use Rattle.std.proofs.Common.{◌≡◌, ◌≤◌, ◌∙◌, [], ◌++◌, map, length, None, ap, arith}
 use Rattle.typing.specs.Walk.{found, least_of}
 use Rattle.typing.specs.TaskParts as parts
 use Rattle.typing.specs.TypedLists.{declared_of}
 use Rattle.typing.specs.Scope.{names_in}
-use Rattle.pddl_tree.specs.Tree as read
-use Rattle.model.specs.Task as task
 use Rattle.model.specs.Typing as typing
 use Rattle.std.proofs.lemmas.List.{length-map}
 use Rattle.typing.proofs.Found as finding

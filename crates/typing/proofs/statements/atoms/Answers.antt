@@ -1,10 +1,9 @@
 use Rattle.std.proofs.Common.{map, refl}
 use Rattle.typing.specs.Task.{file_of}
-use Rattle.typing.specs.Walk.{found, least_of}
+use Rattle.typing.specs.Walk.{least_of}
 use Rattle.typing.specs.TaskParts as parts
 use Rattle.typing.specs.Scope.{known_of, narrow_atoms_in}
 use Rattle.pddl_tree.specs.Tree as read
-use Rattle.model.specs.Task as task
 use Rattle.model.specs.Typing as typing
 use Rattle.pddl_tree.specs.declared.tree.Fact.{Fact}
 use Rattle.typing.proofs.Found as finding

@@ -5,7 +5,6 @@ use Rattle.typing.specs.Walk.{found, least_of}
 use Rattle.typing.specs.TaskParts as parts
 use Rattle.typing.specs.Scope.{known_of, narrow_atoms_in}
 use Rattle.pddl_tree.specs.Tree as read
-use Rattle.model.specs.Task as task
 use Rattle.model.specs.Typing as typing
 use Rattle.typing.proofs.statements.atoms.Given as goal
 

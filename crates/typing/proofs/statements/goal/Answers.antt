@@ -1,6 +1,6 @@
 use Rattle.std.proofs.Common.{◌≡◌, ◌∙◌, None, ap}
 use Rattle.typing.specs.Task.{file_of}
-use Rattle.typing.specs.Scope.{known_of}
+use Rattle.typing.specs.Scope.{known_outside, known_over}
 use Rattle.typing.specs.Walk.{found, least_of}
 use Rattle.typing.specs.TaskParts as parts
 use Rattle.pddl_tree.specs.Tree as read
@@ -10,11 +10,13 @@ use Rattle.typing.proofs.statements.goal.Goals as goal
 
 pub returns : goal.returns
 returns c =
-    let known = known_of c.args.scope.now in
+    let g = c.args.globals.now in let file = file_of g.file in
+    let is = ap (known_over g) c.new-variables.ensures.empty in
     let read_goal = read.formula_of c.args.problem.now.goal in
-    let faults = typing.formula_faults (file_of c.args.scope.now.file) known read_goal in
-    let total : least_of c.formula.new.walk ≡ found None faults = c.in_ok-goal.ensures.finds ∙ ap (λ o. found o faults) c.new-walk.ensures in
+    let faults = typing.formula_faults file (known_outside g) read_goal in
+    let total : least_of c.formula.new.walk ≡ found None faults =
+    c.in_ok-goal.ensures.finds ∙ ap (λ k. found (least_of c.new-walk.result) (typing.formula_faults file k read_goal)) is ∙ ap (λ o. found o faults) c.new-walk.ensures in
     record {
-      ok = telling.given (λ f. parts.formula_of f ≡ typing.formula_in known read_goal) c.in_ok-goal.goal faults _ total (λ _. c.in_ok-goal.ensures.value) c.finish.result c.finish.ensures.none;
+      ok = telling.given (λ f. parts.formula_of f ≡ typing.formula_in file (known_outside g) read_goal) c.in_ok-goal.goal faults _ total (λ _. c.in_ok-goal.ensures.value ∙ ap (λ k. typing.formula_in file k read_goal) is) c.finish.result c.finish.ensures.none;
       err = telling.tells_result faults _ total c.finish.result c.finish.ensures.some;
     }

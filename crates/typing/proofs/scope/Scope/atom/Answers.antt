@@ -1,9 +1,8 @@
-use Rattle.std.proofs.Common.{◌≡◌, ◌∙◌, ◌++◌, map, take, length, ap, sym, arith}
+use Rattle.std.proofs.Common.{◌≡◌, ◌∙◌, map, take, length, ap, sym}
 use Rattle.std.proofs.lemmas.List.{length-map}
 use Rattle.typing.specs.Task.{file_of}
 use Rattle.typing.specs.Scope.{arguments_at, known_of}
 use Rattle.typing.specs.Walk.{found, least_of}
-use Rattle.typing.specs.TaskParts as parts
 use Rattle.pddl_tree.specs.Tree as read
 use Rattle.model.specs.Trees as tree
 use Rattle.model.specs.Typing as typing

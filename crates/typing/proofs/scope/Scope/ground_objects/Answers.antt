@@ -1,8 +1,8 @@
-use Rattle.std.proofs.Common.{◌∙◌, [], ◌∷◌, ◌++◌, map, take, ap, sym, refl, arith}
+use Rattle.std.proofs.Common.{◌∙◌, map, take, ap, arith}
 use Rattle.std.proofs.lemmas.List.{take_all}
 use Rattle.typing.specs.Task.{file_of}
 use Rattle.typing.specs.Scope.{arguments_at, known_of}
-use Rattle.typing.specs.Walk.{found, least_of}
+use Rattle.typing.specs.Walk.{least_of}
 use Rattle.typing.specs.TaskParts as parts
 use Rattle.pddl_tree.specs.Tree as read
 use Rattle.model.specs.Trees as tree

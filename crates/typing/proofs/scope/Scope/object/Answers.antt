@@ -1,8 +1,8 @@
-use Rattle.std.proofs.Common.{◌≡◌, ◌∙◌, Bool, [], ◌∷◌, if◌then◌else◌, is_some, map, ap, sym, refl, arith}
+use Rattle.std.proofs.Common.{◌≡◌, ◌∙◌, Bool, [], if◌then◌else◌, is_some, map, ap, refl, arith}
 use Rattle.std.specs.Option.{option_map, option_map_or}
 use Rattle.std.specs.Map.{keys_of}
 use Rattle.std.proofs.lemmas.List.{length-map}
-use Rattle.model.specs.Typing.{refused_word, number_in, is_known, unknown_faults, names_of_objects}
+use Rattle.model.specs.Typing.{refused_word, number_in, is_known, names_of_objects}
 use Rattle.pddl_tree.specs.Tree.{name_of}
 use Rattle.typing.specs.Task.{file_of, refusal_of}
 use Rattle.typing.specs.TaskParts.{object_entry_of}

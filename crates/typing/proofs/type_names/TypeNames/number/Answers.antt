@@ -1,6 +1,6 @@
-use Rattle.std.proofs.Common.{◌∙◌, Some, None, refl, ap, sym, arith}
+use Rattle.std.proofs.Common.{◌∙◌, Some, None, refl}
 use Rattle.pddl_tree.specs.Tree.{name_of}
-use Rattle.typing.proofs.Tables.{told_of_place, number_in-le}
+use Rattle.typing.proofs.Tables.{told_of_place}
 use Rattle.typing.proofs.type_names.TypeNames.number.Goals as goal
 
 pub returns-in-Some : goal.returns-in-Some

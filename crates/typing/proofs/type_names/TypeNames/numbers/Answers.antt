@@ -1,7 +1,6 @@
-use Rattle.std.proofs.Common.{◌∙◌, [], ◌∷◌, ◌++◌, map, refl, ap, sym}
+use Rattle.std.proofs.Common.{◌∙◌, [], ◌∷◌, ◌++◌, map, ap, sym}
 use Rattle.std.proofs.lemmas.List.{map_push, map_more}
 use Rattle.typing.specs.TaskParts as parts
-use Rattle.typing.specs.TypedLists.{declared_of}
 use Rattle.typing.specs.Scope.{names_in}
 use Rattle.pddl_tree.specs.Tree as read
 use Rattle.model.specs.Typing as typing

@@ -1,4 +1,4 @@
-use Rattle.std.proofs.Common.{◌∙◌, [], ◌∷◌, ◌++◌, map, refl, ap, sym}
+use Rattle.std.proofs.Common.{◌∙◌, [], ◌∷◌, ◌++◌, map, ap, sym}
 use Rattle.std.proofs.lemmas.List.{map_push, map_more}
 use Rattle.typing.specs.TaskParts as parts
 use Rattle.typing.specs.TypedLists.{declared_of}

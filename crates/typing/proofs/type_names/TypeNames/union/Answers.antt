@@ -1,4 +1,4 @@
-use Rattle.std.proofs.Common.{◌≡◌, ◌==◌, ◌∙◌, ℕ, true, false, List, [], ◌∷◌, map, length, refl, sym, true≢false}
+use Rattle.std.proofs.Common.{◌≡◌, ◌==◌, ◌∙◌, false, List, [], ◌∷◌, map, length, refl, sym, true≢false}
 use Rattle.typing.specs.Scope.{names_in}
 use Rattle.pddl_tree.specs.Tree as read
 use Rattle.pddl_words.specs.declared.name.Name.{Name}
