@@ -1,3 +1,4 @@
 pub mod State
 pub mod Equality
 pub mod Literals
+pub mod Changes
