@@ -1,4 +1,4 @@
--- States, instances and plans of the code, in the model's terms, and when objects may stand for parameters.
+-- States, instances and plans of the code, in the model's terms, and when objects may stand for variables.
 use Rattle.std.specs.Prelude.{ℕ, Bool, true, nat_lt, IsTrue, List, map}
 use Rattle.std.specs.Cmp.Lexicographic.{pointwise}
 use Rattle.std.specs.FinSet.{from_list}

@@ -9,7 +9,8 @@ ghost use Rattle.model.specs.Meaning as meaning;
 use arrayvec::ArrayVec;
 use typing::{MAX_VARIABLES, ObjectId, SchemaId, Task, TypeUnion};
 
-/// The objects of a schema's parameters, in order.
+/// The objects of the variables in scope, in order: first those of a schema's parameters, then those of the quantifiers
+/// around.
 pub type Binding = ArrayVec<ObjectId, MAX_VARIABLES>;
 
 /// An action: a schema with an object for each of its parameters.
