@@ -1,4 +1,4 @@
-use Rattle.std.proofs.Common.{◌≡◌, ◌∙◌, ◌++◌, ◌∷◌, [], map, ap, sym}
+use Rattle.std.proofs.Common.{◌∙◌, ◌++◌, map, ap, sym}
 use Rattle.std.proofs.lemmas.List.{map_push}
 use Rattle.std.specs.Option.{option_to_list}
 use Rattle.typing.specs.TaskParts as parts
