@@ -1,6 +1,7 @@
 -- What the walks over functions, the metric and the costs at the start find.
-use Rattle.std.proofs.Common.{◌≡◌, ◌∙◌, Bool, true, false, not, ◌==◌, List, [], ◌∷◌, map, drop, length, slice_get, is_some, Option, None, Some, refl, ap, Bor, if◌then◌else◌}
+use Rattle.std.proofs.Common.{◌≡◌, ◌∙◌, Bool, true, false, not, ◌==◌, List, [], ◌∷◌, map, drop, length, slice_get, is_some, Option, None, Some, refl, ap, Bor, arith, if◌then◌else◌}
 use Rattle.std.specs.Option.{option_map, option_map_or, option_copied}
+use Rattle.std.proofs.lemmas.Bool.{eqb-true}
 use Rattle.pddl_words.specs.declared.name.Name.{Name}
 use Rattle.pddl_tree.specs.Tree.{name_of}
 use Rattle.model.specs.Trees.{File, problem_file}
@@ -11,7 +12,11 @@ use Rattle.typing.specs.Walk.{found}
 -- a function is declared where the list of them is not empty
 pub declares_some : (words : List Name) → not (length words == 0) ≡ is_some (slice_get (map name_of words) 0)
 declares_some [] = refl
-declares_some (word ∷ words) = refl
+declares_some (word ∷ words) = by (length (word ∷ words) == 0) refl
+  where
+    by : (b : Bool) → (length (word ∷ words) == 0) ≡ b → not b ≡ true
+    by true e = absurd (omega (arith, eqb-true (length (word ∷ words)) 0 e))
+    by false e = refl
 
 -- what is found of the metric
 abbrev pub metric_faults : Bool → Option tree.Name → List TypingFault

@@ -1,5 +1,5 @@
 -- The parts of a conjunction as a list: what they are resolved to, and what is found in them.
-use Rattle.std.proofs.Common.{◌≡◌, ℕ, ◌≤◌, List, [], ◌∷◌, ◌++◌, map, length, take, drop, Option, refl, sym, ap, ◌∙◌}
+use Rattle.std.proofs.Common.{◌≡◌, List, [], ◌∷◌, ◌++◌, map, Option, refl, sym, ap, ◌∙◌}
 use Rattle.std.specs.Global.{Vec}
 use Rattle.std.specs.List.{flat_map}
 use mathlib.Core.Former.{Count}
@@ -13,7 +13,6 @@ use Rattle.model.specs.Task as task
 use Rattle.model.specs.Trees.{File, formulas}
 use Rattle.model.specs.Typing.{Known, TypingFault, formula_in, formulas_in, formula_faults, formulas_faults, exists_each, forall_each}
 use Rattle.typing.specs.Walk.{found}
-use Rattle.typing.proofs.Found.{map_to_end, found_to_end}
 
 -- ---- formulas
 

@@ -12,7 +12,7 @@ use Rattle.typing.specs.Scope.{names_in, narrow_atoms_in}
 use Rattle.typing.specs.TaskParts.{atom_of, formula_of, object_entry_of, predicate_of, schema_of, type_entry_of}
 use Rattle.model.specs.Trees as tree
 use Rattle.model.specs.Trees.{File}
-use Rattle.model.specs.Typing.{first_filled, init_faults, formula_faults, function_faults, domain_name_faults, type_declaration_faults, cycle_faults, object_faults, declaration_faults, action_faults, type_names, types_of, constants_of, objects_of, predicates_of, declares_cost, known_in_domain, schema_in, formula_in, Known, TypingFault}
+use Rattle.model.specs.Typing.{first_filled, init_faults, formula_faults, function_faults, domain_name_faults, type_declaration_faults, cycle_faults, object_faults, declaration_faults, action_faults, type_names, types_of, objects_of, predicates_of, declares_cost, known_in_domain, schema_in, formula_in, Known, TypingFault}
 
 -- the faults of the types: those of the first phase that has any
 abbrev pub type_faults_of : tree.Domain → tree.Problem → List TypingFault

@@ -1,4 +1,4 @@
-use Rattle.std.proofs.Common.{◌≡◌, ◌∙◌, ◌++◌, List, [], map, drop, not, is_some, slice_get, None, ap, sym}
+use Rattle.std.proofs.Common.{◌≡◌, ◌∙◌, ◌++◌, List, map, drop, not, is_some, slice_get, None, ap, sym}
 use Rattle.typing.specs.Walk.{found, least_of}
 use Rattle.pddl_words.specs.declared.name.Name.{Name}
 use Rattle.pddl_tree.specs.Tree as read

@@ -1,4 +1,4 @@
-use Rattle.std.proofs.Common.{◌∙◌, ◌+◌, ap, sym, map, drop, if◌then◌else◌}
+use Rattle.std.proofs.Common.{◌≡◌, ◌∙◌, ◌∷◌, ◌+◌, ap, sym, map, drop, if◌then◌else◌}
 use Rattle.std.proofs.lemmas.List.{drop_more, drop_all}
 use Rattle.typing.specs.Task.{file_of}
 use Rattle.typing.specs.Walk.{found, least_of}
@@ -9,9 +9,10 @@ use Rattle.typing.proofs.statements.check_all_equals.Goals as goal
 
 pub loop-fact-preserved : goal.loop-fact-preserved
 loop-fact-preserved c =
-    let xs = c.args.facts.now in let i = c.loop-fact.fact-index in
+    let xs = c.args.facts.now in let i = c.loop-fact.fact-index in let x = c.fact-item.result in
+    let split : drop i xs ≡ x ∷ drop (i + 1) xs = drop_more xs i x c.loop-fact-test.true ∙ ap (λ y. y ∷ drop (i + 1) xs) (sym c.fact-item.is) in
     c.check_equals-none_yet.ensures (map read.fact_of (drop (i + 1) xs))
-    ∙ ap (λ ys. found (least_of c.loop-fact.walk) (typing.refused 23 (drop (if c.loop-fact.none_yet then 1 else 0) (typing.equals_in (file_of c.args.file) (map read.fact_of ys))))) (sym (drop_more xs i _ c.loop-fact-test.true))
+    ∙ ap (λ ys. found (least_of c.loop-fact.walk) (typing.refused 23 (drop (if c.loop-fact.none_yet then 1 else 0) (typing.equals_in (file_of c.args.file) (map read.fact_of ys))))) (sym split)
     ∙ c.loop-fact.invariant
 
 pub returns : goal.returns

@@ -9,7 +9,7 @@ use Rattle.faults.proofs.Results.{passed_on}
 use Rattle.typing.proofs.names.Names.of_objects.Goals.{In_ok-predicates, In_ok-has_cost}
 use Rattle.typing.proofs.names.Names.of_objects.Goals as goal
 
-predicates : (c : In_ok-predicates) → map parts.predicate_of c.in_ok-predicates.predicates.entries ≡ predicates_of (domain_of c.args.domain.now)
+predicates : (c : In_ok-has_cost) → map parts.predicate_of c.in_ok-predicates.predicates.entries ≡ predicates_of (domain_of c.args.domain.now)
 predicates c = c.in_ok-predicates.ensures.ok.1 ∙ ap (λ ns. map (predicate_in ns) (domain_of c.args.domain.now).predicates) c.requires.types.names
 
 -- what may be named in the domain
@@ -17,7 +17,7 @@ same : (c : In_ok-has_cost) → known_in c.args.types c.args.objects.constants.e
 same c = λ i. record {
   type_names = c.requires.types.names i;
   types = c.requires.types.all i;
-  predicates = predicates c.In_ok-predicates i;
+  predicates = predicates c i;
   variables = [];
   objects = c.requires.objects.constants i;
   has_cost = c.in_ok-has_cost.ensures.ok.1 i;
@@ -42,23 +42,23 @@ returns-in_err-has_cost-clause-err c =
 
 pub returns-in_err-schemas-clause-err : goal.returns-in_err-schemas-clause-err
 returns-in_err-schemas-clause-err c =
-    let s = (goal.at.returns-in_err-schemas-clause-err c).In_ok-has_cost in
+    let s = (goal.at.returns-in_err-schemas-clause-err c).In_ok-has_cost in let before = (goal.at.returns-in_err-schemas-clause-err c).In_ok-predicates in
     let d = domain_of c.args.domain.now in let p = problem_of c.args.problem.now in let e = c.in_err-schemas.field-0.0 in
     let told = subst (λ k. TellsLeastOf (action_faults k d.actions) e) (same s) c.in_err-schemas.ensures.err in
     passed_on (TellsLeastOf (domain_faults d p)) c.from_residual-in_err-schemas.result e c.from_residual-in_err-schemas.ensures.1
-    (tells_later (declaration_faults (type_names d) d.predicates) _ (none s.In_ok-predicates) e
+    (tells_later (declaration_faults (type_names d) d.predicates) _ (none before) e
     (tells_later (function_faults d p) _ c.in_ok-has_cost.ensures.ok.0 e (tells_here (action_faults (known_in_domain d) d.actions) _ e told)))
 
 pub returns-clause-ok : goal.returns-clause-ok
 returns-clause-ok c =
-    let s = (goal.at.returns-clause-ok c).In_ok-has_cost in
+    let s = (goal.at.returns-clause-ok c).In_ok-has_cost in let before = (goal.at.returns-clause-ok c).In_ok-predicates in
     let d = domain_of c.args.domain.now in
     let actions = ap (λ k. action_faults k d.actions) (sym (same s)) ∙ c.in_ok-schemas.ensures.ok.right in (
-      λ i. first_filled (none s.In_ok-predicates i ∷ c.in_ok-has_cost.ensures.ok.0 i ∷ actions i ∷ []),
+      λ i. first_filled (none before i ∷ c.in_ok-has_cost.ensures.ok.0 i ∷ actions i ∷ []),
       record {
         types = c.requires.types;
         objects = c.requires.objects.all;
-        predicates = predicates s.In_ok-predicates;
+        predicates = predicates s;
         has_cost = c.in_ok-has_cost.ensures.ok.1;
         schemas = c.in_ok-schemas.ensures.ok.schemas ∙ ap (λ k. map (schema_in k) d.actions) (same s);
       },
