@@ -91,7 +91,7 @@ carry_out-returns-in_ok-carry_out_literals-in-When t c =
     let s = state_of c.args.next.now in
     c.in_ok-carry_out_literals-in-When.ensures
     ∙ ap (after_some c.args.adds s)
-    (sym (literals_when (task_of c.args.task.now) (state_of c.args.before.now) (map object_of c.args.binding.now.items) c.args.effect.now c.in-When.condition c.in-When.literals c.deref.result.now c.in-When.is c.deref.ensures.value
+    (sym (literals_when (task_of c.args.task.now) (state_of c.args.before.now) (map object_of c.args.binding.now.items) c.args.effect.now c.in-When.condition c.in-When.literals c.deref-then-holds.result.now c.in-When.is c.deref-then-holds.ensures.value
     (sym c.holds.ensures ∙ c.if-holds.true)))
 
 pub carry_out-returns-else-holds : goal.carry_out-returns-else-holds
@@ -113,7 +113,7 @@ carry_out_for_each-returns t c =
     let binding = map object_of c.args.binding.now.items in
     let s = state_of c.args.next.now in
     let gives : ℕ → List Change = λ n. changes_of task part (binding ++ n ∷ []) in
-    let all : c.loop-number.number ≡ length task.objects = omega (arith, c.loop-number-test.false, c.object_count-number-end.ensures, c.loop-number.at_most) in
+    let all : c.loop-number.number ≡ length task.objects = omega (arith, c.loop-number-test.false, c.object_count-number-end.ensures, c.loop-number.auto) in
     c.loop-number.invariant.1
     ∙ ap (λ n. after_some c.args.adds s (flat_map (λ one. literals_in task state (gives one)) (among (is_of task (union_of c.args.types.now)) n))) all
     ∙ ap (after_some c.args.adds s) (sym (literals_in-each task state gives (objects_of task (union_of c.args.types.now))))
