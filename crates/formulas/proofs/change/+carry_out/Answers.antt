@@ -5,7 +5,7 @@ use Rattle.typing.specs.declared.schemas.Effect.{the_lemmas}
 use Rattle.typing.specs.Task.{task_of}
 use Rattle.formulas.specs.State.{state_of, FitsEffect}
 use Rattle.formulas.specs.Changes.{after_some}
-use Rattle.typing.specs.TaskParts.{object_of, effect_literal_of, effect_of, formula_of, union_of}
+use Rattle.typing.specs.TaskParts.{object_of, effect_of, union_of}
 use Rattle.model.specs.Meaning.{is_of, objects_of, Change, GroundLiteral, changes_of, literals_in}
 use Rattle.model.specs.WellTyped.{is_effect}
 use Rattle.model.proofs.Tests.{passes_at}
