@@ -4,6 +4,7 @@ pub mod Trees
 pub mod Tasks
 pub mod Quantifiers
 pub mod Changes
+pub mod ChangeLists
 pub mod Instances
 pub mod FluentPredicates
 pub mod Pointwise

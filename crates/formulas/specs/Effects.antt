@@ -1,9 +1,10 @@
 -- The code's changes one by one, in the model's terms.
-use Rattle.std.specs.Prelude.{List, [], map, slice_get, Option, None, Some}
+use Rattle.std.specs.Prelude.{List, [], map, slice_get, Option, Bor}
 use Rattle.std.specs.Option.{option_map_or}
 use Rattle.formulas.specs.declared.effects.GroundLiteral.{GroundLiteral}
 use Rattle.formulas.specs.declared.effects.GroundLiteral.TheVariants.{Adds, Deletes}
 use Rattle.formulas.specs.declared.effects.Change.{Change}
+use Rattle.typing.specs.declared.schemas.Formula.{Formula}
 use Rattle.typing.specs.TaskParts.{atom_of, object_of, formula_of}
 use Rattle.model.specs.Task as task
 use Rattle.model.specs.Meaning as meaning
@@ -13,7 +14,8 @@ ground_literal_of (Adds a) = meaning.adds (atom_of a)
 ground_literal_of (Deletes a) = meaning.deletes (atom_of a)
 
 -- without a condition it is `(and)`
-abbrev pub condition_of = λ o. option_map_or (λ f. formula_of f.now) o (task.and task.no_formula)
+abbrev pub condition_of : Option (Bor Formula) → task.Formula
+condition_of o = option_map_or (λ f. formula_of f.now) o (task.and task.no_formula)
 
 abbrev pub change_of : Change → meaning.Change
 change_of c = record {

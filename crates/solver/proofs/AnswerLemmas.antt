@@ -1,14 +1,12 @@
 -- What a list of instances that solves says of them.
-use Rattle.std.proofs.Common.{◌≡◌, ℕ, ◌≤◌, true, List, [], ◌∷◌, length, map, None, Some, refl, ◌∙◌, arith}
+use Rattle.std.proofs.Common.{◌≡◌, ℕ, ◌≤◌, ◌*◌, true, List, [], ◌∷◌, None, Some, refl, arith}
 use Rattle.std.specs.Prelude.{nat_le}
 use Rattle.std.specs.Option.{option_and_then}
 use Rattle.std.specs.List.{list_all}
 use Rattle.std.proofs.lemmas.Bool.{and_parts, and_from, lt-ltb, leb-true}
-use Rattle.std.proofs.lemmas.List.{length-map}
-use Rattle.std.proofs.lemmas.List.Sums.{sum_by-cons}
 use Rattle.solver.specs.Limit.{is_limit}
 use Rattle.model.specs.Task.{Task, Instance}
-use Rattle.model.specs.Runs.{run, cost_of_all, Solves}
+use Rattle.model.specs.Runs.{run, Solves}
 use Rattle.model.specs.Claims.{bound}
 use Rattle.model.specs.Meaning.{State, step, is_instance, system_of}
 use Rattle.model.specs.Certificates.{is_claim}
@@ -27,15 +25,9 @@ all_instances_run task (i ∷ plan) s end runs =
 pub all_instances_of_plan : (task : Task) (plan : List Instance) → Solves (system_of task) plan → list_all (is_instance task) plan ≡ true
 all_instances_of_plan task plan solves = all_instances_run task plan (system_of task).initial solves.0 solves.1
 
--- each step costs 1
-pub cost_is_length : (task : Task) (plan : List Instance) → cost_of_all (system_of task) plan ≡ length plan
-cost_is_length task [] = refl
-cost_is_length task (i ∷ plan) = sum_by-cons (system_of task).cost i plan ∙ omega (arith, cost_is_length task plan)
-
 pub most_of_limit : (limit : ℕ) → is_limit limit ≡ true → limit ≤ 16777216
 most_of_limit limit within = leb-true limit 16777216 (and_parts (nat_le 1 limit) (nat_le limit 16777216) within).1
 
--- a plan of so few steps is cheap
-pub cheap_plan : {X : Type 0} (task : Task) (view : X → Instance) (steps : List X) (cost : ℕ) → cost_of_all (system_of task) (map view steps) ≡ cost → length steps ≤ 16777216
-    → is_claim (bound cost) ≡ true
-cheap_plan task view steps cost costs few = lt-ltb cost 1152921504606846976 (omega (arith, costs, cost_is_length task (map view steps), length-map steps view))
+-- what is found among so few states is cheap
+pub cheap_plan : (cost count : ℕ) → cost ≤ count * 4294967295 → count ≤ 16777216 → is_claim (bound cost) ≡ true
+cheap_plan cost count cheap few = lt-ltb cost 1152921504606846976 (omega (arith, cheap, few))
