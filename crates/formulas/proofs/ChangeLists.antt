@@ -11,7 +11,7 @@ use Rattle.typing.specs.declared.schemas.Effect as effect
 use Rattle.typing.specs.TaskParts.{effect_literal_of, effect_of, formula_of, shape_of_schema}
 use Rattle.typing.proofs.Shapes.{Shape, found}
 use Rattle.formulas.specs.Effects.{changes_of_instance}
-use Rattle.formulas.proofs.Changes.{map_twice}
+use Rattle.formulas.proofs.CarriedOut.{map_twice}
 use Rattle.model.specs.Task as task
 use Rattle.model.specs.Meaning.{change_under, changes_of}
 

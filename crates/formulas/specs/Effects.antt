@@ -1,5 +1,6 @@
 -- The code's changes one by one, in the model's terms.
-use Rattle.std.specs.Prelude.{List, [], map, slice_get, Option, Bor}
+use Rattle.std.specs.Prelude.{List, [], map, slice_get, Option}
+use Rattle.std.specs.Borrow.{Bor}
 use Rattle.std.specs.Option.{option_map_or}
 use Rattle.formulas.specs.declared.effects.GroundLiteral.{GroundLiteral}
 use Rattle.formulas.specs.declared.effects.GroundLiteral.TheVariants.{Adds, Deletes}

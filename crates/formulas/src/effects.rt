@@ -40,8 +40,8 @@ pub fn changes<'t>(
     task: &'t Task,
     instance: &Instance,
 ) -> Result<Vec<Change<'t>>, NoMemory>
-    requires { IsTrue (is_instance (task_of task.entry.now) (instance_of instance.now)) }
-    ensures { IfOk result (λ found. map change_of found.items ≡ changes_of_instance (task_of task.entry.now) (instance_of instance.now)) }
+    requires { IsTrue (is_instance (task_of task.now) (instance_of instance.now)) }
+    ensures { IfOk result (λ found. map change_of found.items ≡ changes_of_instance (task_of task.now) (instance_of instance.now)) }
 {
     let Some(schema) = task.schema(instance.schema) else {
         return Ok(Vec::new(alloc));

@@ -9,7 +9,7 @@ use Rattle.typing.specs.TaskParts.{object_of, effect_of, union_of}
 use Rattle.model.specs.Meaning.{is_of, objects_of, Change, GroundLiteral, changes_of, literals_in}
 use Rattle.model.specs.WellTyped.{is_effect}
 use Rattle.model.proofs.Tests.{passes_at}
-use Rattle.formulas.proofs.Changes.{after-none, literals_by_parts, literals_in-each, carried_more, carried_whole, carried_with, carried_without, literals_when, no_literals_when}
+use Rattle.formulas.proofs.CarriedOut.{after-none, literals_by_parts, literals_in-each, carried_more, carried_whole, carried_with, carried_without, literals_when, no_literals_when}
 use Rattle.formulas.proofs.Trees.{typed_by_effects}
 use Rattle.formulas.proofs.Quantifiers.{among, one_more, one_less, extended_effect_fits}
 use Rattle.formulas.proofs.change.+carry_out.Goals.{carry_out_for_each-then-is_of+in_ok-carry_out, carry_out_for_each-else-is_of}

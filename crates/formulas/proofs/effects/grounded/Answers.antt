@@ -1,5 +1,5 @@
 use Rattle.typing.specs.Task.{task_of}
-use Rattle.formulas.proofs.Changes.{add_few, delete_few, add_bound, delete_bound}
+use Rattle.formulas.proofs.CarriedOut.{add_few, delete_few, add_bound, delete_bound}
 use Rattle.formulas.proofs.effects.grounded.Goals as goal
 
 pub ground_atom-requires-clause-few : goal.ground_atom-requires-clause-few
