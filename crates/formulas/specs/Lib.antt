@@ -2,3 +2,4 @@ pub mod State
 pub mod Equality
 pub mod Literals
 pub mod Changes
+pub mod Effects

@@ -5,11 +5,11 @@ use Rattle.typing.specs.declared.schemas.Effect.{the_lemmas}
 use Rattle.typing.specs.Task.{task_of}
 use Rattle.formulas.specs.State.{state_of, FitsEffect}
 use Rattle.formulas.specs.Changes.{after_some}
-use Rattle.typing.specs.TaskParts.{object_of, effect_literal_of, effect_of, formula_of, union_of}
+use Rattle.typing.specs.TaskParts.{object_of, effect_of, union_of}
 use Rattle.model.specs.Meaning.{is_of, objects_of, Change, GroundLiteral, changes_of, literals_in}
 use Rattle.model.specs.WellTyped.{is_effect}
 use Rattle.model.proofs.Tests.{passes_at}
-use Rattle.formulas.proofs.Changes.{after-none, literals_by_parts, literals_in-each, carried_more, carried_whole, carried_with, carried_without, literals_when, no_literals_when}
+use Rattle.formulas.proofs.CarriedOut.{after-none, literals_by_parts, literals_in-each, carried_more, carried_whole, carried_with, carried_without, literals_when, no_literals_when}
 use Rattle.formulas.proofs.Trees.{typed_by_effects}
 use Rattle.formulas.proofs.Quantifiers.{among, one_more, one_less, extended_effect_fits}
 use Rattle.formulas.proofs.change.+carry_out.Goals.{carry_out_for_each-then-is_of+in_ok-carry_out, carry_out_for_each-else-is_of}
@@ -91,7 +91,7 @@ carry_out-returns-in_ok-carry_out_literals-in-When t c =
     let s = state_of c.args.next.now in
     c.in_ok-carry_out_literals-in-When.ensures
     ∙ ap (after_some c.args.adds s)
-    (sym (literals_when (task_of c.args.task.now) (state_of c.args.before.now) (map object_of c.args.binding.now.items) c.args.effect.now c.in-When.condition c.in-When.literals c.deref.result.now c.in-When.is c.deref.ensures.value
+    (sym (literals_when (task_of c.args.task.now) (state_of c.args.before.now) (map object_of c.args.binding.now.items) c.args.effect.now c.in-When.condition c.in-When.literals c.deref-then-holds.result.now c.in-When.is c.deref-then-holds.ensures.value
     (sym c.holds.ensures ∙ c.if-holds.true)))
 
 pub carry_out-returns-else-holds : goal.carry_out-returns-else-holds
@@ -113,7 +113,7 @@ carry_out_for_each-returns t c =
     let binding = map object_of c.args.binding.now.items in
     let s = state_of c.args.next.now in
     let gives : ℕ → List Change = λ n. changes_of task part (binding ++ n ∷ []) in
-    let all : c.loop-number.number ≡ length task.objects = omega (arith, c.loop-number-test.false, c.object_count-number-end.ensures, c.loop-number.at_most) in
+    let all : c.loop-number.number ≡ length task.objects = omega (arith, c.loop-number-test.false, c.object_count-number-end.ensures, c.loop-number.auto) in
     c.loop-number.invariant.1
     ∙ ap (λ n. after_some c.args.adds s (flat_map (λ one. literals_in task state (gives one)) (among (is_of task (union_of c.args.types.now)) n))) all
     ∙ ap (after_some c.args.adds s) (sym (literals_in-each task state gives (objects_of task (union_of c.args.types.now))))

@@ -6,7 +6,7 @@ use Rattle.formulas.specs.Changes.{after_some}
 use Rattle.model.specs.Meaning.{ground_literal}
 use Rattle.model.specs.WellTyped.{is_effect_literal}
 use Rattle.model.proofs.Tests.{passes_at, passes_map}
-use Rattle.formulas.proofs.Changes.{after-none, carried_more, carried_whole, each_one}
+use Rattle.formulas.proofs.CarriedOut.{after-none, carried_more, carried_whole, each_one}
 use Rattle.formulas.proofs.change.carry_out_literals.Goals as goal
 
 pub loop-literal-init : goal.loop-literal-init

@@ -3,7 +3,7 @@ use Rattle.std.specs.FinSet.{insert, remove}
 use Rattle.typing.specs.Task.{task_of}
 use Rattle.typing.specs.TaskParts.{object_of}
 use Rattle.formulas.specs.State.{state_of}
-use Rattle.formulas.proofs.Changes.{add_few, delete_few, add_bound, delete_bound, add_added, add_left, delete_deleted, delete_left}
+use Rattle.formulas.proofs.CarriedOut.{add_few, delete_few, add_bound, delete_bound, add_added, add_left, delete_deleted, delete_left}
 use Rattle.formulas.proofs.change.carry_out_one.Goals as goal
 
 pub ground_atom-requires-clause-few : goal.ground_atom-requires-clause-few
