@@ -1,7 +1,7 @@
 -- The codes' numbers, and what a fault tells in the model's terms.
 use Rattle.std.specs.Prelude.{ℕ, ◌==◌, if◌then◌else◌, List, [], ◌∷◌, codes, Option, None, Some}
 use Rattle.faults.specs.declared.code.Code.{Code}
-use Rattle.faults.specs.declared.code.Code.TheVariants.{BadByte, BadWord, Unbalanced, TooDeep, TooLong, Trailing, BadForm, UnknownSection, RepeatedSection, MissingSection, UnknownRequirement, LeftOut, UnknownType, TypeCycle, Duplicate, UnknownName, WrongArity, WrongType, Shadowed, DomainMismatch, NegativeInit, TooMany, PlanForm, UnknownAction, StepArity, StepType}
+use Rattle.faults.specs.declared.code.Code.TheVariants.{BadByte, BadWord, Unbalanced, TooDeep, TooLong, Trailing, BadForm, UnknownSection, RepeatedSection, MissingSection, UnknownRequirement, LeftOut, NumberTooLarge, UnknownType, TypeCycle, Duplicate, UnknownName, WrongArity, WrongType, Shadowed, DomainMismatch, BadMetric, BadCost, NegativeInit, TooMany, PlanForm, UnknownAction, StepArity, StepType}
 use Rattle.faults.specs.declared.refused.Refusal.{Refusal}
 use Rattle.faults.specs.declared.refused.Refused.{Refused}
 use Rattle.faults.specs.declared.refused.Refused.TheVariants.{At, NoMemory}
@@ -20,6 +20,7 @@ number_of RepeatedSection = 9
 number_of MissingSection = 10
 number_of UnknownRequirement = 11
 number_of LeftOut = 12
+number_of NumberTooLarge = 13
 number_of UnknownType = 14
 number_of TypeCycle = 15
 number_of Duplicate = 16
@@ -28,6 +29,8 @@ number_of WrongArity = 18
 number_of WrongType = 19
 number_of Shadowed = 20
 number_of DomainMismatch = 21
+number_of BadMetric = 22
+number_of BadCost = 23
 number_of NegativeInit = 24
 number_of TooMany = 25
 number_of PlanForm = 30
@@ -50,6 +53,7 @@ names =
     (10, codes "MissingSection") ∷
     (11, codes "UnknownRequirement") ∷
     (12, codes "LeftOut") ∷
+    (13, codes "NumberTooLarge") ∷
     (14, codes "UnknownType") ∷
     (15, codes "TypeCycle") ∷
     (16, codes "Duplicate") ∷
@@ -58,6 +62,8 @@ names =
     (19, codes "WrongType") ∷
     (20, codes "Shadowed") ∷
     (21, codes "DomainMismatch") ∷
+    (22, codes "BadMetric") ∷
+    (23, codes "BadCost") ∷
     (24, codes "NegativeInit") ∷
     (25, codes "TooMany") ∷
     (30, codes "PlanForm") ∷

@@ -31,6 +31,8 @@ pub enum Code {
     UnknownRequirement = 11,
     /// A form of PDDL that is left out here.
     LeftOut = 12,
+    /// A number over 2,147,483,647.
+    NumberTooLarge = 13,
     /// A type that is neither `object` nor declared.
     UnknownType = 14,
     /// A type whose chain of parents comes back to it.
@@ -47,6 +49,10 @@ pub enum Code {
     Shadowed = 20,
     /// A problem of another domain.
     DomainMismatch = 21,
+    /// A metric of the total cost, which the domain does not declare.
+    BadMetric = 22,
+    /// A total cost that the domain does not declare, that does not begin at 0, or that stands a second time.
+    BadCost = 23,
     /// A negated fact in the initial state.
     NegativeInit = 24,
     /// One more than a limit allows.
@@ -86,6 +92,7 @@ impl Code {
             Code::MissingSection => "MissingSection",
             Code::UnknownRequirement => "UnknownRequirement",
             Code::LeftOut => "LeftOut",
+            Code::NumberTooLarge => "NumberTooLarge",
             Code::UnknownType => "UnknownType",
             Code::TypeCycle => "TypeCycle",
             Code::Duplicate => "Duplicate",
@@ -94,6 +101,8 @@ impl Code {
             Code::WrongType => "WrongType",
             Code::Shadowed => "Shadowed",
             Code::DomainMismatch => "DomainMismatch",
+            Code::BadMetric => "BadMetric",
+            Code::BadCost => "BadCost",
             Code::NegativeInit => "NegativeInit",
             Code::TooMany => "TooMany",
             Code::PlanForm => "PlanForm",

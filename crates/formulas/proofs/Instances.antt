@@ -44,13 +44,13 @@ module _ (t : task.Task) (schema : ℕ) (shape : Shape) (is : Some shape ≡ opt
 
     -- where it leads turns on the precondition
     pub step_by_precondition : (s : State) → step t s (record { schema = schema; objects = objects })
-        ≡ (if holds t shape.1 objects s then Some (after_changes s (changes_of shape.2 objects)) else None)
+        ≡ (if holds t shape.1 objects s then Some (after_changes t s (changes_of t shape.2 objects)) else None)
     step_by_precondition s =
         ap (option_and_then (λ found.
-        if fits t found objects && holds t found.precondition objects s then Some (after_changes s (changes_of found.effect objects))
+        if fits t found objects && holds t found.precondition objects s then Some (after_changes t s (changes_of t found.effect objects))
         else None)) it.1
-        ∙ ap (λ b. cond (b && holds t it.0.precondition objects s) (Some (after_changes s (changes_of it.0.effect objects))) None) fitting
-        ∙ sym (ap (λ (found : Shape). cond (holds t found.1 objects s) (Some (after_changes s (changes_of found.2 objects))) None) it.2)
+        ∙ ap (λ b. cond (b && holds t it.0.precondition objects s) (Some (after_changes t s (changes_of t it.0.effect objects))) None) fitting
+        ∙ sym (ap (λ (found : Shape). cond (holds t found.1 objects s) (Some (after_changes t s (changes_of t found.2 objects))) None) it.2)
 
 -- the goal is well-typed without parameters
 pub goal_fits : (t : task.Task) (formula : task.Formula) (objects : List ℕ) → formula ≡ t.goal → objects ≡ [] → IsTrue (is_task t) → FitsFormula t formula objects

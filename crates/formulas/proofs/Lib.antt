@@ -3,7 +3,8 @@ pub mod Equality
 pub mod Trees
 pub mod Tasks
 pub mod Quantifiers
-pub mod Changes
+pub mod CarriedOut
+pub mod ChangeLists
 pub mod Instances
 pub mod FluentPredicates
 pub mod Pointwise

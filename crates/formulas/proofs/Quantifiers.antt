@@ -12,9 +12,9 @@ use Rattle.std.proofs.lemmas.List.FromFn.{filter_of_map_range_with_len_more}
 use Rattle.std.proofs.Math.Seq.{take-append_seam}
 use Rattle.typing.specs.declared.atoms.ObjectId.{ObjectId}
 use Rattle.typing.specs.TaskParts.{object_of}
-use Rattle.formulas.specs.State.{FitsFormula}
+use Rattle.formulas.specs.State.{FitsFormula, FitsEffect}
 use Rattle.model.specs.Task as task
-use Rattle.model.specs.WellTyped.{is_formula, max_variables}
+use Rattle.model.specs.WellTyped.{is_formula, is_effect, max_variables}
 use Rattle.model.specs.Meaning.{is_of}
 
 -- ---- the numbers that pass a test, one after another
@@ -122,10 +122,10 @@ pointwise_push p (z ∷ xs) [] x y all here = absurd (cc)
 pointwise_push p (a ∷ xs) (b ∷ ys) x y all here =
     λ i. first_so (p a b) (pointwise p xs ys) all i && pointwise_push p xs ys x y (second_so (p a b) (pointwise p xs ys) all) here i
 
-module _ (t : task.Task) (types : task.Union) (part : task.Formula) (objects : List ObjectId) (given : FitsFormula t (task.forall types part) (map object_of objects)) where
-  below : (count : ℕ) → nat_lt count max_variables ≡ true → count < max_variables
-  below count lt = grind (arith, nat_tests)
+below : (count : ℕ) → nat_lt count max_variables ≡ true → count < max_variables
+below count lt = grind (arith, nat_tests)
 
+module _ (t : task.Task) (types : task.Union) (part : task.Formula) (objects : List ObjectId) (given : FitsFormula t (task.forall types part) (map object_of objects)) where
   -- there is room for the object of one more variable
   pub room : length objects < 16
   room =
@@ -138,5 +138,20 @@ module _ (t : task.Task) (types : task.Union) (part : task.Formula) (objects : L
   extended_fits one is = record {
     scope = given.scope ++ types ∷ [];
     typed = second_so (nat_lt (length given.scope) max_variables) (is_formula t (given.scope ++ types ∷ []) part) given.typed;
+    fits = pointwise_push (is_of t) given.scope (map object_of objects) types one given.fits is;
+  }
+
+-- the same of an effect
+module _ (t : task.Task) (types : task.Union) (part : task.Effect) (objects : List ObjectId) (given : FitsEffect t (task.each types part) (map object_of objects)) where
+  pub effect_room : length objects < 16
+  effect_room =
+      let few = below (length given.scope) (first_so (nat_lt (length given.scope) max_variables) (is_effect t (given.scope ++ types ∷ []) part) given.typed) in
+      let counts = as_long (is_of t) given.scope (map object_of objects) given.fits ∙ length-map objects object_of in
+      omega (arith, few, counts)
+
+  pub extended_effect_fits : (one : ℕ) → is_of t types one ≡ true → FitsEffect t part (map object_of objects ++ one ∷ [])
+  extended_effect_fits one is = record {
+    scope = given.scope ++ types ∷ [];
+    typed = second_so (nat_lt (length given.scope) max_variables) (is_effect t (given.scope ++ types ∷ []) part) given.typed;
     fits = pointwise_push (is_of t) given.scope (map object_of objects) types one given.fits is;
   }

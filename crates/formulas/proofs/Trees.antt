@@ -110,19 +110,19 @@ are_effects-list t scope (part ∷ rest) = ap (λ b. is_effect t scope (effect_o
 pub is_effect-And : (t : task.Task) (scope : List task.Union) (parts : Vec Effect) → is_effect t scope (effect_of (effect.And parts)) ≡ list_all (λ part. is_effect t scope (effect_of part)) parts.items
 is_effect-And t scope parts = ap (is_effect t scope) (effect_of-And parts) ∙ are_effects-list t scope parts.items
 
-changes_of_all-list : (binding : List ℕ) (parts : List Effect) → changes_of_all (effects_in parts) binding ≡ flat_map (λ part. changes_of (effect_of part) binding) parts
-changes_of_all-list binding [] = refl
-changes_of_all-list binding (part ∷ rest) = ap (λ l. changes_of (effect_of part) binding ++ l) (changes_of_all-list binding rest)
+changes_of_all-list : (t : task.Task) (binding : List ℕ) (parts : List Effect) → changes_of_all t (effects_in parts) binding ≡ flat_map (λ part. changes_of t (effect_of part) binding) parts
+changes_of_all-list t binding [] = refl
+changes_of_all-list t binding (part ∷ rest) = ap (λ l. changes_of t (effect_of part) binding ++ l) (changes_of_all-list t binding rest)
 
 -- the changes of a conjunction are those of its parts, one part after another
-pub changes_of-And : (binding : List ℕ) (parts : Vec Effect) → changes_of (effect_of (effect.And parts)) binding ≡ flat_map (λ part. changes_of (effect_of part) binding) parts.items
-changes_of-And binding parts = ap (λ e. changes_of e binding) (effect_of-And parts) ∙ changes_of_all-list binding parts.items
+pub changes_of-And : (t : task.Task) (binding : List ℕ) (parts : Vec Effect) → changes_of t (effect_of (effect.And parts)) binding ≡ flat_map (λ part. changes_of t (effect_of part) binding) parts.items
+changes_of-And t binding parts = ap (λ e. changes_of t e binding) (effect_of-And parts) ∙ changes_of_all-list t binding parts.items
 
 -- the same of an effect that is a conjunction
-pub changes_by_parts : (binding : List ℕ) (e : Effect) (parts : Vec Effect) (items : List Effect) → e ≡ effect.And parts → items ≡ parts.items
-    → changes_of (effect_of e) binding ≡ flat_map (λ part. changes_of (effect_of part) binding) items
-changes_by_parts binding e parts items is same =
-    ap (λ g. changes_of (effect_of g) binding) is ∙ changes_of-And binding parts ∙ ap (flat_map (λ part. changes_of (effect_of part) binding)) (sym same)
+pub changes_by_parts : (t : task.Task) (binding : List ℕ) (e : Effect) (parts : Vec Effect) (items : List Effect) → e ≡ effect.And parts → items ≡ parts.items
+    → changes_of t (effect_of e) binding ≡ flat_map (λ part. changes_of t (effect_of part) binding) items
+changes_by_parts t binding e parts items is same =
+    ap (λ g. changes_of t (effect_of g) binding) is ∙ changes_of-And t binding parts ∙ ap (flat_map (λ part. changes_of t (effect_of part) binding)) (sym same)
 
 pub typed_by_effects : (t : task.Task) (scope : List task.Union) (e : Effect) (parts : Vec Effect) (items : List Effect) → e ≡ effect.And parts → items ≡ parts.items
     → IsTrue (is_effect t scope (effect_of e)) → list_all (λ part. is_effect t scope (effect_of part)) items ≡ true

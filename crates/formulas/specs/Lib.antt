@@ -1,3 +1,5 @@
 pub mod State
 pub mod Equality
 pub mod Literals
+pub mod Changes
+pub mod Effects

@@ -9,7 +9,7 @@ use Rattle.formulas.specs.declared.plan.Plan.{Plan}
 use Rattle.typing.specs.TaskParts.{atom_of, object_of}
 use Rattle.model.specs.Task as task
 use Rattle.model.specs.Meaning as meaning
-use Rattle.model.specs.WellTyped.{is_formula, is_effect}
+use Rattle.model.specs.WellTyped.{is_formula, is_effect, is_effect_literal}
 
 abbrev pub state_of : State → meaning.State
 state_of s = from_list (map atom_of s.atoms.keys)
@@ -43,3 +43,11 @@ FitsFormulas t formulas objects = FitsScope t (λ scope. list_all (is_formula t 
 -- and in the effect
 abbrev pub FitsEffect : task.Task → task.Effect → List ℕ → Type 0
 FitsEffect t effect objects = FitsScope t (λ scope. is_effect t scope effect) objects
+
+-- in the literal of an effect
+abbrev pub FitsLiteral : task.Task → task.EffectLiteral → List ℕ → Type 0
+FitsLiteral t literal objects = FitsScope t (λ scope. is_effect_literal t scope literal) objects
+
+-- and in each of the literals
+abbrev pub FitsLiterals : task.Task → List task.EffectLiteral → List ℕ → Type 0
+FitsLiterals t literals objects = FitsScope t (λ scope. list_all (is_effect_literal t scope) literals) objects

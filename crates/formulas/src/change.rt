@@ -1,22 +1,22 @@
 //! Change: the state that an instance leads to.
-ghost use Rattle.std.specs.Prelude.{◌≡◌, map, IsTrue, IfOk, OnOk};
+ghost use Rattle.std.specs.Prelude.{◌≡◌, ◌∷◌, [], map, IsTrue, IfOk, OnOk};
 ghost use Rattle.std.specs.Option.{option_map};
-ghost use Rattle.std.specs.FinSet.{from_list, difference, union};
-ghost use Rattle.typing.specs.TaskParts.{object_of, effect_of};
+ghost use Rattle.typing.specs.TaskParts.{object_of, effect_literal_of, effect_of, union_of};
 ghost use Rattle.typing.specs.Task.{task_of};
-ghost use Rattle.formulas.specs.State.{state_of, instance_of, FitsEffect};
-ghost use Rattle.model.specs.Meaning as meaning;
-ghost use Rattle.model.specs.Meaning.{is_instance, step, changes_of, added_by, deleted_by};
+ghost use Rattle.formulas.specs.State.{state_of, instance_of, FitsEffect, FitsLiteral, FitsLiterals};
+ghost use Rattle.formulas.specs.Changes.{after_some};
+ghost use Rattle.model.specs.Task.{each};
+ghost use Rattle.model.specs.Meaning.{is_instance, step, changes_of, literals_in, ground_literal};
 
 use crate::instance::{Binding, Instance};
 use crate::state::State;
-use crate::truth::{ground_atom, holds};
+use crate::truth::{copied, ground_atom, holds};
 use faults::NoMemory;
 use std::alloc::Global;
-use typing::{Effect, Task};
+use typing::{Effect, EffectLiteral, ObjectId, Task, TypeUnion};
 
 /// The state that the instance, which is one of the task's, leads to, and `None` where it is not applicable.
-/// An atom that is both deleted and added is true afterwards.
+/// All conditions are read in the state before, and an atom that is both deleted and added is true afterwards.
 pub fn apply(
     _alloc: Global,
     task: &Task,
@@ -33,43 +33,106 @@ pub fn apply(
         return Ok(None);
     }
     let mut next = state.try_clone()?;
-    delete_atoms(task, &schema.effect, &instance.objects, &mut next);
-    add_atoms(task, &schema.effect, &instance.objects, &mut next)?;
+    carry_out(task, &schema.effect, &instance.objects, state, false, &mut next)?;
+    carry_out(task, &schema.effect, &instance.objects, state, true, &mut next)?;
     Ok(Some(next))
 }
 
-/// Makes false what the effect deletes.
-fn delete_atoms(task: &Task, effect: &Effect, binding: &Binding, state: &mut State)
-    requires { FitsEffect (task_of task.now) (effect_of effect.now) (map object_of binding.now.items) }
-    ensures { state_of state.new ≡ difference (state_of state.old) (from_list (deleted_by (changes_of (effect_of effect.now) (map object_of binding.now.items)))) }
-{
-    match effect {
-        Effect::Add(_) => {}
-        Effect::Delete(atom) => state.remove(&ground_atom(atom, binding)),
-        Effect::And(parts) => {
-            for part in parts {
-                delete_atoms(task, part, binding, state);
-            }
-        }
-    }
-}
-
-/// Makes true what the effect adds.
-fn add_atoms(
+/// Makes true what the effect adds, or else makes false what it deletes, where the conditions hold in the state before.
+#[cycle(carry_out)]
+fn carry_out(
     task: &Task,
     effect: &Effect,
     binding: &Binding,
-    state: &mut State,
+    before: &State,
+    adds: bool,
+    next: &mut State,
 ) -> Result<(), NoMemory>
     requires { FitsEffect (task_of task.now) (effect_of effect.now) (map object_of binding.now.items) }
-    ensures { OnOk result (state_of state.new ≡ union (state_of state.old) (from_list (added_by (changes_of (effect_of effect.now) (map object_of binding.now.items))))) }
+    ensures { OnOk result (state_of next.new ≡ after_some adds (state_of next.old) (literals_in (task_of task.now) (state_of before.now) (changes_of (task_of task.now) (effect_of effect.now) (map object_of binding.now.items)))) }
 {
     match effect {
-        Effect::Add(atom) => state.insert(ground_atom(atom, binding))?,
-        Effect::Delete(_) => {}
+        Effect::Literal(literal) => carry_out_one(task, literal, binding, adds, next)?,
         Effect::And(parts) => {
             for part in parts {
-                add_atoms(task, part, binding, state)?;
+                carry_out(task, part, binding, before, adds, next)?;
+            }
+        }
+        Effect::Forall(types, part) => {
+            carry_out_for_each(task, types, part, binding, before, adds, next)?
+        }
+        Effect::When(condition, literals) => {
+            if holds(task, condition, binding, before) {
+                carry_out_literals(task, literals, binding, adds, next)?
+            }
+        }
+    }
+    Ok(())
+}
+
+/// The same of the effect for each object of these types, as that of the next variable.
+#[cycle(carry_out)]
+fn carry_out_for_each(
+    task: &Task,
+    types: &TypeUnion,
+    part: &Effect,
+    binding: &Binding,
+    before: &State,
+    adds: bool,
+    next: &mut State,
+) -> Result<(), NoMemory>
+    requires { FitsEffect (task_of task.now) (each (union_of types.now) (effect_of part.now)) (map object_of binding.now.items) }
+    ensures { OnOk result (state_of next.new ≡ after_some adds (state_of next.old) (literals_in (task_of task.now) (state_of before.now) (changes_of (task_of task.now) (each (union_of types.now) (effect_of part.now)) (map object_of binding.now.items)))) }
+{
+    let mut extended = copied(binding);
+    for number in 0..task.object_count() {
+        let object = ObjectId(number as u32);
+        if task.is_of(object, types) {
+            extended.push(object);
+            carry_out(task, part, &extended, before, adds, next)?;
+            extended.pop();
+        }
+    }
+    Ok(())
+}
+
+/// Makes true what the literals add, or else makes false what they delete.
+fn carry_out_literals(
+    task: &Task,
+    literals: &[EffectLiteral],
+    binding: &Binding,
+    adds: bool,
+    next: &mut State,
+) -> Result<(), NoMemory>
+    requires { FitsLiterals (task_of task.now) (map effect_literal_of literals.now) (map object_of binding.now.items) }
+    ensures { OnOk result (state_of next.new ≡ after_some adds (state_of next.old) (map (λ l. ground_literal (map object_of binding.now.items) (effect_literal_of l)) literals.now)) }
+{
+    for literal in literals {
+        carry_out_one(task, literal, binding, adds, next)?;
+    }
+    Ok(())
+}
+
+/// Makes true what the literal adds, or else makes false what it deletes.
+fn carry_out_one(
+    task: &Task,
+    literal: &EffectLiteral,
+    binding: &Binding,
+    adds: bool,
+    next: &mut State,
+) -> Result<(), NoMemory>
+    requires { FitsLiteral (task_of task.now) (effect_literal_of literal.now) (map object_of binding.now.items) }
+    ensures { OnOk result (state_of next.new ≡ after_some adds (state_of next.old) (ground_literal (map object_of binding.now.items) (effect_literal_of literal.now) ∷ [])) }
+{
+    match literal {
+        EffectLiteral::Add(atom) => {
+            if adds {
+                next.insert(ground_atom(atom, binding))?
+            }
+        }
+        EffectLiteral::Delete(atom) => {
+            if !adds {
+                next.remove(&ground_atom(atom, binding))
             }
         }
     }

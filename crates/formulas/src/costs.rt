@@ -7,9 +7,15 @@ ghost use Rattle.model.specs.Meaning.{cost_of};
 use crate::instance::Instance;
 use typing::Task;
 
-/// What the instance costs: each costs 1.
-pub fn cost(task: &Task, instance: &Instance) -> u64
+/// What the instance costs: where the total cost is to be least, what its schema increases it by, and else 1.
+pub fn cost(task: &Task, instance: &Instance) -> u32
     ensures { result ≡ cost_of (task_of task.now) (instance_of instance.now) }
 {
-    1
+    if !task.has_metric() {
+        return 1;
+    }
+    match task.schema(instance.schema) {
+        Some(schema) => schema.cost,
+        None => 0,
+    }
 }

@@ -1,14 +1,15 @@
 //! Which atoms are well-typed, and which predicates the task's actions change.
-ghost use Rattle.std.specs.Prelude.{◌≡◌, ◌&&◌};
+ghost use Rattle.std.specs.Prelude.{◌≡◌, ◌&&◌, map};
+ghost use Rattle.std.specs.List.{list_any};
 ghost use Rattle.typing.specs.TaskParts.{atom_of};
 ghost use Rattle.model.specs.WellTyped as well_typed;
 ghost use Rattle.typing.specs.Task.{task_of};
-ghost use Rattle.typing.specs.TaskParts.{effect_of};
+ghost use Rattle.typing.specs.TaskParts.{effect_of, effect_literal_of};
 ghost use Rattle.model.specs.Certificates as certificates;
 ghost use Rattle.model.specs.Certificates.{touches};
 
 use crate::instance::are_of;
-use typing::{Atom, Effect, PredicateId, SchemaId, Task};
+use typing::{Atom, Effect, EffectLiteral, PredicateId, SchemaId, Task};
 
 /// Whether the atom is well-typed: its predicate is the task's, and it has an object of its types for each argument.
 pub fn is_atom(task: &Task, atom: &Atom) -> bool
@@ -47,7 +48,7 @@ fn touches(effect: &Effect, predicate: PredicateId) -> bool
     ensures { result ≡ touches predicate.0 (effect_of effect.now) }
 {
     match effect {
-        Effect::Add(atom) | Effect::Delete(atom) => atom.predicate == predicate,
+        Effect::Literal(literal) => is_literal_of(literal, predicate),
         Effect::And(parts) => {
             for part in parts {
                 if touches(part, predicate) {
@@ -56,5 +57,28 @@ fn touches(effect: &Effect, predicate: PredicateId) -> bool
             }
             false
         }
+        Effect::Forall(_, part) => touches(part, predicate),
+        Effect::When(_, literals) => some_is_literal_of(literals, predicate),
+    }
+}
+
+/// Whether one of the literals is of the predicate.
+fn some_is_literal_of(literals: &[EffectLiteral], predicate: PredicateId) -> bool
+    ensures { result ≡ list_any (certificates.is_literal_of predicate.0) (map effect_literal_of literals.now) }
+{
+    for literal in literals {
+        if is_literal_of(literal, predicate) {
+            return true;
+        }
+    }
+    false
+}
+
+/// Whether the literal is of the predicate.
+fn is_literal_of(literal: &EffectLiteral, predicate: PredicateId) -> bool
+    ensures { result ≡ certificates.is_literal_of predicate.0 (effect_literal_of literal.now) }
+{
+    match literal {
+        EffectLiteral::Add(atom) | EffectLiteral::Delete(atom) => atom.predicate == predicate,
     }
 }

@@ -3,6 +3,7 @@
 
 mod change;
 mod costs;
+mod effects;
 mod fluents;
 mod instance;
 mod laws;
@@ -13,6 +14,7 @@ mod truth;
 
 pub use change::apply;
 pub use costs::cost;
+pub use effects::{Change, GroundLiteral, changes};
 pub use fluents::{is_atom, is_fluent, is_fluent_atom};
 pub use instance::{Binding, Instance, is_instance};
 pub use laws::{formula_examples_are_judged, one_state, sure_literals_hold};

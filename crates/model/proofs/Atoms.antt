@@ -8,7 +8,7 @@ use Rattle.std.specs.List.{list_any}
 use Rattle.std.proofs.lemmas.List.Folds.{list_any-append}
 use Rattle.std.specs.FinSet.{contains, from_list, insert, remove, union, difference, contains-from_list, contains-insert, contains-remove, contains-difference, contains-union, same_set, IsAntisymmetric, nat_cmp-IsAntisymmetric, slice_cmp-IsAntisymmetric}
 use Rattle.model.specs.Task.{Atom}
-use Rattle.model.specs.Meaning.{State, atom_cmp, Change, adds, deletes, added_by, deleted_by}
+use Rattle.model.specs.Meaning.{State, atom_cmp, GroundLiteral, adds, deletes, added_by, deleted_by}
 
 abbrev numbers_of : Atom → List ℕ
 numbers_of a = a.predicate ∷ a.objects
@@ -104,14 +104,14 @@ union-append s xs ys =
     has-union s (xs ++ ys) q ∙ ap (λ b. has s q || b) (stands_in-append xs ys q) ∙ sym (or_twice (has s q) (stands_in xs q) (stands_in ys q))
     ∙ sym (has-union (union s (set_of xs)) ys q ∙ ap (λ b. b || stands_in ys q) (has-union s xs q)))
 
--- ---- the changes of one effect after another
+-- ---- the literals of one effect after another
 
-pub added_by-append : (xs ys : List Change) → added_by (xs ++ ys) ≡ added_by xs ++ added_by ys
+pub added_by-append : (xs ys : List GroundLiteral) → added_by (xs ++ ys) ≡ added_by xs ++ added_by ys
 added_by-append [] ys = refl
 added_by-append (adds a ∷ xs) ys = ap (λ l. a ∷ l) (added_by-append xs ys)
 added_by-append (deletes a ∷ xs) ys = added_by-append xs ys
 
-pub deleted_by-append : (xs ys : List Change) → deleted_by (xs ++ ys) ≡ deleted_by xs ++ deleted_by ys
+pub deleted_by-append : (xs ys : List GroundLiteral) → deleted_by (xs ++ ys) ≡ deleted_by xs ++ deleted_by ys
 deleted_by-append [] ys = refl
 deleted_by-append (adds a ∷ xs) ys = deleted_by-append xs ys
 deleted_by-append (deletes a ∷ xs) ys = ap (λ l. a ∷ l) (deleted_by-append xs ys)

@@ -32,13 +32,13 @@ abbrev the_instance : Instance
 the_instance = instance 0 (0 ∷ 0 ∷ [])
 
 abbrev after_it : State
-after_it = state_after (linked ∷ []) (changes_of tie.effect (0 ∷ 0 ∷ []) ∷ [])
+after_it = state_after tie_task (linked ∷ []) (changes_of tie_task tie.effect (0 ∷ 0 ∷ []) ∷ [])
 
 leads_on : step tie_task start the_instance ≡ Some after_it
-leads_on = leads tie_task start the_instance tie refl refl (contains-state_after (linked ∷ []) [] linked)
+leads_on = leads tie_task start the_instance tie refl refl (contains-state_after tie_task (linked ∷ []) [] linked)
 
 same_end : end ≡ after_it
-same_end = same_state end after_it (λ q. contains-from_list atoms_total (tied ∷ linked ∷ []) q ∙ (by_tests (eq_by_cmp atom_cmp q tied) (eq_by_cmp atom_cmp q linked) ∙ sym (contains-state_after (linked ∷ []) (changes_of tie.effect (0 ∷ 0 ∷ []) ∷ []) q)))
+same_end = same_state end after_it (λ q. contains-from_list atoms_total (tied ∷ linked ∷ []) q ∙ (by_tests (eq_by_cmp atom_cmp q tied) (eq_by_cmp atom_cmp q linked) ∙ sym (contains-state_after tie_task (linked ∷ []) (changes_of tie_task tie.effect (0 ∷ 0 ∷ []) ∷ []) q)))
   where
     by_tests : (t l : Bool) → (t || (l || false)) ≡ (((l || false) && true) || (t || false))
     by_tests true true = refl

@@ -1,14 +1,14 @@
 -- The worked examples are true.
-use Rattle.std.specs.Prelude.{◌≡◌, ℕ, ◌+◌, true, ◌&&◌, cond, List, [], ◌∷◌, Some, None, refl}
+use Rattle.std.specs.Prelude.{◌≡◌, ℕ, ◌+◌, Bool, true, false, ◌&&◌, cond, List, [], ◌∷◌, map, Some, None, refl}
 use Rattle.std.proofs.Common.{◌∙◌, ap, arith}
 use Rattle.std.specs.Option.{option_and_then}
 use Rattle.std.specs.FinSet.{contains, len, from_list, len-insert, len-empty, contains-from_list}
-use Rattle.model.specs.Task.{Atom}
-use Rattle.model.specs.Runs.{System, run}
-use Rattle.model.specs.Meaning.{State, atom_cmp, step, changes_of, after_changes, system_of, Change}
-use Rattle.model.specs.Examples.{go, go_task, tie, tie_task, move, walk_to, a_to_a, a_to_b, b_to_c, instance, ground, WorkedExamples}
+use Rattle.model.specs.Task.{Union, Atom, LiftedAtom, Formula, and, Effect, Task, Instance}
+use Rattle.model.specs.Runs.{System, run, Solves}
+use Rattle.model.specs.Meaning.{State, atom_cmp, ground_atom, fits, step, changes_of, after_changes, system_of, Change}
+use Rattle.model.specs.Examples.{formulas, go, go_task, tie, tie_task, move, walk_to, a_to_a, a_to_b, b_to_c, instance, ground, doer, doing, LeadsWith, priced, WorkedExamples}
 use Rattle.model.proofs.Atoms.{atoms_total}
-use Rattle.model.proofs.Steps.{state_after, contains-state_after, is_in, leads, leads_nowhere}
+use Rattle.model.proofs.Steps.{holds_where, state_after, true_after, contains-state_after, holds-after, is_in, leads, leads_nowhere}
 
 -- a run of one step, and of two
 module _ {S A : Type 0} (t : System S A) where
@@ -32,12 +32,12 @@ len-from_list (a ∷ atoms) =
 -- ---- go
 
 abbrev once : List (List Change)
-once = changes_of go.effect [] ∷ []
+once = changes_of go_task go.effect [] ∷ []
 
 abbrev twice : List (List Change)
-twice = changes_of go.effect [] ∷ once
+twice = changes_of go_task go.effect [] ∷ once
 
-go_leads : (s : State) → step go_task s (instance 0 []) ≡ Some (after_changes s (changes_of go.effect []))
+go_leads : (s : State) → step go_task s (instance 0 []) ≡ Some (after_changes go_task s (changes_of go_task go.effect []))
 go_leads s = leads go_task s (instance 0 []) go refl refl refl
 
 -- ---- walk
@@ -46,39 +46,92 @@ abbrev start : List Atom
 start = (walk_to 0).init
 
 abbrev at_a : List (List Change)
-at_a = changes_of move.effect (0 ∷ 0 ∷ []) ∷ []
+at_a = changes_of (walk_to 0) move.effect (0 ∷ 0 ∷ []) ∷ []
 
 abbrev at_b : List (List Change)
-at_b = changes_of move.effect (0 ∷ 1 ∷ []) ∷ []
+at_b = changes_of (walk_to 0) move.effect (0 ∷ 1 ∷ []) ∷ []
 
 abbrev at_c : List (List Change)
-at_c = changes_of move.effect (1 ∷ 2 ∷ []) ∷ at_b
+at_c = changes_of (walk_to 0) move.effect (1 ∷ 2 ∷ []) ∷ at_b
 
-moves_a_to_a : (place : ℕ) → step (walk_to place) (state_after start []) a_to_a ≡ Some (state_after start at_a)
+moves_a_to_a : (place : ℕ) → step (walk_to place) (state_after (walk_to 0) start []) a_to_a ≡ Some (state_after (walk_to 0) start at_a)
 moves_a_to_a place =
-    leads (walk_to place) (state_after start []) a_to_a move refl refl
-    (λ i. contains-state_after start [] (ground 0 (0 ∷ [])) i && (contains-state_after start [] (ground 1 (0 ∷ 0 ∷ [])) i && true))
+    leads (walk_to place) (state_after (walk_to 0) start []) a_to_a move refl refl
+    (λ i. contains-state_after (walk_to 0) start [] (ground 0 (0 ∷ [])) i && (contains-state_after (walk_to 0) start [] (ground 1 (0 ∷ 0 ∷ [])) i && true))
 
-moves_a_to_b : (place : ℕ) → step (walk_to place) (state_after start []) a_to_b ≡ Some (state_after start at_b)
+moves_a_to_b : (place : ℕ) → step (walk_to place) (state_after (walk_to 0) start []) a_to_b ≡ Some (state_after (walk_to 0) start at_b)
 moves_a_to_b place =
-    leads (walk_to place) (state_after start []) a_to_b move refl refl
-    (λ i. contains-state_after start [] (ground 0 (0 ∷ [])) i && (contains-state_after start [] (ground 1 (0 ∷ 1 ∷ [])) i && true))
+    leads (walk_to place) (state_after (walk_to 0) start []) a_to_b move refl refl
+    (λ i. contains-state_after (walk_to 0) start [] (ground 0 (0 ∷ [])) i && (contains-state_after (walk_to 0) start [] (ground 1 (0 ∷ 1 ∷ [])) i && true))
 
-moves_b_to_c : (place : ℕ) → step (walk_to place) (state_after start at_b) b_to_c ≡ Some (state_after start at_c)
+moves_b_to_c : (place : ℕ) → step (walk_to place) (state_after (walk_to 0) start at_b) b_to_c ≡ Some (state_after (walk_to 0) start at_c)
 moves_b_to_c place =
-    leads (walk_to place) (state_after start at_b) b_to_c move refl refl
-    (λ i. contains-state_after start at_b (ground 0 (1 ∷ [])) i && (contains-state_after start at_b (ground 1 (1 ∷ 2 ∷ [])) i && true))
+    leads (walk_to place) (state_after (walk_to 0) start at_b) b_to_c move refl refl
+    (λ i. contains-state_after (walk_to 0) start at_b (ground 0 (1 ∷ [])) i && (contains-state_after (walk_to 0) start at_b (ground 1 (1 ∷ 2 ∷ [])) i && true))
 
 -- not at b at the start, and not at a once at b
-stays_at_a : (place : ℕ) → step (walk_to place) (state_after start []) b_to_c ≡ None
+stays_at_a : (place : ℕ) → step (walk_to place) (state_after (walk_to 0) start []) b_to_c ≡ None
 stays_at_a place =
-    leads_nowhere (walk_to place) (state_after start []) b_to_c move refl refl
-    (λ i. contains-state_after start [] (ground 0 (1 ∷ [])) i && (contains (state_after start []) (ground 1 (1 ∷ 2 ∷ [])) && true))
+    leads_nowhere (walk_to place) (state_after (walk_to 0) start []) b_to_c move refl refl
+    (λ i. contains-state_after (walk_to 0) start [] (ground 0 (1 ∷ [])) i && (contains (state_after (walk_to 0) start []) (ground 1 (1 ∷ 2 ∷ [])) && true))
 
-stays_at_b : (place : ℕ) → step (walk_to place) (state_after start at_b) a_to_b ≡ None
+stays_at_b : (place : ℕ) → step (walk_to place) (state_after (walk_to 0) start at_b) a_to_b ≡ None
 stays_at_b place =
-    leads_nowhere (walk_to place) (state_after start at_b) a_to_b move refl refl
-    (λ i. contains-state_after start at_b (ground 0 (0 ∷ [])) i && (contains (state_after start at_b) (ground 1 (0 ∷ 1 ∷ [])) && true))
+    leads_nowhere (walk_to place) (state_after (walk_to 0) start at_b) a_to_b move refl refl
+    (λ i. contains-state_after (walk_to 0) start at_b (ground 0 (0 ∷ [])) i && (contains (state_after (walk_to 0) start at_b) (ground 1 (0 ∷ 1 ∷ [])) && true))
+
+-- ---- effects
+
+-- what the action of a task changes, with these objects
+abbrev changes_by : Task → Effect → List ℕ → List (List Change)
+changes_by t effect objects = changes_of t effect objects ∷ []
+
+-- where this computes, the action leads to the goal
+does : {parameters : List Union} {objects : List ℕ} {before : List LiftedAtom} {effect : Effect} {goals : List Formula}
+    → fits (doing parameters effect before goals) (doer parameters effect) objects ≡ true
+    → holds_where (doing parameters effect before goals) (true_after (doing parameters effect before goals) (map (ground_atom []) before) (changes_by (doing parameters effect before goals) effect objects)) (and (formulas goals)) [] ≡ true
+    → LeadsWith parameters objects before effect goals
+does {parameters} {objects} {before} {effect} {goals} fit holding =
+    let t : Task = doing parameters effect before goals in
+    let after = changes_by t effect objects in
+    let leads_there = leads t (state_after t t.init []) (instance 0 objects) (doer parameters effect) refl fit refl in
+    record {
+      is_solved = (
+        (
+          state_after t t.init after,
+          one (system_of t) (state_after t t.init []) (state_after t t.init after) (instance 0 objects) leads_there,
+          holds-after t t.init after t.goal [] ∙ holding,
+        ),
+        refl,
+      );
+    }
+
+-- ---- costs
+
+abbrev once_of : Bool → List (List Change)
+once_of has_metric = changes_of (priced has_metric) go.effect [] ∷ []
+
+abbrev twice_of : Bool → List (List Change)
+twice_of has_metric = changes_of (priced has_metric) go.effect [] ∷ once_of has_metric
+
+-- either action of the task with costs leads on
+goes : (has_metric : Bool) (s : State) → step (priced has_metric) s (instance 0 []) ≡ Some (after_changes (priced has_metric) s (changes_of (priced has_metric) go.effect []))
+goes has_metric s = leads (priced has_metric) s (instance 0 []) (record go { cost = 3 }) refl refl refl
+
+goes_free : (has_metric : Bool) (s : State) → step (priced has_metric) s (instance 1 []) ≡ Some (after_changes (priced has_metric) s (changes_of (priced has_metric) go.effect []))
+goes_free has_metric s = leads (priced has_metric) s (instance 1 []) go refl refl refl
+
+-- so two of them lead to the goal
+goes_on : (has_metric : Bool) (a b : Instance)
+    → step (priced has_metric) (state_after (priced has_metric) go_task.init []) a ≡ Some (state_after (priced has_metric) go_task.init (once_of has_metric))
+    → step (priced has_metric) (state_after (priced has_metric) go_task.init (once_of has_metric)) b ≡ Some (state_after (priced has_metric) go_task.init (twice_of has_metric))
+    → Solves (system_of (priced has_metric)) (a ∷ b ∷ [])
+goes_on has_metric a b first second =
+    let t : Task = priced has_metric in (
+      state_after t go_task.init (twice_of has_metric),
+      two (system_of t) (state_after t go_task.init []) (state_after t go_task.init (once_of has_metric)) (state_after t go_task.init (twice_of has_metric)) a b first second,
+      holds-after t go_task.init (twice_of has_metric) go_task.goal [],
+    )
 
 -- ---- together
 
@@ -86,36 +139,36 @@ pub worked_examples : WorkedExamples
 worked_examples = record {
   add_wins_over_delete = (
     (
-      state_after go_task.init once,
-      one (system_of go_task) (state_after go_task.init []) (state_after go_task.init once) (instance 0 []) (go_leads (state_after go_task.init [])),
-      λ i. contains-state_after go_task.init once (ground 0 []) i && (contains-state_after go_task.init once (ground 1 []) i && true),
+      state_after go_task go_task.init once,
+      one (system_of go_task) (state_after go_task go_task.init []) (state_after go_task go_task.init once) (instance 0 []) (go_leads (state_after go_task go_task.init [])),
+      λ i. contains-state_after go_task go_task.init once (ground 0 []) i && (contains-state_after go_task go_task.init once (ground 1 []) i && true),
     ),
     refl,
   );
   add_wins_over_another_literal = (
     (
-      state_after start at_a,
-      one (system_of (walk_to 0)) (state_after start []) (state_after start at_a) a_to_a (moves_a_to_a 0),
-      contains-state_after start at_a (ground 0 (0 ∷ [])),
+      state_after (walk_to 0) start at_a,
+      one (system_of (walk_to 0)) (state_after (walk_to 0) start []) (state_after (walk_to 0) start at_a) a_to_a (moves_a_to_a 0),
+      contains-state_after (walk_to 0) start at_a (ground 0 (0 ∷ [])),
     ),
     refl,
   );
   each_instance_costs = (
     (
-      state_after go_task.init twice,
-      two (system_of go_task) (state_after go_task.init []) (state_after go_task.init once) (state_after go_task.init twice) (instance 0 []) (instance 0 [])
-          (go_leads (state_after go_task.init [])) (go_leads (state_after go_task.init once)),
-      λ i. contains-state_after go_task.init twice (ground 0 []) i && (contains-state_after go_task.init twice (ground 1 []) i && true),
+      state_after go_task go_task.init twice,
+      two (system_of go_task) (state_after go_task go_task.init []) (state_after go_task go_task.init once) (state_after go_task go_task.init twice) (instance 0 []) (instance 0 [])
+          (go_leads (state_after go_task go_task.init [])) (go_leads (state_after go_task go_task.init once)),
+      λ i. contains-state_after go_task go_task.init twice (ground 0 []) i && (contains-state_after go_task go_task.init twice (ground 1 []) i && true),
     ),
     refl,
   );
   one_object_for_two_parameters =
-      let after = changes_of tie.effect (0 ∷ 0 ∷ []) ∷ [] in (
+      let after = changes_of tie_task tie.effect (0 ∷ 0 ∷ []) ∷ [] in (
         (
-          state_after tie_task.init after,
-          one (system_of tie_task) (state_after tie_task.init []) (state_after tie_task.init after) (instance 0 (0 ∷ 0 ∷ []))
-              (leads tie_task (state_after tie_task.init []) (instance 0 (0 ∷ 0 ∷ [])) tie refl refl (contains-state_after tie_task.init [] (ground 0 (0 ∷ 0 ∷ [])))),
-          contains-state_after tie_task.init after (ground 1 []),
+          state_after tie_task tie_task.init after,
+          one (system_of tie_task) (state_after tie_task tie_task.init []) (state_after tie_task tie_task.init after) (instance 0 (0 ∷ 0 ∷ []))
+              (leads tie_task (state_after tie_task tie_task.init []) (instance 0 (0 ∷ 0 ∷ [])) tie refl refl (contains-state_after tie_task tie_task.init [] (ground 0 (0 ∷ 0 ∷ [])))),
+          contains-state_after tie_task tie_task.init after (ground 1 []),
         ),
         refl,
       );
@@ -126,7 +179,7 @@ worked_examples = record {
   atom_twice_in_init = len-from_list start;
   first_step_not_applicable = record {
     counted_from_one = omega arith;
-    before = state_after start [];
+    before = state_after (walk_to 0) start [];
     next = b_to_c;
     runs = refl;
     stands_there = refl;
@@ -134,28 +187,28 @@ worked_examples = record {
   };
   later_step_not_applicable = record {
     counted_from_one = omega arith;
-    before = state_after start at_b;
+    before = state_after (walk_to 0) start at_b;
     next = a_to_b;
-    runs = one (system_of (walk_to 1)) (state_after start []) (state_after start at_b) a_to_b (moves_a_to_b 1);
+    runs = one (system_of (walk_to 1)) (state_after (walk_to 0) start []) (state_after (walk_to 0) start at_b) a_to_b (moves_a_to_b 1);
     stands_there = refl;
     is_not_applicable = stays_at_b 1;
   };
-  empty_plan_solves = ((state_after start [], refl, contains-state_after start [] (ground 0 (0 ∷ []))), refl);
+  empty_plan_solves = ((state_after (walk_to 0) start [], refl, contains-state_after (walk_to 0) start [] (ground 0 (0 ∷ []))), refl);
   empty_plan_misses = (
-    state_after go_task.init [],
+    state_after go_task go_task.init [],
     refl,
-    λ i. contains-state_after go_task.init [] (ground 0 []) i && (contains-state_after go_task.init [] (ground 1 []) i && true),
+    λ i. contains-state_after go_task go_task.init [] (ground 0 []) i && (contains-state_after go_task go_task.init [] (ground 1 []) i && true),
   );
   goal_left_behind = (
-    state_after start at_c,
-    two (system_of (walk_to 1)) (state_after start []) (state_after start at_b) (state_after start at_c) a_to_b b_to_c (moves_a_to_b 1) (moves_b_to_c 1),
-    contains-state_after start at_c (ground 0 (1 ∷ [])),
+    state_after (walk_to 0) start at_c,
+    two (system_of (walk_to 1)) (state_after (walk_to 0) start []) (state_after (walk_to 0) start at_b) (state_after (walk_to 0) start at_c) a_to_b b_to_c (moves_a_to_b 1) (moves_b_to_c 1),
+    contains-state_after (walk_to 0) start at_c (ground 0 (1 ∷ [])),
   );
   two_steps = (
     (
-      state_after start at_c,
-      two (system_of (walk_to 2)) (state_after start []) (state_after start at_b) (state_after start at_c) a_to_b b_to_c (moves_a_to_b 2) (moves_b_to_c 2),
-      contains-state_after start at_c (ground 0 (2 ∷ [])),
+      state_after (walk_to 0) start at_c,
+      two (system_of (walk_to 2)) (state_after (walk_to 0) start []) (state_after (walk_to 0) start at_b) (state_after (walk_to 0) start at_c) a_to_b b_to_c (moves_a_to_b 2) (moves_b_to_c 2),
+      contains-state_after (walk_to 0) start at_c (ground 0 (2 ∷ [])),
     ),
     refl,
   );
@@ -169,4 +222,37 @@ worked_examples = record {
   subtype_fits = refl;
   supertype_does_not = refl;
   one_of_two_does_not = refl;
+  under_one_condition = does refl refl;
+  under_two_conditions = does refl refl;
+  under_the_delete = does refl refl;
+  under_the_add = does refl refl;
+  under_none = does refl refl;
+  add_under_a_condition = does refl refl;
+  delete_without = does refl refl;
+  delete_under_a_condition = does refl refl;
+  made_false = does refl refl;
+  made_true = does refl refl;
+  for_each = does refl refl;
+  for_none = does refl refl;
+  for_one_and_another = does refl refl;
+  for_another_and_one = does refl refl;
+  over_one_another = does refl refl;
+  each_is_seen = does refl refl;
+  one_is_not = does refl refl;
+  variables_around = does refl refl;
+  one_in_another = does refl refl;
+  its_changes = refl;
+  in_its_effect = refl;
+  after_its_effect = refl;
+  sixteen_variables = refl;
+  seventeen_variables = refl;
+  changed_under_when = refl;
+  read_in_a_condition = refl;
+  with_an_increase = refl;
+  without_an_increase = refl;
+  an_increase_without_the_metric = refl;
+  none_without_the_metric = refl;
+  sum_of_costs = (goes_on true (instance 0 []) (instance 0 []) (goes true _) (goes true _), refl);
+  sum_with_none = (goes_on true (instance 0 []) (instance 1 []) (goes true _) (goes_free true _), refl);
+  count_of_steps = (goes_on false (instance 0 []) (instance 1 []) (goes false _) (goes_free false _), refl);
 }

@@ -3,10 +3,10 @@ use Rattle.std.proofs.Common.{◌≡◌, ℕ, Bool, true, false, cond, ◌&&◌,
 use Rattle.std.proofs.lemmas.List.{append_assoc, append-nil}
 use Rattle.model.specs.Trees.{File, domain_file, problem_file, Name, no_name, formulas, effects}
 use Rattle.model.specs.Trees as tree
-use Rattle.model.specs.GrammarWords.{Token, opens, closes, free, ordinary, define, reserved, variable, keyword, SectionKeyword, of_section, PartKeyword, of_part, requirement_key}
+use Rattle.model.specs.GrammarWords.{Token, opens, closes, free, ordinary, define, reserved, variable, keyword, number, SectionKeyword, of_section, PartKeyword, of_part, requirement_key}
 use Rattle.model.specs.GrammarWords as words
 use Rattle.model.specs.Grammar
-use Rattle.model.specs.Grammar.{Sort, Value, Phrase, gives, ◌>>=◌, Section, Part, after, Derives, by, Follows, nothing, next, Tree, file, sections, section, parts, section_after, section_of, seen_with, keyword_in, left_of, sections_of, has_all, required_of, has_section, has_part, is_section, IsFile, tree_from, action_from, with_section, no_contents}
+use Rattle.model.specs.Grammar.{Sort, Value, Phrase, gives, ◌>>=◌, Section, Part, change, value_of_all, after, Derives, by, Follows, nothing, next, Tree, file, sections, section, parts, section_after, section_of, seen_with, keyword_in, left_of, sections_of, has_all, required_of, has_section, has_part, is_section, IsFile, tree_from, action_from, with_section, no_contents}
 use Rattle.model.specs.Refusals.{IsWhole, Begins, step, number_after, after_all, start}
 use Rattle.model.specs.GrammarMachine.{finished, stopped, go_on, run}
 use Rattle.model.proofs.GrammarMeaning.{phrase_run, file_run, run_file}
@@ -26,22 +26,26 @@ is_section-self words.requirements = refl
 is_section-self words.types = refl
 is_section-self words.constants = refl
 is_section-self words.predicates = refl
+is_section-self words.functions = refl
 is_section-self words.action = refl
 is_section-self words.domain_keyword = refl
 is_section-self words.objects = refl
 is_section-self words.init = refl
 is_section-self words.goal = refl
+is_section-self words.metric = refl
 
 pub same_section : (j k : SectionKeyword) → is_section j k ≡ true → j ≡ k
 same_section words.requirements words.requirements e = refl
 same_section words.types words.types e = refl
 same_section words.constants words.constants e = refl
 same_section words.predicates words.predicates e = refl
+same_section words.functions words.functions e = refl
 same_section words.action words.action e = refl
 same_section words.domain_keyword words.domain_keyword e = refl
 same_section words.objects words.objects e = refl
 same_section words.init words.init e = refl
 same_section words.goal words.goal e = refl
+same_section words.metric words.metric e = refl
 same_section j k e = absurd (cc)
 
 -- what was seen with one more
@@ -126,6 +130,7 @@ some_section words.requirements = (closes ∷ [], Grammar.requirements, λ f j o
 some_section words.types = (closes ∷ [], Grammar.types [], λ f j others r. next (by refl nothing) nothing)
 some_section words.constants = (closes ∷ [], Grammar.constants [], λ f j others r. next (by refl nothing) nothing)
 some_section words.predicates = (closes ∷ [], Grammar.predicates [], λ f j others r. next (by refl nothing) nothing)
+some_section words.functions = (closes ∷ [], Grammar.functions [], λ f j others r. next (by refl nothing) nothing)
 some_section words.action = (
   word ∷ keyword (of_part words.parameters) ∷ opens ∷ closes ∷ closes ∷ [],
   Grammar.action (action_from no_name (Grammar.parameters [] ∷ [])),
@@ -138,6 +143,11 @@ some_section words.goal = (
   opens ∷ word ∷ closes ∷ closes ∷ [],
   Grammar.goal (tree.atom (record { predicate = no_name; terms = [] })),
   λ f j others r. next (by refl (next (by refl (next (by refl nothing) nothing)) nothing)) (next (by refl nothing) nothing),
+)
+some_section words.metric = (
+  free words.minimize no_name ∷ opens ∷ reserved words.total_cost no_name ∷ closes ∷ closes ∷ [],
+  Grammar.metric no_name,
+  λ f j others r. next (by refl nothing) (next (by refl (next (by refl (next (by refl nothing) nothing)) nothing)) (next (by refl nothing) nothing)),
 )
 
 one_section : (f : File) (k : SectionKeyword) (others : List SectionKeyword) → Shortest (section f k others)
@@ -168,7 +178,12 @@ shortest (Grammar.listed s) = in_list (shortest s)
 shortest (Grammar.many s) = short (closes ∷ []) [] (λ r. by refl nothing)
 shortest Grammar.formula = short (word ∷ closes ∷ []) (tree.atom (record { predicate = no_name; terms = [] })) (λ r. by refl (next (by refl nothing) nothing))
 shortest Grammar.precondition_list = short (closes ∷ []) (tree.and (formulas [])) (λ r. by refl nothing)
-shortest Grammar.effect_list = short (word ∷ closes ∷ []) (tree.add (record { predicate = no_name; terms = [] })) (λ r. by refl (next (by refl nothing) nothing))
+shortest Grammar.effect_list = short (word ∷ closes ∷ []) (tree.literal (tree.add (record { predicate = no_name; terms = [] }))) (λ r. by refl (next (by refl nothing) nothing))
+shortest Grammar.effect_value = short (closes ∷ []) (value_of_all []) (λ r. by refl nothing)
+shortest Grammar.item = short (word ∷ closes ∷ []) (change (tree.literal (tree.add (record { predicate = no_name; terms = [] })))) (λ r. by refl (next (by refl nothing) nothing))
+shortest Grammar.conditional = short (word ∷ closes ∷ []) (tree.add (record { predicate = no_name; terms = [] }) ∷ []) (λ r. by refl (next (by refl nothing) nothing))
+shortest Grammar.conditional_literal = short (word ∷ closes ∷ []) (tree.add (record { predicate = no_name; terms = [] })) (λ r. by refl (next (by refl nothing) nothing))
+shortest Grammar.conditional_atom = short (word ∷ closes ∷ []) (record { predicate = no_name; terms = [] }) (λ r. by refl (next (by refl nothing) nothing))
 shortest Grammar.atom = short (word ∷ closes ∷ []) (record { predicate = no_name; terms = [] }) (λ r. by refl (next (by refl nothing) nothing))
 shortest Grammar.declaration = short (word ∷ closes ∷ []) (record { name = no_name; parameters = [] }) (λ r. by refl (next (by refl nothing) nothing))
 shortest Grammar.fact = short (word ∷ closes ∷ []) (tree.fact (record { predicate = no_name; objects = [] })) (λ r. by refl (next (by refl nothing) nothing))
@@ -178,6 +193,12 @@ shortest (Grammar.group l) = short (closes ∷ []) (Grammar.ends_group [] ∷ []
 shortest (Grammar.type Grammar.names) = short (word ∷ []) (no_name ∷ []) (λ r. by refl nothing)
 shortest (Grammar.type Grammar.variables) = short (word ∷ []) (no_name ∷ []) (λ r. by refl nothing)
 shortest Grammar.either_word = short (reserved words.either no_name ∷ []) tt (λ r. by refl nothing)
+shortest Grammar.total_cost = short (reserved words.total_cost no_name ∷ closes ∷ []) no_name (λ r. by refl (next (by refl nothing) nothing))
+shortest Grammar.amount = short (number 0 no_name ∷ []) (0, no_name) (λ r. by refl nothing)
+shortest Grammar.function_list = short (closes ∷ []) [] (λ r. by refl nothing)
+shortest Grammar.function_type = short (closes ∷ []) [] (λ r. by refl nothing)
+shortest Grammar.number_type = short (free words.number_word no_name ∷ []) tt (λ r. by refl nothing)
+shortest Grammar.minimize_word = short (free words.minimize no_name ∷ []) tt (λ r. by refl nothing)
 shortest Grammar.action_name = short (word ∷ []) no_name (λ r. by refl nothing)
 shortest (parts seen) = some_parts seen (has_part seen words.parameters) refl
 shortest (Grammar.value seen) = short (opens ∷ []) tt (λ r. by refl nothing)

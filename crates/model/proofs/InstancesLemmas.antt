@@ -19,7 +19,7 @@ is_instance_of task schema objects = option_map_or (λ s. fits task s objects) s
 abbrev step_of : Task → State → Option Schema → List ℕ → Option State
 step_of task state found objects =
     option_and_then (λ schema.
-    if fits task schema objects && holds task schema.precondition objects state then Some (after_changes state (changes_of schema.effect objects))
+    if fits task schema objects && holds task schema.precondition objects state then Some (after_changes task state (changes_of task schema.effect objects))
     else None)
     found
 

@@ -1,18 +1,18 @@
 -- An atom of a static predicate is true in a state that an action leads to exactly where it was true before.
 use Rattle.std.proofs.Common.{◌≡◌, ℕ, zero, suc, Bool, true, false, ◌&&◌, ◌||◌, not, List, [], ◌∷◌, ◌++◌, Option, None, Some, refl, sym, ap, ◌∙◌}
-use Rattle.std.specs.Prelude.{◌==◌, slice_get, if◌then◌else◌, filter}
+use Rattle.std.specs.Prelude.{◌==◌, slice_get, cond, if◌then◌else◌, filter, map}
 use Rattle.std.specs.Option.{option_and_then}
-use Rattle.std.specs.List.{list_any}
+use Rattle.std.specs.List.{flat_map, list_any}
 use Rattle.std.specs.Ordering.{eq_by_cmp}
 use Rattle.std.specs.Cmp.{Equal-is}
 use Rattle.std.specs.FinSet.{contains, from_list, difference, contains-from_list, contains-union, contains-difference}
 use Rattle.std.proofs.lemmas.Bool.{or_parts, or_from, eq-eqb, false_from_ne_true}
 use Rattle.std.proofs.lemmas.List.Folds.{list_any-append}
-use Rattle.model.specs.Task.{Atom, LiftedAtom, Effect, Effects, add, delete, both, no_effect, more_effects, Schema, Task, Instance}
-use Rattle.model.specs.Meaning.{State, atom_cmp, ground_atom, changes_of, changes_of_all, added_by, deleted_by, after_changes, step, holds, fits, system_of, initial_state}
+use Rattle.model.specs.Task.{Atom, LiftedAtom, Formula, EffectLiteral, add, delete, Effect, Effects, literal, both, each, when, no_effect, more_effects, Schema, Task, Instance}
+use Rattle.model.specs.Meaning.{State, atom_cmp, objects_of, ground_atom, GroundLiteral, adds, deletes, Change, ground_literal, change_under, changes_of, changes_of_all, literals_in, added_by, deleted_by, after_literals, after_changes, step, holds, fits, system_of, initial_state}
 use Rattle.model.specs.Runs.{run, IsReachable}
-use Rattle.model.specs.Certificates.{touches, any_touches, is_fluent, static_atoms}
-use Rattle.model.proofs.Atoms.{stands_in, atoms_total, atoms_apart, same_state, added_by-append, deleted_by-append}
+use Rattle.model.specs.Certificates.{is_literal_of, touches, any_touches, is_fluent, static_atoms}
+use Rattle.model.proofs.Atoms.{stands_in, atoms_total, atoms_apart, same_state}
 
 -- a ground atom of another predicate is another atom
 other_atom : (q : Atom) (a : LiftedAtom) (b : List ℕ) → (a.predicate == q.predicate) ≡ false → eq_by_cmp atom_cmp q (ground_atom b a) ≡ false
@@ -25,33 +25,74 @@ other_atom q a b apart =
         let named : (a.predicate == q.predicate) ≡ true = eq-eqb a.predicate q.predicate (ap (λ (x : Atom). x.predicate) (sym is)) in
         absurd (cc)
 
-abbrev mutual
-  untouched_added : (q : Atom) (e : Effect) (b : List ℕ) → touches q.predicate e ≡ false → stands_in (added_by (changes_of e b)) q ≡ false
-  untouched_added q (add a) b apart = or_from (eq_by_cmp atom_cmp q (ground_atom b a)) false (other_atom q a b apart) refl
-  untouched_added q (delete a) b apart = refl
-  untouched_added q (both parts) b apart = all_untouched_added q parts b apart
+-- the atom that a literal is of
+abbrev atom_in : GroundLiteral → Atom
+atom_in (adds a) = a
+atom_in (deletes a) = a
 
-  all_untouched_added : (q : Atom) (es : Effects) (b : List ℕ) → any_touches q.predicate es ≡ false → stands_in (added_by (changes_of_all es b)) q ≡ false
-  all_untouched_added q no_effect b apart = refl
-  all_untouched_added q (more_effects first rest) b apart =
+-- some change is of the atom
+abbrev is_changed : Atom → List Change → Bool
+is_changed q changes = list_any (λ (c : Change). eq_by_cmp atom_cmp q (atom_in c.literal)) changes
+
+-- the changes of an effect that does not touch an atom's predicate are not of the atom
+untouched_literal : (q : Atom) (l : EffectLiteral) (b : List ℕ) → is_literal_of q.predicate l ≡ false → eq_by_cmp atom_cmp q (atom_in (ground_literal b l)) ≡ false
+untouched_literal q (add a) b apart = other_atom q a b apart
+untouched_literal q (delete a) b apart = other_atom q a b apart
+
+untouched_literals : (q : Atom) (condition : Formula) (ls : List EffectLiteral) (b : List ℕ) → list_any (is_literal_of q.predicate) ls ≡ false
+    → is_changed q (map (change_under condition b) ls) ≡ false
+untouched_literals q condition [] b apart = refl
+untouched_literals q condition (l ∷ ls) b apart =
+    let parts = or_parts (is_literal_of q.predicate l) (list_any (is_literal_of q.predicate) ls) apart in
+    or_from _ _ (untouched_literal q l b parts.0) (untouched_literals q condition ls b parts.1)
+
+unchanged_both : (q : Atom) (xs ys : List Change) → is_changed q xs ≡ false → is_changed q ys ≡ false → is_changed q (xs ++ ys) ≡ false
+unchanged_both q xs ys left right =
+    list_any-append (λ (c : Change). eq_by_cmp atom_cmp q (atom_in c.literal)) xs ys ∙ or_from (is_changed q xs) (is_changed q ys) left right
+
+unchanged_each : (q : Atom) (of : ℕ → List Change) (objects : List ℕ) → ((one : ℕ) → is_changed q (of one) ≡ false) → is_changed q (flat_map of objects) ≡ false
+unchanged_each q of [] none = refl
+unchanged_each q of (one ∷ objects) none = unchanged_both q (of one) (flat_map of objects) (none one) (unchanged_each q of objects none)
+
+mutual
+  untouched : (task : Task) (q : Atom) (e : Effect) (b : List ℕ) → touches q.predicate e ≡ false → is_changed q (changes_of task e b) ≡ false
+  untouched task q (literal l) b apart = or_from _ false (untouched_literal q l b apart) refl
+  untouched task q (both parts) b apart = all_untouched task q parts b apart
+  untouched task q (each types part) b apart =
+      unchanged_each q (λ one. changes_of task part (b ++ one ∷ [])) (objects_of task types) (λ one. untouched task q part (b ++ one ∷ []) apart)
+  untouched task q (when condition literals) b apart = untouched_literals q condition literals b apart
+
+  all_untouched : (task : Task) (q : Atom) (es : Effects) (b : List ℕ) → any_touches q.predicate es ≡ false → is_changed q (changes_of_all task es b) ≡ false
+  all_untouched task q no_effect b apart = refl
+  all_untouched task q (more_effects first rest) b apart =
       let parts = or_parts (touches q.predicate first) (any_touches q.predicate rest) apart in
-      ap (λ atoms. stands_in atoms q) (added_by-append (changes_of first b) (changes_of_all rest b))
-      ∙ list_any-append (eq_by_cmp atom_cmp q) (added_by (changes_of first b)) (added_by (changes_of_all rest b))
-      ∙ or_from (stands_in (added_by (changes_of first b)) q) (stands_in (added_by (changes_of_all rest b)) q) (untouched_added q first b parts.0) (all_untouched_added q rest b parts.1)
+      unchanged_both q (changes_of task first b) (changes_of_all task rest b) (untouched task q first b parts.0) (all_untouched task q rest b parts.1)
 
-abbrev mutual
-  untouched_deleted : (q : Atom) (e : Effect) (b : List ℕ) → touches q.predicate e ≡ false → stands_in (deleted_by (changes_of e b)) q ≡ false
-  untouched_deleted q (add a) b apart = refl
-  untouched_deleted q (delete a) b apart = or_from (eq_by_cmp atom_cmp q (ground_atom b a)) false (other_atom q a b apart) refl
-  untouched_deleted q (both parts) b apart = all_untouched_deleted q parts b apart
+-- some literal is of the atom
+abbrev is_among : Atom → List GroundLiteral → Bool
+is_among q literals = list_any (λ l. eq_by_cmp atom_cmp q (atom_in l)) literals
 
-  all_untouched_deleted : (q : Atom) (es : Effects) (b : List ℕ) → any_touches q.predicate es ≡ false → stands_in (deleted_by (changes_of_all es b)) q ≡ false
-  all_untouched_deleted q no_effect b apart = refl
-  all_untouched_deleted q (more_effects first rest) b apart =
-      let parts = or_parts (touches q.predicate first) (any_touches q.predicate rest) apart in
-      ap (λ atoms. stands_in atoms q) (deleted_by-append (changes_of first b) (changes_of_all rest b))
-      ∙ list_any-append (eq_by_cmp atom_cmp q) (deleted_by (changes_of first b)) (deleted_by (changes_of_all rest b))
-      ∙ or_from (stands_in (deleted_by (changes_of first b)) q) (stands_in (deleted_by (changes_of_all rest b)) q) (untouched_deleted q first b parts.0) (all_untouched_deleted q rest b parts.1)
+-- those whose condition holds are not of it either
+not_among : (task : Task) (s : State) (q : Atom) (changes : List Change) → is_changed q changes ≡ false → is_among q (literals_in task s changes) ≡ false
+not_among task s q [] none = refl
+not_among task s q (c ∷ changes) none =
+    let parts = or_parts (eq_by_cmp atom_cmp q (atom_in c.literal)) (is_changed q changes) none in
+    by_condition (holds task c.condition c.binding s) parts.0 (not_among task s q changes parts.1)
+  where
+    by_condition : (held : Bool) → eq_by_cmp atom_cmp q (atom_in c.literal) ≡ false → is_among q (literals_in task s changes) ≡ false
+        → is_among q (map (λ (d : Change). d.literal) (cond held (c ∷ filter (λ (d : Change). holds task d.condition d.binding s) changes) (filter (λ (d : Change). holds task d.condition d.binding s) changes))) ≡ false
+    by_condition true first rest = or_from _ _ first rest
+    by_condition false first rest = rest
+
+not_added : (q : Atom) (literals : List GroundLiteral) → is_among q literals ≡ false → stands_in (added_by literals) q ≡ false
+not_added q [] none = refl
+not_added q (adds a ∷ rest) none = let parts = or_parts (eq_by_cmp atom_cmp q a) (is_among q rest) none in or_from _ _ parts.0 (not_added q rest parts.1)
+not_added q (deletes a ∷ rest) none = not_added q rest (or_parts (eq_by_cmp atom_cmp q a) (is_among q rest) none).1
+
+not_deleted : (q : Atom) (literals : List GroundLiteral) → is_among q literals ≡ false → stands_in (deleted_by literals) q ≡ false
+not_deleted q [] none = refl
+not_deleted q (adds a ∷ rest) none = not_deleted q rest (or_parts (eq_by_cmp atom_cmp q a) (is_among q rest) none).1
+not_deleted q (deletes a ∷ rest) none = let parts = or_parts (eq_by_cmp atom_cmp q a) (is_among q rest) none in or_from _ _ parts.0 (not_deleted q rest parts.1)
 
 and_or_nothing : (x : Bool) → ((x && not false) || false) ≡ x
 and_or_nothing true = refl
@@ -60,16 +101,21 @@ and_or_nothing false = refl
 kept : (x y z : Bool) → y ≡ false → z ≡ false → ((x && not y) || z) ≡ x
 kept x y z ey ez = ap (λ v. (x && not v) || z) ey ∙ ap (λ v. (x && not false) || v) ez ∙ and_or_nothing x
 
--- the changes of an effect that does not touch the atom's predicate leave the atom as it is
-contains-after : (s : State) (q : Atom) (e : Effect) (b : List ℕ) → touches q.predicate e ≡ false → contains (after_changes s (changes_of e b)) q ≡ contains s q
-contains-after s q e b apart =
-    let gone : State = from_list (deleted_by (changes_of e b)) in
-    let new : State = from_list (added_by (changes_of e b)) in
+-- literals that are not of an atom leave it as it is
+contains-after_literals : (s : State) (q : Atom) (literals : List GroundLiteral) → is_among q literals ≡ false → contains (after_literals s literals) q ≡ contains s q
+contains-after_literals s q literals none =
+    let gone : State = from_list (deleted_by literals) in
+    let new : State = from_list (added_by literals) in
     contains-union atoms_total (difference s gone) new q
     ∙ ap (λ v. v || contains new q) (contains-difference atoms_total s gone q)
     ∙ kept (contains s q) (contains gone q) (contains new q)
-    (contains-from_list atoms_total (deleted_by (changes_of e b)) q ∙ untouched_deleted q e b apart)
-    (contains-from_list atoms_total (added_by (changes_of e b)) q ∙ untouched_added q e b apart)
+    (contains-from_list atoms_total (deleted_by literals) q ∙ not_deleted q literals none)
+    (contains-from_list atoms_total (added_by literals) q ∙ not_added q literals none)
+
+-- so do the changes of an effect that does not touch the atom's predicate
+contains-after : (task : Task) (s : State) (q : Atom) (e : Effect) (b : List ℕ) → touches q.predicate e ≡ false → contains (after_changes task s (changes_of task e b)) q ≡ contains s q
+contains-after task s q e b apart =
+    contains-after_literals s q (literals_in task s (changes_of task e b)) (not_among task s q (changes_of task e b) (untouched task q e b apart))
 
 none_of_all : {X : Type 0} (p : X → Bool) (xs : List X) (k : ℕ) (x : X) → list_any p xs ≡ false → slice_get xs k ≡ Some x → p x ≡ false
 none_of_all p [] k x none at = absurd (cc)
@@ -87,13 +133,13 @@ contains-step task s next i q static leads =
     elim (slice_get task.schemas i.schema) as (λ o. slice_get task.schemas i.schema ≡ o → option_and_then (next_by) o ≡ Some next → contains next q ≡ contains s q) [
       | None ↦ λ _ none. absurd (cc)
       | Some schema ↦ λ at some.
-          let is : after_changes s (changes_of schema.effect i.objects) ≡ next = given (fits task schema i.objects) (holds task schema.precondition i.objects s) _ next some in
+          let is : after_changes task s (changes_of task schema.effect i.objects) ≡ next = given (fits task schema i.objects) (holds task schema.precondition i.objects s) _ next some in
           ap (λ (t : State). contains t q) (sym is)
-          ∙ contains-after s q schema.effect i.objects (none_of_all (λ (x : Schema). touches q.predicate x.effect) task.schemas i.schema schema static at)
+          ∙ contains-after task s q schema.effect i.objects (none_of_all (λ (x : Schema). touches q.predicate x.effect) task.schemas i.schema schema static at)
     ] refl leads
   where
     next_by : Schema → Option State
-    next_by schema = if fits task schema i.objects && holds task schema.precondition i.objects s then Some (after_changes s (changes_of schema.effect i.objects)) else None
+    next_by schema = if fits task schema i.objects && holds task schema.precondition i.objects s then Some (after_changes task s (changes_of task schema.effect i.objects)) else None
 
 contains-run : (task : Task) (q : Atom) → is_fluent task q.predicate ≡ false → (actions : List Instance) (s end : State) → run (system_of task) s actions ≡ Some end → contains end q ≡ contains s q
 contains-run task q static [] s end runs = let same : s ≡ end = cc in ap (λ (t : State). contains t q) (sym same)

@@ -1,13 +1,14 @@
 -- The faults that are listed of a phase are those that the table has of it.
-use Rattle.std.proofs.Common.{◌≡◌, ℕ, zero, suc, ◌+◌, inl, inr, true, false, ◌||◌, true≢false, List, [], ◌∷◌, ◌++◌, Some, refl, sym, subst, arith}
-use Rattle.std.specs.Prelude.{Contains, codes, slice_get, if◌then◌else◌}
+use Rattle.std.proofs.Common.{◌≡◌, ℕ, zero, suc, ◌+◌, inl, inr, Bool, true, false, ◌||◌, true≢false, List, [], ◌∷◌, ◌++◌, map, drop, Option, None, Some, refl, sym, ap, subst, arith}
+use Rattle.std.specs.Prelude.{Contains, codes, slice_get, is_some, ◌==◌, if◌then◌else◌}
 use Rattle.std.specs.List.{flat_map}
-use Rattle.std.proofs.lemmas.Bool.{or_cases, or_left}
+use Rattle.std.specs.Option.{option_map_or}
+use Rattle.std.proofs.lemmas.Bool.{or_cases, or_left, eqb-false, ne_eqb}
 use Rattle.model.specs.Trees.{domain_file, problem_file, Name, Domain, Problem}
 use Rattle.model.specs.Trees as tree
-use Rattle.model.specs.Typing.{Declared, Placed, placed, words_of, folded, is_same, declared_types, declared_objects, type_names, parents_of, known_in_domain, known_in_problem, TypingFault, refused, refused_word, repeated_after, repeated, one_after, type_faults, domain_name_faults, type_declaration_faults, comes_back, cycle_faults_from, cycle_faults, object_faults, argument_faults, declaration_faults, variable_faults, body_faults, schema_faults, action_faults, formula_faults, fact_faults}
-use Rattle.model.specs.TypingFaults.{Phase, of_names, of_cycles, of_objects, of_predicates, of_actions, of_init, of_goal, predicate_words, action_words, arguments_of, parameters_of, known_in, as_atom, IsRepeated, IsFaultIn, other_domain, type_again, object_declared, unknown_parent, many_types, type_cycle, type_of_object, object_again, many_objects, predicate_again, type_of_argument, many_arguments, action_again, of_parameters, in_precondition, in_effect, in_init, negated, in_goal}
-use Rattle.model.proofs.ListLemmas.{Contains-here, Contains-flat_map}
+use Rattle.model.specs.Typing.{Declared, Placed, placed, words_of, folded, is_same, declared_types, declared_objects, type_names, parents_of, declares_cost, known_in_domain, known_in_problem, equals_in, TypingFault, refused, refused_word, repeated_after, repeated, one_after, type_faults, domain_name_faults, type_declaration_faults, comes_back, cycle_faults_from, cycle_faults, object_faults, argument_faults, declaration_faults, variable_faults, increase_words, body_faults, schema_faults, action_faults, formula_faults, effect_faults, fact_faults, init_faults, function_faults}
+use Rattle.model.specs.TypingFaults.{Phase, of_names, of_cycles, of_objects, of_predicates, of_functions, of_actions, of_init, of_goal, predicate_words, action_words, arguments_of, parameters_of, known_in, as_atom, IsRepeated, IsFaultIn, other_domain, type_again, object_declared, unknown_parent, many_types, type_cycle, type_of_object, object_again, many_objects, predicate_again, type_of_argument, many_arguments, function_again, metric_undeclared, action_again, of_parameters, in_precondition, in_effect, increase_undeclared, increase_again, in_init, cost_undeclared, cost_not_zero, cost_again, negated, in_goal}
+use Rattle.model.proofs.ListLemmas.{Contains-here, Contains-there, Contains-none, Contains-got, Contains-place, Contains-map, map-Contains, Contains-flat_map}
 use Rattle.model.proofs.TypingFaultsLemmas.{fault_at, Tells, AllTell, none_tells, both_tell, one_tells, flat_map_tell, refused_tell, unless_tells, when_tells, types_tell, on_left, on_right, unless_listed, when_listed, refused_listed, type_listed, Contains-one_after, one_after-Contains}
 use Rattle.model.proofs.TypingFaultsRepeats.{repeated_after-Contains, repeated-Contains, repeated_listed, known_listed}
 use Rattle.model.proofs.TypingFaultsVariables.{variables_tell, variable_listed}
@@ -19,9 +20,52 @@ phase_faults d p of_names = domain_name_faults d p ++ type_declaration_faults d
 phase_faults d p of_cycles = cycle_faults d
 phase_faults d p of_objects = object_faults d p
 phase_faults d p of_predicates = declaration_faults (type_names d) d.predicates
+phase_faults d p of_functions = function_faults d p
 phase_faults d p of_actions = action_faults (known_in_domain d) d.actions
-phase_faults d p of_init = flat_map (fact_faults problem_file (known_in_problem d p)) p.init
+phase_faults d p of_init = init_faults problem_file (known_in_problem d p) p.init
 phase_faults d p of_goal = formula_faults problem_file (known_in_problem d p) p.goal
+
+-- ---- words past the first
+
+-- a word past the first of a list
+later-Contains : {X : Type 0} (xs : List X) (x : X) → Contains (drop 1 xs) x → (place : ℕ) × (slice_get xs (place + 1) ≡ Some x)
+later-Contains [] x at = absurd (Contains-none x at)
+later-Contains (first ∷ rest) x at =
+    let there = Contains-place rest x at in
+    (there.0, subst (λ n. slice_get (first ∷ rest) n ≡ Some x) (next there.0) there.1)
+  where
+    next : (place : ℕ) → suc place ≡ place + 1
+    next place = omega arith
+
+-- and the other way
+Contains-later : {X : Type 0} (xs : List X) (place : ℕ) (x : X) → slice_get xs (place + 1) ≡ Some x → Contains (drop 1 xs) x
+Contains-later [] place x at = absurd (cc)
+Contains-later (first ∷ rest) place x at =
+    let next : place + 1 ≡ suc place = omega arith in
+    Contains-got rest place x (subst (λ n. slice_get (first ∷ rest) n ≡ Some x) next at)
+
+-- past the first of what a list is mapped to
+later_of_map : {X Y : Type 0} (f : X → Y) (xs : List X) (y : Y) → Contains (drop 1 (map f xs)) y → (place : ℕ) × (x : X) × (slice_get xs (place + 1) ≡ Some x) × (f x ≡ y)
+later_of_map f [] y at = absurd (Contains-none y at)
+later_of_map f (first ∷ rest) y at =
+    let there = map-Contains f rest y at in
+    let place = later-Contains (first ∷ rest) there.0 there.1 in
+    (place.0, there.0, place.1, there.2)
+
+map_of_later : {X Y : Type 0} (f : X → Y) (xs : List X) (place : ℕ) (x : X) → slice_get xs (place + 1) ≡ Some x → Contains (drop 1 (map f xs)) (f x)
+map_of_later f [] place x at = absurd (cc)
+map_of_later f (first ∷ rest) place x at = Contains-map f rest x (Contains-later (first ∷ rest) place x at)
+
+-- the total cost is declared where a word declares it
+declared_not : (d : Domain) → declares_cost d ≡ false → d.functions ≡ []
+declared_not d none = by_words d.functions none
+  where
+    by_words : (words : List Name) → is_some (slice_get words 0) ≡ false → words ≡ []
+    by_words [] none = refl
+    by_words (word ∷ words) none = absurd (cc)
+
+not_declared : (d : Domain) → d.functions ≡ [] → declares_cost d ≡ false
+not_declared d none = ap (λ (words : List Name). is_some (slice_get words 0)) none
 
 -- ---- cycles of types
 
@@ -92,34 +136,68 @@ predicates_tell d p =
     (flat_map_tell _ _ (λ q among. both_tell (types_tell (type_names d) (arguments_of q) (λ w has unknown. type_of_argument q w among has unknown))
     (refused_tell _ _ (λ w at. many_arguments q w among (one_after-Contains 8 (words_of (arguments_of q)) w at)))))
 
+-- 5: functions, and the metric
+functions_tell : (d : Domain) (p : Problem) → AllTell (IsFaultIn d p of_functions) (phase_faults d p of_functions)
+functions_tell d p = both_tell (refused_tell _ _ again) (by_metric p.metric refl)
+  where
+    again : (w : Placed) → Contains (drop 1 (map (placed domain_file) d.functions)) w → IsFaultIn d p of_functions 16 w
+    again w at = let there = later_of_map (placed domain_file) d.functions w at in subst (IsFaultIn d p of_functions 16) there.3 (function_again there.0 there.1 there.2)
+
+    by_metric : (metric : Option Name) → p.metric ≡ metric → AllTell (IsFaultIn d p of_functions) (option_map_or (λ n. if declares_cost d then [] else refused_word problem_file 22 n) metric [])
+    by_metric None is = none_tells
+    by_metric (Some n) is = unless_tells (declares_cost d) 22 (placed problem_file n) (λ none. metric_undeclared n is (declared_not d none))
+
+-- the words `increase` of one action
+increase_tells : (d : Domain) (p : Problem) (a : tree.Action) → Contains d.actions a → (w : Placed)
+    → Contains (drop (if declares_cost d then 1 else 0) (increase_words domain_file a)) w → IsFaultIn d p of_actions 23 w
+increase_tells d p a among w at = by_declared (declares_cost d) refl at
+  where
+    by_declared : (is : Bool) → declares_cost d ≡ is → Contains (drop (if is then 1 else 0) (increase_words domain_file a)) w → IsFaultIn d p of_actions 23 w
+    by_declared true is at =
+        let there = later_of_map (λ (i : tree.Increase). placed domain_file i.word) a.increases w at in
+        subst (IsFaultIn d p of_actions 23) there.3 (increase_again a there.0 there.1 among there.2)
+    by_declared false is at =
+        let there = map-Contains (λ (i : tree.Increase). placed domain_file i.word) a.increases w at in
+        subst (IsFaultIn d p of_actions 23) there.2 (increase_undeclared a there.0 among there.1 (declared_not d is))
+
 -- the faults of one action
 schema_tells : (d : Domain) (p : Problem) (a : tree.Action) → Contains d.actions a → AllTell (IsFaultIn d p of_actions) (schema_faults (known_in_domain d) a)
 schema_tells d p a among =
     both_tell (variables_tell (known_in_domain d) (parameters_of a) (λ code w fault. of_parameters a code w among fault))
-    (both_tell (formula_tells domain_file (known_in d a) a.precondition (λ code w fault. in_precondition a code w among fault))
-    (effect_tells domain_file (known_in d a) a.effect (λ b code w has fault. in_effect a b code w among has fault)))
+    (both_tell (both_tell (formula_tells domain_file (known_in d a) a.precondition (λ code w fault. in_precondition a code w among fault))
+    (effect_tells domain_file (known_in d a) a.effect (λ code w fault. in_effect a code w among fault)))
+    (refused_tell _ _ (increase_tells d p a among)))
 
--- 5: actions
+-- 6: actions
 actions_tell : (d : Domain) (p : Problem) → AllTell (IsFaultIn d p of_actions) (phase_faults d p of_actions)
 actions_tell d p =
     both_tell (refused_tell _ _ (λ w at. action_again w (repeated-Contains (action_words d) w at)))
     (flat_map_tell _ _ (schema_tells d p))
 
--- 6: what stands in `:init`
+-- 7: what stands in `:init`
 fact_tells : (d : Domain) (p : Problem) (f : tree.Fact) → Contains p.init f → AllTell (IsFaultIn d p of_init) (fact_faults problem_file (known_in_problem d p) f)
 fact_tells d p (tree.fact a) among =
     subst (AllTell (IsFaultIn d p of_init)) (sym (ground_atom_as_atom problem_file (known_in_problem d p) a))
     (atom_tells problem_file (known_in_problem d p) (as_atom a) (λ code w fault. in_init a code w among fault))
 fact_tells d p (tree.negated word a) among = one_tells 24 (placed problem_file word) (negated word a among)
+fact_tells d p (tree.initial_cost c) among =
+    both_tell (unless_tells (declares_cost d) 23 (placed problem_file c.function) (λ none. cost_undeclared c among (declared_not d none)))
+    (unless_tells (c.amount == 0) 23 (placed problem_file c.number) (λ other. cost_not_zero c among (eqb-false c.amount 0 other)))
 
--- each phase; 2, the cycles of types, and 7, the goal, at once
+init_tells : (d : Domain) (p : Problem) → AllTell (IsFaultIn d p of_init) (phase_faults d p of_init)
+init_tells d p =
+    both_tell (flat_map_tell _ _ (fact_tells d p))
+    (refused_tell _ _ (λ w at. let there = later-Contains (equals_in problem_file p.init) w at in cost_again there.0 w there.1))
+
+-- each phase; 2, the cycles of types, and 8, the goal, at once
 pub phase_tells : (d : Domain) (p : Problem) (phase : Phase) → AllTell (IsFaultIn d p phase) (phase_faults d p phase)
 phase_tells d p of_names = names_tell d p
 phase_tells d p of_cycles = cycles_tell (parents_of d) 1 (declared_types d) type_cycle
 phase_tells d p of_objects = objects_tell d p
 phase_tells d p of_predicates = predicates_tell d p
+phase_tells d p of_functions = functions_tell d p
 phase_tells d p of_actions = actions_tell d p
-phase_tells d p of_init = flat_map_tell _ _ (fact_tells d p)
+phase_tells d p of_init = init_tells d p
 phase_tells d p of_goal = formula_tells problem_file (known_in_problem d p) p.goal in_goal
 
 -- ---- each fault of the table is in its phase's list
@@ -157,9 +235,34 @@ in_action d p a {f} among at = on_right (refused 16 (repeated (action_words d)))
 abbrev faults_of_parameters : Domain → tree.Action → List TypingFault
 faults_of_parameters d a = variable_faults (type_names d) [] (parameters_of a)
 
--- those of its precondition and its effect are, too
+-- those of its precondition, its effect and its increases are, too
 in_body : (d : Domain) (p : Problem) (a : tree.Action) {f : TypingFault} → Contains d.actions a → Contains (body_faults domain_file (known_in d a) a) f → Contains (phase_faults d p of_actions) f
 in_body d p a among at = in_action d p a among (on_right (faults_of_parameters d a) _ at)
+
+-- the words `increase` that are refused
+abbrev increases_refused : Domain → tree.Action → List Placed
+increases_refused d a = drop (if declares_cost d then 1 else 0) (increase_words domain_file a)
+
+in_increases : (d : Domain) (p : Problem) (a : tree.Action) (w : Placed) → Contains d.actions a → Contains (increases_refused d a) w → Contains (phase_faults d p of_actions) (fault_at 23 w)
+in_increases d p a w among at =
+    in_body d p a among (on_right (formula_faults domain_file (known_in d a) a.precondition ++ effect_faults domain_file (known_in d a) a.effect) _
+    (refused_listed 23 (increases_refused d a) w at))
+
+-- what is past the first is refused, whether or not the total cost is declared
+later_refused : (d : Domain) (a : tree.Action) (w : Placed) → Contains (drop 1 (increase_words domain_file a)) w → Contains (increases_refused d a) w
+later_refused d a w at = by_declared (declares_cost d)
+  where
+    past_first : (words : List Placed) → Contains (drop 1 words) w → Contains words w
+    past_first [] at = absurd (Contains-none w at)
+    past_first (first ∷ rest) at = Contains-there first rest w at
+
+    by_declared : (is : Bool) → Contains (drop (if is then 1 else 0) (increase_words domain_file a)) w
+    by_declared true = at
+    by_declared false = past_first (increase_words domain_file a) at
+
+-- the faults of a fact are in the list of their phase
+in_facts : (d : Domain) (p : Problem) (stands : tree.Fact) {f : TypingFault} → Contains p.init stands → Contains (fact_faults problem_file (known_in_problem d p) stands) f → Contains (phase_faults d p of_init) f
+in_facts d p stands {f} among at = on_left _ _ (Contains-flat_map (fact_faults problem_file (known_in_problem d p)) p.init stands f among at)
 
 -- each entry of the table
 pub phase_listed : (d : Domain) (p : Problem) (phase : Phase) (code : ℕ) (w : Placed) → IsFaultIn d p phase code w → Contains (phase_faults d p phase) (fault_at code w)
@@ -181,20 +284,41 @@ phase_listed d p phase code w (predicate_again v again) = on_left _ _ (again_lis
 phase_listed d p phase code w (type_of_argument q v among has unknown) = in_predicate d p q among (on_left _ _ (type_listed (type_names d) (arguments_of q) v has unknown))
 phase_listed d p phase code w (many_arguments q v among at) =
     in_predicate d p q among (on_right (type_faults (type_names d) (arguments_of q)) _ (one_too_many_listed 8 (words_of (arguments_of q)) v at))
+phase_listed d p phase code w (function_again place n at) =
+    on_left _ _ (refused_listed 16 (drop 1 (map (placed domain_file) d.functions)) (placed domain_file n) (map_of_later (placed domain_file) d.functions place n at))
+phase_listed d p phase code w (metric_undeclared n is none) =
+    on_right (refused 16 (drop 1 (map (placed domain_file) d.functions))) _
+    (subst (λ metric. Contains (option_map_or (λ m. if declares_cost d then [] else refused_word problem_file 22 m) metric []) (fault_at 22 (placed problem_file n))) (sym is)
+    (unless_listed (declares_cost d) (fault_at 22 (placed problem_file n)) (not_declared d none)))
 phase_listed d p phase code w (action_again v again) = on_left _ _ (again_listed v again)
 phase_listed d p phase code w (of_parameters a number v among fault) =
     in_action d p a among (on_left _ _ (variable_listed (known_in_domain d) (parameters_of a) number v fault))
 phase_listed d p phase code w (in_precondition a number v among fault) =
-    in_body d p a among (on_left _ _ (formula_listed domain_file (known_in d a) a.precondition number v fault))
-phase_listed d p phase code w (in_effect a b number v among has fault) =
-    in_body d p a among (on_right (formula_faults domain_file (known_in d a) a.precondition) _ (effect_listed domain_file (known_in d a) a.effect b number v has fault))
+    in_body d p a among (on_left _ _ (on_left _ _ (formula_listed domain_file (known_in d a) a.precondition number v fault)))
+phase_listed d p phase code w (in_effect a number v among fault) =
+    in_body d p a among (on_left _ _ (on_right (formula_faults domain_file (known_in d a) a.precondition) _ (effect_listed domain_file (known_in d a) a.effect number v fault)))
+phase_listed d p phase code w (increase_undeclared a i among at none) =
+    in_increases d p a (placed domain_file i.word) among
+    (subst (λ b. Contains (drop (if b then 1 else 0) (increase_words domain_file a)) (placed domain_file i.word)) (sym (not_declared d none))
+    (Contains-map (λ (j : tree.Increase). placed domain_file j.word) a.increases i at))
+phase_listed d p phase code w (increase_again a place i among at) =
+    in_increases d p a (placed domain_file i.word) among
+    (later_refused d a (placed domain_file i.word) (map_of_later (λ (j : tree.Increase). placed domain_file j.word) a.increases place i at))
 phase_listed d p phase code w (in_init a number v among fault) =
-    Contains-flat_map (fact_faults problem_file (known_in_problem d p)) p.init (tree.fact a) (fault_at number v) among
+    in_facts d p (tree.fact a) among
     (subst (λ faults. Contains faults (fault_at number v)) (sym (ground_atom_as_atom problem_file (known_in_problem d p) a))
     (atom_listed problem_file (known_in_problem d p) (as_atom a) number v fault))
+phase_listed d p phase code w (cost_undeclared c among none) =
+    in_facts d p (tree.initial_cost c) among (on_left _ _ (unless_listed (declares_cost d) (fault_at 23 (placed problem_file c.function)) (not_declared d none)))
+phase_listed d p phase code w (cost_not_zero c among other) =
+    in_facts d p (tree.initial_cost c) among
+    (on_right (if declares_cost d then [] else refused_word problem_file 23 c.function) _
+    (unless_listed (c.amount == 0) (fault_at 23 (placed problem_file c.number)) (ne_eqb c.amount 0 other)))
+phase_listed d p phase code w (cost_again place v at) =
+    on_right (flat_map (fact_faults problem_file (known_in_problem d p)) p.init) _
+    (refused_listed 23 (drop 1 (equals_in problem_file p.init)) v (Contains-later (equals_in problem_file p.init) place v at))
 phase_listed d p phase code w (negated word a among) =
-    Contains-flat_map (fact_faults problem_file (known_in_problem d p)) p.init (tree.negated word a) (fault_at 24 (placed problem_file word)) among
-    (Contains-here (fault_at 24 (placed problem_file word)) [])
+    in_facts d p (tree.negated word a) among (Contains-here (fault_at 24 (placed problem_file word)) [])
 phase_listed d p phase code w (in_goal number v fault) = formula_listed problem_file (known_in_problem d p) p.goal number v fault
 
 -- the faults that are listed of a phase are those that the table tells of it

@@ -10,7 +10,7 @@ use Rattle.model.specs.Fault.{Span}
 use Rattle.model.specs.Trees.{File, Domain, Problem}
 use Rattle.model.specs.Typing.{Placed, TypingFault, rank_of, key_of, is_before, phases, first_filled, faults_of, IsLeastFault}
 use Rattle.model.specs.Typing as typing
-use Rattle.model.specs.TypingFaults.{Phase, of_names, of_cycles, of_objects, of_predicates, of_actions, of_init, of_goal, order_of, IsFaultIn, IsWellTyped, ComesNoLater, IsTold}
+use Rattle.model.specs.TypingFaults.{Phase, of_names, of_cycles, of_objects, of_predicates, of_functions, of_actions, of_init, of_goal, order_of, IsFaultIn, IsWellTyped, ComesNoLater, IsTold}
 use Rattle.model.proofs.ListLemmas.{Contains-here, Contains-none}
 use Rattle.model.proofs.TypingFaultsLemmas.{fault_at, Tells}
 use Rattle.model.proofs.TypingFaultsPhases.{phase_faults, phase_tells, phase_listed}
@@ -71,6 +71,7 @@ phase_at d p of_names = refl
 phase_at d p of_cycles = refl
 phase_at d p of_objects = refl
 phase_at d p of_predicates = refl
+phase_at d p of_functions = refl
 phase_at d p of_actions = refl
 phase_at d p of_init = refl
 phase_at d p of_goal = refl
@@ -87,10 +88,11 @@ phase_of d p zero faults at = record { phase = of_names; number = refl; is = cc 
 phase_of d p (suc zero) faults at = record { phase = of_cycles; number = refl; is = cc }
 phase_of d p (suc (suc zero)) faults at = record { phase = of_objects; number = refl; is = cc }
 phase_of d p (suc (suc (suc zero))) faults at = record { phase = of_predicates; number = refl; is = cc }
-phase_of d p (suc (suc (suc (suc zero)))) faults at = record { phase = of_actions; number = refl; is = cc }
-phase_of d p (suc (suc (suc (suc (suc zero))))) faults at = record { phase = of_init; number = refl; is = cc }
-phase_of d p (suc (suc (suc (suc (suc (suc zero)))))) faults at = record { phase = of_goal; number = refl; is = cc }
-phase_of d p (suc (suc (suc (suc (suc (suc (suc k))))))) faults at = absurd (cc)
+phase_of d p (suc (suc (suc (suc zero)))) faults at = record { phase = of_functions; number = refl; is = cc }
+phase_of d p (suc (suc (suc (suc (suc zero))))) faults at = record { phase = of_actions; number = refl; is = cc }
+phase_of d p (suc (suc (suc (suc (suc (suc zero)))))) faults at = record { phase = of_init; number = refl; is = cc }
+phase_of d p (suc (suc (suc (suc (suc (suc (suc zero))))))) faults at = record { phase = of_goal; number = refl; is = cc }
+phase_of d p (suc (suc (suc (suc (suc (suc (suc (suc k)))))))) faults at = absurd (cc)
 
 -- where the list of a phase is empty, the table has no fault of it
 no_fault : (d : Domain) (p : Problem) (phase : Phase) → phase_faults d p phase ≡ [] → (code : ℕ) (w : Placed) → IsFaultIn d p phase code w → ⊥

@@ -8,10 +8,10 @@ use Rattle.std.proofs.lemmas.List.{length-map}
 use Rattle.model.specs.Task as task
 use Rattle.model.specs.Trees.{File, Name}
 use Rattle.model.specs.Trees as tree
-use Rattle.model.specs.Typing.{Known, Placed, placed, declared, known_with, variable_faults, folded, is_same, is_known, names_of_predicates, names_of_variables, names_of_objects, faults_against, predicate_in_known, predicate_faults, arguments_in, fits_in, fits_wanted, term_in, term_faults, word_of, misfit_faults, terms_faults, atom_faults, formula_faults, formulas_faults, effect_faults, effects_faults, ground_atom_faults}
-use Rattle.model.specs.TypingFaults.{ChangesAtom, SomeChangesAtom, IsUnknown, IsTermFault, IsAtomFault, IsFormulaFault, IsSomeFault, unknown_predicate, unknown_term, wrong_count, wrong_type, as_atom}
-use Rattle.model.proofs.ListLemmas.{Contains-here, Contains-there, Contains-cases, Contains-none}
-use Rattle.model.proofs.TypingFaultsLemmas.{fault_at, AllTell, none_tells, both_tell, one_tells, unless_tells, on_left, on_right, unless_listed}
+use Rattle.model.specs.Typing.{Known, Placed, placed, declared, known_with, variable_faults, folded, is_same, is_known, names_of_predicates, names_of_variables, names_of_objects, faults_against, predicate_in_known, predicate_faults, arguments_in, fits_in, fits_wanted, term_in, term_faults, word_of, misfit_faults, terms_faults, atom_faults, formula_faults, formulas_faults, effect_literal_faults, effect_faults, effects_faults, ground_atom_faults}
+use Rattle.model.specs.TypingFaults.{IsUnknown, IsTermFault, IsAtomFault, IsFormulaFault, IsSomeFault, IsLiteralFault, IsEffectFault, IsSomeEffectFault, unknown_predicate, unknown_term, wrong_count, wrong_type, as_atom}
+use Rattle.model.proofs.ListLemmas.{Contains-here, Contains-there, Contains-cases, Contains-none, Contains-flat_map}
+use Rattle.model.proofs.TypingFaultsLemmas.{fault_at, AllTell, none_tells, both_tell, one_tells, flat_map_tell, unless_tells, on_left, on_right, unless_listed}
 use Rattle.model.proofs.TypingFaultsVariables.{variables_tell, variable_listed}
 
 -- ---- the predicate
@@ -217,38 +217,59 @@ mutual
   formulas_listed file known (tree.more_formulas first rest) code w (inr fault) =
       on_right (formula_faults file known first) _ (formulas_listed file known rest code w fault)
 
+-- of a literal of an effect
+effect_literal_tells : {table : ℕ → Placed → Type 0} (file : File) (known : Known) (l : tree.EffectLiteral)
+    → ((code : ℕ) (w : Placed) → IsLiteralFault file known l code w → table code w) → AllTell table (effect_literal_faults file known l)
+effect_literal_tells file known (tree.add a) fault = atom_tells file known a fault
+effect_literal_tells file known (tree.delete a) fault = atom_tells file known a fault
+
+-- and the other way
+effect_literal_listed : (file : File) (known : Known) (l : tree.EffectLiteral) (code : ℕ) (w : Placed) → IsLiteralFault file known l code w
+    → Contains (effect_literal_faults file known l) (fault_at code w)
+effect_literal_listed file known (tree.add a) code w fault = atom_listed file known a code w fault
+effect_literal_listed file known (tree.delete a) code w fault = atom_listed file known a code w fault
+
 mutual
-  -- of an effect, by its atoms
+  -- of an effect
   pub effect_tells : {table : ℕ → Placed → Type 0} (file : File) (known : Known) (effect : tree.Effect)
-      → ((b : tree.Atom) (code : ℕ) (w : Placed) → ChangesAtom effect b → IsAtomFault file known b code w → table code w) → AllTell table (effect_faults file known effect)
-  effect_tells file known (tree.add a) fault = atom_tells file known a (λ code w. fault a code w refl)
-  effect_tells file known (tree.delete a) fault = atom_tells file known a (λ code w. fault a code w refl)
+      → ((code : ℕ) (w : Placed) → IsEffectFault file known effect code w → table code w) → AllTell table (effect_faults file known effect)
+  effect_tells file known (tree.literal l) fault = effect_literal_tells file known l fault
   effect_tells file known (tree.both parts) fault = effects_tell file known parts fault
+  effect_tells file known (tree.each groups part) fault =
+      both_tell (variables_tell known (declared file groups) (λ code w here. fault code w (inl here)))
+      (effect_tells file (known_with known (declared file groups)) part (λ code w here. fault code w (inr here)))
+  effect_tells file known (tree.when condition literals) fault =
+      both_tell (formula_tells file known condition (λ code w here. fault code w (inl here)))
+      (flat_map_tell _ _ (λ l among. effect_literal_tells file known l (λ code w here. fault code w (inr (l, among, here)))))
 
   -- of its parts
   effects_tell : {table : ℕ → Placed → Type 0} (file : File) (known : Known) (parts : tree.Effects)
-      → ((b : tree.Atom) (code : ℕ) (w : Placed) → SomeChangesAtom parts b → IsAtomFault file known b code w → table code w) → AllTell table (effects_faults file known parts)
+      → ((code : ℕ) (w : Placed) → IsSomeEffectFault file known parts code w → table code w) → AllTell table (effects_faults file known parts)
   effects_tell file known tree.no_effect fault = none_tells
   effects_tell file known (tree.more_effects first rest) fault =
-      both_tell (effect_tells file known first (λ b code w has. fault b code w (inl has))) (effects_tell file known rest (λ b code w has. fault b code w (inr has)))
+      both_tell (effect_tells file known first (λ code w here. fault code w (inl here))) (effects_tell file known rest (λ code w here. fault code w (inr here)))
 
 mutual
   -- and the other way
-  pub effect_listed : (file : File) (known : Known) (effect : tree.Effect) (b : tree.Atom) (code : ℕ) (w : Placed) → ChangesAtom effect b → IsAtomFault file known b code w
+  pub effect_listed : (file : File) (known : Known) (effect : tree.Effect) (code : ℕ) (w : Placed) → IsEffectFault file known effect code w
       → Contains (effect_faults file known effect) (fault_at code w)
-  effect_listed file known (tree.add a) b code w has fault =
-      subst (λ c. Contains (atom_faults file known c) (fault_at code w)) (sym has) (atom_listed file known b code w fault)
-  effect_listed file known (tree.delete a) b code w has fault =
-      subst (λ c. Contains (atom_faults file known c) (fault_at code w)) (sym has) (atom_listed file known b code w fault)
-  effect_listed file known (tree.both parts) b code w has fault = effects_listed file known parts b code w has fault
+  effect_listed file known (tree.literal l) code w fault = effect_literal_listed file known l code w fault
+  effect_listed file known (tree.both parts) code w fault = effects_listed file known parts code w fault
+  effect_listed file known (tree.each groups part) code w (inl fault) = on_left _ _ (variable_listed known (declared file groups) code w fault)
+  effect_listed file known (tree.each groups part) code w (inr fault) =
+      on_right (variable_faults known.type_names known.variables (declared file groups)) _ (effect_listed file (known_with known (declared file groups)) part code w fault)
+  effect_listed file known (tree.when condition literals) code w (inl fault) = on_left _ _ (formula_listed file known condition code w fault)
+  effect_listed file known (tree.when condition literals) code w (inr (l, among, fault)) =
+      on_right (formula_faults file known condition) _
+      (Contains-flat_map (effect_literal_faults file known) literals l (fault_at code w) among (effect_literal_listed file known l code w fault))
 
   -- of its parts
-  effects_listed : (file : File) (known : Known) (parts : tree.Effects) (b : tree.Atom) (code : ℕ) (w : Placed) → SomeChangesAtom parts b → IsAtomFault file known b code w
+  effects_listed : (file : File) (known : Known) (parts : tree.Effects) (code : ℕ) (w : Placed) → IsSomeEffectFault file known parts code w
       → Contains (effects_faults file known parts) (fault_at code w)
-  effects_listed file known tree.no_effect b code w has fault = absurd has
-  effects_listed file known (tree.more_effects first rest) b code w (inl has) fault = on_left _ _ (effect_listed file known first b code w has fault)
-  effects_listed file known (tree.more_effects first rest) b code w (inr has) fault =
-      on_right (effect_faults file known first) _ (effects_listed file known rest b code w has fault)
+  effects_listed file known tree.no_effect code w fault = absurd fault
+  effects_listed file known (tree.more_effects first rest) code w (inl fault) = on_left _ _ (effect_listed file known first code w fault)
+  effects_listed file known (tree.more_effects first rest) code w (inr fault) =
+      on_right (effect_faults file known first) _ (effects_listed file known rest code w fault)
 
 -- ---- facts
 

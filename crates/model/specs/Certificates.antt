@@ -3,7 +3,7 @@ use Rattle.std.specs.Prelude.{◌≢◌, ℕ, ◌+◌, Bool, true, false, not, �
 use Rattle.std.specs.Option.{option_map_or}
 use Rattle.std.specs.List.{list_all, list_any, filter_map}
 use Rattle.std.specs.FinSet.{from_list}
-use Rattle.model.specs.Task.{Atom, Effect, Effects, add, delete, both, no_effect, more_effects, Schema, Task}
+use Rattle.model.specs.Task.{Atom, EffectLiteral, add, delete, Effect, Effects, literal, both, each, when, no_effect, more_effects, Schema, Task}
 use Rattle.model.specs.WellTyped.{is_atom}
 use Rattle.model.specs.Meaning.{State, system_of}
 use Rattle.model.specs.Claims.{Claim, bound, none, Line, IsClosed}
@@ -41,12 +41,18 @@ abbrev pub keeps_limits : Certificate → Bool
 keeps_limits c =
     is_claim c.claim && nat_le (length c.atoms) 1048576 && nat_le (length c.lines) 16777216 && list_all (is_state_line (length c.atoms)) c.lines
 
+-- the literal is of this predicate
+abbrev pub is_literal_of : ℕ → EffectLiteral → Bool
+is_literal_of predicate (add a) = a.predicate == predicate
+is_literal_of predicate (delete a) = a.predicate == predicate
+
 -- the effect has a literal of this predicate
 abbrev mutual
   pub touches : ℕ → Effect → Bool
-  touches predicate (add a) = a.predicate == predicate
-  touches predicate (delete a) = a.predicate == predicate
+  touches predicate (literal l) = is_literal_of predicate l
   touches predicate (both parts) = any_touches predicate parts
+  touches predicate (each types part) = touches predicate part
+  touches predicate (when condition literals) = list_any (is_literal_of predicate) literals
 
   pub any_touches : ℕ → Effects → Bool
   any_touches predicate no_effect = false

@@ -1,11 +1,13 @@
 -- Worked examples: what the definitions say of small tasks, each chosen so that a wrong reading says otherwise.
-use Rattle.std.specs.Prelude.{◌≡◌, ℕ, true, false, List, [], ◌∷◌, codes, replicate}
+use Rattle.std.specs.Prelude.{◌≡◌, ℕ, Bool, true, false, List, [], ◌∷◌, ◌++◌, map, codes, replicate}
 use Rattle.std.specs.FinSet.{len}
-use Rattle.model.specs.Task.{ObjectType, Object, Union, Atom, LiftedAtom, Term, variable, object, Formula, Formulas, atom, and, no_formula, more_formulas, Effect, Effects, add, delete, both, no_effect, more_effects, Schema, Task, Instance}
+use Rattle.model.specs.Task.{ObjectType, Object, Union, Predicate, Atom, LiftedAtom, Term, variable, object, Formula, Formulas, atom, equal, and, not, forall, no_formula, more_formulas, EffectLiteral, add, delete, Effect, Effects, literal, both, each, when, no_effect, more_effects, Schema, Task, Instance}
 use Rattle.model.specs.Runs.{IsVerdict, valid, not_applicable, goal_missed}
-use Rattle.model.specs.Meaning.{objects_of, is_instance, initial_state, system_of}
+use Rattle.model.specs.Meaning.{objects_of, ground_atom, GroundLiteral, Change, changes_of, is_instance, cost_of, initial_state, system_of}
+use Rattle.model.specs.Meaning as meaning
 use Rattle.model.specs.Instances.{all_instances}
-use Rattle.model.specs.WellTyped.{is_term}
+use Rattle.model.specs.WellTyped.{is_term, is_effect}
+use Rattle.model.specs.Certificates.{is_fluent}
 
 -- ---- formulas and effects from lists
 
@@ -48,7 +50,8 @@ go = record {
   name = codes "go";
   parameters = [];
   precondition = and (formulas []);
-  effect = both (effects (delete (lifted 0 []) ∷ add (lifted 0 []) ∷ add (lifted 1 []) ∷ []));
+  effect = both (effects (literal (delete (lifted 0 [])) ∷ literal (add (lifted 0 [])) ∷ literal (add (lifted 1 [])) ∷ []));
+  cost = 0;
 }
 
 abbrev pub go_task : Task
@@ -59,6 +62,7 @@ go_task = record {
   schemas = go ∷ [];
   init = ground 0 [] ∷ [];
   goal = and (formulas (atom (lifted 0 []) ∷ atom (lifted 1 []) ∷ []));
+  has_metric = false;
 }
 
 -- ---- a task with one object for two parameters
@@ -71,7 +75,8 @@ tie = record {
   name = codes "tie";
   parameters = any 2;
   precondition = atom (lifted 0 (variable 0 ∷ variable 1 ∷ []));
-  effect = add (lifted 1 []);
+  effect = literal (add (lifted 1 []));
+  cost = 0;
 }
 
 abbrev pub tie_task : Task
@@ -82,6 +87,7 @@ tie_task = record {
   schemas = tie ∷ [];
   init = ground 0 (0 ∷ 0 ∷ []) ∷ [];
   goal = atom (lifted 1 []);
+  has_metric = false;
 }
 
 -- ---- a walk over places
@@ -95,7 +101,8 @@ move = record {
   name = codes "move";
   parameters = any 2;
   precondition = and (formulas (atom (lifted 0 (variable 0 ∷ [])) ∷ atom (lifted 1 (variable 0 ∷ variable 1 ∷ [])) ∷ []));
-  effect = both (effects (delete (lifted 0 (variable 0 ∷ [])) ∷ add (lifted 0 (variable 1 ∷ [])) ∷ []));
+  effect = both (effects (literal (delete (lifted 0 (variable 0 ∷ []))) ∷ literal (add (lifted 0 (variable 1 ∷ []))) ∷ []));
+  cost = 0;
 }
 
 abbrev pub walk_to : ℕ → Task
@@ -106,6 +113,7 @@ walk_to place = record {
   schemas = move ∷ [];
   init = ground 0 (0 ∷ []) ∷ ground 1 (0 ∷ 0 ∷ []) ∷ ground 1 (0 ∷ 1 ∷ []) ∷ ground 1 (1 ∷ 2 ∷ []) ∷ ground 0 (0 ∷ []) ∷ [];
   goal = atom (lifted 0 (object place ∷ []));
+  has_metric = false;
 }
 
 abbrev pub a_to_a : Instance
@@ -136,7 +144,8 @@ see = record {
   name = codes "see";
   parameters = place_or_truck ∷ [];
   precondition = and (formulas []);
-  effect = add (lifted 0 (variable 0 ∷ []));
+  effect = literal (add (lifted 0 (variable 0 ∷ [])));
+  cost = 0;
 }
 
 abbrev pub fleet_task : Task
@@ -147,7 +156,105 @@ fleet_task = record {
   schemas = see ∷ [];
   init = [];
   goal = atom (lifted 0 (object 2 ∷ []));
+  has_metric = false;
 }
+
+-- ---- tasks of one action, for its effect
+
+-- the objects t, v, p and z, a truck, a vehicle, a place and one of no type; and boats, of which there is none
+abbrev pub fleet : Task
+fleet = record fleet_task { types = fleet_task.types ++ object_type (codes "boat") (4 ∷ 2 ∷ 0 ∷ []) ∷ [] }
+
+abbrev pub trucks : Union
+trucks = 1 ∷ []
+
+abbrev pub vehicles : Union
+vehicles = 2 ∷ []
+
+abbrev pub boats : Union
+boats = 4 ∷ []
+
+-- (:predicates (seen ?x) (p) (q) (r))
+abbrev pub seen : Term → LiftedAtom
+seen t = lifted 0 (t ∷ [])
+
+abbrev pub p : LiftedAtom
+p = lifted 1 []
+
+abbrev pub q : LiftedAtom
+q = lifted 2 []
+
+abbrev pub r : LiftedAtom
+r = lifted 3 []
+
+-- a predicate without arguments
+abbrev pub fact : List ℕ → Predicate
+fact name = record { name = name; arguments = [] }
+
+-- an action of these parameters and of this effect, which is always applicable
+abbrev pub doer : List Union → Effect → Schema
+doer parameters effect = record { name = codes "do"; parameters = parameters; precondition = and (formulas []); effect = effect; cost = 0 }
+
+-- the task of that action in which these atoms are true at the start, and the goal is that all of these formulas hold
+abbrev pub doing : List Union → Effect → List LiftedAtom → List Formula → Task
+doing parameters effect before goals = record {
+  types = fleet.types;
+  objects = fleet.objects;
+  predicates = record { name = codes "seen"; arguments = any 1 } ∷ fact (codes "p") ∷ fact (codes "q") ∷ fact (codes "r") ∷ [];
+  schemas = doer parameters effect ∷ [];
+  init = map (ground_atom []) before;
+  goal = and (formulas goals);
+  has_metric = false;
+}
+
+-- where these atoms are true, the action with these objects leads to where all of these hold
+pub record LeadsWith (parameters : List Union) (objects : List ℕ) (before : List LiftedAtom) (effect : Effect) (goals : List Formula) : Type 0 where
+  pub is_solved : IsVerdict (system_of (doing parameters effect before goals)) (instance 0 objects ∷ []) (valid 1)
+
+-- and without parameters
+abbrev pub Leads : List LiftedAtom → Effect → List Formula → Type 0
+Leads before effect goals = LeadsWith [] [] before effect goals
+
+abbrev pub adds : LiftedAtom → Effect
+adds a = literal (add a)
+
+abbrev pub deletes : LiftedAtom → Effect
+deletes a = literal (delete a)
+
+-- (and ..) of these effects
+abbrev pub all : List Effect → Effect
+all parts = both (effects parts)
+
+-- (when (p) ..), and (when (r) ..)
+abbrev pub when_p : EffectLiteral → Effect
+when_p l = when (atom p) (l ∷ [])
+
+abbrev pub when_r : EffectLiteral → Effect
+when_r l = when (atom r) (l ∷ [])
+
+-- the object t, and v
+abbrev pub the_truck : Term
+the_truck = object 0
+
+abbrev pub the_vehicle : Term
+the_vehicle = object 1
+
+-- (and (p) (forall (?x - vehicle) (when (seen ?x) (and (not (seen ?x)) (q)))) (forall (?x - truck) (seen ?x)))
+abbrev pub of_each_kind : Effect
+of_each_kind = all (
+    adds p
+    ∷ each vehicles (when (atom (seen (variable 0))) (delete (seen (variable 0)) ∷ add q ∷ []))
+    ∷ each trucks (adds (seen (variable 0))) ∷ []
+    )
+
+abbrev pub change : Formula → List ℕ → GroundLiteral → Change
+change condition binding l = record { condition = condition; binding = binding; literal = l }
+
+-- ---- a task with costs
+
+-- the action go with (increase (total-cost) 3), and without; with the metric or without it
+abbrev pub priced : Bool → Task
+priced has_metric = record go_task { schemas = record go { cost = 3 } ∷ go ∷ []; has_metric = has_metric }
 
 -- ---- what is true of them
 
@@ -194,3 +301,56 @@ pub record WorkedExamples : Type 0 where
   pub subtype_fits : is_term fleet_task ((1 ∷ []) ∷ []) (2 ∷ []) (variable 0) ≡ true
   pub supertype_does_not : is_term fleet_task ((2 ∷ []) ∷ []) (1 ∷ []) (variable 0) ≡ false
   pub one_of_two_does_not : is_term fleet_task (place_or_truck ∷ []) (2 ∷ []) (variable 0) ≡ false
+  -- An atom that is deleted and added under one condition is true afterwards: (and (when (p) (not (p))) (when (p) (p)) (q)).
+  pub under_one_condition : Leads (p ∷ []) (all (when_p (delete p) ∷ when_p (add p) ∷ adds q ∷ [])) (atom p ∷ atom q ∷ [])
+  -- Under two conditions it is where both hold; where one of them does, that one alone counts, and where none does it stays.
+  pub under_two_conditions : Leads (p ∷ r ∷ []) (all (when_p (add q) ∷ when_r (delete q) ∷ [])) (atom q ∷ [])
+  pub under_the_delete : Leads (q ∷ r ∷ []) (all (when_p (add q) ∷ when_r (delete q) ∷ [])) (not (atom q) ∷ [])
+  pub under_the_add : Leads (p ∷ []) (all (when_p (add q) ∷ when_r (delete q) ∷ [])) (atom q ∷ [])
+  pub under_none : Leads (q ∷ []) (all (when_p (add q) ∷ when_r (delete q) ∷ [])) (atom q ∷ [])
+  -- The same under a condition and without one.
+  pub add_under_a_condition : Leads (p ∷ q ∷ []) (all (when_p (add q) ∷ deletes q ∷ [])) (atom q ∷ [])
+  pub delete_without : Leads (q ∷ []) (all (when_p (add q) ∷ deletes q ∷ [])) (not (atom q) ∷ [])
+  pub delete_under_a_condition : Leads (p ∷ []) (all (adds q ∷ when_p (delete q) ∷ [])) (atom q ∷ [])
+  -- Conditions are read in the state before: that the action makes one false, or true, does not matter.
+  pub made_false : Leads (p ∷ []) (all (deletes p ∷ when_p (add q) ∷ [])) (not (atom p) ∷ atom q ∷ [])
+  pub made_true : Leads [] (all (adds p ∷ when_p (add q) ∷ [])) (atom p ∷ not (atom q) ∷ [])
+  -- A `forall` has its effect for each object of its variable's types, for those of subtypes too, and for no other.
+  pub for_each : Leads [] (each vehicles (adds (seen (variable 0)))) (atom (seen the_truck) ∷ atom (seen the_vehicle) ∷ not (atom (seen (object 2))) ∷ not (atom (seen (object 3))) ∷ [])
+  pub for_none : Leads [] (each boats (adds p)) (not (atom p) ∷ [])
+  -- What it adds for one object it may delete for another, before or after it: the atom is true.
+  pub for_one_and_another : Leads [] (each vehicles (all (when (equal (variable 0) the_truck) (add p ∷ []) ∷ when (equal (variable 0) the_vehicle) (delete p ∷ []) ∷ []))) (atom p ∷ [])
+  pub for_another_and_one : Leads [] (each vehicles (all (when (equal (variable 0) the_truck) (delete p ∷ []) ∷ when (equal (variable 0) the_vehicle) (add p ∷ []) ∷ []))) (atom p ∷ [])
+  pub over_one_another : Leads (seen the_truck ∷ seen the_vehicle ∷ []) (each vehicles (all (when (equal (variable 0) the_truck) (add (seen the_vehicle) ∷ []) ∷ deletes (seen (variable 0)) ∷ [])))
+      (not (atom (seen the_truck)) ∷ atom (seen the_vehicle) ∷ [])
+  -- A condition may have quantifiers, and is read with the objects of all variables around it: of
+  -- (and (q) (forall (?x - vehicle) (when (not (= ?x ?y)) (and (seen ?x) (not (seen ?y)))))), where ?y is t.
+  pub each_is_seen : Leads (seen the_truck ∷ seen the_vehicle ∷ []) (when (forall vehicles (atom (seen (variable 0)))) (add q ∷ [])) (atom q ∷ [])
+  pub one_is_not : Leads (seen the_truck ∷ []) (when (forall vehicles (atom (seen (variable 0)))) (add q ∷ [])) (not (atom q) ∷ [])
+  pub variables_around : LeadsWith (vehicles ∷ []) (0 ∷ []) (seen the_truck ∷ []) (all (adds q ∷ each vehicles (when (not (equal (variable 1) (variable 0))) (add (seen (variable 1)) ∷ delete (seen (variable 0)) ∷ [])) ∷ []))
+      (atom q ∷ atom (seen the_vehicle) ∷ not (atom (seen the_truck)) ∷ [])
+  pub one_in_another : Leads [] (each vehicles (each (0 ∷ []) (when (and (formulas (equal (variable 0) the_vehicle ∷ equal (variable 1) (object 2) ∷ []))) (add (seen (variable 1)) ∷ [])))) (atom (seen (object 2)) ∷ not (atom (seen the_vehicle)) ∷ [])
+  -- The changes are those for each object, in order; the condition of one that stands under no `when` is `(and)`.
+  pub its_changes : changes_of (doing [] of_each_kind [] []) of_each_kind []
+      ≡ change (and no_formula) [] (meaning.adds (ground 1 []))
+      ∷ change (atom (seen (variable 0))) (0 ∷ []) (meaning.deletes (ground 0 (0 ∷ []))) ∷ change (atom (seen (variable 0))) (0 ∷ []) (meaning.adds (ground 2 []))
+      ∷ change (atom (seen (variable 0))) (1 ∷ []) (meaning.deletes (ground 0 (1 ∷ []))) ∷ change (atom (seen (variable 0))) (1 ∷ []) (meaning.adds (ground 2 []))
+      ∷ change (and no_formula) (0 ∷ []) (meaning.adds (ground 0 (0 ∷ []))) ∷ []
+  -- The variable of a `forall` is in scope in its effect and not after it, and 16 may be.
+  pub in_its_effect : is_effect fleet [] (each vehicles (when (equal (variable 0) the_truck) [])) ≡ true
+  pub after_its_effect : is_effect fleet [] (all (each vehicles (all []) ∷ when (equal (variable 0) the_truck) [] ∷ [])) ≡ false
+  pub sixteen_variables : is_effect fleet (replicate 15 vehicles) (each vehicles (all [])) ≡ true
+  pub seventeen_variables : is_effect fleet (replicate 16 vehicles) (each vehicles (all [])) ≡ false
+  -- A literal under `when` and `forall` makes its predicate fluent, and a condition does not.
+  pub changed_under_when : is_fluent (doing [] (each vehicles (when_p (add (seen (variable 0))))) [] []) 0 ≡ true
+  pub read_in_a_condition : is_fluent (doing [] (each vehicles (when_p (add (seen (variable 0))))) [] []) 1 ≡ false
+  -- With the metric an instance costs what its action increases the cost by, and nothing where it does not; without the
+  -- metric it costs 1, also where its action increases the cost.
+  pub with_an_increase : cost_of (priced true) (instance 0 []) ≡ 3
+  pub without_an_increase : cost_of (priced true) (instance 1 []) ≡ 0
+  pub an_increase_without_the_metric : cost_of (priced false) (instance 0 []) ≡ 1
+  pub none_without_the_metric : cost_of (priced false) (instance 1 []) ≡ 1
+  -- The cost of a list is the sum of these.
+  pub sum_of_costs : IsVerdict (system_of (priced true)) (instance 0 [] ∷ instance 0 [] ∷ []) (valid 6)
+  pub sum_with_none : IsVerdict (system_of (priced true)) (instance 0 [] ∷ instance 1 [] ∷ []) (valid 3)
+  pub count_of_steps : IsVerdict (system_of (priced false)) (instance 0 [] ∷ instance 1 [] ∷ []) (valid 2)

@@ -1,24 +1,11 @@
 -- Worked examples of formulas: which hold, whatever the state, and what they say outright. Each is chosen so that a wrong
 -- reading says otherwise.
-use Rattle.std.specs.Prelude.{◌≡◌, ℕ, Bool, true, false, List, [], ◌∷◌, ◌++◌, codes, replicate}
-use Rattle.model.specs.Task.{Task, Union, variable, object, Formula, atom, equal, and, or, not, imply, exists, forall}
+use Rattle.std.specs.Prelude.{◌≡◌, ℕ, Bool, true, false, List, [], ◌∷◌, replicate}
+use Rattle.model.specs.Task.{variable, object, Formula, atom, equal, and, or, not, imply, exists, forall}
 use Rattle.model.specs.Meaning.{State, holds}
 use Rattle.model.specs.WellTyped.{is_formula}
 use Rattle.model.specs.SureLiterals.{is_true, is_false, are_same, are_different, sure}
-use Rattle.model.specs.Examples.{formulas, lifted, ground, fleet_task, object_type, place_or_truck}
-
--- the objects t, v, p and z, a truck, a vehicle, a place and one of no type; and boats, of which there is none
-abbrev pub fleet : Task
-fleet = record fleet_task { types = fleet_task.types ++ object_type (codes "boat") (4 ∷ 2 ∷ 0 ∷ []) ∷ [] }
-
-abbrev pub trucks : Union
-trucks = 1 ∷ []
-
-abbrev pub vehicles : Union
-vehicles = 2 ∷ []
-
-abbrev pub boats : Union
-boats = 4 ∷ []
+use Rattle.model.specs.Examples.{formulas, lifted, ground, fleet, trucks, vehicles, boats, place_or_truck}
 
 -- (= t t), which holds, and (= t v), which does not
 abbrev pub yes : Formula

@@ -1,13 +1,13 @@
--- The grammar of domain and problem files (PDDL 1.2 manual, appendix: BNF; the language profile "types and
--- ADL formulas"). It is a simple one in the sense of Korenjak and Hopcroft (1966): each production begins with a word, and no
+-- The grammar of domain and problem files (PDDL 1.2 manual, appendix: BNF; the language profile "ADL
+-- with action costs"). It is a simple one in the sense of Korenjak and Hopcroft (1966): each production begins with a word, and no
 -- two productions of a nonterminal begin with the same one. So it is given as a function, `after`: where this is wanted
 -- and this word comes, what has to follow, and of which tree.
-use Rattle.std.specs.Prelude.{◌≡◌, Bool, true, false, List, [], ◌∷◌, ◌++◌, fold, Option, None, Some, cond, ⊤}
+use Rattle.std.specs.Prelude.{◌≡◌, ℕ, Bool, true, false, List, [], ◌∷◌, ◌++◌, fold, Option, None, Some, cond, ⊤}
 use Rattle.std.specs.List.{list_all, list_any}
 use Rattle.std.specs.Option.{option_map}
-use Rattle.model.specs.Trees.{File, domain_file, problem_file, Name, Term, Atom, Formula, Effect, Group, Predicate, Action, Domain, GroundAtom, Fact, Problem, formulas, effects, no_name}
+use Rattle.model.specs.Trees.{File, domain_file, problem_file, Name, Term, Atom, Formula, EffectLiteral, Effect, Group, Predicate, Increase, Action, Domain, GroundAtom, Fact, Problem, formulas, effects, no_name}
 use Rattle.model.specs.Trees as tree
-use Rattle.model.specs.GrammarWords.{Token, opens, closes, free, reserved, variable, keyword, dash, equals, SectionKeyword, of_section, PartKeyword, of_part, requirement_key}
+use Rattle.model.specs.GrammarWords.{Token, opens, closes, free, reserved, variable, keyword, dash, equals, number, number_word, SectionKeyword, of_section, PartKeyword, of_part, requirement_key}
 use Rattle.model.specs.GrammarWords as words
 
 infixr 20 ◌>>=◌
@@ -19,16 +19,28 @@ pub data Section : Type 0 where
   types : List Group → Section
   constants : List Group → Section
   predicates : List Predicate → Section
+  functions : List Name → Section
   action : Action → Section
   domain : Name → Section
   objects : List Group → Section
   init : List Fact → Section
   goal : Formula → Section
+  metric : Name → Section
+
+-- what stands in the value of an `:effect`: an effect, or an increase of the total cost
+pub data Item : Type 0 where
+  change : Effect → Item
+  increase : Increase → Item
+
+-- the value of an `:effect`: its effect, and its increases
+pub record EffectValue : Type 0 where
+  pub effect : Effect
+  pub increases : List Increase
 
 pub data Part : Type 0 where
   parameters : List Group → Part
   precondition : Formula → Part
-  effect : Effect → Part
+  effect : EffectValue → Part
 
 pub data Tree : Type 0 where
   domain_tree : Domain → Tree
@@ -36,46 +48,69 @@ pub data Tree : Type 0 where
 
 -- an action with one part more; what may be left out is empty, `(and)` for a formula or an effect
 abbrev pub bare_action : Name → Action
-bare_action n = record { name = n; parameters = []; precondition = tree.and (formulas []); effect = tree.both (effects []) }
+bare_action n = record { name = n; parameters = []; precondition = tree.and (formulas []); effect = tree.both (effects []); increases = [] }
 
 abbrev pub with_part : Action → Part → Action
 with_part a (parameters gs) = record a { parameters = gs }
 with_part a (precondition f) = record a { precondition = f }
-with_part a (effect e) = record a { effect = e }
+with_part a (effect v) = record a { effect = v.effect; increases = v.increases }
 
 abbrev pub action_from : Name → List Part → Action
 action_from n parts = fold with_part (bare_action n) parts
+
+-- the effects and the increases among some items
+abbrev pub changes_in : List Item → List Effect
+changes_in [] = []
+changes_in (change e ∷ items) = e ∷ changes_in items
+changes_in (increase i ∷ items) = changes_in items
+
+abbrev pub increases_in : List Item → List Increase
+increases_in [] = []
+increases_in (change e ∷ items) = increases_in items
+increases_in (increase i ∷ items) = i ∷ increases_in items
+
+-- the value of one item, and of `(and item*)`
+abbrev pub value_of : Item → EffectValue
+value_of (change e) = record { effect = e; increases = [] }
+value_of (increase i) = record { effect = tree.both (effects []); increases = i ∷ [] }
+
+abbrev pub value_of_all : List Item → EffectValue
+value_of_all items = record { effect = tree.both (effects (changes_in items)); increases = increases_in items }
 
 -- what stands in a file's sections, and with one section more
 pub record Contents : Type 0 where
   pub types : List Group
   pub constants : List Group
   pub predicates : List Predicate
+  pub functions : List Name
   pub actions : List Action
   pub domain : Name
   pub objects : List Group
   pub init : List Fact
   pub goal : Formula
+  pub metric : Option Name
 
 abbrev pub no_contents : Contents
-no_contents = record { types = []; constants = []; predicates = []; actions = []; domain = no_name; objects = []; init = []; goal = tree.and (formulas []) }
+no_contents = record { types = []; constants = []; predicates = []; functions = []; actions = []; domain = no_name; objects = []; init = []; goal = tree.and (formulas []); metric = None }
 
 abbrev pub with_section : Contents → Section → Contents
 with_section c requirements = c
 with_section c (types gs) = record c { types = gs }
 with_section c (constants gs) = record c { constants = gs }
 with_section c (predicates ps) = record c { predicates = ps }
+with_section c (functions ns) = record c { functions = ns }
 with_section c (action a) = record c { actions = c.actions ++ a ∷ [] }
 with_section c (domain n) = record c { domain = n }
 with_section c (objects gs) = record c { objects = gs }
 with_section c (init fs) = record c { init = fs }
 with_section c (goal f) = record c { goal = f }
+with_section c (metric n) = record c { metric = Some n }
 
 abbrev pub domain_from : Name → Contents → Domain
-domain_from n c = record { name = n; types = c.types; constants = c.constants; predicates = c.predicates; actions = c.actions }
+domain_from n c = record { name = n; types = c.types; constants = c.constants; predicates = c.predicates; functions = c.functions; actions = c.actions }
 
 abbrev pub problem_from : Name → Contents → Problem
-problem_from n c = record { name = n; domain = c.domain; objects = c.objects; init = c.init; goal = c.goal }
+problem_from n c = record { name = n; domain = c.domain; objects = c.objects; init = c.init; goal = c.goal; metric = c.metric }
 
 abbrev pub tree_from : File → Name → Contents → Tree
 tree_from domain_file n c = domain_tree (domain_from n c)
@@ -87,11 +122,13 @@ keyword_in requirements = words.requirements
 keyword_in (types gs) = words.types
 keyword_in (constants gs) = words.constants
 keyword_in (predicates ps) = words.predicates
+keyword_in (functions ns) = words.functions
 keyword_in (action a) = words.action
 keyword_in (domain n) = words.domain_keyword
 keyword_in (objects gs) = words.objects
 keyword_in (init fs) = words.init
 keyword_in (goal f) = words.goal
+keyword_in (metric n) = words.metric
 
 -- ---- which sections and parts may stand, and which have to
 
@@ -100,11 +137,13 @@ is_section words.requirements words.requirements = true
 is_section words.types words.types = true
 is_section words.constants words.constants = true
 is_section words.predicates words.predicates = true
+is_section words.functions words.functions = true
 is_section words.action words.action = true
 is_section words.domain_keyword words.domain_keyword = true
 is_section words.objects words.objects = true
 is_section words.init words.init = true
 is_section words.goal words.goal = true
+is_section words.metric words.metric = true
 is_section _ _ = false
 
 abbrev pub is_part : PartKeyword → PartKeyword → Bool
@@ -121,8 +160,8 @@ has_part seen k = list_any (is_part k) seen
 
 -- the sections of a file
 abbrev pub sections_of : File → List SectionKeyword
-sections_of domain_file = words.requirements ∷ words.types ∷ words.constants ∷ words.predicates ∷ words.action ∷ []
-sections_of problem_file = words.domain_keyword ∷ words.requirements ∷ words.objects ∷ words.init ∷ words.goal ∷ []
+sections_of domain_file = words.requirements ∷ words.types ∷ words.constants ∷ words.predicates ∷ words.functions ∷ words.action ∷ []
+sections_of problem_file = words.domain_keyword ∷ words.requirements ∷ words.objects ∷ words.init ∷ words.goal ∷ words.metric ∷ []
 
 abbrev pub required_of : File → List SectionKeyword
 required_of domain_file = words.predicates ∷ []
@@ -172,6 +211,13 @@ pub data Sort : Type 0 where
   formula : Sort
   precondition_list : Sort
   effect_list : Sort
+  -- the value of an `:effect`, and what may stand in its `and`
+  effect_value : Sort
+  item : Sort
+  -- what stands under a `when`, one of it, and the atom of a `not` there
+  conditional : Sort
+  conditional_literal : Sort
+  conditional_atom : Sort
   atom : Sort
   declaration : Sort
   fact : Sort
@@ -181,6 +227,13 @@ pub data Sort : Type 0 where
   group : Listed → Sort
   type : Listed → Sort
   either_word : Sort
+  -- `total-cost` and its `)`; a NUMBER; the list of `:functions`, after one of it, and the type after its `-`
+  total_cost : Sort
+  amount : Sort
+  function_list : Sort
+  function_type : Sort
+  number_type : Sort
+  minimize_word : Sort
   -- what follows `:action`: a name; the parts, where these were seen, and `)`; and the `(` of a part's value
   action_name : Sort
   parts : List PartKeyword → Sort
@@ -205,6 +258,11 @@ Value (many s) = List (Value s)
 Value formula = Formula
 Value precondition_list = Formula
 Value effect_list = Effect
+Value effect_value = EffectValue
+Value item = Item
+Value conditional = List EffectLiteral
+Value conditional_literal = EffectLiteral
+Value conditional_atom = Atom
 Value atom = Atom
 Value declaration = Predicate
 Value fact = Fact
@@ -213,6 +271,12 @@ Value (typed l) = List Group
 Value (group l) = List Group
 Value (type l) = List Name
 Value either_word = ⊤
+Value total_cost = Name
+Value amount = ℕ × Name
+Value function_list = List Name
+Value function_type = List Name
+Value number_type = ⊤
+Value minimize_word = ⊤
 Value action_name = Name
 Value (parts seen) = List Part
 Value (value seen) = ⊤
@@ -243,7 +307,7 @@ and_then (s >>= h) k = s >>= λ x. and_then (h x) k
 abbrev pub part_after : List PartKeyword → PartKeyword → Phrase Part
 part_after seen words.parameters = do value seen; gs ← typed variables; gives (parameters gs)
 part_after seen words.precondition = do value seen; f ← precondition_list; gives (precondition f)
-part_after seen words.effect = do value seen; e ← effect_list; gives (effect e)
+part_after seen words.effect = do value seen; v ← effect_value; gives (effect v)
 
 -- after the keyword of a section
 abbrev pub section_after : SectionKeyword → Phrase Section
@@ -251,11 +315,13 @@ section_after words.requirements = do _ ← many key; gives requirements
 section_after words.types = do gs ← typed names; gives (types gs)
 section_after words.constants = do gs ← typed names; gives (constants gs)
 section_after words.predicates = do ps ← many (listed declaration); gives (predicates ps)
+section_after words.functions = do ns ← function_list; gives (functions ns)
 section_after words.action = do n ← action_name; ps ← parts []; gives (action (action_from n ps))
 section_after words.domain_keyword = do n ← a_name; close; gives (domain n)
 section_after words.objects = do gs ← typed names; gives (objects gs)
 section_after words.init = do fs ← many (listed fact); gives (init fs)
 section_after words.goal = do f ← listed formula; close; gives (goal f)
+section_after words.metric = do minimize_word; n ← listed total_cost; close; gives (metric n)
 
 -- after the `(` of a file's section, where these may stand: none, or one of them
 abbrev pub section_of : File → List SectionKeyword → List SectionKeyword → Option (Phrase (List Section))
@@ -293,7 +359,7 @@ group_after l n = do gs ← group l; gives (with_name n gs)
 --    | ( imply formula formula ) | ( exists ( variables ) formula ) | ( forall ( variables ) formula )
 abbrev pub formula_after : Token → Option (Phrase Formula)
 formula_after (free f n) = Some do ts ← many term; gives (tree.atom (record { predicate = n; terms = ts }))
-formula_after equals = Some do t ← term; u ← term; close; gives (tree.equal t u)
+formula_after (equals n) = Some do t ← term; u ← term; close; gives (tree.equal t u)
 formula_after (reserved words.and n) = Some do fs ← many (listed formula); gives (tree.and (formulas fs))
 formula_after (reserved words.or n) = Some do fs ← many (listed formula); gives (tree.or (formulas fs))
 formula_after (reserved words.not n) = Some do f ← listed formula; close; gives (tree.not f)
@@ -301,6 +367,32 @@ formula_after (reserved words.imply n) = Some do f ← listed formula; g ← lis
 formula_after (reserved words.exists n) = Some do gs ← listed (typed variables); f ← listed formula; close; gives (tree.exists gs f)
 formula_after (reserved words.forall n) = Some do gs ← listed (typed variables); f ← listed formula; close; gives (tree.forall gs f)
 formula_after _ = None
+
+-- effect  ::= atom | ( not atom ) | ( and effect* ) | ( forall ( variables ) effect ) | ( when formula conditional )
+abbrev pub effect_after : Token → Option (Phrase Effect)
+effect_after (free f n) = Some do ts ← many term; gives (tree.literal (tree.add (record { predicate = n; terms = ts })))
+effect_after (reserved words.not n) = Some do a ← listed atom; close; gives (tree.literal (tree.delete a))
+effect_after (reserved words.and n) = Some do es ← many (listed effect_list); gives (tree.both (effects es))
+effect_after (reserved words.forall n) = Some do gs ← listed (typed variables); e ← listed effect_list; close; gives (tree.each gs e)
+effect_after (reserved words.when n) = Some do f ← listed formula; ls ← listed conditional; close; gives (tree.when f ls)
+effect_after _ = None
+
+-- item  ::= ( increase ( total-cost ) NUMBER ) | effect
+abbrev pub item_after : Token → Option (Phrase Item)
+item_after (reserved words.increase n) = Some do listed total_cost; v ← amount; close; gives (increase (record { word = n; amount = v.0 }))
+item_after t = option_map (λ p. and_then p (λ e. gives (change e))) (effect_after t)
+
+-- literal  ::= atom | ( not atom ), under a `when`
+abbrev pub literal_after : Token → Option (Phrase EffectLiteral)
+literal_after (free f n) = Some do ts ← many term; gives (tree.add (record { predicate = n; terms = ts }))
+literal_after (reserved words.not n) = Some do a ← listed conditional_atom; close; gives (tree.delete a)
+literal_after _ = None
+
+-- the functions  ::= ( ( total-cost ) [ - number ] )*, and the `)` after them
+abbrev pub functions_after : Token → Option (Phrase (List Name))
+functions_after closes = Some (gives [])
+functions_after opens = Some do n ← total_cost; ns ← function_type; gives (n ∷ ns)
+functions_after _ = None
 
 -- where s is wanted and this word comes: what has to follow the word, or none where it may not stand there
 abbrev pub after : (s : Sort) → Token → Option (Phrase (Value s))
@@ -318,17 +410,33 @@ after (many s) t = option_map (more s) (after s t)
 after formula t = formula_after t
 after precondition_list closes = Some (gives (tree.and (formulas [])))
 after precondition_list t = formula_after t
--- effect  ::= atom | ( not atom ) | ( and effect* )
-after effect_list (free f n) = Some do ts ← many term; gives (tree.add (record { predicate = n; terms = ts }))
-after effect_list (reserved words.not n) = Some do a ← listed atom; close; gives (tree.delete a)
-after effect_list (reserved words.and n) = Some do es ← many (listed effect_list); gives (tree.both (effects es))
+-- an effect, and the value of an `:effect`  ::= ( ) | ( and item* ) | item
+after effect_list t = effect_after t
+after effect_value closes = Some (gives (value_of_all []))
+after effect_value (reserved words.and n) = Some do xs ← many (listed item); gives (value_of_all xs)
+after effect_value t = option_map (λ p. and_then p (λ x. gives (value_of x))) (item_after t)
+after item t = item_after t
+-- conditional  ::= literal | ( and literal* )
+after conditional (reserved words.and n) = Some do ls ← many (listed conditional_literal); gives ls
+after conditional t = option_map (λ p. and_then p (λ l. gives (l ∷ []))) (literal_after t)
+after conditional_literal t = literal_after t
+after conditional_atom (free f n) = Some do ts ← many term; gives (record { predicate = n; terms = ts })
+-- the words of action costs
+after total_cost (reserved words.total_cost n) = Some do close; gives n
+after amount (number v n) = Some (gives (v, n))
+after function_list t = functions_after t
+after function_type dash = Some do number_type; ns ← function_list; gives ns
+after function_type t = functions_after t
+after number_type (free number_word n) = Some (gives tt)
+after minimize_word (free words.minimize n) = Some (gives tt)
 -- atom  ::= ( PREDICATE-NAME term* )
 after atom (free f n) = Some do ts ← many term; gives (record { predicate = n; terms = ts })
 -- declaration  ::= ( PREDICATE-NAME variables )
 after declaration (free f n) = Some do gs ← typed variables; gives (record { name = n; parameters = gs })
--- fact  ::= ground-atom | ( not ground-atom ), ground-atom  ::= ( PREDICATE-NAME NAME* )
+-- fact  ::= ground-atom | ( not ground-atom ) | ( = ( total-cost ) NUMBER ), ground-atom  ::= ( PREDICATE-NAME NAME* )
 after fact (free f n) = Some do ns ← many a_name; gives (tree.fact (record { predicate = n; objects = ns }))
 after fact (reserved words.not n) = Some do a ← listed ground_atom; close; gives (tree.negated n a)
+after fact (equals n) = Some do f ← listed total_cost; v ← amount; close; gives (tree.initial_cost (record { equals = n; function = f; amount = v.0; number = v.1 }))
 after ground_atom (free f n) = Some do ns ← many a_name; gives (record { predicate = n; objects = ns })
 -- names  ::= ( NAME+ - type )* NAME*, and variables  ::= ( VARIABLE+ - type )* VARIABLE*, each with its `)`
 after (typed l) closes = Some (gives [])

@@ -1,17 +1,21 @@
 -- What a word is to the grammar of domain and problem files: its letters folded to lower case, a name is one that
 -- the grammar knows or any other, and so is a keyword.
-use Rattle.std.specs.Prelude.{ℕ, Bool, List, [], ◌∷◌, map, codes, if◌then◌else◌}
+use Rattle.std.specs.Prelude.{ℕ, ◌+◌, ◌-◌, ◌*◌, Bool, nat_le, List, [], ◌∷◌, map, fold, codes, if◌then◌else◌}
 use Rattle.std.specs.List.{list_any}
 use Rattle.std.specs.Str.{bytes_eq, str_to_ascii_lowercase}
 use Rattle.model.specs.Words.{Word, Kind, end_of}
 use Rattle.model.specs.Words as words
 use Rattle.model.specs.Trees.{Name}
+use Rattle.model.specs.Limits.{max_number}
 
--- a name that may be a predicate's: one with which a file begins, or any other
+-- a name that may be a predicate's: one that the grammar asks for somewhere, or any other
 pub data FreeName : Type 0 where
   define : FreeName
   domain : FreeName
   problem : FreeName
+  number_word : FreeName
+  minimize : FreeName
+  maximize : FreeName
   ordinary : FreeName
 
 -- a name that heads a formula, an effect or a type of PDDL, and so is no predicate's
@@ -23,9 +27,11 @@ pub data ReservedName : Type 0 where
   exists : ReservedName
   forall : ReservedName
   either : ReservedName
+  when : ReservedName
+  increase : ReservedName
+  total_cost : ReservedName
   -- of a form of PDDL that the language profile leaves out
   left_out_name : ReservedName
-  other_reserved : ReservedName
 
 -- the keywords of a file's sections
 pub data SectionKeyword : Type 0 where
@@ -33,11 +39,13 @@ pub data SectionKeyword : Type 0 where
   types : SectionKeyword
   constants : SectionKeyword
   predicates : SectionKeyword
+  functions : SectionKeyword
   action : SectionKeyword
   domain_keyword : SectionKeyword
   objects : SectionKeyword
   init : SectionKeyword
   goal : SectionKeyword
+  metric : SectionKeyword
 
 -- the keywords of an action's parts
 pub data PartKeyword : Type 0 where
@@ -63,9 +71,10 @@ pub data Token : Type 0 where
   variable : Name → Token
   keyword : Keyword → Token
   dash : Token
-  equals : Token
-  -- a number
-  other : Token
+  equals : Name → Token
+  -- a number, and one that is over 2,147,483,647
+  number : ℕ → Name → Token
+  large_number : Token
 
 abbrev pub name_from : Word → Name
 name_from w = record { text = w.text; span = record { start = w.start; end = end_of w } }
@@ -76,9 +85,6 @@ is_among text list = list_any (bytes_eq text) list
 
 abbrev pub left_out_names : List (List ℕ)
 left_out_names = codes "preference" ∷ codes "assign" ∷ codes "decrease" ∷ codes "scale-up" ∷ codes "scale-down" ∷ []
-
-abbrev pub other_reserved_names : List (List ℕ)
-other_reserved_names = codes "when" ∷ codes "increase" ∷ codes "total-cost" ∷ []
 
 abbrev pub requirement_keys : List (List ℕ)
 requirement_keys = codes ":strips" ∷ codes ":typing" ∷ codes ":equality" ∷ codes ":negative-preconditions" ∷ codes ":disjunctive-preconditions" ∷ codes ":existential-preconditions" ∷ codes ":universal-preconditions" ∷ codes ":quantified-preconditions" ∷ codes ":conditional-effects" ∷ codes ":adl" ∷ codes ":action-costs" ∷ codes ":fluents" ∷ codes ":numeric-fluents" ∷ []
@@ -96,12 +102,17 @@ named text =
     else (if bytes_eq text (codes "exists") then reserved exists
     else (if bytes_eq text (codes "forall") then reserved forall
     else (if bytes_eq text (codes "either") then reserved either
+    else (if bytes_eq text (codes "when") then reserved when
+    else (if bytes_eq text (codes "increase") then reserved increase
+    else (if bytes_eq text (codes "total-cost") then reserved total_cost
     else (if bytes_eq text (codes "define") then free define
     else (if bytes_eq text (codes "domain") then free domain
     else (if bytes_eq text (codes "problem") then free problem
+    else (if bytes_eq text (codes "number") then free number_word
+    else (if bytes_eq text (codes "minimize") then free minimize
+    else (if bytes_eq text (codes "maximize") then free maximize
     else (if is_among text left_out_names then reserved left_out_name
-    else (if is_among text other_reserved_names then reserved other_reserved
-    else free ordinary)))))))))))
+    else free ordinary))))))))))))))))
 
 -- what a keyword is, folded, that begins no section and no part
 abbrev pub other_keyword_of : List ℕ → Keyword
@@ -120,20 +131,29 @@ keyword_of text =
     else (if bytes_eq text (codes ":types") then of_section types
     else (if bytes_eq text (codes ":constants") then of_section constants
     else (if bytes_eq text (codes ":predicates") then of_section predicates
+    else (if bytes_eq text (codes ":functions") then of_section functions
     else (if bytes_eq text (codes ":domain") then of_section domain_keyword
     else (if bytes_eq text (codes ":objects") then of_section objects
     else (if bytes_eq text (codes ":init") then of_section init
     else (if bytes_eq text (codes ":goal") then of_section goal
-    else other_keyword_of text)))))))))))
+    else (if bytes_eq text (codes ":metric") then of_section metric
+    else other_keyword_of text)))))))))))))
+
+-- the number that these digits write
+abbrev pub number_of_digits : List ℕ → ℕ
+number_of_digits digits = fold (λ n digit. n * 10 + (digit - 48)) 0 digits
+
+abbrev pub number_from : ℕ → Name → Token
+number_from n word = if nat_le n max_number then number n word else large_number
 
 -- a word of this kind, with its text folded, and as a name
 abbrev pub token_from : Kind → List ℕ → Name → Token
 token_from words.name text n = named text n
 token_from words.variable text n = variable n
 token_from words.keyword text n = keyword (keyword_of text)
-token_from words.number text n = other
+token_from words.number text n = number_from (number_of_digits text) n
 token_from words.dash text n = dash
-token_from words.equals text n = equals
+token_from words.equals text n = equals n
 token_from words.opens text n = opens
 token_from words.closes text n = closes
 

@@ -1,4 +1,4 @@
--- The limits of the language profile on what a domain and a problem declare. Each is the most that is taken.
+-- The limits of the language profile on what a domain and a problem have. Each is the most that is taken.
 use Rattle.std.specs.Prelude.{ℕ}
 
 -- the most types that a domain declares, beside `object`
@@ -16,3 +16,7 @@ max_arguments = 8
 -- the most variables in scope at once, the parameters of an action among them
 abbrev pub max_variables : ℕ
 max_variables = 16
+
+-- the greatest number that is written
+abbrev pub max_number : ℕ
+max_number = 2147483647

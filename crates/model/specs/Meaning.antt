@@ -1,15 +1,15 @@
 -- What a planning task means: states, when a formula holds, what an action does.
--- The state after an action follows Fox & Long 2003, section 8 (the untimed part); the rest is that of the
--- PDDL 1.2 manual for types, actions with parameters and formulas.
+-- The state after an action follows Fox & Long 2003, section 8 (the untimed part), its cost the action costs of 2008; the
+-- rest is that of the PDDL 1.2 manual for types, actions with parameters, formulas and effects.
 use Rattle.std.specs.Prelude.{ℕ, Bool, true, false, ◌&&◌, ◌||◌, nat_eq, List, [], ◌∷◌, ◌++◌, length, map, filter, slice_get, slice_index, if◌then◌else◌, Option, None, Some}
-use Rattle.std.specs.List.{list_all, list_any, range_with_len}
+use Rattle.std.specs.List.{flat_map, list_all, list_any, range_with_len}
 use Rattle.std.specs.Option.{option_map_or, option_and_then}
 use Rattle.std.specs.Cmp.Lexicographic.{slice_cmp, pointwise}
 use Rattle.std.specs.Ordering.{nat_cmp}
 use Rattle.std.specs.declared.cmp.Ordering.{Ordering}
 use Rattle.std.specs.FinSet.{FinSet, from_list, contains, union, difference}
 use Rattle.std.specs.Prelude as bool
-use Rattle.model.specs.Task.{ObjectType, Object, Union, Atom, LiftedAtom, Term, variable, object, Formula, Formulas, atom, equal, and, or, not, imply, exists, forall, no_formula, more_formulas, Effect, Effects, add, delete, both, no_effect, more_effects, Schema, Task, Instance}
+use Rattle.model.specs.Task.{ObjectType, Object, Union, Atom, LiftedAtom, Term, variable, object, Formula, Formulas, atom, equal, and, or, not, imply, exists, forall, no_formula, more_formulas, EffectLiteral, add, delete, Effect, Effects, literal, both, each, when, no_effect, more_effects, Schema, Task, Instance}
 use Rattle.model.specs.Runs.{System}
 
 -- atoms in the order of their predicates, and then of their objects from the left
@@ -84,36 +84,60 @@ abbrev mutual
   some_holds task no_formula binding state = false
   some_holds task (more_formulas first rest) binding state = holds task first binding state || some_holds task rest binding state
 
--- one atom that an effect makes true, or false
-pub data Change : Type 0 where
-  adds : Atom → Change
-  deletes : Atom → Change
+-- an atom that becomes true, or false
+pub data GroundLiteral : Type 0 where
+  adds : Atom → GroundLiteral
+  deletes : Atom → GroundLiteral
 
--- the changes of an effect, where the parameters have these objects
+-- what an effect changes where its condition holds, whose variables have these objects
+pub record Change : Type 0 where
+  pub condition : Formula
+  pub binding : List ℕ
+  pub literal : GroundLiteral
+
+abbrev pub ground_literal : List ℕ → EffectLiteral → GroundLiteral
+ground_literal binding (add a) = adds (ground_atom binding a)
+ground_literal binding (delete a) = deletes (ground_atom binding a)
+
+abbrev pub change_under : Formula → List ℕ → EffectLiteral → Change
+change_under condition binding l = record { condition = condition; binding = binding; literal = ground_literal binding l }
+
+-- The changes of an effect, where the variables have these objects: those of a `forall` for each object of its variable's
+-- types. The condition of one that stands under no `when` is `(and)`.
 abbrev mutual
-  pub changes_of : Effect → List ℕ → List Change
-  changes_of (add a) binding = adds (ground_atom binding a) ∷ []
-  changes_of (delete a) binding = deletes (ground_atom binding a) ∷ []
-  changes_of (both parts) binding = changes_of_all parts binding
+  pub changes_of : Task → Effect → List ℕ → List Change
+  changes_of task (literal l) binding = change_under (and no_formula) binding l ∷ []
+  changes_of task (both parts) binding = changes_of_all task parts binding
+  changes_of task (each types part) binding = flat_map (λ one. changes_of task part (binding ++ one ∷ [])) (objects_of task types)
+  changes_of task (when condition literals) binding = map (change_under condition binding) literals
 
-  pub changes_of_all : Effects → List ℕ → List Change
-  changes_of_all no_effect binding = []
-  changes_of_all (more_effects first rest) binding = changes_of first binding ++ changes_of_all rest binding
+  pub changes_of_all : Task → Effects → List ℕ → List Change
+  changes_of_all task no_effect binding = []
+  changes_of_all task (more_effects first rest) binding = changes_of task first binding ++ changes_of_all task rest binding
 
-abbrev pub added_by : List Change → List Atom
+-- the literals of the changes whose condition holds in the state
+abbrev pub literals_in : Task → State → List Change → List GroundLiteral
+literals_in task state changes =
+    map (λ (c : Change). c.literal) (filter (λ (c : Change). holds task c.condition c.binding state) changes)
+
+abbrev pub added_by : List GroundLiteral → List Atom
 added_by [] = []
 added_by (adds a ∷ rest) = a ∷ added_by rest
 added_by (deletes a ∷ rest) = added_by rest
 
-abbrev pub deleted_by : List Change → List Atom
+abbrev pub deleted_by : List GroundLiteral → List Atom
 deleted_by [] = []
 deleted_by (adds a ∷ rest) = deleted_by rest
 deleted_by (deletes a ∷ rest) = a ∷ deleted_by rest
 
--- The state after these changes: the state less the atoms deleted, and then with the atoms added. So where
--- one atom is both deleted and added, it is true afterwards (Fox & Long 2003, section 8).
-abbrev pub after_changes : State → List Change → State
-after_changes state changes = union (difference state (from_list (deleted_by changes))) (from_list (added_by changes))
+-- the state less the atoms deleted, and then with the atoms added
+abbrev pub after_literals : State → List GroundLiteral → State
+after_literals state literals = union (difference state (from_list (deleted_by literals))) (from_list (added_by literals))
+
+-- The state after these changes: all conditions are read in the state before. Where one atom is both deleted and added, it
+-- is true afterwards (Fox & Long 2003, section 8).
+abbrev pub after_changes : Task → State → List Change → State
+after_changes task state changes = after_literals state (literals_in task state changes)
 
 -- an object of its types for each parameter; two parameters may have the same one
 abbrev pub fits : Task → Schema → List ℕ → Bool
@@ -128,7 +152,7 @@ is_instance task i = option_map_or (λ schema. fits task schema i.objects) (slic
 abbrev pub step : Task → State → Instance → Option State
 step task state i =
     option_and_then (λ schema.
-    if fits task schema i.objects && holds task schema.precondition i.objects state then Some (after_changes state (changes_of schema.effect i.objects))
+    if fits task schema i.objects && holds task schema.precondition i.objects state then Some (after_changes task state (changes_of task schema.effect i.objects))
     else None)
     (slice_get task.schemas i.schema)
 
@@ -136,9 +160,10 @@ step task state i =
 abbrev pub meets_goal : Task → State → Bool
 meets_goal task state = holds task task.goal [] state
 
--- what an instance costs: each costs 1
+-- What an instance costs: where the total cost is to be least, what its schema increases it by (action costs, 2008), and
+-- else 1.
 abbrev pub cost_of : Task → Instance → ℕ
-cost_of task i = 1
+cost_of task i = if task.has_metric then option_map_or (λ (s : Schema). s.cost) (slice_get task.schemas i.schema) 0 else 1
 
 -- the task as a transition system
 abbrev pub system_of : Task → System State Instance

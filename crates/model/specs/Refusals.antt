@@ -1,13 +1,13 @@
 -- What is told of words that are no domain, or no problem: the first word with which no file goes on, and the number
--- that the table of refusals has for it where it stands (docs/language.md, "Refusals", 7 to 12).
+-- that the table of refusals has for it where it stands (docs/language.md, "Refusals", 7 to 13).
 use Rattle.std.specs.Prelude.{◌≡◌, ℕ, List, [], ◌∷◌, ◌++◌, Option, None, Some, cond, slice_get}
 use Rattle.std.specs.Option.{option_map, option_and_then}
 use Rattle.model.specs.Fault.{Fault, Span}
 use Rattle.model.specs.Words.{Word, end_of}
 use Rattle.model.specs.Trees.{File}
-use Rattle.model.specs.GrammarWords.{Token, opens, closes, reserved, left_out_name, keyword, Keyword, of_section, PartKeyword, of_part, parameters, left_out_keyword, token_of, tokens_of}
+use Rattle.model.specs.GrammarWords.{Token, opens, closes, free, reserved, maximize, when, forall, left_out_name, large_number, keyword, Keyword, of_section, PartKeyword, of_part, parameters, left_out_keyword, token_of, tokens_of}
 use Rattle.model.specs.Grammar
-use Rattle.model.specs.Grammar.{Tree, Sort, names, type, many, key, action_name, parts, value, sections, section, define_word, kind_list, Phrase, gives, ◌>>=◌, and_then, after, has_section, has_part, sections_of, IsFile}
+use Rattle.model.specs.Grammar.{Tree, Sort, names, type, many, conditional, conditional_literal, conditional_atom, total_cost, amount, minimize_word, key, action_name, parts, value, sections, section, define_word, kind_list, Phrase, gives, ◌>>=◌, and_then, after, has_section, has_part, sections_of, IsFile}
 
 -- ---- what has to follow some words
 
@@ -27,12 +27,17 @@ start f = Grammar.file f >>= gives
 
 -- ---- the table of refusals
 
--- The number of a word that may not stand where this is wanted (docs/language.md, "Refusals", 7 to 12).
+-- The number of a word that may not stand where this is wanted (docs/language.md, "Refusals", 7 to 13).
 
 -- wherever it stands: the name of a form that is left out, or any other word
 abbrev pub by_word : Token → ℕ
 by_word (reserved left_out_name n) = 12
 by_word _ = 7
+
+abbrev pub by_word_under_when : Token → ℕ
+by_word_under_when (reserved when n) = 12
+by_word_under_when (reserved forall n) = 12
+by_word_under_when t = by_word t
 
 -- a keyword that is none of the language's, where that of a section or part is wanted
 abbrev pub number_of_keyword : Keyword → ℕ
@@ -71,6 +76,14 @@ number_at (value seen) (keyword k) = number_at_value seen k
 number_at key (keyword k) = 11
 -- `(either ..)` as the type of a name that is no variable
 number_at (type names) opens = 12
+-- `when` and `forall` under a `when`; another function; another metric; a number over the greatest
+number_at conditional t = by_word_under_when t
+number_at conditional_literal t = by_word_under_when t
+number_at conditional_atom t = by_word_under_when t
+number_at total_cost (free f n) = 12
+number_at total_cost (reserved r n) = 12
+number_at minimize_word (free maximize n) = 12
+number_at amount large_number = 13
 -- any other word
 number_at _ t = by_word t
 

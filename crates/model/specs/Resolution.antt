@@ -2,7 +2,7 @@
 -- those above them, what may be named where, and the task of the pair. The rules are those of the PDDL 1.2 manual for
 -- types, declarations and uses ("Types", "Predicates", "Actions", "Problems"). `TypingFaults` says by these definitions
 -- which faults a pair has.
-use Rattle.std.specs.Prelude.{ℕ, zero, suc, ◌+◌, Bool, true, ◌==◌, nat_eq, List, [], ◌∷◌, ◌++◌, codes, length, map, fold, slice_get, slice_index, if◌then◌else◌, Option}
+use Rattle.std.specs.Prelude.{ℕ, zero, suc, ◌+◌, Bool, true, ◌==◌, nat_eq, List, [], ◌∷◌, ◌++◌, codes, length, map, fold, slice_get, slice_index, is_some, if◌then◌else◌, Option}
 use Rattle.std.specs.Char.{to_ascii_lowercase}
 use Rattle.std.specs.Cmp.Lexicographic.{pointwise}
 use Rattle.std.specs.List.{flat_map, list_all, list_any, position_or_len}
@@ -116,6 +116,8 @@ pub record Known : Type 0 where
   pub predicates : List task.Predicate
   pub variables : List Variable
   pub objects : List task.Object
+  -- whether the total cost is declared
+  pub has_cost : Bool
 
 abbrev pub names_of_predicates : List task.Predicate → List task.Name
 names_of_predicates predicates = map (λ (p : task.Predicate). p.name) predicates
@@ -181,15 +183,26 @@ abbrev mutual
   formulas_in file known tree.no_formula = task.no_formula
   formulas_in file known (tree.more_formulas first rest) = task.more_formulas (formula_in file known first) (formulas_in file known rest)
 
-abbrev mutual
-  pub effect_in : Known → tree.Effect → task.Effect
-  effect_in known (tree.add a) = task.add (lifted_atom_in known a)
-  effect_in known (tree.delete a) = task.delete (lifted_atom_in known a)
-  effect_in known (tree.both parts) = task.both (effects_in known parts)
+abbrev pub effect_literal_in : Known → tree.EffectLiteral → task.EffectLiteral
+effect_literal_in known (tree.add a) = task.add (lifted_atom_in known a)
+effect_literal_in known (tree.delete a) = task.delete (lifted_atom_in known a)
 
-  pub effects_in : Known → tree.Effects → task.Effects
-  effects_in known tree.no_effect = task.no_effect
-  effects_in known (tree.more_effects first rest) = task.more_effects (effect_in known first) (effects_in known rest)
+-- one `forall` for each of some variables, of these types
+abbrev pub each_of : List task.Union → task.Effect → task.Effect
+each_of [] part = part
+each_of (types ∷ others) part = task.each types (each_of others part)
+
+abbrev mutual
+  pub effect_in : File → Known → tree.Effect → task.Effect
+  effect_in file known (tree.literal l) = task.literal (effect_literal_in known l)
+  effect_in file known (tree.both parts) = task.both (effects_in file known parts)
+  effect_in file known (tree.each groups part) =
+      each_of (unions_in known.type_names (declared file groups)) (effect_in file (known_with known (declared file groups)) part)
+  effect_in file known (tree.when condition literals) = task.when (formula_in file known condition) (map (effect_literal_in known) literals)
+
+  pub effects_in : File → Known → tree.Effects → task.Effects
+  effects_in file known tree.no_effect = task.no_effect
+  effects_in file known (tree.more_effects first rest) = task.more_effects (effect_in file known first) (effects_in file known rest)
 
 abbrev pub atom_in : Known → tree.GroundAtom → task.Atom
 atom_in known a = record {
@@ -197,10 +210,11 @@ atom_in known a = record {
   objects = map (number_in (names_of_objects known.objects)) a.objects;
 }
 
--- the atoms of the initial state; a negated one is a fault
+-- the atoms of the initial state; a negated one is a fault, and the total cost at the start is none
 abbrev pub atoms_in : Known → tree.Fact → List task.Atom
 atoms_in known (tree.fact a) = atom_in known a ∷ []
 atoms_in known (tree.negated word a) = []
+atoms_in known (tree.initial_cost c) = []
 
 -- an object, with its type
 abbrev pub object_in : List task.Name → Declared → task.Object
@@ -219,6 +233,10 @@ predicate_in types p = record { name = folded p.name; arguments = unions_in type
 abbrev pub predicates_of : Domain → List task.Predicate
 predicates_of d = map (predicate_in (type_names d)) d.predicates
 
+-- the total cost is declared
+abbrev pub declares_cost : Domain → Bool
+declares_cost d = is_some (slice_get d.functions 0)
+
 -- in the domain: what it declares
 abbrev pub known_in_domain : Domain → Known
 known_in_domain d = record {
@@ -227,6 +245,7 @@ known_in_domain d = record {
   predicates = predicates_of d;
   variables = [];
   objects = constants_of d;
+  has_cost = declares_cost d;
 }
 
 -- in an action: what the domain declares, and the action's parameters
@@ -241,14 +260,20 @@ known_in_problem d p = record {
   predicates = predicates_of d;
   variables = [];
   objects = objects_of d p;
+  has_cost = declares_cost d;
 }
+
+-- what an action increases the total cost by, where it does
+abbrev pub increase_of : tree.Action → ℕ
+increase_of a = option_map_or (λ (i : tree.Increase). i.amount) (slice_get a.increases 0) 0
 
 abbrev pub schema_in : Known → tree.Action → task.Schema
 schema_in known a = record {
   name = folded a.name;
   parameters = unions_in known.type_names (declared domain_file a.parameters);
   precondition = formula_in domain_file (known_in_action known a) a.precondition;
-  effect = effect_in (known_in_action known a) a.effect;
+  effect = effect_in domain_file (known_in_action known a) a.effect;
+  cost = increase_of a;
 }
 
 -- the task, where the pair is well-typed: each name is its number
@@ -260,6 +285,7 @@ task_of_trees d p = record {
   schemas = map (schema_in (known_in_domain d)) d.actions;
   init = flat_map (atoms_in (known_in_problem d p)) p.init;
   goal = formula_in problem_file (known_in_problem d p) p.goal;
+  has_metric = is_some p.metric;
 }
 
 -- ---- words and faults
@@ -280,6 +306,12 @@ placed file word = record { file = file; word = word }
 -- the words of declarations
 abbrev pub words_of : List Declared → List Placed
 words_of xs = map (λ (x : Declared). placed x.file x.name) xs
+
+-- the words `=` that stand in the initial state
+abbrev pub equals_in : File → List tree.Fact → List Placed
+equals_in file [] = []
+equals_in file (tree.initial_cost c ∷ facts) = placed file c.equals ∷ equals_in file facts
+equals_in file (other ∷ facts) = equals_in file facts
 
 -- the domain comes before the problem
 abbrev pub rank_of : File → ℕ

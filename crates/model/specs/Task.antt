@@ -1,7 +1,7 @@
 -- A planning task: what a domain and a problem say once their names are resolved to numbers.
 -- Types, objects, predicates, schemas and variables are numbered from 0, in the order of their declarations; type 0 is
 -- `object`.
-use Rattle.std.specs.Prelude.{ℕ, List}
+use Rattle.std.specs.Prelude.{ℕ, Bool, List}
 
 -- the bytes of a name, in lower case (PDDL 1.2 manual, "Syntax": names are not case-sensitive)
 abbrev pub Name : Type 0
@@ -59,12 +59,19 @@ mutual
     no_formula : Formulas
     more_formulas : Formula → Formulas → Formulas
 
--- an effect (PDDL 1.2 manual, "Effects"): an atom becomes true, an atom becomes false, or several effects together
+-- a literal of an effect: an atom becomes true, or false
+pub data EffectLiteral : Type 0 where
+  add : LiftedAtom → EffectLiteral
+  delete : LiftedAtom → EffectLiteral
+
+-- An effect (PDDL 1.2 manual, "Effects"): a literal, several effects together, an effect for each object of these types,
+-- which is the last variable in the scope of it (`forall`), or literals under a condition (`when`).
 mutual
   pub data Effect : Type 0 where
-    add : LiftedAtom → Effect
-    delete : LiftedAtom → Effect
+    literal : EffectLiteral → Effect
     both : Effects → Effect
+    each : Union → Effect → Effect
+    when : Formula → List EffectLiteral → Effect
 
   pub data Effects : Type 0 where
     no_effect : Effects
@@ -76,6 +83,8 @@ pub record Schema : Type 0 where
   pub parameters : List Union
   pub precondition : Formula
   pub effect : Effect
+  -- what it increases the total cost by
+  pub cost : ℕ
 
 pub record Task : Type 0 where
   pub types : List ObjectType
@@ -85,6 +94,8 @@ pub record Task : Type 0 where
   -- the atoms that stand in `:init`
   pub init : List Atom
   pub goal : Formula
+  -- the metric is the total cost, which is to be least
+  pub has_metric : Bool
 
 -- an action: a schema with an object for each of its parameters
 pub record Instance : Type 0 where

@@ -1,5 +1,5 @@
 -- The trees of a domain file and of a problem file: what stands in them, name by name, before names are resolved.
-use Rattle.std.specs.Prelude.{ℕ, List, [], ◌∷◌}
+use Rattle.std.specs.Prelude.{ℕ, List, [], ◌∷◌, Option}
 use Rattle.std.specs.List.{flat_map}
 use Rattle.model.specs.Fault.{Span}
 
@@ -52,12 +52,18 @@ mutual
     no_formula : Formulas
     more_formulas : Formula → Formulas → Formulas
 
--- PDDL 1.2 manual, "Effects"
+-- a literal of an effect: an atom becomes true, or false
+pub data EffectLiteral : Type 0 where
+  add : Atom → EffectLiteral
+  delete : Atom → EffectLiteral
+
+-- PDDL 1.2 manual, "Effects": `each` is `forall`
 mutual
   pub data Effect : Type 0 where
-    add : Atom → Effect
-    delete : Atom → Effect
+    literal : EffectLiteral → Effect
     both : Effects → Effect
+    each : List Group → Effect → Effect
+    when : Formula → List EffectLiteral → Effect
 
   pub data Effects : Type 0 where
     no_effect : Effects
@@ -77,17 +83,26 @@ pub record Predicate : Type 0 where
   pub name : Name
   pub parameters : List Group
 
+-- what an action increases the total cost by (action costs, 2008), with its word `increase`
+pub record Increase : Type 0 where
+  pub word : Name
+  pub amount : ℕ
+
 pub record Action : Type 0 where
   pub name : Name
   pub parameters : List Group
   pub precondition : Formula
   pub effect : Effect
+  -- what stands in its effect besides; more than one is a fault
+  pub increases : List Increase
 
 pub record Domain : Type 0 where
   pub name : Name
   pub types : List Group
   pub constants : List Group
   pub predicates : List Predicate
+  -- the words `total-cost` of `:functions`; more than one is a fault
+  pub functions : List Name
   pub actions : List Action
 
 -- an atom of objects
@@ -95,10 +110,18 @@ pub record GroundAtom : Type 0 where
   pub predicate : Name
   pub objects : List Name
 
--- what stands in `:init`: an atom, or a negated one, with its word `not`
+-- what `(= (total-cost) N)` in `:init` says: its words `=` and `total-cost`, its number, and the number's word
+pub record InitialCost : Type 0 where
+  pub equals : Name
+  pub function : Name
+  pub amount : ℕ
+  pub number : Name
+
+-- what stands in `:init`: an atom, or a negated one, with its word `not`, or the total cost at the start
 pub data Fact : Type 0 where
   fact : GroundAtom → Fact
   negated : Name → GroundAtom → Fact
+  initial_cost : InitialCost → Fact
 
 pub record Problem : Type 0 where
   pub name : Name
@@ -106,3 +129,5 @@ pub record Problem : Type 0 where
   pub objects : List Group
   pub init : List Fact
   pub goal : Formula
+  -- the word `total-cost` of `:metric`
+  pub metric : Option Name

@@ -10,7 +10,7 @@ use Rattle.model.specs.Limits.{max_types, max_objects, max_arguments, max_variab
 use Rattle.model.specs.Task as task
 use Rattle.model.specs.Trees.{File, domain_file, problem_file, Name, Domain, Problem}
 use Rattle.model.specs.Trees as tree
-pub use Rattle.model.specs.Resolution.{folded, is_same, is_known, number_in, with_name, Declared, declared_in_group, declared, names_of, declared_types, declared_constants, declared_objects, type_names, union_in, type_in, parents_in, parents_of, chain, whole_chain, types_from, types_of, Variable, Known, names_of_predicates, names_of_variables, names_of_objects, with_variable, variable_in, variables_after, unions_in, term_in, lifted_atom_in, exists_each, forall_each, known_with, formula_in, formulas_in, effect_in, effects_in, atom_in, atoms_in, object_in, constants_of, objects_of, predicate_in, predicates_of, known_in_domain, known_in_action, known_in_problem, schema_in, task_of_trees, TypingFault, Placed, placed, words_of, rank_of, predicate_in_known, fits_in, word_of, comes_back}
+pub use Rattle.model.specs.Resolution.{folded, is_same, is_known, number_in, with_name, Declared, declared_in_group, declared, names_of, declared_types, declared_constants, declared_objects, type_names, union_in, type_in, parents_in, parents_of, chain, whole_chain, types_from, types_of, Variable, Known, names_of_predicates, names_of_variables, names_of_objects, with_variable, variable_in, variables_after, unions_in, term_in, lifted_atom_in, exists_each, forall_each, known_with, formula_in, formulas_in, effect_literal_in, each_of, effect_in, effects_in, atom_in, atoms_in, object_in, constants_of, objects_of, predicate_in, predicates_of, declares_cost, known_in_domain, known_in_action, known_in_problem, increase_of, schema_in, task_of_trees, TypingFault, Placed, placed, words_of, equals_in, rank_of, predicate_in_known, fits_in, word_of, comes_back}
 
 -- ---- faults
 
@@ -116,11 +116,18 @@ abbrev mutual
   formulas_faults file known (tree.more_formulas first rest) =
       formula_faults file known first ++ formulas_faults file known rest
 
+abbrev pub effect_literal_faults : File → Known → tree.EffectLiteral → List TypingFault
+effect_literal_faults file known (tree.add a) = atom_faults file known a
+effect_literal_faults file known (tree.delete a) = atom_faults file known a
+
 abbrev mutual
   pub effect_faults : File → Known → tree.Effect → List TypingFault
-  effect_faults file known (tree.add a) = atom_faults file known a
-  effect_faults file known (tree.delete a) = atom_faults file known a
+  effect_faults file known (tree.literal l) = effect_literal_faults file known l
   effect_faults file known (tree.both parts) = effects_faults file known parts
+  effect_faults file known (tree.each groups part) =
+      variable_faults known.type_names known.variables (declared file groups) ++ effect_faults file (known_with known (declared file groups)) part
+  effect_faults file known (tree.when condition literals) =
+      formula_faults file known condition ++ flat_map (effect_literal_faults file known) literals
 
   pub effects_faults : File → Known → tree.Effects → List TypingFault
   effects_faults file known tree.no_effect = []
@@ -132,10 +139,20 @@ ground_atom_faults file known a =
     predicate_faults file known a.predicate (length a.objects)
     ++ terms_faults file known (arguments_in known a.predicate) (map (λ (name : Name). tree.object name) a.objects)
 
+-- 23: the total cost where it is not declared, and a start other than 0
+abbrev pub initial_cost_faults : File → Known → tree.InitialCost → List TypingFault
+initial_cost_faults file known c =
+    (if known.has_cost then [] else refused_word file 23 c.function) ++ (if c.amount == 0 then [] else refused_word file 23 c.number)
+
 -- 24: the word `not`
 abbrev pub fact_faults : File → Known → tree.Fact → List TypingFault
 fact_faults file known (tree.fact a) = ground_atom_faults file known a
 fact_faults file known (tree.negated word a) = refused_word file 24 word
+fact_faults file known (tree.initial_cost c) = initial_cost_faults file known c
+
+-- and 23: each `=` after the first
+abbrev pub init_faults : File → Known → List tree.Fact → List TypingFault
+init_faults file known facts = flat_map (fact_faults file known) facts ++ refused 23 (drop 1 (equals_in file facts))
 
 -- 21: the problem is for a domain of another name
 abbrev pub domain_name_faults : Domain → Problem → List TypingFault
@@ -177,9 +194,18 @@ abbrev pub declaration_faults : List task.Name → List tree.Predicate → List 
 declaration_faults types qs =
     refused 16 (repeated (map (λ (q : tree.Predicate). placed domain_file q.name) qs)) ++ flat_map (argument_faults types) qs
 
+-- the words `increase` of an action
+abbrev pub increase_words : File → tree.Action → List Placed
+increase_words file a = map (λ (i : tree.Increase). placed file i.word) a.increases
+
+-- 23: each `increase` after the first, and each where the total cost is not declared
+abbrev pub increase_faults : File → Known → tree.Action → List TypingFault
+increase_faults file known a = refused 23 (drop (if known.has_cost then 1 else 0) (increase_words file a))
+
 -- the faults of the precondition and of the effect
 abbrev pub body_faults : File → Known → tree.Action → List TypingFault
-body_faults file known a = formula_faults file known a.precondition ++ effect_faults file known a.effect
+body_faults file known a =
+    formula_faults file known a.precondition ++ effect_faults file known a.effect ++ increase_faults file known a
 
 abbrev pub schema_faults : Known → tree.Action → List TypingFault
 schema_faults known a =
@@ -190,16 +216,23 @@ abbrev pub action_faults : Known → List tree.Action → List TypingFault
 action_faults known as' =
     refused 16 (repeated (map (λ (a : tree.Action). placed domain_file a.name) as')) ++ flat_map (schema_faults known) as'
 
+-- 16: `total-cost` after the first in `:functions`. 22: in `:metric`, where it is not declared
+abbrev pub function_faults : Domain → Problem → List TypingFault
+function_faults d p =
+    refused 16 (drop 1 (map (placed domain_file) d.functions))
+    ++ option_map_or (λ n. if declares_cost d then [] else refused_word problem_file 22 n) p.metric []
+
 -- The faults of each phase, phase by phase: the names of the domain and of the types, the cycles of types, the objects,
--- the predicates, the actions, the initial state and the goal.
+-- the predicates, the functions, the actions, the initial state and the goal.
 abbrev pub phases : Domain → Problem → List (List TypingFault)
 phases d p =
     (domain_name_faults d p ++ type_declaration_faults d)
     ∷ cycle_faults d
     ∷ object_faults d p
     ∷ declaration_faults (type_names d) d.predicates
+    ∷ function_faults d p
     ∷ action_faults (known_in_domain d) d.actions
-    ∷ flat_map (fact_faults problem_file (known_in_problem d p)) p.init
+    ∷ init_faults problem_file (known_in_problem d p) p.init
     ∷ formula_faults problem_file (known_in_problem d p) p.goal
     ∷ []
 

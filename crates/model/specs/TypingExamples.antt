@@ -1,10 +1,10 @@
 -- Worked examples of typing: which faults small trees have, and what task a well-typed pair is. Each is chosen so that a
 -- wrong reading says otherwise.
-use Rattle.std.specs.Prelude.{◌≡◌, ℕ, ◌+◌, List, [], ◌∷◌, codes}
+use Rattle.std.specs.Prelude.{◌≡◌, ℕ, ◌+◌, true, false, List, [], ◌∷◌, ◌++◌, codes, None, Some}
 use Rattle.model.specs.Task as task
-use Rattle.model.specs.Task.{Task}
+use Rattle.model.specs.Task.{Schema, Task}
 use Rattle.model.specs.Trees as tree
-use Rattle.model.specs.Trees.{File, domain_file, problem_file, Name, Group, GroundAtom, Fact, Predicate, Action, Domain, Problem, Term, Atom, Formula, Effect, formulas, effects}
+use Rattle.model.specs.Trees.{File, domain_file, problem_file, Name, Group, GroundAtom, Fact, Predicate, Increase, Action, Domain, Problem, Term, Atom, Formula, Effect, formulas, effects}
 use Rattle.model.specs.Resolution.{TypingFault, task_of_trees}
 use Rattle.model.specs.Typing.{faults_of}
 
@@ -35,7 +35,8 @@ park = record {
   name = at 40 (codes "a");
   parameters = group (at 41 (codes "?y") ∷ []) (at 42 (codes "t") ∷ []) ∷ [];
   precondition = nothing;
-  effect = tree.add (atom (at 43 (codes "p")) (tree.variable (at 44 (codes "?y")) ∷ []));
+  effect = tree.literal (tree.add (atom (at 43 (codes "p")) (tree.variable (at 44 (codes "?y")) ∷ [])));
+  increases = [];
 }
 
 abbrev pub fleet : Domain
@@ -44,6 +45,7 @@ fleet = record {
   types = group (at 10 (codes "t") ∷ []) (at 11 (codes "v") ∷ []) ∷ group (at 12 (codes "v") ∷ []) [] ∷ [];
   constants = group (at 20 (codes "k") ∷ []) (at 21 (codes "v") ∷ []) ∷ [];
   predicates = record { name = at 30 (codes "p"); parameters = group (at 31 (codes "?x") ∷ []) (at 32 (codes "v") ∷ []) ∷ [] } ∷ [];
+  functions = [];
   actions = park ∷ [];
 }
 
@@ -55,9 +57,19 @@ parked = record {
   objects = group (at 10 (codes "o") ∷ []) (at 11 (codes "T") ∷ []) ∷ [];
   init = tree.fact (record { predicate = at 20 (codes "p"); objects = at 21 (codes "k") ∷ [] }) ∷ [];
   goal = tree.atom (atom (at 30 (codes "p")) (tree.object (at 31 (codes "o")) ∷ []));
+  metric = None;
 }
 
 -- its task: `object`, t and v are the types 0, 1 and 2; the constant is object 0
+abbrev pub task_park : Schema
+task_park = record {
+  name = codes "a";
+  parameters = (1 ∷ []) ∷ [];
+  precondition = task.and task.no_formula;
+  effect = task.literal (task.add (record { predicate = 0; terms = task.variable 0 ∷ [] }));
+  cost = 0;
+}
+
 abbrev pub fleet_task : Task
 fleet_task = record {
   types = record { name = codes "object"; supertypes = 0 ∷ [] }
@@ -65,14 +77,10 @@ fleet_task = record {
       ∷ record { name = codes "v"; supertypes = 2 ∷ 0 ∷ [] } ∷ [];
   objects = record { name = codes "k"; type = 2 } ∷ record { name = codes "o"; type = 1 } ∷ [];
   predicates = record { name = codes "p"; arguments = (2 ∷ []) ∷ [] } ∷ [];
-  schemas = record {
-    name = codes "a";
-    parameters = (1 ∷ []) ∷ [];
-    precondition = task.and task.no_formula;
-    effect = task.add (record { predicate = 0; terms = task.variable 0 ∷ [] });
-  } ∷ [];
+  schemas = task_park ∷ [];
   init = record { predicate = 0; objects = 0 ∷ [] } ∷ [];
   goal = task.atom (record { predicate = 0; terms = task.object 1 ∷ [] });
+  has_metric = false;
 }
 
 -- the same domain with other types
@@ -106,6 +114,50 @@ letters start (letter ∷ rest) = at start (letter ∷ []) ∷ letters (start + 
 -- the action a with this precondition
 abbrev pub with_precondition : Formula → Domain
 with_precondition formula = record fleet { actions = record park { precondition = formula } ∷ [] }
+
+-- and with this effect, or with these increases where `:functions` declares this
+abbrev pub with_effect : Effect → Domain
+with_effect effect = record fleet { actions = record park { effect = effect } ∷ [] }
+
+abbrev pub with_increases : List Name → List Increase → Domain
+with_increases functions increases = record fleet { functions = functions; actions = record park { increases = increases } ∷ [] }
+
+-- (total-cost) at this offset, and (increase (total-cost) ..), whose word stands at this one
+abbrev pub total_cost : ℕ → Name
+total_cost start = at start (codes "total-cost")
+
+abbrev pub increase : ℕ → ℕ → Increase
+increase start amount = record { word = at start (codes "increase"); amount = amount }
+
+-- (= (total-cost) ..), whose words stand one after another
+abbrev pub starts_at : ℕ → ℕ → Fact
+starts_at start amount = tree.initial_cost (record { equals = at start (codes "="); function = total_cost (start + 1); amount = amount; number = at (start + 2) (codes "1") })
+
+-- the same problem with these costs at the start
+abbrev pub with_start : List Fact → Problem
+with_start costs = record parked { init = parked.init ++ costs }
+
+-- and with the metric, whose word `total-cost` stands at 40
+abbrev pub with_metric : Problem
+with_metric = record parked { metric = Some (total_cost 40) }
+
+-- (p t) as an effect, where t stands at the offset after it
+abbrev pub p_of : ℕ → Term → Effect
+p_of start t = tree.literal (tree.add (atom (at start (codes "p")) (t ∷ [])))
+
+-- (forall (?x - v) ..)
+abbrev pub each_x : Effect → Effect
+each_x part = tree.each (group (at 51 (codes "?x") ∷ []) (at 52 (codes "v") ∷ []) ∷ []) part
+
+-- (and (forall (?x - v ?z) (when (= ?z ?y) (and (p ?x) (not (p k))))) (p ?y))
+abbrev pub of_two_variables : Effect
+of_two_variables =
+    tree.both (effects (
+    tree.each (group (at 51 (codes "?x") ∷ []) (at 52 (codes "v") ∷ []) ∷ group (at 53 (codes "?z") ∷ []) [] ∷ [])
+    (tree.when (tree.equal (variable 54 (codes "?z")) (variable 55 (codes "?y")))
+    (tree.add (atom (at 56 (codes "p")) (variable 57 (codes "?X") ∷ [])) ∷ tree.delete (atom (at 58 (codes "p")) (tree.object (at 59 (codes "k")) ∷ [])) ∷ []))
+    ∷ p_of 60 (variable 61 (codes "?y")) ∷ []
+    ))
 
 pub record AreTyped : Type 0 where
   -- Each name is its number, in letters of either case.
@@ -159,3 +211,46 @@ pub record AreTyped : Type 0 where
   -- The terms of an equality are known, of whatever types.
   pub of_two_types : faults_of (with_precondition (tree.equal (variable 50 (codes "?y")) (tree.object (at 51 (codes "k"))))) parked ≡ []
   pub unknown_terms : faults_of fleet (with_goal (tree.equal (variable 31 (codes "?x")) (tree.object (at 32 (codes "n"))))) ≡ fault problem_file 17 31 ∷ fault problem_file 17 32 ∷ []
+  -- The variable of a `forall` effect is known in its part, with its types, and not after it.
+  pub in_its_part : faults_of (with_effect (each_x (p_of 53 (variable 54 (codes "?X"))))) parked ≡ []
+  pub of_another_type : faults_of (with_effect (tree.each (untyped (at 51 (codes "?x") ∷ [])) (p_of 53 (variable 54 (codes "?x"))))) parked ≡ fault domain_file 19 54 ∷ []
+  pub after_its_part : faults_of (with_effect (tree.both (effects (each_x (p_of 53 (variable 54 (codes "?x"))) ∷ p_of 55 (variable 56 (codes "?x")) ∷ [])))) parked ≡ fault domain_file 17 56 ∷ []
+  -- Its list is as that of a quantifier: known types, none twice, none in scope, at most 16.
+  pub of_a_type_unknown : faults_of (with_effect (tree.each (group (at 51 (codes "?x") ∷ []) (at 52 (codes "u") ∷ []) ∷ []) (tree.both (effects [])))) parked ≡ fault domain_file 14 52 ∷ []
+  pub twice_in_its_list : faults_of (with_effect (tree.each (untyped (at 51 (codes "?x") ∷ at 52 (codes "?X") ∷ [])) (tree.both (effects [])))) parked ≡ fault domain_file 16 52 ∷ []
+  pub as_the_parameter : faults_of (with_effect (tree.each (untyped (at 51 (codes "?Y") ∷ [])) (tree.both (effects [])))) parked ≡ fault domain_file 20 51 ∷ []
+  pub in_one_another : faults_of (with_effect (each_x (tree.when (some_x [] nothing) []))) parked ≡ fault domain_file 20 31 ∷ []
+  pub one_too_many : faults_of (with_effect (tree.each (untyped (letters 50 (codes "abcdefghijklmnop"))) (tree.both (effects [])))) parked ≡ fault domain_file 25 65 ∷ []
+  -- Of a `when`, the condition and each literal are looked at; the problem's objects are not known.
+  pub under_a_condition : faults_of (with_effect (tree.when (tree.not (p_of_x 50)) (tree.add (atom (at 52 (codes "n")) []) ∷ tree.delete (atom (at 53 (codes "p")) (tree.object (at 54 (codes "o")) ∷ [])) ∷ []))) parked
+      ≡ fault domain_file 17 51 ∷ fault domain_file 17 52 ∷ fault domain_file 17 54 ∷ []
+  -- `total-cost` is declared once, and where the metric names it.
+  pub cost_declared_again : faults_of (with_increases (total_cost 35 ∷ total_cost 36 ∷ total_cost 37 ∷ []) []) parked ≡ fault domain_file 16 36 ∷ fault domain_file 16 37 ∷ []
+  pub metric_of_nothing : faults_of fleet with_metric ≡ fault problem_file 22 40 ∷ []
+  pub metric_of_the_cost : faults_of (with_increases (total_cost 35 ∷ []) []) with_metric ≡ []
+  -- These come before the faults of actions.
+  pub before_the_actions : faults_of (with_increases [] (increase 45 1 ∷ [])) with_metric ≡ fault problem_file 22 40 ∷ []
+  -- An action increases the cost once, where it is declared.
+  pub increase_of_nothing : faults_of (with_increases [] (increase 45 1 ∷ increase 46 1 ∷ [])) parked ≡ fault domain_file 23 45 ∷ fault domain_file 23 46 ∷ []
+  pub increases_again : faults_of (with_increases (total_cost 35 ∷ []) (increase 45 1 ∷ increase 46 1 ∷ increase 47 1 ∷ [])) parked ≡ fault domain_file 23 46 ∷ fault domain_file 23 47 ∷ []
+  -- It starts at 0, said once at most, where it is declared.
+  pub starts_at_nothing : faults_of (with_increases (total_cost 35 ∷ []) []) (with_start (starts_at 22 0 ∷ [])) ≡ []
+  pub starts_at_one : faults_of (with_increases (total_cost 35 ∷ []) []) (with_start (starts_at 22 1 ∷ [])) ≡ fault problem_file 23 24 ∷ []
+  pub starts_again : faults_of (with_increases (total_cost 35 ∷ []) []) (with_start (starts_at 22 0 ∷ starts_at 25 0 ∷ [])) ≡ fault problem_file 23 25 ∷ []
+  pub start_of_nothing : faults_of fleet (with_start (starts_at 22 0 ∷ [])) ≡ fault problem_file 23 23 ∷ []
+  pub start_of_nothing_at_one : faults_of fleet (with_start (starts_at 22 1 ∷ [])) ≡ fault problem_file 23 23 ∷ fault problem_file 23 24 ∷ []
+  -- A `forall` of two variables is two, one in the other, after the parameter; an action that increases the cost costs that.
+  pub its_effect : (task_of_trees (with_effect of_two_variables) parked).schemas ≡ record {
+    name = codes "a";
+    parameters = (1 ∷ []) ∷ [];
+    precondition = task.and task.no_formula;
+    effect = task.both (task.more_effects
+        (task.each (2 ∷ []) (task.each (0 ∷ []) (task.when (task.equal (task.variable 2) (task.variable 0))
+        (task.add (record { predicate = 0; terms = task.variable 1 ∷ [] }) ∷ task.delete (record { predicate = 0; terms = task.object 0 ∷ [] }) ∷ []))))
+        (task.more_effects (task.literal (task.add (record { predicate = 0; terms = task.variable 0 ∷ [] }))) task.no_effect));
+    cost = 0;
+  } ∷ []
+  pub without_fault : faults_of (with_effect of_two_variables) parked ≡ []
+  pub its_cost : (task_of_trees (with_increases (total_cost 35 ∷ []) (increase 45 7 ∷ [])) with_metric).schemas ≡ record task_park { cost = 7 } ∷ []
+  pub has_its_metric : (task_of_trees (with_increases (total_cost 35 ∷ []) []) with_metric).has_metric ≡ true
+  pub has_no_metric : (task_of_trees (with_increases (total_cost 35 ∷ []) (increase 45 7 ∷ [])) parked).has_metric ≡ false

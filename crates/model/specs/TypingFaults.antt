@@ -2,12 +2,12 @@
 -- 1.2 manual ("Types", "Predicates", "Actions", "Problems"), with the limits of the language profile. A fault is of a
 -- phase, and the first phase that has one is the one that tells, since what a later phase says rests on the declarations
 -- of those before it.
-use Rattle.std.specs.Prelude.{◌≡◌, ◌≢◌, ℕ, ◌+◌, ◌<◌, ◌≤◌, ◌⊎◌, true, false, List, ◌∷◌, ◌++◌, codes, length, map, slice_get, Some, Contains}
+use Rattle.std.specs.Prelude.{◌≡◌, ◌≢◌, ℕ, ◌+◌, ◌<◌, ◌≤◌, ◌⊎◌, true, false, List, [], ◌∷◌, ◌++◌, codes, length, map, slice_get, Some, Contains}
 use Rattle.model.specs.Limits.{max_types, max_objects, max_arguments, max_variables}
 use Rattle.model.specs.Task as task
 use Rattle.model.specs.Trees.{File, domain_file, problem_file, Name, Domain, Problem}
 use Rattle.model.specs.Trees as tree
-use Rattle.model.specs.Resolution.{Known, Declared, Placed, placed, words_of, folded, is_same, is_known, declared, declared_types, declared_objects, type_names, parents_of, known_in_domain, known_in_action, known_with, known_in_problem, names_of_predicates, names_of_variables, names_of_objects, predicate_in_known, term_in, fits_in, word_of, comes_back, TypingFault, rank_of}
+use Rattle.model.specs.Resolution.{Known, Declared, Placed, placed, words_of, equals_in, folded, is_same, is_known, declared, declared_types, declared_objects, type_names, parents_of, known_in_domain, known_in_action, known_with, known_in_problem, names_of_predicates, names_of_variables, names_of_objects, predicate_in_known, term_in, fits_in, word_of, comes_back, TypingFault, rank_of}
 
 -- the phases, in the order in which they are looked at
 pub data Phase : Type 0 where
@@ -15,6 +15,7 @@ pub data Phase : Type 0 where
   of_cycles : Phase
   of_objects : Phase
   of_predicates : Phase
+  of_functions : Phase
   of_actions : Phase
   of_init : Phase
   of_goal : Phase
@@ -24,9 +25,10 @@ order_of of_names = 0
 order_of of_cycles = 1
 order_of of_objects = 2
 order_of of_predicates = 3
-order_of of_actions = 4
-order_of of_init = 5
-order_of of_goal = 6
+order_of of_functions = 4
+order_of of_actions = 5
+order_of of_init = 6
+order_of of_goal = 7
 
 -- ---- declarations
 
@@ -66,17 +68,6 @@ abbrev pub parameters_of : tree.Action → List Declared
 parameters_of a = declared domain_file a.parameters
 
 -- ---- uses
-
--- the effect makes the atom true, or false
-abbrev mutual
-  pub ChangesAtom : tree.Effect → tree.Atom → Type 0
-  ChangesAtom (tree.add a) b = a ≡ b
-  ChangesAtom (tree.delete a) b = a ≡ b
-  ChangesAtom (tree.both parts) b = SomeChangesAtom parts b
-
-  pub SomeChangesAtom : tree.Effects → tree.Atom → Type 0
-  SomeChangesAtom tree.no_effect b = ⊥
-  SomeChangesAtom (tree.more_effects first rest) b = ChangesAtom first b ⊎ SomeChangesAtom rest b
 
 -- the variable or the object is not known
 abbrev pub IsUnknown : Known → tree.Term → Type 0
@@ -127,6 +118,24 @@ abbrev mutual
   IsSomeFault file known tree.no_formula code w = ⊥
   IsSomeFault file known (tree.more_formulas first rest) code w = IsFormulaFault file known first code w ⊎ IsSomeFault file known rest code w
 
+-- and of an effect
+abbrev pub IsLiteralFault : File → Known → tree.EffectLiteral → ℕ → Placed → Type 0
+IsLiteralFault file known (tree.add a) code w = IsAtomFault file known a code w
+IsLiteralFault file known (tree.delete a) code w = IsAtomFault file known a code w
+
+abbrev mutual
+  pub IsEffectFault : File → Known → tree.Effect → ℕ → Placed → Type 0
+  IsEffectFault file known (tree.literal l) code w = IsLiteralFault file known l code w
+  IsEffectFault file known (tree.both parts) code w = IsSomeEffectFault file known parts code w
+  IsEffectFault file known (tree.each groups part) code w =
+      IsVariableFault known (declared file groups) code w ⊎ IsEffectFault file (known_with known (declared file groups)) part code w
+  IsEffectFault file known (tree.when condition literals) code w =
+      IsFormulaFault file known condition code w ⊎ ((l : tree.EffectLiteral) × Contains literals l × IsLiteralFault file known l code w)
+
+  pub IsSomeEffectFault : File → Known → tree.Effects → ℕ → Placed → Type 0
+  IsSomeEffectFault file known tree.no_effect code w = ⊥
+  IsSomeEffectFault file known (tree.more_effects first rest) code w = IsEffectFault file known first code w ⊎ IsSomeEffectFault file known rest code w
+
 -- an atom of objects as one of terms
 abbrev pub as_atom : tree.GroundAtom → tree.Atom
 as_atom a = record { predicate = a.predicate; terms = map (λ (name : Name). tree.object name) a.objects }
@@ -158,19 +167,29 @@ pub data IsFaultIn (d : Domain) (p : Problem) : Phase → ℕ → Placed → Typ
       → IsFaultIn d p of_predicates 14 w
   many_arguments : (q : tree.Predicate) (w : Placed) → Contains d.predicates q → slice_get (words_of (arguments_of q)) max_arguments ≡ Some w
       → IsFaultIn d p of_predicates 25 w
-  -- 5: actions
+  -- 5: functions, and the metric
+  function_again : (place : ℕ) (n : Name) → slice_get d.functions (place + 1) ≡ Some n → IsFaultIn d p of_functions 16 (placed domain_file n)
+  metric_undeclared : (n : Name) → p.metric ≡ Some n → d.functions ≡ [] → IsFaultIn d p of_functions 22 (placed problem_file n)
+  -- 6: actions
   action_again : (w : Placed) → IsRepeated (action_words d) w → IsFaultIn d p of_actions 16 w
   of_parameters : (a : tree.Action) (code : ℕ) (w : Placed) → Contains d.actions a → IsVariableFault (known_in_domain d) (parameters_of a) code w
       → IsFaultIn d p of_actions code w
   in_precondition : (a : tree.Action) (code : ℕ) (w : Placed) → Contains d.actions a → IsFormulaFault domain_file (known_in d a) a.precondition code w
       → IsFaultIn d p of_actions code w
-  in_effect : (a : tree.Action) (b : tree.Atom) (code : ℕ) (w : Placed) → Contains d.actions a → ChangesAtom a.effect b
-      → IsAtomFault domain_file (known_in d a) b code w → IsFaultIn d p of_actions code w
-  -- 6: the initial state
+  in_effect : (a : tree.Action) (code : ℕ) (w : Placed) → Contains d.actions a → IsEffectFault domain_file (known_in d a) a.effect code w
+      → IsFaultIn d p of_actions code w
+  increase_undeclared : (a : tree.Action) (i : tree.Increase) → Contains d.actions a → Contains a.increases i → d.functions ≡ []
+      → IsFaultIn d p of_actions 23 (placed domain_file i.word)
+  increase_again : (a : tree.Action) (place : ℕ) (i : tree.Increase) → Contains d.actions a → slice_get a.increases (place + 1) ≡ Some i
+      → IsFaultIn d p of_actions 23 (placed domain_file i.word)
+  -- 7: the initial state
   in_init : (a : tree.GroundAtom) (code : ℕ) (w : Placed) → Contains p.init (tree.fact a)
       → IsAtomFault problem_file (known_in_problem d p) (as_atom a) code w → IsFaultIn d p of_init code w
+  cost_undeclared : (c : tree.InitialCost) → Contains p.init (tree.initial_cost c) → d.functions ≡ [] → IsFaultIn d p of_init 23 (placed problem_file c.function)
+  cost_not_zero : (c : tree.InitialCost) → Contains p.init (tree.initial_cost c) → c.amount ≢ 0 → IsFaultIn d p of_init 23 (placed problem_file c.number)
+  cost_again : (place : ℕ) (w : Placed) → slice_get (equals_in problem_file p.init) (place + 1) ≡ Some w → IsFaultIn d p of_init 23 w
   negated : (word : Name) (a : tree.GroundAtom) → Contains p.init (tree.negated word a) → IsFaultIn d p of_init 24 (placed problem_file word)
-  -- 7: the goal
+  -- 8: the goal
   in_goal : (code : ℕ) (w : Placed) → IsFormulaFault problem_file (known_in_problem d p) p.goal code w → IsFaultIn d p of_goal code w
 
 -- ---- what is told

@@ -5,7 +5,7 @@ use Rattle.std.specs.Cmp.Lexicographic.{pointwise}
 use Rattle.std.specs.List.{list_all, list_any}
 use Rattle.std.specs.Option.{option_map_or}
 pub use Rattle.model.specs.Limits.{max_arguments, max_variables}
-use Rattle.model.specs.Task.{ObjectType, Union, Predicate, Atom, LiftedAtom, Term, variable, object, Formula, Formulas, atom, equal, and, or, not, imply, exists, forall, no_formula, more_formulas, Effect, Effects, add, delete, both, no_effect, more_effects, Schema, Task}
+use Rattle.model.specs.Task.{ObjectType, Union, Predicate, Atom, LiftedAtom, Term, variable, object, Formula, Formulas, atom, equal, and, or, not, imply, exists, forall, no_formula, more_formulas, EffectLiteral, add, delete, Effect, Effects, literal, both, each, when, no_effect, more_effects, Schema, Task}
 use Rattle.model.specs.Meaning.{supertypes_of, is_below, is_of}
 
 -- A term may stand where an object of one of these types is wanted: an object that is of one, or a variable each of
@@ -44,11 +44,16 @@ abbrev mutual
   are_formulas task scope no_formula = true
   are_formulas task scope (more_formulas first rest) = is_formula task scope first && are_formulas task scope rest
 
+abbrev pub is_effect_literal : Task → List Union → EffectLiteral → Bool
+is_effect_literal task scope (add a) = is_lifted_atom task scope a
+is_effect_literal task scope (delete a) = is_lifted_atom task scope a
+
 abbrev mutual
   pub is_effect : Task → List Union → Effect → Bool
-  is_effect task scope (add a) = is_lifted_atom task scope a
-  is_effect task scope (delete a) = is_lifted_atom task scope a
+  is_effect task scope (literal l) = is_effect_literal task scope l
   is_effect task scope (both parts) = are_effects task scope parts
+  is_effect task scope (each types part) = nat_lt (length scope) max_variables && is_effect task (scope ++ types ∷ []) part
+  is_effect task scope (when condition literals) = is_formula task scope condition && list_all (is_effect_literal task scope) literals
 
   pub are_effects : Task → List Union → Effects → Bool
   are_effects task scope no_effect = true

@@ -3,9 +3,11 @@ use Rattle.std.proofs.Common.{◌≡◌, ℕ, ◌+◌, true, false, List, [], �
 use Rattle.std.specs.Option.{option_map, option_and_then}
 use Rattle.std.proofs.lemmas.List.{map-append}
 use Rattle.tokens.specs.declared.word.Word.{Word}
-use Rattle.pddl_words.specs.Token.{from, first}
+use Rattle.pddl_words.specs.declared.token.Token.{Token as CodeToken}
+use Rattle.pddl_words.specs.declared.token.Token.TheVariants as code
+use Rattle.pddl_words.specs.Token.{from, first, seen}
 use Rattle.pddl_words.specs.Refusal.{WordFault}
-use Rattle.pddl_tree.specs.Reading.{the, IsRead, IsTold, closes_first}
+use Rattle.pddl_tree.specs.Reading.{the, IsRead, IsTold, closes_first, opens_first}
 use Rattle.pddl_tree.specs.Typed.{IsListed, IsOne, groups, ends_group_first}
 use Rattle.pddl_tree.proofs.ReadOn.{taken, told_later, IsRefusedAs}
 use Rattle.model.specs.Trees.{Name, Group}
@@ -108,3 +110,15 @@ one_type l words at n e = by_first (first (from words at)) refl e
     by_first : (o : Option Token) → first (from words at) ≡ o → option_and_then name_in o ≡ Some n → IsRead (the (type l)) words at (n ∷ []) (at + 1)
     by_first None is e = absurd (cc)
     by_first (Some t) is e = record { runs = taken (type l) words at t is (is_type l t e) }
+
+-- a word that is neither a name nor a `(`, as a type
+pub no_type : (l : Listed) (o : Option Token) → opens_first o ≡ false → option_and_then name_in o ≡ None → IsRefusedAs (type l) (type l) o
+no_type l None n e = (refl, refl)
+no_type l (Some opens) n e = absurd (cc)
+no_type names (Some t) n e = (ap (option_map (λ n. gives (n ∷ []))) e, refl)
+no_type variables (Some t) n e = (ap (option_map (λ n. gives (n ∷ []))) e, refl)
+
+-- a word that the code does not find to be a `(`
+pub no_open : (t : CodeToken) → (t ≡ code.Open → ⊥) → opens_first (seen t) ≡ false
+no_open code.Open n = absurd (n refl)
+no_open t n = refl

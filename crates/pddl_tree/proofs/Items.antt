@@ -48,7 +48,7 @@ on_more {list = list} view {words} {end = end} done done' {x} h one e =
     }
 
 -- a list that `)` ends
-ended : {X : Type 0} (list : (List X → Phrase Tree) → Phrase Tree) (words : List Word) (at next : ℕ) (done : List X) → (first (from words next) ≡ Some closes → (k : List X → Phrase Tree) → run (from words next) (list k) ≡ run (from words (next + 1)) (k []))
+pub ended : {X : Type 0} (list : (List X → Phrase Tree) → Phrase Tree) (words : List Word) (at next : ℕ) (done : List X) → (first (from words next) ≡ Some closes → (k : List X → Phrase Tree) → run (from words next) (list k) ≡ run (from words (next + 1)) (k []))
     → IsReadOn list words at done next → closes_first (first (from words next)) ≡ true → (k : List X → Phrase Tree) → run (from words at) (list k) ≡ run (from words (next + 1)) (k done)
 ended list words at next done shut h e k = h.goes k ∙ by_first (first (from words next)) refl e
   where

@@ -8,3 +8,6 @@ pub mod Files
 pub mod Told
 pub mod Heads
 pub mod Reserved
+pub mod Atoms
+pub mod EffectValues
+pub mod TotalCost

@@ -149,7 +149,7 @@ headed s {p} {words} {at} {next} {end} {n} {x} rule h a = by_word s {p = p n} h.
 pub headed_told : (s : Sort) {p : (n : Name) → Phrase (Value s)} {words : List Word} {at next : ℕ} {n : Name} {refusal : WordFault} → ((f : FreeName) → (m : Name) → after s (free f m) ≡ Some (p m)) → Heads words at n next → IsTold (p n) words next refusal → IsTold (the s) words at refusal
 headed_told s {p} {words} {at} {next} {n} {refusal} rule h a = by_word_told s {p = p n} h.1 (rule h.0 n) (subst (λ i. IsTold (p n) words i refusal) h.2 a)
 
-pub not_headed : (s : Sort) {words : List Word} {at : ℕ} {refusal : WordRefusal} → ((o : Option Token) → free_first o ≡ false → IsRefusedAs s Grammar.close o) → IsNoPredicate words at refusal → IsTold (the s) words at (At refusal)
+pub not_headed : (s : Sort) {words : List Word} {at : ℕ} {refusal : WordRefusal} → ((o : Option Token) → free_first o ≡ false → IsRefusedAs s Grammar.close o) → IsNoPredicate words at Elsewhere refusal → IsTold (the s) words at (At refusal)
 not_headed s {words} {at} rule h = refused_as s Grammar.close (rule (first (from words at)) h.0) h.1
 
 -- a word that heads no atom and no declaration
@@ -157,6 +157,11 @@ pub no_atom : (o : Option Token) → free_first o ≡ false → IsRefusedAs Gram
 no_atom None e = (refl, refl)
 no_atom (Some (free f n)) e = absurd (cc)
 no_atom (Some t) e = (refl, refl)
+
+pub no_conditional_atom : (o : Option Token) → free_first o ≡ false → IsRefusedAs Grammar.conditional_atom Grammar.conditional o
+no_conditional_atom None e = (refl, refl)
+no_conditional_atom (Some (free f n)) e = absurd (cc)
+no_conditional_atom (Some t) e = (refl, refl)
 
 pub no_declaration : (o : Option Token) → free_first o ≡ false → IsRefusedAs Grammar.declaration Grammar.close o
 no_declaration None e = (refl, refl)

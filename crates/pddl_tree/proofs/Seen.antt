@@ -25,11 +25,13 @@ same_section section.Requirements section.Requirements = refl
 same_section section.Types section.Types = refl
 same_section section.Constants section.Constants = refl
 same_section section.Predicates section.Predicates = refl
+same_section section.Functions section.Functions = refl
 same_section section.Action section.Action = refl
 same_section section.Domain section.Domain = refl
 same_section section.Objects section.Objects = refl
 same_section section.Init section.Init = refl
 same_section section.Goal section.Goal = refl
+same_section section.Metric section.Metric = refl
 same_section y k = refl
 
 pub section_among : (seen : List SectionKeyword) (k : SectionKeyword) → list_any (λ y. (section_impl.ghosts).eq y k) seen ≡ has_section (map section_view seen) (section_view k)

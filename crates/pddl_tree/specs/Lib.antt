@@ -5,3 +5,7 @@ pub mod Sections
 pub mod Head
 pub mod Typed
 pub mod Formula
+pub mod Costs
+pub mod Literals
+pub mod Effect
+pub mod Values

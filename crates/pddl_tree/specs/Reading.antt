@@ -9,7 +9,7 @@ use Rattle.faults.specs.declared.refused.Refused.TheVariants.{At}
 use Rattle.pddl_tree.specs.declared.refusal.Place.{Place}
 use Rattle.pddl_tree.specs.Place.{wanted}
 use Rattle.model.specs.Trees.{Name}
-use Rattle.model.specs.GrammarWords.{Token, opens, closes, FreeName, free}
+use Rattle.model.specs.GrammarWords.{Token, opens, closes, FreeName, free, reserved, and}
 use Rattle.model.specs.Grammar.{Tree, Sort, many, key, close, Value, Phrase, gives, ◌>>=◌, ◌>>◌, and_then, after}
 use Rattle.model.specs.GrammarMachine.{run, stopped}
 use Rattle.model.specs.Refusals.{number_at}
@@ -51,6 +51,10 @@ abbrev pub closes_first : Option Token → Bool
 closes_first (Some closes) = true
 closes_first _ = false
 
+abbrev pub and_first : Option Token → Bool
+and_first (Some (reserved and n)) = true
+and_first _ = false
+
 abbrev pub opens_first : Option Token → Bool
 opens_first (Some opens) = true
 opens_first _ = false
@@ -71,9 +75,9 @@ abbrev pub free_first : Option Token → Bool
 free_first (Some (free f n)) = true
 free_first _ = false
 
-abbrev pub IsNoPredicate : List Word → ℕ → WordRefusal → Type 0
-IsNoPredicate words at refusal =
-    (free_first (first (from words at)) ≡ false) × (told (At refusal) ≡ Some (number_seen close (first (from words at)), at))
+abbrev pub IsNoPredicate : List Word → ℕ → Place → WordRefusal → Type 0
+IsNoPredicate words at place refusal =
+    (free_first (first (from words at)) ≡ false) × (told (At refusal) ≡ Some (number_seen (wanted place) (first (from words at)), at))
 
 -- keys up to `)`: they switch nothing on or off, and nothing is kept of them
 abbrev pub keys_dropped : Phrase (Value close)

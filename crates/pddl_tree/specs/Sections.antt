@@ -1,9 +1,11 @@
 -- The parts of an action and the sections of a file, in the model's terms, and what the grammar makes of some of them.
+use Rattle.std.specs.Option.{option_map}
 use Rattle.std.specs.Prelude.{map, fold, [], ◌≡◌, ℕ, List, true, Some}
 use Rattle.pddl_tree.specs.declared.action.Part.{Part}
 use Rattle.pddl_tree.specs.declared.action.Part.TheVariants as part
 use Rattle.pddl_words.specs.Name.{name_of}
-use Rattle.pddl_tree.specs.Tree.{formula_of, effect_of, groups_of, predicate_of, action_of, fact_of}
+use Rattle.pddl_tree.specs.Tree.{formula_of, groups_of, predicate_of, action_of, fact_of}
+use Rattle.pddl_tree.specs.Values.{value_tree}
 use Rattle.pddl_tree.specs.declared.sections.Section.{Section}
 use Rattle.pddl_tree.specs.declared.sections.Section.TheVariants as section
 use Rattle.pddl_tree.specs.declared.sections.Contents.{Contents}
@@ -22,7 +24,7 @@ use Rattle.model.specs.GrammarWords as grammar_words
 abbrev pub part_tree : Part → grammar.Part
 part_tree (part.Parameters v) = grammar.parameters (groups_of v)
 part_tree (part.Precondition f) = grammar.precondition (formula_of f)
-part_tree (part.Effect e) = grammar.effect (effect_of e)
+part_tree (part.Effect v) = grammar.effect (value_tree v)
 
 -- the parts of an action of which some were read
 abbrev pub parts_on : Action → Phrase Action
@@ -37,22 +39,26 @@ section_tree section.Requirements = grammar.requirements
 section_tree (section.Types v) = grammar.types (groups_of v)
 section_tree (section.Constants v) = grammar.constants (groups_of v)
 section_tree (section.Predicates v) = grammar.predicates (map predicate_of v.items)
+section_tree (section.Functions v) = grammar.functions (map name_of v.items)
 section_tree (section.Action a) = grammar.action (action_of a)
 section_tree (section.Domain n) = grammar.domain (name_of n)
 section_tree (section.Objects v) = grammar.objects (groups_of v)
 section_tree (section.Init v) = grammar.init (map fact_of v.items)
 section_tree (section.Goal f) = grammar.goal (formula_of f)
+section_tree (section.Metric n) = grammar.metric (name_of n)
 
 abbrev pub contents_of : Contents → grammar.Contents
 contents_of c = record {
   types = groups_of c.types;
   constants = groups_of c.constants;
   predicates = map predicate_of c.predicates.items;
+  functions = map name_of c.functions.items;
   actions = map action_of c.actions.items;
   domain = name_of c.domain;
   objects = groups_of c.objects;
   init = map fact_of c.init.items;
   goal = formula_of c.goal;
+  metric = option_map name_of c.metric;
 }
 
 -- the sections of a file, and what stands in them

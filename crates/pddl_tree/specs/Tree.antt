@@ -1,19 +1,24 @@
 -- The code's trees, in the model's terms.
 use Rattle.std.specs.Prelude.{List, map}
+use Rattle.std.specs.Option.{option_map}
 use Rattle.std.specs.Global.{Vec}
 use Rattle.pddl_tree.specs.declared.tree.TaskFile.{TaskFile}
 use Rattle.pddl_tree.specs.declared.tree.TaskFile.TheVariants as file
 use Rattle.pddl_tree.specs.declared.tree.Atom.{Atom}
 use Rattle.pddl_tree.specs.declared.tree.Predicate.{Predicate}
+use Rattle.pddl_tree.specs.declared.tree.Increase.{Increase}
 use Rattle.pddl_tree.specs.declared.tree.Action.{Action}
 use Rattle.pddl_tree.specs.declared.tree.Domain.{Domain}
 use Rattle.pddl_tree.specs.declared.tree.Group.{Group}
 use Rattle.pddl_tree.specs.declared.tree.GroundAtom.{GroundAtom}
+use Rattle.pddl_tree.specs.declared.tree.InitialCost.{InitialCost}
 use Rattle.pddl_tree.specs.declared.tree.Fact.{Fact}
 use Rattle.pddl_tree.specs.declared.tree.Fact.TheVariants as fact
 use Rattle.pddl_tree.specs.declared.tree.Problem.{Problem}
 use Rattle.pddl_tree.specs.declared.tree.Formula.{Formula, Row_of-Formula, end_of-Formula, more_of-Formula}
 use Rattle.pddl_tree.specs.declared.tree.Formula as formula
+use Rattle.pddl_tree.specs.declared.tree.EffectLiteral.{EffectLiteral}
+use Rattle.pddl_tree.specs.declared.tree.EffectLiteral.TheVariants as literal
 use Rattle.pddl_tree.specs.declared.tree.Effect.{Effect, Row_of-Effect, end_of-Effect, more_of-Effect}
 use Rattle.pddl_tree.specs.declared.tree.Effect as effect
 use Rattle.model.specs.Trees as tree
@@ -47,11 +52,16 @@ abbrev mutual
   formulas_of end_of-Formula = tree.no_formula
   formulas_of (more_of-Formula first rest) = tree.more_formulas (formula_of first) (formulas_of rest)
 
+abbrev pub effect_literal_of : EffectLiteral → tree.EffectLiteral
+effect_literal_of (literal.Add a) = tree.add (atom_of a)
+effect_literal_of (literal.Delete a) = tree.delete (atom_of a)
+
 abbrev mutual
   pub effect_of : Effect → tree.Effect
-  effect_of (effect.Add a) = tree.add (atom_of a)
-  effect_of (effect.Delete a) = tree.delete (atom_of a)
+  effect_of (effect.Literal l) = tree.literal (effect_literal_of l)
   effect_of (effect.And' shape parts) = tree.both (effects_of parts)
+  effect_of (effect.Forall' variables place part) = tree.each (groups_of variables) (effect_of part)
+  effect_of (effect.When condition literals) = tree.when (formula_of condition) (map effect_literal_of literals.items)
 
   pub effects_of : {m : _} → Row_of-Effect m → tree.Effects
   effects_of end_of-Effect = tree.no_effect
@@ -60,12 +70,16 @@ abbrev mutual
 abbrev pub predicate_of : Predicate → tree.Predicate
 predicate_of p = record { name = name_of p.name; parameters = groups_of p.parameters }
 
+abbrev pub increase_of : Increase → tree.Increase
+increase_of i = record { word = name_of i.word; amount = i.amount }
+
 abbrev pub action_of : Action → tree.Action
 action_of a = record {
   name = name_of a.name;
   parameters = groups_of a.parameters;
   precondition = formula_of a.precondition;
   effect = effect_of a.effect;
+  increases = map increase_of a.increases.items;
 }
 
 abbrev pub domain_of : Domain → tree.Domain
@@ -74,15 +88,20 @@ domain_of d = record {
   types = groups_of d.types;
   constants = groups_of d.constants;
   predicates = map predicate_of d.predicates.items;
+  functions = map name_of d.functions.items;
   actions = map action_of d.actions.items;
 }
 
 abbrev pub ground_atom_of : GroundAtom → tree.GroundAtom
 ground_atom_of a = record { predicate = name_of a.predicate; objects = map name_of a.objects.items }
 
+abbrev pub initial_cost_of : InitialCost → tree.InitialCost
+initial_cost_of c = record { equals = name_of c.equals; function = name_of c.function; amount = c.amount; number = name_of c.number }
+
 abbrev pub fact_of : Fact → tree.Fact
 fact_of (fact.Atom a) = tree.fact (ground_atom_of a)
 fact_of (fact.Negated n a) = tree.negated (name_of n) (ground_atom_of a)
+fact_of (fact.InitialCost c) = tree.initial_cost (initial_cost_of c)
 
 abbrev pub problem_of : Problem → tree.Problem
 problem_of p = record {
@@ -91,4 +110,5 @@ problem_of p = record {
   objects = groups_of p.objects;
   init = map fact_of p.init.items;
   goal = formula_of p.goal;
+  metric = option_map name_of p.metric;
 }

@@ -9,12 +9,12 @@ ghost use Rattle.pddl_words.specs.Name.{name_of};
 ghost use Rattle.pddl_tree.specs.Tree.{action_of, formula_of};
 ghost use Rattle.pddl_tree.specs.Sections.{part_tree, the_action, parts_on};
 
-use crate::effects::effect;
 use crate::formulas::formula;
 use crate::look::{action_name, is_close, open};
 use crate::refusal::{Listed, Place, has_part, refusal};
 use crate::tree::{Action, Effect, Formula, Group};
 use crate::typed::typed;
+use crate::values::{EffectValue, effect_value};
 use faults::Refused;
 use pddl_words::{Keyword, Name, PartKeyword, Token, WordFault, WordRefusal, token_at};
 use std::alloc::Global;
@@ -25,7 +25,7 @@ use tokens::Word;
 enum Part<'a> {
     Parameters(Vec<Group<'a>>),
     Precondition(Formula<'a>),
-    Effect(Effect<'a>),
+    Effect(EffectValue<'a>),
 }
 
 impl<'a> Action<'a> {
@@ -38,6 +38,7 @@ impl<'a> Action<'a> {
             parameters: Vec::new(alloc),
             precondition: Formula::And(Vec::new(alloc)),
             effect: Effect::And(Vec::new(alloc)),
+            increases: Vec::new(alloc),
         }
     }
 
@@ -48,7 +49,10 @@ impl<'a> Action<'a> {
         match part {
             Part::Parameters(parameters) => self.parameters = parameters,
             Part::Precondition(precondition) => self.precondition = precondition,
-            Part::Effect(effect) => self.effect = effect,
+            Part::Effect(value) => {
+                self.effect = value.effect;
+                self.increases = value.increases;
+            }
         }
     }
 }
@@ -135,8 +139,8 @@ fn value<'a>(
             Ok((Part::Precondition(precondition), next))
         }
         PartKeyword::Effect => {
-            let (effect, next) = effect(alloc, words, inside)?;
-            Ok((Part::Effect(effect), next))
+            let (value, next) = effect_value(alloc, words, inside)?;
+            Ok((Part::Effect(value), next))
         }
     }
 }

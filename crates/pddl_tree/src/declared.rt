@@ -4,6 +4,7 @@ ghost use Rattle.model.specs.Grammar.{many, listed, declaration as wants_declara
 ghost use Rattle.pddl_tree.specs.Reading.{the, IsAfter, IsRead, IsTold};
 ghost use Rattle.pddl_tree.specs.Tree.{predicate_of, fact_of, ground_atom_of};
 
+use crate::costs::initial_cost;
 use crate::lists::names;
 use crate::look::{close, is_close, open, predicate};
 use crate::refusal::{Listed, Place, refusal};
@@ -45,7 +46,7 @@ fn declaration<'a>(
     ensures told { IfErr result (λ refusal. IsTold (the (listed wants_declaration)) words.now at refusal) }
 {
     let inside = open(words, at, Place::Elsewhere)?;
-    let (name, next) = predicate(words, inside)?;
+    let (name, next) = predicate(words, inside, Place::Elsewhere)?;
     let (parameters, next) = typed(alloc, words, next, Listed::Variables)?;
     Ok((Predicate { name, parameters }, next))
 }
@@ -87,6 +88,10 @@ fn fact<'a>(alloc: Global, words: &[Word<'a>], at: usize) -> Result<(Fact<'a>, u
             let next = close(words, next)?;
             Ok((Fact::Negated(word, atom), next))
         }
+        Token::Equals(word) => {
+            let (cost, next) = initial_cost(words, at + 1, word)?;
+            Ok((Fact::InitialCost(cost), next))
+        }
         _ => Err(Refused::At(refusal(words, at, Place::Elsewhere))),
     }
 }
@@ -102,7 +107,7 @@ fn ground_atom<'a>(
     ensures told { IfErr result (λ refusal. IsTold (the (listed wants_ground_atom)) words.now at refusal) }
 {
     let inside = open(words, at, Place::Elsewhere)?;
-    let (predicate, next) = predicate(words, inside)?;
+    let (predicate, next) = predicate(words, inside, Place::Elsewhere)?;
     let (objects, next) = names(alloc, words, next)?;
     Ok((GroundAtom { predicate, objects }, next))
 }

@@ -1,13 +1,18 @@
 //! Effects, from the word after their parenthesis on.
 ghost use Rattle.std.specs.Prelude.{IfOk, IfErr, map};
-ghost use Rattle.model.specs.Grammar.{many, listed, effect_list, atom as wants_atom};
+ghost use Rattle.model.specs.Grammar.{many, listed, effect_list};
+ghost use Rattle.pddl_tree.specs.Effect.{the_last_effect, the_each, the_when};
+ghost use Rattle.pddl_tree.specs.Formula.{IsReserved};
 ghost use Rattle.pddl_tree.specs.Reading.{the, IsAfter, IsRead, IsTold};
-ghost use Rattle.pddl_tree.specs.Tree.{effect_of, atom_of};
+ghost use Rattle.pddl_tree.specs.Tree.{effect_of, groups_of};
 
+use crate::formulas::formula;
 use crate::lists::terms;
-use crate::look::{close, is_close, open, predicate};
-use crate::refusal::{Place, refusal};
-use crate::tree::{Atom, Effect};
+use crate::literals::{conditional, last_atom};
+use crate::look::{close, is_close, open};
+use crate::refusal::{Listed, Literals, Place, refusal};
+use crate::tree::{Atom, Effect, EffectLiteral};
+use crate::typed::typed;
 use faults::Refused;
 use pddl_words::{ReservedName, Token, WordFault, token_at};
 use std::alloc::Global;
@@ -27,19 +32,87 @@ pub(crate) fn effect<'a>(
     match token_at(words, at) {
         Token::Free(_, predicate) => {
             let (terms, next) = terms(alloc, words, at + 1)?;
-            Ok((Effect::Add(Atom { predicate, terms }), next))
+            let literal = EffectLiteral::Add(Atom { predicate, terms });
+            Ok((Effect::Literal(literal), next))
         }
-        Token::Reserved(ReservedName::Not, _) => {
-            let (atom, next) = atom(alloc, words, at + 1)?;
-            let next = close(words, next)?;
-            Ok((Effect::Delete(atom), next))
+        Token::Reserved(word, _) => compound(alloc, words, at, word),
+        _ => Err(Refused::At(refusal(words, at, Place::Elsewhere))),
+    }
+}
+
+/// An effect that begins with this reserved word, and the index after its `)`.
+#[cycle(effect)]
+fn compound<'a>(
+    alloc: Global,
+    words: &[Word<'a>],
+    at: usize,
+    word: ReservedName,
+) -> Result<(Effect<'a>, usize), WordFault>
+    requires { IsReserved words.now at word }
+    ensures after { IfOk result (λ r. IsAfter words.now at r.1) }
+    ensures read { IfOk result (λ r. IsRead (the effect_list) words.now at (effect_of r.0) r.1) }
+    ensures told { IfErr result (λ refusal. IsTold (the effect_list) words.now at refusal) }
+{
+    match word {
+        ReservedName::Not => {
+            let (atom, next) = last_atom(alloc, words, at + 1, Literals::Plain)?;
+            Ok((Effect::Literal(EffectLiteral::Delete(atom)), next))
         }
-        Token::Reserved(ReservedName::And, _) => {
+        ReservedName::And => {
             let (parts, next) = effects(alloc, words, at + 1)?;
             Ok((Effect::And(parts), next))
         }
+        ReservedName::Forall => each(alloc, words, at + 1),
+        ReservedName::When => when(alloc, words, at + 1),
         _ => Err(Refused::At(refusal(words, at, Place::Elsewhere))),
     }
+}
+
+/// A typed list of variables in its parentheses, an effect, and `)`: the effect for each of their objects, and the
+/// index after the parenthesis.
+#[cycle(effect)]
+fn each<'a>(alloc: Global, words: &[Word<'a>], at: usize) -> Result<(Effect<'a>, usize), WordFault>
+    ensures after { IfOk result (λ r. IsAfter words.now at r.1) }
+    ensures read { IfOk result (λ r. IsRead the_each words.now at (effect_of r.0) r.1) }
+    ensures told { IfErr result (λ refusal. IsTold the_each words.now at refusal) }
+{
+    let inside = open(words, at, Place::Elsewhere)?;
+    let (variables, next) = typed(alloc, words, inside, Listed::Variables)?;
+    let (part, next) = last(alloc, words, next)?;
+    Ok((Effect::Forall(variables, part), next))
+}
+
+/// A formula in its parentheses, literals, and `)`: the literals where the formula holds, and the index after the
+/// parenthesis.
+fn when<'a>(alloc: Global, words: &[Word<'a>], at: usize) -> Result<(Effect<'a>, usize), WordFault>
+    ensures after { IfOk result (λ r. IsAfter words.now at r.1) }
+    ensures read { IfOk result (λ r. IsRead the_when words.now at (effect_of r.0) r.1) }
+    ensures told { IfErr result (λ refusal. IsTold the_when words.now at refusal) }
+{
+    let inside = open(words, at, Place::Elsewhere)?;
+    let (condition, next) = formula(alloc, words, inside)?;
+    let inside = open(words, next, Place::Elsewhere)?;
+    let (literals, next) = conditional(alloc, words, inside)?;
+    let next = close(words, next)?;
+    Ok((Effect::When(condition, literals), next))
+}
+
+/// An effect in its parentheses, and `)`: the effect, and the index after the last parenthesis.
+#[cycle(effect)]
+fn last<'a>(
+    alloc: Global,
+    words: &[Word<'a>],
+    at: usize,
+) -> Result<(Box<Effect<'a>>, usize), WordFault>
+    ensures after { IfOk result (λ r. IsAfter words.now at r.1) }
+    ensures read { IfOk result (λ r. IsRead the_last_effect words.now at (effect_of r.0.value) r.1) }
+    ensures told { IfErr result (λ refusal. IsTold the_last_effect words.now at refusal) }
+{
+    let inside = open(words, at, Place::Elsewhere)?;
+    let (part, next) = effect(alloc, words, inside)?;
+    let next = close(words, next)?;
+    let part = Box::new(alloc, part)?;
+    Ok((part, next))
 }
 
 /// Effects, and `)`: the effects, and the index after the parenthesis.
@@ -62,16 +135,4 @@ fn effects<'a>(
         next = after;
     }
     Ok((parts, next + 1))
-}
-
-/// An atom in its parentheses, and the index after them.
-fn atom<'a>(alloc: Global, words: &[Word<'a>], at: usize) -> Result<(Atom<'a>, usize), WordFault>
-    ensures after { IfOk result (λ r. IsAfter words.now at r.1) }
-    ensures read { IfOk result (λ r. IsRead (the (listed wants_atom)) words.now at (atom_of r.0) r.1) }
-    ensures told { IfErr result (λ refusal. IsTold (the (listed wants_atom)) words.now at refusal) }
-{
-    let inside = open(words, at, Place::Elsewhere)?;
-    let (predicate, next) = predicate(words, inside)?;
-    let (terms, next) = terms(alloc, words, next)?;
-    Ok((Atom { predicate, terms }, next))
 }

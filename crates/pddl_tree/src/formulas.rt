@@ -32,7 +32,7 @@ pub(crate) fn formula<'a>(
             let (terms, next) = terms(alloc, words, at + 1)?;
             Ok((Formula::Atom(Atom { predicate, terms }), next))
         }
-        Token::Equals => {
+        Token::Equals(_) => {
             let (equality, next) = equality(words, at + 1)?;
             Ok((equality, next))
         }

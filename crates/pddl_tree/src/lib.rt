@@ -2,19 +2,23 @@
 #![tactic(auto)]
 
 mod action;
+mod costs;
 mod declared;
 mod effects;
 mod formulas;
 mod lists;
+mod literals;
 mod look;
 mod reader;
 mod refusal;
 mod sections;
 mod tree;
 mod typed;
+mod values;
 
 pub use pddl_words::{Name, Term};
 pub use reader::{domain, examples_are_as_told, one_fault, one_reading, problem};
 pub use tree::{
-    Action, Atom, Domain, Effect, Fact, Formula, GroundAtom, Group, Predicate, Problem, TaskFile,
+    Action, Atom, Domain, Effect, EffectLiteral, Fact, Formula, GroundAtom, Group, Increase,
+    InitialCost, Predicate, Problem, TaskFile,
 };

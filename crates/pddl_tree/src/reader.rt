@@ -42,8 +42,10 @@ use tokens::Word;
 /// words run out, `BadForm` at the end of the last word, or at `0..0` where there is none:
 ///
 /// - `RepeatedSection`: the keyword of a section or of a part of an action that stands a second time in its list.
+/// - `NumberTooLarge`: a number over 2,147,483,647 where a number may stand.
 /// - `LeftOut`: the keyword of a section or part that the language profile leaves out, where one is wanted, or the name
-///   of a form that it leaves out, as `preference`; or the `(` of an `(either ..)` as the type of a name.
+///   of a form that it leaves out, as `preference`; the `(` of an `(either ..)` as the type of a name; `when` or `forall`
+///   at the head of a list under a `when`; or a function or a metric other than that of the total cost.
 /// - `UnknownSection`: any other keyword where that of a section or part is wanted.
 /// - `UnknownRequirement`: a keyword in `:requirements` that is no key.
 /// - `MissingSection`: the `)` of the file without `:predicates`, or of an action without `:parameters`.
@@ -82,6 +84,7 @@ pub fn domain<'a>(alloc: Global, words: &[Word<'a>]) -> Result<Domain<'a>, Fault
         types: contents.types,
         constants: contents.constants,
         predicates: contents.predicates,
+        functions: contents.functions,
         actions: contents.actions,
     })
 }
@@ -120,6 +123,7 @@ pub fn problem<'a>(alloc: Global, words: &[Word<'a>]) -> Result<Problem<'a>, Fau
         objects: contents.objects,
         init: contents.init,
         goal: contents.goal,
+        metric: contents.metric,
     })
 }
 

@@ -2,19 +2,20 @@
 ghost use Rattle.std.specs.Prelude.{◌≡◌, Some, map};
 ghost use Rattle.faults.specs.declared.refused.Refused.TheVariants.{At};
 ghost use Rattle.faults.specs.Fault.{number_of};
-ghost use Rattle.pddl_words.specs.Token.{from, first, seen, keyword_view, part_view, section_view};
+ghost use Rattle.pddl_words.specs.Token.{from, first, seen, free_view, reserved_view, keyword_view, part_view, section_view};
 ghost use Rattle.pddl_words.specs.Refusal.{told};
+ghost use Rattle.model.specs.Trees.{Name};
 ghost use Rattle.model.specs.Grammar as grammar;
 ghost use Rattle.model.specs.GrammarWords as model_words;
 ghost use Rattle.model.specs.Refusals.{number_at, number_of_keyword, number_in_file, number_in_action, number_at_value};
 ghost use Rattle.pddl_tree.specs.Reading.{number_seen};
 ghost use Rattle.pddl_tree.specs.Tree.{file_of};
-ghost use Rattle.pddl_tree.specs.Place.{wanted};
+ghost use Rattle.pddl_tree.specs.Place.{wanted, place_of};
 
 use crate::tree::TaskFile;
 use faults::Code;
 use pddl_words::{
-    Keyword, PartKeyword, ReservedName, SectionKeyword, Token, WordRefusal, token_at,
+    FreeName, Keyword, PartKeyword, ReservedName, SectionKeyword, Token, WordRefusal, token_at,
 };
 use tokens::Word;
 
@@ -29,6 +30,7 @@ impl TaskFile {
                 SectionKeyword::Types,
                 SectionKeyword::Constants,
                 SectionKeyword::Predicates,
+                SectionKeyword::Functions,
                 SectionKeyword::Action,
             ],
             TaskFile::Problem => &[
@@ -37,6 +39,7 @@ impl TaskFile {
                 SectionKeyword::Objects,
                 SectionKeyword::Init,
                 SectionKeyword::Goal,
+                SectionKeyword::Metric,
             ],
         }
     }
@@ -65,6 +68,27 @@ pub(crate) enum Listed {
     Variables,
 }
 
+/// Which literals an atom is of.
+#[derive(Clone, Copy)]
+pub(crate) enum Literals {
+    /// Those of an effect.
+    Plain,
+    /// Those under a `when`.
+    UnderWhen,
+}
+
+impl Literals {
+    /// The place of an atom's predicate.
+    pub(crate) fn place(self) -> Place<'static>
+        ensures { wanted result ≡ place_of self }
+    {
+        match self {
+            Literals::Plain => Place::Elsewhere,
+            Literals::UnderWhen => Place::UnderWhen,
+        }
+    }
+}
+
 /// A place in a file, as far as it decides what is told of a word that may not stand there.
 #[derive(Clone, Copy)]
 pub(crate) enum Place<'s> {
@@ -80,6 +104,14 @@ pub(crate) enum Place<'s> {
     Keys,
     /// After the `-` of a typed list.
     Type(Listed),
+    /// At the head of a list under a `when`.
+    UnderWhen,
+    /// Where `total-cost` is wanted.
+    TotalCost,
+    /// After `:metric`.
+    Metric,
+    /// Where a number is wanted.
+    Amount,
     /// Anywhere else.
     Elsewhere,
 }
@@ -116,7 +148,50 @@ fn code_of(token: Token, place: Place) -> Code
         Token::Open => code_of_open(place),
         Token::Close => code_of_close(place),
         Token::Keyword(keyword) => code_of_keyword(keyword, place),
-        Token::Reserved(ReservedName::LeftOut, _) => Code::LeftOut,
+        Token::Reserved(word, _) => code_of_reserved(word, place),
+        Token::Free(word, _) => code_of_free(word, place),
+        Token::LargeNumber => code_of_large_number(place),
+        _ => Code::BadForm,
+    }
+}
+
+/// What is told of a reserved word: one of a form that is left out, there or anywhere.
+fn code_of_reserved(word: ReservedName, place: Place) -> Code
+    ensures { (name : Name) → number_of result ≡ number_at (wanted place.entry) (model_words.reserved (reserved_view word) name) }
+{
+    match word {
+        ReservedName::LeftOut => Code::LeftOut,
+        ReservedName::When | ReservedName::Forall => match place {
+            Place::UnderWhen | Place::TotalCost => Code::LeftOut,
+            _ => Code::BadForm,
+        },
+        _ => match place {
+            Place::TotalCost => Code::LeftOut,
+            _ => Code::BadForm,
+        },
+    }
+}
+
+/// What is told of any other name: other functions and other metrics are left out.
+fn code_of_free(word: FreeName, place: Place) -> Code
+    ensures { (name : Name) → number_of result ≡ number_at (wanted place.entry) (model_words.free (free_view word) name) }
+{
+    match place {
+        Place::TotalCost => Code::LeftOut,
+        Place::Metric => match word {
+            FreeName::Maximize => Code::LeftOut,
+            _ => Code::BadForm,
+        },
+        _ => Code::BadForm,
+    }
+}
+
+/// What is told of a number that is too large.
+fn code_of_large_number(place: Place) -> Code
+    ensures { number_of result ≡ number_at (wanted place.entry) model_words.large_number }
+{
+    match place {
+        Place::Amount => Code::NumberTooLarge,
         _ => Code::BadForm,
     }
 }
@@ -144,7 +219,7 @@ fn code_of_close(place: Place) -> Code
                 Code::MissingSection
             }
         }
-        Place::Section(_) | Place::Keys | Place::Type(_) | Place::Elsewhere => Code::BadForm,
+        _ => Code::BadForm,
     }
 }
 
@@ -157,7 +232,7 @@ fn code_of_keyword(keyword: Keyword, place: Place) -> Code
         Place::Value(seen) => code_at_value(keyword, seen),
         Place::Section(file) => code_in_file(keyword, file),
         Place::Keys => Code::UnknownRequirement,
-        Place::Incomplete | Place::Type(_) | Place::Elsewhere => Code::BadForm,
+        _ => Code::BadForm,
     }
 }
 

@@ -11,6 +11,7 @@ ghost use Rattle.pddl_tree.specs.Tree.{file_of, formula_of};
 ghost use Rattle.pddl_tree.specs.Sections.{section_tree, contents_of, the_domain, the_goal, the_sections, IsNotNew};
 
 use crate::action::action;
+use crate::costs::{functions, metric};
 use crate::declared::{declarations, facts};
 use crate::formulas::formula;
 use crate::lists::keys;
@@ -30,11 +31,13 @@ enum Section<'a> {
     Types(Vec<Group<'a>>),
     Constants(Vec<Group<'a>>),
     Predicates(Vec<Predicate<'a>>),
+    Functions(Vec<Name<'a>>),
     Action(Action<'a>),
     Domain(Name<'a>),
     Objects(Vec<Group<'a>>),
     Init(Vec<Fact<'a>>),
     Goal(Formula<'a>),
+    Metric(Name<'a>),
 }
 
 /// What stands in a file's sections; what does not is empty.
@@ -43,11 +46,13 @@ pub(crate) struct Contents<'a> {
     pub(crate) types: Vec<Group<'a>>,
     pub(crate) constants: Vec<Group<'a>>,
     pub(crate) predicates: Vec<Predicate<'a>>,
+    pub(crate) functions: Vec<Name<'a>>,
     pub(crate) actions: Vec<Action<'a>>,
     pub(crate) domain: Name<'a>,
     pub(crate) objects: Vec<Group<'a>>,
     pub(crate) init: Vec<Fact<'a>>,
     pub(crate) goal: Formula<'a>,
+    pub(crate) metric: Option<Name<'a>>,
 }
 
 impl<'a> Contents<'a> {
@@ -59,6 +64,7 @@ impl<'a> Contents<'a> {
             types: Vec::new(alloc),
             constants: Vec::new(alloc),
             predicates: Vec::new(alloc),
+            functions: Vec::new(alloc),
             actions: Vec::new(alloc),
             domain: Name {
                 text: b"",
@@ -67,6 +73,7 @@ impl<'a> Contents<'a> {
             objects: Vec::new(alloc),
             init: Vec::new(alloc),
             goal: Formula::And(Vec::new(alloc)),
+            metric: None,
         }
     }
 
@@ -79,11 +86,13 @@ impl<'a> Contents<'a> {
             Section::Types(types) => self.types = types,
             Section::Constants(constants) => self.constants = constants,
             Section::Predicates(predicates) => self.predicates = predicates,
+            Section::Functions(functions) => self.functions = functions,
             Section::Action(action) => self.actions.push(action)?,
             Section::Domain(domain) => self.domain = domain,
             Section::Objects(objects) => self.objects = objects,
             Section::Init(init) => self.init = init,
             Section::Goal(goal) => self.goal = goal,
+            Section::Metric(metric) => self.metric = Some(metric),
         }
         Ok(())
     }
@@ -206,6 +215,10 @@ fn section_rest<'a>(
             let (predicates, next) = declarations(alloc, words, at)?;
             Ok((Section::Predicates(predicates), next))
         }
+        SectionKeyword::Functions => {
+            let (functions, next) = functions(alloc, words, at)?;
+            Ok((Section::Functions(functions), next))
+        }
         SectionKeyword::Action => {
             let (action, next) = action(alloc, words, at)?;
             Ok((Section::Action(action), next))
@@ -225,6 +238,10 @@ fn section_rest<'a>(
         SectionKeyword::Goal => {
             let (goal, next) = goal(alloc, words, at)?;
             Ok((Section::Goal(goal), next))
+        }
+        SectionKeyword::Metric => {
+            let (metric, next) = metric(words, at)?;
+            Ok((Section::Metric(metric), next))
         }
     }
 }

@@ -40,15 +40,26 @@ pub enum Formula<'a> {
     Forall(Vec<Group<'a>>, Box<Formula<'a>>),
 }
 
-/// An effect of an action.
+/// A literal of an effect.
 #[derive(Debug, Drop)]
-pub enum Effect<'a> {
+pub enum EffectLiteral<'a> {
     /// An atom that becomes true.
     Add(Atom<'a>),
     /// `(not ..)`: an atom that becomes false.
     Delete(Atom<'a>),
+}
+
+/// An effect of an action.
+#[derive(Debug, Drop)]
+pub enum Effect<'a> {
+    /// An atom that becomes true, or false.
+    Literal(EffectLiteral<'a>),
     /// `(and ..)`: several effects together.
     And(Vec<Effect<'a>>),
+    /// `(forall (variables) e)`: the effect for all objects of the variables' types.
+    Forall(Vec<Group<'a>>, Box<Effect<'a>>),
+    /// `(when f ..)`: literals, where the formula holds before.
+    When(Formula<'a>, Vec<EffectLiteral<'a>>),
 }
 
 /// Names or variables of one type, as `a b - place` or `?x ?y - (either t u)`; a typed list is a list of such groups.
@@ -69,6 +80,15 @@ pub struct Predicate<'a> {
     pub parameters: Vec<Group<'a>>,
 }
 
+/// What an action increases the total cost by.
+#[derive(Clone, Copy, Debug)]
+pub struct Increase<'a> {
+    /// Its word `increase`.
+    pub word: Name<'a>,
+    /// The number.
+    pub amount: u32,
+}
+
 /// An action schema.
 #[derive(Debug, Drop)]
 pub struct Action<'a> {
@@ -80,6 +100,8 @@ pub struct Action<'a> {
     pub precondition: Formula<'a>,
     /// What it changes: `(and)` where the file has no `:effect`.
     pub effect: Effect<'a>,
+    /// What stands in its effect besides, in order: more than one is a fault.
+    pub increases: Vec<Increase<'a>>,
 }
 
 /// A domain file.
@@ -93,6 +115,8 @@ pub struct Domain<'a> {
     pub constants: Vec<Group<'a>>,
     /// The predicates, in the order of the file.
     pub predicates: Vec<Predicate<'a>>,
+    /// The words `total-cost` of `:functions`, in order: more than one is a fault.
+    pub functions: Vec<Name<'a>>,
     /// The actions, in the order of the file.
     pub actions: Vec<Action<'a>>,
 }
@@ -106,6 +130,19 @@ pub struct GroundAtom<'a> {
     pub objects: Vec<Name<'a>>,
 }
 
+/// What `(= (total-cost) N)` in `:init` says.
+#[derive(Clone, Copy, Debug)]
+pub struct InitialCost<'a> {
+    /// Its word `=`.
+    pub equals: Name<'a>,
+    /// Its word `total-cost`.
+    pub function: Name<'a>,
+    /// The number.
+    pub amount: u32,
+    /// The number's word.
+    pub number: Name<'a>,
+}
+
 /// What stands in `:init`.
 #[derive(Debug, Drop)]
 pub enum Fact<'a> {
@@ -113,6 +150,8 @@ pub enum Fact<'a> {
     Atom(GroundAtom<'a>),
     /// A negated one, with its word `not`.
     Negated(Name<'a>, GroundAtom<'a>),
+    /// The total cost at the start.
+    InitialCost(InitialCost<'a>),
 }
 
 /// A problem file.
@@ -124,8 +163,10 @@ pub struct Problem<'a> {
     pub domain: Name<'a>,
     /// The objects, in the order of the file.
     pub objects: Vec<Group<'a>>,
-    /// The atoms that are true at the start, and negated ones.
+    /// What is true at the start, in the order of the file.
     pub init: Vec<Fact<'a>>,
     /// What is to be reached.
     pub goal: Formula<'a>,
+    /// The word `total-cost` of `:metric`, where the file has one.
+    pub metric: Option<Name<'a>>,
 }

@@ -5,12 +5,15 @@ ghost use Rattle.model.specs.Grammar.{name_in, variable_in};
 ghost use Rattle.std.specs.Str.{bytes_eq, str_to_ascii_lowercase};
 ghost use Rattle.tokens.specs.Word.{word_of};
 ghost use Rattle.model.specs.GrammarWords as words;
-ghost use Rattle.model.specs.GrammarWords.{is_among, left_out_names, other_reserved_names, requirement_keys, left_out_keywords};
+ghost use Rattle.model.specs.GrammarWords.{is_among, left_out_names, number_of_digits, requirement_keys, left_out_keywords};
 ghost use Rattle.pddl_words.specs.Name.{name_of};
-ghost use Rattle.pddl_words.specs.Token.{seen, keyword_view, IsToken, first, from};
+ghost use Rattle.pddl_words.specs.Token.{seen, keyword_view, small, IsToken, first, from};
 
 use crate::name::Name;
 use tokens::{Kind, Word};
+
+/// The greatest number that a file may write.
+const MAX_NUMBER: u32 = 2_147_483_647;
 
 /// A name that may be a predicate's, its letters folded to lower case.
 #[derive(Clone, Copy, PartialEq, Eq)]
@@ -21,6 +24,12 @@ pub enum FreeName {
     Domain,
     /// `problem`
     Problem,
+    /// `number`
+    NumberWord,
+    /// `minimize`
+    Minimize,
+    /// `maximize`
+    Maximize,
     /// Any other name that is not reserved.
     Ordinary,
 }
@@ -42,10 +51,14 @@ pub enum ReservedName {
     Forall,
     /// `either`
     Either,
+    /// `when`
+    When,
+    /// `increase`
+    Increase,
+    /// `total-cost`
+    TotalCost,
     /// The name of a form that is left out.
     LeftOut,
-    /// Any other reserved name.
-    Other,
 }
 
 /// The keyword of a section of a file.
@@ -59,6 +72,8 @@ pub enum SectionKeyword {
     Constants,
     /// `:predicates`
     Predicates,
+    /// `:functions`
+    Functions,
     /// `:action`
     Action,
     /// `:domain`
@@ -69,6 +84,8 @@ pub enum SectionKeyword {
     Init,
     /// `:goal`
     Goal,
+    /// `:metric`
+    Metric,
 }
 
 /// The keyword of a part of an action.
@@ -114,10 +131,12 @@ pub enum Token<'a> {
     Keyword(Keyword),
     /// `-`
     Dash,
-    /// `=`
-    Equals,
-    /// A number.
-    Other,
+    /// `=`, with its place.
+    Equals(Name<'a>),
+    /// A number, with its place.
+    Number(u32, Name<'a>),
+    /// A number over 2,147,483,647.
+    LargeNumber,
     /// No word: the words run out.
     End,
 }
@@ -169,8 +188,8 @@ fn token_of<'a>(word: &Word<'a>) -> Token<'a>
         Kind::Variable => Token::Variable(name),
         Kind::Keyword => Token::Keyword(keyword_of(word.text())),
         Kind::Dash => Token::Dash,
-        Kind::Equals => Token::Equals,
-        Kind::Number => Token::Other,
+        Kind::Equals => Token::Equals(name),
+        Kind::Number => numbered(name),
         Kind::Open => Token::Open,
         Kind::Close => Token::Close,
     }
@@ -195,19 +214,55 @@ fn named(name: Name) -> Token
         Token::Reserved(ReservedName::Forall, name)
     } else if is(text, b"either") {
         Token::Reserved(ReservedName::Either, name)
+    } else if is(text, b"when") {
+        Token::Reserved(ReservedName::When, name)
+    } else if is(text, b"increase") {
+        Token::Reserved(ReservedName::Increase, name)
+    } else if is(text, b"total-cost") {
+        Token::Reserved(ReservedName::TotalCost, name)
     } else if is(text, b"define") {
         Token::Free(FreeName::Define, name)
     } else if is(text, b"domain") {
         Token::Free(FreeName::Domain, name)
     } else if is(text, b"problem") {
         Token::Free(FreeName::Problem, name)
+    } else if is(text, b"number") {
+        Token::Free(FreeName::NumberWord, name)
+    } else if is(text, b"minimize") {
+        Token::Free(FreeName::Minimize, name)
+    } else if is(text, b"maximize") {
+        Token::Free(FreeName::Maximize, name)
     } else if is_left_out_name(text) {
         Token::Reserved(ReservedName::LeftOut, name)
-    } else if is_other_reserved(text) {
-        Token::Reserved(ReservedName::Other, name)
     } else {
         Token::Free(FreeName::Ordinary, name)
     }
+}
+
+/// What a number is.
+fn numbered(name: Name) -> Token
+    ensures { seen result ≡ Some (words.number_from (number_of_digits (str_to_ascii_lowercase name.entry.text.now)) (name_of name.entry)) }
+{
+    match number_of(name.text) {
+        Some(number) => Token::Number(number, name),
+        None => Token::LargeNumber,
+    }
+}
+
+/// The number that digits write, and none where it is over 2,147,483,647.
+fn number_of(digits: &[u8]) -> Option<u32>
+    ensures { result ≡ small (number_of_digits (str_to_ascii_lowercase digits.now)) }
+{
+    let mut number: u32 = 0;
+    for digit in digits {
+        let value = digit.to_ascii_lowercase().saturating_sub(b'0');
+        let more = u64::from(number) * 10 + u64::from(value);
+        if more > u64::from(MAX_NUMBER) {
+            return None;
+        }
+        number = more as u32;
+    }
+    Some(number)
 }
 
 /// What a keyword is.
@@ -230,6 +285,8 @@ fn keyword_of(text: &[u8]) -> Keyword
         Keyword::Section(SectionKeyword::Constants)
     } else if is(text, b":predicates") {
         Keyword::Section(SectionKeyword::Predicates)
+    } else if is(text, b":functions") {
+        Keyword::Section(SectionKeyword::Functions)
     } else if is(text, b":domain") {
         Keyword::Section(SectionKeyword::Domain)
     } else if is(text, b":objects") {
@@ -238,6 +295,8 @@ fn keyword_of(text: &[u8]) -> Keyword
         Keyword::Section(SectionKeyword::Init)
     } else if is(text, b":goal") {
         Keyword::Section(SectionKeyword::Goal)
+    } else if is(text, b":metric") {
+        Keyword::Section(SectionKeyword::Metric)
     } else {
         other_keyword(text)
     }
@@ -272,13 +331,6 @@ fn is_left_out_name(text: &[u8]) -> bool
         || is(text, b"decrease")
         || is(text, b"scale-up")
         || is(text, b"scale-down")
-}
-
-/// Whether a name is reserved otherwise, those of formulas and `either` aside.
-fn is_other_reserved(text: &[u8]) -> bool
-    ensures { result ≡ is_among (str_to_ascii_lowercase text.now) other_reserved_names }
-{
-    is(text, b"when") || is(text, b"increase") || is(text, b"total-cost")
 }
 
 /// Whether a keyword is a key of `:requirements`.

@@ -1,19 +1,19 @@
 -- The atoms that are true in a reachable state are well-typed.
-use Rattle.std.proofs.Common.{◌≡◌, ℕ, zero, suc, Bool, true, false, ◌&&◌, ◌||◌, not, List, [], ◌∷◌, ◌⊎◌, inl, inr, length, map, Option, None, Some, refl, sym, ap, ◌∙◌, subst}
-use Rattle.std.specs.Prelude.{nat_eq, nat_le, slice_get, slice_index, if◌then◌else◌}
+use Rattle.std.proofs.Common.{◌≡◌, ℕ, zero, suc, Bool, true, false, ◌&&◌, ◌||◌, not, List, [], ◌∷◌, ◌⊎◌, inl, inr, ◌++◌, length, map, cond, Option, None, Some, refl, sym, ap, ◌∙◌, subst}
+use Rattle.std.specs.Prelude.{nat_eq, nat_le, nat_lt, slice_get, slice_index, filter, if◌then◌else◌}
 use Rattle.std.specs.Cmp.Lexicographic.{pointwise}
 use Rattle.std.specs.Option.{option_map_or, option_and_then}
-use Rattle.std.specs.List.{list_all, list_any}
+use Rattle.std.specs.List.{list_all, list_any, flat_map, range_with_len}
 use Rattle.std.specs.Ordering.{eq_by_cmp}
 use Rattle.std.specs.FinSet.{contains, from_list, difference, contains-from_list, contains-union, contains-difference}
 use Rattle.std.proofs.lemmas.Bool.{and_parts, and_from, eqb-true, eq-eqb}
 use Rattle.std.proofs.lemmas.List.Folds.{list_all-append}
 use Rattle.model.proofs.Tests.{passes_got}
-use Rattle.model.specs.Task.{ObjectType, Object, Union, Atom, LiftedAtom, Term, variable, object, Predicate, Effect, Effects, add, delete, both, no_effect, more_effects, Schema, Task, Instance}
-use Rattle.model.specs.WellTyped.{is_term, is_lifted_atom, is_atom, is_formula, is_effect, are_effects, is_schema, is_whole_chain, is_task, max_arguments, max_variables}
+use Rattle.model.specs.Task.{ObjectType, Object, Union, Atom, LiftedAtom, Term, variable, object, Predicate, Formula, EffectLiteral, add, delete, Effect, Effects, literal, both, each, when, no_effect, more_effects, Schema, Task, Instance}
+use Rattle.model.specs.WellTyped.{is_term, is_lifted_atom, is_atom, is_formula, is_effect_literal, is_effect, are_effects, is_schema, is_whole_chain, is_task, max_arguments, max_variables}
 use Rattle.model.specs.Runs.{run, IsReachable}
-use Rattle.model.specs.Meaning.{State, atom_cmp, supertypes_of, is_below, is_of, object_of, ground_atom, changes_of, changes_of_all, added_by, deleted_by, after_changes, step, holds, fits, system_of, initial_state}
-use Rattle.model.proofs.Atoms.{stands_in, atoms_total, added_by-append}
+use Rattle.model.specs.Meaning.{State, atom_cmp, supertypes_of, is_below, is_of, object_of, ground_atom, GroundLiteral, adds, deletes, Change, ground_literal, change_under, literals_in, changes_of, changes_of_all, added_by, deleted_by, after_changes, step, holds, fits, system_of, initial_state}
+use Rattle.model.proofs.Atoms.{stands_in, atoms_total}
 use Rattle.model.proofs.StaticLemmas.{same_atom}
 
 or_later : (a b : Bool) → b ≡ true → (a || b) ≡ true
@@ -137,21 +137,79 @@ ground_typed task scope binding a whole fit typed =
 
 -- ---- what actions add
 
-module _ (task : Task) (whole : chains task ≡ true) (scope : List Union) (b : List ℕ) (fit : pointwise (is_of task) scope b ≡ true) where
-  abbrev mutual
-    added_typed : (e : Effect) → is_effect task scope e ≡ true → list_all (is_atom task) (added_by (changes_of e b)) ≡ true
-    added_typed (add a) typed = and_from (is_atom task (ground_atom b a)) true (ground_typed task scope b a whole fit typed) refl
-    added_typed (delete a) typed = refl
-    added_typed (both parts) typed = all_added_typed parts typed
+-- what the change adds is well-typed
+abbrev adds_typed : Task → Change → Bool
+adds_typed task c = list_all (is_atom task) (added_by (c.literal ∷ []))
 
-    all_added_typed : (es : Effects) → are_effects task scope es ≡ true → list_all (is_atom task) (added_by (changes_of_all es b)) ≡ true
-    all_added_typed no_effect typed = refl
-    all_added_typed (more_effects first rest) typed =
+one_more_typed : (task : Task) (l : GroundLiteral) (ls : List GroundLiteral) → list_all (is_atom task) (added_by (l ∷ [])) ≡ true → list_all (is_atom task) (added_by ls) ≡ true
+    → list_all (is_atom task) (added_by (l ∷ ls)) ≡ true
+one_more_typed task (adds a) ls here later = and_from (is_atom task a) (list_all (is_atom task) (added_by ls)) (and_parts (is_atom task a) true here).0 later
+one_more_typed task (deletes a) ls here later = later
+
+-- so is what those of some changes add whose condition holds
+some_typed : (task : Task) (held : Change → Bool) (changes : List Change) → list_all (adds_typed task) changes ≡ true
+    → list_all (is_atom task) (added_by (map (λ (c : Change). c.literal) (filter held changes))) ≡ true
+some_typed task held [] all = refl
+some_typed task held (c ∷ rest) all =
+    let parts = and_parts (adds_typed task c) (list_all (adds_typed task) rest) all in
+    let later = some_typed task held rest parts.1 in
+    elim (held c) as (λ v. list_all (is_atom task) (added_by (map (λ (d : Change). d.literal) (cond v (c ∷ filter held rest) (filter held rest)))) ≡ true) [
+      | true ↦ one_more_typed task c.literal (map (λ (d : Change). d.literal) (filter held rest)) parts.0 later
+      | false ↦ later
+    ]
+
+-- each change for each number that passes
+each_typed : (p : Change → Bool) (q : ℕ → Bool) (f : ℕ → List Change) (ns : List ℕ) → ((n : ℕ) → q n ≡ true → list_all p (f n) ≡ true) → list_all p (flat_map f (filter q ns)) ≡ true
+each_typed p q f [] here = refl
+each_typed p q f (n ∷ ns) here =
+    let later = each_typed p q f ns here in
+    elim (q n) as (λ v. q n ≡ v → list_all p (flat_map f (cond v (n ∷ filter q ns) (filter q ns))) ≡ true) [
+      | true ↦ λ is.
+          list_all-append p (f n) (flat_map f (filter q ns))
+          ∙ and_from (list_all p (f n)) (list_all p (flat_map f (filter q ns))) (here n is) later
+      | false ↦ λ _. later
+    ] refl
+
+fits_one_more : {A B : Type 0} (p : A → B → Bool) (xs : List A) (ys : List B) (x : A) (y : B) → pointwise p xs ys ≡ true → p x y ≡ true → pointwise p (xs ++ x ∷ []) (ys ++ y ∷ []) ≡ true
+fits_one_more p [] [] x y all here = λ i. here i && true
+fits_one_more p [] (z ∷ ys) x y all here = absurd (cc)
+fits_one_more p (z ∷ xs) [] x y all here = absurd (cc)
+fits_one_more p (a ∷ xs) (b ∷ ys) x y all here =
+    let parts = and_parts (p a b) (pointwise p xs ys) all in
+    and_from (p a b) (pointwise p (xs ++ x ∷ []) (ys ++ y ∷ [])) parts.0 (fits_one_more p xs ys x y parts.1 here)
+
+module _ (task : Task) (whole : chains task ≡ true) where
+  literal_typed : (scope : List Union) (b : List ℕ) → pointwise (is_of task) scope b ≡ true → (l : EffectLiteral) → is_effect_literal task scope l ≡ true
+      → list_all (is_atom task) (added_by (ground_literal b l ∷ [])) ≡ true
+  literal_typed scope b fit (add a) typed = and_from (is_atom task (ground_atom b a)) true (ground_typed task scope b a whole fit typed) refl
+  literal_typed scope b fit (delete a) typed = refl
+
+  under_typed : (scope : List Union) (b : List ℕ) → pointwise (is_of task) scope b ≡ true → (condition : Formula) (ls : List EffectLiteral) → list_all (is_effect_literal task scope) ls ≡ true
+      → list_all (adds_typed task) (map (change_under condition b) ls) ≡ true
+  under_typed scope b fit condition [] typed = refl
+  under_typed scope b fit condition (l ∷ ls) typed =
+      let parts = and_parts (is_effect_literal task scope l) (list_all (is_effect_literal task scope) ls) typed in
+      and_from (adds_typed task (change_under condition b l)) (list_all (adds_typed task) (map (change_under condition b) ls))
+      (literal_typed scope b fit l parts.0) (under_typed scope b fit condition ls parts.1)
+
+  abbrev mutual
+    changes_typed : (e : Effect) (scope : List Union) (b : List ℕ) → pointwise (is_of task) scope b ≡ true → is_effect task scope e ≡ true → list_all (adds_typed task) (changes_of task e b) ≡ true
+    changes_typed (literal l) scope b fit typed = and_from (list_all (is_atom task) (added_by (ground_literal b l ∷ []))) true (literal_typed scope b fit l typed) refl
+    changes_typed (both parts) scope b fit typed = all_changes_typed parts scope b fit typed
+    changes_typed (each types part) scope b fit typed =
+        let inner = (and_parts (nat_lt (length scope) max_variables) (is_effect task (scope ++ types ∷ []) part) typed).1 in
+        each_typed (adds_typed task) (is_of task types) (λ one. changes_of task part (b ++ one ∷ [])) (range_with_len 0 (length task.objects))
+        (λ one of. changes_typed part (scope ++ types ∷ []) (b ++ one ∷ []) (fits_one_more (is_of task) scope b types one fit of) inner)
+    changes_typed (when condition literals) scope b fit typed =
+        under_typed scope b fit condition literals (and_parts (is_formula task scope condition) (list_all (is_effect_literal task scope) literals) typed).1
+
+    all_changes_typed : (es : Effects) (scope : List Union) (b : List ℕ) → pointwise (is_of task) scope b ≡ true → are_effects task scope es ≡ true → list_all (adds_typed task) (changes_of_all task es b) ≡ true
+    all_changes_typed no_effect scope b fit typed = refl
+    all_changes_typed (more_effects first rest) scope b fit typed =
         let parts = and_parts (is_effect task scope first) (are_effects task scope rest) typed in
-        ap (list_all (is_atom task)) (added_by-append (changes_of first b) (changes_of_all rest b))
-        ∙ list_all-append (is_atom task) (added_by (changes_of first b)) (added_by (changes_of_all rest b))
-        ∙ and_from (list_all (is_atom task) (added_by (changes_of first b))) (list_all (is_atom task) (added_by (changes_of_all rest b)))
-        (added_typed first parts.0) (all_added_typed rest parts.1)
+        list_all-append (adds_typed task) (changes_of task first b) (changes_of_all task rest b)
+        ∙ and_from (list_all (adds_typed task) (changes_of task first b)) (list_all (adds_typed task) (changes_of_all task rest b))
+        (changes_typed first scope b fit parts.0) (all_changes_typed rest scope b fit parts.1)
 
 -- ---- states
 
@@ -162,15 +220,17 @@ kept_or_added : (x y z : Bool) → ((x && y) || z) ≡ true → (x ≡ true) ⊎
 kept_or_added true y z is = inl refl
 kept_or_added false y z is = inr is
 
-after_typed : (task : Task) (s : State) (e : Effect) (b : List ℕ) → AllTyped task s → list_all (is_atom task) (added_by (changes_of e b)) ≡ true → AllTyped task (after_changes s (changes_of e b))
-after_typed task s e b typed added q there =
-    let gone : State = from_list (deleted_by (changes_of e b)) in
-    let new : State = from_list (added_by (changes_of e b)) in
+after_typed : (task : Task) (s : State) (e : Effect) (b : List ℕ) → AllTyped task s → list_all (adds_typed task) (changes_of task e b) ≡ true → AllTyped task (after_changes task s (changes_of task e b))
+after_typed task s e b typed all q there =
+    let literals = literals_in task s (changes_of task e b) in
+    let added = some_typed task (λ (c : Change). holds task c.condition c.binding s) (changes_of task e b) all in
+    let gone : State = from_list (deleted_by literals) in
+    let new : State = from_list (added_by literals) in
     let is : ((contains s q && not (contains gone q)) || contains new q) ≡ true =
     sym (contains-union atoms_total (difference s gone) new q ∙ ap (λ v. v || contains new q) (contains-difference atoms_total s gone q)) ∙ there in
     elim (kept_or_added (contains s q) (not (contains gone q)) (contains new q) is) [
       | inl kept ↦ typed q kept
-      | inr here ↦ typed_there (is_atom task) (added_by (changes_of e b)) q (sym (contains-from_list atoms_total (added_by (changes_of e b)) q) ∙ here) added
+      | inr here ↦ typed_there (is_atom task) (added_by literals) q (sym (contains-from_list atoms_total (added_by literals) q) ∙ here) added
     ]
 
 given : {X : Type 0} (a b : Bool) (x y : X) → (if a && b then Some x else None) ≡ Some y → (a ≡ true) × (x ≡ y)
@@ -180,12 +240,12 @@ given false b x y is = absurd (cc)
 
 -- the effect of an instance of a schema adds well-typed atoms
 effect_typed : (task : Task) (schema : Schema) (objects : List ℕ) → chains task ≡ true → is_schema task schema ≡ true → fits task schema objects ≡ true
-    → list_all (is_atom task) (added_by (changes_of schema.effect objects)) ≡ true
+    → list_all (adds_typed task) (changes_of task schema.effect objects) ≡ true
 effect_typed task schema objects whole typed fit =
     let few = nat_le (length schema.parameters) max_variables in
     let condition = is_formula task schema.parameters schema.precondition in
     let effect = (and_parts (few && condition) (is_effect task schema.parameters schema.effect) typed).1 in
-    added_typed task whole schema.parameters objects fit schema.effect effect
+    changes_typed task whole schema.effect schema.parameters objects fit effect
 
 abbrev arities : Task → Bool
 arities task = list_all (λ (p : Predicate). nat_le (length p.arguments) max_arguments) task.predicates
@@ -212,7 +272,7 @@ step_typed task s next i well typed leads =
     ] refl leads
   where
     next_by : Schema → Option State
-    next_by schema = if fits task schema i.objects && holds task schema.precondition i.objects s then Some (after_changes s (changes_of schema.effect i.objects)) else None
+    next_by schema = if fits task schema i.objects && holds task schema.precondition i.objects s then Some (after_changes task s (changes_of task schema.effect i.objects)) else None
 
 run_typed : (task : Task) → is_task task ≡ true → (actions : List Instance) (s end : State) → AllTyped task s → run (system_of task) s actions ≡ Some end → AllTyped task end
 run_typed task well [] s end typed runs = let same : s ≡ end = cc in subst (λ (t : State). AllTyped task t) same typed

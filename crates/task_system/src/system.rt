@@ -75,7 +75,7 @@ impl TransitionSystem for TaskSystem<'_> {
     }
 
     fn cost(&self, action: &Instance) -> u32 {
-        cost(self.task, action) as u32
+        cost(self.task, action)
     }
 
     fn meets_goal(&self, state: &State) -> bool {

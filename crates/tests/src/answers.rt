@@ -1,5 +1,5 @@
 //! Answers to tasks, and that the checker accepts their certificates.
-use crate::helpers::{DONE, GO, TIE, Texts, UNTIED, on_task};
+use crate::helpers::{DONE, GO, HOP, PAIRS, TIE, Texts, UNTIED, on_task};
 use cert_checker::{Accepted, check_cert};
 use solver::{Answer, Limit, Limits, solve};
 use std::alloc::Global;
@@ -47,12 +47,15 @@ const FOUR_BALLS: Texts = [
 type Found = Result<Option<u64>, Limit>;
 
 /// Tasks with the most states and the most instances, and what is found out.
-static ANSWERS: [(Texts, u32, u32, Found); 9] = [
+static ANSWERS: [(Texts, u32, u32, Found); 12] = [
     (DONE, 1, 1, Ok(Some(0))),
     (GO, 1, 1, Err(Limit::States)),
     (GO, 2, 1, Ok(Some(1))),
     (TIE, 100, 1, Ok(Some(1))),
     (UNTIED, 1, 1, Ok(None)),
+    (HOP, 3, 18, Ok(Some(6))),
+    (HOP, 2, 18, Err(Limit::States)),
+    (PAIRS, 4, 9, Ok(None)),
     (FOUR_BLOCKS, 1000, 40, Ok(Some(8))),
     (FOUR_BLOCKS, 1000, 39, Err(Limit::Instances)),
     (FOUR_BALLS, 1000, 1088, Ok(Some(11))),

@@ -59,6 +59,27 @@ pub(crate) const FORK: Texts = [
  (:init (at a) (road a b) (road a c)) (:goal (at c)))",
 ];
 
+/// Three places, of which the last is reached by two hops at 3 each, and by a leap at 10.
+pub(crate) const HOP: Texts = [
+    "(define (domain hop) (:predicates (at ?x) (road ?x ?y) (far ?x ?y)) (:functions (total-cost) - number)
+ (:action hop :parameters (?x ?y) :precondition (and (at ?x) (road ?x ?y))
+  :effect (and (not (at ?x)) (at ?y) (increase (total-cost) 3)))
+ (:action leap :parameters (?x ?y) :precondition (and (at ?x) (far ?x ?y))
+  :effect (and (not (at ?x)) (at ?y) (increase (total-cost) 10))))",
+    "(define (problem h) (:domain hop) (:objects a b c) (:init (at a) (road a b) (road b c) (far a c))
+ (:goal (at c)) (:metric minimize (total-cost)))",
+];
+
+/// Of three switches two are turned at a time, and one is to be on.
+pub(crate) const PAIRS: Texts = [
+    "(define (domain pairs) (:predicates (on ?s))
+ (:action toggle :parameters (?x ?y) :precondition (not (= ?x ?y))
+  :effect (and (when (on ?x) (not (on ?x))) (when (not (on ?x)) (on ?x))
+   (when (on ?y) (not (on ?y))) (when (not (on ?y)) (on ?y)))))",
+    "(define (problem p) (:domain pairs) (:objects s1 s2 s3) (:init)
+ (:goal (exists (?s) (and (on ?s) (forall (?t) (or (= ?s ?t) (not (on ?t))))))))",
+];
+
 /// The tree of a domain's text.
 pub(crate) fn read_domain(alloc: Global, text: &[u8]) -> Result<Domain<'_>, Fault> {
     let words = scan(alloc, text)?;

@@ -1,5 +1,5 @@
 //! Listings of small tasks, and what the checker says of each: those that are closed, and those with one condition broken.
-use crate::helpers::{DONE, FORK, GO, PATH, TIE, Term, Texts, UNTIED};
+use crate::helpers::{DONE, FORK, GO, HOP, PAIRS, PATH, TIE, Term, Texts, UNTIED};
 use cert_checker::Accepted::{AtLeast, Optimal};
 use cert_checker::Refusal::{Line as At, Plain};
 use cert_checker::RefusalCode::{
@@ -32,7 +32,7 @@ const P_AND_Q: &[Term] = &[(0, &[]), (1, &[])];
 /// The fluent atom of `TIE` and `UNTIED`.
 const TIED: &[Term] = &[(1, &[])];
 
-/// The fluent atoms of `PATH` and `FORK`.
+/// The fluent atoms of `PATH`, `FORK`, `HOP` and `PAIRS`.
 const PLACES: &[Term] = &[(0, &[0]), (0, &[1]), (0, &[2])];
 
 /// The state of the first atom is cut, which is enough for a claim of 0.
@@ -51,7 +51,7 @@ const SECOND_IS_REFUSED: &[Row] = &[(Claim::Bound(0), START, None, Err(At { code
 
 /// Closed listings are accepted.
 #[rattlefmt::skip]
-pub(crate) static ACCEPTED: [Listings; 6] = [
+pub(crate) static ACCEPTED: [Listings; 8] = [
     Listings { texts: GO, atoms: P_AND_Q, max_instances: 100, rows: &[
         (Claim::Bound(1), &[(0, None, &[0]), (1, Some(0), &[0, 1])], None, Ok(AtLeast { cost: 1 })),
         (Claim::Bound(1), &[(1, None, &[0, 1]), (0, None, &[0])], None, Ok(AtLeast { cost: 1 })),
@@ -77,6 +77,13 @@ pub(crate) static ACCEPTED: [Listings; 6] = [
     Listings { texts: FORK, atoms: PLACES, max_instances: 100, rows: &[
         (Claim::Bound(1), &[(0, None, &[0]), (1, None, &[1]), (1, None, &[2])], None, Ok(AtLeast { cost: 1 })),
     ] },
+    Listings { texts: HOP, atoms: PLACES, max_instances: 100, rows: &[
+        (Claim::Bound(6), &[(0, None, &[0]), (3, None, &[1]), (6, Some(0), &[2])], None, Ok(AtLeast { cost: 6 })),
+        (Claim::Bound(6), &[(0, None, &[0]), (3, None, &[1]), (6, None, &[2])], None, Ok(AtLeast { cost: 6 })),
+    ] },
+    Listings { texts: PAIRS, atoms: PLACES, max_instances: 100, rows: &[
+        (Claim::Unsolvable, &[(0, None, &[]), (1, None, &[0, 1]), (1, None, &[0, 2]), (1, None, &[1, 2])], None, Ok(Accepted::Unsolvable)),
+    ] },
 ];
 
 /// Atoms are well-typed, fluent and distinct.
@@ -98,7 +105,7 @@ pub(crate) static WRONG_ATOMS: [Listings; 8] = [
 
 /// Lines with one condition broken.
 #[rattlefmt::skip]
-pub(crate) static WRONG_LINES: [Listings; 5] = [
+pub(crate) static WRONG_LINES: [Listings; 7] = [
     Listings { texts: GO, atoms: P_AND_Q, max_instances: 100, rows: &[
         // a state twice
         (Claim::Bound(1), &[(0, None, &[0]), (1, Some(0), &[0, 1]), (5, None, &[0])], None, Err(At { code: Repeated, line: 8 })),
@@ -148,11 +155,22 @@ pub(crate) static WRONG_LINES: [Listings; 5] = [
         (Claim::Bound(1), &[(0, None, &[0]), (2, None, &[1])], None, Err(At { code: SuccessorDearer, line: 7 })),
         (Claim::Bound(1), &[(0, None, &[0]), (2, None, &[2])], None, Err(At { code: SuccessorMissing, line: 7 })),
     ] },
+    Listings { texts: HOP, atoms: PLACES, max_instances: 100, rows: &[
+        // a goal state below the claim, and a place listed at more than the hop to it costs
+        (Claim::Bound(6), &[(0, None, &[0]), (3, None, &[1]), (5, None, &[2])], None, Err(At { code: GoalOpen, line: 9 })),
+        (Claim::Bound(6), &[(0, None, &[0]), (4, None, &[1]), (6, Some(0), &[2])], None, Err(At { code: SuccessorDearer, line: 7 })),
+    ] },
+    Listings { texts: PAIRS, atoms: PLACES, max_instances: 100, rows: &[
+        (Claim::Unsolvable, &[(0, None, &[]), (2, None, &[0, 1]), (1, None, &[0, 2]), (1, None, &[1, 2])], None, Err(At { code: SuccessorDearer, line: 7 })),
+        (Claim::Unsolvable, &[(0, None, &[]), (1, None, &[0, 2]), (1, None, &[1, 2])], None, Err(At { code: SuccessorMissing, line: 7 })),
+        (Claim::Unsolvable, &[(0, None, &[]), (1, None, &[0, 1]), (5, None, &[0, 1]), (1, None, &[0, 2]), (1, None, &[1, 2])], None, Err(At { code: Repeated, line: 9 })),
+        (Claim::Unsolvable, &[(1, None, &[]), (1, None, &[0, 1]), (1, None, &[0, 2]), (1, None, &[1, 2])], None, Err(Plain(NoInitial))),
+    ] },
 ];
 
 /// Plans are held against the claim.
 #[rattlefmt::skip]
-pub(crate) static PLANNED: [Listings; 4] = [
+pub(crate) static PLANNED: [Listings; 5] = [
     Listings { texts: GO, atoms: P_AND_Q, max_instances: 100, rows: &[
         (Claim::Bound(1), &[(0, None, &[0]), (1, Some(0), &[0, 1])], Some("(go)"), Ok(Optimal { cost: 1 })),
         (Claim::Bound(1), &[(0, None, &[0]), (1, Some(0), &[0, 1])], Some(""), Err(Plain(PlanInvalid))),
@@ -174,6 +192,11 @@ pub(crate) static PLANNED: [Listings; 4] = [
         // a plan that stops does not solve, also where it has more steps than the claim
         (Claim::Bound(2), &[(0, None, &[0]), (1, None, &[1]), (2, Some(0), &[2])], Some("(go a b)(go a b)"), Err(Plain(PlanInvalid))),
         (Claim::Bound(2), &[(0, None, &[0]), (1, None, &[1]), (2, Some(0), &[2])], Some("(go a b)(go b c)(go b c)"), Err(Plain(PlanInvalid))),
+    ] },
+    Listings { texts: HOP, atoms: PLACES, max_instances: 100, rows: &[
+        (Claim::Bound(6), &[(0, None, &[0]), (3, None, &[1]), (6, Some(0), &[2])], Some("(hop a b)(hop b c)"), Ok(Optimal { cost: 6 })),
+        (Claim::Bound(6), &[(0, None, &[0]), (3, None, &[1]), (6, Some(0), &[2])], Some("(leap a c)"), Err(Plain(PlanDearer))),
+        (Claim::Bound(6), &[(0, None, &[0]), (3, None, &[1]), (6, Some(0), &[2])], Some("(hop a b)"), Err(Plain(PlanInvalid))),
     ] },
 ];
 

@@ -77,6 +77,29 @@ fn states_of_a_walk(rt: HostRuntime) -> Result<(), Fail> {
     on_task(&rt, rt.alloc(), &WALK, is_a_walk)
 }
 
+/// What holds is deleted and added under one condition, and something else is added.
+const KEEP: Texts = [
+    "(define (domain keep) (:predicates (p) (q) (r))
+ (:action act :parameters () :effect (and (when (p) (not (p))) (when (p) (p)) (q))))",
+    "(define (problem k) (:domain keep) (:init (p)) (:goal (and)))",
+];
+
+/// The action leaves exactly what it adds.
+fn keeps(rt: &impl Abort, alloc: Global, task: &Task) -> Result<(), Fail> {
+    let start = State::initial(alloc, task)?;
+    let step = instance(0, &[]);
+    assert!(rt; is_instance(task, &step));
+    let next = apply(alloc, task, &step, &start)?.ok_or("not applicable")?;
+    let wanted = atoms(alloc, &[(0, &[]), (1, &[])])?;
+    assert!(rt; next.atoms().iter().eq(&wanted));
+    Ok(())
+}
+
+#[test]
+fn adds_win_over_deletes(rt: HostRuntime) -> Result<(), Fail> {
+    on_task(&rt, rt.alloc(), &KEEP, keeps)
+}
+
 /// A goal with each form, of which five say something outright.
 const OUTRIGHT: Texts = [
     "(define (domain say) (:predicates (p ?x) (q)))",

@@ -65,7 +65,7 @@ precondition: Exists(TypeUnion([TypeId(0)]), Exists(TypeUnion([TypeId(0)]), \
 Imply(Equal(Variable(VariableId(0)), Variable(VariableId(3))), \
 Or([Atom(LiftedAtom { predicate: PredicateId(0), terms: [Variable(VariableId(1))] }), \
 Not(Atom(LiftedAtom { predicate: PredicateId(1), terms: [] }))])))), \
-effect: Delete(LiftedAtom { predicate: PredicateId(1), terms: [] }) })
+effect: Literal(Delete(LiftedAtom { predicate: PredicateId(1), terms: [] })), cost: 0 })
 [Atom { predicate: PredicateId(0), objects: [ObjectId(1)] }, Atom { predicate: PredicateId(0), objects: [ObjectId(1)] }]
 Atom(LiftedAtom { predicate: PredicateId(0), terms: [Object(ObjectId(1))] })";
 

@@ -2,16 +2,19 @@
 use crate::helpers::{read_domain, read_problem};
 use faults::{Code, Fault, Refusal, Span};
 use pddl_tree::{
-    Action, Domain, Effect, Fact, Formula, Group, Name, Problem, Term, domain, problem,
+    Action, Domain, Effect, EffectLiteral, Fact, Formula, Group, Name, Problem, Term, domain,
+    problem,
 };
 use std::test::Fail;
 use tokens::scan;
 
 const GO: &[u8] =
-    b"(define (domain go) (:predicates (p) (q ?x)) (:action go :parameters (?a) :effect (and (not (p)) (p) (q ?a) (Q b))))";
+    b"(define (domain go) (:predicates (p) (q ?x)) (:functions (total-cost) - number) (:action go :parameters (?a)
+ :effect (and (not (p)) (increase (total-cost) 12) (forall (?b) (q ?a)) (when (p) (and (not (p)) (Q b))))))";
 
 const TRIP: &[u8] =
-    b"(define (problem trip) (:domain go) (:objects a B) (:init (p) (q a)) (:goal (and (p) (or) (not (q B))
+    b"(define (problem trip) (:domain go) (:objects a B) (:metric minimize (total-cost))
+ (:init (p) (= (total-cost) 07) (q a)) (:goal (and (p) (or) (not (q B))
  (imply (p) (q a)) (= ?x B) (exists (?x ?y - (either place truck) ?z) (q ?y)) (forall () (p)))))";
 
 /// The words that stand before this place are refused there, since more is wanted.
@@ -50,6 +53,7 @@ fn is_go(domain: &Domain) -> bool {
             (domain.name.text, domain.name.span) == (b"go".as_slice(), span)
                 && q.name.text == b"q".as_slice()
                 && is_untyped(&q.parameters, &[b"?x"])
+                && are(&domain.functions, &[b"total-cost"])
                 && is_going(action)
         }
         _ => false,
@@ -64,30 +68,52 @@ fn is_going(action: &Action) -> bool {
                 && is_untyped(&action.parameters, &[b"?a"])
                 && conditions.is_empty()
                 && are_changes(changes)
+                && matches!(action.increases.as_slice(), [one]
+                    if (one.word.text, one.amount) == (b"increase".as_slice(), 12))
         }
         _ => false,
     }
 }
 
-/// Whether they are the effects of the action.
+/// Whether they are the effects of the action: one of each form.
 fn are_changes(parts: &[Effect]) -> bool {
     match parts {
-        [first, _, third, fourth] => {
-            matches!(first, Effect::Delete(p) if p.predicate.text == b"p".as_slice())
-                && is_added(third, b"q", true, b"?a")
-                && is_added(fourth, b"Q", false, b"b")
+        [not, forall, when] => {
+            matches!(not, Effect::Literal(literal) if is_deleted(literal, b"p"))
+                && matches!(forall, Effect::Forall(variables, part)
+                    if is_untyped(variables, &[b"?b"]) && is_adding(part))
+                && matches!(when, Effect::When(condition, literals)
+                    if is_atom(condition, b"p", 0) && are_literals(literals))
         }
         _ => false,
     }
+}
+
+/// Whether the effect adds the variable of the action to `q`.
+fn is_adding(effect: &Effect) -> bool {
+    matches!(effect, Effect::Literal(literal) if is_added(literal, b"q", true, b"?a"))
+}
+
+/// Whether they are the literals under the condition.
+fn are_literals(literals: &[EffectLiteral]) -> bool {
+    match literals {
+        [first, second] => is_deleted(first, b"p") && is_added(second, b"Q", false, b"b"),
+        _ => false,
+    }
+}
+
+/// Whether an atom of this predicate is deleted.
+fn is_deleted(literal: &EffectLiteral, predicate: &[u8]) -> bool {
+    matches!(literal, EffectLiteral::Delete(atom) if atom.predicate.text == predicate)
 }
 
 /// Whether an atom of this predicate and one term is added.
-fn is_added(effect: &Effect, predicate: &[u8], is_variable: bool, term: &[u8]) -> bool {
-    match effect {
-        Effect::Add(atom) => {
+fn is_added(literal: &EffectLiteral, predicate: &[u8], is_variable: bool, term: &[u8]) -> bool {
+    match literal {
+        EffectLiteral::Add(atom) => {
             atom.predicate.text == predicate && is_only(&atom.terms, is_variable, term)
         }
-        _ => false,
+        EffectLiteral::Delete(_) => false,
     }
 }
 
@@ -123,17 +149,25 @@ fn are(names: &[Name], texts: &[&[u8]]) -> bool {
 fn is_unary(fact: &Fact, predicate: &[u8]) -> bool {
     match fact {
         Fact::Atom(atom) => atom.predicate.text == predicate && atom.objects.len() == 1,
-        Fact::Negated(_, _) => false,
+        Fact::Negated(_, _) | Fact::InitialCost(_) => false,
     }
+}
+
+/// Whether it is the total cost at the start.
+fn is_start(fact: &Fact) -> bool {
+    matches!(fact, Fact::InitialCost(start)
+        if (start.function.text, start.amount) == (b"total-cost".as_slice(), 7))
 }
 
 /// Whether it is the tree of `TRIP`.
 fn is_trip(problem: &Problem) -> bool {
     match problem.init.as_slice() {
-        [_, fact] => {
+        [_, start, fact] => {
             (problem.name.text, problem.domain.text) == (b"trip".as_slice(), b"go".as_slice())
                 && is_untyped(&problem.objects, &[b"a", b"B"])
+                && is_start(start)
                 && is_unary(fact, b"q")
+                && matches!(problem.metric, Some(name) if name.text == b"total-cost".as_slice())
                 && matches!(&problem.goal, Formula::And(parts) if are_of_each_form(parts))
         }
         _ => false,

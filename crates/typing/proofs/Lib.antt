@@ -3,10 +3,12 @@ pub mod Lists
 pub mod Tables
 pub mod Found
 pub mod Trees
+pub mod EffectTrees
 pub mod Tells
 pub mod Empty
 pub mod Declaring
 pub mod ParentChains
+pub mod Costs
 pub mod ChainSteps
 pub mod WellTyped
 pub mod Tasks

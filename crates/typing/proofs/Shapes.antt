@@ -1,4 +1,4 @@
--- A schema of the task, told by its shape: what its parameters have to be, its precondition and its effect.
+-- A schema of the task, told by its shape: what its parameters have to be, its precondition, its effect and what it costs.
 use Rattle.std.specs.Prelude.{◌≡◌, ℕ, ◌≤◌, true, nat_le, List, length, slice_get, IsTrue, Option, None, Some, refl}
 use Rattle.std.proofs.Common.{sym, subst, arith}
 use Rattle.std.specs.Cmp.{first_so, second_so}
@@ -11,7 +11,7 @@ use Rattle.model.specs.WellTyped.{max_variables, is_task, is_schema}
 use Rattle.model.proofs.Tests.{passes_got}
 
 abbrev pub Shape : Type 0
-Shape = List task.Union × task.Formula × task.Effect
+Shape = List task.Union × task.Formula × task.Effect × ℕ
 
 -- the schema of this shape that a look-up found
 pub found : (o : Option task.Schema) (shape : Shape) → Some shape ≡ option_map shape_of_schema o → (s : task.Schema) × (o ≡ Some s) × (shape ≡ shape_of_schema s)

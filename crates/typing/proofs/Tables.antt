@@ -13,7 +13,7 @@ use Rattle.indexmap.specs.IndexMap.{insert_entry}
 use Rattle.model.specs.Task as task
 use Rattle.model.specs.Trees as tree
 use Rattle.model.specs.Trees.{File}
-use Rattle.model.specs.Typing.{Known, Placed, folded, is_same, is_known, number_in, with_name, names_of_predicates, refused, refused_word, faults_against, predicate_faults, repeated_after}
+use Rattle.model.specs.Typing.{Placed, folded, is_same, is_known, number_in, with_name, names_of_predicates, refused_word, faults_against, repeated_after}
 use Rattle.typing.specs.Scope.{keys_in, names_in}
 use Rattle.typing.proofs.Found.{got_twice}
 use Rattle.typing.proofs.Lists.{position_or_len-map, position_or_len-le, list_any-map, position-found, position-map, position-missing}

@@ -1,12 +1,12 @@
 -- The parts that the phases make are the task of the trees, where no phase has a fault.
-use Rattle.std.proofs.Common.{◌≡◌, ℕ, ◌+◌, ◌≤◌, ◌<◌, true, List, [], ◌∷◌, ◌++◌, codes, map, length, slice_get, slice_index, nat_le, refl, ap, sym, subst, ◌∙◌, arith, zero, suc, Some}
+use Rattle.std.proofs.Common.{◌≡◌, ℕ, ◌+◌, ◌≤◌, ◌<◌, Bool, true, is_some, drop, List, [], ◌∷◌, ◌++◌, codes, map, length, slice_get, slice_index, nat_le, refl, ap, sym, subst, ◌∙◌, arith, zero, suc, Some}
 use Rattle.std.specs.List.{flat_map, list_all}
 use Rattle.std.proofs.lemmas.Bool.Decides.{nat_tests}
 use Rattle.std.proofs.lemmas.List.{length-map, take_all, map-append}
 use Rattle.model.specs.Task as task
 use Rattle.model.specs.Trees as tree
 use Rattle.model.specs.Trees.{File, domain_file, problem_file}
-use Rattle.model.specs.Typing.{TypingFault, Declared, Variable, Known, is_known, is_same, folded, with_name, with_variable, variable_in, union_in, unions_in, names_of, names_of_variables, names_of_objects, number_in, type_in, type_names, parents_of, parents_in, comes_back, cycle_faults_from, unknown_faults, types_faults, type_faults, words_of, one_after, refused, refused_word, repeated, repeated_after, predicate_faults, terms_faults, arguments_in, ground_atom_faults, fact_faults, formula_faults, domain_name_faults, type_declaration_faults, cycle_faults, object_faults, objects_faults, declaration_faults, action_faults, argument_faults, schema_faults, atom_in, atoms_in, formula_in, object_in, declared_types, declared_constants, declared_objects, declared, predicates_of, predicate_in, known_in_domain, known_in_problem, task_of_trees, faults_of, first_filled, IsWellTyped}
+use Rattle.model.specs.Typing.{TypingFault, Declared, Known, folded, names_of, names_of_objects, number_in, type_in, type_names, parents_of, comes_back, type_faults, words_of, one_after, refused, repeated, repeated_after, predicate_faults, terms_faults, arguments_in, ground_atom_faults, initial_cost_faults, fact_faults, init_faults, function_faults, formula_faults, domain_name_faults, type_declaration_faults, cycle_faults, object_faults, declaration_faults, action_faults, argument_faults, schema_faults, atom_in, atoms_in, formula_in, object_in, declared_types, declared_constants, declared, equals_in, predicates_of, known_in_domain, known_in_problem, task_of_trees, faults_of, first_filled, IsWellTyped}
 use Rattle.model.specs.WellTyped.{is_task}
 use Rattle.model.proofs.Tests.{passes_got}
 use Rattle.typing.specs.declared.names.Names.{Names}
@@ -51,6 +51,7 @@ narrow_is_all file known low (tree.fact a ∷ fs) e =
     let rest = narrow_is_all file known low fs (nil_right (ground_atom_faults file known a) (flat_map (fact_faults file known) fs) e) in
     λ i. record { predicate = (atom_in known a).predicate; objects = whole i } ∷ rest i
 narrow_is_all file known low (tree.negated word a ∷ fs) e = absurd (cc)
+narrow_is_all file known low (tree.initial_cost c ∷ fs) e = narrow_is_all file known low fs (nil_right (initial_cost_faults file known c) (flat_map (fact_faults file known) fs) e)
 
 -- ---- the faults of the phases, phase by phase
 
@@ -73,8 +74,8 @@ faults_by_parts : (d : tree.Domain) (p : tree.Problem)
     → faults_of d p ≡ first_filled (type_faults_of d p ∷ declared_faults d p ∷ stated_faults_in problem_file (known_in_problem d p) p ∷ [])
 faults_by_parts d p =
     let types = (domain_name_faults d p ++ type_declaration_faults d) ∷ cycle_faults d ∷ [] in
-    let others = object_faults d p ∷ declaration_faults (type_names d) d.predicates ∷ action_faults (known_in_domain d) d.actions ∷ [] in
-    let stated = flat_map (fact_faults problem_file (known_in_problem d p)) p.init ∷ formula_faults problem_file (known_in_problem d p) p.goal ∷ [] in
+    let others = object_faults d p ∷ declaration_faults (type_names d) d.predicates ∷ function_faults d p ∷ action_faults (known_in_domain d) d.actions ∷ [] in
+    let stated = init_faults problem_file (known_in_problem d p) p.init ∷ formula_faults problem_file (known_in_problem d p) p.goal ∷ [] in
     first_filled-append types (others ++ stated)
     ∙ first_filled-later (first_filled types) (others ++ stated) (first_filled others ∷ first_filled stated ∷ [])
     (first_filled-append others stated ∙ first_filled-later (first_filled others) stated (first_filled stated ∷ []) (first_filled-append stated []))
@@ -92,13 +93,14 @@ module _ (d : tree.Domain) (p : tree.Problem) (no_type : type_faults_of d p ≡ 
   no_declaration = (none_filled _ _ (none_filled (object_faults d p) _ no_other).1).0
 
   no_action : action_faults (known_in_domain d) d.actions ≡ []
-  no_action = (none_filled _ _ (none_filled (declaration_faults (type_names d) d.predicates) _ (none_filled (object_faults d p) _ no_other).1).1).0
+  no_action = (none_filled _ _ (none_filled (function_faults d p) _ (none_filled (declaration_faults (type_names d) d.predicates) _ (none_filled (object_faults d p) _ no_other).1).1).1).0
 
   no_init : flat_map (fact_faults problem_file (known_in_problem d p)) p.init ≡ []
-  no_init = (none_filled _ _ no_stated).0
+  no_init =
+      nil_left (flat_map (fact_faults problem_file (known_in_problem d p)) p.init) (refused 23 (drop 1 (equals_in problem_file p.init))) (none_filled (init_faults problem_file (known_in_problem d p) p.init) _ no_stated).0
 
   no_goal : formula_faults problem_file (known_in_problem d p) p.goal ≡ []
-  no_goal = (none_filled _ _ (none_filled (flat_map (fact_faults problem_file (known_in_problem d p)) p.init) _ no_stated).1).0
+  no_goal = (none_filled _ _ (none_filled (init_faults problem_file (known_in_problem d p) p.init) _ no_stated).1).0
 
   abbrev twice_types : List TypingFault
   twice_types = refused 16 (repeated_after (codes "object" ∷ []) (words_of (declared_types d)))
@@ -165,7 +167,7 @@ module _ (d : tree.Domain) (p : tree.Problem) where
 
     module _ (no_other : declared_faults d p ≡ []) (names : Names) (are : AreDeclared d p names) where
       same_known : known_by names ≡ known_in_problem d p
-      same_known = λ i. record { type_names = are.types.names i; types = are.types.all i; predicates = are.predicates i; variables = []; objects = are.objects i }
+      same_known = λ i. record { type_names = are.types.names i; types = are.types.all i; predicates = are.predicates i; variables = []; objects = are.objects i; has_cost = are.has_cost i }
 
       -- and that of what is stated, where what is declared has none
       pub told_of_stated : (e : TaskFault) → TellsLeastOf (stated_faults_in problem_file (known_by names) p) e → TellsLeastFault d p e
@@ -173,17 +175,17 @@ module _ (d : tree.Domain) (p : tree.Problem) where
           told_by_parts e (tells_later (type_faults_of d p) _ no_type e (tells_later (declared_faults d p) _ no_other e
           (tells_here (stated_faults_in problem_file (known_in_problem d p) p) [] e (subst (λ k. TellsLeastOf (stated_faults_in problem_file k p) e) same_known h))))
 
-      pub made_by_phases : (start : Start) → Starts problem_file (known_by names) p start
-          → IsMade d p (task_of_parts names.types.all.entries names.objects.all.entries names.predicates.entries names.schemas.entries start.init.items start.goal)
-      made_by_phases start starts =
+      pub made_by_phases : (start : Start) → Starts problem_file (known_by names) p start → (has_metric : Bool) → has_metric ≡ is_some p.metric
+          → IsMade d p (task_of_parts names.types.all.entries names.objects.all.entries names.predicates.entries names.schemas.entries start.init.items start.goal has_metric)
+      made_by_phases start starts has_metric metric =
           let known = known_in_problem d p in
           let no_stated = ap (λ k. stated_faults_in problem_file k p) (sym same_known) ∙ starts.right in
           let same_init = starts.init ∙ ap (λ k. flat_map (narrow_atoms_in k) p.init) same_known
           ∙ narrow_is_all problem_file known (low_arguments d p no_type no_other no_stated) p.init (no_init d p no_type no_other no_stated) in
           let same_goal = starts.goal ∙ ap (λ k. formula_in problem_file k p.goal) same_known in
-          let made : task.Task = task_of_parts names.types.all.entries names.objects.all.entries names.predicates.entries names.schemas.entries start.init.items start.goal in
+          let made : task.Task = task_of_parts names.types.all.entries names.objects.all.entries names.predicates.entries names.schemas.entries start.init.items start.goal has_metric in
           let same : made ≡ task_of_trees d p =
-          λ i. record { types = are.types.all i; objects = are.objects i; predicates = are.predicates i; schemas = are.schemas i; init = same_init i; goal = same_goal i } in
+          λ i. record { types = are.types.all i; objects = are.objects i; predicates = are.predicates i; schemas = are.schemas i; init = same_init i; goal = same_goal i; has_metric = metric i } in
           record {
             well_typed = faults_by_parts d p ∙ (λ i. first_filled (no_type i ∷ no_other i ∷ no_stated i ∷ []));
             same = same;

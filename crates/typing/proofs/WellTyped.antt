@@ -10,9 +10,9 @@ use Rattle.std.proofs.lemmas.Option.{slice_get-map}
 use Rattle.model.specs.Task as task
 use Rattle.model.specs.Trees as tree
 use Rattle.model.specs.Trees.{File, domain_file}
-use Rattle.model.specs.Typing.{Known, Placed, Variable, Declared, declared, folded, is_same, is_known, number_in, names_of_objects, names_of_predicates, names_of_variables, object_in, variable_in, unions_in, union_in, with_variable, repeated_after, repeated, one_after, refused, refused_word, words_of, unknown_faults, faults_against, predicate_faults, predicate_in_known, arguments_in, fits_in, term_faults, misfit_faults, terms_faults, atom_faults, formula_faults, formulas_faults, effect_faults, effects_faults, ground_atom_faults, fact_faults, type_faults, argument_faults, body_faults, schema_faults, term_in, lifted_atom_in, formula_in, formulas_in, effect_in, effects_in, atom_in, atoms_in, predicate_in, known_in_action, schema_in, known_with, known_among, variables_after, variable_faults, one_too_many, exists_each, forall_each}
+use Rattle.model.specs.Typing.{Known, Placed, Variable, Declared, declared, folded, is_same, is_known, number_in, names_of_objects, names_of_predicates, names_of_variables, unions_in, union_in, repeated, one_after, refused, refused_word, words_of, unknown_faults, faults_against, predicate_faults, predicate_in_known, arguments_in, fits_in, term_faults, misfit_faults, terms_faults, atom_faults, formula_faults, formulas_faults, effect_literal_faults, effect_faults, effects_faults, increase_faults, ground_atom_faults, initial_cost_faults, fact_faults, type_faults, argument_faults, schema_faults, term_in, lifted_atom_in, formula_in, formulas_in, effect_literal_in, effect_in, effects_in, atom_in, atoms_in, predicate_in, known_in_action, schema_in, known_with, known_among, variable_faults, one_too_many, exists_each, forall_each, each_of}
 use Rattle.model.specs.Meaning.{is_below_in, is_of}
-use Rattle.model.specs.WellTyped.{is_term, is_some_term, is_lifted_atom, is_atom, is_formula, are_formulas, is_effect, are_effects, is_schema}
+use Rattle.model.specs.WellTyped.{is_term, is_some_term, is_lifted_atom, is_atom, is_formula, are_formulas, is_effect_literal, is_effect, are_effects, is_schema}
 use Rattle.typing.proofs.Lists.{list_any-position}
 use Rattle.typing.proofs.Declaring.{variables_are, few_variables}
 use Rattle.typing.proofs.Empty.{nil_left, nil_right, within, and_true}
@@ -127,22 +127,22 @@ module _ (t : task.Task) (scope : List task.Union) (file : File) (known : Known)
       with_predicate (is_of t) a.predicate (map (number_in (names_of_objects known.objects)) a.objects) found.0 found.1
       (objects_fit found.0.arguments a.objects found.2 (ap (λ o. terms_faults file known (option_map_or (λ (p : task.Predicate). p.arguments) o []) as_terms) (sym found.1) ∙ nil_right faults terms e))
 
-  mutual
-    pub effect_fits : (f : tree.Effect) → effect_faults file known f ≡ [] → is_effect t scope (effect_in known f) ≡ true
-    effect_fits (tree.add a) e = atom_fits a e
-    effect_fits (tree.delete a) e = atom_fits a e
-    effect_fits (tree.both parts) e = effects_fit parts e
+  pub literal_fits : (l : tree.EffectLiteral) → effect_literal_faults file known l ≡ [] → is_effect_literal t scope (effect_literal_in known l) ≡ true
+  literal_fits (tree.add a) e = atom_fits a e
+  literal_fits (tree.delete a) e = atom_fits a e
 
-    effects_fit : (fs : tree.Effects) → effects_faults file known fs ≡ [] → are_effects t scope (effects_in known fs) ≡ true
-    effects_fit tree.no_effect e = refl
-    effects_fit (tree.more_effects first rest) e =
-        and_true _ _ (effect_fits first (nil_left (effect_faults file known first) (effects_faults file known rest) e)) (effects_fit rest (nil_right (effect_faults file known first) (effects_faults file known rest) e))
+  pub literals_fit : (ls : List tree.EffectLiteral) → flat_map (effect_literal_faults file known) ls ≡ [] → list_all (is_effect_literal t scope) (map (effect_literal_in known) ls) ≡ true
+  literals_fit [] e = refl
+  literals_fit (l ∷ ls) e =
+      and_true _ _ (literal_fits l (nil_left (effect_literal_faults file known l) (flat_map (effect_literal_faults file known) ls) e))
+      (literals_fit ls (nil_right (effect_literal_faults file known l) (flat_map (effect_literal_faults file known) ls) e))
 
   pub facts_fit : (fs : List tree.Fact) → flat_map (fact_faults file known) fs ≡ [] → list_all (is_atom t) (flat_map (atoms_in known) fs) ≡ true
   facts_fit [] e = refl
   facts_fit (tree.fact a ∷ fs) e =
       and_true _ _ (ground_atom_fits a (nil_left (ground_atom_faults file known a) (flat_map (fact_faults file known) fs) e)) (facts_fit fs (nil_right (ground_atom_faults file known a) (flat_map (fact_faults file known) fs) e))
   facts_fit (tree.negated word a ∷ fs) e = absurd (cc)
+  facts_fit (tree.initial_cost c ∷ fs) e = facts_fit fs (nil_right (initial_cost_faults file known c) (flat_map (fact_faults file known) fs) e)
 
 -- ---- formulas
 
@@ -166,6 +166,12 @@ each_forall t scope [] part low typed = ap (λ s. is_formula t s part) (sym (app
 each_forall t scope (u ∷ us) part low typed =
     and_true _ _ (lt_true (length scope) 16 (omega (arith, low)))
     (each_forall t (scope ++ u ∷ []) us part (omega (arith, low, length_push scope u)) (ap (λ s. is_formula t s part) (append_assoc scope (u ∷ []) us) ∙ typed))
+
+each_effect : (t : task.Task) (scope us : List task.Union) (part : task.Effect) → length scope + length us ≤ 16 → is_effect t (scope ++ us) part ≡ true → is_effect t scope (each_of us part) ≡ true
+each_effect t scope [] part low typed = ap (λ s. is_effect t s part) (sym (append-nil scope)) ∙ typed
+each_effect t scope (u ∷ us) part low typed =
+    and_true _ _ (lt_true (length scope) 16 (omega (arith, low)))
+    (each_effect t (scope ++ u ∷ []) us part (omega (arith, low, length_push scope u)) (ap (λ s. is_effect t s part) (append_assoc scope (u ∷ []) us) ∙ typed))
 
 -- what a list of variables without faults brings into scope
 pub record BringsIn (t : task.Task) (scope : List task.Union) (known : Known) (xs : List Declared) : Type 0 where
@@ -240,6 +246,32 @@ module _ (t : task.Task) (file : File) where
         and_true _ _ (formula_fits scope known fits low first (nil_left (formula_faults file known first) (formulas_faults file known rest) e))
         (formulas_fit scope known fits low rest (nil_right (formula_faults file known first) (formulas_faults file known rest) e))
 
+-- ---- effects
+
+module _ (t : task.Task) (file : File) where
+  mutual
+    pub effect_fits : (scope : List task.Union) (known : Known) → Fits t scope known → length scope ≤ 16 → (f : tree.Effect) → effect_faults file known f ≡ [] → is_effect t scope (effect_in file known f) ≡ true
+    effect_fits scope known fits low (tree.literal l) e = literal_fits t scope file known fits l e
+    effect_fits scope known fits low (tree.both parts) e = effects_fit scope known fits low parts e
+    effect_fits scope known fits low (tree.each groups part) e =
+        let xs = declared file groups in
+        let heads = variable_faults known.type_names known.variables xs in
+        let inner = effect_faults file (known_with known xs) part in
+        let us = unions_in known.type_names xs in
+        let brought = brings_in t scope known fits low xs (nil_left heads inner e) in
+        each_effect t scope us (effect_in file (known_with known xs) part) brought.few
+        (effect_fits (scope ++ us) (known_with known xs) brought.fits (omega (arith, brought.few, length-append scope us)) part (nil_right heads inner e))
+    effect_fits scope known fits low (tree.when condition literals) e =
+        let before = formula_faults file known condition in
+        let after = flat_map (effect_literal_faults file known) literals in
+        and_true _ _ (formula_fits t file scope known fits low condition (nil_left before after e)) (literals_fit t scope file known fits literals (nil_right before after e))
+
+    effects_fit : (scope : List task.Union) (known : Known) → Fits t scope known → length scope ≤ 16 → (fs : tree.Effects) → effects_faults file known fs ≡ [] → are_effects t scope (effects_in file known fs) ≡ true
+    effects_fit scope known fits low tree.no_effect e = refl
+    effects_fit scope known fits low (tree.more_effects first rest) e =
+        and_true _ _ (effect_fits scope known fits low first (nil_left (effect_faults file known first) (effects_faults file known rest) e))
+        (effects_fit scope known fits low rest (nil_right (effect_faults file known first) (effects_faults file known rest) e))
+
 -- ---- declarations
 
 le_true : (a b : ℕ) → a ≤ b → nat_le a b ≡ true
@@ -270,13 +302,15 @@ module _ (t : task.Task) (known : Known) (types : known.types ≡ t.types) (pred
       let heads = variable_faults known.type_names [] xs in
       let precondition = formula_faults domain_file inner a.precondition in
       let effect = effect_faults domain_file inner a.effect in
+      let increases = increase_faults domain_file inner a in
+      let all = (precondition ++ effect) ++ increases in
       let us = unions_in known.type_names xs in
       let none : Known = record known { variables = [] } in
       let fits : Fits t [] none = record { types = types; predicates = predicates; variables = refl; objects = objects } in
-      let brought = brings_in t [] none fits (omega arith) xs (nil_left heads (precondition ++ effect) e) in
-      let body = nil_right heads (precondition ++ effect) e in
+      let brought = brings_in t [] none fits (omega arith) xs (nil_left heads all e) in
+      let body = nil_left (precondition ++ effect) increases (nil_right heads all e) in
       and_true _ _ (and_true _ _ (le_true (length us) 16 (omega (arith, brought.few))) (formula_fits t domain_file us inner brought.fits (omega (arith, brought.few)) a.precondition (nil_left precondition effect body)))
-      (effect_fits t us domain_file inner brought.fits a.effect (nil_right precondition effect body))
+      (effect_fits t domain_file us inner brought.fits (omega (arith, brought.few)) a.effect (nil_right precondition effect body))
 
   pub schemas_fit : (as' : List tree.Action) → flat_map (schema_faults known) as' ≡ [] → list_all (is_schema t) (map (schema_in known) as') ≡ true
   schemas_fit [] e = refl

@@ -1,5 +1,5 @@
 -- What the declared names stand for, and the faults of declaring them and of what is stated of them, in the model's terms.
-use Rattle.std.specs.Prelude.{◌≡◌, ℕ, List, [], ◌∷◌, ◌++◌, map}
+use Rattle.std.specs.Prelude.{◌≡◌, ℕ, Bool, List, [], ◌∷◌, ◌++◌, map}
 use Rattle.std.specs.Global.{Vec}
 use Rattle.std.specs.List.{flat_map}
 use Rattle.typing.specs.declared.atoms.TypeId.{TypeId}
@@ -12,38 +12,40 @@ use Rattle.typing.specs.Scope.{names_in, narrow_atoms_in}
 use Rattle.typing.specs.TaskParts.{atom_of, formula_of, object_entry_of, predicate_of, schema_of, type_entry_of}
 use Rattle.model.specs.Trees as tree
 use Rattle.model.specs.Trees.{File}
-use Rattle.model.specs.Typing.{first_filled, fact_faults, formula_faults, domain_name_faults, type_declaration_faults, cycle_faults, object_faults, declaration_faults, action_faults, type_names, types_of, constants_of, objects_of, predicates_of, known_in_domain, schema_in, formula_in, Known, TypingFault}
+use Rattle.model.specs.Typing.{first_filled, init_faults, formula_faults, function_faults, domain_name_faults, type_declaration_faults, cycle_faults, object_faults, declaration_faults, action_faults, type_names, types_of, objects_of, predicates_of, declares_cost, known_in_domain, schema_in, formula_in, Known, TypingFault}
 
 -- the faults of the types: those of the first phase that has any
 abbrev pub type_faults_of : tree.Domain → tree.Problem → List TypingFault
 type_faults_of d p = first_filled ((domain_name_faults d p ++ type_declaration_faults d) ∷ cycle_faults d ∷ [])
 
--- those of what the domain declares besides
-abbrev pub domain_faults : tree.Domain → List TypingFault
-domain_faults d = first_filled (declaration_faults (type_names d) d.predicates ∷ action_faults (known_in_domain d) d.actions ∷ [])
+-- those of what the domain declares besides, and of the metric
+abbrev pub domain_faults : tree.Domain → tree.Problem → List TypingFault
+domain_faults d p =
+    first_filled (declaration_faults (type_names d) d.predicates ∷ function_faults d p ∷ action_faults (known_in_domain d) d.actions ∷ [])
 
 -- those of all declarations that are no types
 abbrev pub declared_faults : tree.Domain → tree.Problem → List TypingFault
 declared_faults d p =
-    first_filled (object_faults d p ∷ declaration_faults (type_names d) d.predicates ∷ action_faults (known_in_domain d) d.actions ∷ [])
+    first_filled (object_faults d p ∷ declaration_faults (type_names d) d.predicates ∷ function_faults d p ∷ action_faults (known_in_domain d) d.actions ∷ [])
 
 -- the faults of the initial state of a file, and else those of the goal
 abbrev pub stated_faults_in : File → Known → tree.Problem → List TypingFault
-stated_faults_in file known p = first_filled (flat_map (fact_faults file known) p.init ∷ formula_faults file known p.goal ∷ [])
+stated_faults_in file known p = first_filled (init_faults file known p.init ∷ formula_faults file known p.goal ∷ [])
 
--- what may be named where these are the types, the objects and the predicates
-abbrev pub known_in : Types → List (Vec ℕ × TypeId) → List (Vec ℕ × Predicate) → Known
-known_in t objects predicates = record {
+-- what may be named where these are the types, the objects and the predicates, with or without the total cost
+abbrev pub known_in : Types → List (Vec ℕ × TypeId) → List (Vec ℕ × Predicate) → Bool → Known
+known_in t objects predicates has_cost = record {
   type_names = names_in t.names.names.keys;
   types = map type_entry_of t.all.entries;
   predicates = map predicate_of predicates;
   variables = [];
   objects = map object_entry_of objects;
+  has_cost = has_cost;
 }
 
 -- what may be named in the problem
 abbrev pub known_by : Names → Known
-known_by n = known_in n.types n.objects.all.entries n.predicates.entries
+known_by n = known_in n.types n.objects.all.entries n.predicates.entries n.has_cost
 
 -- these are the types that the domain declares
 pub record AreTypesOf (d : tree.Domain) (t : Types) : Type 0 where
@@ -55,6 +57,7 @@ pub record AreDeclared (d : tree.Domain) (p : tree.Problem) (n : Names) : Type 0
   pub types : AreTypesOf d n.types
   pub objects : map object_entry_of n.objects.all.entries ≡ objects_of d p
   pub predicates : map predicate_of n.predicates.entries ≡ predicates_of d
+  pub has_cost : n.has_cost ≡ declares_cost d
   pub schemas : map schema_of n.schemas.entries ≡ map (schema_in (known_in_domain d)) d.actions
 
 -- these are the schemas of the domain, which has no fault there

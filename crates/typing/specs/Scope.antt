@@ -30,6 +30,7 @@ known_of s = record {
   predicates = map predicate_of s.predicates.now.entries;
   variables = map variable_entry_of s.variables.now.entries;
   objects = map object_entry_of s.objects.now.entries;
+  has_cost = s.has_cost;
 }
 
 -- the variables that were in scope stand first among those that are
@@ -44,6 +45,7 @@ known_over g variables = record {
   predicates = map predicate_of g.predicates.now.entries;
   variables = map variable_entry_of variables;
   objects = map object_entry_of g.objects.now.entries;
+  has_cost = g.has_cost;
 }
 
 -- what may be named where no variable is in scope
@@ -66,3 +68,4 @@ narrow_atom_in known f = let a = atom_in known f in record { predicate = a.predi
 abbrev pub narrow_atoms_in : Known → tree.Fact → List task.Atom
 narrow_atoms_in known (tree.fact a) = narrow_atom_in known a ∷ []
 narrow_atoms_in known (tree.negated word a) = []
+narrow_atoms_in known (tree.initial_cost c) = []

@@ -13,7 +13,7 @@ use Rattle.model.specs.TypingFaults as typing_faults
 use Rattle.model.specs.Typing.{TypingFault, IsLeastOf, faults_of}
 
 abbrev pub task_of : Task → task.Task
-task_of t = task_of_parts t.types.entries t.objects.entries t.predicates.entries t.schemas.entries t.init.items t.goal
+task_of t = task_of_parts t.types.entries t.objects.entries t.predicates.entries t.schemas.entries t.init.items t.goal t.has_metric
 
 -- what a refusal tells
 abbrev pub refusal_of : TaskRefusal → TypingFault

@@ -1,5 +1,5 @@
 -- The parts of the code's task, in the model's terms.
-use Rattle.std.specs.Prelude.{ℕ, List, map}
+use Rattle.std.specs.Prelude.{ℕ, Bool, List, map}
 use Rattle.std.specs.Global.{Vec}
 use Rattle.std.specs.List.Sorted.{IsStrictlySortedBy}
 use Rattle.typing.specs.declared.atoms.TypeId.{TypeId}
@@ -11,6 +11,8 @@ use Rattle.typing.specs.declared.atoms.Term.TheVariants.{Variable, Object}
 use Rattle.typing.specs.declared.atoms.LiftedAtom.{LiftedAtom}
 use Rattle.typing.specs.declared.schemas.Formula.{Formula, Row_of-Formula, end_of-Formula, more_of-Formula}
 use Rattle.typing.specs.declared.schemas.Formula as formula
+use Rattle.typing.specs.declared.schemas.EffectLiteral.{EffectLiteral}
+use Rattle.typing.specs.declared.schemas.EffectLiteral.TheVariants as effect_literal
 use Rattle.typing.specs.declared.schemas.Effect.{Effect, Row_of-Effect, end_of-Effect, more_of-Effect}
 use Rattle.typing.specs.declared.schemas.Effect as effect
 use Rattle.typing.specs.declared.schemas.Predicate.{Predicate}
@@ -60,22 +62,27 @@ abbrev mutual
   formulas_of end_of-Formula = task.no_formula
   formulas_of (more_of-Formula first rest) = task.more_formulas (formula_of first) (formulas_of rest)
 
+abbrev pub effect_literal_of : EffectLiteral → task.EffectLiteral
+effect_literal_of (effect_literal.Add a) = task.add (lifted_atom_of a)
+effect_literal_of (effect_literal.Delete a) = task.delete (lifted_atom_of a)
+
 abbrev mutual
   pub effect_of : Effect → task.Effect
-  effect_of (effect.Add a) = task.add (lifted_atom_of a)
-  effect_of (effect.Delete a) = task.delete (lifted_atom_of a)
+  effect_of (effect.Literal l) = task.literal (effect_literal_of l)
   effect_of (effect.And' shape parts) = task.both (effects_of parts)
+  effect_of (effect.Forall' types p part) = task.each (union_of types) (effect_of part)
+  effect_of (effect.When condition literals) = task.when (formula_of condition) (map effect_literal_of literals.items)
 
   pub effects_of : {m : _} → Row_of-Effect m → task.Effects
   effects_of end_of-Effect = task.no_effect
   effects_of (more_of-Effect first rest) = task.more_effects (effect_of first) (effects_of rest)
 
--- a schema without its name: what its parameters have to be, its precondition and its effect
-abbrev pub shape_of : Schema → List task.Union × task.Formula × task.Effect
-shape_of s = (map union_of s.parameters.items, formula_of s.precondition, effect_of s.effect)
+-- a schema without its name: what its parameters have to be, its precondition, its effect and what it costs
+abbrev pub shape_of : Schema → List task.Union × task.Formula × task.Effect × ℕ
+shape_of s = (map union_of s.parameters.items, formula_of s.precondition, effect_of s.effect, s.cost)
 
-abbrev pub shape_of_schema : task.Schema → List task.Union × task.Formula × task.Effect
-shape_of_schema s = (s.parameters, s.precondition, s.effect)
+abbrev pub shape_of_schema : task.Schema → List task.Union × task.Formula × task.Effect × ℕ
+shape_of_schema s = (s.parameters, s.precondition, s.effect, s.cost)
 
 abbrev pub predicate_of : Vec ℕ × Predicate → task.Predicate
 predicate_of entry = record { name = entry.0.items; arguments = map union_of entry.1.arguments.items }
@@ -86,6 +93,7 @@ schema_of entry = record {
   parameters = map union_of entry.1.parameters.items;
   precondition = formula_of entry.1.precondition;
   effect = effect_of entry.1.effect;
+  cost = entry.1.cost;
 }
 
 abbrev pub type_entry_of : Vec ℕ × Vec TypeId → task.ObjectType
@@ -94,13 +102,15 @@ type_entry_of entry = record { name = entry.0.items; supertypes = map type_of en
 abbrev pub object_entry_of : Vec ℕ × TypeId → task.Object
 object_entry_of entry = record { name = entry.0.items; type = type_of entry.1 }
 
--- the task of these types, objects, predicates and schemas by name, of these atoms at the start and this goal
-abbrev pub task_of_parts : List (Vec ℕ × Vec TypeId) → List (Vec ℕ × TypeId) → List (Vec ℕ × Predicate) → List (Vec ℕ × Schema) → List Atom → Formula → task.Task
-task_of_parts types objects predicates schemas init goal = record {
+-- the task of these types, objects, predicates and schemas by name, of these atoms at the start and this goal, with or
+-- without the metric
+abbrev pub task_of_parts : List (Vec ℕ × Vec TypeId) → List (Vec ℕ × TypeId) → List (Vec ℕ × Predicate) → List (Vec ℕ × Schema) → List Atom → Formula → Bool → task.Task
+task_of_parts types objects predicates schemas init goal has_metric = record {
   types = map type_entry_of types;
   objects = map object_entry_of objects;
   predicates = map predicate_of predicates;
   schemas = map schema_of schemas;
   init = map atom_of init;
   goal = formula_of goal;
+  has_metric = has_metric;
 }

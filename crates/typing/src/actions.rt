@@ -11,7 +11,9 @@ ghost use Rattle.model.specs.Typing as typing;
 ghost use Rattle.std.specs.List.{flat_map};
 
 use crate::domain::declare;
+use crate::effects::effect;
 use crate::formulas::formula;
+use crate::functions::{check_increases, increase};
 use crate::scope::Globals;
 use crate::typed_lists::{Declared, collect};
 use crate::variables::declare_variables;
@@ -34,16 +36,19 @@ fn body(
     ensures shape { IfOk result (λ s. parts.shape_of s ≡ (
       map parts.union_of parameters.items,
       typing.formula_in (file_of globals.now.file) (known_over globals.now variables.old.entries) (read.formula_of action.now.precondition),
-      typing.effect_in (known_over globals.now variables.old.entries) (read.effect_of action.now.effect),
+      typing.effect_in (file_of globals.now.file) (known_over globals.now variables.old.entries) (read.effect_of action.now.effect),
+      typing.increase_of (read.action_of action.now),
     )) }
     ensures finds { OnOk result (Finds walk.old walk.new (typing.body_faults (file_of globals.now.file) (known_over globals.now variables.old.entries) (read.action_of action.now))) }
 {
     let precondition = formula(alloc, walk, globals, variables, &action.precondition)?;
-    let effect = globals.with(variables).effect(alloc, walk, &action.effect)?;
+    let effect = effect(alloc, walk, globals, variables, &action.effect)?;
+    check_increases(walk, globals.file, globals.has_cost, action);
     Ok(Schema {
         parameters,
         precondition,
         effect,
+        cost: increase(action),
     })
 }
 
@@ -70,6 +75,7 @@ fn schema_over(
         types: globals.types,
         predicates: globals.predicates,
         objects: globals.objects,
+        has_cost: globals.has_cost,
     };
     body(alloc, walk, &inner, &mut variables, parameters, action)
 }

@@ -95,8 +95,8 @@ fn forall_each(alloc: Global, unions: Vec<TypeUnion>, part: Formula) -> Result<F
     Ok(formula)
 }
 
-/// Brings the variables of a quantifier into scope. It gives what each has to be.
-fn enter(
+/// Brings the variables of a quantifier or of an effect's `forall` into scope. It gives what each has to be.
+pub(crate) fn enter(
     alloc: Global,
     walk: &mut Walk,
     globals: &Globals<'_>,

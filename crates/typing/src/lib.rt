@@ -7,8 +7,10 @@ mod atoms;
 mod chains;
 mod declarations;
 mod domain;
+mod effects;
 mod fault;
 mod formulas;
+mod functions;
 mod laws;
 mod names;
 mod objects;
@@ -29,5 +31,5 @@ pub use atoms::{
 pub use fault::{TaskFault, TaskRefusal};
 pub use laws::examples_are_typed;
 pub use pddl_tree::TaskFile;
-pub use schemas::{Effect, Formula, Predicate, Schema, TypeUnion};
+pub use schemas::{Effect, EffectLiteral, Formula, Predicate, Schema, TypeUnion};
 pub use task::Task;

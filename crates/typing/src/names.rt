@@ -6,7 +6,7 @@ use crate::type_names::TypeNames;
 use crate::typed_lists::collect;
 use crate::{
     Atom, Formula, Predicate, Schema, TaskFault, TaskFile, TypeId, actions, chains, declarations,
-    domain, objects, statements,
+    domain, functions, objects, statements,
 };
 use indexmap::IndexMap;
 use pddl_tree::{Domain, Problem};
@@ -35,6 +35,7 @@ pub(crate) struct Names {
     pub(crate) types: Types,
     pub(crate) objects: Objects,
     pub(crate) predicates: IndexMap<Vec<u8>, Predicate>,
+    pub(crate) has_cost: bool,
     pub(crate) schemas: IndexMap<Vec<u8>, Schema>,
 }
 
@@ -105,29 +106,32 @@ impl Names {
         requires types { AreTypesOf (domain_of domain.now) types }
         requires objects { AreObjectsOf (domain_of domain.now) (problem_of problem.now) objects }
         ensures ok { IfOk result
-            (λ n. (domain_faults (domain_of domain.now) ≡ []) × AreDeclared (domain_of domain.now) (problem_of problem.now) n) }
-        ensures err { IfErr result (TellsLeastOf (domain_faults (domain_of domain.now))) }
+            (λ n. (domain_faults (domain_of domain.now) (problem_of problem.now) ≡ []) × AreDeclared (domain_of domain.now) (problem_of problem.now) n) }
+        ensures err { IfErr result (TellsLeastOf (domain_faults (domain_of domain.now) (problem_of problem.now))) }
     {
         let predicates = declarations::predicates(alloc, &types.names, domain)?;
-        let schemas = Names::schemas(alloc, &types, &objects, &predicates, domain)?;
+        let has_cost = functions::declared(alloc, domain, problem)?;
+        let schemas = Names::schemas(alloc, &types, &objects, &predicates, has_cost, domain)?;
         Ok(Names {
             types,
             objects,
             predicates,
+            has_cost,
             schemas,
         })
     }
 
-    /// The actions that a domain declares, over its types, constants and predicates.
+    /// The actions that a domain declares, over its types, constants and predicates, with or without the total cost.
     fn schemas(
         alloc: Global,
         types: &Types,
         objects: &Objects,
         predicates: &IndexMap<Vec<u8>, Predicate>,
+        has_cost: bool,
         domain: &Domain<'_>,
     ) -> Result<IndexMap<Vec<u8>, Schema>, TaskFault>
-        ensures ok { IfOk result (λ m. AreSchemasOf (known_in types.now objects.now.constants.entries predicates.now.entries) (domain_of domain.now) m.entries) }
-        ensures err { IfErr result (TellsLeastOf (action_faults (known_in types.now objects.now.constants.entries predicates.now.entries) (domain_of domain.now).actions)) }
+        ensures ok { IfOk result (λ m. AreSchemasOf (known_in types.now objects.now.constants.entries predicates.now.entries has_cost) (domain_of domain.now) m.entries) }
+        ensures err { IfErr result (TellsLeastOf (action_faults (known_in types.now objects.now.constants.entries predicates.now.entries has_cost) (domain_of domain.now).actions)) }
     {
         let globals = Globals {
             file: TaskFile::Domain,
@@ -135,6 +139,7 @@ impl Names {
             types: &types.all,
             predicates,
             objects: &objects.constants,
+            has_cost,
         };
         actions::schemas(alloc, &globals, domain)
     }
@@ -150,6 +155,7 @@ impl Names {
             types: &self.types.all,
             predicates: &self.predicates,
             objects: &self.objects.all,
+            has_cost: self.has_cost,
         };
         Start::stated_in(alloc, &globals, problem)
     }

@@ -39,15 +39,26 @@ pub enum Formula {
     Forall(TypeUnion, Box<Formula>),
 }
 
-/// An effect of an action.
+/// A literal of an effect.
 #[derive(Debug, Drop)]
-pub enum Effect {
+pub enum EffectLiteral {
     /// An atom that becomes true.
     Add(LiftedAtom),
     /// An atom that becomes false.
     Delete(LiftedAtom),
+}
+
+/// An effect of an action.
+#[derive(Debug, Drop)]
+pub enum Effect {
+    /// A literal.
+    Literal(EffectLiteral),
     /// Several effects together.
     And(Vec<Effect>),
+    /// Its part for each object of these types: the last variable in the part's scope.
+    Forall(TypeUnion, Box<Effect>),
+    /// Literals, where the formula holds in the state before.
+    When(Formula, Vec<EffectLiteral>),
 }
 
 /// A predicate's declaration.
@@ -66,4 +77,6 @@ pub struct Schema {
     pub precondition: Formula,
     /// What it changes.
     pub effect: Effect,
+    /// What it increases the total cost by.
+    pub cost: u32,
 }

@@ -1,4 +1,4 @@
-//! Names of effects and atoms become numbers.
+//! Names of atoms become numbers.
 ghost use Rattle.std.specs.Prelude.{◌≡◌, ◌≤◌, length};
 ghost use Rattle.pddl_tree.specs.Tree as read;
 ghost use Rattle.model.specs.Typing.{word_of};
@@ -7,8 +7,8 @@ use crate::type_names::TypeNames;
 use crate::types::{all_below, is_below};
 use crate::walk::Walk;
 use crate::{
-    Atom, Effect, LiftedAtom, MAX_ARGUMENTS, ObjectId, Predicate, PredicateId, TaskFile, Term,
-    TypeId, TypeUnion, VariableId,
+    Atom, LiftedAtom, MAX_ARGUMENTS, ObjectId, Predicate, PredicateId, TaskFile, Term, TypeId,
+    TypeUnion, VariableId,
 };
 use arrayvec::ArrayVec;
 use faults::{Code, NoMemory};
@@ -25,10 +25,11 @@ pub(crate) struct Globals<'g> {
     pub(crate) types: &'g IndexMap<Vec<u8>, Vec<TypeId>>,
     pub(crate) predicates: &'g IndexMap<Vec<u8>, Predicate>,
     pub(crate) objects: &'g IndexMap<Vec<u8>, TypeId>,
+    pub(crate) has_cost: bool,
     ghost few: { length objects.now.entries ≤ 65535 },
 }
 
-/// What may be named where an effect or an atom of a file stands.
+/// What may be named where an atom of a file stands.
 ///
 /// A name that is not known gets the number after the last: the fault is told, and no task is made of it.
 #[derive(Drop)]
@@ -39,6 +40,7 @@ pub(crate) struct Scope<'s> {
     pub(crate) predicates: &'s IndexMap<Vec<u8>, Predicate>,
     pub(crate) variables: &'s IndexMap<Vec<u8>, TypeUnion>,
     pub(crate) objects: &'s IndexMap<Vec<u8>, TypeId>,
+    pub(crate) has_cost: bool,
     ghost few: { length objects.now.entries ≤ 65535 },
 }
 
@@ -57,6 +59,7 @@ impl Globals<'_> {
             predicates: self.predicates,
             variables,
             objects: self.objects,
+            has_cost: self.has_cost,
         }
     }
 }
@@ -68,9 +71,9 @@ impl Scope<'_> {
     ghost use Rattle.typing.specs.Scope.{argument_faults, arguments_at, known_of, narrow_atom_in};
     ghost use Rattle.typing.specs.Walk.{Finds};
     ghost use Rattle.typing.specs.TaskParts as parts;
-    ghost use Rattle.model.specs.Task.{add, delete, variable, object};
+    ghost use Rattle.model.specs.Task.{variable, object};
     ghost use Rattle.model.specs.Trees as tree;
-    ghost use Rattle.model.specs.Typing.{atom_faults, effect_faults, effect_in, fits_in, fits_wanted, ground_atom_faults, lifted_atom_in, names_of_objects, names_of_predicates, names_of_variables, number_in, predicate_faults, refused_word, term_faults, term_in, terms_faults, unknown_faults};
+    ghost use Rattle.model.specs.Typing.{atom_faults, fits_in, fits_wanted, ground_atom_faults, lifted_atom_in, names_of_objects, names_of_predicates, names_of_variables, number_in, predicate_faults, refused_word, term_faults, term_in, terms_faults, unknown_faults};
 
     /// The predicate of this name, which stands with this count of terms.
     fn predicate(
@@ -255,55 +258,6 @@ impl Scope<'_> {
         let predicate = self.predicate(walk, &atom.predicate, given.len())?;
         let terms = self.terms(alloc, walk, predicate, given)?;
         Ok(LiftedAtom { predicate, terms })
-    }
-
-    /// The effect that makes the atom true.
-    fn added(
-        &self,
-        alloc: Global,
-        walk: &mut Walk,
-        atom: &tree::Atom<'_>,
-    ) -> Result<Effect, NoMemory>
-        ensures value { IfOk result (λ e. parts.effect_of e ≡ add (lifted_atom_in (known_of self.now) (read.atom_of atom.now))) }
-        ensures finds { OnOk result (Finds walk.old walk.new (atom_faults (file_of self.now.file) (known_of self.now) (read.atom_of atom.now))) }
-    {
-        Ok(Effect::Add(self.lifted_atom(alloc, walk, atom)?))
-    }
-
-    /// The effect that makes the atom false.
-    fn deleted(
-        &self,
-        alloc: Global,
-        walk: &mut Walk,
-        atom: &tree::Atom<'_>,
-    ) -> Result<Effect, NoMemory>
-        ensures value { IfOk result (λ e. parts.effect_of e ≡ delete (lifted_atom_in (known_of self.now) (read.atom_of atom.now))) }
-        ensures finds { OnOk result (Finds walk.old walk.new (atom_faults (file_of self.now.file) (known_of self.now) (read.atom_of atom.now))) }
-    {
-        Ok(Effect::Delete(self.lifted_atom(alloc, walk, atom)?))
-    }
-
-    /// An effect.
-    pub(crate) fn effect(
-        &self,
-        alloc: Global,
-        walk: &mut Walk,
-        effect: &tree::Effect<'_>,
-    ) -> Result<Effect, NoMemory>
-        ensures value { IfOk result (λ e. parts.effect_of e ≡ effect_in (known_of self.now) (read.effect_of effect.now)) }
-        ensures finds { OnOk result (Finds walk.old walk.new (effect_faults (file_of self.now.file) (known_of self.now) (read.effect_of effect.now))) }
-    {
-        match effect {
-            tree::Effect::Add(atom) => self.added(alloc, walk, atom),
-            tree::Effect::Delete(atom) => self.deleted(alloc, walk, atom),
-            tree::Effect::And(parts) => {
-                let mut resolved = Vec::with_capacity(alloc, parts.len())?;
-                for part in parts {
-                    resolved.push(self.effect(alloc, walk, part)?)?;
-                }
-                Ok(Effect::And(resolved))
-            }
-        }
     }
 
     /// The object at this place of an atom.

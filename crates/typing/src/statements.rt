@@ -1,9 +1,9 @@
 //! What a problem states: its initial state and its goal.
-ghost use Rattle.std.specs.Prelude.{◌≡◌, [], ◌++◌, map, IfErr, IfOk, OnOk};
+ghost use Rattle.std.specs.Prelude.{◌≡◌, [], ◌∷◌, ◌++◌, drop, if◌then◌else◌, map, IfErr, IfOk, OnOk};
 ghost use Rattle.typing.specs.TaskParts as parts;
 ghost use Rattle.typing.specs.Task.{file_of, TellsLeastOf};
 ghost use Rattle.typing.specs.Scope.{known_of, known_outside, known_over, narrow_atoms_in};
-ghost use Rattle.typing.specs.Walk.{Finds};
+ghost use Rattle.typing.specs.Walk.{found, least_of, Finds};
 ghost use Rattle.pddl_tree.specs.Tree as read;
 ghost use Rattle.model.specs.Typing as typing;
 ghost use Rattle.std.specs.List.{flat_map};
@@ -11,11 +11,19 @@ ghost use Rattle.std.specs.List.{flat_map};
 use crate::formulas::formula;
 use crate::scope::{Globals, Scope};
 use crate::walk::Walk;
-use crate::{Atom, Formula, TaskFault, TypeUnion};
+use crate::{Atom, Formula, TaskFault, TaskFile, TypeUnion};
 use faults::{Code, NoMemory};
 use indexmap::IndexMap;
-use pddl_tree::{Fact, Problem};
+use pddl_tree::{Fact, InitialCost, Problem};
 use std::alloc::Global;
+
+/// The total cost at the start is refused where it is not declared, and where it is not 0.
+fn check_initial_cost(walk: &mut Walk, scope: &Scope<'_>, cost: &InitialCost<'_>)
+    ensures { Finds walk.old walk.new (typing.initial_cost_faults (file_of scope.now.file) (known_of scope.now) (read.initial_cost_of cost.now)) }
+{
+    walk.refuse_unless(scope.has_cost, scope.file, Code::BadCost, &cost.function);
+    walk.refuse_unless(cost.amount == 0, scope.file, Code::BadCost, &cost.number);
+}
 
 /// Adds an atom of the initial state. A negated one is refused.
 fn add_fact(
@@ -34,6 +42,10 @@ fn add_fact(
         }
         Fact::Negated(word, _) => {
             walk.refuse(scope.file, Code::NegativeInit, word);
+            Ok(())
+        }
+        Fact::InitialCost(cost) => {
+            check_initial_cost(walk, scope, cost);
             Ok(())
         }
     }
@@ -56,6 +68,31 @@ fn atoms(
     Ok(atoms)
 }
 
+/// Refuses a second `=`. It gives whether one is still to come that is the first.
+fn check_equals(walk: &mut Walk, file: TaskFile, none_yet: bool, fact: &Fact<'_>) -> bool
+    ensures { (rest : _) → found (least_of walk.new) (typing.refused 23 (drop (if result then 1 else 0) (typing.equals_in (file_of file) rest)))
+        ≡ found (least_of walk.old) (typing.refused 23 (drop (if none_yet then 1 else 0) (typing.equals_in (file_of file) (read.fact_of fact.now ∷ rest)))) }
+{
+    match fact {
+        Fact::InitialCost(cost) => {
+            walk.refuse_unless(none_yet, file, Code::BadCost, &cost.equals);
+            false
+        }
+        Fact::Atom(_) => none_yet,
+        Fact::Negated(_, _) => none_yet,
+    }
+}
+
+/// The `=` after the first are refused.
+fn check_all_equals(walk: &mut Walk, file: TaskFile, facts: &[Fact<'_>])
+    ensures { Finds walk.old walk.new (typing.refused 23 (drop 1 (typing.equals_in (file_of file) (map read.fact_of facts.now)))) }
+{
+    let mut none_yet = true;
+    for fact in facts {
+        none_yet = check_equals(walk, file, none_yet, fact);
+    }
+}
+
 /// The atoms of the initial state, where these variables are in scope.
 pub(crate) fn init(
     alloc: Global,
@@ -64,14 +101,15 @@ pub(crate) fn init(
     problem: &Problem<'_>,
 ) -> Result<Vec<Atom>, TaskFault>
     ensures ok { IfOk result
-        (λ v. (flat_map (typing.fact_faults (file_of globals.now.file) (known_over globals.now variables.now.entries)) (read.problem_of problem.now).init ≡ [])
+        (λ v. (typing.init_faults (file_of globals.now.file) (known_over globals.now variables.now.entries) (read.problem_of problem.now).init ≡ [])
         × (map parts.atom_of v.items ≡ flat_map (narrow_atoms_in (known_over globals.now variables.now.entries)) (read.problem_of problem.now).init)) }
-    ensures err { IfErr result (TellsLeastOf (flat_map (typing.fact_faults (file_of globals.now.file) (known_over globals.now variables.now.entries)) (read.problem_of problem.now).init)) }
+    ensures err { IfErr result (TellsLeastOf (typing.init_faults (file_of globals.now.file) (known_over globals.now variables.now.entries) (read.problem_of problem.now).init)) }
 {
     let mut walk = Walk::new(alloc);
     let facts = problem.init.as_slice();
     let scope = globals.with(variables);
     let init = atoms(alloc, &mut walk, &scope, facts)?;
+    check_all_equals(&mut walk, globals.file, facts);
     walk.finish(init)
 }
 

@@ -22,9 +22,10 @@ pub struct Task {
     schemas: IndexMap<Vec<u8>, Schema>,
     init: Vec<Atom>,
     goal: Formula,
+    has_metric: bool,
     ghost few_types: { length types.entries ≤ 4096 },
     ghost few_objects: { length objects.entries ≤ 65535 },
-    ghost well_typed: { IsTrue (is_task (task_of_parts types.entries objects.entries predicates.entries schemas.entries init.items goal)) },
+    ghost well_typed: { IsTrue (is_task (task_of_parts types.entries objects.entries predicates.entries schemas.entries init.items goal has_metric)) },
 }
 
 impl Task {
@@ -71,6 +72,7 @@ impl Task {
             schemas: names.schemas,
             init: start.init,
             goal: start.goal,
+            has_metric: problem.metric.is_some(),
         })
     }
 
@@ -86,6 +88,13 @@ impl Task {
         ensures { formula_of result.now ≡ (task_of self.now).goal }
     {
         &self.goal
+    }
+
+    /// Whether the total cost is to be least; without it, the count of steps is.
+    pub fn has_metric(&self) -> bool
+        ensures { result ≡ (task_of self.now).has_metric }
+    {
+        self.has_metric
     }
 
     /// How many types there are, `object` among them.

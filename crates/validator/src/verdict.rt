@@ -41,7 +41,7 @@ pub fn validate(alloc: Global, task: &Task, plan: &Plan) -> Result<Verdict, NoMe
         match apply(alloc, task, instance, &state)? {
             Some(next) => {
                 state = next;
-                total += cost(task, instance);
+                total += u64::from(cost(task, instance));
             }
             None => return Ok(Verdict::NotApplicable { step: index + 1 }),
         }

@@ -140,7 +140,7 @@ fn check_open(
         let Some(listed) = listed_cost(task, cert, states, &successor.state) else {
             return Err(state_line(RefusalCode::SuccessorMissing, cert, place));
         };
-        if listed > cost + formulas::cost(task, &successor.action) {
+        if listed > cost + u64::from(formulas::cost(task, &successor.action)) {
             return Err(state_line(RefusalCode::SuccessorDearer, cert, place));
         }
     }

@@ -9,12 +9,12 @@ holds-requires c =
     precondition_fits (task_of c.args.task.now) c.args.instance.now.schema.0 (shape_of c.in-Some.schema.now) c.in-Some.ensures.shape
     (map object_of c.args.instance.now.objects.items) c.requires c.args.task.now.well_typed
 
-pub delete_atoms-requires : goal.delete_atoms-requires
-delete_atoms-requires c =
+pub carry_out-requires : goal.carry_out-requires
+carry_out-requires c =
     effect_fits (task_of c.args.task.now) c.args.instance.now.schema.0 (shape_of c.in-Some.schema.now) c.in-Some.ensures.shape
     (map object_of c.args.instance.now.objects.items) c.requires c.args.task.now.well_typed
 
-pub add_atoms-requires : goal.add_atoms-requires
-add_atoms-requires c =
+pub carry_out-requires-2 : goal.carry_out-requires-2
+carry_out-requires-2 c =
     effect_fits (task_of c.args.task.now) c.args.instance.now.schema.0 (shape_of c.in-Some.schema.now) c.in-Some.ensures.shape
     (map object_of c.args.instance.now.objects.items) c.requires c.args.task.now.well_typed

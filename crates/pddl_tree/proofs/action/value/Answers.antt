@@ -1,5 +1,5 @@
 use Rattle.std.proofs.Common.{map}
-use Rattle.model.specs.Grammar.{value, typed, variables, precondition_list, effect_list}
+use Rattle.model.specs.Grammar.{value, typed, variables, precondition_list, effect_value}
 use Rattle.pddl_words.specs.Token.{part_view}
 use Rattle.pddl_tree.proofs.ReadOn.{given, then_read, first_told, then_told, told_by}
 use Rattle.pddl_tree.proofs.Parts.{opened}
@@ -25,12 +25,12 @@ returns-in_err-precondition-in-Precondition-clause-told c =
     let seen = map part_view c.args.seen.now in
     rw c.in-Precondition.is (told_by _ c.from_residual-in_err-precondition-in-Precondition.ensures.1 (then_told (value seen) (opened seen c.in_ok-inside.ensures.word) (first_told precondition_list c.in_err-precondition-in-Precondition.ensures.told)))
 
-pub returns-in_ok-effect-in-Effect-clause-read : goal.returns-in_ok-effect-in-Effect-clause-read
-returns-in_ok-effect-in-Effect-clause-read c =
+pub returns-in_ok-value-in-Effect-clause-read : goal.returns-in_ok-value-in-Effect-clause-read
+returns-in_ok-value-in-Effect-clause-read c =
     let seen = map part_view c.args.seen.now in
-    rw c.in-Effect.is (then_read (value seen) (opened seen c.in_ok-inside.ensures.word) (then_read effect_list c.in_ok-effect-in-Effect.ensures.read given))
+    rw c.in-Effect.is (then_read (value seen) (opened seen c.in_ok-inside.ensures.word) (then_read effect_value c.in_ok-value-in-Effect.ensures.read given))
 
-pub returns-in_err-effect-in-Effect-clause-told : goal.returns-in_err-effect-in-Effect-clause-told
-returns-in_err-effect-in-Effect-clause-told c =
+pub returns-in_err-value-in-Effect-clause-told : goal.returns-in_err-value-in-Effect-clause-told
+returns-in_err-value-in-Effect-clause-told c =
     let seen = map part_view c.args.seen.now in
-    rw c.in-Effect.is (told_by _ c.from_residual-in_err-effect-in-Effect.ensures.1 (then_told (value seen) (opened seen c.in_ok-inside.ensures.word) (first_told effect_list c.in_err-effect-in-Effect.ensures.told)))
+    rw c.in-Effect.is (told_by _ c.from_residual-in_err-value-in-Effect.ensures.1 (then_told (value seen) (opened seen c.in_ok-inside.ensures.word) (first_told effect_value c.in_err-value-in-Effect.ensures.told)))

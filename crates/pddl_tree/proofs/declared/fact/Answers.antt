@@ -1,6 +1,7 @@
 use Rattle.std.proofs.Common.{refl, sym}
 use Rattle.model.specs.Grammar.{many, listed, a_name, fact, ground_atom, close}
-use Rattle.pddl_tree.proofs.ReadOn.{given, then_read, first_told, then_told, by_word, by_word_told, is_reserved, read_word, told_by}
+use Rattle.pddl_tree.proofs.ReadOn.{given, then_read, first_told, then_told, by_word, by_word_told, is_reserved, read_word, told_by, read_as, told_as}
+use Rattle.model.specs.Trees as tree
 use Rattle.pddl_tree.proofs.declared.fact.Goals as goal
 
 -- a predicate and its objects
@@ -26,3 +27,11 @@ returns-in_err-next-in-Reserved-Not-default-clause-told c =
     told_by _ c.from_residual-in_err-next-in-Reserved-Not-default.ensures.1
     (by_word_told fact (is_reserved c.in-Reserved-Not-default.ensures.first c.in-Reserved-Not-default.field-0-is) refl
     (then_told (listed ground_atom) c.in_ok-atom-in-Reserved-Not-default.ensures.read (first_told close c.in_err-next-in-Reserved-Not-default.ensures.told)))
+
+-- `=`
+pub returns-in_ok-cost-in-Equals-clause-read : goal.returns-in_ok-cost-in-Equals-clause-read
+returns-in_ok-cost-in-Equals-clause-read c = by_word fact (sym c.in-Equals.ensures.first) refl (read_as tree.initial_cost c.in_ok-cost-in-Equals.ensures.read)
+
+pub returns-in_err-cost-in-Equals-clause-told : goal.returns-in_err-cost-in-Equals-clause-told
+returns-in_err-cost-in-Equals-clause-told c =
+    told_by _ c.from_residual-in_err-cost-in-Equals.ensures.1 (by_word_told fact (sym c.in-Equals.ensures.first) refl (told_as tree.initial_cost c.in_err-cost-in-Equals.ensures.told))

@@ -26,50 +26,50 @@ formula-returns-in_err-equality-in-Equals-clause-told t c = told_by _ c.from_res
 -- `and`
 pub compound-returns-in_ok-parts-in-And-clause-read : goal.compound-returns-in_ok-parts-in-And-clause-read
 compound-returns-in_ok-parts-in-And-clause-read t c =
-    of_tree (by_reserved c.requires c.in-And.is (λ n. refl) (then_read (many (listed formula)) c.in_ok-parts-in-And.ensures.read given)) (sym (formula_of-And c.in_ok-parts-in-And.parts))
+    of_tree (by_reserved formula c.requires c.in-And.is (λ n. refl) (then_read (many (listed formula)) c.in_ok-parts-in-And.ensures.read given)) (sym (formula_of-And c.in_ok-parts-in-And.parts))
 
 pub compound-returns-in_err-parts-in-And-clause-told : goal.compound-returns-in_err-parts-in-And-clause-told
 compound-returns-in_err-parts-in-And-clause-told t c =
-    told_by _ c.from_residual.ensures.1 (by_reserved_told c.requires c.in-And.is (λ n. refl) (first_told (many (listed formula)) c.in_err-parts-in-And.ensures.told))
+    told_by _ c.from_residual.ensures.1 (by_reserved_told formula c.requires c.in-And.is (λ n. refl) (first_told (many (listed formula)) c.in_err-parts-in-And.ensures.told))
 
 -- `or`
 pub compound-returns-in_ok-parts-in-Or-clause-read : goal.compound-returns-in_ok-parts-in-Or-clause-read
 compound-returns-in_ok-parts-in-Or-clause-read t c =
-    of_tree (by_reserved c.requires c.in-Or.is (λ n. refl) (then_read (many (listed formula)) c.in_ok-parts-in-Or.ensures.read given)) (sym (formula_of-Or c.in_ok-parts-in-Or.parts))
+    of_tree (by_reserved formula c.requires c.in-Or.is (λ n. refl) (then_read (many (listed formula)) c.in_ok-parts-in-Or.ensures.read given)) (sym (formula_of-Or c.in_ok-parts-in-Or.parts))
 
 pub compound-returns-in_err-parts-in-Or-clause-told : goal.compound-returns-in_err-parts-in-Or-clause-told
 compound-returns-in_err-parts-in-Or-clause-told t c =
-    told_by _ c.from_residual-in_err-parts-in-Or.ensures.1 (by_reserved_told c.requires c.in-Or.is (λ n. refl) (first_told (many (listed formula)) c.in_err-parts-in-Or.ensures.told))
+    told_by _ c.from_residual-in_err-parts-in-Or.ensures.1 (by_reserved_told formula c.requires c.in-Or.is (λ n. refl) (first_told (many (listed formula)) c.in_err-parts-in-Or.ensures.told))
 
 -- `not`
 pub compound-returns-in_ok-part-in-Not-clause-read : goal.compound-returns-in_ok-part-in-Not-clause-read
-compound-returns-in_ok-part-in-Not-clause-read t c = by_reserved c.requires c.in-Not.is (λ n. refl) (read_as tree.not c.in_ok-part-in-Not.ensures.read)
+compound-returns-in_ok-part-in-Not-clause-read t c = by_reserved formula c.requires c.in-Not.is (λ n. refl) (read_as tree.not c.in_ok-part-in-Not.ensures.read)
 
 pub compound-returns-in_err-part-in-Not-clause-told : goal.compound-returns-in_err-part-in-Not-clause-told
-compound-returns-in_err-part-in-Not-clause-told t c = told_by _ c.from_residual-in_err-part-in-Not.ensures.1 (by_reserved_told c.requires c.in-Not.is (λ n. refl) (told_as tree.not c.in_err-part-in-Not.ensures.told))
+compound-returns-in_err-part-in-Not-clause-told t c = told_by _ c.from_residual-in_err-part-in-Not.ensures.1 (by_reserved_told formula c.requires c.in-Not.is (λ n. refl) (told_as tree.not c.in_err-part-in-Not.ensures.told))
 
 -- `imply`
 pub compound-returns-in-Imply-clause-read : goal.compound-returns-in-Imply-clause-read
-compound-returns-in-Imply-clause-read t c = if_ok c.implication.result (λ r read. by_reserved c.requires c.in-Imply.is (λ n. refl) read) c.implication.ensures.read
+compound-returns-in-Imply-clause-read t c = if_ok c.implication.result (λ r read. by_reserved formula c.requires c.in-Imply.is (λ n. refl) read) c.implication.ensures.read
 
 pub compound-returns-in-Imply-clause-told : goal.compound-returns-in-Imply-clause-told
-compound-returns-in-Imply-clause-told t c = if_err c.implication.result (λ refusal told. by_reserved_told c.requires c.in-Imply.is (λ n. refl) told) c.implication.ensures.told
+compound-returns-in-Imply-clause-told t c = if_err c.implication.result (λ refusal told. by_reserved_told formula c.requires c.in-Imply.is (λ n. refl) told) c.implication.ensures.told
 
 -- `exists`
 pub compound-returns-in_ok-variables-in-Exists-clause-read : goal.compound-returns-in_ok-variables-in-Exists-clause-read
-compound-returns-in_ok-variables-in-Exists-clause-read t c = by_reserved c.requires c.in-Exists.is (λ n. refl) (read_as (λ q. tree.exists q.0 q.1) c.in_ok-variables-in-Exists.ensures.read)
+compound-returns-in_ok-variables-in-Exists-clause-read t c = by_reserved formula c.requires c.in-Exists.is (λ n. refl) (read_as (λ q. tree.exists q.0 q.1) c.in_ok-variables-in-Exists.ensures.read)
 
 pub compound-returns-in_err-variables-in-Exists-clause-told : goal.compound-returns-in_err-variables-in-Exists-clause-told
 compound-returns-in_err-variables-in-Exists-clause-told t c =
-    told_by _ c.from_residual-in_err-variables-in-Exists.ensures.1 (by_reserved_told c.requires c.in-Exists.is (λ n. refl) (told_as (λ q. tree.exists q.0 q.1) c.in_err-variables-in-Exists.ensures.told))
+    told_by _ c.from_residual-in_err-variables-in-Exists.ensures.1 (by_reserved_told formula c.requires c.in-Exists.is (λ n. refl) (told_as (λ q. tree.exists q.0 q.1) c.in_err-variables-in-Exists.ensures.told))
 
 -- `forall`
 pub compound-returns-in_ok-variables-in-Forall-clause-read : goal.compound-returns-in_ok-variables-in-Forall-clause-read
-compound-returns-in_ok-variables-in-Forall-clause-read t c = by_reserved c.requires c.in-Forall.is (λ n. refl) (read_as (λ q. tree.forall q.0 q.1) c.in_ok-variables-in-Forall.ensures.read)
+compound-returns-in_ok-variables-in-Forall-clause-read t c = by_reserved formula c.requires c.in-Forall.is (λ n. refl) (read_as (λ q. tree.forall q.0 q.1) c.in_ok-variables-in-Forall.ensures.read)
 
 pub compound-returns-in_err-variables-in-Forall-clause-told : goal.compound-returns-in_err-variables-in-Forall-clause-told
 compound-returns-in_err-variables-in-Forall-clause-told t c =
-    told_by _ c.from_residual-in_err-variables-in-Forall.ensures.1 (by_reserved_told c.requires c.in-Forall.is (λ n. refl) (told_as (λ q. tree.forall q.0 q.1) c.in_err-variables-in-Forall.ensures.told))
+    told_by _ c.from_residual-in_err-variables-in-Forall.ensures.1 (by_reserved_told formula c.requires c.in-Forall.is (λ n. refl) (told_as (λ q. tree.forall q.0 q.1) c.in_err-variables-in-Forall.ensures.told))
 
 -- what follows `imply`
 pub implication-returns-clause-read : goal.implication-returns-clause-read

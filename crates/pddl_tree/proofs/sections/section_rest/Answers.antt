@@ -55,3 +55,15 @@ returns-in_ok-next-in-Requirements-clause-read c = rw c.in-Requirements.is (read
 
 pub returns-in_err-next-in-Requirements-clause-told : goal.returns-in_err-next-in-Requirements-clause-told
 returns-in_err-next-in-Requirements-clause-told c = rw c.in-Requirements.is (told_by _ c.from_residual.ensures.1 (told_as (λ _. grammar.requirements) c.in_err-next-in-Requirements.ensures.told))
+
+pub returns-in_ok-functions-in-Functions-clause-read : goal.returns-in_ok-functions-in-Functions-clause-read
+returns-in_ok-functions-in-Functions-clause-read c = rw c.in-Functions.is (read_as grammar.functions c.in_ok-functions-in-Functions.ensures.read)
+
+pub returns-in_err-functions-in-Functions-clause-told : goal.returns-in_err-functions-in-Functions-clause-told
+returns-in_err-functions-in-Functions-clause-told c = rw c.in-Functions.is (told_by _ c.from_residual-in_err-functions-in-Functions.ensures.1 (told_as grammar.functions c.in_err-functions-in-Functions.ensures.told))
+
+pub returns-in_ok-metric-in-Metric-clause-read : goal.returns-in_ok-metric-in-Metric-clause-read
+returns-in_ok-metric-in-Metric-clause-read c = rw c.in-Metric.is (read_as grammar.metric c.in_ok-metric-in-Metric.ensures.read)
+
+pub returns-in_err-metric-in-Metric-clause-told : goal.returns-in_err-metric-in-Metric-clause-told
+returns-in_err-metric-in-Metric-clause-told c = rw c.in-Metric.is (told_by _ c.from_residual-in_err-metric-in-Metric.ensures.1 (told_as grammar.metric c.in_err-metric-in-Metric.ensures.told))

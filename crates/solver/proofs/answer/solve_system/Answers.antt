@@ -16,7 +16,8 @@ use Rattle.solver.proofs.answer.solve_system.Goals as goal
 pub cert_of-requires-clause-claim : goal.cert_of-requires-clause-claim
 cert_of-requires-clause-claim c =
     let found = rw c.in-Found.is at c.in_ok-steps.ensures in
-    cheap_plan (task_of c.args.system.now.task.now) instance_of c.in-Found.steps.items c.in-Found.cost found.1 (omega (arith, found.3, most_of_limit c.args.limits.states c.args.limits.states_within))
+    cheap_plan (system_of (task_of c.args.system.now.task.now)) c.in-Found.cost _ (states_of c.in-Found.states.store) c.in-Found.states.reached.items (map instance_of c.in-Found.steps.items) found.0.0 found.2
+    (omega (arith, c.states.ensures, most_of_limit c.args.limits.states c.args.limits.states_within))
 
 pub cert_of-requires-clause-found : goal.cert_of-requires-clause-found
 cert_of-requires-clause-found c =

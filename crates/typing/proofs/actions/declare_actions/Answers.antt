@@ -2,7 +2,6 @@ use Rattle.typing.specs.Walk.{least_of}
 use Rattle.typing.specs.Scope.{names_in}
 use Rattle.pddl_tree.specs.Tree as read
 use Rattle.model.specs.Trees.{domain_file}
-use Rattle.model.specs.Task as task
 use Rattle.model.specs.Typing as typing
 use Rattle.typing.proofs.Found as finding
 use Rattle.pddl_tree.specs.declared.tree.Action.{Action}

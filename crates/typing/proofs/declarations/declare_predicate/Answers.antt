@@ -5,7 +5,6 @@ use Rattle.typing.specs.TaskParts as parts
 use Rattle.typing.specs.Scope.{names_in}
 use Rattle.pddl_tree.specs.Tree as read
 use Rattle.model.specs.Trees.{domain_file}
-use Rattle.model.specs.Task as task
 use Rattle.model.specs.Typing as typing
 use Rattle.typing.proofs.Tables as tables
 use Rattle.typing.proofs.declarations.declare_predicate.Goals as goal

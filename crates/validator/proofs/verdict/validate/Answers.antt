@@ -18,7 +18,7 @@ apply-requires c =
     c.requires
 
 pub overflow_add-total : goal.overflow_add-total
-overflow_add-total c = omega (arith, c.loop-index.invariant.few, c.loop-index-test.true, c.steps-instance-items.ensures.at_most, c.cost-total.ensures)
+overflow_add-total c = omega (arith, c.loop-index.invariant.few, c.loop-index-test.true, c.steps-instance-items.ensures.at_most, c.from-total.ensures)
 
 pub loop-index-preserved : goal.loop-index-preserved
 loop-index-preserved c =
@@ -28,8 +28,8 @@ loop-index-preserved c =
     record {
       runs = run_more system plan c.loop-index.index (instance_of c.instance-item.result) here
           system.initial (state_of c.loop-index.state) (state_of c.in-Some.next) c.loop-index.invariant.runs (sym c.in_ok-next.ensures ∙ ap (option_map state_of) c.in-Some.is);
-      costs = cost_more system plan c.loop-index.index (instance_of c.instance-item.result) here c.loop-index.total c.cost-total.result c.loop-index.invariant.costs c.cost-total.ensures;
-      few = omega (arith, c.loop-index.invariant.few, c.cost-total.ensures);
+      costs = cost_more system plan c.loop-index.index (instance_of c.instance-item.result) here c.loop-index.total c.from-total.result c.loop-index.invariant.costs (c.from-total.ensures ∙ c.cost.ensures);
+      few = omega (arith, c.loop-index.invariant.few, c.from-total.ensures);
     }
 
 pub returns-in-None : goal.returns-in-None

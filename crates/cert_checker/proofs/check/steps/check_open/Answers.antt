@@ -31,7 +31,7 @@ loop-successor-preserved c =
     let most = c.args.cost + (system_of task).cost (instance_of c.successor-item.result.action) in
     let listed = subst (λ t. IsListedAt (lines_of t cert) next c.in-Some.listed) (ap task_of c.task-task.ensures) c.in-Some.ensures in
     AllListed-more task cert c.args.cost successor_of c.deref-successor-items.result.now c.loop-successor.successor-index c.successor-item.result c.loop-successor-test.true c.successor-item.is
-    c.loop-successor.invariant (listed_within (lines_of task cert) next c.in-Some.listed most listed (omega (arith, c.cost.ensures, c.if-listed-cost.false)))
+    c.loop-successor.invariant (listed_within (lines_of task cert) next c.in-Some.listed most listed (omega (arith, c.cost.ensures, c.from.ensures, c.if-listed-cost.false)))
 
 pub returns-clause-right : goal.returns-clause-right
 returns-clause-right c =
@@ -92,7 +92,7 @@ returns-then-listed-cost-clause-wrong c =
     (wrong_dearer task cert (states_of c.args.states.now) c.args.place state c.args.cost (instance_of c.successor-item.result.action) next c.in-Some.listed c.requires.lists there
     (leads_there task state successor_of c.deref-successor-items.result.now c.loop-successor.successor-index c.successor-item.result c.loop-successor-test.true c.successor-item.is
     (ap (map successor_of) c.deref-successor-items.ensures.value ∙ c.in_ok-successors.ensures))
-    listed (omega (arith, c.cost.ensures, c.if-listed-cost.true)))
+    listed (omega (arith, c.cost.ensures, c.from.ensures, c.if-listed-cost.true)))
 
 pub returns-in_default-clause-first : goal.returns-in_default-clause-first
 returns-in_default-clause-first c =
@@ -136,5 +136,5 @@ returns-then-listed-cost-clause-first c =
       first_to_leave task cert c.args.place state c.args.cost successor_of c.deref-successor-items.result.now c.loop-successor.successor-index c.successor-item.result there
           c.loop-successor-test.true c.successor-item.is (ap (map successor_of) c.deref-successor-items.ensures.value ∙ c.in_ok-successors.ensures) c.loop-successor.invariant,
       listed_somewhere (lines_of task cert) next c.in-Some.listed listed,
-      not_within task cert (states_of c.args.states.now) next c.in-Some.listed most_allowed c.requires.lists listed (omega (arith, c.cost.ensures, c.if-listed-cost.true)),
+      not_within task cert (states_of c.args.states.now) next c.in-Some.listed most_allowed c.requires.lists listed (omega (arith, c.cost.ensures, c.from.ensures, c.if-listed-cost.true)),
     )

@@ -1,9 +1,11 @@
-use Rattle.pddl_tree.specs.Tree.{domain_of, problem_of}
+use Rattle.std.proofs.Common.{◌∙◌, sym}
+use Rattle.pddl_tree.specs.Tree.{domain_of, problem_of, name_of}
 use Rattle.typing.specs.Task.{TellsLeastFault}
 use Rattle.typing.specs.TaskParts.{task_of_parts}
 use Rattle.typing.proofs.Tasks.{made_by_phases, told_of_types, told_of_declared, told_of_stated, IsMade}
+use Rattle.typing.proofs.Costs.{is_some-map}
 use Rattle.faults.proofs.Results.{passed_on}
-use Rattle.typing.proofs.task.Task.of_trees.Goals.{In_ok-start}
+use Rattle.typing.proofs.task.Task.of_trees.Goals.{After-is_some}
 use Rattle.typing.proofs.task.Task.of_trees.Goals as goal
 
 pub returns-in_err-types-clause-least : goal.returns-in_err-types-clause-least
@@ -23,15 +25,16 @@ returns-in_err-start-clause-least c =
     passed_on (TellsLeastFault d p) c.from_residual-in_err-start.result e c.from_residual-in_err-start.ensures.1
     (told_of_stated d p c.in_ok-types.ensures.ok.0 c.in_ok-names.ensures.ok.0 c.in_ok-names.names c.in_ok-names.ensures.ok.1 e c.in_err-start.ensures.err)
 
-made : (c : In_ok-start) → IsMade (domain_of c.args.domain.now) (problem_of c.args.problem.now) (task_of_parts c.in_ok-names.names.types.all.entries c.in_ok-names.names.objects.all.entries c.in_ok-names.names.predicates.entries c.in_ok-names.names.schemas.entries c.in_ok-start.start.init.items c.in_ok-start.start.goal)
+made : (c : After-is_some) → IsMade (domain_of c.args.domain.now) (problem_of c.args.problem.now) (task_of_parts c.in_ok-names.names.types.all.entries c.in_ok-names.names.objects.all.entries c.in_ok-names.names.predicates.entries c.in_ok-names.names.schemas.entries c.in_ok-start.start.init.items c.in_ok-start.start.goal c.is_some.result)
 made c =
     made_by_phases (domain_of c.args.domain.now) (problem_of c.args.problem.now) c.in_ok-types.ensures.ok.0 c.in_ok-names.ensures.ok.0 c.in_ok-names.names c.in_ok-names.ensures.ok.1 c.in_ok-start.start c.in_ok-start.ensures.ok
+    c.is_some.result (c.is_some.ensures ∙ sym (is_some-map name_of c.args.problem.now.metric))
 
 pub invariant_of-result : goal.invariant_of-result
 invariant_of-result c = record { few_types = c.in_ok-names.names.types.few; few_objects = c.in_ok-names.names.objects.few; well_typed = (made c).typed }
 
 pub returns-clause-well_typed : goal.returns-clause-well_typed
-returns-clause-well_typed c = (made (goal.at.returns-clause-well_typed c).In_ok-start).well_typed
+returns-clause-well_typed c = (made (goal.at.returns-clause-well_typed c).After-is_some).well_typed
 
 pub returns-clause-task : goal.returns-clause-task
-returns-clause-task c = (made (goal.at.returns-clause-task c).In_ok-start).same
+returns-clause-task c = (made (goal.at.returns-clause-task c).After-is_some).same

@@ -1,0 +1,43 @@
+use Rattle.std.proofs.Common.{◌∙◌, ap, sym, map}
+use Rattle.std.specs.FinSet.{insert, remove}
+use Rattle.typing.specs.Task.{task_of}
+use Rattle.typing.specs.TaskParts.{object_of}
+use Rattle.formulas.specs.State.{state_of}
+use Rattle.formulas.proofs.CarriedOut.{add_few, delete_few, add_bound, delete_bound, add_added, add_left, delete_deleted, delete_left}
+use Rattle.formulas.proofs.change.carry_out_one.Goals as goal
+
+pub ground_atom-requires-clause-few : goal.ground_atom-requires-clause-few
+ground_atom-requires-clause-few c =
+    add_few (task_of c.args.task.now) c.args.literal.now c.in-Add.atom c.args.binding.now.items c.requires c.in-Add.is c.args.task.now.well_typed
+
+pub ground_atom-requires-clause-bound : goal.ground_atom-requires-clause-bound
+ground_atom-requires-clause-bound c =
+    add_bound (task_of c.args.task.now) c.args.literal.now c.in-Add.atom c.args.binding.now.items c.requires c.in-Add.is
+
+pub ground_atom-requires-then-not-adds-clause-few : goal.ground_atom-requires-then-not-adds-clause-few
+ground_atom-requires-then-not-adds-clause-few c =
+    delete_few (task_of c.args.task.now) c.args.literal.now c.in-Delete.atom c.args.binding.now.items c.requires c.in-Delete.is c.args.task.now.well_typed
+
+pub ground_atom-requires-then-not-adds-clause-bound : goal.ground_atom-requires-then-not-adds-clause-bound
+ground_atom-requires-then-not-adds-clause-bound c =
+    delete_bound (task_of c.args.task.now) c.args.literal.now c.in-Delete.atom c.args.binding.now.items c.requires c.in-Delete.is
+
+pub returns-in_ok-insert-in-Add : goal.returns-in_ok-insert-in-Add
+returns-in_ok-insert-in-Add c =
+    let binding = map object_of c.args.binding.now.items in
+    let s = state_of c.args.next.now in
+    c.in_ok-insert-in-Add.ensures ∙ ap (insert s) c.ground_atom.ensures ∙ sym (add_added binding s c.args.literal.now c.in-Add.atom c.args.adds c.if-adds.true c.in-Add.is)
+
+pub returns-else-adds : goal.returns-else-adds
+returns-else-adds c =
+    sym (add_left (map object_of c.args.binding.now.items) (state_of c.args.next.now) c.args.literal.now c.in-Add.atom c.args.adds c.if-adds.false c.in-Add.is)
+
+pub returns-then-not-adds : goal.returns-then-not-adds
+returns-then-not-adds c =
+    let binding = map object_of c.args.binding.now.items in
+    let s = state_of c.args.next.now in
+    c.remove.ensures ∙ ap (remove s) c.ground_atom-then-not-adds.ensures ∙ sym (delete_deleted binding s c.args.literal.now c.in-Delete.atom c.args.adds c.if-not-adds.true c.in-Delete.is)
+
+pub returns-else-not-adds : goal.returns-else-not-adds
+returns-else-not-adds c =
+    sym (delete_left (map object_of c.args.binding.now.items) (state_of c.args.next.now) c.args.literal.now c.in-Delete.atom c.args.adds c.if-not-adds.false c.in-Delete.is)

@@ -1,0 +1,11 @@
+use Rattle.std.proofs.Common.{◌≡◌, map, take, ◌++◌}
+use Rattle.typing.specs.TaskParts.{object_of, formula_of, effect_literal_of}
+use Rattle.formulas.specs.Effects.{change_of}
+use Rattle.model.specs.Meaning.{change_under}
+use Rattle.formulas.proofs.effects.add_changes_under.Given as goal
+
+-- the changes of the literals so far are added
+abbrev pub invariant-loop-literal : goal.invariant-loop-literal
+invariant-loop-literal l =
+    map change_of l.found.items
+    ≡ map change_of l.initial.found.items ++ map (λ one. change_under (formula_of l.condition) (map object_of l.binding.items) (effect_literal_of one)) (take l.literal-index l.literals)

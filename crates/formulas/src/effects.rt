@@ -1,0 +1,150 @@
+//! What an instance changes, and under which conditions.
+ghost use Rattle.std.specs.Prelude.{◌≡◌, ◌++◌, ◌∷◌, [], map, IsTrue, IfOk, OnOk};
+ghost use Rattle.typing.specs.TaskParts.{object_of, formula_of, effect_literal_of, effect_of, union_of};
+ghost use Rattle.typing.specs.Task.{task_of};
+ghost use Rattle.formulas.specs.State.{instance_of, FitsEffect, FitsLiteral, FitsLiterals};
+ghost use Rattle.formulas.specs.Effects.{ground_literal_of, condition_of, change_of, changes_of_instance};
+ghost use Rattle.model.specs.Task.{each};
+ghost use Rattle.model.specs.Meaning.{is_instance, changes_of, change_under, ground_literal};
+
+use crate::instance::{Binding, Instance};
+use crate::truth::{copied, ground_atom};
+use faults::NoMemory;
+use std::alloc::Global;
+use typing::{Atom, Effect, EffectLiteral, Formula, ObjectId, Task, TypeUnion};
+
+/// An atom that becomes true, or false.
+#[derive(Debug, Drop)]
+pub enum GroundLiteral {
+    /// It becomes true.
+    Adds(Atom),
+    /// It becomes false.
+    Deletes(Atom),
+}
+
+/// What an instance changes where a condition holds in the state before.
+#[derive(Drop)]
+pub struct Change<'t> {
+    /// The condition, if there is one.
+    pub condition: Option<&'t Formula>,
+    /// The objects of the variables in the condition's scope.
+    pub binding: Binding,
+    /// The change.
+    pub literal: GroundLiteral,
+}
+
+/// The changes of the instance, which is one of the task's, in the order of its effect: those of a `forall` for each object
+/// of its variable's types.
+pub fn changes<'t>(
+    alloc: Global,
+    task: &'t Task,
+    instance: &Instance,
+) -> Result<Vec<Change<'t>>, NoMemory>
+    requires { IsTrue (is_instance (task_of task.now) (instance_of instance.now)) }
+    ensures { IfOk result (λ found. map change_of found.items ≡ changes_of_instance (task_of task.now) (instance_of instance.now)) }
+{
+    let Some(schema) = task.schema(instance.schema) else {
+        return Ok(Vec::new(alloc));
+    };
+    let mut found = Vec::new(alloc);
+    add_changes(task, &schema.effect, &instance.objects, &mut found)?;
+    Ok(found)
+}
+
+/// Adds the changes of the effect.
+#[cycle(changes)]
+fn add_changes<'t>(
+    task: &Task,
+    effect: &'t Effect,
+    binding: &Binding,
+    found: &mut Vec<Change<'t>>,
+) -> Result<(), NoMemory>
+    requires { FitsEffect (task_of task.now) (effect_of effect.now) (map object_of binding.now.items) }
+    ensures { OnOk result (map change_of found.new.items ≡ map change_of found.old.items ++ changes_of (task_of task.now) (effect_of effect.now) (map object_of binding.now.items)) }
+{
+    match effect {
+        Effect::Literal(literal) => add_change(task, None, literal, binding, found)?,
+        Effect::And(parts) => {
+            for part in parts {
+                add_changes(task, part, binding, found)?;
+            }
+        }
+        Effect::Forall(types, part) => add_changes_for_each(task, types, part, binding, found)?,
+        Effect::When(condition, literals) => {
+            add_changes_under(task, condition, literals, binding, found)?
+        }
+    }
+    Ok(())
+}
+
+/// Adds the changes of the effect for each object of these types, as that of the next variable.
+#[cycle(changes)]
+fn add_changes_for_each<'t>(
+    task: &Task,
+    types: &TypeUnion,
+    part: &'t Effect,
+    binding: &Binding,
+    found: &mut Vec<Change<'t>>,
+) -> Result<(), NoMemory>
+    requires { FitsEffect (task_of task.now) (each (union_of types.now) (effect_of part.now)) (map object_of binding.now.items) }
+    ensures { OnOk result (map change_of found.new.items ≡ map change_of found.old.items ++ changes_of (task_of task.now) (each (union_of types.now) (effect_of part.now)) (map object_of binding.now.items)) }
+{
+    let mut extended = copied(binding);
+    for number in 0..task.object_count() {
+        let object = ObjectId(number as u32);
+        if task.is_of(object, types) {
+            extended.push(object);
+            add_changes(task, part, &extended, found)?;
+            extended.pop();
+        }
+    }
+    Ok(())
+}
+
+/// Adds the changes of the literals, each under the condition.
+fn add_changes_under<'t>(
+    task: &Task,
+    condition: &'t Formula,
+    literals: &[EffectLiteral],
+    binding: &Binding,
+    found: &mut Vec<Change<'t>>,
+) -> Result<(), NoMemory>
+    requires { FitsLiterals (task_of task.now) (map effect_literal_of literals.now) (map object_of binding.now.items) }
+    ensures { OnOk result (map change_of found.new.items ≡ map change_of found.old.items ++ map (λ l. change_under (formula_of condition.now) (map object_of binding.now.items) (effect_literal_of l)) literals.now) }
+{
+    for literal in literals {
+        add_change(task, Some(condition), literal, binding, found)?;
+    }
+    Ok(())
+}
+
+/// Adds the change of the literal, under the condition, if there is one.
+fn add_change<'t>(
+    task: &Task,
+    condition: Option<&'t Formula>,
+    literal: &EffectLiteral,
+    binding: &Binding,
+    found: &mut Vec<Change<'t>>,
+) -> Result<(), NoMemory>
+    requires { FitsLiteral (task_of task.now) (effect_literal_of literal.now) (map object_of binding.now.items) }
+    ensures { OnOk result (map change_of found.new.items ≡ map change_of found.old.items ++ change_under (condition_of condition.entry) (map object_of binding.now.items) (effect_literal_of literal.now) ∷ []) }
+{
+    let literal = grounded(task, literal, binding);
+    found.push(Change {
+        condition,
+        binding: copied(binding),
+        literal,
+    })?;
+    Ok(())
+}
+
+/// What the literal says, where the variables have these objects.
+fn grounded(_task: &Task, literal: &EffectLiteral, binding: &Binding) -> GroundLiteral
+    requires { FitsLiteral (task_of _task.now) (effect_literal_of literal.now) (map object_of binding.now.items) }
+    ensures { ground_literal_of result ≡ ground_literal (map object_of binding.now.items) (effect_literal_of literal.now) }
+{
+    match literal {
+        EffectLiteral::Add(atom) => GroundLiteral::Adds(ground_atom(atom, binding)),
+        EffectLiteral::Delete(atom) => GroundLiteral::Deletes(ground_atom(atom, binding)),
+    }
+}

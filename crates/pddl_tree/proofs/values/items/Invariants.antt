@@ -1,0 +1,13 @@
+use Rattle.std.proofs.Common.{◌-◌, ◌≤◌, length, map}
+use Rattle.pddl_tree.specs.Tree.{effect_of, increase_of}
+use Rattle.pddl_tree.proofs.EffectValues.{AreItemsOn}
+use Rattle.pddl_tree.proofs.values.items.Given as goal
+
+abbrev pub invariant-items : goal.invariant-items
+invariant-items l = record {
+  moved : l.at ≤ l.next;
+  read : AreItemsOn l.words l.at (map effect_of l.entries.changes.items) (map increase_of l.entries.increases.items) l.next;
+}
+
+abbrev pub decreases-items : goal.decreases-items
+decreases-items l = length l.words - l.next

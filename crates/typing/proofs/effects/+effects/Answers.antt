@@ -1,0 +1,15 @@
+use Rattle.typing.specs.Task.{file_of}
+use Rattle.typing.specs.Scope.{known_over}
+use Rattle.typing.specs.Walk.{least_of}
+use Rattle.typing.proofs.EffectTrees.{both_by_parts, both_faults_by_parts}
+use Rattle.typing.proofs.effects.+effects.Goals as goal
+
+pub effect-returns-in_ok-parts-in-And-clause-value : goal.effect-returns-in_ok-parts-in-And-clause-value
+effect-returns-in_ok-parts-in-And-clause-value t c =
+    both_by_parts (file_of c.args.globals.now.file) (known_over c.args.globals.now c.args.variables.now.entries) c.args.given.now c.in-And.parts c.deref.result.now c.deref.ensures.value
+    c.in-And.is c.in_ok-parts-in-And.parts c.in_ok-parts-in-And.ensures.value
+
+pub effect-returns-in_ok-parts-in-And-clause-finds : goal.effect-returns-in_ok-parts-in-And-clause-finds
+effect-returns-in_ok-parts-in-And-clause-finds t c =
+    both_faults_by_parts (file_of c.args.globals.now.file) (known_over c.args.globals.now c.args.variables.now.entries) c.args.given.now c.in-And.parts c.deref.result.now c.deref.ensures.value
+    c.in-And.is (least_of c.several.new.walk) (least_of c.args.walk.now) c.in_ok-parts-in-And.ensures.finds

@@ -1,0 +1,27 @@
+use Rattle.std.proofs.Common.{◌∙◌, ◌+◌, ap, sym, map, drop}
+use Rattle.std.proofs.lemmas.List.{drop_more, drop_all}
+use Rattle.typing.specs.Task.{file_of}
+use Rattle.typing.specs.Walk.{found, least_of}
+use Rattle.pddl_tree.specs.declared.tree.TaskFile.{TaskFile}
+use Rattle.pddl_tree.specs.declared.tree.Increase.{Increase}
+use Rattle.pddl_tree.specs.Tree as read
+use Rattle.model.specs.Typing as typing
+use Rattle.typing.proofs.functions.refuse_increases.Goals as goal
+
+word : TaskFile → Increase → typing.Placed
+word file i = typing.placed (file_of file) (read.name_of i.word)
+
+pub loop-increase-preserved : goal.loop-increase-preserved
+unfolding word
+loop-increase-preserved c =
+    let xs = c.args.increases.now in let i = c.loop-increase.increase-index in
+    ap (λ o. found o (typing.refused 23 (map (word c.args.file) (drop (i + 1) xs)))) c.refuse.ensures
+    ∙ ap (λ ys. found (least_of c.loop-increase.walk) (typing.refused 23 (map (word c.args.file) ys))) (sym (drop_more xs i _ c.loop-increase-test.true))
+    ∙ c.loop-increase.invariant
+
+pub returns : goal.returns
+unfolding word
+returns c =
+    let xs = c.args.increases.now in
+    sym (ap (λ ys. found (least_of c.loop-increase.walk) (typing.refused 23 (map (word c.args.file) ys))) (drop_all c.loop-increase.increase-index xs c.loop-increase-test.false))
+    ∙ c.loop-increase.invariant
