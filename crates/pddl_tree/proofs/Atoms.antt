@@ -10,7 +10,7 @@ use Rattle.pddl_tree.specs.declared.refusal.Literals.{Literals}
 use Rattle.pddl_tree.specs.declared.refusal.Literals.TheVariants as literals
 use Rattle.pddl_tree.specs.Literals.{the_atom, the_last_atom}
 use Rattle.pddl_tree.specs.Place.{wanted, place_of}
-use Rattle.pddl_tree.specs.Reading.{the, IsRead, IsTold, Opens, IsNotOpen, Heads, IsNoPredicate, number_seen, free_first}
+use Rattle.pddl_tree.specs.Reading.{the, IsRead, IsTold, Opens, IsNotOpen, Heads, IsNoPredicate, number_seen}
 use Rattle.pddl_words.specs.Token.{from, first}
 use Rattle.pddl_words.specs.Refusal.{told}
 use Rattle.model.specs.Trees.{Name, Term, Atom}

@@ -1,5 +1,5 @@
 -- The value of an `:effect`, and what stands under a `when`: one thing, or an `and` of several.
-use Rattle.std.proofs.Common.{◌≡◌, ℕ, ◌+◌, false, true, List, [], ◌∷◌, ◌++◌, map, Option, Some, None, refl, sym, ◌∙◌, ap}
+use Rattle.std.proofs.Common.{◌≡◌, ℕ, ◌+◌, false, true, List, [], ◌∷◌, ◌++◌, Option, Some, None, refl, sym, ◌∙◌, ap}
 use Rattle.std.specs.Option.{option_map, option_and_then}
 use Rattle.std.proofs.lemmas.List.{append_assoc, append-nil}
 use Rattle.tokens.specs.declared.word.Word.{Word}
@@ -15,7 +15,7 @@ use Rattle.model.specs.Trees.{Name, Effect, EffectLiteral, Increase, effects}
 use Rattle.model.specs.Trees as tree
 use Rattle.model.specs.GrammarWords.{Token, closes, reserved}
 use Rattle.model.specs.GrammarWords as words
-use Rattle.model.specs.Grammar.{Tree, Phrase, gives, ◌>>=◌, and_then, conditional, conditional_literal, literal_after, effect_value, EffectValue, item, Item, change, increase, value_of, item_after, effect_list, effect_after, listed, many, changes_in, increases_in, value_of_all}
+use Rattle.model.specs.Grammar.{Tree, Phrase, gives, ◌>>=◌, and_then, conditional, conditional_literal, literal_after, effect_value, EffectValue, item, Item, change, increase, value_of, item_after, effect_list, effect_after, listed, changes_in, increases_in, value_of_all}
 use Rattle.model.specs.GrammarMachine.{run, go_on, stopped}
 use Rattle.model.specs.Refusals.{by_word, by_word_under_when}
 

@@ -1,5 +1,5 @@
 -- The words of action costs.
-use Rattle.std.proofs.Common.{◌≡◌, ℕ, ◌+◌, true, false, List, [], ◌∷◌, ◌++◌, Option, Some, None, refl, sym, ◌∙◌, ap, subst}
+use Rattle.std.proofs.Common.{◌≡◌, ℕ, ◌+◌, true, false, List, [], ◌∷◌, ◌++◌, Option, Some, None, refl, ◌∙◌, subst}
 use Rattle.tokens.specs.declared.word.Word.{Word}
 use Rattle.faults.specs.declared.refused.Refused.TheVariants.{At}
 use Rattle.pddl_words.specs.declared.refusal.WordRefusal.{WordRefusal}
@@ -14,7 +14,7 @@ use Rattle.pddl_tree.proofs.Items as of_items
 use Rattle.pddl_tree.proofs.ReadOn.{given, then_read, first_told, then_told, by_word, by_word_told, refused_as, IsRefusedAs, taken, told_later}
 use Rattle.model.specs.Trees.{Name, Increase, InitialCost}
 use Rattle.model.specs.GrammarWords.{Token, opens, closes, dash}
-use Rattle.model.specs.Grammar.{Tree, Phrase, ◌>>=◌, ◌>>◌, total_cost, function_list, function_type, number_type, close}
+use Rattle.model.specs.Grammar.{Tree, Phrase, ◌>>=◌, total_cost, function_list, function_type, number_type, close}
 use Rattle.model.specs.GrammarMachine.{run}
 
 -- `total-cost` and its `)`

@@ -16,5 +16,5 @@ returns-in_err-inside-clause-told c = told_at _ c.from_residual.ensures.1 (funct
 pub returns-in_err-function-clause-told : goal.returns-in_err-function-clause-told
 returns-in_err-function-clause-told c = told_at _ c.from_residual-in_err-function.ensures.1 (function_not_named c.in_ok-inside.ensures.word c.in_err-function.ensures.told)
 
-pub returns-in_err-end-then-is_dash-clause-told : goal.returns-in_err-end-then-is_dash-clause-told
-returns-in_err-end-then-is_dash-clause-told c = told_at _ c.from_residual-in_err-end.ensures.1 (function_mistyped c.in_ok-inside.ensures.word c.in_ok-function.ensures.read (sym c.is_dash.ensures.first ∙ c.if-is_dash.true) c.in_err-end.ensures.told)
+pub returns-in_err-end-clause-told : goal.returns-in_err-end-clause-told
+returns-in_err-end-clause-told c = told_at _ c.from_residual-in_err-end.ensures.1 (function_mistyped c.in_ok-inside.ensures.word c.in_ok-function.ensures.read (sym c.is_dash.ensures.first ∙ c.if-is_dash.true) c.in_err-end.ensures.told)

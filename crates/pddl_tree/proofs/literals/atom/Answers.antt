@@ -1,5 +1,4 @@
-use Rattle.model.specs.Grammar.{many, term, atom, conditional_atom}
-use Rattle.pddl_tree.proofs.ReadOn.{given, then_read, first_told, told_by}
+use Rattle.pddl_tree.proofs.ReadOn.{told_by}
 use Rattle.pddl_tree.proofs.Atoms.{atom_headed, atom_headed_told, atom_not_headed}
 use Rattle.pddl_tree.proofs.literals.atom.Goals as goal
 

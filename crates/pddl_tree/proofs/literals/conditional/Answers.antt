@@ -1,4 +1,4 @@
-use Rattle.std.proofs.Common.{◌∷◌, map, refl, sym, ◌∙◌, ap}
+use Rattle.std.proofs.Common.{map, refl, sym, ◌∙◌, ap}
 use Rattle.model.specs.Grammar.{many, listed, conditional, conditional_literal}
 use Rattle.faults.proofs.Results.{if_ok, if_err}
 use Rattle.pddl_words.specs.Token.{from, first}
