@@ -2,7 +2,6 @@ pub mod Seen
 pub mod ReadOn
 pub mod Items
 pub mod Groups
-pub mod Rows
 pub mod Parts
 pub mod Files
 pub mod Told

@@ -1,4 +1,3 @@
-pub mod Tree
 pub mod Reading
 pub mod Place
 pub mod Sections

@@ -2,7 +2,7 @@
 use Rattle.std.specs.Prelude.{[], map}
 use Rattle.pddl_tree.specs.declared.refusal.Place.{Place}
 use Rattle.pddl_tree.specs.declared.refusal.Place.TheVariants as place
-use Rattle.pddl_tree.specs.Tree.{file_of}
+use Rattle.syntax_tree.specs.Tree.{file_of}
 use Rattle.pddl_tree.specs.declared.refusal.Listed.{Listed}
 use Rattle.pddl_tree.specs.declared.refusal.Listed.TheVariants as listed
 use Rattle.pddl_tree.specs.declared.refusal.Literals.{Literals}

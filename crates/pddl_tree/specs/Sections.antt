@@ -4,7 +4,7 @@ use Rattle.std.specs.Prelude.{map, fold, [], ◌≡◌, ℕ, List, true, Some}
 use Rattle.pddl_tree.specs.declared.action.Part.{Part}
 use Rattle.pddl_tree.specs.declared.action.Part.TheVariants as part
 use Rattle.pddl_words.specs.Name.{name_of}
-use Rattle.pddl_tree.specs.Tree.{formula_of, groups_of, predicate_of, action_of, fact_of}
+use Rattle.syntax_tree.specs.Tree.{formula_of, groups_of, predicate_of, action_of, fact_of}
 use Rattle.pddl_tree.specs.Values.{value_tree}
 use Rattle.pddl_tree.specs.declared.sections.Section.{Section}
 use Rattle.pddl_tree.specs.declared.sections.Section.TheVariants as section

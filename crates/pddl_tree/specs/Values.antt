@@ -3,7 +3,7 @@ use Rattle.std.specs.Prelude.{map, List, [], ◌∷◌, ◌++◌}
 use Rattle.pddl_tree.specs.declared.values.EffectValue.{EffectValue}
 use Rattle.pddl_tree.specs.declared.values.Entry.{Entry}
 use Rattle.pddl_tree.specs.declared.values.Entry.TheVariants as entry
-use Rattle.pddl_tree.specs.Tree.{effect_of, increase_of}
+use Rattle.syntax_tree.specs.Tree.{effect_of, increase_of}
 use Rattle.model.specs.Trees.{Effect, Increase}
 use Rattle.model.specs.Grammar.{Phrase, gives, ◌>>=◌, many, listed, value_of_all}
 use Rattle.model.specs.Grammar as grammar

@@ -6,13 +6,13 @@ ghost use Rattle.model.specs.Grammar as grammar;
 ghost use Rattle.pddl_words.specs.Token.{from, first, part_view};
 ghost use Rattle.pddl_tree.specs.Reading.{the, IsAfter, IsRead, IsTold, closes_first};
 ghost use Rattle.pddl_words.specs.Name.{name_of};
-ghost use Rattle.pddl_tree.specs.Tree.{action_of, formula_of};
+ghost use Rattle.syntax_tree.specs.Tree.{action_of, formula_of};
 ghost use Rattle.pddl_tree.specs.Sections.{part_tree, the_action, parts_on};
 
 use crate::formulas::formula;
 use crate::look::{action_name, is_close, open};
 use crate::refusal::{Listed, Place, has_part, refusal};
-use crate::tree::{Action, Effect, Formula, Group};
+use syntax_tree::{Action, Effect, Formula, Group};
 use crate::typed::typed;
 use crate::values::{EffectValue, effect_value};
 use faults::Refused;
@@ -28,31 +28,29 @@ enum Part<'a> {
     Effect(EffectValue<'a>),
 }
 
-impl<'a> Action<'a> {
-    /// An action of which no part was read: what may be left out is `(and)`.
-    fn bare(alloc: Global, name: Name<'a>) -> Action<'a>
-        ensures { action_of result ≡ grammar.bare_action (name_of name.entry) }
-    {
-        Action {
-            name,
-            parameters: Vec::new(alloc),
-            precondition: Formula::And(Vec::new(alloc)),
-            effect: Effect::And(Vec::new(alloc)),
-            increases: Vec::new(alloc),
-        }
+/// An action of which no part was read: what may be left out is `(and)`.
+fn bare(alloc: Global, name: Name<'_>) -> Action<'_>
+    ensures { action_of result ≡ grammar.bare_action (name_of name.entry) }
+{
+    Action {
+        name,
+        parameters: Vec::new(alloc),
+        precondition: Formula::And(Vec::new(alloc)),
+        effect: Effect::And(Vec::new(alloc)),
+        increases: Vec::new(alloc),
     }
+}
 
-    /// Takes in one part more.
-    fn add(&mut self, part: Part<'a>)
-        ensures { action_of self.new ≡ grammar.with_part (action_of self.old) (part_tree part.entry) }
-    {
-        match part {
-            Part::Parameters(parameters) => self.parameters = parameters,
-            Part::Precondition(precondition) => self.precondition = precondition,
-            Part::Effect(value) => {
-                self.effect = value.effect;
-                self.increases = value.increases;
-            }
+/// Takes one part more into the action.
+fn add<'a>(action: &mut Action<'a>, part: Part<'a>)
+    ensures { action_of action.new ≡ grammar.with_part (action_of action.old) (part_tree part.entry) }
+{
+    match part {
+        Part::Parameters(parameters) => action.parameters = parameters,
+        Part::Precondition(precondition) => action.precondition = precondition,
+        Part::Effect(value) => {
+            action.effect = value.effect;
+            action.increases = value.increases;
         }
     }
 }
@@ -68,7 +66,7 @@ pub(crate) fn action<'a>(
     ensures told { IfErr result (λ refusal. IsTold the_action words.now at refusal) }
 {
     let (name, next) = action_name(words, at)?;
-    parts(alloc, words, next, Action::bare(alloc, name))
+    parts(alloc, words, next, bare(alloc, name))
 }
 
 /// Parts of an action, each at most once, and `)`: the action with them, and the index after the parenthesis.
@@ -88,7 +86,7 @@ fn parts<'a>(
         let keyword = part_keyword(words, next, &seen)?;
         seen.push(keyword)?;
         let (part, after) = value(alloc, words, next + 1, keyword, &seen)?;
-        action.add(part);
+        add(&mut action, part);
         next = after;
     }
     if has_part(&seen, PartKeyword::Parameters) {

@@ -6,12 +6,12 @@ ghost use Rattle.pddl_words.specs.Name.{name_of};
 ghost use Rattle.pddl_words.specs.Token.{from, first};
 ghost use Rattle.pddl_tree.specs.Costs.{functions_and, the_metric, the_cost, the_increase, the_initial_cost, cost_of};
 ghost use Rattle.pddl_tree.specs.Reading.{the, IsAfter, IsRead, IsTold, closes_first};
-ghost use Rattle.pddl_tree.specs.Tree.{increase_of, initial_cost_of};
+ghost use Rattle.syntax_tree.specs.Tree.{increase_of, initial_cost_of};
 ghost use Rattle.pddl_tree.specs.Typed.{IsOne};
 
 use crate::look::{amount, close, is_close, is_dash, minimize, number_word, open, total_cost_word};
 use crate::refusal::Place;
-use crate::tree::{Increase, InitialCost};
+use syntax_tree::{Increase, InitialCost};
 use pddl_words::{Name, WordFault, WordRefusal};
 use std::alloc::Global;
 use tokens::Word;

@@ -2,13 +2,13 @@
 ghost use Rattle.std.specs.Prelude.{IfOk, IfErr, map};
 ghost use Rattle.model.specs.Grammar.{many, listed, declaration as wants_declaration, fact as wants_fact, ground_atom as wants_ground_atom};
 ghost use Rattle.pddl_tree.specs.Reading.{the, IsAfter, IsRead, IsTold};
-ghost use Rattle.pddl_tree.specs.Tree.{predicate_of, fact_of, ground_atom_of};
+ghost use Rattle.syntax_tree.specs.Tree.{predicate_of, fact_of, ground_atom_of};
 
 use crate::costs::initial_cost;
 use crate::lists::names;
 use crate::look::{close, is_close, open, predicate};
 use crate::refusal::{Listed, Place, refusal};
-use crate::tree::{Fact, GroundAtom, Predicate};
+use syntax_tree::{Fact, GroundAtom, Predicate};
 use crate::typed::typed;
 use faults::Refused;
 use pddl_words::{ReservedName, Token, WordFault, token_at};

@@ -4,14 +4,14 @@ ghost use Rattle.model.specs.Grammar.{many, listed, effect_list};
 ghost use Rattle.pddl_tree.specs.Effect.{the_last_effect, the_each, the_when};
 ghost use Rattle.pddl_tree.specs.Formula.{IsReserved};
 ghost use Rattle.pddl_tree.specs.Reading.{the, IsAfter, IsRead, IsTold};
-ghost use Rattle.pddl_tree.specs.Tree.{effect_of, groups_of};
+ghost use Rattle.syntax_tree.specs.Tree.{effect_of, groups_of};
 
 use crate::formulas::formula;
 use crate::lists::terms;
 use crate::literals::{conditional, last_atom};
 use crate::look::{close, is_close, open};
 use crate::refusal::{Listed, Literals, Place, refusal};
-use crate::tree::{Atom, Effect, EffectLiteral};
+use syntax_tree::{Atom, Effect, EffectLiteral};
 use crate::typed::typed;
 use faults::Refused;
 use pddl_words::{ReservedName, Token, WordFault, token_at};

@@ -4,12 +4,12 @@ ghost use Rattle.faults.specs.declared.refused.Refused.TheVariants.{At};
 ghost use Rattle.model.specs.Grammar.{many, listed, formula as wants_formula};
 ghost use Rattle.pddl_tree.specs.Formula.{IsReserved, the_equality, the_last, the_implication, the_quantified};
 ghost use Rattle.pddl_tree.specs.Reading.{the, IsAfter, IsRead, IsTold};
-ghost use Rattle.pddl_tree.specs.Tree.{formula_of, groups_of};
+ghost use Rattle.syntax_tree.specs.Tree.{formula_of, groups_of};
 
 use crate::lists::terms;
 use crate::look::{close, is_close, open, term};
 use crate::refusal::{Listed, Place, refusal};
-use crate::tree::{Atom, Formula, Group};
+use syntax_tree::{Atom, Formula, Group};
 use crate::typed::typed;
 use faults::Refused;
 use pddl_words::{ReservedName, Token, WordFault, WordRefusal, token_at};

@@ -12,13 +12,12 @@ mod look;
 mod reader;
 mod refusal;
 mod sections;
-mod tree;
 mod typed;
 mod values;
 
 pub use pddl_words::{Name, Term};
 pub use reader::{domain, examples_are_as_told, one_fault, one_reading, problem};
-pub use tree::{
+pub use syntax_tree::{
     Action, Atom, Domain, Effect, EffectLiteral, Fact, Formula, GroundAtom, Group, Increase,
     InitialCost, Predicate, Problem, TaskFile,
 };

@@ -3,12 +3,12 @@ ghost use Rattle.std.specs.Prelude.{IfOk, IfErr, map};
 ghost use Rattle.model.specs.Grammar.{many, listed, conditional as wants_conditional, conditional_literal};
 ghost use Rattle.pddl_tree.specs.Literals.{the_atom, the_last_atom};
 ghost use Rattle.pddl_tree.specs.Reading.{the, IsAfter, IsRead, IsTold};
-ghost use Rattle.pddl_tree.specs.Tree.{atom_of, effect_literal_of};
+ghost use Rattle.syntax_tree.specs.Tree.{atom_of, effect_literal_of};
 
 use crate::lists::terms;
 use crate::look::{close, is_and, is_close, open, predicate};
 use crate::refusal::{Literals, Place, refusal};
-use crate::tree::{Atom, EffectLiteral};
+use syntax_tree::{Atom, EffectLiteral};
 use faults::Refused;
 use pddl_words::{ReservedName, Token, WordFault, token_at};
 use std::alloc::Global;

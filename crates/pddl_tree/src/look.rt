@@ -5,14 +5,14 @@ ghost use Rattle.faults.specs.declared.refused.Refused.TheVariants.{At};
 ghost use Rattle.model.specs.Grammar.{a_name, action_name as wants_action_name, term as wants_term, close as wants_close, key as wants_key, either_word as wants_either, define_word, kind_word, total_cost, amount as wants_amount, number_type, minimize_word};
 ghost use Rattle.pddl_words.specs.Name.{name_of, term_of};
 ghost use Rattle.pddl_words.specs.Token.{from, first};
-ghost use Rattle.pddl_tree.specs.Tree.{file_of};
+ghost use Rattle.syntax_tree.specs.Tree.{file_of};
 ghost use Rattle.pddl_tree.specs.Place.{listed_view};
 ghost use Rattle.pddl_tree.specs.Reading.{the, IsAfter, IsWord, IsTold, Opens, IsNotOpen, Heads, IsNoPredicate, closes_first, and_first};
 ghost use Rattle.pddl_tree.specs.Costs.{IsTotalCost, dash_first, increase_in};
 ghost use Rattle.pddl_tree.specs.Typed.{IsListed, IsNotListed, ends_group_first};
 
 use crate::refusal::{Listed, Place, refusal};
-use crate::tree::TaskFile;
+use syntax_tree::TaskFile;
 use pddl_words::{FreeName, Keyword, Name, ReservedName, Term, Token, WordRefusal, token_at};
 use tokens::Word;
 

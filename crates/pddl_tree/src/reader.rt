@@ -25,12 +25,12 @@ ghost use Rattle.pddl_words.specs.Refusal.{told, fault_of};
 ghost use Rattle.pddl_tree.specs.Reading.{the, IsTold, StopsAs};
 ghost use Rattle.pddl_tree.specs.Sections.{contents_of};
 ghost use Rattle.pddl_tree.specs.Head.{HasHead, HasNoHead, after_head};
-ghost use Rattle.pddl_tree.specs.Tree.{file_of, domain_of, problem_of};
+ghost use Rattle.syntax_tree.specs.Tree.{file_of, domain_of, problem_of};
 
 use crate::look::{close, define, kind, name, open};
 use crate::refusal::{Place, refusal};
 use crate::sections::{Contents, sections};
-use crate::tree::{Domain, Problem, TaskFile};
+use syntax_tree::{Domain, Problem, TaskFile};
 use faults::{Fault, Refusal, Refused, Span};
 use pddl_words::{Name, WordFault, WordRefusal};
 use std::alloc::Global;

@@ -9,53 +9,51 @@ ghost use Rattle.model.specs.Grammar as grammar;
 ghost use Rattle.model.specs.GrammarWords as model_words;
 ghost use Rattle.model.specs.Refusals.{number_at, number_of_keyword, number_in_file, number_in_action, number_at_value};
 ghost use Rattle.pddl_tree.specs.Reading.{number_seen};
-ghost use Rattle.pddl_tree.specs.Tree.{file_of};
+ghost use Rattle.syntax_tree.specs.Tree.{file_of};
 ghost use Rattle.pddl_tree.specs.Place.{wanted, place_of};
 
-use crate::tree::TaskFile;
+use syntax_tree::TaskFile;
 use faults::Code;
 use pddl_words::{
     FreeName, Keyword, PartKeyword, ReservedName, SectionKeyword, Token, WordRefusal, token_at,
 };
 use tokens::Word;
 
-impl TaskFile {
-    /// The sections that may stand in it.
-    pub(crate) fn sections(self) -> &'static [SectionKeyword]
-        ensures { map section_view result.now ≡ grammar.sections_of (file_of self) }
-    {
-        match self {
-            TaskFile::Domain => &[
-                SectionKeyword::Requirements,
-                SectionKeyword::Types,
-                SectionKeyword::Constants,
-                SectionKeyword::Predicates,
-                SectionKeyword::Functions,
-                SectionKeyword::Action,
-            ],
-            TaskFile::Problem => &[
-                SectionKeyword::Domain,
-                SectionKeyword::Requirements,
-                SectionKeyword::Objects,
-                SectionKeyword::Init,
-                SectionKeyword::Goal,
-                SectionKeyword::Metric,
-            ],
-        }
+/// The sections that may stand in a file.
+pub(crate) fn allowed(file: TaskFile) -> &'static [SectionKeyword]
+    ensures { map section_view result.now ≡ grammar.sections_of (file_of file) }
+{
+    match file {
+        TaskFile::Domain => &[
+            SectionKeyword::Requirements,
+            SectionKeyword::Types,
+            SectionKeyword::Constants,
+            SectionKeyword::Predicates,
+            SectionKeyword::Functions,
+            SectionKeyword::Action,
+        ],
+        TaskFile::Problem => &[
+            SectionKeyword::Domain,
+            SectionKeyword::Requirements,
+            SectionKeyword::Objects,
+            SectionKeyword::Init,
+            SectionKeyword::Goal,
+            SectionKeyword::Metric,
+        ],
     }
+}
 
-    /// The sections that have to.
-    pub(crate) fn required(self) -> &'static [SectionKeyword]
-        ensures { map section_view result.now ≡ grammar.required_of (file_of self) }
-    {
-        match self {
-            TaskFile::Domain => &[SectionKeyword::Predicates],
-            TaskFile::Problem => &[
-                SectionKeyword::Domain,
-                SectionKeyword::Init,
-                SectionKeyword::Goal,
-            ],
-        }
+/// The sections that a file has to have.
+pub(crate) fn required(file: TaskFile) -> &'static [SectionKeyword]
+    ensures { map section_view result.now ≡ grammar.required_of (file_of file) }
+{
+    match file {
+        TaskFile::Domain => &[SectionKeyword::Predicates],
+        TaskFile::Problem => &[
+            SectionKeyword::Domain,
+            SectionKeyword::Init,
+            SectionKeyword::Goal,
+        ],
     }
 }
 
@@ -242,7 +240,7 @@ fn code_in_file(keyword: Keyword, file: TaskFile) -> Code
 {
     match keyword {
         Keyword::Section(section) => {
-            if has_section(file.sections(), section) {
+            if has_section(allowed(file), section) {
                 Code::RepeatedSection
             } else {
                 Code::UnknownSection

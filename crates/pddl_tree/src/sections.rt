@@ -7,7 +7,7 @@ ghost use Rattle.model.specs.Grammar as grammar;
 ghost use Rattle.pddl_words.specs.Name.{name_of};
 ghost use Rattle.pddl_words.specs.Token.{from, first, section_view};
 ghost use Rattle.pddl_tree.specs.Reading.{the, IsAfter, IsRead, IsTold, Opens, closes_first};
-ghost use Rattle.pddl_tree.specs.Tree.{file_of, formula_of};
+ghost use Rattle.syntax_tree.specs.Tree.{file_of, formula_of};
 ghost use Rattle.pddl_tree.specs.Sections.{section_tree, contents_of, the_domain, the_goal, the_sections, IsNotNew};
 
 use crate::action::action;
@@ -16,8 +16,8 @@ use crate::declared::{declarations, facts};
 use crate::formulas::formula;
 use crate::lists::keys;
 use crate::look::{close, is_close, name, open};
-use crate::refusal::{Listed, Place, has_section, refusal};
-use crate::tree::{Action, Fact, Formula, Group, Predicate, TaskFile};
+use crate::refusal::{Listed, Place, allowed, has_section, refusal, required};
+use syntax_tree::{Action, Fact, Formula, Group, Predicate, TaskFile};
 use crate::typed::typed;
 use faults::{NoMemory, Refused, Span};
 use pddl_words::{Keyword, Name, SectionKeyword, Token, WordFault, WordRefusal, token_at};
@@ -120,7 +120,7 @@ pub(crate) fn sections<'a>(
         see(&mut seen, keyword)?;
         next = after;
     }
-    if has_all(&seen, file.required()) {
+    if has_all(&seen, required(file)) {
         Ok((contents, next + 1))
     } else {
         Err(Refused::At(refusal(words, next, Place::Incomplete)))
@@ -156,7 +156,7 @@ fn section_head(
     ensures new { IfOk result (λ section. (grammar.has_section (grammar.sections_of (file_of file)) (section_view section) ≡ true) × (grammar.has_section (map section_view seen.now) (section_view section) ≡ false)) }
     ensures told { IfErr result (λ refusal. closes_first (first (from words.now at)) ≡ false → IsTold (the (grammar.sections (file_of file) (map section_view seen.now))) words.now at (At refusal)) }
 {
-    if has_all(seen, file.sections()) {
+    if has_all(seen, allowed(file)) {
         return Err(refusal(words, at, Place::Incomplete));
     }
     let inside = open(words, at, Place::Incomplete)?;
@@ -176,7 +176,7 @@ fn section_keyword(
 {
     match token_at(words, at) {
         Token::Keyword(Keyword::Section(section)) => {
-            if has_section(file.sections(), section) && !has_section(seen, section) {
+            if has_section(allowed(file), section) && !has_section(seen, section) {
                 Ok(section)
             } else {
                 Err(refusal(words, at, Place::Section(file)))

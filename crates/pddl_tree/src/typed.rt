@@ -5,13 +5,13 @@ ghost use Rattle.pddl_words.specs.Name.{name_of};
 ghost use Rattle.pddl_words.specs.Token.{from, first};
 ghost use Rattle.pddl_tree.specs.Place.{listed_view};
 ghost use Rattle.pddl_tree.specs.Reading.{the, IsAfter, IsRead, IsTold, closes_first};
-ghost use Rattle.pddl_tree.specs.Tree.{group_of, groups_of};
+ghost use Rattle.syntax_tree.specs.Tree.{group_of, groups_of};
 ghost use Rattle.pddl_tree.specs.Typed.{IsOne, groups as groups_and, the_either};
 
 use crate::lists::names;
 use crate::look::{either_word, ends_group, is_close, listed_name, name};
 use crate::refusal::{Listed, Place, refusal};
-use crate::tree::Group;
+use syntax_tree::Group;
 use faults::Refused;
 use pddl_words::{Name, Token, WordFault, token_at};
 use std::alloc::Global;

@@ -3,13 +3,13 @@ ghost use Rattle.std.specs.Prelude.{◌≡◌, IfOk, IfErr, map};
 ghost use Rattle.model.specs.Grammar.{listed, effect_value as wants_effect_value, item as wants_item, value_of};
 ghost use Rattle.pddl_tree.specs.Reading.{the, IsAfter, IsRead, IsTold};
 ghost use Rattle.pddl_tree.specs.Values.{item_tree, value_tree, the_items, changes_with, increases_with};
-ghost use Rattle.pddl_tree.specs.Tree.{effect_of, increase_of};
+ghost use Rattle.syntax_tree.specs.Tree.{effect_of, increase_of};
 
 use crate::costs::increase;
 use crate::effects::effect;
 use crate::look::{increase_word, is_and, is_close, open};
 use crate::refusal::Place;
-use crate::tree::{Effect, Increase};
+use syntax_tree::{Effect, Increase};
 use faults::NoMemory;
 use pddl_words::WordFault;
 use std::alloc::Global;

@@ -1,7 +1,7 @@
 //! From the bytes of a domain file and a problem file to their task, and the faults of files.
 ghost use Rattle.std.specs.Prelude.{◌≡◌, ℕ, List, IfOk, IfErr, IfSome};
 ghost use Rattle.faults.specs.Fault.{told_by};
-ghost use Rattle.pddl_tree.specs.Tree.{domain_of, problem_of};
+ghost use Rattle.syntax_tree.specs.Tree.{domain_of, problem_of};
 ghost use Rattle.typing.specs.Task.{task_of};
 ghost use Rattle.planner_main.specs.Files.{told_in};
 ghost use Rattle.model.specs.Task as model;

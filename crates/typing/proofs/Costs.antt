@@ -3,7 +3,7 @@ use Rattle.std.proofs.Common.{◌≡◌, ◌∙◌, Bool, true, false, not, ◌=
 use Rattle.std.specs.Option.{option_map, option_map_or, option_copied}
 use Rattle.std.proofs.lemmas.Bool.{eqb-true}
 use Rattle.pddl_words.specs.declared.name.Name.{Name}
-use Rattle.pddl_tree.specs.Tree.{name_of}
+use Rattle.syntax_tree.specs.Tree.{name_of}
 use Rattle.model.specs.Trees.{File, problem_file}
 use Rattle.model.specs.Trees as tree
 use Rattle.model.specs.Typing.{Placed, TypingFault, placed, refused, refused_word}

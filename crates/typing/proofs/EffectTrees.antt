@@ -5,9 +5,9 @@ use Rattle.std.specs.List.{flat_map}
 use mathlib.Core.Former.{Count}
 use Rattle.typing.specs.declared.schemas.Effect.{Effect, Row_of-Effect, end_of-Effect, more_of-Effect, items-the_row-Effect, items_hidden-the_row-Effect-0}
 use Rattle.typing.specs.declared.schemas.Effect as effect
-use Rattle.pddl_tree.specs.declared.tree.Effect as read_effect
-use Rattle.pddl_tree.specs.Tree as read
-use Rattle.pddl_tree.proofs.Rows as rows
+use Rattle.syntax_tree.specs.declared.tree.Effect as read_effect
+use Rattle.syntax_tree.specs.Tree as read
+use Rattle.syntax_tree.proofs.Rows as rows
 use Rattle.typing.specs.TaskParts.{effect_of, effects_of}
 use Rattle.model.specs.Task as task
 use Rattle.model.specs.Trees.{File, effects}

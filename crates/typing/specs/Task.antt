@@ -2,7 +2,7 @@
 use Rattle.std.specs.Prelude.{List}
 use Rattle.faults.specs.Fault.{number_of}
 use Rattle.typing.specs.declared.task.Task.{Task}
-pub use Rattle.pddl_tree.specs.Tree.{file_of}
+pub use Rattle.syntax_tree.specs.Tree.{file_of}
 use Rattle.typing.specs.declared.fault.TaskRefusal.{TaskRefusal}
 use Rattle.faults.specs.declared.refused.Refused.{Refused}
 use Rattle.faults.specs.declared.refused.Refused.TheVariants.{At, NoMemory}

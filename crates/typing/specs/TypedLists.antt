@@ -2,7 +2,7 @@
 use Rattle.std.specs.Prelude.{List, map}
 use Rattle.typing.specs.declared.typed_lists.Declared.{Declared}
 use Rattle.typing.specs.Task.{file_of}
-use Rattle.pddl_tree.specs.Tree.{name_of}
+use Rattle.syntax_tree.specs.Tree.{name_of}
 use Rattle.pddl_words.specs.declared.name.Name.{Name}
 use Rattle.model.specs.Trees.{File}
 use Rattle.model.specs.Trees as tree

@@ -5,7 +5,7 @@ ghost use Rattle.typing.specs.TypedLists.{declared_of};
 ghost use Rattle.typing.specs.Scope.{known_outside, known_over};
 ghost use Rattle.typing.specs.Task.{file_of, TellsLeastOf};
 ghost use Rattle.typing.specs.Walk.{Finds};
-ghost use Rattle.pddl_tree.specs.Tree as read;
+ghost use Rattle.syntax_tree.specs.Tree as read;
 ghost use Rattle.model.specs.Trees.{domain_file};
 ghost use Rattle.model.specs.Typing as typing;
 ghost use Rattle.std.specs.List.{flat_map};
@@ -21,7 +21,7 @@ use crate::walk::Walk;
 use crate::{Schema, TaskFault, TaskFile, TypeUnion};
 use faults::NoMemory;
 use indexmap::{IndexMap, IndexSet};
-use pddl_tree::{Action, Domain};
+use syntax_tree::{Action, Domain};
 use std::alloc::Global;
 
 /// What an action with these parameters declares, where these variables are in scope.

@@ -6,7 +6,7 @@ ghost use Rattle.typing.specs.Scope.{names_in};
 ghost use Rattle.typing.specs.Task.{TellsLeastOf};
 ghost use Rattle.typing.specs.Chains.{AreTypes, cycles, type_numbered};
 ghost use Rattle.typing.specs.Walk.{Finds};
-ghost use Rattle.pddl_tree.specs.Tree as read;
+ghost use Rattle.syntax_tree.specs.Tree as read;
 ghost use Rattle.model.specs.Typing as typing;
 
 use crate::type_names::TypeNames;

@@ -4,7 +4,7 @@ ghost use Rattle.typing.specs.TaskParts as parts;
 ghost use Rattle.typing.specs.Scope.{names_in};
 ghost use Rattle.typing.specs.Task.{TellsLeastOf};
 ghost use Rattle.typing.specs.Walk.{Finds};
-ghost use Rattle.pddl_tree.specs.Tree as read;
+ghost use Rattle.syntax_tree.specs.Tree as read;
 ghost use Rattle.model.specs.Trees.{domain_file};
 ghost use Rattle.model.specs.Typing as typing;
 ghost use Rattle.std.specs.List.{flat_map};
@@ -17,7 +17,7 @@ use crate::walk::Walk;
 use crate::{MAX_ARGUMENTS, Predicate, TaskFault, TaskFile, TypeUnion};
 use faults::NoMemory;
 use indexmap::IndexMap;
-use pddl_tree::{Domain, Predicate as Declaration};
+use syntax_tree::{Domain, Predicate as Declaration};
 use std::alloc::Global;
 
 /// What each argument of a declaration has to be.

@@ -4,7 +4,7 @@ ghost use Rattle.typing.specs.TypedLists.{declared_of};
 ghost use Rattle.typing.specs.Scope.{names_in};
 ghost use Rattle.typing.specs.Task.{file_of, TellsLeastOf};
 ghost use Rattle.typing.specs.Walk.{Finds};
-ghost use Rattle.pddl_tree.specs.Tree as read;
+ghost use Rattle.syntax_tree.specs.Tree as read;
 ghost use Rattle.model.specs.Trees.{problem_file};
 ghost use Rattle.model.specs.Typing as typing;
 
@@ -15,7 +15,7 @@ use crate::walk::Walk;
 use crate::{TaskFault, TaskFile};
 use faults::{Code, NoMemory};
 use indexmap::IndexSet;
-use pddl_tree::{Domain, Name, Problem};
+use syntax_tree::{Domain, Name, Problem};
 use std::alloc::Global;
 
 /// The most types that a domain may declare.

@@ -4,7 +4,7 @@ ghost use Rattle.typing.specs.Task.{refusal_of};
 ghost use Rattle.model.specs.Typing.{is_before};
 
 use faults::{Code, Refused, Span};
-use pddl_tree::TaskFile;
+use syntax_tree::TaskFile;
 
 /// A pair of a domain and a problem is not well-typed: this file is refused by this code, for what stands at this place
 /// of it.

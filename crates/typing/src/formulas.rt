@@ -5,7 +5,7 @@ ghost use Rattle.typing.specs.TaskParts as parts;
 ghost use Rattle.typing.specs.Scope.{known_over, BeginsWith};
 ghost use Rattle.typing.specs.Task.{file_of};
 ghost use Rattle.typing.specs.Walk.{Finds};
-ghost use Rattle.pddl_tree.specs.Tree as read;
+ghost use Rattle.syntax_tree.specs.Tree as read;
 ghost use Rattle.model.specs.Task as task;
 ghost use Rattle.model.specs.Typing as typing;
 
@@ -16,8 +16,8 @@ use crate::walk::Walk;
 use crate::{Formula, TypeUnion};
 use faults::NoMemory;
 use indexmap::IndexMap;
-use pddl_tree as tree;
-use pddl_tree::Group;
+use syntax_tree as tree;
+use syntax_tree::Group;
 use std::alloc::Global;
 
 /// An atom as a formula.

@@ -3,14 +3,14 @@ ghost use Rattle.std.specs.Prelude.{◌≡◌, [], drop, if◌then◌else◌, ma
 ghost use Rattle.std.specs.Option.{option_map, option_map_or};
 ghost use Rattle.typing.specs.Task.{file_of, TellsLeastOf};
 ghost use Rattle.typing.specs.Walk.{Finds};
-ghost use Rattle.pddl_tree.specs.Tree as read;
+ghost use Rattle.syntax_tree.specs.Tree as read;
 ghost use Rattle.model.specs.Trees.{domain_file, problem_file};
 ghost use Rattle.model.specs.Typing as typing;
 
 use crate::walk::Walk;
 use crate::{TaskFault, TaskFile};
 use faults::Code;
-use pddl_tree::{Action, Domain, Increase, Name, Problem};
+use syntax_tree::{Action, Domain, Increase, Name, Problem};
 use std::alloc::Global;
 
 /// Refuses words that are declared again.

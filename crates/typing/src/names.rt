@@ -9,7 +9,7 @@ use crate::{
     domain, functions, objects, statements,
 };
 use indexmap::IndexMap;
-use pddl_tree::{Domain, Problem};
+use syntax_tree::{Domain, Problem};
 use std::alloc::Global;
 
 /// The types of a domain, by name: each in the place of its number.
@@ -49,7 +49,7 @@ pub(crate) struct Start {
 impl Types {
     ghost use Rattle.typing.specs.Task.{TellsLeastOf};
     ghost use Rattle.typing.specs.Names.{type_faults_of, AreTypesOf};
-    ghost use Rattle.pddl_tree.specs.Tree.{domain_of, problem_of};
+    ghost use Rattle.syntax_tree.specs.Tree.{domain_of, problem_of};
 
     /// The types that a domain declares, where the problem is for it.
     pub(crate) fn declared(
@@ -74,7 +74,7 @@ impl Names {
     ghost use Rattle.typing.specs.Task.{TellsLeastOf};
     ghost use Rattle.typing.specs.Names.{domain_faults, declared_faults, known_by, known_in, stated_faults_in, AreDeclared, AreSchemasOf, AreTypesOf, Starts};
     ghost use Rattle.typing.specs.Objects.{AreObjectsOf};
-    ghost use Rattle.pddl_tree.specs.Tree.{domain_of, problem_of};
+    ghost use Rattle.syntax_tree.specs.Tree.{domain_of, problem_of};
     ghost use Rattle.model.specs.Trees.{problem_file};
     ghost use Rattle.model.specs.Typing.{action_faults};
 
@@ -165,7 +165,7 @@ impl Start {
     ghost use Rattle.typing.specs.Task.{file_of, TellsLeastOf};
     ghost use Rattle.typing.specs.Scope.{known_outside};
     ghost use Rattle.typing.specs.Names.{stated_faults_in, Starts};
-    ghost use Rattle.pddl_tree.specs.Tree.{problem_of};
+    ghost use Rattle.syntax_tree.specs.Tree.{problem_of};
 
     /// What the problem states, where this may be named in it.
     pub(crate) fn stated_in(

@@ -6,7 +6,7 @@ ghost use Rattle.typing.specs.Objects.{AreMade, AreObjects};
 ghost use Rattle.typing.specs.Scope.{names_in};
 ghost use Rattle.typing.specs.Task.{TellsLeastOf};
 ghost use Rattle.typing.specs.Walk.{Finds};
-ghost use Rattle.pddl_tree.specs.Tree as read;
+ghost use Rattle.syntax_tree.specs.Tree as read;
 ghost use Rattle.model.specs.Trees.{domain_file, problem_file};
 ghost use Rattle.model.specs.Typing as typing;
 
@@ -19,7 +19,7 @@ use crate::walk::Walk;
 use crate::{MAX_OBJECTS, TaskFault, TaskFile, TypeId};
 use faults::NoMemory;
 use indexmap::IndexMap;
-use pddl_tree::{Domain, Group, Problem};
+use syntax_tree::{Domain, Group, Problem};
 use std::alloc::Global;
 
 /// Declares an object. One that is declared before is refused.

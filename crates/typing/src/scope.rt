@@ -1,6 +1,6 @@
 //! Names of atoms become numbers.
 ghost use Rattle.std.specs.Prelude.{◌≡◌, ◌≤◌, length};
-ghost use Rattle.pddl_tree.specs.Tree as read;
+ghost use Rattle.syntax_tree.specs.Tree as read;
 ghost use Rattle.model.specs.Typing.{word_of};
 
 use crate::type_names::TypeNames;
@@ -13,8 +13,8 @@ use crate::{
 use arrayvec::ArrayVec;
 use faults::{Code, NoMemory};
 use indexmap::IndexMap;
-use pddl_tree as tree;
-use pddl_tree::{GroundAtom, Name};
+use syntax_tree as tree;
+use syntax_tree::{GroundAtom, Name};
 use std::alloc::Global;
 
 /// What may be named all over a file: what is declared outside its actions.

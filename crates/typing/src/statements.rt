@@ -4,7 +4,7 @@ ghost use Rattle.typing.specs.TaskParts as parts;
 ghost use Rattle.typing.specs.Task.{file_of, TellsLeastOf};
 ghost use Rattle.typing.specs.Scope.{known_of, known_outside, known_over, narrow_atoms_in};
 ghost use Rattle.typing.specs.Walk.{found, least_of, Finds};
-ghost use Rattle.pddl_tree.specs.Tree as read;
+ghost use Rattle.syntax_tree.specs.Tree as read;
 ghost use Rattle.model.specs.Typing as typing;
 ghost use Rattle.std.specs.List.{flat_map};
 
@@ -14,7 +14,7 @@ use crate::walk::Walk;
 use crate::{Atom, Formula, TaskFault, TaskFile, TypeUnion};
 use faults::{Code, NoMemory};
 use indexmap::IndexMap;
-use pddl_tree::{Fact, InitialCost, Problem};
+use syntax_tree::{Fact, InitialCost, Problem};
 use std::alloc::Global;
 
 /// The total cost at the start is refused where it is not declared, and where it is not 0.

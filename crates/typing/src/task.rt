@@ -10,7 +10,7 @@ use crate::schemas::{Formula, Predicate, Schema, TypeUnion};
 use crate::types::{self, is_below};
 use faults::NoMemory;
 use indexmap::IndexMap;
-use pddl_tree::{Domain, Problem};
+use syntax_tree::{Domain, Problem};
 use std::alloc::Global;
 
 /// A planning task: a well-typed pair of a domain and a problem, with numbers for names.
@@ -33,7 +33,7 @@ impl Task {
     ghost use Rattle.std.specs.Option.{option_copied, option_map};
     ghost use Rattle.typing.specs.Task.{task_of, TellsFault, TellsLeastFault};
     ghost use Rattle.model.specs.TypingFaults as typing_faults;
-    ghost use Rattle.pddl_tree.specs.Tree.{domain_of, problem_of};
+    ghost use Rattle.syntax_tree.specs.Tree.{domain_of, problem_of};
     ghost use Rattle.typing.specs.TaskParts.{atom_of, formula_of, object_of, schema_id_of, shape_of, shape_of_schema, type_of, union_of};
     ghost use Rattle.model.specs.Meaning.{supertypes_of, is_of, is_below, objects_of};
     ghost use Rattle.model.specs.Typing.{is_same, task_of_trees, IsWellTyped};

@@ -7,7 +7,7 @@ use crate::walk::fold;
 use crate::{TypeId, TypeUnion};
 use faults::NoMemory;
 use indexmap::IndexSet;
-use pddl_tree::Name;
+use syntax_tree::Name;
 use std::alloc::Global;
 
 /// The names of the types, `object` first: each in the place of its number.
@@ -29,7 +29,7 @@ fn object_alone(alloc: Global) -> Result<Vec<TypeId>, NoMemory>
 impl TypeNames {
     ghost use Rattle.typing.specs.TypedLists.{declared_of};
     ghost use Rattle.typing.specs.Scope.{names_in};
-    ghost use Rattle.pddl_tree.specs.Tree as read;
+    ghost use Rattle.syntax_tree.specs.Tree as read;
     ghost use Rattle.model.specs.Typing as typing;
 
     /// The number of a name: its place, or how many there are where it has none.

@@ -3,13 +3,13 @@ ghost use Rattle.std.specs.Prelude.{◌≡◌, ◌++◌, map, IfOk, OnOk};
 ghost use Rattle.typing.specs.TypedLists.{declared_by, declared_of};
 ghost use Rattle.typing.specs.Task.{file_of};
 ghost use Rattle.typing.specs.Walk.{Finds};
-ghost use Rattle.pddl_tree.specs.Tree as read;
+ghost use Rattle.syntax_tree.specs.Tree as read;
 ghost use Rattle.model.specs.Typing as typing;
 
 use crate::TaskFile;
 use crate::walk::Walk;
 use faults::{Code, NoMemory};
-use pddl_tree::{Group, Name};
+use syntax_tree::{Group, Name};
 use std::alloc::Global;
 
 /// A name that a typed list of a file declares, and the types after its `-`.

@@ -5,7 +5,7 @@ ghost use Rattle.typing.specs.TypedLists.{declared_of};
 ghost use Rattle.typing.specs.Scope.{names_in};
 ghost use Rattle.typing.specs.Task.{file_of};
 ghost use Rattle.typing.specs.Walk.{Finds};
-ghost use Rattle.pddl_tree.specs.Tree as read;
+ghost use Rattle.syntax_tree.specs.Tree as read;
 ghost use Rattle.model.specs.Meaning.{is_below_in, supertypes_in};
 ghost use Rattle.model.specs.Typing as typing;
 ghost use Rattle.std.specs.List.{flat_map, list_all};
@@ -15,7 +15,7 @@ use crate::walk::Walk;
 use crate::{TaskFile, TypeId, TypeUnion};
 use faults::{Code, NoMemory};
 use indexmap::{IndexMap, IndexSet};
-use pddl_tree::Name;
+use syntax_tree::Name;
 use std::alloc::Global;
 
 /// A type that is not known is refused.

@@ -1,12 +1,12 @@
 //! What a walk over the trees gathers: the least fault so far.
 ghost use Rattle.std.specs.Prelude.{◌≡◌, [], if◌then◌else◌, None, IfErr, IfOk, OnOk};
-ghost use Rattle.pddl_tree.specs.Tree.{name_of};
+ghost use Rattle.syntax_tree.specs.Tree.{name_of};
 ghost use Rattle.model.specs.Typing.{folded, refused_word};
 
 use crate::TaskFile;
 use crate::fault::{TaskFault, TaskRefusal};
 use faults::{Code, NoMemory};
-use pddl_tree::Name;
+use syntax_tree::Name;
 use std::alloc::Global;
 
 /// The least fault that was found so far, and room for a name in lower case.

@@ -2,7 +2,7 @@ use Rattle.std.proofs.Common.{subst}
 use Rattle.model.specs.Grammar.{action_name}
 use Rattle.faults.proofs.Results.{if_ok, if_err}
 use Rattle.pddl_tree.specs.Reading.{IsRead, IsTold}
-use Rattle.pddl_tree.specs.Tree.{action_of}
+use Rattle.syntax_tree.specs.Tree.{action_of}
 use Rattle.pddl_tree.specs.Sections.{parts_on}
 use Rattle.pddl_tree.proofs.ReadOn.{then_read, first_told, then_told, read_word, told_by}
 use Rattle.pddl_tree.proofs.action.action.Goals as goal

@@ -5,7 +5,7 @@ use Rattle.faults.specs.declared.refused.Refused.TheVariants.{At}
 use Rattle.model.specs.GrammarWords.{parameters}
 use Rattle.model.specs.Grammar.{parts, part_after, has_part}
 use Rattle.pddl_tree.specs.Reading.{the, IsRead, IsTold}
-use Rattle.pddl_tree.specs.Tree.{action_of}
+use Rattle.syntax_tree.specs.Tree.{action_of}
 use Rattle.pddl_tree.specs.Sections.{part_tree}
 use Rattle.pddl_tree.proofs.ReadOn.{refused_as, told_by}
 use Rattle.pddl_tree.proofs.Parts.{ArePartsOn, parts_start, parts_more, parts_end, parts_told, value_told, parameters_missing}

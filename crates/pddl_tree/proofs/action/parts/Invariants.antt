@@ -1,6 +1,6 @@
 use Rattle.std.proofs.Common.{◌-◌, ◌≤◌, length, map}
 use Rattle.pddl_words.specs.Token.{part_view}
-use Rattle.pddl_tree.specs.Tree.{action_of}
+use Rattle.syntax_tree.specs.Tree.{action_of}
 use Rattle.pddl_tree.proofs.Parts.{ArePartsOn}
 use Rattle.pddl_tree.proofs.action.parts.Given as goal
 

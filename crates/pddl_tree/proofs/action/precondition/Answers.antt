@@ -4,9 +4,9 @@ use Rattle.model.specs.Trees.{formulas}
 use Rattle.model.specs.Trees as tree
 use Rattle.faults.proofs.Results.{if_ok, if_err}
 use Rattle.pddl_words.specs.Token.{from, first}
-use Rattle.pddl_tree.specs.Tree.{formula_of}
+use Rattle.syntax_tree.specs.Tree.{formula_of}
 use Rattle.pddl_tree.proofs.ReadOn.{given, by_word, of_tree}
-use Rattle.pddl_tree.proofs.Rows.{formula_of-And}
+use Rattle.syntax_tree.proofs.Rows.{formula_of-And}
 use Rattle.pddl_tree.proofs.Parts.{is_closes, formula_read, formula_told}
 use Rattle.pddl_tree.proofs.action.precondition.Goals as goal
 

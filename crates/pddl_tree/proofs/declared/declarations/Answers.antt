@@ -1,6 +1,6 @@
 use Rattle.std.proofs.Common.{◌∙◌, sym, arith}
 use Rattle.model.specs.Grammar.{listed, declaration}
-use Rattle.pddl_tree.specs.Tree.{predicate_of}
+use Rattle.syntax_tree.specs.Tree.{predicate_of}
 use Rattle.pddl_tree.proofs.ReadOn.{told_by}
 use Rattle.pddl_tree.proofs.Items.{an_item, on_more, on_end, on_told}
 use Rattle.pddl_tree.proofs.declared.declarations.Goals as goal

@@ -2,9 +2,9 @@ use Rattle.std.proofs.Common.{◌∙◌, refl, sym, ap, arith}
 use Rattle.model.specs.Grammar.{many, listed, typed, variables, term, formula, close}
 use Rattle.model.specs.Trees as tree
 use Rattle.faults.proofs.Results.{if_ok, if_err}
-use Rattle.pddl_tree.specs.Tree.{formula_of, groups_of}
+use Rattle.syntax_tree.specs.Tree.{formula_of, groups_of}
 use Rattle.pddl_tree.proofs.ReadOn.{given, then_read, first_told, then_told, by_word, by_word_told, in_list, in_list_told, not_open, of_tree, read_word, told_by, read_as, told_as}
-use Rattle.pddl_tree.proofs.Rows.{formula_of-And, formula_of-Or}
+use Rattle.syntax_tree.proofs.Rows.{formula_of-And, formula_of-Or}
 use Rattle.pddl_tree.proofs.Items.{an_item, on_more, on_end, on_told}
 use Rattle.pddl_tree.proofs.Reserved.{by_reserved, by_reserved_told}
 use Rattle.pddl_tree.proofs.formulas.+formula.Goals as goal

@@ -1,6 +1,6 @@
 use Rattle.std.proofs.Common.{◌-◌, ◌+◌, ◌*◌, ◌≤◌, length, map}
 use Rattle.model.specs.Grammar.{listed, formula}
-use Rattle.pddl_tree.specs.Tree.{formula_of}
+use Rattle.syntax_tree.specs.Tree.{formula_of}
 use Rattle.pddl_tree.proofs.Items.{IsReadOn, items}
 use Rattle.pddl_tree.proofs.formulas.+formula.Given as goal
 

@@ -2,7 +2,7 @@ use Rattle.std.proofs.Common.{map, refl, sym, ◌∙◌, ap}
 use Rattle.model.specs.Grammar.{many, listed, conditional, conditional_literal}
 use Rattle.faults.proofs.Results.{if_ok, if_err}
 use Rattle.pddl_words.specs.Token.{from, first}
-use Rattle.pddl_tree.specs.Tree.{effect_literal_of}
+use Rattle.syntax_tree.specs.Tree.{effect_literal_of}
 use Rattle.pddl_tree.proofs.ReadOn.{given, then_read, first_told, by_word, by_word_told, of_tree, told_by}
 use Rattle.pddl_tree.proofs.EffectValues.{is_and, literal_read, literal_told}
 use Rattle.pddl_tree.proofs.literals.conditional.Goals as goal

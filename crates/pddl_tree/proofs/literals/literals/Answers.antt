@@ -1,6 +1,6 @@
 use Rattle.std.proofs.Common.{◌∙◌, sym, arith}
 use Rattle.model.specs.Grammar.{listed, conditional_literal}
-use Rattle.pddl_tree.specs.Tree.{effect_literal_of}
+use Rattle.syntax_tree.specs.Tree.{effect_literal_of}
 use Rattle.pddl_tree.proofs.ReadOn.{in_list, in_list_told, not_open, told_by}
 use Rattle.pddl_tree.proofs.Items.{an_item, on_more, on_end, on_told}
 use Rattle.pddl_tree.proofs.literals.literals.Goals as goal

@@ -1,6 +1,6 @@
 use Rattle.std.proofs.Common.{◌-◌, ◌≤◌, length, map}
 use Rattle.model.specs.Grammar.{listed, conditional_literal}
-use Rattle.pddl_tree.specs.Tree.{effect_literal_of}
+use Rattle.syntax_tree.specs.Tree.{effect_literal_of}
 use Rattle.pddl_tree.proofs.Items.{IsReadOn, items}
 use Rattle.pddl_tree.proofs.literals.literals.Given as goal
 

@@ -5,7 +5,7 @@ use Rattle.model.specs.Refusals.{start}
 use Rattle.pddl_words.specs.Name.{name_of}
 use Rattle.pddl_words.specs.Refusal.{told}
 use Rattle.pddl_tree.specs.Head.{after_head}
-use Rattle.pddl_tree.specs.Tree.{file_of}
+use Rattle.syntax_tree.specs.Tree.{file_of}
 use Rattle.pddl_tree.specs.Sections.{contents_of}
 use Rattle.pddl_tree.proofs.Told.{file_read, refused_by, taken_by}
 use Rattle.pddl_tree.proofs.ReadOn.{told_later}

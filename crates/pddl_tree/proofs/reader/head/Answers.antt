@@ -1,7 +1,7 @@
 use Rattle.std.proofs.Common.{refl}
 use Rattle.model.specs.Grammar.{file, define_word, kind_list, kind_word, a_name, close}
 use Rattle.pddl_words.specs.Name.{name_of}
-use Rattle.pddl_tree.specs.Tree.{file_of}
+use Rattle.syntax_tree.specs.Tree.{file_of}
 use Rattle.pddl_tree.proofs.ReadOn.{by_word_told, first_told, then_told, told_at}
 use Rattle.pddl_tree.proofs.Heads.{is_head, has_head, read_here, in_head}
 use Rattle.pddl_tree.proofs.reader.head.Goals as goal

@@ -4,7 +4,7 @@ use Rattle.model.specs.GrammarMachine.{run}
 use Rattle.faults.specs.declared.refused.Refused.TheVariants.{At}
 use Rattle.faults.proofs.Results.{passed_on}
 use Rattle.pddl_words.specs.Name.{name_of}
-use Rattle.pddl_tree.specs.Tree.{file_of}
+use Rattle.syntax_tree.specs.Tree.{file_of}
 use Rattle.pddl_tree.specs.Reading.{StopsAs}
 use Rattle.pddl_tree.specs.Head.{after_head}
 use Rattle.pddl_tree.specs.Sections.{contents_of}

@@ -5,7 +5,7 @@ use Rattle.model.specs.Grammar as grammar
 use Rattle.pddl_words.specs.Token.{from, first, section_view}
 use Rattle.faults.specs.declared.refused.Refused.TheVariants.{At}
 use Rattle.faults.proofs.Results.{passed_on, if_ok, if_err}
-use Rattle.pddl_tree.specs.Tree.{file_of}
+use Rattle.syntax_tree.specs.Tree.{file_of}
 use Rattle.pddl_tree.specs.Reading.{the, IsTold, closes_first}
 use Rattle.pddl_tree.specs.Sections.{IsNotNew}
 use Rattle.pddl_tree.proofs.ReadOn.{refused_as}

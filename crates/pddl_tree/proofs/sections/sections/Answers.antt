@@ -3,7 +3,7 @@ use Rattle.model.specs.Grammar.{define_word, no_contents, sections_of, required_
 use Rattle.model.specs.Grammar as grammar
 use Rattle.pddl_words.specs.Token.{from, first, section_view}
 use Rattle.faults.specs.declared.refused.Refused.TheVariants.{At}
-use Rattle.pddl_tree.specs.Tree.{file_of}
+use Rattle.syntax_tree.specs.Tree.{file_of}
 use Rattle.pddl_tree.specs.Reading.{the, IsTold}
 use Rattle.pddl_tree.specs.Sections.{section_tree, contents_of}
 use Rattle.pddl_tree.proofs.ReadOn.{refused_as, told_by}

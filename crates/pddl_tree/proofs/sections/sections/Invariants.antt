@@ -1,6 +1,6 @@
 use Rattle.std.proofs.Common.{◌-◌, ◌≤◌, length, map}
 use Rattle.pddl_words.specs.Token.{section_view}
-use Rattle.pddl_tree.specs.Tree.{file_of}
+use Rattle.syntax_tree.specs.Tree.{file_of}
 use Rattle.pddl_tree.specs.Sections.{contents_of}
 use Rattle.pddl_tree.proofs.Files.{AreSectionsOn}
 use Rattle.pddl_tree.proofs.sections.sections.Given as goal

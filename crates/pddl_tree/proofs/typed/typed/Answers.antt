@@ -1,6 +1,6 @@
 use Rattle.std.proofs.Common.{◌∙◌, sym, arith}
 use Rattle.pddl_tree.specs.Place.{listed_view}
-use Rattle.pddl_tree.specs.Tree.{group_of}
+use Rattle.syntax_tree.specs.Tree.{group_of}
 use Rattle.pddl_tree.proofs.ReadOn.{told_by}
 use Rattle.pddl_tree.proofs.Items.{on_more, on_typed_end, on_typed_told}
 use Rattle.pddl_tree.proofs.typed.typed.Goals as goal

@@ -1,6 +1,6 @@
 use Rattle.std.proofs.Common.{◌-◌, ◌≤◌, length, map}
 use Rattle.pddl_tree.specs.Place.{listed_view}
-use Rattle.pddl_tree.specs.Tree.{group_of}
+use Rattle.syntax_tree.specs.Tree.{group_of}
 use Rattle.pddl_tree.specs.Typed.{groups}
 use Rattle.pddl_tree.proofs.Items.{IsReadOn}
 use Rattle.pddl_tree.proofs.typed.typed.Given as goal

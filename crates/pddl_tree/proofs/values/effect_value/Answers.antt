@@ -4,9 +4,9 @@ use Rattle.model.specs.Trees.{effects}
 use Rattle.model.specs.Trees as tree
 use Rattle.faults.proofs.Results.{if_ok, if_err}
 use Rattle.pddl_words.specs.Token.{from, first}
-use Rattle.pddl_tree.specs.Tree.{effect_of, increase_of}
+use Rattle.syntax_tree.specs.Tree.{effect_of, increase_of}
 use Rattle.pddl_tree.proofs.ReadOn.{given, by_word, by_word_told, of_tree, told_by}
-use Rattle.pddl_tree.proofs.Rows.{effect_of-And}
+use Rattle.syntax_tree.proofs.Rows.{effect_of-And}
 use Rattle.pddl_tree.proofs.Parts.{is_closes}
 use Rattle.pddl_tree.proofs.EffectValues.{is_and, value_read, value_told}
 use Rattle.pddl_tree.proofs.values.effect_value.Goals as goal

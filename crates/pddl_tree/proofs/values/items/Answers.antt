@@ -1,10 +1,10 @@
 use Rattle.std.proofs.Common.{◌∙◌, map, sym, ap, arith}
 use Rattle.model.specs.Grammar.{listed, item}
-use Rattle.pddl_tree.specs.Tree.{effect_of, increase_of}
+use Rattle.syntax_tree.specs.Tree.{effect_of, increase_of}
 use Rattle.pddl_tree.specs.Values.{item_tree}
 use Rattle.pddl_tree.proofs.ReadOn.{in_list, in_list_told, not_open, of_tree, told_by}
 use Rattle.pddl_tree.proofs.Items.{an_item}
-use Rattle.pddl_tree.proofs.Rows.{effect_of-And}
+use Rattle.syntax_tree.proofs.Rows.{effect_of-And}
 use Rattle.pddl_tree.proofs.EffectValues.{items_start, items_more, items_end, items_told}
 use Rattle.pddl_tree.proofs.values.items.Goals as goal
 

@@ -1,5 +1,5 @@
 use Rattle.std.proofs.Common.{◌-◌, ◌≤◌, length, map}
-use Rattle.pddl_tree.specs.Tree.{effect_of, increase_of}
+use Rattle.syntax_tree.specs.Tree.{effect_of, increase_of}
 use Rattle.pddl_tree.proofs.EffectValues.{AreItemsOn}
 use Rattle.pddl_tree.proofs.values.items.Given as goal
 

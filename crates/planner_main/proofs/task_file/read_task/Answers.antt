@@ -1,7 +1,7 @@
 use Rattle.std.proofs.Common.{IfSome, sym, subst}
 use Rattle.std.proofs.lemmas.Result.{err_from_is_err_and}
 use Rattle.faults.specs.Fault.{told_by}
-use Rattle.pddl_tree.specs.Tree.{domain_of, problem_of}
+use Rattle.syntax_tree.specs.Tree.{domain_of, problem_of}
 use Rattle.model.specs.Files.{IsTaskFault}
 use Rattle.planner_main.proofs.FilesRead.{domain_told, problem_told, pair_told}
 use Rattle.planner_main.proofs.task_file.read_task.Goals as goal

@@ -1,10 +1,10 @@
 use Rattle.typing.specs.Walk.{least_of}
 use Rattle.typing.specs.Scope.{names_in}
-use Rattle.pddl_tree.specs.Tree as read
+use Rattle.syntax_tree.specs.Tree as read
 use Rattle.model.specs.Trees.{domain_file}
 use Rattle.model.specs.Typing as typing
 use Rattle.typing.proofs.Found as finding
-use Rattle.pddl_tree.specs.declared.tree.Action.{Action}
+use Rattle.syntax_tree.specs.declared.tree.Action.{Action}
 use Rattle.typing.proofs.actions.declare_actions.Goals as goal
 
 pub loop-action-preserved : goal.loop-action-preserved

@@ -3,7 +3,7 @@ use Rattle.std.proofs.lemmas.Result.{IfOk-weaker}
 use Rattle.typing.specs.TaskParts as parts
 use Rattle.typing.specs.Scope.{known_outside, variable_entry_of}
 use Rattle.typing.specs.Walk.{found, least_of}
-use Rattle.pddl_tree.specs.Tree as read
+use Rattle.syntax_tree.specs.Tree as read
 use Rattle.model.specs.Trees.{domain_file}
 use Rattle.model.specs.Typing as typing
 use Rattle.typing.proofs.Found.{found_after}

@@ -2,13 +2,13 @@ use Rattle.std.proofs.Common.{map}
 use Rattle.typing.specs.Walk.{least_of}
 use Rattle.typing.specs.TaskParts as parts
 use Rattle.typing.specs.Scope.{known_outside}
-use Rattle.pddl_tree.specs.Tree as read
+use Rattle.syntax_tree.specs.Tree as read
 use Rattle.model.specs.Trees.{domain_file}
 use Rattle.model.specs.Task as task
 use Rattle.model.specs.Typing as typing
 use Rattle.typing.proofs.Tables as tables
 use Rattle.typing.proofs.Found as finding
-use Rattle.pddl_tree.specs.declared.tree.Action.{Action}
+use Rattle.syntax_tree.specs.declared.tree.Action.{Action}
 use Rattle.typing.proofs.actions.table.Goals as goal
 
 pub loop-action-preserved : goal.loop-action-preserved

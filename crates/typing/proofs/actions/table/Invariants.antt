@@ -3,7 +3,7 @@ use Rattle.std.specs.List.{flat_map}
 use Rattle.typing.specs.Walk.{found, least_of}
 use Rattle.typing.specs.TaskParts as parts
 use Rattle.typing.specs.Scope.{known_outside}
-use Rattle.pddl_tree.specs.Tree as read
+use Rattle.syntax_tree.specs.Tree as read
 use Rattle.model.specs.Trees.{domain_file}
 use Rattle.model.specs.Typing as typing
 use Rattle.typing.proofs.actions.table.Given as goal

@@ -3,7 +3,7 @@ use Rattle.typing.specs.Chains.{type_numbered}
 use Rattle.model.specs.Task as task
 use Rattle.typing.specs.TaskParts as parts
 use Rattle.typing.specs.TypedLists.{declared_of}
-use Rattle.pddl_tree.specs.Tree as read
+use Rattle.syntax_tree.specs.Tree as read
 use Rattle.typing.proofs.Tables as tables
 use Rattle.typing.proofs.chains.add_type.Goals as goal
 

@@ -2,7 +2,7 @@ use Rattle.std.proofs.Common.{◌∙◌, ◌++◌, List, ap, map}
 use Rattle.typing.specs.TypedLists.{declared_of}
 use Rattle.typing.specs.Walk.{found, least_of}
 use Rattle.typing.specs.Scope.{names_in}
-use Rattle.pddl_tree.specs.Tree as read
+use Rattle.syntax_tree.specs.Tree as read
 use Rattle.model.specs.Trees.{domain_file}
 use Rattle.model.specs.Typing as typing
 use Rattle.typing.proofs.Found.{found_after}

@@ -2,7 +2,7 @@ use Rattle.std.proofs.Common.{◌≡◌, ◌≤◌, ◌∙◌, List, [], ◌∷�
 use Rattle.std.proofs.lemmas.List.{length-map}
 use Rattle.typing.specs.Scope.{names_in}
 use Rattle.typing.specs.Walk.{found, least_of}
-use Rattle.pddl_tree.specs.Tree as read
+use Rattle.syntax_tree.specs.Tree as read
 use Rattle.model.specs.Typing as typing
 use Rattle.typing.proofs.Found as finding
 use Rattle.typing.proofs.Tells as telling

@@ -2,7 +2,7 @@ use Rattle.std.proofs.Common.{◌∙◌, [], ◌∷◌, ap, sym, if◌then◌els
 use Rattle.typing.specs.Task.{file_of}
 use Rattle.typing.specs.Scope.{names_in}
 use Rattle.typing.specs.Walk.{found, least_of}
-use Rattle.pddl_tree.specs.Tree as read
+use Rattle.syntax_tree.specs.Tree as read
 use Rattle.model.specs.Typing as typing
 use Rattle.typing.proofs.Tables as tables
 use Rattle.typing.proofs.domain.declare.Goals as goal

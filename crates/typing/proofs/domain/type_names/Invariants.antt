@@ -2,7 +2,7 @@ use Rattle.std.proofs.Common.{◌≡◌, [], ◌∷◌, map, fold, drop, codes}
 use Rattle.typing.specs.Walk.{found, least_of}
 use Rattle.typing.specs.TypedLists.{placed_of}
 use Rattle.typing.specs.Scope.{names_in}
-use Rattle.pddl_tree.specs.Tree as read
+use Rattle.syntax_tree.specs.Tree as read
 use Rattle.model.specs.Typing as typing
 use Rattle.typing.proofs.domain.type_names.Given as goal
 

@@ -1,7 +1,7 @@
 use Rattle.std.proofs.Common.{◌≡◌, ◌∙◌, ◌++◌, List, map, drop, not, is_some, slice_get, None, ap, sym}
 use Rattle.typing.specs.Walk.{found, least_of}
 use Rattle.pddl_words.specs.declared.name.Name.{Name}
-use Rattle.pddl_tree.specs.Tree as read
+use Rattle.syntax_tree.specs.Tree as read
 use Rattle.model.specs.Trees.{domain_file}
 use Rattle.model.specs.Typing as typing
 use Rattle.typing.proofs.Found as finding

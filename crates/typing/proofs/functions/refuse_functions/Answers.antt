@@ -2,7 +2,7 @@ use Rattle.std.proofs.Common.{◌∙◌, ◌+◌, ap, sym, map, drop}
 use Rattle.std.proofs.lemmas.List.{drop_more, drop_all}
 use Rattle.typing.specs.Walk.{found, least_of}
 use Rattle.pddl_words.specs.declared.name.Name.{Name}
-use Rattle.pddl_tree.specs.Tree as read
+use Rattle.syntax_tree.specs.Tree as read
 use Rattle.model.specs.Trees.{domain_file}
 use Rattle.model.specs.Typing as typing
 use Rattle.typing.proofs.functions.refuse_functions.Goals as goal

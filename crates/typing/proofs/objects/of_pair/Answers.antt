@@ -1,5 +1,5 @@
 use Rattle.std.proofs.Common.{◌∙◌, ◌++◌, map, ap, subst, IfErr}
-use Rattle.pddl_tree.specs.Tree as read
+use Rattle.syntax_tree.specs.Tree as read
 use Rattle.typing.specs.Scope.{names_in}
 use Rattle.typing.specs.Task.{TellsLeastOf}
 use Rattle.typing.specs.TypedLists.{declared_of}

@@ -3,9 +3,9 @@ use Rattle.typing.specs.Task.{file_of}
 use Rattle.typing.specs.Walk.{least_of}
 use Rattle.typing.specs.TaskParts as parts
 use Rattle.typing.specs.Scope.{known_of, narrow_atoms_in}
-use Rattle.pddl_tree.specs.Tree as read
+use Rattle.syntax_tree.specs.Tree as read
 use Rattle.model.specs.Typing as typing
-use Rattle.pddl_tree.specs.declared.tree.Fact.{Fact}
+use Rattle.syntax_tree.specs.declared.tree.Fact.{Fact}
 use Rattle.typing.proofs.Found as finding
 use Rattle.typing.proofs.statements.atoms.Goals as goal
 

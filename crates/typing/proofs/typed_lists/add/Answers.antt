@@ -2,8 +2,8 @@ use Rattle.std.proofs.Common.{◌∙◌, ◌++◌, ap, sym, map}
 use Rattle.std.proofs.lemmas.List.Folds.{flat_map-map}
 use Rattle.typing.specs.TypedLists.{declared_by, declared_of}
 use Rattle.typing.specs.Task.{file_of}
-use Rattle.pddl_tree.specs.Tree as read
-use Rattle.pddl_tree.specs.declared.tree.Group.{Group}
+use Rattle.syntax_tree.specs.Tree as read
+use Rattle.syntax_tree.specs.declared.tree.Group.{Group}
 use Rattle.model.specs.Trees as tree
 use Rattle.model.specs.Typing as typing
 use Rattle.typing.proofs.Found.{grown_more, grown_all, map-map}

@@ -2,7 +2,7 @@ use Rattle.std.proofs.Common.{◌∙◌, ap, map}
 use Rattle.std.proofs.lemmas.List.{map_push}
 use Rattle.typing.specs.TypedLists.{declared_by, declared_of}
 use Rattle.typing.specs.Task.{file_of}
-use Rattle.pddl_tree.specs.Tree as read
+use Rattle.syntax_tree.specs.Tree as read
 use Rattle.typing.proofs.Found.{mapped_more, mapped_all}
 use Rattle.typing.proofs.typed_lists.add_group.Goals as goal
 

@@ -1,7 +1,7 @@
 use Rattle.std.proofs.Common.{◌≡◌, ◌++◌, map, drop}
 use Rattle.typing.specs.TypedLists.{declared_by, declared_of}
 use Rattle.typing.specs.Task.{file_of}
-use Rattle.pddl_tree.specs.Tree as read
+use Rattle.syntax_tree.specs.Tree as read
 use Rattle.typing.proofs.typed_lists.add_group.Given as goal
 
 abbrev pub invariant-loop-name : goal.invariant-loop-name

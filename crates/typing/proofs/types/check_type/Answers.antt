@@ -1,6 +1,6 @@
 use Rattle.std.proofs.Common.{◌∙◌, Bool, [], ap, sym, if◌then◌else◌}
 use Rattle.std.specs.Option.{option_map}
-use Rattle.pddl_tree.specs.Tree.{name_of}
+use Rattle.syntax_tree.specs.Tree.{name_of}
 use Rattle.model.specs.Typing.{refused_word}
 use Rattle.typing.specs.Task.{file_of, refusal_of}
 use Rattle.typing.specs.Walk.{found, least_of}

@@ -2,7 +2,7 @@ use Rattle.std.proofs.Common.{refl}
 use Rattle.typing.specs.Scope.{names_in}
 use Rattle.typing.specs.Task.{file_of}
 use Rattle.typing.specs.Walk.{least_of}
-use Rattle.pddl_tree.specs.Tree as read
+use Rattle.syntax_tree.specs.Tree as read
 use Rattle.pddl_words.specs.declared.name.Name.{Name}
 use Rattle.model.specs.Typing as typing
 use Rattle.typing.proofs.Found.{found_at, found_walked}

@@ -3,7 +3,7 @@ use Rattle.std.specs.List.{flat_map}
 use Rattle.typing.specs.Scope.{names_in}
 use Rattle.typing.specs.Task.{file_of}
 use Rattle.typing.specs.Walk.{found, least_of}
-use Rattle.pddl_tree.specs.Tree as read
+use Rattle.syntax_tree.specs.Tree as read
 use Rattle.model.specs.Typing as typing
 use Rattle.typing.proofs.types.check_types.Given as goal
 

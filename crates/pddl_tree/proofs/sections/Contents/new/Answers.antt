@@ -2,8 +2,8 @@ use Rattle.std.proofs.Common.{map, None, ◌∙◌, ap}
 use Rattle.model.specs.Trees.{formulas, no_name}
 use Rattle.model.specs.Trees as tree
 use Rattle.pddl_words.specs.Name.{name_of}
-use Rattle.pddl_tree.specs.Tree.{formula_of, group_of, predicate_of, action_of, fact_of}
-use Rattle.pddl_tree.proofs.Rows.{formula_of-And}
+use Rattle.syntax_tree.specs.Tree.{formula_of, group_of, predicate_of, action_of, fact_of}
+use Rattle.syntax_tree.proofs.Rows.{formula_of-And}
 use Rattle.pddl_tree.proofs.sections.Contents.new.Goals as goal
 
 pub returns : goal.returns

@@ -1,8 +1,8 @@
 use Rattle.std.proofs.Common.{map, ◌∙◌, ap}
 use Rattle.model.specs.Trees.{effects}
 use Rattle.model.specs.Trees as tree
-use Rattle.pddl_tree.specs.Tree.{effect_of, increase_of}
-use Rattle.pddl_tree.proofs.Rows.{effect_of-And}
+use Rattle.syntax_tree.specs.Tree.{effect_of, increase_of}
+use Rattle.syntax_tree.proofs.Rows.{effect_of-And}
 use Rattle.pddl_tree.proofs.values.Entry.value.Goals as goal
 
 pub returns-in_ok-vec-in-Increase : goal.returns-in_ok-vec-in-Increase

@@ -1,6 +1,6 @@
 use Rattle.std.proofs.Common.{◌≡◌, [], ◌∷◌, ◌∙◌, map, ap, sym, subst}
 use Rattle.std.proofs.lemmas.Result.{IfOk-weaker, MatchResult-weaker}
-use Rattle.pddl_tree.specs.Tree.{domain_of, problem_of}
+use Rattle.syntax_tree.specs.Tree.{domain_of, problem_of}
 use Rattle.typing.specs.Task.{TellsLeastOf}
 use Rattle.typing.specs.Names.{declared_faults, domain_faults, AreDeclared}
 use Rattle.model.specs.Typing.{object_faults, objects_faults, declaration_faults, function_faults, action_faults, declared_objects, declared_constants, known_in_domain, object_in, type_names, first_filled}

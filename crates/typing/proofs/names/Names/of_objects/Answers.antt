@@ -1,5 +1,5 @@
 use Rattle.std.proofs.Common.{◌≡◌, [], ◌∷◌, ◌∙◌, map, ap, sym, subst}
-use Rattle.pddl_tree.specs.Tree.{domain_of, problem_of}
+use Rattle.syntax_tree.specs.Tree.{domain_of, problem_of}
 use Rattle.typing.specs.Task.{TellsLeastOf}
 use Rattle.typing.specs.TaskParts as parts
 use Rattle.typing.specs.Names.{domain_faults, known_in}

@@ -1,5 +1,5 @@
 use Rattle.std.proofs.lemmas.Result.{IfOk-weaker}
-use Rattle.pddl_tree.specs.Tree.{domain_of}
+use Rattle.syntax_tree.specs.Tree.{domain_of}
 use Rattle.typing.specs.Names.{known_in, AreSchemasOf}
 use Rattle.typing.proofs.names.Names.schemas.Goals as goal
 

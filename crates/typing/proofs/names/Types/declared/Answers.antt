@@ -1,6 +1,6 @@
 use Rattle.std.proofs.Common.{◌≡◌, ◌≤◌, ◌∙◌, [], ◌∷◌, ◌++◌, codes, map, length, ap, sym, subst, arith}
 use Rattle.std.proofs.lemmas.List.{length-map}
-use Rattle.pddl_tree.specs.Tree.{domain_of, problem_of, group_of}
+use Rattle.syntax_tree.specs.Tree.{domain_of, problem_of, group_of}
 use Rattle.typing.specs.Chains.{cycles}
 use Rattle.typing.specs.Scope.{names_in}
 use Rattle.typing.specs.Task.{TellsLeastOf}

@@ -4,7 +4,7 @@ use Rattle.typing.specs.Task.{file_of}
 use Rattle.typing.specs.Scope.{arguments_at, known_of}
 use Rattle.typing.specs.Walk.{least_of}
 use Rattle.typing.specs.TaskParts as parts
-use Rattle.pddl_tree.specs.Tree as read
+use Rattle.syntax_tree.specs.Tree as read
 use Rattle.model.specs.Trees as tree
 use Rattle.model.specs.Typing as typing
 use Rattle.pddl_words.specs.declared.name.Name.{Name}

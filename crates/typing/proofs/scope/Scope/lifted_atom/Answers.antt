@@ -3,7 +3,7 @@ use Rattle.std.proofs.lemmas.List.{length-map}
 use Rattle.typing.specs.Task.{file_of}
 use Rattle.typing.specs.Scope.{arguments_at, known_of}
 use Rattle.typing.specs.Walk.{found, least_of}
-use Rattle.pddl_tree.specs.Tree as read
+use Rattle.syntax_tree.specs.Tree as read
 use Rattle.model.specs.Typing as typing
 use Rattle.typing.proofs.Found.{found_after, map-map}
 use Rattle.typing.proofs.scope.Scope.lifted_atom.Goals as goal

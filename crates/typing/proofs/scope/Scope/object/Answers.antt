@@ -3,7 +3,7 @@ use Rattle.std.specs.Option.{option_map, option_map_or}
 use Rattle.std.specs.Map.{keys_of}
 use Rattle.std.proofs.lemmas.List.{length-map}
 use Rattle.model.specs.Typing.{refused_word, number_in, is_known, names_of_objects}
-use Rattle.pddl_tree.specs.Tree.{name_of}
+use Rattle.syntax_tree.specs.Tree.{name_of}
 use Rattle.typing.specs.Task.{file_of, refusal_of}
 use Rattle.typing.specs.TaskParts.{object_entry_of}
 use Rattle.typing.specs.Walk.{found, least_of}

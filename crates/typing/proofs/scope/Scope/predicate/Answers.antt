@@ -1,6 +1,6 @@
 use Rattle.std.proofs.Common.{◌≡◌, ◌==◌, ◌∙◌, map, length, ap, sym, refl, [], if◌then◌else◌, List, Bool, arith}
 use Rattle.std.specs.Option.{option_map}
-use Rattle.pddl_tree.specs.Tree.{name_of}
+use Rattle.syntax_tree.specs.Tree.{name_of}
 use Rattle.model.specs.Typing.{refused_word, number_in, names_of_predicates, predicate_faults, TypingFault}
 use Rattle.std.proofs.lemmas.List.{length-map}
 use Rattle.typing.specs.TaskParts.{predicate_of, union_of}

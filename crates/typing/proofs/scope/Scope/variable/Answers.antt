@@ -1,7 +1,7 @@
 use Rattle.std.proofs.Common.{◌≡◌, ◌∙◌, Bool, [], if◌then◌else◌, is_some, map, ap, refl}
 use Rattle.std.specs.Option.{option_map, option_map_or}
 use Rattle.model.specs.Typing.{refused_word, number_in, is_known, names_of_variables}
-use Rattle.pddl_tree.specs.Tree.{name_of}
+use Rattle.syntax_tree.specs.Tree.{name_of}
 use Rattle.typing.specs.Task.{file_of, refusal_of}
 use Rattle.typing.specs.Scope.{variable_entry_of}
 use Rattle.typing.specs.Walk.{found, least_of}

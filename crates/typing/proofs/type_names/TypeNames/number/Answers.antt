@@ -1,5 +1,5 @@
 use Rattle.std.proofs.Common.{◌∙◌, Some, None, refl}
-use Rattle.pddl_tree.specs.Tree.{name_of}
+use Rattle.syntax_tree.specs.Tree.{name_of}
 use Rattle.typing.proofs.Tables.{told_of_place}
 use Rattle.typing.proofs.type_names.TypeNames.number.Goals as goal
 

@@ -1,6 +1,6 @@
 use Rattle.std.proofs.Common.{◌≡◌, ◌==◌, ◌∙◌, false, List, [], ◌∷◌, map, length, refl, sym, true≢false}
 use Rattle.typing.specs.Scope.{names_in}
-use Rattle.pddl_tree.specs.Tree as read
+use Rattle.syntax_tree.specs.Tree as read
 use Rattle.pddl_words.specs.declared.name.Name.{Name}
 use Rattle.model.specs.Task as task
 use Rattle.model.specs.Typing as typing

@@ -3,7 +3,7 @@ use Rattle.std.proofs.lemmas.List.{map_push, map_more}
 use Rattle.typing.specs.TaskParts as parts
 use Rattle.typing.specs.TypedLists.{declared_of}
 use Rattle.typing.specs.Scope.{names_in}
-use Rattle.pddl_tree.specs.Tree as read
+use Rattle.syntax_tree.specs.Tree as read
 use Rattle.model.specs.Typing as typing
 use Rattle.typing.specs.declared.typed_lists.Declared.{Declared}
 use Rattle.typing.proofs.Found.{map_taken}

@@ -2,9 +2,9 @@ use Rattle.std.proofs.Common.{map, ◌∙◌, ap}
 use Rattle.model.specs.Trees.{formulas, effects}
 use Rattle.model.specs.Trees as tree
 use Rattle.pddl_words.specs.Name.{name_of}
-use Rattle.pddl_tree.specs.Tree.{formula_of, effect_of, group_of, increase_of}
-use Rattle.pddl_tree.proofs.Rows.{formula_of-And, effect_of-And}
-use Rattle.pddl_tree.proofs.tree.Action.bare.Goals as goal
+use Rattle.syntax_tree.specs.Tree.{formula_of, effect_of, group_of, increase_of}
+use Rattle.syntax_tree.proofs.Rows.{formula_of-And, effect_of-And}
+use Rattle.pddl_tree.proofs.action.bare.Goals as goal
 
 pub returns : goal.returns
 returns c =

@@ -2,25 +2,25 @@
 use Rattle.std.specs.Prelude.{List, map}
 use Rattle.std.specs.Option.{option_map}
 use Rattle.std.specs.Global.{Vec}
-use Rattle.pddl_tree.specs.declared.tree.TaskFile.{TaskFile}
-use Rattle.pddl_tree.specs.declared.tree.TaskFile.TheVariants as file
-use Rattle.pddl_tree.specs.declared.tree.Atom.{Atom}
-use Rattle.pddl_tree.specs.declared.tree.Predicate.{Predicate}
-use Rattle.pddl_tree.specs.declared.tree.Increase.{Increase}
-use Rattle.pddl_tree.specs.declared.tree.Action.{Action}
-use Rattle.pddl_tree.specs.declared.tree.Domain.{Domain}
-use Rattle.pddl_tree.specs.declared.tree.Group.{Group}
-use Rattle.pddl_tree.specs.declared.tree.GroundAtom.{GroundAtom}
-use Rattle.pddl_tree.specs.declared.tree.InitialCost.{InitialCost}
-use Rattle.pddl_tree.specs.declared.tree.Fact.{Fact}
-use Rattle.pddl_tree.specs.declared.tree.Fact.TheVariants as fact
-use Rattle.pddl_tree.specs.declared.tree.Problem.{Problem}
-use Rattle.pddl_tree.specs.declared.tree.Formula.{Formula, Row_of-Formula, end_of-Formula, more_of-Formula}
-use Rattle.pddl_tree.specs.declared.tree.Formula as formula
-use Rattle.pddl_tree.specs.declared.tree.EffectLiteral.{EffectLiteral}
-use Rattle.pddl_tree.specs.declared.tree.EffectLiteral.TheVariants as literal
-use Rattle.pddl_tree.specs.declared.tree.Effect.{Effect, Row_of-Effect, end_of-Effect, more_of-Effect}
-use Rattle.pddl_tree.specs.declared.tree.Effect as effect
+use Rattle.syntax_tree.specs.declared.tree.TaskFile.{TaskFile}
+use Rattle.syntax_tree.specs.declared.tree.TaskFile.TheVariants as file
+use Rattle.syntax_tree.specs.declared.tree.Atom.{Atom}
+use Rattle.syntax_tree.specs.declared.tree.Predicate.{Predicate}
+use Rattle.syntax_tree.specs.declared.tree.Increase.{Increase}
+use Rattle.syntax_tree.specs.declared.tree.Action.{Action}
+use Rattle.syntax_tree.specs.declared.tree.Domain.{Domain}
+use Rattle.syntax_tree.specs.declared.tree.Group.{Group}
+use Rattle.syntax_tree.specs.declared.tree.GroundAtom.{GroundAtom}
+use Rattle.syntax_tree.specs.declared.tree.InitialCost.{InitialCost}
+use Rattle.syntax_tree.specs.declared.tree.Fact.{Fact}
+use Rattle.syntax_tree.specs.declared.tree.Fact.TheVariants as fact
+use Rattle.syntax_tree.specs.declared.tree.Problem.{Problem}
+use Rattle.syntax_tree.specs.declared.tree.Formula.{Formula, Row_of-Formula, end_of-Formula, more_of-Formula}
+use Rattle.syntax_tree.specs.declared.tree.Formula as formula
+use Rattle.syntax_tree.specs.declared.tree.EffectLiteral.{EffectLiteral}
+use Rattle.syntax_tree.specs.declared.tree.EffectLiteral.TheVariants as literal
+use Rattle.syntax_tree.specs.declared.tree.Effect.{Effect, Row_of-Effect, end_of-Effect, more_of-Effect}
+use Rattle.syntax_tree.specs.declared.tree.Effect as effect
 use Rattle.model.specs.Trees as tree
 pub use Rattle.pddl_words.specs.Name.{name_of, term_of}
 

@@ -2,11 +2,11 @@
 use Rattle.std.proofs.Common.{◌≡◌, map, refl, ◌∙◌, ap}
 use Rattle.std.specs.Global.{Vec}
 use mathlib.Core.Former.{Count}
-use Rattle.pddl_tree.specs.declared.tree.Formula.{Formula, And', Or', Row_of-Formula, end_of-Formula, more_of-Formula, items-the_row-Formula, items_hidden-the_row-Formula-0}
-use Rattle.pddl_tree.specs.declared.tree.Formula as formula
-use Rattle.pddl_tree.specs.declared.tree.Effect.{Effect, Row_of-Effect, end_of-Effect, more_of-Effect, items-the_row-Effect, items_hidden-the_row-Effect-0}
-use Rattle.pddl_tree.specs.declared.tree.Effect as effect
-use Rattle.pddl_tree.specs.Tree.{formula_of, formulas_of, effect_of, effects_of}
+use Rattle.syntax_tree.specs.declared.tree.Formula.{Formula, And', Or', Row_of-Formula, end_of-Formula, more_of-Formula, items-the_row-Formula, items_hidden-the_row-Formula-0}
+use Rattle.syntax_tree.specs.declared.tree.Formula as formula
+use Rattle.syntax_tree.specs.declared.tree.Effect.{Effect, Row_of-Effect, end_of-Effect, more_of-Effect, items-the_row-Effect, items_hidden-the_row-Effect-0}
+use Rattle.syntax_tree.specs.declared.tree.Effect as effect
+use Rattle.syntax_tree.specs.Tree.{formula_of, formulas_of, effect_of, effects_of}
 use Rattle.model.specs.Trees.{formulas, effects}
 use Rattle.model.specs.Trees as tree
 
