@@ -1,5 +1,5 @@
 -- What the checker's answers say, of a certificate that was gone through and of a closed one.
-use Rattle.std.proofs.Common.{◌≡◌, ℕ, List, length, Option, sym, ◌∙◌, refl}
+use Rattle.std.proofs.Common.{◌≡◌, ℕ, ◌≤◌, arith, List, length, Option, sym, ◌∙◌, refl}
 use Rattle.std.specs.Prelude.{Contains, IfErr, OnOk, Result, Ok, Err}
 use Rattle.std.proofs.lemmas.Option.{slice_get_within}
 use Rattle.cert_checker.specs.declared.check.Refusal.{Refusal}
@@ -12,7 +12,7 @@ use Rattle.validator.specs.declared.verdict.Verdict.TheVariants as verdict
 use Rattle.validator.specs.Verdict.{verdict_of}
 use Rattle.validator.proofs.VerdictLaws.{exactly_one_verdict}
 use Rattle.model.specs.Task.{Task, Instance}
-use Rattle.model.specs.Runs.{System, cost_of_all, Solves, valid, IsVerdict}
+use Rattle.model.specs.Runs.{System, cost_of_all, Solves, CostsAtLeast, IsOptimal, valid, IsVerdict}
 use Rattle.model.specs.Meaning.{State}
 use Rattle.model.specs.Claims.{Line}
 use Rattle.model.specs.Certificates.{Certificate, lines_of, IsClosedFor}
@@ -64,3 +64,11 @@ pub unsolved : (t : System State Instance) (plan : List Instance) (v : code_verd
 unsolved t plan v is other solves =
     let one = exactly_one_verdict t plan in
     other_verdict v other (cost_of_all t plan) (one.2 (verdict_of v) is ∙ sym (one.2 (valid (cost_of_all t plan)) (solves, refl)))
+
+-- a list that solves at no more than every list that solves costs at least is optimal, and costs just that
+pub optimal : (t : System State Instance) (plan : List Instance) (cost least : ℕ) → Solves t plan × (cost ≡ cost_of_all t plan) → CostsAtLeast t least → cost ≤ least
+    → IsOptimal t plan × (cost_of_all t plan ≡ cost)
+optimal t plan cost least right at_least within = ((right.0, λ other solves. omega (arith, right.1, within, at_least other solves)), sym right.1)
+
+pub claimed_cost : (t : System State Instance) (plan : List Instance) (cost least : ℕ) → Solves t plan × (cost ≡ cost_of_all t plan) → CostsAtLeast t least → cost ≤ least → least ≡ cost
+claimed_cost t plan cost least right at_least within = omega (arith, right.1, within, at_least plan right.0)

@@ -1,16 +1,13 @@
 -- Lists of changes, one after another.
-use Rattle.std.specs.Prelude.{◌≡◌, ℕ, ◌+◌, ◌<◌, ◌≤◌, List, [], ◌∷◌, ◌++◌, length, map, take, slice_get, Some, refl}
+use Rattle.std.specs.Prelude.{◌≡◌, ℕ, ◌+◌, ◌<◌, ◌≤◌, List, [], ◌∷◌, ◌++◌, length, map, take}
 use Rattle.std.proofs.Common.{sym, ◌∙◌, ap, get_or}
 use Rattle.std.specs.Global.{Vec}
-use Rattle.std.specs.Option.{option_map, option_map_or}
 use Rattle.std.proofs.lemmas.List.{take_all, take_more, map-append, append_assoc}
 use Rattle.typing.specs.declared.schemas.EffectLiteral.{EffectLiteral}
 use Rattle.typing.specs.declared.schemas.Formula.{Formula}
 use Rattle.typing.specs.declared.schemas.Effect.{Effect}
 use Rattle.typing.specs.declared.schemas.Effect as effect
-use Rattle.typing.specs.TaskParts.{effect_literal_of, effect_of, formula_of, shape_of_schema}
-use Rattle.typing.proofs.Shapes.{Shape, found}
-use Rattle.formulas.specs.Effects.{changes_of_instance}
+use Rattle.typing.specs.TaskParts.{effect_literal_of, effect_of, formula_of}
 use Rattle.formulas.proofs.CarriedOut.{map_twice}
 use Rattle.model.specs.Task as task
 use Rattle.model.specs.Meaning.{change_under, changes_of}
@@ -34,10 +31,3 @@ changes_when t b e condition ls items is same =
     map_twice (change_under (formula_of condition) b) effect_literal_of items
     ∙ ap (λ l. map (change_under (formula_of condition) b) (map effect_literal_of l)) same
     ∙ sym (ap (λ g. changes_of t (effect_of g) b) is)
-
--- the changes of an instance, by what is known of its schema
-pub changes_by_shape : (t : task.Task) (schema : ℕ) (shape : Shape) (is : Some shape ≡ option_map shape_of_schema (slice_get t.schemas schema)) (objects : List ℕ)
-    → changes_of t shape.2 objects ≡ changes_of_instance t (record { schema = schema; objects = objects })
-changes_by_shape t schema shape is objects =
-    let it = found (slice_get t.schemas schema) shape is in
-    ap (λ (s : Shape). changes_of t s.2 objects) it.2 ∙ sym (ap (λ o. option_map_or (λ (s : task.Schema). changes_of t s.effect objects) o []) it.1)

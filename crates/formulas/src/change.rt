@@ -29,12 +29,13 @@ pub fn apply(
     let Some(schema) = task.schema(instance.schema) else {
         return Ok(None);
     };
-    if !holds(task, &schema.precondition, &instance.objects, state) {
+    let objects = &instance.objects;
+    if !holds(task, &schema.precondition, objects, state) {
         return Ok(None);
     }
     let mut next = state.try_clone()?;
-    carry_out(task, &schema.effect, &instance.objects, state, false, &mut next)?;
-    carry_out(task, &schema.effect, &instance.objects, state, true, &mut next)?;
+    carry_out(task, &schema.effect, objects, state, false, &mut next)?;
+    carry_out(task, &schema.effect, objects, state, true, &mut next)?;
     Ok(Some(next))
 }
 

@@ -1,8 +1,7 @@
-use Rattle.std.proofs.Common.{◌∙◌, map}
+use Rattle.std.proofs.Common.{map}
 use Rattle.typing.specs.Task.{task_of}
 use Rattle.typing.specs.TaskParts.{object_of, shape_of}
 use Rattle.formulas.proofs.Instances.{effect_fits}
-use Rattle.formulas.proofs.ChangeLists.{changes_by_shape}
 use Rattle.formulas.proofs.effects.changes.Goals as goal
 
 pub add_changes-requires : goal.add_changes-requires

@@ -1,4 +1,4 @@
-use Rattle.std.proofs.Common.{◌∙◌, ◌+◌, ℕ, List, Option, ap, subst, sym, map, None, refl, arith}
+use Rattle.std.proofs.Common.{◌≡◌, ◌∙◌, ◌+◌, ℕ, List, Option, ap, subst, sym, map, None, refl, arith}
 use Rattle.std.specs.Prelude.{IsTrue}
 use Rattle.typing.specs.Task.{task_of}
 use Rattle.formulas.specs.State.{state_of, instance_of}
@@ -30,8 +30,10 @@ loop-successor-preserved c =
     let next = state_of c.successor-item.result.state in
     let most = c.args.cost + (system_of task).cost (instance_of c.successor-item.result.action) in
     let listed = subst (λ t. IsListedAt (lines_of t cert) next c.in-Some.listed) (ap task_of c.task-task.ensures) c.in-Some.ensures in
+    let step : c.from.result ≡ (system_of task).cost (instance_of c.successor-item.result.action) =
+    c.from.ensures ∙ c.cost.ensures ∙ ap (λ t. (system_of t).cost (instance_of c.successor-item.result.action)) (ap task_of c.task-task.ensures) in
     AllListed-more task cert c.args.cost successor_of c.deref-successor-items.result.now c.loop-successor.successor-index c.successor-item.result c.loop-successor-test.true c.successor-item.is
-    c.loop-successor.invariant (listed_within (lines_of task cert) next c.in-Some.listed most listed (omega (arith, c.cost.ensures, c.from.ensures, c.if-listed-cost.false)))
+    c.loop-successor.invariant (listed_within (lines_of task cert) next c.in-Some.listed most listed (omega (arith, step, c.if-listed-cost.false)))
 
 pub returns-clause-right : goal.returns-clause-right
 returns-clause-right c =
@@ -88,11 +90,13 @@ returns-then-listed-cost-clause-wrong c =
     let next = state_of c.successor-item.result.state in
     let there = line_there task cert (states_of c.args.states.now) c.args.place c.args.cost None state c.requires.lists c.requires.listed c.get-state.ensures in
     let listed = subst (λ t. IsListedAt (lines_of t cert) next c.in-Some.listed) (ap task_of c.task-task.ensures) c.in-Some.ensures in
+    let step : c.from.result ≡ (system_of task).cost (instance_of c.successor-item.result.action) =
+    c.from.ensures ∙ c.cost.ensures ∙ ap (λ t. (system_of t).cost (instance_of c.successor-item.result.action)) (ap task_of c.task-task.ensures) in
     told task cert c.state_line-then-listed-cost.result SuccessorDearer (state_line cert c.args.place) c.state_line-then-listed-cost.ensures
     (wrong_dearer task cert (states_of c.args.states.now) c.args.place state c.args.cost (instance_of c.successor-item.result.action) next c.in-Some.listed c.requires.lists there
     (leads_there task state successor_of c.deref-successor-items.result.now c.loop-successor.successor-index c.successor-item.result c.loop-successor-test.true c.successor-item.is
     (ap (map successor_of) c.deref-successor-items.ensures.value ∙ c.in_ok-successors.ensures))
-    listed (omega (arith, c.cost.ensures, c.from.ensures, c.if-listed-cost.true)))
+    listed (omega (arith, step, c.if-listed-cost.true)))
 
 pub returns-in_default-clause-first : goal.returns-in_default-clause-first
 returns-in_default-clause-first c =
@@ -127,6 +131,8 @@ returns-then-listed-cost-clause-first c =
     let goal_allowed = subst (λ t. IsTrue (meets_goal t state) → Allows cert.claim c.args.cost) same c.in_ok-check_goal.ensures.right in
     let listed = subst (λ t. IsListedAt (lines_of t cert) next c.in-Some.listed) same c.in-Some.ensures in
     let most_allowed = c.args.cost + (system_of task).cost (instance_of c.successor-item.result.action) in
+    let step : c.from.result ≡ (system_of task).cost (instance_of c.successor-item.result.action) =
+    c.from.ensures ∙ c.cost.ensures ∙ ap (λ t. (system_of t).cost (instance_of c.successor-item.result.action)) (ap task_of c.task-task.ensures) in
     told_first task cert plan most c.state_line-then-listed-cost.result SuccessorDearer (state_line cert c.args.place) c.state_line-then-listed-cost.ensures
     (first_in_line task cert plan most c.args.place successor_dearer right refl
     (open_here task cert c.args.place (record { state = state; cost = c.args.cost; cut = None }) there refl goal_allowed)) (
@@ -136,5 +142,5 @@ returns-then-listed-cost-clause-first c =
       first_to_leave task cert c.args.place state c.args.cost successor_of c.deref-successor-items.result.now c.loop-successor.successor-index c.successor-item.result there
           c.loop-successor-test.true c.successor-item.is (ap (map successor_of) c.deref-successor-items.ensures.value ∙ c.in_ok-successors.ensures) c.loop-successor.invariant,
       listed_somewhere (lines_of task cert) next c.in-Some.listed listed,
-      not_within task cert (states_of c.args.states.now) next c.in-Some.listed most_allowed c.requires.lists listed (omega (arith, c.cost.ensures, c.from.ensures, c.if-listed-cost.true)),
+      not_within task cert (states_of c.args.states.now) next c.in-Some.listed most_allowed c.requires.lists listed (omega (arith, step, c.if-listed-cost.true)),
     )
