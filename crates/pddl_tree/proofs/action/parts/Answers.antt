@@ -21,7 +21,7 @@ parts-preserved c =
     let seen = c.parts.seen.items in let p = c.in_ok-keyword.keyword in
     record {
       moved = omega (arith, c.in_ok-part.ensures.after.0);
-      read = parts_more c.args.words.now c.args.at c.parts.next c.in_ok-part.after (action_of c.args.action) (action_of c.parts.action) (action_of c.add.new.self) (map part_view seen) (map part_view c.push.new.self.items) (part_view p) (part_tree c.in_ok-part.part)
+      read = parts_more c.args.words.now c.args.at c.parts.next c.in_ok-part.after (action_of c.args.action) (action_of c.parts.action) (action_of c.add.new.action) (map part_view seen) (map part_view c.push.new.self.items) (part_view p) (part_tree c.in_ok-part.part)
           c.parts.invariant.read c.in_ok-keyword.ensures.word (ap (λ l. has_part (map part_view l) (part_view p)) (sym c.deref.ensures.value) ∙ c.in_ok-keyword.ensures.new) (ap (map part_view) c.in_ok-push.ensures.items ∙ map-append part_view seen (p ∷ [])) (subst (λ l. IsRead (part_after (map part_view l) (part_view p)) c.args.words.now (c.parts.next + 1) (part_tree c.in_ok-part.part) c.in_ok-part.after) c.deref-in-parts.ensures.value c.in_ok-part.ensures.read) c.add.ensures;
     }
 

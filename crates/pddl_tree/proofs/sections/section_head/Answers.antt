@@ -15,7 +15,7 @@ use Rattle.pddl_tree.proofs.sections.section_head.Goals as goal
 pub returns-then-has_all-clause-told : goal.returns-then-has_all-clause-told
 returns-then-has_all-clause-told c = λ goes_on.
     let f = file_of c.args.file in let seen = map section_view c.args.seen.now in
-    refused_as (grammar.sections f seen) define_word (sections_full f seen (first (from c.args.words.now c.args.at)) (all_seen c.sections.result.now (sections_of f) seen c.has_all.result _ c.sections.ensures c.has_all.ensures c.if-has_all.true) goes_on) c.refusal.ensures
+    refused_as (grammar.sections f seen) define_word (sections_full f seen (first (from c.args.words.now c.args.at)) (all_seen c.allowed.result.now (sections_of f) seen c.has_all.result _ c.allowed.ensures c.has_all.ensures c.if-has_all.true) goes_on) c.refusal.ensures
 
 pub returns-in_err-inside-clause-told : goal.returns-in_err-inside-clause-told
 returns-in_err-inside-clause-told c =
@@ -34,5 +34,5 @@ pub returns-clause-told : goal.returns-clause-told
 returns-clause-told c =
     let f = file_of c.args.file in let seen = map section_view c.args.seen.now in
     if_err c.section_keyword.result (λ refusal told goes_on. no_section f seen c.args.words.now c.args.at refusal c.in_ok-inside.ensures.word.0
-    (all_seen c.sections.result.now (sections_of f) seen c.has_all.result _ c.sections.ensures c.has_all.ensures c.if-has_all.false)
+    (all_seen c.allowed.result.now (sections_of f) seen c.has_all.result _ c.allowed.ensures c.has_all.ensures c.if-has_all.false)
     (subst (λ i. IsNotNew c.args.words.now i f seen refusal) c.in_ok-inside.ensures.word.1 told)) c.section_keyword.ensures.told
