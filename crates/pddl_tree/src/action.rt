@@ -12,12 +12,12 @@ ghost use Rattle.pddl_tree.specs.Sections.{part_tree, the_action, parts_on};
 use crate::formulas::formula;
 use crate::look::{action_name, is_close, open};
 use crate::refusal::{Listed, Place, has_part, refusal};
-use syntax_tree::{Action, Effect, Formula, Group};
 use crate::typed::typed;
 use crate::values::{EffectValue, effect_value};
 use faults::Refused;
 use pddl_words::{Keyword, Name, PartKeyword, Token, WordFault, WordRefusal, token_at};
 use std::alloc::Global;
+use syntax_tree::{Action, Effect, Formula, Group};
 use tokens::Word;
 
 /// A part of an action.

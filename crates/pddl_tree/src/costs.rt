@@ -11,9 +11,9 @@ ghost use Rattle.pddl_tree.specs.Typed.{IsOne};
 
 use crate::look::{amount, close, is_close, is_dash, minimize, number_word, open, total_cost_word};
 use crate::refusal::Place;
-use syntax_tree::{Increase, InitialCost};
 use pddl_words::{Name, WordFault, WordRefusal};
 use std::alloc::Global;
+use syntax_tree::{Increase, InitialCost};
 use tokens::Word;
 
 /// The total cost with a number.

@@ -8,11 +8,11 @@ use crate::costs::initial_cost;
 use crate::lists::names;
 use crate::look::{close, is_close, open, predicate};
 use crate::refusal::{Listed, Place, refusal};
-use syntax_tree::{Fact, GroundAtom, Predicate};
 use crate::typed::typed;
 use faults::Refused;
 use pddl_words::{ReservedName, Token, WordFault, token_at};
 use std::alloc::Global;
+use syntax_tree::{Fact, GroundAtom, Predicate};
 use tokens::Word;
 
 /// Declarations of predicates, and `)`: the predicates, and the index after the parenthesis.

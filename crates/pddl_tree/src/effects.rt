@@ -11,11 +11,11 @@ use crate::lists::terms;
 use crate::literals::{conditional, last_atom};
 use crate::look::{close, is_close, open};
 use crate::refusal::{Listed, Literals, Place, refusal};
-use syntax_tree::{Atom, Effect, EffectLiteral};
 use crate::typed::typed;
 use faults::Refused;
 use pddl_words::{ReservedName, Token, WordFault, token_at};
 use std::alloc::Global;
+use syntax_tree::{Atom, Effect, EffectLiteral};
 use tokens::Word;
 
 /// An effect whose `(` was read, and the index after its `)`.

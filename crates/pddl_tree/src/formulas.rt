@@ -9,11 +9,11 @@ ghost use Rattle.syntax_tree.specs.Tree.{formula_of, groups_of};
 use crate::lists::terms;
 use crate::look::{close, is_close, open, term};
 use crate::refusal::{Listed, Place, refusal};
-use syntax_tree::{Atom, Formula, Group};
 use crate::typed::typed;
 use faults::Refused;
 use pddl_words::{ReservedName, Token, WordFault, WordRefusal, token_at};
 use std::alloc::Global;
+use syntax_tree::{Atom, Formula, Group};
 use tokens::Word;
 
 /// A formula whose `(` was read, and the index after its `)`.

@@ -8,10 +8,10 @@ ghost use Rattle.syntax_tree.specs.Tree.{atom_of, effect_literal_of};
 use crate::lists::terms;
 use crate::look::{close, is_and, is_close, open, predicate};
 use crate::refusal::{Literals, Place, refusal};
-use syntax_tree::{Atom, EffectLiteral};
 use faults::Refused;
 use pddl_words::{ReservedName, Token, WordFault, token_at};
 use std::alloc::Global;
+use syntax_tree::{Atom, EffectLiteral};
 use tokens::Word;
 
 /// What stands under a `when`, of which the `(` was read, and the index after its `)`: literals.

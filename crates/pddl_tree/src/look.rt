@@ -12,8 +12,8 @@ ghost use Rattle.pddl_tree.specs.Costs.{IsTotalCost, dash_first, increase_in};
 ghost use Rattle.pddl_tree.specs.Typed.{IsListed, IsNotListed, ends_group_first};
 
 use crate::refusal::{Listed, Place, refusal};
-use syntax_tree::TaskFile;
 use pddl_words::{FreeName, Keyword, Name, ReservedName, Term, Token, WordRefusal, token_at};
+use syntax_tree::TaskFile;
 use tokens::Word;
 
 /// Whether `)` stands at an index.

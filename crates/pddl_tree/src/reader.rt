@@ -30,10 +30,10 @@ ghost use Rattle.syntax_tree.specs.Tree.{file_of, domain_of, problem_of};
 use crate::look::{close, define, kind, name, open};
 use crate::refusal::{Place, refusal};
 use crate::sections::{Contents, sections};
-use syntax_tree::{Domain, Problem, TaskFile};
 use faults::{Fault, Refusal, Refused, Span};
 use pddl_words::{Name, WordFault, WordRefusal};
 use std::alloc::Global;
+use syntax_tree::{Domain, Problem, TaskFile};
 use tokens::Word;
 
 /// The domain that the words are: the whole file, in the words of its text.

@@ -12,11 +12,11 @@ ghost use Rattle.pddl_tree.specs.Reading.{number_seen};
 ghost use Rattle.syntax_tree.specs.Tree.{file_of};
 ghost use Rattle.pddl_tree.specs.Place.{wanted, place_of};
 
-use syntax_tree::TaskFile;
 use faults::Code;
 use pddl_words::{
     FreeName, Keyword, PartKeyword, ReservedName, SectionKeyword, Token, WordRefusal, token_at,
 };
+use syntax_tree::TaskFile;
 use tokens::Word;
 
 /// The sections that may stand in a file.

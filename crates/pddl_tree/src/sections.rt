@@ -17,11 +17,11 @@ use crate::formulas::formula;
 use crate::lists::keys;
 use crate::look::{close, is_close, name, open};
 use crate::refusal::{Listed, Place, allowed, has_section, refusal, required};
-use syntax_tree::{Action, Fact, Formula, Group, Predicate, TaskFile};
 use crate::typed::typed;
 use faults::{NoMemory, Refused, Span};
 use pddl_words::{Keyword, Name, SectionKeyword, Token, WordFault, WordRefusal, token_at};
 use std::alloc::Global;
+use syntax_tree::{Action, Fact, Formula, Group, Predicate, TaskFile};
 use tokens::Word;
 
 /// What was read of a section.

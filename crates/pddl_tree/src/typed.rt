@@ -11,10 +11,10 @@ ghost use Rattle.pddl_tree.specs.Typed.{IsOne, groups as groups_and, the_either}
 use crate::lists::names;
 use crate::look::{either_word, ends_group, is_close, listed_name, name};
 use crate::refusal::{Listed, Place, refusal};
-use syntax_tree::Group;
 use faults::Refused;
 use pddl_words::{Name, Token, WordFault, token_at};
 use std::alloc::Global;
+use syntax_tree::Group;
 use tokens::Word;
 
 /// A typed list, and `)`: its groups, and the index after the parenthesis.

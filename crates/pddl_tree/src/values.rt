@@ -9,10 +9,10 @@ use crate::costs::increase;
 use crate::effects::effect;
 use crate::look::{increase_word, is_and, is_close, open};
 use crate::refusal::Place;
-use syntax_tree::{Effect, Increase};
 use faults::NoMemory;
 use pddl_words::WordFault;
 use std::alloc::Global;
+use syntax_tree::{Effect, Increase};
 use tokens::Word;
 
 /// The value of an `:effect`.

@@ -21,8 +21,8 @@ use crate::walk::Walk;
 use crate::{Schema, TaskFault, TaskFile, TypeUnion};
 use faults::NoMemory;
 use indexmap::{IndexMap, IndexSet};
-use syntax_tree::{Action, Domain};
 use std::alloc::Global;
+use syntax_tree::{Action, Domain};
 
 /// What an action with these parameters declares, where these variables are in scope.
 fn body(

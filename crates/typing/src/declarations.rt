@@ -17,8 +17,8 @@ use crate::walk::Walk;
 use crate::{MAX_ARGUMENTS, Predicate, TaskFault, TaskFile, TypeUnion};
 use faults::NoMemory;
 use indexmap::IndexMap;
-use syntax_tree::{Domain, Predicate as Declaration};
 use std::alloc::Global;
+use syntax_tree::{Domain, Predicate as Declaration};
 
 /// What each argument of a declaration has to be.
 fn arguments(

@@ -15,8 +15,8 @@ use crate::walk::Walk;
 use crate::{TaskFault, TaskFile};
 use faults::{Code, NoMemory};
 use indexmap::IndexSet;
-use syntax_tree::{Domain, Name, Problem};
 use std::alloc::Global;
+use syntax_tree::{Domain, Name, Problem};
 
 /// The most types that a domain may declare.
 const MAX_TYPES: usize = 4095;

@@ -15,9 +15,9 @@ use crate::walk::Walk;
 use crate::{Effect, EffectLiteral, TypeUnion};
 use faults::NoMemory;
 use indexmap::IndexMap;
+use std::alloc::Global;
 use syntax_tree as tree;
 use syntax_tree::Group;
-use std::alloc::Global;
 
 /// A literal of an effect.
 fn literal(

@@ -16,9 +16,9 @@ use crate::walk::Walk;
 use crate::{Formula, TypeUnion};
 use faults::NoMemory;
 use indexmap::IndexMap;
+use std::alloc::Global;
 use syntax_tree as tree;
 use syntax_tree::Group;
-use std::alloc::Global;
 
 /// An atom as a formula.
 fn atom(

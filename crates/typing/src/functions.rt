@@ -10,8 +10,8 @@ ghost use Rattle.model.specs.Typing as typing;
 use crate::walk::Walk;
 use crate::{TaskFault, TaskFile};
 use faults::Code;
-use syntax_tree::{Action, Domain, Increase, Name, Problem};
 use std::alloc::Global;
+use syntax_tree::{Action, Domain, Increase, Name, Problem};
 
 /// Refuses words that are declared again.
 fn refuse_functions(walk: &mut Walk, words: &[Name<'_>])

@@ -30,6 +30,6 @@ pub use atoms::{
 };
 pub use fault::{TaskFault, TaskRefusal};
 pub use laws::examples_are_typed;
-pub use syntax_tree::TaskFile;
 pub use schemas::{Effect, EffectLiteral, Formula, Predicate, Schema, TypeUnion};
+pub use syntax_tree::TaskFile;
 pub use task::Task;

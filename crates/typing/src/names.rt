@@ -9,8 +9,8 @@ use crate::{
     domain, functions, objects, statements,
 };
 use indexmap::IndexMap;
-use syntax_tree::{Domain, Problem};
 use std::alloc::Global;
+use syntax_tree::{Domain, Problem};
 
 /// The types of a domain, by name: each in the place of its number.
 #[derive(Drop)]

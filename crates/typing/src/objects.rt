@@ -19,8 +19,8 @@ use crate::walk::Walk;
 use crate::{MAX_OBJECTS, TaskFault, TaskFile, TypeId};
 use faults::NoMemory;
 use indexmap::IndexMap;
-use syntax_tree::{Domain, Group, Problem};
 use std::alloc::Global;
+use syntax_tree::{Domain, Group, Problem};
 
 /// Declares an object. One that is declared before is refused.
 fn declare_object(

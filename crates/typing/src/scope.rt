@@ -13,9 +13,9 @@ use crate::{
 use arrayvec::ArrayVec;
 use faults::{Code, NoMemory};
 use indexmap::IndexMap;
+use std::alloc::Global;
 use syntax_tree as tree;
 use syntax_tree::{GroundAtom, Name};
-use std::alloc::Global;
 
 /// What may be named all over a file: what is declared outside its actions.
 #[derive(Drop)]

@@ -14,8 +14,8 @@ use crate::walk::Walk;
 use crate::{Atom, Formula, TaskFault, TaskFile, TypeUnion};
 use faults::{Code, NoMemory};
 use indexmap::IndexMap;
-use syntax_tree::{Fact, InitialCost, Problem};
 use std::alloc::Global;
+use syntax_tree::{Fact, InitialCost, Problem};
 
 /// The total cost at the start is refused where it is not declared, and where it is not 0.
 fn check_initial_cost(walk: &mut Walk, scope: &Scope<'_>, cost: &InitialCost<'_>)

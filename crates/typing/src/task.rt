@@ -10,8 +10,8 @@ use crate::schemas::{Formula, Predicate, Schema, TypeUnion};
 use crate::types::{self, is_below};
 use faults::NoMemory;
 use indexmap::IndexMap;
-use syntax_tree::{Domain, Problem};
 use std::alloc::Global;
+use syntax_tree::{Domain, Problem};
 
 /// A planning task: a well-typed pair of a domain and a problem, with numbers for names.
 #[derive(Drop)]

@@ -7,8 +7,8 @@ use crate::walk::fold;
 use crate::{TypeId, TypeUnion};
 use faults::NoMemory;
 use indexmap::IndexSet;
-use syntax_tree::Name;
 use std::alloc::Global;
+use syntax_tree::Name;
 
 /// The names of the types, `object` first: each in the place of its number.
 #[derive(Drop)]

@@ -9,8 +9,8 @@ ghost use Rattle.model.specs.Typing as typing;
 use crate::TaskFile;
 use crate::walk::Walk;
 use faults::{Code, NoMemory};
-use syntax_tree::{Group, Name};
 use std::alloc::Global;
+use syntax_tree::{Group, Name};
 
 /// A name that a typed list of a file declares, and the types after its `-`.
 #[derive(Drop)]

@@ -15,8 +15,8 @@ use crate::walk::Walk;
 use crate::{TaskFile, TypeId, TypeUnion};
 use faults::{Code, NoMemory};
 use indexmap::{IndexMap, IndexSet};
-use syntax_tree::Name;
 use std::alloc::Global;
+use syntax_tree::Name;
 
 /// A type that is not known is refused.
 fn check_type(

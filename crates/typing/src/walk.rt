@@ -6,8 +6,8 @@ ghost use Rattle.model.specs.Typing.{folded, refused_word};
 use crate::TaskFile;
 use crate::fault::{TaskFault, TaskRefusal};
 use faults::{Code, NoMemory};
-use syntax_tree::Name;
 use std::alloc::Global;
+use syntax_tree::Name;
 
 /// The least fault that was found so far, and room for a name in lower case.
 #[derive(Drop)]
