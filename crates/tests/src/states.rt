@@ -2,7 +2,8 @@
 use crate::helpers::{Term, Texts, atom, atoms, instance, is_of, on_task};
 use faults::NoMemory;
 use formulas::{
-    Binding, Instance, Plan, State, apply, holds, is_atom, is_fluent, is_instance, meets_goal, sure,
+    Binding, Instance, Plan, State, apply, changes, holds, is_atom, is_fluent, is_instance,
+    meets_goal, sure,
 };
 use std::alloc::Global;
 use std::process::Abort;
@@ -98,6 +99,42 @@ fn keeps(rt: &impl Abort, alloc: Global, task: &Task) -> Result<(), Fail> {
 #[test]
 fn adds_win_over_deletes(rt: HostRuntime) -> Result<(), Fail> {
     on_task(&rt, rt.alloc(), &KEEP, keeps)
+}
+
+/// An action that changes one atom in any case, and another for each object of which a condition holds.
+const TURN: Texts = [
+    "(define (domain turn) (:predicates (on ?x) (seen ?x))
+ (:action act :parameters (?x) :effect (and (seen ?x) (forall (?y) (when (on ?y) (not (on ?x)))))))",
+    "(define (problem t) (:domain turn) (:objects a b) (:init) (:goal (and)))",
+];
+
+/// What it changes with the second object: a condition's variables are those of the action and of the `forall`.
+const CHANGED: &str =
+    "[ObjectId(1)] Adds(Atom { predicate: PredicateId(1), objects: [ObjectId(1)] }), \
+[ObjectId(1), ObjectId(0)] Deletes(Atom { predicate: PredicateId(0), objects: [ObjectId(1)] }), \
+[ObjectId(1), ObjectId(1)] Deletes(Atom { predicate: PredicateId(0), objects: [ObjectId(1)] })";
+
+fn lists_changes(rt: &impl Abort, alloc: Global, task: &Task) -> Result<(), Fail> {
+    let step = instance(0, &[1]);
+    assert!(rt; is_instance(task, &step));
+    let found = changes(alloc, task, &step)?;
+    let [always, first, second] = found.as_slice() else {
+        return Err("not three changes".into());
+    };
+    assert!(rt;
+        always.condition.is_none() & first.condition.is_some() & second.condition.is_some()
+    );
+    let told = format!(in alloc;
+        "{:?} {:?}, {:?} {:?}, {:?} {:?}",
+        always.binding, always.literal, first.binding, first.literal, second.binding, second.literal
+    )?;
+    assert_eq!(rt; told.as_str(), CHANGED);
+    Ok(())
+}
+
+#[test]
+fn changes_have_their_conditions(rt: HostRuntime) -> Result<(), Fail> {
+    on_task(&rt, rt.alloc(), &TURN, lists_changes)
 }
 
 /// A goal with each form, of which five say something outright.
