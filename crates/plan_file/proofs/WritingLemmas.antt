@@ -23,24 +23,11 @@ use Rattle.model.specs.PlanText.{schema_names, object_names}
 use Rattle.model.specs.PlanWriting.{schema_name, object_name, object_text, step_text, is_lower_name, differ, are_lower_names, has_names}
 use Rattle.model.proofs.Tests.{passes_got}
 
--- nothing was taken
-pub none_taken : (known : Option (List ℕ)) (text : List ℕ) → AppendsBeginning known known text
-none_taken None text = ([], text, refl, tt)
-none_taken (Some bytes) text = ([], text, refl, sym (append-nil bytes))
-
-pub nothing_taken : (known : Option (List ℕ)) → Appends known known []
-nothing_taken None = tt
-nothing_taken (Some bytes) = sym (append-nil bytes)
-
 -- some was taken, and a beginning of what comes next
 next_partly : (before now after : Option (List ℕ)) (done next later whole : List ℕ) → whole ≡ (done ++ next) ++ later → Appends before now done → AppendsBeginning now after next → AppendsBeginning before after whole
 next_partly before now after done next later whole whole_is taken (front, rest, next_is, more) =
     let split : (done ++ (front ++ rest)) ++ later ≡ (done ++ front) ++ (rest ++ later) = simp append_assoc in
     (done ++ front, rest ++ later, whole_is ∙ ap (λ bs. (done ++ bs) ++ later) next_is ∙ split, Appends-trans before now after done front taken more)
-
--- a call that fails counts from where the calls before it left the count
-pub counted_on : {T : Type 0} (r : Result T WriteFault) (before now after : ℕ) → now ≡ before → CountsDevice now after r → CountsDevice before after r
-counted_on r before now after same counts = subst (λ n. CountsDevice n after r) same counts
 
 -- of the pieces of a list the first i were taken
 module _ {X Y : Type 0} (f : Y → List ℕ) (v : X → Y) (xs : List X) (i : ℕ) (before now after : Option (List ℕ))
@@ -55,9 +42,6 @@ module _ {X Y : Type 0} (f : Y → List ℕ) (v : X → Y) (xs : List X) (i : �
         ∙ ap (λ bs. bs ++ (f (v (get_or xs i x)) ++ [])) (sym (flat_map-map f v (take i xs)))
         ∙ ap (λ y. flat_map f (map v (take i xs)) ++ (f (v y) ++ [])) (sym is)
         ∙ ap (λ bs. flat_map f (map v (take i xs)) ++ bs) (append-nil (f (v x)))
-
-    pub piece_taken : Appends now after (f (v x)) → Appends before after (flat_map f (map v (take (i + 1) xs)))
-    piece_taken more = subst (Appends before after) (sym piece_more) (Appends-trans before now after (flat_map f (map v (take i xs))) (f (v x)) taken more)
 
     pub piece_partly : (ys : List Y) (last : List ℕ) → map v xs ≡ ys → AppendsBeginning now after (f (v x)) → AppendsBeginning before after (flat_map f ys ++ last)
     piece_partly ys last same part =
@@ -76,10 +60,6 @@ module _ {X Y : Type 0} (f : Y → List ℕ) (v : X → Y) (xs : List X) (i : �
   module _ (past : length xs ≤ i) (ys : List Y) (same : map v xs ≡ ys) (last : List ℕ) where
     all_taken : Appends before now (flat_map f ys)
     all_taken = subst (Appends before now) (ap (λ zs. flat_map f (map v zs)) (take_all i xs past) ∙ ap (flat_map f) same) taken
-
-    pub last_taken : {T : Type 0} (r : Result T WriteFault) → OnOk r (Appends now after last) → OnOk r (Appends before after (flat_map f ys ++ last))
-    last_taken (Ok done) more = Appends-trans before now after (flat_map f ys) last all_taken more
-    last_taken (Err fault) more = tt
 
     pub last_partly : AppendsBeginning now after last → AppendsBeginning before after (flat_map f ys ++ last)
     last_partly part = next_partly before now after (flat_map f ys) last [] (flat_map f ys ++ last) (sym (append-nil (flat_map f ys ++ last))) all_taken part
@@ -108,7 +88,7 @@ lower_ascii : (name : Name) → is_lower_name name ≡ true → IsAscii name
 lower_ascii name e = name_ascii name (and_parts (is_name name) _ (and_parts _ _ e).0).0
 
 name_of_ascii : {X : Type 0} (name : X → Name) (xs : List X) (k : ℕ) → are_lower_names (map name xs) ≡ true → IsAscii (option_map_or name (slice_get xs k) [])
-name_of_ascii name xs k named = by_entry (slice_get xs k) refl
+name_of_ascii {X = X} name xs k named = by_entry (slice_get xs k) refl
   where
     by_entry : (o : Option X) → slice_get xs k ≡ o → IsAscii (option_map_or name o [])
     by_entry None at = IsAscii-nil
@@ -126,7 +106,7 @@ objects_ascii task (k ∷ objects) named =
 pub step_ascii : (task : Task) (i : Instance) → IsTrue (has_names task) → IsAscii (step_text task i)
 step_ascii task i named =
     let both = and_parts (are_lower_names (schema_names task)) (are_lower_names (object_names task)) named in
-    IsAscii-append _ (41 ∷ [])
-    (IsAscii-append _ (flat_map (object_text task) i.objects)
+    IsAscii-append ((40 ∷ schema_name task i.schema) ++ flat_map (object_text task) i.objects) (41 ∷ [])
+    (IsAscii-append (40 ∷ schema_name task i.schema) (flat_map (object_text task) i.objects)
         (IsAscii-cons 40 (schema_name task i.schema) (omega arith) (name_of_ascii (λ (s : Schema). s.name) task.schemas i.schema both.0)) (objects_ascii task i.objects both.1))
     (IsAscii-cons 41 [] (omega arith) IsAscii-nil)
