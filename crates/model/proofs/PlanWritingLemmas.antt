@@ -235,8 +235,19 @@ module _ (task : Task) (schemas_named : are_lower_names (schema_names task) ≡ 
         let left = texts ++ 41 ∷ 10 ∷ more in
         record {
           parts = alone 32 ∷ part ∷ after.parts;
-          cut = ((object_name task k ++ texts) ++ 41 ∷ 10 ∷ more, refl, refl, ends_blank _, (left, append_assoc (object_name task k) texts (41 ∷ 10 ∷ more) ∙ ap (λ bs. bs ++ left) (sym here.a_run.bytes_are), here.a_run.to_its_end,
-              subst (λ f. EndsBefore f left) (sym here.a_run.a_run) (ends_before_objects objects (10 ∷ more)), after.cut));
+          cut = (
+            (object_name task k ++ texts) ++ 41 ∷ 10 ∷ more,
+            refl,
+            refl,
+            ends_blank _,
+            (
+              left,
+              append_assoc (object_name task k) texts (41 ∷ 10 ∷ more) ∙ ap (λ bs. bs ++ left) (sym here.a_run.bytes_are),
+              here.a_run.to_its_end,
+              subst (λ f. EndsBefore f left) (sym here.a_run.a_run) (ends_before_objects objects (10 ∷ more)),
+              after.cut,
+            ),
+          );
           words = word ∷ after.words;
           last = after.last;
           rest = after.rest;
@@ -268,25 +279,43 @@ module _ (task : Task) (schemas_named : are_lower_names (schema_names task) ≡ 
             let text_is : (((schema_name task i.schema ++ texts) ++ 41 ∷ []) ++ 10 ∷ []) ++ more ≡ schema_name task i.schema ++ left = simp append_assoc in
             record {
               parts = alone 40 ∷ part ∷ after.parts;
-              cut = (schema_name task i.schema ++ left, ap (λ bs. 40 ∷ bs) text_is, refl, ends_opening (schema_name task i.schema ++ left), (left, ap (λ bs. bs ++ left) (sym here.a_run.bytes_are), here.a_run.to_its_end,
-                  subst (λ f. EndsBefore f left) (sym here.a_run.a_run) (ends_before_objects i.objects (10 ∷ more)), after.cut));
+              cut = (
+                schema_name task i.schema ++ left,
+                ap (λ bs. 40 ∷ bs) text_is,
+                refl,
+                ends_opening (schema_name task i.schema ++ left),
+                (
+                  left,
+                  ap (λ bs. bs ++ left) (sym here.a_run.bytes_are),
+                  here.a_run.to_its_end,
+                  subst (λ f. EndsBefore f left) (sym here.a_run.a_run) (ends_before_objects i.objects (10 ∷ more)),
+                  after.cut,
+                ),
+              );
               steps = step ∷ after.steps;
-              in_steps = (these, after.rest,
-                  ap (λ ws. first ∷ ws) (run_placed (start + 1) part after.parts here.a_run.a_run ∙ ap (λ ws. word ∷ ws) (after.in_order ∙ sym (append_assoc after.words (after.last ∷ []) after.rest))),
-                  record {
-                    first = first;
-                    names = word ∷ after.words;
-                    last = after.last;
-                    in_order = refl;
-                    opens = refl;
-                    closes = after.closes;
-                    named = (record { well_formed = here.a_run.named; text = refl; span = refl }, after.named);
-                  }, after.in_steps);
-              mean = (record {
-                action = here.number (name_read word) here.a_run.bytes_are;
-                objects = after.numbers;
-                fits = fit;
-              }, after.mean);
+              in_steps = (
+                these,
+                after.rest,
+                ap (λ ws. first ∷ ws) (run_placed (start + 1) part after.parts here.a_run.a_run ∙ ap (λ ws. word ∷ ws) (after.in_order ∙ sym (append_assoc after.words (after.last ∷ []) after.rest))),
+                record {
+                  first = first;
+                  names = word ∷ after.words;
+                  last = after.last;
+                  in_order = refl;
+                  opens = refl;
+                  closes = after.closes;
+                  named = (record { well_formed = here.a_run.named; text = refl; span = refl }, after.named);
+                },
+                after.in_steps,
+              );
+              mean = (
+                record {
+                  action = here.number (name_read word) here.a_run.bytes_are;
+                  objects = after.numbers;
+                  fits = fit;
+                },
+                after.mean,
+              );
             }
 
   -- the digits of a cost go on with a comment

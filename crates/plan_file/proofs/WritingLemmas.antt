@@ -1,5 +1,5 @@
 -- A text that is written piece by piece, and what a device has taken of it; the bytes of a step.
-use Rattle.std.proofs.Common.{◌≡◌, ℕ, ◌+◌, ◌<◌, ◌≤◌, Bool, true, false, ◌&&◌, true≢false, List, [], ◌∷◌, ◌++◌, length, map, take, drop, get_or, Option, None, Some, Result, Ok, Err, OnOk, refl, sym, ap, ◌∙◌, subst, append_assoc, append-nil, take-append-drop, arith}
+use Rattle.std.proofs.Common.{◌≡◌, ℕ, ◌+◌, ◌<◌, ◌≤◌, true, List, [], ◌∷◌, ◌++◌, length, map, take, drop, get_or, Option, None, Some, refl, sym, ap, ◌∙◌, subst, append_assoc, append-nil, take-append-drop, arith}
 use Rattle.std.specs.Prelude.{IsTrue, slice_get}
 use Rattle.std.specs.Char.{is_ascii_alphabetic}
 use Rattle.std.specs.Io.KnownBytes.{Appends}
@@ -15,9 +15,8 @@ use Rattle.std.proofs.lemmas.List.Folds.{flat_map-map}
 use Rattle.std.proofs.lemmas.Option.{slice_get-map}
 use Rattle.std.proofs.lemmas.Str.{IsAscii-append}
 use Rattle.std.proofs.lemmas.Str.Ascii.{IsAscii-nil, IsAscii-cons}
-use Rattle.devices.specs.Devices.{AppendsBeginning, CountsDevice}
-use Rattle.devices.specs.declared.device.WriteFault.{WriteFault}
-use Rattle.model.specs.Words.{is_name, is_name_byte, longest_run}
+use Rattle.devices.specs.Devices.{AppendsBeginning}
+use Rattle.model.specs.Words.{is_name, is_name_byte}
 use Rattle.model.specs.Task.{Name, Object, Schema, Task, Instance}
 use Rattle.model.specs.PlanText.{schema_names, object_names}
 use Rattle.model.specs.PlanWriting.{schema_name, object_name, object_text, step_text, is_lower_name, differ, are_lower_names, has_names}
@@ -46,14 +45,14 @@ module _ {X Y : Type 0} (f : Y → List ℕ) (v : X → Y) (xs : List X) (i : �
     pub piece_partly : (ys : List Y) (last : List ℕ) → map v xs ≡ ys → AppendsBeginning now after (f (v x)) → AppendsBeginning before after (flat_map f ys ++ last)
     piece_partly ys last same part =
         let all : flat_map f (map v xs) ≡ flat_map f (map v (take (i + 1) xs)) ++ flat_map f (map v (drop (i + 1) xs)) =
-            flat_map-map f v xs
-            ∙ ap (flat_map (λ y. f (v y))) (sym (take-append-drop (i + 1) xs))
-            ∙ flat_map-append (λ y. f (v y)) (take (i + 1) xs) (drop (i + 1) xs)
-            ∙ ap (λ bs. bs ++ flat_map (λ y. f (v y)) (drop (i + 1) xs)) (sym (flat_map-map f v (take (i + 1) xs)))
-            ∙ ap (λ bs. flat_map f (map v (take (i + 1) xs)) ++ bs) (sym (flat_map-map f v (drop (i + 1) xs))) in
+        flat_map-map f v xs
+        ∙ ap (flat_map (λ y. f (v y))) (sym (take-append-drop (i + 1) xs))
+        ∙ flat_map-append (λ y. f (v y)) (take (i + 1) xs) (drop (i + 1) xs)
+        ∙ ap (λ bs. bs ++ flat_map (λ y. f (v y)) (drop (i + 1) xs)) (sym (flat_map-map f v (take (i + 1) xs)))
+        ∙ ap (λ bs. flat_map f (map v (take (i + 1) xs)) ++ bs) (sym (flat_map-map f v (drop (i + 1) xs))) in
         next_partly before now after (flat_map f (map v (take i xs))) (f (v x)) (flat_map f (map v (drop (i + 1) xs)) ++ last) (flat_map f ys ++ last)
         (ap (λ zs. flat_map f zs ++ last) (sym same) ∙ ap (λ bs. bs ++ last) all ∙ append_assoc (flat_map f (map v (take (i + 1) xs))) (flat_map f (map v (drop (i + 1) xs))) last
-            ∙ ap (λ bs. bs ++ (flat_map f (map v (drop (i + 1) xs)) ++ last)) piece_more)
+        ∙ ap (λ bs. bs ++ (flat_map f (map v (drop (i + 1) xs)) ++ last)) piece_more)
         taken part
 
   -- and they are all
@@ -108,5 +107,5 @@ step_ascii task i named =
     let both = and_parts (are_lower_names (schema_names task)) (are_lower_names (object_names task)) named in
     IsAscii-append ((40 ∷ schema_name task i.schema) ++ flat_map (object_text task) i.objects) (41 ∷ [])
     (IsAscii-append (40 ∷ schema_name task i.schema) (flat_map (object_text task) i.objects)
-        (IsAscii-cons 40 (schema_name task i.schema) (omega arith) (name_of_ascii (λ (s : Schema). s.name) task.schemas i.schema both.0)) (objects_ascii task i.objects both.1))
+    (IsAscii-cons 40 (schema_name task i.schema) (omega arith) (name_of_ascii (λ (s : Schema). s.name) task.schemas i.schema both.0)) (objects_ascii task i.objects both.1))
     (IsAscii-cons 41 [] (omega arith) IsAscii-nil)
