@@ -1,7 +1,7 @@
 -- The codes' numbers, and what a fault tells in the model's terms.
 use Rattle.std.specs.Prelude.{ℕ, ◌==◌, if◌then◌else◌, List, [], ◌∷◌, codes, Option, None, Some}
 use Rattle.faults.specs.declared.code.Code.{Code}
-use Rattle.faults.specs.declared.code.Code.TheVariants.{BadByte, BadWord, Unbalanced, TooDeep, TooLong, Trailing, BadForm, UnknownSection, RepeatedSection, MissingSection, UnknownRequirement, LeftOut, NumberTooLarge, UnknownType, TypeCycle, Duplicate, UnknownName, WrongArity, WrongType, Shadowed, DomainMismatch, BadMetric, BadCost, NegativeInit, TooMany, PlanForm, UnknownAction, StepArity, StepType}
+use Rattle.faults.specs.declared.code.Code.TheVariants.{BadByte, BadWord, Unbalanced, TooDeep, TooLong, Trailing, BadForm, UnknownSection, RepeatedSection, MissingSection, UnknownRequirement, LeftOut, NumberTooLarge, UnknownType, TypeCycle, Duplicate, UnknownName, WrongArity, WrongType, Shadowed, DomainMismatch, BadMetric, BadCost, NegativeInit, TooMany, PlanForm, TimedStep, UnknownAction, StepArity, StepType}
 use Rattle.faults.specs.declared.refused.Refusal.{Refusal}
 use Rattle.faults.specs.declared.refused.Refused.{Refused}
 use Rattle.faults.specs.declared.refused.Refused.TheVariants.{At, NoMemory}
@@ -34,6 +34,7 @@ number_of BadCost = 23
 number_of NegativeInit = 24
 number_of TooMany = 25
 number_of PlanForm = 30
+number_of TimedStep = 31
 number_of UnknownAction = 32
 number_of StepArity = 33
 number_of StepType = 34
@@ -67,6 +68,7 @@ names =
     (24, codes "NegativeInit") ∷
     (25, codes "TooMany") ∷
     (30, codes "PlanForm") ∷
+    (31, codes "TimedStep") ∷
     (32, codes "UnknownAction") ∷
     (33, codes "StepArity") ∷
     (34, codes "StepType") ∷

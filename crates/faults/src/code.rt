@@ -59,6 +59,8 @@ pub enum Code {
     TooMany = 25,
     /// A plan text that is no list of steps.
     PlanForm = 30,
+    /// A time stamp outside of steps: a run that begins with a digit, `.` or `[`.
+    TimedStep = 31,
     /// A step of an action that is not declared.
     UnknownAction = 32,
     /// A step whose count of objects is not that of the action's parameters.
@@ -106,6 +108,7 @@ impl Code {
             Code::NegativeInit => "NegativeInit",
             Code::TooMany => "TooMany",
             Code::PlanForm => "PlanForm",
+            Code::TimedStep => "TimedStep",
             Code::UnknownAction => "UnknownAction",
             Code::StepArity => "StepArity",
             Code::StepType => "StepType",

@@ -27,3 +27,5 @@ pub mod TypingFaultsPhases
 pub mod TypingFaultsTold
 pub mod PlanExampleProofs
 pub mod CertificateExampleProofs
+pub mod PlanWritingLemmas
+pub mod PlanWritingExampleProofs

@@ -11,7 +11,7 @@ use Rattle.model.specs.Words.{Part, form, bytes, size, is_gap, AreParts, longest
 use Rattle.model.specs.Trees.{Name}
 use Rattle.model.specs.Task.{Union, Task, Schema, Instance}
 use Rattle.model.specs.Meaning.{is_of, is_instance, fits}
-use Rattle.model.specs.PlanText.{Placed, placed_from, Step, AreSteps, HasSteps, BeginsSteps, IsFormFault, too_long, refused, open_at_end, IsNumberOf, AreNumbersOf, schema_names, object_names, Means, AllMean, IsPlanText, NamesObject, NameObjects, IsStepFault, unknown_action, wrong_count, wrong_object, IsPlanFault, of_form, of_step}
+use Rattle.model.specs.PlanText.{Placed, placed_from, Step, AreSteps, HasSteps, BeginsSteps, IsNumberOfWord, timed, untimed, IsFormFault, too_long, refused, open_at_end, IsNumberOf, AreNumbersOf, schema_names, object_names, Means, AllMean, IsPlanText, NamesObject, NameObjects, IsStepFault, unknown_action, wrong_count, wrong_object, IsPlanFault, of_form, of_step}
 use Rattle.model.proofs.PlanReading.{one_list}
 use Rattle.model.proofs.Places.{Places, at_one, stands_before, stands_after, places}
 
@@ -215,6 +215,13 @@ goes_on all before after word split (more, steps, are) =
     ap (λ ws. ws ++ more) (split ∙ sym (append_assoc before (word ∷ []) after)) ∙ append_assoc (before ++ word ∷ []) after more in
     (after ++ more, steps, subst (λ ws. AreSteps ws steps) shorter are)
 
+-- one number is told of a refused word
+one_number_of_word : (before : List Placed) (word : Placed) (m n : ℕ) → IsNumberOfWord before word m → IsNumberOfWord before word n → m ≡ n
+one_number_of_word before word m n (timed t is) (timed u be) = is ∙ sym be
+one_number_of_word before word m n (timed t is) (untimed never be) = absurd (never t)
+one_number_of_word before word m n (untimed never is) (timed t be) = absurd (never t)
+one_number_of_word before word m n (untimed never is) (untimed none be) = is ∙ sym be
+
 -- Laws of plan texts, where a text is cut into parts in one way.
 module _ (text : List ℕ) (one_cut : (a b : List Part) → AreParts text a → AreParts text b → a ≡ b) where
   pub one_steps : (steps others : List Step) → HasSteps text steps → HasSteps text others → steps ≡ others
@@ -228,46 +235,49 @@ module _ (text : List ℕ) (one_cut : (a b : List Part) → AreParts text a → 
       one_plan task steps plan other mean (subst (λ ss. AllMean task ss other) (one_steps others steps had has) meant)
 
   -- the form of a plan text is not at fault
-  no_form_fault : (steps : List Step) (span : Span) → HasSteps text steps → IsFormFault text span → ⊥
-  no_form_fault steps span h (too_long long _ _) = let short = h.short in omega (arith, short)
-  no_form_fault steps span h (refused short parts cut before after word words_are begins dead _ _) =
+  no_form_fault : (steps : List Step) (fault : Fault) → HasSteps text steps → IsFormFault text fault → ⊥
+  no_form_fault steps fault h (too_long long _ _ _) = let short = h.short in omega (arith, short)
+  no_form_fault steps fault h (refused short parts cut before after word words_are begins dead _ _ _) =
       let all = subst (λ ps. AreSteps (placed_from 0 ps) steps) (one_cut h.parts parts h.cut cut) h.steps_of_parts in
       dead (after, steps, subst (λ ws. AreSteps ws steps) (words_are ∙ sym (append_assoc before (word ∷ []) after)) all)
-  no_form_fault steps span h (open_at_end short parts cut begins none _ _) =
+  no_form_fault steps fault h (open_at_end short parts cut begins none _ _ _) =
       none steps (subst (λ ps. AreSteps (placed_from 0 ps) steps) (one_cut h.parts parts h.cut cut) h.steps_of_parts)
 
   -- no fault is told of a plan text
   pub no_fault : (task : Task) (plan : List Instance) (fault : Fault) → IsPlanText task text plan → IsPlanFault task text fault → ⊥
-  no_fault task plan fault (steps, has, mean) (of_form span code) = no_form_fault steps fault.span has span
+  no_fault task plan fault (steps, has, mean) (of_form wrong) = no_form_fault steps fault has wrong
   no_fault task plan fault (steps, has, mean) (of_step others before after step partial had are meant wrong) =
       let same = one_steps steps others has had ∙ are in
       let here = each_means task before after step plan (subst (λ ss. AllMean task ss plan) same mean) in
       means_no_fault task step here.0 fault here.1 wrong
 
   -- of the form one fault is told
-  one_form_fault : (a b : Span) → IsFormFault text a → IsFormFault text b → a ≡ b
-  one_form_fault a b (too_long long start end) (too_long over from to) = same_span a b (start ∙ sym from) (end ∙ sym to)
-  one_form_fault a b (too_long long start end) (refused short parts cut before after word split begins dead from to) = absurd (omega arith)
-  one_form_fault a b (too_long long start end) (open_at_end short parts cut begins none from to) = absurd (omega arith)
-  one_form_fault a b (refused short parts cut before after word split begins dead start end) (too_long over from to) = absurd (omega arith)
-  one_form_fault a b (refused short parts cut before after word split begins dead start end) (refused brief others cuts earlier later other is begin die from to) =
+  one_form_fault : (a b : Fault) → IsFormFault text a → IsFormFault text b → a ≡ b
+  one_form_fault a b (too_long long code start end) (too_long over number from to) = same_fault a b (code ∙ sym number) (same_span a.span b.span (start ∙ sym from) (end ∙ sym to))
+  one_form_fault a b (too_long long code start end) (refused short parts cut before after word split begins dead number from to) = absurd (omega arith)
+  one_form_fault a b (too_long long code start end) (open_at_end short parts cut begins none number from to) = absurd (omega arith)
+  one_form_fault a b (refused short parts cut before after word split begins dead code start end) (too_long over number from to) = absurd (omega arith)
+  one_form_fault a b (refused short parts cut before after word split begins dead code start end) (refused brief others cuts earlier later other is begin die number from to) =
       by_places (places before earlier after later word other (sym split ∙ ap (placed_from 0) (one_cut parts others cut cuts) ∙ is))
     where
       by_places : Places before earlier word other → a ≡ b
-      by_places (at_one p q) = same_span a b (start ∙ ap (λ (w : Placed). w.start) q ∙ sym from) (end ∙ ap (λ (w : Placed). w.start + size w.part) q ∙ sym to)
+      by_places (at_one p q) =
+          same_fault a b (one_number_of_word earlier other a.code b.code (subst (λ w. IsNumberOfWord earlier w a.code) q (subst (λ ws. IsNumberOfWord ws word a.code) p code)) number)
+          (same_span a.span b.span (start ∙ ap (λ (w : Placed). w.start) q ∙ sym from) (end ∙ ap (λ (w : Placed). w.start + size w.part) q ∙ sym to))
       by_places (stands_before rest p) = absurd (dead (goes_on earlier before rest word p begin))
       by_places (stands_after rest p) = absurd (die (goes_on before earlier rest other p begins))
-  one_form_fault a b (refused short parts cut before after word split begins dead start end) (open_at_end brief others cuts begin none from to) =
+  one_form_fault a b (refused short parts cut before after word split begins dead code start end) (open_at_end brief others cuts begin none number from to) =
       absurd (dead (goes_on (placed_from 0 others) before after word (ap (placed_from 0) (one_cut others parts cuts cut) ∙ split) begin))
-  one_form_fault a b (open_at_end short parts cut begins none start end) (too_long over from to) = absurd (omega arith)
-  one_form_fault a b (open_at_end short parts cut begins none start end) (refused brief others cuts earlier later other is begin die from to) =
+  one_form_fault a b (open_at_end short parts cut begins none code start end) (too_long over number from to) = absurd (omega arith)
+  one_form_fault a b (open_at_end short parts cut begins none code start end) (refused brief others cuts earlier later other is begin die number from to) =
       absurd (die (goes_on (placed_from 0 parts) earlier later other (ap (placed_from 0) (one_cut parts others cut cuts) ∙ is) begins))
-  one_form_fault a b (open_at_end short parts cut begins none start end) (open_at_end brief others cuts begin never from to) = same_span a b (start ∙ sym from) (end ∙ sym to)
+  one_form_fault a b (open_at_end short parts cut begins none code start end) (open_at_end brief others cuts begin never number from to) =
+      same_fault a b (code ∙ sym number) (same_span a.span b.span (start ∙ sym from) (end ∙ sym to))
 
   -- at most one fault is told of a text
   pub one_fault : (task : Task) (fault other : Fault) → IsPlanFault task text fault → IsPlanFault task text other → fault ≡ other
-  one_fault task fault other (of_form span code) (of_form place number) = same_fault fault other (code ∙ sym number) (one_form_fault fault.span other.span span place)
-  one_fault task fault other (of_form span code) (of_step steps b r step plan has are mean wrong) = absurd (no_form_fault steps fault.span has span)
-  one_fault task fault other (of_step steps b r step plan has are mean wrong) (of_form span code) = absurd (no_form_fault steps other.span has span)
+  one_fault task fault other (of_form wrong) (of_form bad) = one_form_fault fault other wrong bad
+  one_fault task fault other (of_form wrong) (of_step steps b r step plan has are mean bad) = absurd (no_form_fault steps fault has wrong)
+  one_fault task fault other (of_step steps b r step plan has are mean wrong) (of_form bad) = absurd (no_form_fault steps other has bad)
   one_fault task fault other (of_step steps b r step plan has are mean wrong) (of_step others c s last list had be meant bad) =
       one_first_fault task b c r s step last plan list fault other (sym are ∙ one_steps steps others has had ∙ be) mean meant wrong bad

@@ -1,53 +1,66 @@
 -- The machine reads exactly the steps of a plan text, and stops at the first word that no plan text goes on with.
-use Rattle.std.proofs.Common.{◌≡◌, ℕ, ◌≤◌, ◌⊎◌, Bool, true, false, List, [], ◌∷◌, ◌++◌, length, sym, refl, ap, ◌∙◌, subst, inl, inr, ⊎_elim, append_assoc, arith}
-use Rattle.std.specs.Char.{is_ascii_alphabetic}
+use Rattle.std.proofs.Common.{◌≡◌, ℕ, ◌≤◌, ◌⊎◌, ◌||◌, ◌==◌, Bool, true, false, cond, List, [], ◌∷◌, ◌++◌, length, sym, refl, ap, ◌∙◌, subst, inl, inr, ⊎_elim, append_assoc, arith}
+use Rattle.std.specs.Char.{is_ascii_alphabetic, is_ascii_digit}
 use Rattle.std.specs.Int.{is_in_range}
 use Rattle.std.specs.List.{list_all}
 use Rattle.std.proofs.lemmas.List.{append-nil}
-use Rattle.std.proofs.lemmas.Bool.{and_parts, or_cases, ne_eqb, leb-true, le-leb}
-use Rattle.model.specs.Fault.{Span}
+use Rattle.std.proofs.lemmas.Bool.{and_parts, or_cases, cases_Bool, ne_eqb, eqb-true, leb-true, le-leb}
+use Rattle.model.specs.Fault.{Span, Fault}
 use Rattle.model.specs.Words.{Form, blank, comment, opening, closing, run, stray, form_of, Part, form, bytes, is_name, is_name_byte, AreParts, longest_text}
 use Rattle.model.specs.Trees.{Name}
-use Rattle.model.specs.PlanText.{Placed, placed_from, Step, IsName, AreNames, IsStep, AreSteps, HasSteps, BeginsSteps, IsFormFault, refused, open_at_end}
-use Rattle.model.specs.PlanMachine.{Sort, an_opening, a_closing, a_name, strange, sort_by, sort_of, Place, outside, opened, inside, Turn, stops, goes, ends, turn, name_at, span_at, Outcome, reads, refuses, with_step, after_turn, outcome}
+use Rattle.model.specs.PlanText.{Placed, placed_from, Step, IsName, AreNames, IsStep, AreSteps, HasSteps, BeginsSteps, is_stamp, IsTimed, IsNumberOfWord, timed, untimed, IsFormFault, refused, open_at_end}
+use Rattle.model.specs.PlanMachine.{Sort, an_opening, a_closing, a_name, a_stamp, strange, sort_by, sort_of, Place, outside, opened, inside, Turn, stops, goes, ends, turn, name_at, span_at, Outcome, reads, refuses, with_step, open_at, after_turn, outcome}
 
 -- What a word is, by its sort.
-opens_by : (f : Form) (named : Bool) → sort_by f named ≡ an_opening → f ≡ opening
-opens_by blank named e = absurd (cc)
-opens_by comment named e = absurd (cc)
-opens_by opening named e = refl
-opens_by closing named e = absurd (cc)
-opens_by run true e = absurd (cc)
-opens_by run false e = absurd (cc)
-opens_by stray named e = absurd (cc)
+opens_by : (f : Form) (named stamp : Bool) → sort_by f named stamp ≡ an_opening → f ≡ opening
+opens_by blank named stamp e = absurd (cc)
+opens_by comment named stamp e = absurd (cc)
+opens_by opening named stamp e = refl
+opens_by closing named stamp e = absurd (cc)
+opens_by run true stamp e = absurd (cc)
+opens_by run false true e = absurd (cc)
+opens_by run false false e = absurd (cc)
+opens_by stray named stamp e = absurd (cc)
 
-closes_by : (f : Form) (named : Bool) → sort_by f named ≡ a_closing → f ≡ closing
-closes_by blank named e = absurd (cc)
-closes_by comment named e = absurd (cc)
-closes_by opening named e = absurd (cc)
-closes_by closing named e = refl
-closes_by run true e = absurd (cc)
-closes_by run false e = absurd (cc)
-closes_by stray named e = absurd (cc)
+closes_by : (f : Form) (named stamp : Bool) → sort_by f named stamp ≡ a_closing → f ≡ closing
+closes_by blank named stamp e = absurd (cc)
+closes_by comment named stamp e = absurd (cc)
+closes_by opening named stamp e = absurd (cc)
+closes_by closing named stamp e = refl
+closes_by run true stamp e = absurd (cc)
+closes_by run false true e = absurd (cc)
+closes_by run false false e = absurd (cc)
+closes_by stray named stamp e = absurd (cc)
 
-names_by : (f : Form) (named : Bool) → sort_by f named ≡ a_name → named ≡ true
-names_by blank named e = absurd (cc)
-names_by comment named e = absurd (cc)
-names_by opening named e = absurd (cc)
-names_by closing named e = absurd (cc)
-names_by run true e = refl
-names_by run false e = absurd (cc)
-names_by stray named e = absurd (cc)
+names_by : (f : Form) (named stamp : Bool) → sort_by f named stamp ≡ a_name → named ≡ true
+names_by blank named stamp e = absurd (cc)
+names_by comment named stamp e = absurd (cc)
+names_by opening named stamp e = absurd (cc)
+names_by closing named stamp e = absurd (cc)
+names_by run true stamp e = refl
+names_by run false true e = absurd (cc)
+names_by run false false e = absurd (cc)
+names_by stray named stamp e = absurd (cc)
+
+stamps_by : (f : Form) (named stamp : Bool) → sort_by f named stamp ≡ a_stamp → (f ≡ run) × (stamp ≡ true)
+stamps_by blank named stamp e = absurd (cc)
+stamps_by comment named stamp e = absurd (cc)
+stamps_by opening named stamp e = absurd (cc)
+stamps_by closing named stamp e = absurd (cc)
+stamps_by run true stamp e = absurd (cc)
+stamps_by run false true e = (refl, refl)
+stamps_by run false false e = absurd (cc)
+stamps_by stray named stamp e = absurd (cc)
 
 is_name_at : (word : Placed) → sort_of word.part ≡ a_name → IsName word (name_at word)
-is_name_at word e = record { well_formed = names_by (form word.part) (is_name (bytes word.part)) e; text = refl; span = refl }
+is_name_at word e = record { well_formed = names_by (form word.part) (is_name (bytes word.part)) (is_stamp (bytes word.part)) e; text = refl; span = refl }
 
 -- And its sort, by what it is.
 opening_sort : (part : Part) → form part ≡ opening → sort_of part ≡ an_opening
-opening_sort part e = ap (λ f. sort_by f (is_name (bytes part))) e
+opening_sort part e = ap (λ f. sort_by f (is_name (bytes part)) (is_stamp (bytes part))) e
 
 closing_sort : (part : Part) → form part ≡ closing → sort_of part ≡ a_closing
-closing_sort part e = ap (λ f. sort_by f (is_name (bytes part))) e
+closing_sort part e = ap (λ f. sort_by f (is_name (bytes part)) (is_stamp (bytes part))) e
 
 letter_form : (byte : ℕ) → 65 ≤ byte → byte ≤ 122 → form_of byte ≡ run
 letter_form byte low high =
@@ -76,7 +89,39 @@ letter_is_run byte e = ⊎_elim
 name_sort : (part : Part) → is_name (bytes part) ≡ true → sort_of part ≡ a_name
 name_sort part e =
     let letter = and_parts (is_ascii_alphabetic part.first) (list_all is_name_byte part.others) e in
-    ap (λ f. sort_by f (is_name (bytes part))) (letter_is_run part.first letter.0) ∙ ap (sort_by run) e
+    ap (λ f. sort_by f (is_name (bytes part)) (is_stamp (bytes part))) (letter_is_run part.first letter.0) ∙ ap (λ b. sort_by run b (is_stamp (bytes part))) e
+
+letter_bytes : (byte : ℕ) → is_ascii_alphabetic byte ≡ true → ((65 ≤ byte) × (byte ≤ 90)) ⊎ (97 ≤ byte)
+letter_bytes byte e = ⊎_elim
+    (λ (h : is_in_range 65 90 byte ≡ true). let b = and_parts _ _ h in inl (leb-true 65 byte b.0, leb-true byte 90 b.1))
+    (λ (h : is_in_range 97 122 byte ≡ true). inr (leb-true 97 byte (and_parts _ _ h).0))
+    (or_cases (is_in_range 65 90 byte) (is_in_range 97 122 byte) e)
+
+stamp_bytes : (byte : ℕ) → is_stamp (byte ∷ []) ≡ true → (byte ≤ 57) ⊎ (byte ≡ 91)
+stamp_bytes byte e = ⊎_elim
+    (λ (h : (is_ascii_digit byte || byte == 46) ≡ true). inl (⊎_elim
+    (λ (digit : is_in_range 48 57 byte ≡ true). leb-true byte 57 (and_parts _ _ digit).1)
+    (λ (dot : (byte == 46) ≡ true). let is = eqb-true byte 46 dot in omega arith)
+    (or_cases (is_ascii_digit byte) (byte == 46) h)))
+    (λ (bracket : (byte == 91) ≡ true). inr (eqb-true byte 91 bracket))
+    (or_cases (is_ascii_digit byte || byte == 46) (byte == 91) e)
+
+apart : (byte : ℕ) → ((65 ≤ byte) × (byte ≤ 90)) ⊎ (97 ≤ byte) → (byte ≤ 57) ⊎ (byte ≡ 91) → ⊥
+apart byte (inl (low, high)) (inl small) = omega arith
+apart byte (inl (low, high)) (inr is) = omega arith
+apart byte (inr low) (inl small) = omega arith
+apart byte (inr low) (inr is) = omega arith
+
+-- a name begins with a letter, and so is no time stamp
+stamp_sort : (part : Part) → form part ≡ run → is_stamp (bytes part) ≡ true → sort_of part ≡ a_stamp
+stamp_sort part is_run stamp =
+    ap (λ f. sort_by f (is_name (bytes part)) (is_stamp (bytes part))) is_run ∙ ap (λ b. cond (is_name (bytes part)) a_name (cond b a_stamp strange)) stamp
+    ∙ ⊎_elim
+    (λ (named : is_name (bytes part) ≡ true).
+    let letter = and_parts (is_ascii_alphabetic part.first) (list_all is_name_byte part.others) named in
+    absurd (apart part.first (letter_bytes part.first letter.0) (stamp_bytes part.first stamp)))
+    (λ (unnamed : is_name (bytes part) ≡ false). ap (λ b. cond b a_name a_stamp) unnamed)
+    (cases_Bool (is_name (bytes part)))
 
 name_is : (word : Placed) (name : Name) → IsName word name → name_at word ≡ name
 name_is word name h =
@@ -108,30 +153,33 @@ ended_step : (end : ℕ) (word : Placed) (words so_far : List Placed) (step : St
 ended_step end word words so_far step steps (reads rest) is o_is e inner =
     let here : step ∷ rest ≡ steps = cc in
     subst (AreSteps (so_far ++ word ∷ words)) here (so_far ++ word ∷ [], words, sym (append_assoc so_far (word ∷ []) words), is, inner [] outside rest refl o_is)
-ended_step end word words so_far step steps (refuses span) is o_is e inner = absurd (cc)
+ended_step end word words so_far step steps (refuses fault) is o_is e inner = absurd (cc)
 
 word_reads : (end : ℕ) (word : Placed) (words so_far : List Placed) (place : Place) (s : Sort) (steps : List Step) → sort_of word.part ≡ s → Stands place so_far
     → after_turn (span_at word) (turn place s (name_at word)) (outcome end words) ≡ reads steps → Reads end words → AreSteps (so_far ++ word ∷ words) steps
 word_reads end word words so_far outside an_opening steps is stands e inner =
-    subst (λ ws. AreSteps (ws ++ word ∷ words) steps) (sym stands) (inner (word ∷ []) opened steps (word, refl, opens_by (form word.part) (is_name (bytes word.part)) is) e)
+    subst (λ ws. AreSteps (ws ++ word ∷ words) steps) (sym stands) (inner (word ∷ []) opened steps (word, refl, opens_by (form word.part) (is_name (bytes word.part)) (is_stamp (bytes word.part)) is) e)
 word_reads end word words so_far outside a_closing steps is stands e inner = absurd (cc)
 word_reads end word words so_far outside a_name steps is stands e inner = absurd (cc)
+word_reads end word words so_far outside a_stamp steps is stands e inner = absurd (cc)
 word_reads end word words so_far outside strange steps is stands e inner = absurd (cc)
 word_reads end word words so_far opened an_opening steps is stands e inner = absurd (cc)
 word_reads end word words so_far opened a_closing steps is stands e inner = absurd (cc)
 word_reads end word words so_far opened a_name steps is (first, so_far_is, opens) e inner =
     subst (λ ws. AreSteps (ws ++ word ∷ words) steps) (sym so_far_is)
     (inner (first ∷ word ∷ []) (inside (name_at word) []) steps (first, word ∷ [], refl, opens, (is_name_at word is, tt)) e)
+word_reads end word words so_far opened a_stamp steps is stands e inner = absurd (cc)
 word_reads end word words so_far opened strange steps is stands e inner = absurd (cc)
 word_reads end word words so_far (inside action objects) an_opening steps is stands e inner = absurd (cc)
 word_reads end word words so_far (inside action objects) a_closing steps is (first, names, so_far_is, opens, are) e inner =
     ended_step end word words so_far _ steps (outcome end words outside)
-    (record { first = first; names = names; last = word; in_order = ap (λ ws. ws ++ word ∷ []) so_far_is; opens = opens; closes = closes_by (form word.part) (is_name (bytes word.part)) is; named = are })
+    (record { first = first; names = names; last = word; in_order = ap (λ ws. ws ++ word ∷ []) so_far_is; opens = opens; closes = closes_by (form word.part) (is_name (bytes word.part)) (is_stamp (bytes word.part)) is; named = are })
     refl e inner
 word_reads end word words so_far (inside action objects) a_name steps is (first, names, so_far_is, opens, are) e inner =
     subst (λ ws. AreSteps (ws ++ word ∷ words) steps) (sym so_far_is)
     (subst (λ ws. AreSteps ws steps) (append_assoc (first ∷ names) (word ∷ []) words)
     (inner (first ∷ names ++ word ∷ []) (inside action (objects ++ name_at word ∷ [])) steps (first, names ++ word ∷ [], refl, opens, names_push names (action ∷ objects) word are (is_name_at word is)) e))
+word_reads end word words so_far (inside action objects) a_stamp steps is stands e inner = absurd (cc)
 word_reads end word words so_far (inside action objects) strange steps is stands e inner = absurd (cc)
 
 sound : (end : ℕ) (words so_far : List Placed) (place : Place) (steps : List Step) → Stands place so_far → outcome end words place ≡ reads steps → AreSteps (so_far ++ words) steps
@@ -201,81 +249,140 @@ any_goes_on end outside = ([], [], refl)
 any_goes_on end opened = (letter ∷ close ∷ [], record { action = name_at letter; objects = [] } ∷ [], refl)
 any_goes_on end (inside action objects) = (close ∷ [], record { action = action; objects = objects } ∷ [], refl)
 
-record StopsAt (end : ℕ) (words : List Placed) (place : Place) (span : Span) : Type 0 where
+-- these words leave no step open
+abbrev LeavesNone : ℕ → List Placed → Place → Type 0
+LeavesNone end words place = (steps : List Step) × (outcome end words place ≡ reads steps)
+
+-- the number that a word stops with
+data StopsWith (end : ℕ) (before : List Placed) (place : Place) (word : Placed) (code : ℕ) : Type 0 where
+  at_stamp : LeavesNone end before place → sort_of word.part ≡ a_stamp → code ≡ 31 → StopsWith end before place word code
+  elsewhere : (LeavesNone end before place → sort_of word.part ≡ a_stamp → ⊥) → code ≡ 30 → StopsWith end before place word code
+
+record StopsAt (end : ℕ) (words : List Placed) (place : Place) (fault : Fault) : Type 0 where
   before : List Placed
   after : List Placed
   word : Placed
   in_order : words ≡ before ++ word ∷ after
   goes_on : GoesOn end before place
-  dead : (more : List Placed) → outcome end (before ++ word ∷ more) place ≡ refuses (span_at word)
-  span_is : span ≡ span_at word
+  dead : (more : List Placed) → outcome end (before ++ word ∷ more) place ≡ refuses fault
+  number : StopsWith end before place word fault.code
+  span_is : fault.span ≡ span_at word
 
-record IsOpen (end : ℕ) (words : List Placed) (place : Place) (span : Span) : Type 0 where
+record IsOpen (end : ℕ) (words : List Placed) (place : Place) (fault : Fault) : Type 0 where
   goes_on : GoesOn end words place
-  span_is : span ≡ record { start = end; end = end }
+  fault_is : fault ≡ open_at end
 
-rest_refused : (step : Step) (span : Span) (o : Outcome) → with_step step o ≡ refuses span → o ≡ refuses span
-rest_refused step span (reads steps) e = absurd (cc)
-rest_refused step span (refuses other) e = e
+rest_refused : (step : Step) (fault : Fault) (o : Outcome) → with_step step o ≡ refuses fault → o ≡ refuses fault
+rest_refused step fault (reads steps) e = absurd (cc)
+rest_refused step fault (refuses other) e = e
 
 -- one word more before
 module _ (end : ℕ) (word : Placed) (place next : Place) (give : Outcome → Outcome)
     (given : (steps : List Step) → (more : List Step) × (give (reads steps) ≡ reads more))
-    (kept : (span : Span) → give (refuses span) ≡ refuses span)
+    (kept : (fault : Fault) → give (refuses fault) ≡ refuses fault)
     (on : (words : List Placed) → outcome end (word ∷ words) place ≡ give (outcome end words next)) where
   more_goes_on : (words : List Placed) → GoesOn end words next → GoesOn end (word ∷ words) place
   more_goes_on words (more, steps, e) = (more, (given steps).0, on (words ++ more) ∙ ap give e ∙ (given steps).1)
 
-  more_stops : (words : List Placed) (span : Span) → StopsAt end words next span → StopsAt end (word ∷ words) place span
-  more_stops words span s = record {
+  more_none : (words : List Placed) → LeavesNone end words next → LeavesNone end (word ∷ words) place
+  more_none words (steps, e) = ((given steps).0, on words ∙ ap give e ∙ (given steps).1)
+
+  was_read : (steps : List Step) (o : Outcome) → give o ≡ reads steps → (more : List Step) × (o ≡ reads more)
+  was_read steps (reads more) e = (more, refl)
+  was_read steps (refuses fault) e = let impossible : refuses fault ≡ reads steps = sym (kept fault) ∙ e in absurd (cc)
+
+  less_none : (words : List Placed) → LeavesNone end (word ∷ words) place → LeavesNone end words next
+  less_none words (steps, e) = was_read steps (outcome end words next) (sym (on words) ∙ e)
+
+  more_with : (before : List Placed) (other : Placed) (code : ℕ) → StopsWith end before next other code → StopsWith end (word ∷ before) place other code
+  more_with before other code (at_stamp none stamp is) = at_stamp (more_none before none) stamp is
+  more_with before other code (elsewhere never is) = elsewhere (λ none. never (less_none before none)) is
+
+  more_stops : (words : List Placed) (fault : Fault) → StopsAt end words next fault → StopsAt end (word ∷ words) place fault
+  more_stops words fault s = record {
     before = word ∷ s.before;
     after = s.after;
     word = s.word;
     in_order = ap (λ ws. word ∷ ws) s.in_order;
     goes_on = more_goes_on s.before s.goes_on;
-    dead = λ more. on (s.before ++ s.word ∷ more) ∙ ap give (s.dead more) ∙ kept (span_at s.word);
+    dead = λ more. on (s.before ++ s.word ∷ more) ∙ ap give (s.dead more) ∙ kept fault;
+    number = more_with s.before s.word fault.code s.number;
     span_is = s.span_is;
   }
 
-  more_open : (words : List Placed) (span : Span) → IsOpen end words next span → IsOpen end (word ∷ words) place span
-  more_open words span o = record { goes_on = more_goes_on words o.goes_on; span_is = o.span_is }
+  more_open : (words : List Placed) (fault : Fault) → IsOpen end words next fault → IsOpen end (word ∷ words) place fault
+  more_open words fault o = record { goes_on = more_goes_on words o.goes_on; fault_is = o.fault_is }
 
-  more_found : (words : List Placed) (span : Span) → StopsAt end words next span ⊎ IsOpen end words next span → StopsAt end (word ∷ words) place span ⊎ IsOpen end (word ∷ words) place span
-  more_found words span (inl s) = inl (more_stops words span s)
-  more_found words span (inr o) = inr (more_open words span o)
+  more_found : (words : List Placed) (fault : Fault) → StopsAt end words next fault ⊎ IsOpen end words next fault → StopsAt end (word ∷ words) place fault ⊎ IsOpen end (word ∷ words) place fault
+  more_found words fault (inl s) = inl (more_stops words fault s)
+  more_found words fault (inr o) = inr (more_open words fault o)
 
-word_found : (end : ℕ) (word : Placed) (words : List Placed) (place : Place) (t : Turn) (span : Span) → turn place (sort_of word.part) (name_at word) ≡ t → after_turn (span_at word) t (outcome end words) ≡ refuses span
-    → ((next : Place) → outcome end words next ≡ refuses span → StopsAt end words next span ⊎ IsOpen end words next span)
-    → StopsAt end (word ∷ words) place span ⊎ IsOpen end (word ∷ words) place span
-word_found end word words place stops span is e inner =
-    let same : span_at word ≡ span = cc in
+-- the number of the first word
+outside_other : (end : ℕ) (word : Placed) (s : Sort) (code : ℕ) → sort_of word.part ≡ s → (s ≡ a_stamp → ⊥) → code ≡ 30 → StopsWith end [] outside word code
+outside_other end word s code is differs e = elsewhere (λ none stamp. differs (sym is ∙ stamp)) e
+
+open_other : (end : ℕ) (word : Placed) (place : Place) (code : ℕ) (fault : Fault) → outcome end [] place ≡ refuses fault → code ≡ 30 → StopsWith end [] place word code
+open_other end word place code fault is_open e =
+    elsewhere (λ (steps, read) stamp. let impossible : refuses fault ≡ reads steps = sym is_open ∙ read in cc) e
+
+first_with : (end : ℕ) (word : Placed) (place : Place) (s : Sort) (code : ℕ) → sort_of word.part ≡ s → turn place s (name_at word) ≡ stops code → StopsWith end [] place word code
+first_with end word outside an_opening code is e = absurd (cc)
+first_with end word outside a_closing code is e = outside_other end word a_closing code is (λ same. cc) (cc)
+first_with end word outside a_name code is e = outside_other end word a_name code is (λ same. cc) (cc)
+first_with end word outside a_stamp code is e = at_stamp ([], refl) is (cc)
+first_with end word outside strange code is e = outside_other end word strange code is (λ same. cc) (cc)
+first_with end word opened an_opening code is e = open_other end word opened code (open_at end) refl (cc)
+first_with end word opened a_closing code is e = open_other end word opened code (open_at end) refl (cc)
+first_with end word opened a_name code is e = absurd (cc)
+first_with end word opened a_stamp code is e = open_other end word opened code (open_at end) refl (cc)
+first_with end word opened strange code is e = open_other end word opened code (open_at end) refl (cc)
+first_with end word (inside action objects) an_opening code is e = open_other end word (inside action objects) code (open_at end) refl (cc)
+first_with end word (inside action objects) a_closing code is e = absurd (cc)
+first_with end word (inside action objects) a_name code is e = absurd (cc)
+first_with end word (inside action objects) a_stamp code is e = open_other end word (inside action objects) code (open_at end) refl (cc)
+first_with end word (inside action objects) strange code is e = open_other end word (inside action objects) code (open_at end) refl (cc)
+
+word_found : (end : ℕ) (word : Placed) (words : List Placed) (place : Place) (t : Turn) (fault : Fault) → turn place (sort_of word.part) (name_at word) ≡ t → after_turn (span_at word) t (outcome end words) ≡ refuses fault
+    → ((next : Place) → outcome end words next ≡ refuses fault → StopsAt end words next fault ⊎ IsOpen end words next fault)
+    → StopsAt end (word ∷ words) place fault ⊎ IsOpen end (word ∷ words) place fault
+word_found end word words place (stops code) fault is e inner =
+    let told : Fault = record { code = code; span = span_at word } in
+    let same : told ≡ fault = cc in
     inl (record {
       before = [];
       after = words;
       word = word;
       in_order = refl;
       goes_on = any_goes_on end place;
-      dead = λ more. ap (λ t. after_turn (span_at word) t (outcome end more)) is;
-      span_is = sym same;
+      dead = λ more. ap (λ t. after_turn (span_at word) t (outcome end more)) is ∙ ap refuses same;
+      number = subst (StopsWith end [] place word) (ap (λ (f : Fault). f.code) same) (first_with end word place (sort_of word.part) code refl is);
+      span_is = sym (ap (λ (f : Fault). f.span) same);
     })
-word_found end word words place (goes next) span is e inner =
-    more_found end word place next (λ o. o) (λ steps. (steps, refl)) (λ s. refl) (λ ws. ap (λ t. after_turn (span_at word) t (outcome end ws)) is) words span (inner next e)
-word_found end word words place (ends step) span is e inner =
-    more_found end word place outside (with_step step) (λ steps. (step ∷ steps, refl)) (λ s. refl) (λ ws. ap (λ t. after_turn (span_at word) t (outcome end ws)) is) words span
-    (inner outside (rest_refused step span (outcome end words outside) e))
+word_found end word words place (goes next) fault is e inner =
+    more_found end word place next (λ o. o) (λ steps. (steps, refl)) (λ f. refl) (λ ws. ap (λ t. after_turn (span_at word) t (outcome end ws)) is) words fault (inner next e)
+word_found end word words place (ends step) fault is e inner =
+    more_found end word place outside (with_step step) (λ steps. (step ∷ steps, refl)) (λ f. refl) (λ ws. ap (λ t. after_turn (span_at word) t (outcome end ws)) is) words fault
+    (inner outside (rest_refused step fault (outcome end words outside) e))
 
-found : (end : ℕ) (words : List Placed) (place : Place) (span : Span) → outcome end words place ≡ refuses span → StopsAt end words place span ⊎ IsOpen end words place span
-found end [] outside span e = absurd (cc)
-found end [] opened span e = inr (record { goes_on = any_goes_on end opened; span_is = let same : record { start = end; end = end } ≡ span = cc in sym same })
-found end [] (inside action objects) span e = inr (record { goes_on = any_goes_on end (inside action objects); span_is = let same : record { start = end; end = end } ≡ span = cc in sym same })
-found end (word ∷ words) place span e = word_found end word words place (turn place (sort_of word.part) (name_at word)) span refl e (λ next. found end words next span)
+found : (end : ℕ) (words : List Placed) (place : Place) (fault : Fault) → outcome end words place ≡ refuses fault → StopsAt end words place fault ⊎ IsOpen end words place fault
+found end [] outside fault e = absurd (cc)
+found end [] opened fault e = inr (record { goes_on = any_goes_on end opened; fault_is = let same : open_at end ≡ fault = cc in sym same })
+found end [] (inside action objects) fault e = inr (record { goes_on = any_goes_on end (inside action objects); fault_is = let same : open_at end ≡ fault = cc in sym same })
+found end (word ∷ words) place fault e = word_found end word words place (turn place (sort_of word.part) (name_at word)) fault refl e (λ next. found end words next fault)
 
 begins : (end : ℕ) (words : List Placed) → GoesOn end words outside → BeginsSteps words
 begins end words (more, steps, e) = (more, steps, steps_of_reads end (words ++ more) steps e)
 
+number_told : (end : ℕ) (before : List Placed) (word : Placed) (code : ℕ) → StopsWith end before outside word code → IsNumberOfWord before word code
+number_told end before word code (at_stamp (steps, e) sort is) =
+    let both = stamps_by (form word.part) (is_name (bytes word.part)) (is_stamp (bytes word.part)) sort in
+    timed (record { steps = steps; outside = steps_of_reads end before steps e; is_run = both.0; stamp = both.1 }) is
+number_told end before word code (elsewhere never is) =
+    untimed (λ (t : IsTimed before word). never (t.steps, reads_steps end before t.steps t.outside) (stamp_sort word.part t.is_run t.stamp)) is
+
 -- what it stops at is the fault of the form
-pub form_fault : (text : List ℕ) (parts : List Part) (span : Span) → length text ≤ longest_text → AreParts text parts → outcome (length text) (placed_from 0 parts) outside ≡ refuses span → IsFormFault text span
-form_fault text parts span short are e = by_place (found (length text) (placed_from 0 parts) outside span e)
+pub form_fault : (text : List ℕ) (parts : List Part) (fault : Fault) → length text ≤ longest_text → AreParts text parts → outcome (length text) (placed_from 0 parts) outside ≡ refuses fault → IsFormFault text fault
+form_fault text parts fault short are e = by_place (found (length text) (placed_from 0 parts) outside fault e)
   where
     n : ℕ
     n = length text
@@ -283,17 +390,18 @@ form_fault text parts span short are e = by_place (found (length text) (placed_f
     words : List Placed
     words = placed_from 0 parts
 
-    by_place : StopsAt n words outside span ⊎ IsOpen n words outside span → IsFormFault text span
+    by_place : StopsAt n words outside fault ⊎ IsOpen n words outside fault → IsFormFault text fault
     by_place (inl s) = refused short parts are s.before s.after s.word s.in_order (begins n s.before s.goes_on)
         (λ (more, steps, all).
-        let stopped : outcome n ((s.before ++ s.word ∷ []) ++ more) outside ≡ refuses (span_at s.word) = ap (λ ws. outcome n ws outside) (append_assoc s.before (s.word ∷ []) more) ∙ s.dead more in
+        let stopped : outcome n ((s.before ++ s.word ∷ []) ++ more) outside ≡ refuses fault = ap (λ ws. outcome n ws outside) (append_assoc s.before (s.word ∷ []) more) ∙ s.dead more in
         let read = reads_steps n ((s.before ++ s.word ∷ []) ++ more) steps all in
-        let impossible : reads steps ≡ refuses (span_at s.word) = sym read ∙ stopped in
+        let impossible : reads steps ≡ refuses fault = sym read ∙ stopped in
         cc)
+        (number_told n s.before s.word fault.code s.number)
         (ap (λ (x : Span). x.start) s.span_is) (ap (λ (x : Span). x.end) s.span_is)
     by_place (inr o) = open_at_end short parts are (begins n words o.goes_on)
-        (λ steps all. let impossible : reads steps ≡ refuses span = sym (reads_steps n words steps all) ∙ e in cc)
-        (ap (λ (x : Span). x.start) o.span_is) (ap (λ (x : Span). x.end) o.span_is)
+        (λ steps all. let impossible : reads steps ≡ refuses fault = sym (reads_steps n words steps all) ∙ e in cc)
+        (ap (λ (f : Fault). f.code) o.fault_is) (ap (λ (f : Fault). f.span.start) o.fault_is) (ap (λ (f : Fault). f.span.end) o.fault_is)
 
 pub has_steps : (text : List ℕ) (parts : List Part) (steps : List Step) → length text ≤ longest_text → AreParts text parts → outcome (length text) (placed_from 0 parts) outside ≡ reads steps → HasSteps text steps
 has_steps text parts steps short are e = record { short = short; parts = parts; cut = are; steps_of_parts = steps_of_reads (length text) (placed_from 0 parts) steps e }

@@ -26,5 +26,7 @@ pub mod PlanExamples
 pub mod CertificateExamples
 pub mod PlanText
 pub mod PlanMachine
+pub mod PlanWriting
+pub mod PlanWritingExamples
 pub mod Files
 pub mod GrammarExamples

@@ -2,9 +2,10 @@
 -- are this repository's profile of what planners write and validators read: steps `(action object ..)`, each the name of
 -- an action (PDDL 1.2 manual, "Actions") and of an object for each of its parameters, with blanks and comments as in a
 -- domain file. Runs may have any length, and case does not matter.
-use Rattle.std.specs.Prelude.{◌≡◌, ◌≢◌, ℕ, ◌+◌, ◌<◌, ◌≤◌, IsTrue, if◌then◌else◌, List, [], ◌∷◌, ◌++◌, length, map, position, slice_get, Some, ⊤}
-use Rattle.model.specs.Fault.{Span, Fault}
-use Rattle.model.specs.Words.{opening, closing, Part, form, bytes, size, is_gap, AreParts, is_name, longest_text}
+use Rattle.std.specs.Prelude.{◌≡◌, ◌≢◌, ℕ, ◌+◌, ◌<◌, ◌≤◌, ◌||◌, ◌==◌, Bool, false, IsTrue, if◌then◌else◌, List, [], ◌∷◌, ◌++◌, length, map, position, slice_get, Some, ⊤}
+use Rattle.std.specs.Char.{is_ascii_digit}
+use Rattle.model.specs.Fault.{Fault}
+use Rattle.model.specs.Words.{opening, closing, run, Part, form, bytes, size, is_gap, AreParts, is_name, longest_text}
 use Rattle.model.specs.Trees.{Name}
 use Rattle.model.specs.Task.{Union, Object, Task, Schema, Instance}
 use Rattle.model.specs.Meaning.{is_of, is_instance}
@@ -107,18 +108,39 @@ IsPlanText task text plan = (steps : List Step) × HasSteps text steps × AllMea
 abbrev pub BeginsSteps : List Placed → Type 0
 BeginsSteps words = (more : List Placed) × (steps : List Step) × AreSteps (words ++ more) steps
 
--- the form of the text is at fault, and this span is told
-pub data IsFormFault (text : List ℕ) (span : Span) : Type 0 where
+-- the bytes begin as those of a time stamp do: with a digit, `.` or `[`
+abbrev pub is_stamp : List ℕ → Bool
+is_stamp [] = false
+is_stamp (byte ∷ others) = is_ascii_digit byte || byte == 46 || byte == 91
+
+-- a run that is a time stamp stands outside of steps: the words before it are whole steps
+pub record IsTimed (before : List Placed) (word : Placed) : Type 0 where
+  pub steps : List Step
+  pub outside : AreSteps before steps
+  pub is_run : form word.part ≡ run
+  pub stamp : IsTrue (is_stamp (bytes word.part))
+
+-- the number that is told of a word that is refused after these
+pub data IsNumberOfWord (before : List Placed) (word : Placed) (number : ℕ) : Type 0 where
+  -- of a time stamp outside of steps
+  timed : IsTimed before word → number ≡ 31 → IsNumberOfWord before word number
+  -- of every other
+  untimed : (IsTimed before word → ⊥) → number ≡ 30 → IsNumberOfWord before word number
+
+-- the form of the text is at fault, and this is told
+pub data IsFormFault (text : List ℕ) (fault : Fault) : Type 0 where
   -- a text that is too long, at what is over
-  too_long : longest_text < length text → span.start ≡ longest_text → span.end ≡ length text → IsFormFault text span
+  too_long : longest_text < length text → fault.code ≡ 30 → fault.span.start ≡ longest_text → fault.span.end ≡ length text
+      → IsFormFault text fault
   -- the first parenthesis, run or stray byte with which no plan text begins
   refused : length text ≤ longest_text → (parts : List Part) → AreParts text parts → (before after : List Placed) → (word : Placed)
       → placed_from 0 parts ≡ before ++ word ∷ after → BeginsSteps before → (BeginsSteps (before ++ word ∷ []) → ⊥)
-      → span.start ≡ word.start → span.end ≡ word.start + size word.part → IsFormFault text span
+      → IsNumberOfWord before word fault.code → fault.span.start ≡ word.start → fault.span.end ≡ word.start + size word.part
+      → IsFormFault text fault
   -- a step that is open at the end, at the end
   open_at_end : length text ≤ longest_text → (parts : List Part) → AreParts text parts → BeginsSteps (placed_from 0 parts)
       → ((steps : List Step) → AreSteps (placed_from 0 parts) steps → ⊥)
-      → span.start ≡ length text → span.end ≡ length text → IsFormFault text span
+      → fault.code ≡ 30 → fault.span.start ≡ length text → fault.span.end ≡ length text → IsFormFault text fault
 
 -- the name is that of an object of one of these types
 abbrev pub NamesObject : Task → Union → Name → Type 0
@@ -148,6 +170,6 @@ pub data IsStepFault (task : Task) (step : Step) (fault : Fault) : Type 0 where
 
 -- the fault that is told of the text: its form before all else, and then the first step at fault
 pub data IsPlanFault (task : Task) (text : List ℕ) (fault : Fault) : Type 0 where
-  of_form : IsFormFault text fault.span → fault.code ≡ 30 → IsPlanFault task text fault
+  of_form : IsFormFault text fault → IsPlanFault task text fault
   of_step : (steps before after : List Step) → (step : Step) → (plan : List Instance) → HasSteps text steps
       → steps ≡ before ++ step ∷ after → AllMean task before plan → IsStepFault task step fault → IsPlanFault task text fault

@@ -1,2 +1,3 @@
 pub mod PlanWords
 pub mod PlanSteps
+pub mod WritingLemmas

@@ -14,10 +14,10 @@ use Rattle.model.specs.Trees.{Name}
 use Rattle.model.specs.Task.{Union, Task, Schema, Instance}
 use Rattle.model.specs.Typing.{folded, is_same}
 use Rattle.model.specs.Meaning.{is_of, fits}
-use Rattle.model.specs.PlanText.{Step, HasSteps, IsNumberOf, AreNumbersOf, schema_names, object_names, Means, AllMean, IsStepFault, unknown_action, wrong_count, wrong_object, IsPlanText, IsPlanFault, of_form, of_step}
+use Rattle.model.specs.PlanText.{Step, HasSteps, IsNumberOf, AreNumbersOf, schema_names, object_names, Means, AllMean, IsStepFault, unknown_action, wrong_count, wrong_object, IsPlanText, IsFormFault, IsPlanFault, of_form, of_step}
 use Rattle.model.proofs.PlanMeaning.{names_each, numbers_push, all_mean_push, plan_length, few_steps, one_reading, no_fault, one_fault}
 use Rattle.tokens.proofs.Cut.{cut_unique}
-use Rattle.plan_file.specs.PlanFile.{IsNoObject, IsWrongObject, IsFirstFault, IsRefusedForm}
+use Rattle.plan_file.specs.PlanFile.{IsNoObject, IsWrongObject, IsFirstFault}
 
 -- what is told, where it is known
 pub told_some : (P : Fault → Type 0) (o : Option Fault) (fault : Fault) → o ≡ Some fault → P fault → IfSome o P
@@ -148,8 +148,8 @@ step_refused task steps before after step plan in_order mean o h =
     (λ fault wrong. record { before = before; after = after; step = step; plan = plan; in_order = in_order; mean = mean; wrong = wrong }) h
 
 -- what is told of a text
-pub form_refused : (task : Task) (text : List ℕ) (o : Option Fault) → IfSome o (IsRefusedForm text) → IfSome o (IsPlanFault task text)
-form_refused task text o h = told_more (IsRefusedForm text) (IsPlanFault task text) o (λ fault (span, code). of_form span code) h
+pub form_refused : (task : Task) (text : List ℕ) (o : Option Fault) → IfSome o (IsFormFault text) → IfSome o (IsPlanFault task text)
+form_refused task text o h = told_more (IsFormFault text) (IsPlanFault task text) o (λ fault wrong. of_form wrong) h
 
 pub meaning_refused : (task : Task) (text : List ℕ) (steps : List Step) → HasSteps text steps → (o : Option Fault) → IfSome o (IsFirstFault task steps) → IfSome o (IsPlanFault task text)
 meaning_refused task text steps has o h =

@@ -4,11 +4,11 @@ use Rattle.std.specs.List.{prefix_len}
 use Rattle.std.proofs.lemmas.List.{drop_all}
 use Rattle.model.specs.Fault.{Span, Fault}
 use Rattle.model.specs.Words.{is_gap, Form, form_of, goes_on, form, bytes, size, is_name, longest_text}
-use Rattle.model.specs.PlanText.{Placed, placed_from, Step, HasSteps}
-use Rattle.model.specs.PlanMachine.{Sort, sort_by, Place, outside, Turn, stops, goes, ends, turn, Outcome, reads, refuses, with_step, with_steps, at_end, after_turn, outcome}
+use Rattle.model.specs.PlanText.{Placed, placed_from, Step, HasSteps, is_stamp, IsFormFault}
+use Rattle.model.specs.PlanMachine.{Sort, sort_by, Place, outside, Turn, stops, goes, ends, turn, Outcome, reads, refuses, with_step, with_steps, open_at, at_end, after_turn, outcome}
 use Rattle.model.proofs.PlanReading.{form_fault, has_steps}
 use Rattle.tokens.proofs.Cut.{cut, cut_parts, PartBetween, part_between}
-use Rattle.plan_file.specs.PlanFile.{read_from, TellsStop, IsRefusedForm}
+use Rattle.plan_file.specs.PlanFile.{read_from, TellsStop}
 
 -- one part more
 module _ (text : List ℕ) (start end : ℕ) (f : Form) (inside_text : start < length text)
@@ -39,17 +39,17 @@ module _ (text : List ℕ) (start end : ℕ) (f : Form) (inside_text : start < l
 
   word_read : is_gap f ≡ false → (slice : List ℕ) → slice ≡ take (end - start) (drop start text) → (place : Place)
       → read_from text start place
-      ≡ after_turn (record { start = start; end = start + length slice }) (turn place (sort_by f (is_name slice)) (record { text = slice; span = record { start = start; end = start + length slice } })) (read_from text (start + length slice))
+      ≡ after_turn (record { start = start; end = start + length slice }) (turn place (sort_by f (is_name slice) (is_stamp slice)) (record { text = slice; span = record { start = start; end = start + length slice } })) (read_from text (start + length slice))
   unfolding the_word words_after
   word_read e slice slice_is place =
       let same_bytes : bytes here.part ≡ slice = here.bytes_are ∙ sym slice_is in
       let end_is : end ≡ start + length slice = sym here.size_is ∙ ap (λ bs. start + length bs) same_bytes in
       ap (λ ws. outcome (length text) ws place) (words_here ∙ ap (λ t. cond t words_after (the_word ∷ words_after)) e)
-      ∙ ap (λ g. after_turn (record { start = start; end = start + size here.part }) (turn place (sort_by g (is_name (bytes here.part))) (record { text = bytes here.part; span = record { start = start; end = start + size here.part } })) (read_from text end)) same_form
-      ∙ ap (λ bs. after_turn (record { start = start; end = start + length bs }) (turn place (sort_by f (is_name bs)) (record { text = bs; span = record { start = start; end = start + length bs } })) (read_from text end)) same_bytes
-      ∙ ap (λ k. after_turn (record { start = start; end = start + length slice }) (turn place (sort_by f (is_name slice)) (record { text = slice; span = record { start = start; end = start + length slice } })) (read_from text k)) end_is
+      ∙ ap (λ g. after_turn (record { start = start; end = start + size here.part }) (turn place (sort_by g (is_name (bytes here.part)) (is_stamp (bytes here.part))) (record { text = bytes here.part; span = record { start = start; end = start + size here.part } })) (read_from text end)) same_form
+      ∙ ap (λ bs. after_turn (record { start = start; end = start + length bs }) (turn place (sort_by f (is_name bs) (is_stamp bs)) (record { text = bs; span = record { start = start; end = start + length bs } })) (read_from text end)) same_bytes
+      ∙ ap (λ k. after_turn (record { start = start; end = start + length slice }) (turn place (sort_by f (is_name slice) (is_stamp slice)) (record { text = slice; span = record { start = start; end = start + length slice } })) (read_from text k)) end_is
 
-  pub word_given : is_gap f ≡ false → (slice : List ℕ) → slice ≡ take (end - start) (drop start text) → (s : Sort) → s ≡ sort_by f (is_name slice) → (at : ℕ) → read_from text start ≡ read_from text at → (place : Place)
+  pub word_given : is_gap f ≡ false → (slice : List ℕ) → slice ≡ take (end - start) (drop start text) → (s : Sort) → s ≡ sort_by f (is_name slice) (is_stamp slice) → (at : ℕ) → read_from text start ≡ read_from text at → (place : Place)
       → read_from text at place
       ≡ after_turn (record { start = start; end = start + length slice }) (turn place s (record { text = slice; span = record { start = start; end = start + length slice } })) (read_from text (start + length slice))
   word_given e slice slice_is s s_is at same place =
@@ -73,11 +73,11 @@ keeps_at_start text = record { same = by_outcome (whole text) }
   where
     by_outcome : (o : Outcome) → with_steps [] o ≡ o
     by_outcome (reads steps) = refl
-    by_outcome (refuses span) = refl
+    by_outcome (refuses fault) = refl
 
 one_step_more : (so_far : List Step) (step : Step) (o : Outcome) → with_steps (so_far ++ step ∷ []) o ≡ with_steps so_far (with_step step o)
 one_step_more so_far step (reads steps) = ap reads (append_assoc so_far (step ∷ []) steps)
-one_step_more so_far step (refuses span) = refl
+one_step_more so_far step (refuses fault) = refl
 
 -- what a word does here
 module _ (text : List ℕ) (at end : ℕ) (place : Place) (t : Turn) (span : Span) (so_far : List Step)
@@ -91,13 +91,13 @@ module _ (text : List ℕ) (at end : ℕ) (place : Place) (t : Turn) (span : Spa
         ∙ ap (with_steps so_far) (sym (read ∙ ap (λ u. after_turn span u (read_from text end)) e)) ∙ keeps.same;
   }
 
-  stops_whole : t ≡ stops → whole text ≡ refuses span
-  stops_whole e = sym keeps.same ∙ ap (with_steps so_far) (read ∙ ap (λ u. after_turn span u (read_from text end)) e)
+  stops_whole : (fault : Fault) → t ≡ stops fault.code → fault.span ≡ span → whole text ≡ refuses fault
+  stops_whole fault e told = sym keeps.same ∙ ap (with_steps so_far) (read ∙ ap (λ u. after_turn span u (read_from text end)) e ∙ ap (λ s. refuses (record { code = fault.code; span = s })) (sym told))
 
-  pub word_refused : length text ≤ longest_text → (o : Option Fault) → IfSome o (TellsStop t span) → IfSome o (IsRefusedForm text)
+  pub word_refused : length text ≤ longest_text → (o : Option Fault) → IfSome o (TellsStop t span) → IfSome o (IsFormFault text)
   word_refused short None h = tt
-  word_refused short (Some fault) (stopped, code, told) =
-      (form_fault text (cut text) fault.span short (cut_parts text) (stops_whole stopped ∙ ap refuses (sym told)), code)
+  word_refused short (Some fault) (stopped, told) =
+      form_fault text (cut text) fault short (cut_parts text) (stops_whole fault stopped told)
 
 -- the end of the text
 module _ (text : List ℕ) (at : ℕ) (place : Place) (so_far : List Step) (short : length text ≤ longest_text)
@@ -107,7 +107,7 @@ module _ (text : List ℕ) (at : ℕ) (place : Place) (so_far : List Step) (shor
       has_steps text (cut text) so_far short (cut_parts text)
       (sym keeps.same ∙ ap (with_steps so_far) (read ∙ ap (at_end (length text)) e) ∙ ap reads (append-nil so_far))
 
-  pub end_refused : at_end (length text) place ≡ refuses (record { start = length text; end = length text }) → (o : Option Fault)
-      → o ≡ Some (record { code = 30; span = record { start = length text; end = length text } }) → IfSome o (IsRefusedForm text)
-  end_refused at_an_end o told = subst (λ p. IfSome p (IsRefusedForm text)) (sym told)
-      (form_fault text (cut text) (record { start = length text; end = length text }) short (cut_parts text) (sym keeps.same ∙ ap (with_steps so_far) (read ∙ at_an_end)), refl)
+  pub end_refused : at_end (length text) place ≡ refuses (open_at (length text)) → (o : Option Fault)
+      → o ≡ Some (open_at (length text)) → IfSome o (IsFormFault text)
+  end_refused at_an_end o told = subst (λ p. IfSome p (IsFormFault text)) (sym told)
+      (form_fault text (cut text) (open_at (length text)) short (cut_parts text) (sym keeps.same ∙ ap (with_steps so_far) (read ∙ at_an_end)))

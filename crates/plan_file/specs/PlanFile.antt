@@ -1,7 +1,7 @@
 -- The words and steps of a plan text in the code, in the model's terms, and what is read of a text from an offset on.
 use Rattle.std.specs.Prelude.{◌≡◌, ℕ, ◌+◌, List, ◌∷◌, ◌++◌, length, map, drop, Option, None, Some}
 use Rattle.plan_file.specs.declared.word.Sort.{Sort}
-use Rattle.plan_file.specs.declared.word.Sort.TheVariants.{Open, Close, Name, Other}
+use Rattle.plan_file.specs.declared.word.Sort.TheVariants.{Open, Close, Name, Stamp, Other}
 use Rattle.plan_file.specs.declared.word.Word.{Word}
 use Rattle.plan_file.specs.declared.text.Step.{Step}
 use Rattle.plan_file.specs.declared.text.Place.{Place}
@@ -13,7 +13,7 @@ use Rattle.model.specs.Fault.{Span, Fault}
 use Rattle.model.specs.Trees as tree
 use Rattle.model.specs.PlanText as text
 use Rattle.model.specs.Task.{Union, Task, Instance}
-use Rattle.model.specs.PlanText.{placed_from, IsFormFault, NamesObject, NameObjects, AllMean, IsStepFault}
+use Rattle.model.specs.PlanText.{placed_from, NamesObject, NameObjects, AllMean, IsStepFault}
 use Rattle.model.specs.PlanMachine as machine
 use Rattle.model.specs.PlanMachine.{Outcome, outcome, turn, at_end, after_turn}
 
@@ -21,6 +21,7 @@ abbrev pub sort_of : Sort → machine.Sort
 sort_of Open = machine.an_opening
 sort_of Close = machine.a_closing
 sort_of Name = machine.a_name
+sort_of Stamp = machine.a_stamp
 sort_of Other = machine.strange
 
 abbrev pub span_of : Word → Span
@@ -41,9 +42,9 @@ abbrev pub turn_of : Turn → machine.Turn
 turn_of (Goes place) = machine.goes (place_of place)
 turn_of (Ends step) = machine.ends (step_of step)
 
--- the word stops the reading, and its span is told
+-- the word stops the reading, by the number that is told, and its span is told
 abbrev pub TellsStop : machine.Turn → Span → Fault → Type 0
-TellsStop t span fault = (t ≡ machine.stops) × (fault.code ≡ 30) × (fault.span ≡ span)
+TellsStop t span fault = (t ≡ machine.stops fault.code) × (fault.span ≡ span)
 
 -- what is read of the text from this offset and place on
 abbrev pub read_from : List ℕ → ℕ → machine.Place → Outcome
@@ -55,10 +56,6 @@ GivesWord text at None = (place : machine.Place) → read_from text at place ≡
 GivesWord text at (Some word) =
     (place : machine.Place) → read_from text at place
     ≡ after_turn (span_of word) (turn place (sort_of word.sort) (name_of word)) (read_from text (word.start + length word.text.now))
-
--- the form of the text is at fault, and so is told
-abbrev pub IsRefusedForm : List ℕ → Fault → Type 0
-IsRefusedForm text fault = IsFormFault text fault.span × (fault.code ≡ 30)
 
 -- the name is not that of an object of one of these types, and the fault is told of it
 pub record IsNoObject (task : Task) (types : Union) (name : tree.Name) (fault : Fault) : Type 0 where

@@ -1,9 +1,11 @@
-//! Plan texts: a list of steps `(action object ..)`.
+//! Plan texts: a list of steps `(action object ..)`. They are read, and written.
 #![tactic(auto)]
 
 mod reader;
 mod steps;
 mod text;
 mod word;
+mod writer;
 
 pub use reader::{examples_are_as_told, one_fault, one_plan, read_plan};
+pub use writer::{examples_are_written, step_text, write_plan, written_text_reads_back};

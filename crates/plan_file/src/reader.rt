@@ -25,7 +25,8 @@ use typing::Task;
 ///
 /// # Errors
 /// The whole text is looked at first, and its first parenthesis, run or stray byte that no plan text goes on with is
-/// refused: code 30. A text that ends in a step is refused at its end, and one over 16,777,216 bytes at what is over.
+/// refused: code 31 where it is a time stamp, a run outside of steps that begins with a digit, `.` or `[`, and else 30.
+/// A text that ends in a step is refused at its end, and one over 16,777,216 bytes at what is over, by 30.
 /// Then the steps are taken in order: 32 at an action that is not declared, 33 at the action where the count of objects
 /// is not that of its parameters, 34 at the first object that is not declared or not of the types of its parameter.
 /// `NoMemory` is answered only where memory that was asked for was refused; a text over 16,777,216 bytes is refused
@@ -40,9 +41,9 @@ use typing::Task;
 /// assert_eq!(rt; plan.steps().len(), 2);
 /// ```
 ///
-/// `(go a b` is refused by `PlanForm` at `7..7`, `(fly a b)` by `UnknownAction` at `1..4`, `(go a)` by `StepArity` at
-/// `1..3`, and `(go a c)` by `StepType` at `6..7`, where there is no object `c` or it is not of the types of the second
-/// parameter.
+/// `(go a b` is refused by `PlanForm` at `7..7`, `0: (go a b)` by `TimedStep` at `0..2`, `(fly a b)` by `UnknownAction`
+/// at `1..4`, `(go a)` by `StepArity` at `1..3`, and `(go a c)` by `StepType` at `6..7`, where there is no object `c` or
+/// it is not of the types of the second parameter.
 pub fn read_plan(alloc: Global, task: &Task, text: &[u8]) -> Result<Plan, Fault>
     ensures plan { IfOk result (λ plan. IsPlanText (task_of task.now) text.now (plan_of plan)) }
     ensures instances { IfOk result (λ plan. IsTrue (list_all (is_instance (task_of task.now)) (plan_of plan))) }

@@ -1,8 +1,8 @@
 //! The form of a plan text.
 ghost use Rattle.std.specs.Prelude.{◌≡◌, ◌<◌, map, length, IfOk, IfErr, IsErrAnd, IfSome, Some};
 ghost use Rattle.faults.specs.Fault.{told_by};
-ghost use Rattle.plan_file.specs.PlanFile.{step_of, IsRefusedForm};
-ghost use Rattle.model.specs.PlanText.{HasSteps};
+ghost use Rattle.plan_file.specs.PlanFile.{step_of};
+ghost use Rattle.model.specs.PlanText.{HasSteps, IsFormFault};
 ghost use Rattle.model.specs.Words.{longest_text};
 
 use crate::word::{Sort, Word, refusal};
@@ -53,6 +53,7 @@ impl<'a> Place<'a> {
         match self {
             Place::Outside => match word.sort {
                 Sort::Open => Ok(Turn::Goes(Place::Opened)),
+                Sort::Stamp => Err(word.refused(Code::TimedStep)),
                 Sort::Close | Sort::Name | Sort::Other => Err(word.refused(Code::PlanForm)),
             },
             Place::Opened => match word.sort {
@@ -63,7 +64,9 @@ impl<'a> Place<'a> {
                         objects,
                     })))
                 }
-                Sort::Open | Sort::Close | Sort::Other => Err(word.refused(Code::PlanForm)),
+                Sort::Open | Sort::Close | Sort::Stamp | Sort::Other => {
+                    Err(word.refused(Code::PlanForm))
+                }
             },
             Place::Inside(step) => step.after(word),
         }
@@ -89,7 +92,7 @@ impl<'a> Step<'a> {
                 self.objects.push(word)?;
                 Ok(Turn::Goes(Place::Inside(self)))
             }
-            Sort::Open | Sort::Other => Err(word.refused(Code::PlanForm)),
+            Sort::Open | Sort::Stamp | Sort::Other => Err(word.refused(Code::PlanForm)),
         }
     }
 }
@@ -97,7 +100,7 @@ impl<'a> Step<'a> {
 /// The steps of a whole text.
 pub(super) fn steps_of<'a>(alloc: Global, text: &'a [u8]) -> Result<Vec<Step<'a>>, Fault>
     ensures steps { IfOk result (λ steps. HasSteps text.now (map step_of steps.items)) }
-    ensures refused { IfErr result (λ fault. IfSome (told_by fault) (IsRefusedForm text.now)) }
+    ensures refused { IfErr result (λ fault. IfSome (told_by fault) (IsFormFault text.now)) }
     ensures too_long { longest_text < length text.now → IsErrAnd result (λ fault. told_by fault
         ≡ Some (record { code = 30; span = record { start = longest_text; end = length text.now } })) }
 {

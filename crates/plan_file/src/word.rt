@@ -3,6 +3,7 @@ ghost use Rattle.std.specs.Prelude.{◌≡◌, ◌+◌, ◌<◌, ◌≤◌, ◌^
 ghost use Rattle.faults.specs.Fault.{told_by, number_of};
 ghost use Rattle.tokens.specs.Form.{view};
 ghost use Rattle.model.specs.Words.{is_gap};
+ghost use Rattle.model.specs.PlanText.{is_stamp};
 
 use faults::{Code, Fault, Refusal, Refused, Span};
 use tokens::{Form, is_name, part_end};
@@ -13,6 +14,7 @@ pub(super) enum Sort {
     Open,
     Close,
     Name,
+    Stamp,
     Other,
 }
 
@@ -23,7 +25,7 @@ impl Sort {
 
     /// The sort of a part of this form and these bytes.
     fn of(form: Form, bytes: &[u8]) -> Sort
-        ensures { sort_of result ≡ sort_by (view form) (words.is_name bytes.now) }
+        ensures { sort_of result ≡ sort_by (view form) (words.is_name bytes.now) (is_stamp bytes.now) }
     {
         match form {
             Form::Opening => Sort::Open,
@@ -31,6 +33,8 @@ impl Sort {
             Form::Run => {
                 if is_name(bytes) {
                     Sort::Name
+                } else if is_stamp(bytes) {
+                    Sort::Stamp
                 } else {
                     Sort::Other
                 }
@@ -106,6 +110,16 @@ pub(super) fn refusal(code: Code, start: usize, end: usize) -> Fault
 {
     let span = Span { start, end };
     Refused::At(Refusal { code, span })
+}
+
+/// Whether these bytes begin as those of a time stamp do: with a digit, `.` or `[`.
+fn is_stamp(bytes: &[u8]) -> bool
+    ensures { result ≡ is_stamp bytes.now }
+{
+    match bytes.split_first() {
+        Some((first, _)) => first.is_ascii_digit() || *first == b'.' || *first == b'[',
+        None => false,
+    }
 }
 
 /// Whether a part of this form is a blank or a comment.

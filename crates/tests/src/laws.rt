@@ -17,6 +17,8 @@ fn laws_are_called() {
     plan_file::one_plan();
     plan_file::one_fault();
     plan_file::examples_are_as_told();
+    plan_file::written_text_reads_back();
+    plan_file::examples_are_written();
     one_state();
     sure_literals_hold();
     formula_examples_are_judged();

@@ -14,12 +14,12 @@ use typing::{MAX_ARGUMENTS, MAX_OBJECTS, MAX_VARIABLES};
 
 /// The codes of refused texts.
 #[rattlefmt::skip]
-static CODES: [Code; 29] = [
+static CODES: [Code; 30] = [
     Code::BadByte, Code::BadWord, Code::Unbalanced, Code::TooDeep, Code::TooLong, Code::Trailing, Code::BadForm,
     Code::UnknownSection, Code::RepeatedSection, Code::MissingSection, Code::UnknownRequirement, Code::LeftOut,
     Code::NumberTooLarge, Code::UnknownType, Code::TypeCycle, Code::Duplicate, Code::UnknownName, Code::WrongArity, Code::WrongType,
     Code::Shadowed, Code::DomainMismatch, Code::BadMetric, Code::BadCost, Code::NegativeInit, Code::TooMany,
-    Code::PlanForm, Code::UnknownAction, Code::StepArity, Code::StepType,
+    Code::PlanForm, Code::TimedStep, Code::UnknownAction, Code::StepArity, Code::StepType,
 ];
 
 /// The codes of refused certificates.
@@ -35,7 +35,7 @@ const NAMES: &str = "1 BadByte, 2 BadWord, 3 Unbalanced, 4 TooDeep, 5 TooLong, 6
 7 BadForm, 8 UnknownSection, 9 RepeatedSection, 10 MissingSection, 11 UnknownRequirement, \
 12 LeftOut, 13 NumberTooLarge, 14 UnknownType, 15 TypeCycle, 16 Duplicate, 17 UnknownName, 18 WrongArity, \
 19 WrongType, 20 Shadowed, 21 DomainMismatch, 22 BadMetric, 23 BadCost, 24 NegativeInit, 25 TooMany, \
-30 PlanForm, 32 UnknownAction, 33 StepArity, 34 StepType, \
+30 PlanForm, 31 TimedStep, 32 UnknownAction, 33 StepArity, 34 StepType, \
 43 NotFluent, 44 Repeated, 45 NoInitial, 48 GoalOpen, 49 SuccessorMissing, 50 SuccessorDearer, \
 51 CutWeak, 52 CutNotAllowed, 53 PlanInvalid, 54 PlanDearer, 55 Limit, ";
 

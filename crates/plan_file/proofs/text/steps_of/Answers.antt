@@ -2,7 +2,7 @@ use Rattle.std.proofs.Common.{rules, arith, ◌≡◌, ◌++◌, ◌∷◌, [], 
 use Rattle.std.proofs.lemmas.List.{map-append}
 use Rattle.std.proofs.lemmas.Result.{err_from_is_err_and}
 use Rattle.plan_file.specs.PlanFile.{step_of, place_of, turn_of, span_of, sort_of, name_of}
-use Rattle.model.specs.PlanMachine.{turn, goes, ends, at_end, refuses}
+use Rattle.model.specs.PlanMachine.{turn, goes, ends, open_at, at_end, refuses}
 use Rattle.faults.specs.Fault.{told_by}
 use Rattle.plan_file.specs.declared.text.Step.{Step}
 use Rattle.plan_file.specs.declared.text.Place.TheVariants.{Opened, Inside}
@@ -46,7 +46,7 @@ pub returns : goal.returns
 returns c =
     let end = length c.args.text.now in
     let short : end ≤ 16777216 = search rules in
-    let left : at_end end (place_of c.words.place) ≡ refuses (record { start = end; end = end }) =
+    let left : at_end end (place_of c.words.place) ≡ refuses (open_at end) =
     ⊎_elim (λ (e : c.words.place ≡ Opened). ap (λ p. at_end end (place_of p)) e) (λ (x : (step : Step) × (c.words.place ≡ Inside step)). ap (λ p. at_end end (place_of p)) x.1) c.in-Opened.is in
     record {
       steps = tt;

@@ -1,0 +1,160 @@
+//! From a plan to its text.
+ghost use Rattle.std.specs.Prelude.{◌≡◌, ◌≤◌, ◌++◌, ℕ, List, IsTrue, IfOk, OnOk, codes, length};
+ghost use Rattle.std.specs.Io.KnownBytes.{Appends};
+ghost use Rattle.std.specs.List.{list_all};
+ghost use Rattle.std.specs.Str.Lossy.{utf8_lossy};
+ghost use Rattle.std.specs.String.{string_bytes};
+ghost use Rattle.devices.specs.Devices.{AppendsBeginning, CountsDevice};
+ghost use Rattle.typing.specs.Task.{task_of};
+ghost use Rattle.formulas.specs.State.{instance_of, plan_of};
+ghost use Rattle.model.specs.Task as model;
+ghost use Rattle.model.specs.Meaning.{is_instance};
+ghost use Rattle.model.specs.PlanText.{IsPlanText};
+ghost use Rattle.model.specs.PlanWriting.{plan_text, step_text, step_line, cost_line, object_text, schema_name, object_name, has_names};
+ghost use Rattle.model.specs.PlanWritingExamples.{AreWritten};
+ghost use Rattle.model.specs.Words.{longest_text};
+
+use devices::{Sink, WriteFault, write_all};
+use faults::NoMemory;
+use formulas::{Instance, Plan};
+use std::alloc::{AllocError, Global};
+use typing::{ObjectId, SchemaId, Task};
+
+/// Writes the text of a plan of this cost.
+///
+/// Each step stands on a line, in lower case and with one blank between words, and last the line `; cost = N`. Every
+/// line ends with LF. An empty plan of cost 0 is `; cost = 0` and LF. A line is made in memory and then written, and
+/// never the whole text.
+///
+/// # Errors
+/// The device failed, or memory was refused. It has then taken a beginning of the text.
+///
+/// # Examples
+/// ```
+/// let mut out = Memory::empty(alloc);
+/// write_plan(alloc, &task, &plan, 6, &mut out)?;
+/// assert_eq!(rt; out.as_slice(), b"(hop a b)\n(hop b c)\n; cost = 6\n");
+/// ```
+pub fn write_plan<W: Sink>(
+    alloc: Global,
+    task: &Task,
+    plan: &Plan,
+    cost: u64,
+    out: &mut W,
+) -> Result<(), WriteFault>
+    ensures text { OnOk result (Appends (W.taken out.old) (W.taken out.new) (plan_text (task_of task.now) (plan_of plan.now) cost)) }
+    ensures beginning { AppendsBeginning (W.taken out.old) (W.taken out.new) (plan_text (task_of task.now) (plan_of plan.now) cost) }
+    ensures failures { CountsDevice (W.failures out.old) (W.failures out.new) result }
+{
+    let mut line = Vec::new(alloc);
+    for step in plan.steps() {
+        write_step(task, step, &mut line, out)?;
+    }
+    write_cost(alloc, cost, out)
+}
+
+/// One step as the writer spells it, without its LF: `(hop a b)`.
+///
+/// # Errors
+/// Memory was refused.
+pub fn step_text(alloc: Global, task: &Task, step: &Instance) -> Result<String, NoMemory>
+    // Bytes of names that are no text are replaced, and there are none where the task's names are names.
+    ensures text { IfOk result (λ text. string_bytes text ≡ utf8_lossy (step_text (task_of task.now) (instance_of step.now))) }
+    ensures names { IsTrue (has_names (task_of task.now)) → IfOk result (λ text.
+        string_bytes text ≡ step_text (task_of task.now) (instance_of step.now)) }
+{
+    let mut text = Vec::new(alloc);
+    add_step(task, step, &mut text)?;
+    Ok(String::from_utf8_lossy(alloc, text.as_slice())?)
+}
+
+/// What the writer writes reads as its list: where a task's names are names and differ, the text of a list of its
+/// instances is that list, unless the text is over 16,777,216 bytes. It is stated of all tasks, lists and costs, and
+/// proved; the call does nothing.
+pub fn written_text_reads_back()
+    ensures { (task : model.Task) (plan : List model.Instance) (cost : ℕ)
+        → IsTrue (has_names task) → IsTrue (list_all (is_instance task) plan)
+        → length (plan_text task plan cost) ≤ longest_text
+        → IsPlanText task (plan_text task plan cost) plan }
+{}
+
+/// The worked examples of what is written: small plans with their texts.
+pub fn examples_are_written()
+    ensures { AreWritten }
+{}
+
+/// Writes a step on a line of its own, which is made in the buffer that is lent.
+fn write_step<W: Sink>(
+    task: &Task,
+    step: &Instance,
+    line: &mut Vec<u8>,
+    out: &mut W,
+) -> Result<(), WriteFault>
+    ensures text { OnOk result (Appends (W.taken out.old) (W.taken out.new) (step_line (task_of task.now) (instance_of step.now))) }
+    ensures beginning { AppendsBeginning (W.taken out.old) (W.taken out.new) (step_line (task_of task.now) (instance_of step.now)) }
+    ensures failures { CountsDevice (W.failures out.old) (W.failures out.new) result }
+{
+    line.clear();
+    add_line(task, step, line)?;
+    write_all(out, line.as_slice())
+}
+
+/// Writes the last line, with the cost.
+fn write_cost<W: Sink>(alloc: Global, cost: u64, out: &mut W) -> Result<(), WriteFault>
+    ensures text { OnOk result (Appends (W.taken out.old) (W.taken out.new) (cost_line cost)) }
+    ensures beginning { AppendsBeginning (W.taken out.old) (W.taken out.new) (cost_line cost) }
+    ensures failures { CountsDevice (W.failures out.old) (W.failures out.new) result }
+{
+    let line = format!(in alloc; "; cost = {cost}\n")?;
+    write_all(out, line.as_bytes())
+}
+
+/// Adds a step and LF.
+fn add_line(task: &Task, step: &Instance, line: &mut Vec<u8>) -> Result<(), AllocError>
+    ensures { OnOk result (line.new.items ≡ line.old.items ++ step_line (task_of task.now) (instance_of step.now)) }
+{
+    add_step(task, step, line)?;
+    line.extend_from_slice(b"\n")
+}
+
+/// Adds a step: the schema's name and the names of its objects.
+fn add_step(task: &Task, step: &Instance, text: &mut Vec<u8>) -> Result<(), AllocError>
+    ensures { OnOk result (text.new.items ≡ text.old.items ++ step_text (task_of task.now) (instance_of step.now)) }
+{
+    text.extend_from_slice(b"(")?;
+    text.extend_from_slice(schema_name(task, step.schema))?;
+    for object in step.objects.as_slice() {
+        add_object(task, *object, text)?;
+    }
+    text.extend_from_slice(b")")?;
+    Ok(())
+}
+
+/// Adds a blank and the object's name.
+fn add_object(task: &Task, object: ObjectId, text: &mut Vec<u8>) -> Result<(), AllocError>
+    ensures { OnOk result (text.new.items ≡ text.old.items ++ object_text (task_of task.now) object.0) }
+{
+    text.extend_from_slice(b" ")?;
+    text.extend_from_slice(object_name(task, object))?;
+    Ok(())
+}
+
+/// The schema's name; no bytes where there is no such schema.
+fn schema_name(task: &Task, schema: SchemaId) -> &[u8]
+    ensures { result.now ≡ schema_name (task_of task.now) schema.0 }
+{
+    match task.schema_name(schema) {
+        Some(name) => name,
+        None => b"",
+    }
+}
+
+/// The object's name; no bytes where there is no such object.
+fn object_name(task: &Task, object: ObjectId) -> &[u8]
+    ensures { result.now ≡ object_name (task_of task.now) object.0 }
+{
+    match task.object_name(object) {
+        Some(name) => name,
+        None => b"",
+    }
+}
