@@ -2,3 +2,4 @@ pub mod Readings
 pub mod FilesRead
 pub mod ProgramWords
 pub mod TableLemmas
+pub mod ProgramTold

@@ -1,7 +1,8 @@
 -- What the words of the program are, and what it tells of them.
-use Rattle.std.proofs.Common.{◌≡◌, ℕ, ◌^◌, ◌<◌, ◌≤◌, ◌⊎◌, inl, inr, List, [], ◌∷◌, length, codes, get_or, take, drop, refl, sym, ap, ◌∙◌, subst, arith}
+use Rattle.std.proofs.Common.{◌≡◌, ℕ, ◌^◌, ◌<◌, ◌≤◌, ◌⊎◌, inl, inr, List, [], ◌∷◌, length, codes, get_or, take, drop, refl, sym, ap, ◌∙◌, subst, arith, length-append, take_at}
 use Rattle.std.proofs.lemmas.Bool.Decides.{nat_tests}
-use Rattle.std.specs.Prelude.{Result, Ok, Err, Option, None, Some, IfSome, OnOk, IsTrue, Bool, is_some, true, false, ◌&&◌}
+use Rattle.std.specs.Prelude.{◌++◌, Result, Ok, Err, Option, None, Some, IfSome, OnOk, IsTrue, Bool, is_some, true, false, ◌&&◌, if◌then◌else◌}
+use Rattle.model.specs.Resolution.{is_same}
 use Rattle.std.specs.Io.KnownBytes.{Appends}
 use Rattle.std.specs.Str.Parse.{IsNumeral, without_leading_plus, digits_value}
 use Rattle.solver.specs.Limit.{is_limit}
@@ -15,7 +16,7 @@ use Rattle.planner_main.specs.declared.report.Failure.{Failure}
 use Rattle.planner_main.specs.declared.report.Failure.TheVariants as failure
 use Rattle.planner_main.specs.declared.task_file.FileFault.TheVariants as refusal
 use Rattle.devices.specs.declared.device.WriteFault.TheVariants as device
-use Rattle.planner_main.specs.Program.{texts, AllowsStates, as_asked, AsksForVerdict, AsksForPlan, IsCommand, is_validate, is_solve, IsText, OnTwo, OnThree, IsAnswerText, IsAnswerFor, IsAnswer, Tells, TellsPartly, a_verdict, an_answer, Refuses, IsRefusedFor, a_verdict_refused, an_answer_refused, TellsFor, TellsPartlyFor, Asks, fault_in, IsFaultFor, IsToldOn, NamesDomain, in_validate, in_solve, HasFailed, HasNotFailed, CountsFailure, CountsEither, device_failure, domain_of}
+use Rattle.planner_main.specs.Program.{texts, name_in, AllowsStates, by_default, as_asked, AreOptions, no_file, file_first, file_last, AsksForVerdict, AsksForPlan, IsCommand, is_validate, is_solve, IsText, OnTwo, OnThree, IsAnswerText, IsAnswerFor, IsAnswer, a_verdict, an_answer, Refuses, IsRefusedFor, a_verdict_refused, an_answer_refused, Asks, fault_in, IsFaultFor, IsToldOn, AreKept, IsOneOf, NamesDomain, in_validate, in_solve, NamesInput, of_validate, of_solve, NamesPlanFile, IsFileOf, HasFailed, HasNotFailed, CountsFailure, CountsEither, device_failure, domain_of, inputs_of}
 use Rattle.planner_main.specs.declared.task_file.File.{File}
 use Rattle.planner_main.specs.declared.task_file.FileFault as file
 use Rattle.faults.specs.declared.code.Code.{Code}
@@ -41,16 +42,16 @@ for_verdict (a ∷ b ∷ c ∷ e ∷ []) d least most first = ap (λ word. word 
 for_verdict (a ∷ b ∷ c ∷ e ∷ f ∷ rest) d least most first = absurd (omega arith)
 
 -- Three words of which the first is `solve`, with options after them, ask for a plan.
-pub for_plan : (words : List (Bor (List ℕ))) (d : Bor (List ℕ)) (rest : List (Bor (List ℕ))) (states : ℕ) → rest ≡ drop 3 words → 3 ≤ length words
-    → (get_or words 0 d).now ≡ codes "solve" → AllowsStates (texts rest) states
-    → AsksForPlan (texts words) (get_or words 1 d).now (get_or words 2 d).now states
-for_plan [] d rest states same three first allows = absurd (omega arith)
-for_plan (a ∷ []) d rest states same three first allows = absurd (omega arith)
-for_plan (a ∷ b ∷ []) d rest states same three first allows = absurd (omega arith)
-for_plan (a ∷ b ∷ c ∷ more) d rest states same three first allows = record {
+pub for_plan : (words : List (Bor (List ℕ))) (d : Bor (List ℕ)) (rest : List (Bor (List ℕ))) (states : ℕ) (file : Option (List ℕ)) → rest ≡ drop 3 words
+    → 3 ≤ length words → (get_or words 0 d).now ≡ codes "solve" → AreOptions (texts rest) states file
+    → AsksForPlan (texts words) (get_or words 1 d).now (get_or words 2 d).now states file
+for_plan [] d rest states file same three first are = absurd (omega arith)
+for_plan (a ∷ []) d rest states file same three first are = absurd (omega arith)
+for_plan (a ∷ b ∷ []) d rest states file same three first are = absurd (omega arith)
+for_plan (a ∷ b ∷ c ∷ more) d rest states file same three first are = record {
   options = texts more;
   in_order = ap (λ word. word ∷ b.now ∷ c.now ∷ texts more) first;
-  allows = subst (λ options. AllowsStates (texts options) states) same allows;
+  are = subst (λ options. AreOptions (texts options) states file) same are;
 }
 
 -- A text that a file has after other files were read is one that it had.
@@ -65,53 +66,159 @@ first_same x y xs ys same = cc
 rest_same : (x y : List ℕ) (xs ys : List (List ℕ)) → x ∷ xs ≡ y ∷ ys → xs ≡ ys
 rest_same x y xs ys same = cc
 
+validate_is_not_solve : codes "solve" ≡ codes "validate" → ⊥
+validate_is_not_solve same = absurd (cc)
+
+-- No words ask for both a verdict and a plan.
+not_both : (words : List (List ℕ)) (d p l domain problem : List ℕ) (states : ℕ) (file : Option (List ℕ)) → AsksForVerdict words d p l
+    → AsksForPlan words domain problem states file → ⊥
+not_both words d p l domain problem states file verdict plan = validate_is_not_solve (first_same _ _ _ _ (sym plan.in_order ∙ verdict))
+
+-- the file that options name
+abbrev file_in : List (List ℕ) → Option (List ℕ)
+file_in [] = None
+file_in (a ∷ []) = None
+file_in (a ∷ b ∷ []) = if is_same a (codes "--plan") then Some b else None
+file_in (a ∷ b ∷ c ∷ []) = None
+file_in (a ∷ b ∷ c ∷ d ∷ rest) = if is_same a (codes "--plan") then Some b else Some d
+
+file_is : (options : List (List ℕ)) (states : ℕ) (file : Option (List ℕ)) → AreOptions options states file → file ≡ file_in options
+file_is options states file (no_file (by_default is number) none) = none ∙ sym (ap file_in is)
+file_is options states file (no_file (as_asked text is number least most) none) = none ∙ sym (ap file_in is)
+file_is options states file (file_first name others is (by_default same number) some) =
+    some ∙ sym (ap file_in (is ∙ ap (λ rest. codes "--plan" ∷ name ∷ rest) same))
+file_is options states file (file_first name others is (as_asked text same number least most) some) =
+    some ∙ sym (ap file_in (is ∙ ap (λ rest. codes "--plan" ∷ name ∷ rest) same))
+file_is options states file (file_last name others is (by_default same number) some) =
+    some ∙ sym (ap file_in (is ∙ ap (λ front. front ++ codes "--plan" ∷ name ∷ []) same))
+file_is options states file (file_last name others is (as_asked text same number least most) some) =
+    some ∙ sym (ap file_in (is ∙ ap (λ front. front ++ codes "--plan" ∷ name ∷ []) same))
+
+-- Words with `--plan FILE` first or last are options where the others are; and words with neither, where they are.
+texts_differ : codes "--plan" ≡ codes "--states" → ⊥
+texts_differ same = absurd (cc)
+
+not_allowed_first : (name : List ℕ) (others words : List (List ℕ)) (states : ℕ) → words ≡ codes "--plan" ∷ name ∷ others → AllowsStates words states → ⊥
+not_allowed_first name others words states is (by_default none number) = absurd (cc (is, none))
+not_allowed_first name others words states is (as_asked text asked number least most) = texts_differ (first_same _ _ _ _ (sym is ∙ asked))
+
+not_allowed_last : (name : List ℕ) (others words : List (List ℕ)) (states : ℕ) → words ≡ others ++ codes "--plan" ∷ name ∷ [] → AllowsStates words states → ⊥
+not_allowed_last name [] words states is allows = not_allowed_first name [] words states is allows
+not_allowed_last name (a ∷ rest) words states is (by_default none number) = absurd (cc (is, none))
+not_allowed_last name (a ∷ rest) words states is (as_asked text asked number least most) =
+    let same = ap length (sym is ∙ asked) in
+    absurd (omega (arith, same, length-append rest (codes "--plan" ∷ name ∷ [])))
+
+same_before : (xs ys : List (List ℕ)) (a b : List ℕ) → xs ++ codes "--plan" ∷ a ∷ [] ≡ ys ++ codes "--plan" ∷ b ∷ [] → xs ≡ ys
+same_before xs ys a b same =
+    let lengths : length xs ≡ length ys =
+        omega (arith, ap length same, length-append xs (codes "--plan" ∷ a ∷ []), length-append ys (codes "--plan" ∷ b ∷ [])) in
+    sym (take_at xs (codes "--plan" ∷ a ∷ []) (length xs) refl) ∙ ap (take (length xs)) same ∙ take_at ys (codes "--plan" ∷ b ∷ []) (length xs) (sym lengths)
+
+pub none_first : (words others : List (List ℕ)) (name : List ℕ) → words ≡ codes "--plan" ∷ name ∷ others → ((states : ℕ) → AllowsStates others states → ⊥)
+    → (states : ℕ) (file : Option (List ℕ)) → AreOptions words states file → ⊥
+none_first words others name is none states file (no_file allows same) = not_allowed_first name others words states is allows
+none_first words others name is none states file (file_first other rest are allows same) =
+    none states (subst (λ rest. AllowsStates rest states) (rest_same _ _ _ _ (rest_same _ _ _ _ (sym are ∙ is))) allows)
+none_first words others name is none states file (file_last other rest are (by_default empty number) same) =
+    let alone : words ≡ codes "--plan" ∷ other ∷ [] = are ∙ ap (λ front. front ++ codes "--plan" ∷ other ∷ []) empty in
+    none 1000000 (by_default (rest_same _ _ _ _ (rest_same _ _ _ _ (sym is ∙ alone))) refl)
+none_first words others name is none states file (file_last other rest are (as_asked text asked number least most) same) =
+    let after : words ≡ codes "--states" ∷ text ∷ codes "--plan" ∷ other ∷ [] = are ∙ ap (λ front. front ++ codes "--plan" ∷ other ∷ []) asked in
+    texts_differ (first_same _ _ _ _ (sym is ∙ after))
+
+pub none_last : (words others : List (List ℕ)) (name : List ℕ) → ((name : List ℕ) (rest : List (List ℕ)) → words ≡ codes "--plan" ∷ name ∷ rest → ⊥)
+    → words ≡ others ++ codes "--plan" ∷ name ∷ [] → ((states : ℕ) → AllowsStates others states → ⊥)
+    → (states : ℕ) (file : Option (List ℕ)) → AreOptions words states file → ⊥
+none_last words others name not_first is none states file (no_file allows same) = not_allowed_last name others words states is allows
+none_last words others name not_first is none states file (file_first other rest are allows same) = not_first other rest are
+none_last words others name not_first is none states file (file_last other rest are allows same) =
+    none states (subst (λ rest. AllowsStates rest states) (same_before rest others other name (sym are ∙ is)) allows)
+
+pub none_alone : (words : List (List ℕ)) → ((name : List ℕ) (rest : List (List ℕ)) → words ≡ codes "--plan" ∷ name ∷ rest → ⊥)
+    → ((name : List ℕ) (rest : List (List ℕ)) → words ≡ rest ++ codes "--plan" ∷ name ∷ [] → ⊥) → ((states : ℕ) → AllowsStates words states → ⊥)
+    → (states : ℕ) (file : Option (List ℕ)) → AreOptions words states file → ⊥
+none_alone words not_first not_last none states file (no_file allows same) = none states allows
+none_alone words not_first not_last none states file (file_first other rest are allows same) = not_first other rest are
+none_alone words not_first not_last none states file (file_last other rest are allows same) = not_last other rest are
+
+-- The words in the code, of which the first or the last two are `--plan FILE`.
+pub split_first : (words rest : List (Bor (List ℕ))) (d : Bor (List ℕ)) → 2 ≤ length words → (get_or words 0 d).now ≡ codes "--plan" → rest ≡ drop 2 words
+    → texts words ≡ codes "--plan" ∷ (get_or words 1 d).now ∷ texts rest
+split_first [] rest d two first same = absurd (omega arith)
+split_first (a ∷ []) rest d two first same = absurd (omega arith)
+split_first (a ∷ b ∷ more) rest d two first same = ap (λ word. word ∷ b.now ∷ texts more) first ∙ ap (λ l. codes "--plan" ∷ b.now ∷ texts l) (sym same)
+
 -- What answers a command answers the words that ask for it, and so with what is refused.
 module _ (contents : List ℕ → Option (List ℕ)) (words : List (List ℕ)) where
   pub answer_of_words : (command : Command) (text : List ℕ) (status : ℕ) → Asks words command → IsAnswerFor contents command text status
       → IsAnswer contents words text status
   answer_of_words (Validate domain problem plan) text status asks is = a_verdict domain.now problem.now plan.now asks is
-  answer_of_words (Solve domain problem limits) text status asks is =
-      an_answer domain.now problem.now limits.states asks.0
+  answer_of_words (Solve domain problem limits file) text status asks is =
+      an_answer domain.now problem.now limits.states (name_in file) asks.0
       (subst (λ instances. IsAnswerText contents domain.now problem.now limits.states instances text status) asks.1 is)
-
-  pub told_of_words : (before after : Option (List ℕ)) (command : Command) (status : ℕ) → Asks words command → TellsFor contents command before after status
-      → Tells contents words before after status
-  told_of_words before after command status asks (text, is, appended) = (text, answer_of_words command text status asks is, appended)
-
-  pub partly_of_words : (before after : Option (List ℕ)) (command : Command) → Asks words command → TellsPartlyFor contents command before after
-      → TellsPartly contents words before after
-  partly_of_words before after command asks (inl same) = inl same
-  partly_of_words before after command asks (inr (text, status, is, told)) = inr (text, status, answer_of_words command text status asks is, told)
 
   refused_of_words : (command : Command) (fault : FileFault) → Asks words command → IsFaultFor contents command fault → IsRefusedFor contents words fault
   refused_of_words (Validate domain problem plan) fault asks is = a_verdict_refused domain.now problem.now plan.now asks is
-  refused_of_words (Solve domain problem limits) fault asks is = an_answer_refused domain.now problem.now limits.states asks.0 is
+  refused_of_words (Solve domain problem limits file) fault asks is =
+      an_answer_refused domain.now problem.now limits.states (name_in file) asks.0 is
 
   -- The status of a text is told with the line of the fault that the failure is.
-  pub refuses_of_words : (out out_after : Option (List ℕ)) (Says : List ℕ → Type 0) (command : Command) (f : Failure) (status : ℕ) → Asks words command
-      → IsToldOn f Says status → status ≡ 20 → IfSome (fault_in f) (λ fault. IsFaultFor contents command fault × (out_after ≡ out))
-      → Refuses contents words out out_after Says
-  refuses_of_words out out_after Says command (failure.Text (refusal.At file code span)) status asks (inl (is, line)) same (fault, kept) =
-      (fault_at file code span, refused_of_words command _ asks fault, kept, line)
-  refuses_of_words out out_after Says command (failure.Text (refusal.At file code span)) status asks (inr (is, line)) same h = absurd (omega arith)
-  refuses_of_words out out_after Says command (failure.Text refusal.NoMemory) status asks (is, line) same h = absurd (omega arith)
-  refuses_of_words out out_after Says command (failure.Device device.Device) status asks (is, line) same h = absurd (omega arith)
-  refuses_of_words out out_after Says command (failure.Device device.NoMemory) status asks (is, line) same h = absurd (omega arith)
+  pub refuses_of_words : (after : List ℕ → Option (List ℕ)) (out out_after : Option (List ℕ)) (Says : List ℕ → Type 0) (command : Command) (f : Failure) (status : ℕ)
+      → Asks words command → IsToldOn f Says status → status ≡ 20
+      → IfSome (fault_in f) (λ fault. IsFaultFor contents command fault × (out_after ≡ out) × AreKept contents after)
+      → Refuses words contents after out out_after Says
+  refuses_of_words after out out_after Says command (failure.Text (refusal.At file code span)) status asks (inl (is, line)) same (fault, kept, files_kept) =
+      (fault_at file code span, refused_of_words command _ asks fault, kept, files_kept, line)
+  refuses_of_words after out out_after Says command (failure.Text (refusal.At file code span)) status asks (inr (is, line)) same h = absurd (omega arith)
+  refuses_of_words after out out_after Says command (failure.Text refusal.NoMemory) status asks (is, line) same h = absurd (omega arith)
+  refuses_of_words after out out_after Says command (failure.Device device.Device) status asks (is, line) same h = absurd (omega arith)
+  refuses_of_words after out out_after Says command (failure.Device device.NoMemory) status asks (is, line) same h = absurd (omega arith)
 
-  -- The words name the domain file that the command has.
+-- The files that words name are those of the command that they are.
+module _ (words : List (List ℕ)) where
   pub domain_named : (command : Command) (name : List ℕ) → Asks words command → NamesDomain words name → name ≡ domain_of command
   domain_named (Validate domain problem plan) name asks (in_validate p l named) = first_same _ _ _ _ (rest_same _ _ _ _ (sym named ∙ asks))
-  domain_named (Validate domain problem plan) name asks (in_solve p states named) = first_same _ _ _ _ (rest_same _ _ _ _ (sym named.in_order ∙ asks))
-  domain_named (Solve domain problem limits) name asks (in_validate p l named) = first_same _ _ _ _ (rest_same _ _ _ _ (sym named ∙ asks.0.in_order))
-  domain_named (Solve domain problem limits) name asks (in_solve p states named) = first_same _ _ _ _ (rest_same _ _ _ _ (sym named.in_order ∙ asks.0.in_order))
+  domain_named (Validate domain problem plan) name asks (in_solve p states file named) = absurd (not_both _ _ _ _ _ _ _ _ asks named)
+  domain_named (Solve domain problem limits file) name asks (in_validate p l named) = absurd (not_both _ _ _ _ _ _ _ _ named asks.0)
+  domain_named (Solve domain problem limits file) name asks (in_solve p states other named) =
+      first_same _ _ _ _ (rest_same _ _ _ _ (sym named.in_order ∙ asks.0.in_order))
 
   pub names_command : (name : List ℕ) → NamesDomain words name → IsCommand words
   names_command name (in_validate p l named) = is_validate name p l named
-  names_command name (in_solve p states named) = is_solve name p states named
+  names_command name (in_solve p states file named) = is_solve name p states file named
+
+  pub inputs_named : (command : Command) (name : List ℕ) → Asks words command → NamesInput words name → IsOneOf (inputs_of command) name
+  inputs_named (Validate domain problem plan) name asks (of_validate d p l named is) =
+      subst (λ names. IsOneOf names name) (rest_same _ _ _ _ (sym named ∙ asks)) is
+  inputs_named (Validate domain problem plan) name asks (of_solve d p states file named is) = absurd (not_both _ _ _ _ _ _ _ _ asks named)
+  inputs_named (Solve domain problem limits file) name asks (of_validate d p l named is) = absurd (not_both _ _ _ _ _ _ _ _ named asks.0)
+  inputs_named (Solve domain problem limits file) name asks (of_solve d p states other named is) =
+      subst (λ names. IsOneOf names name) (ap (take 2) (rest_same _ _ _ _ (sym named.in_order ∙ asks.0.in_order))) is
+
+  pub reads_command : (name : List ℕ) → NamesInput words name → IsCommand words
+  reads_command name (of_validate d p l named is) = is_validate d p l named
+  reads_command name (of_solve d p states file named is) = is_solve d p states file named
+
+  pub file_named : (command : Command) → Asks words command → (name : List ℕ) → NamesPlanFile words name → IsFileOf command name
+  file_named (Validate domain problem plan) asks name named = absurd (not_both _ _ _ _ _ _ _ _ asks named.asks)
+  file_named (Solve domain problem limits file) asks name named =
+      let same : asks.0.options ≡ named.asks.options =
+          rest_same _ _ _ _ (rest_same _ _ _ _ (rest_same _ _ _ _ (sym asks.0.in_order ∙ named.asks.in_order))) in
+      file_is _ _ _ asks.0.are ∙ ap file_in same ∙ sym (file_is _ _ _ named.asks.are)
+
+  pub names_file : (command : Command) → Asks words command → (name : List ℕ) → IsFileOf command name → NamesPlanFile words name
+  names_file (Validate domain problem plan) asks name is = absurd (cc)
+  names_file (Solve domain problem limits file) asks name is = record {
+    domain = domain.now;
+    problem = problem.now;
+    states = limits.states;
+    asks = subst (AsksForPlan words domain.now problem.now limits.states) is asks.0;
+  }
 
 pub asked_is_command : (words : List (List ℕ)) (command : Command) → Asks words command → IsCommand words
 asked_is_command words (Validate domain problem plan) asks = is_validate domain.now problem.now plan.now asks
-asked_is_command words (Solve domain problem limits) asks = is_solve domain.now problem.now limits.states asks.0
+asked_is_command words (Solve domain problem limits file) asks = is_solve domain.now problem.now limits.states (name_in file) asks.0
 
 -- The statuses of verdicts and answers are none of a failure.
 verdict_status : (v : Verdict) → is_failure (verdict.status_of v) ≡ false
@@ -124,11 +231,11 @@ answer_status (Plan steps cost cert) = refl
 answer_status (Unsolvable cert) = refl
 answer_status (Unknown limit) = refl
 
-pub told_status : (contents : List ℕ → Option (List ℕ)) (command : Command) (before after : Option (List ℕ)) (status : ℕ)
-    → TellsFor contents command before after status → is_failure status ≡ false
-told_status contents (Validate domain problem plan) before after status (text, (d, p, l, d_is, p_is, l_is, (v, is_true, is_line, is_status)), appended) =
+pub answered_status : (contents : List ℕ → Option (List ℕ)) (command : Command) (text : List ℕ) (status : ℕ)
+    → IsAnswerFor contents command text status → is_failure status ≡ false
+answered_status contents (Validate domain problem plan) text status (d, p, l, d_is, p_is, l_is, (v, is_true, is_line, is_status)) =
     ap is_failure is_status ∙ verdict_status v
-told_status contents (Solve domain problem limits) before after status (text, (d, p, d_is, p_is, (task, a, is_task, is_true, is_text, is_status)), appended) =
+answered_status contents (Solve domain problem limits file) text status (d, p, d_is, p_is, (task, a, is_task, is_true, is_text, is_status)) =
     ap is_failure is_status ∙ answer_status a
 
 pub no_failure : (n status : ℕ) → is_failure status ≡ false → is_failure n ≡ true → status ≡ n → ⊥
@@ -156,6 +263,13 @@ module _ (Says : List ℕ → Type 0) (status : ℕ) where
   memory_told (failure.Text refusal.NoMemory) (is, line) same = line
   memory_told (failure.Device device.Device) (is, line) same = absurd (omega arith)
   memory_told (failure.Device device.NoMemory) (is, line) same = line
+
+  -- Where no fault of a text is told, the status is that of a device or of memory.
+  pub unread_status : (f : Failure) → fault_in f ≡ None → IsToldOn f Says status → (status ≡ 21) ⊎ (status ≡ 22)
+  unread_status (failure.Text (refusal.At file code span)) unread told = absurd (cc unread)
+  unread_status (failure.Text refusal.NoMemory) unread (is, line) = inr is
+  unread_status (failure.Device device.Device) unread (is, line) = inl is
+  unread_status (failure.Device device.NoMemory) unread (is, line) = inr is
 
   -- The failure of a device has the status of one, and that of a text is told as the failure that it is.
   pub device_status : (f : Failure) → f ≡ device_failure → IsToldOn f Says status → status ≡ 21
@@ -210,20 +324,17 @@ module _ (contents : List ℕ → Option (List ℕ)) where
   refused_on_three domain problem plan d p l d_is p_is l_is None h = tt
   refused_on_three domain problem plan d p l d_is p_is l_is (Some fault) h = (d, p, l, d_is, p_is, l_is, h)
 
-validate_is_not_solve : codes "solve" ≡ codes "validate" → ⊥
-validate_is_not_solve same = absurd (cc)
-
 -- Words that begin as those that ask for a plan, with options that are none, are no command.
 pub no_options : (words : List (Bor (List ℕ))) (d : Bor (List ℕ)) (options : List (Bor (List ℕ))) → options ≡ drop 3 words → 3 ≤ length words
-    → (get_or words 0 d).now ≡ codes "solve" → ((states : ℕ) → AllowsStates (texts options) states → ⊥) → IsCommand (texts words) → ⊥
+    → (get_or words 0 d).now ≡ codes "solve" → ((states : ℕ) (file : Option (List ℕ)) → AreOptions (texts options) states file → ⊥) → IsCommand (texts words) → ⊥
 no_options [] d options same three solve none is = absurd (omega arith)
 no_options (a ∷ []) d options same three solve none is = absurd (omega arith)
 no_options (a ∷ b ∷ []) d options same three solve none is = absurd (omega arith)
 no_options (a ∷ b ∷ c ∷ rest) d options same three solve none (is_validate domain problem plan asks) =
     validate_is_not_solve (sym solve ∙ first_same _ _ _ _ asks)
-no_options (a ∷ b ∷ c ∷ rest) d options same three solve none (is_solve domain problem states asks) =
+no_options (a ∷ b ∷ c ∷ rest) d options same three solve none (is_solve domain problem states file asks) =
     let after : texts rest ≡ asks.options = rest_same _ _ _ _ (rest_same _ _ _ _ (rest_same _ _ _ _ asks.in_order)) in
-    none states (subst (λ words. AllowsStates words states) (sym after ∙ ap texts (sym same)) asks.allows)
+    none states file (subst (λ words. AreOptions words states file) (sym after ∙ ap texts (sym same)) asks.are)
 
 limit_is : (number : ℕ) → true ≡ (is_limit number && is_limit 1000000) → (1 ≤ number) × (number ≤ 16777216)
 limit_is number is = (grind (arith, nat_tests), grind (arith, nat_tests))

@@ -4,3 +4,4 @@ pub mod Solution
 pub mod Files
 pub mod Program
 pub mod Table
+pub mod Written

@@ -1,5 +1,6 @@
 -- What the program does: what its words ask for, which texts its files have, and what it tells of them with which status.
-use Rattle.std.specs.Prelude.{◌≡◌, ℕ, ◌≤◌, ◌⊎◌, List, [], ◌∷◌, codes, map, take, Option, None, IfSome}
+use Rattle.std.specs.Prelude.{◌≡◌, ℕ, ◌≤◌, ◌⊎◌, Bool, List, [], ◌∷◌, ◌++◌, codes, map, take, Option, None, Some, IfSome, IsTrue, Result, Ok, Err}
+use Rattle.std.specs.Option.{option_map}
 use Rattle.std.specs.Borrow.{Bor}
 use Rattle.std.specs.Str.Parse.{IsNumeral, without_leading_plus, digits_value}
 use Rattle.std.specs.Io.KnownBytes.{Appends}
@@ -16,6 +17,7 @@ use Rattle.planner_main.specs.Failures.{line_of_fault, device_line, no_memory_li
 use Rattle.planner_main.specs.Files.{fault_at, told_in}
 use Rattle.planner_main.specs.Report.{line_of}
 use Rattle.planner_main.specs.Report as verdict
+use Rattle.planner_main.specs.Written.{HoldsBeginning}
 use Rattle.planner_main.specs.Solution.{text_of}
 use Rattle.planner_main.specs.Solution as answer
 use Rattle.model.specs.Runs.{Verdict}
@@ -36,24 +38,52 @@ pub data AllowsStates (options : List (List ℕ)) (states : ℕ) : Type 0 where
   as_asked : (text : List ℕ) → options ≡ codes "--states" ∷ text ∷ [] → IsNumber text states → 1 ≤ states → states ≤ 16777216
       → AllowsStates options states
 
--- The words ask for the verdict on a plan file, or for a cheapest plan within so many states.
+-- The options allow so many states, and name the file that a plan is to be written to, or none: `--plan FILE` stands before
+-- the other option or after it.
+pub data AreOptions (options : List (List ℕ)) (states : ℕ) (file : Option (List ℕ)) : Type 0 where
+  no_file : AllowsStates options states → file ≡ None → AreOptions options states file
+  file_first : (name : List ℕ) (others : List (List ℕ)) → options ≡ codes "--plan" ∷ name ∷ others → AllowsStates others states → file ≡ Some name
+      → AreOptions options states file
+  file_last : (name : List ℕ) (others : List (List ℕ)) → options ≡ others ++ codes "--plan" ∷ name ∷ [] → AllowsStates others states → file ≡ Some name
+      → AreOptions options states file
+
+-- The words ask for the verdict on a plan file, or for a cheapest plan within so many states, with the file to write it to.
 abbrev pub AsksForVerdict : List (List ℕ) → (domain problem plan : List ℕ) → Type 0
 AsksForVerdict words domain problem plan = words ≡ codes "validate" ∷ domain ∷ problem ∷ plan ∷ []
 
-pub record AsksForPlan (words : List (List ℕ)) (domain problem : List ℕ) (states : ℕ) : Type 0 where
+pub record AsksForPlan (words : List (List ℕ)) (domain problem : List ℕ) (states : ℕ) (file : Option (List ℕ)) : Type 0 where
   pub options : List (List ℕ)
   pub in_order : words ≡ codes "solve" ∷ domain ∷ problem ∷ options
-  pub allows : AllowsStates options states
+  pub are : AreOptions options states file
 
 -- the words are a command
 pub data IsCommand (words : List (List ℕ)) : Type 0 where
   is_validate : (domain problem plan : List ℕ) → AsksForVerdict words domain problem plan → IsCommand words
-  is_solve : (domain problem : List ℕ) (states : ℕ) → AsksForPlan words domain problem states → IsCommand words
+  is_solve : (domain problem : List ℕ) (states : ℕ) (file : Option (List ℕ)) → AsksForPlan words domain problem states file → IsCommand words
 
 -- The words are a command whose domain file has this name.
 pub data NamesDomain (words : List (List ℕ)) (domain : List ℕ) : Type 0 where
   in_validate : (problem plan : List ℕ) → AsksForVerdict words domain problem plan → NamesDomain words domain
-  in_solve : (problem : List ℕ) (states : ℕ) → AsksForPlan words domain problem states → NamesDomain words domain
+  in_solve : (problem : List ℕ) (states : ℕ) (file : Option (List ℕ)) → AsksForPlan words domain problem states file → NamesDomain words domain
+
+-- the name is one of these
+abbrev pub IsOneOf : List (List ℕ) → List ℕ → Type 0
+IsOneOf [] name = ⊥
+IsOneOf (first ∷ rest) name = (name ≡ first) ⊎ IsOneOf rest name
+
+-- The words are a command that reads the file of this name.
+pub data NamesInput (words : List (List ℕ)) (name : List ℕ) : Type 0 where
+  of_validate : (domain problem plan : List ℕ) → AsksForVerdict words domain problem plan → IsOneOf (domain ∷ problem ∷ plan ∷ []) name
+      → NamesInput words name
+  of_solve : (domain problem : List ℕ) (states : ℕ) (file : Option (List ℕ)) → AsksForPlan words domain problem states file
+      → IsOneOf (domain ∷ problem ∷ []) name → NamesInput words name
+
+-- The words ask for a plan, and for its text in the file of this name.
+pub record NamesPlanFile (words : List (List ℕ)) (name : List ℕ) : Type 0 where
+  pub domain : List ℕ
+  pub problem : List ℕ
+  pub states : ℕ
+  pub asks : AsksForPlan words domain problem states (Some name)
 
 -- the text of the file of this name: where its contents are known, their first 16,777,217 bytes, or all where they are fewer
 abbrev pub IsText : (List ℕ → Option (List ℕ)) → List ℕ → List ℕ → Type 0
@@ -93,29 +123,60 @@ IsAnswerText contents domain problem states instances text status =
 pub data IsAnswer (contents : List ℕ → Option (List ℕ)) (words : List (List ℕ)) (text : List ℕ) (status : ℕ) : Type 0 where
   a_verdict : (domain problem plan : List ℕ) → AsksForVerdict words domain problem plan
       → IsVerdictText contents domain problem plan text status → IsAnswer contents words text status
-  an_answer : (domain problem : List ℕ) (states : ℕ) → AsksForPlan words domain problem states
+  an_answer : (domain problem : List ℕ) (states : ℕ) (file : Option (List ℕ)) → AsksForPlan words domain problem states file
       → IsAnswerText contents domain problem states 1000000 text status → IsAnswer contents words text status
 
--- The standard output grew by the text of a true answer to what the words ask for, and the status is the answer's.
-abbrev pub Tells : (List ℕ → Option (List ℕ)) → List (List ℕ) → (before after : Option (List ℕ)) → ℕ → Type 0
-Tells contents words before after status = (text : List ℕ) × IsAnswer contents words text status × Appends before after text
+-- The file to which a plan is to be written, which `Named` tells, holds this text where it is a plan's, that is with the
+-- status 0; each other file is as it was.
+pub record HoldsPlan (before after : List ℕ → Option (List ℕ)) (Named : List ℕ → Type 0) (text : List ℕ) (status : ℕ) : Type 0 where
+  pub holds : (name : List ℕ) → Named name → status ≡ 0 → after name ≡ Some text
+  pub others : (other : List ℕ) → (Named other → status ≡ 0 → ⊥) → after other ≡ before other
 
--- The standard output took nothing, or a beginning of the text of a true answer to what the words ask for.
-abbrev pub TellsPartly : (List ℕ → Option (List ℕ)) → List (List ℕ) → (before after : Option (List ℕ)) → Type 0
-TellsPartly contents words before after =
-    (after ≡ before) ⊎ ((text : List ℕ) × (status : ℕ) × IsAnswer contents words text status × AppendsBeginning before after text)
+-- That file is as it was, or holds a beginning of this text; each other file is as it was.
+pub record HoldsPlanPartly (before after : List ℕ → Option (List ℕ)) (Named : List ℕ → Type 0) (text : List ℕ) : Type 0 where
+  pub beginning : (name : List ℕ) → Named name → HoldsBeginning (before name) (after name) text
+  pub others : (other : List ℕ) → (Named other → ⊥) → after other ≡ before other
+
+-- each file is as it was
+abbrev pub AreKept : (before after : List ℕ → Option (List ℕ)) → Type 0
+AreKept before after = (name : List ℕ) → after name ≡ before name
+
+-- A true answer is told: the standard output grew by its text, and the file of a plan holds it, where files are known.
+abbrev pub IsTold : (IsTrueText : List ℕ → ℕ → Type 0) → (Named : List ℕ → Type 0) → (known : Bool)
+    → (files files_after : List ℕ → Option (List ℕ)) → (out out_after : Option (List ℕ)) → ℕ → Type 0
+IsTold IsTrueText Named known files files_after out out_after status =
+    (text : List ℕ) × IsTrueText text status × Appends out out_after text
+    × (IsTrue known → HoldsPlan files files_after Named text status)
+
+-- A true answer is told in part. Nothing was written; or the file of a plan is being written, and nothing of the standard
+-- output; or that file is written, and the standard output took a beginning of the text.
+pub data IsToldPartly (IsTrueText : List ℕ → ℕ → Type 0) (Named : List ℕ → Type 0) (known : Bool)
+    (files files_after : List ℕ → Option (List ℕ)) (out out_after : Option (List ℕ)) : Type 0 where
+  nothing : out_after ≡ out → AreKept files files_after → IsToldPartly IsTrueText Named known files files_after out out_after
+  in_the_file : (text : List ℕ) → IsTrueText text 0 → out_after ≡ out → (IsTrue known → HoldsPlanPartly files files_after Named text)
+      → IsToldPartly IsTrueText Named known files files_after out out_after
+  on_the_output : (text : List ℕ) (status : ℕ) → IsTrueText text status → AppendsBeginning out out_after text
+      → (IsTrue known → HoldsPlan files files_after Named text status)
+      → IsToldPartly IsTrueText Named known files files_after out out_after
+
+-- what the words ask for is told, whole or in part
+abbrev pub Tells : List (List ℕ) → (known : Bool) → (files files_after : List ℕ → Option (List ℕ)) → (out out_after : Option (List ℕ)) → ℕ → Type 0
+Tells words known files files_after = IsTold (IsAnswer files words) (NamesPlanFile words) known files files_after
+
+abbrev pub TellsPartly : List (List ℕ) → (known : Bool) → (files files_after : List ℕ → Option (List ℕ)) → (out out_after : Option (List ℕ)) → Type 0
+TellsPartly words known files files_after = IsToldPartly (IsAnswer files words) (NamesPlanFile words) known files files_after
 
 -- The texts of the files that the words name are refused, and this fault is the first.
 pub data IsRefusedFor (contents : List ℕ → Option (List ℕ)) (words : List (List ℕ)) (fault : FileFault) : Type 0 where
   a_verdict_refused : (domain problem plan : List ℕ) → AsksForVerdict words domain problem plan
       → OnThree contents domain problem plan (λ d p l. IsFileFault d p l fault) → IsRefusedFor contents words fault
-  an_answer_refused : (domain problem : List ℕ) (states : ℕ) → AsksForPlan words domain problem states
+  an_answer_refused : (domain problem : List ℕ) (states : ℕ) (file : Option (List ℕ)) → AsksForPlan words domain problem states file
       → OnTwo contents domain problem (λ d p. IsTaskFault d p fault) → IsRefusedFor contents words fault
 
--- The texts are refused: the standard output took nothing, and the standard error says the line of the fault.
-abbrev pub Refuses : (List ℕ → Option (List ℕ)) → List (List ℕ) → (out out_after : Option (List ℕ)) → (Says : List ℕ → Type 0) → Type 0
-Refuses contents words out out_after Says =
-    (fault : FileFault) × IsRefusedFor contents words fault × (out_after ≡ out) × Says (line_of_fault fault)
+-- The texts are refused: the standard output and the files are as they were, and the standard error says the line of the fault.
+abbrev pub Refuses : List (List ℕ) → (files files_after : List ℕ → Option (List ℕ)) → (out out_after : Option (List ℕ)) → (Says : List ℕ → Type 0) → Type 0
+Refuses words files files_after out out_after Says =
+    (fault : FileFault) × IsRefusedFor files words fault × (out_after ≡ out) × AreKept files files_after × Says (line_of_fault fault)
 
 -- a failure was counted of the files, or of the standard output
 abbrev pub HasFailed : (files files_after out out_after : ℕ) → Type 0
@@ -129,20 +190,32 @@ HasNotFailed files files_after out out_after = (files_after ≡ files) × (out_a
 abbrev pub IsAnswerFor : (List ℕ → Option (List ℕ)) → Command → (text : List ℕ) → ℕ → Type 0
 IsAnswerFor contents (Validate domain problem plan) text status =
     IsVerdictText contents domain.now problem.now plan.now text status
-IsAnswerFor contents (Solve domain problem limits) text status =
+IsAnswerFor contents (Solve domain problem limits file) text status =
     IsAnswerText contents domain.now problem.now limits.states limits.instances text status
 
-abbrev pub TellsFor : (List ℕ → Option (List ℕ)) → Command → (before after : Option (List ℕ)) → ℕ → Type 0
-TellsFor contents command before after status = (text : List ℕ) × IsAnswerFor contents command text status × Appends before after text
+-- the bytes of a name, where there is one
+abbrev pub name_in : Option (Bor (List ℕ)) → Option (List ℕ)
+name_in = option_map (λ (name : Bor (List ℕ)). name.now)
 
-abbrev pub TellsPartlyFor : (List ℕ → Option (List ℕ)) → Command → (before after : Option (List ℕ)) → Type 0
-TellsPartlyFor contents command before after =
-    (after ≡ before) ⊎ ((text : List ℕ) × (status : ℕ) × IsAnswerFor contents command text status × AppendsBeginning before after text)
+-- the file that a plan is to be written to
+abbrev pub file_of : Command → Option (List ℕ)
+file_of (Validate domain problem plan) = None
+file_of (Solve domain problem limits file) = name_in file
+
+abbrev pub IsFileOf : Command → List ℕ → Type 0
+IsFileOf command name = file_of command ≡ Some name
+
+abbrev pub TellsFor : Command → (known : Bool) → (files files_after : List ℕ → Option (List ℕ)) → (out out_after : Option (List ℕ)) → ℕ → Type 0
+TellsFor command known files files_after = IsTold (IsAnswerFor files command) (IsFileOf command) known files files_after
+
+abbrev pub TellsPartlyFor : Command → (known : Bool) → (files files_after : List ℕ → Option (List ℕ)) → (out out_after : Option (List ℕ)) → Type 0
+TellsPartlyFor command known files files_after = IsToldPartly (IsAnswerFor files command) (IsFileOf command) known files files_after
 
 -- the words are this command
 abbrev pub Asks : List (List ℕ) → Command → Type 0
 Asks words (Validate domain problem plan) = AsksForVerdict words domain.now problem.now plan.now
-Asks words (Solve domain problem limits) = AsksForPlan words domain.now problem.now limits.states × (limits.instances ≡ 1000000)
+Asks words (Solve domain problem limits file) =
+    AsksForPlan words domain.now problem.now limits.states (name_in file) × (limits.instances ≡ 1000000)
 
 -- the fault of a text that the failure is, and None of a device or of memory
 abbrev pub fault_in : Failure → Option FileFault
@@ -153,7 +226,7 @@ fault_in (failure.Device fault) = None
 abbrev pub IsFaultFor : (List ℕ → Option (List ℕ)) → Command → FileFault → Type 0
 IsFaultFor contents (Validate domain problem plan) fault =
     OnThree contents domain.now problem.now plan.now (λ d p l. IsFileFault d p l fault)
-IsFaultFor contents (Solve domain problem limits) fault = OnTwo contents domain.now problem.now (λ d p. IsTaskFault d p fault)
+IsFaultFor contents (Solve domain problem limits file) fault = OnTwo contents domain.now problem.now (λ d p. IsTaskFault d p fault)
 
 -- the failure of a device
 abbrev pub device_failure : Failure
@@ -182,4 +255,14 @@ IsToldOn (failure.Device device.NoMemory) Says status = (status ≡ 22) × Says 
 -- the name of the file that is opened first
 abbrev pub domain_of : Command → List ℕ
 domain_of (Validate domain problem plan) = domain.now
-domain_of (Solve domain problem limits) = domain.now
+domain_of (Solve domain problem limits file) = domain.now
+
+-- the names of the files that are read
+abbrev pub inputs_of : Command → List (List ℕ)
+inputs_of (Validate domain problem plan) = domain.now ∷ problem.now ∷ plan.now ∷ []
+inputs_of (Solve domain problem limits file) = domain.now ∷ problem.now ∷ []
+
+-- there is no answer, and no fault of a text is told
+abbrev pub IsUnread : {T : Type 0} → Result T Failure → Type 0
+IsUnread (Ok told) = ⊥
+IsUnread (Err failure) = fault_in failure ≡ None

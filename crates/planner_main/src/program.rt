@@ -1,9 +1,10 @@
 //! The program.
-ghost use Rattle.std.specs.Prelude.{◌≡◌, ℕ, ◌+◌, ◌↔◌, ◌⊎◌, Err, IfErr, IfOk, IfSome, IsTrue, List, None, false, length, vec_len};
+ghost use Rattle.std.specs.Prelude.{◌≡◌, ◌≢◌, ℕ, ◌+◌, ◌↔◌, ◌⊎◌, Err, IfErr, IfOk, IfSome, IsErr, IsTrue, List, [], ◌∷◌, None, OnOk, Some, false, length, vec_len};
 ghost use Rattle.planner_main.specs.Failures.{device_line, no_memory_line, usage};
 ghost use Rattle.planner_main.specs.Files.{told_in};
 ghost use Rattle.planner_main.specs.Report.{is_failure};
-ghost use Rattle.planner_main.specs.Program.{texts, IsCommand, IsText, OnTwo, OnThree, IsVerdictLine, IsSolutionText, IsVerdictText, IsAnswerText, IsAnswerFor, Tells, TellsFor, TellsPartly, TellsPartlyFor, Refuses, HasFailed, HasNotFailed, CountsFailure, CountsEither, NamesDomain, IsFaultFor, device_failure, domain_of, fault_in};
+ghost use Rattle.planner_main.specs.Program.{texts, AreKept, IsCommand, IsText, OnTwo, OnThree, IsVerdictLine, IsSolutionText, IsVerdictText, IsAnswerText, IsAnswerFor, Tells, TellsFor, TellsPartly, TellsPartlyFor, Refuses, HasFailed, HasNotFailed, HoldsPlan, HoldsPlanPartly, CountsFailure, CountsEither, NamesDomain, NamesInput, IsFaultFor, IsFileOf, IsOneOf, IsUnread, device_failure, domain_of, fault_in, inputs_of};
+ghost use Rattle.planner_main.specs.Written.{HoldsBeginning};
 ghost use Rattle.devices.specs.declared.device.WriteFault.TheVariants.{Device};
 ghost use Rattle.devices.specs.Devices.{CountsDevice, IsReading, IsWritten, ReadsSome};
 ghost use Rattle.typing.specs.Task.{task_of};
@@ -14,7 +15,7 @@ mod command;
 
 use crate::files::Files;
 use crate::report::{Failure, answer, tell, tell_usage};
-use crate::solve::{Solved, answer_text, solve_files};
+use crate::solve::{PLAN, Solved, answer_text, solve_files};
 use crate::task_file::FileFault;
 use crate::verdict::validate_files;
 use command::{Command, read_command};
@@ -31,10 +32,11 @@ const PIECE: usize = 65_536;
 /// The whole program: what the words ask for, with its answer on the standard output and its faults on the standard
 /// error, and the status that it ends with.
 ///
-/// `solve DOMAIN PROBLEM [--states N]` tells a cheapest plan, or that there is none; at most N states are listed, where
-/// no N is given 1,000,000. `validate DOMAIN PROBLEM PLAN` says whether the plan solves the task. Of a file at most
-/// 16,777,217 bytes are read and taken for its whole text, and all files are read before any fault of their texts is
-/// told.
+/// `solve DOMAIN PROBLEM [--plan FILE] [--states N]` tells a cheapest plan, or that there is none; at most N states are
+/// listed, where no N is given 1,000,000. A plan's text is also written to the file of `--plan`, before the standard
+/// output; where there is no plan that file is not touched. `validate DOMAIN PROBLEM PLAN` says whether the plan solves
+/// the task. Of a file at most 16,777,217 bytes are read and taken for its whole text, and all files are read before any
+/// fault of their texts is told.
 ///
 /// | What comes | Standard output | Standard error | Status |
 /// |---|---|---|---|
@@ -48,7 +50,8 @@ const PIECE: usize = 65_536;
 /// | a file, or the standard output, fails | | `fault 61 Device` | 21 |
 /// | memory is refused | | `fault 60 NoMemory` | 22 |
 ///
-/// Where a stream fails, a beginning of what is told stands on it; that the standard error fails changes no status.
+/// Where a stream or the file of `--plan` fails, a beginning of what is told stands there; that the standard error fails
+/// changes no status.
 ///
 /// ```
 /// let mut files = Table::new(alloc);
@@ -68,22 +71,26 @@ pub fn run<F: Files, O: Sink, E: Sink>(
 ) -> u8
     // What the words ask for is told, or the status says why not.
     ensures status { IsTrue (is_failure result)
-        ⊎ Tells (F.contents files.old) (texts words.now) (O.taken out.old) (O.taken out.new) result }
+        ⊎ Tells (texts words.now) F.is_known (F.contents files.old) (F.contents files.new) (O.taken out.old) (O.taken out.new) result }
     ensures quiet { is_failure result ≡ false → E.taken err.new ≡ E.taken err.old }
 
     // The status of words that are no command is told exactly of these, and that of texts only where they are refused.
     ensures words { (result ≡ 2) ↔ (IsCommand (texts words.now) → ⊥) }
-    ensures usage { result ≡ 2 → (O.taken out.new ≡ O.taken out.old) × IsWritten E.wants_memory (E.failures err.old) (E.failures err.new) (E.taken err.old) (E.taken err.new) usage }
-    ensures refused { result ≡ 20 → Refuses (F.contents files.old) (texts words.now)
+    ensures usage { result ≡ 2 → (O.taken out.new ≡ O.taken out.old) × AreKept (F.contents files.old) (F.contents files.new)
+        × IsWritten E.wants_memory (E.failures err.old) (E.failures err.new) (E.taken err.old) (E.taken err.new) usage }
+    ensures refused { result ≡ 20 → Refuses (texts words.now) (F.contents files.old) (F.contents files.new)
         (O.taken out.old) (O.taken out.new) (IsWritten E.wants_memory (E.failures err.old) (E.failures err.new) (E.taken err.old) (E.taken err.new)) }
 
     // The status of a device is told exactly where one failed. An answer may have been told in part.
     ensures unfailed { (result ≡ 21 → ⊥) → HasNotFailed (F.failures files.old) (F.failures files.new) (O.failures out.old) (O.failures out.new) }
     ensures device { result ≡ 21 → HasFailed (F.failures files.old) (F.failures files.new) (O.failures out.old) (O.failures out.new)
-        × TellsPartly (F.contents files.old) (texts words.now) (O.taken out.old) (O.taken out.new)
+        × TellsPartly (texts words.now) F.is_known (F.contents files.old) (F.contents files.new) (O.taken out.old) (O.taken out.new)
         × IsWritten E.wants_memory (E.failures err.old) (E.failures err.new) (E.taken err.old) (E.taken err.new) device_line }
     ensures missing { (name : List ℕ) → NamesDomain (texts words.now) name → IsTrue (F.is_missing files.old name) → result ≡ 21 }
-    ensures memory { result ≡ 22 → TellsPartly (F.contents files.old) (texts words.now) (O.taken out.old) (O.taken out.new)
+    // All files are opened before any fault of their texts is told.
+    ensures unread { (name : List ℕ) → NamesInput (texts words.now) name → IsTrue (F.is_missing files.old name)
+        → (result ≡ 21) ⊎ (result ≡ 22) }
+    ensures memory { result ≡ 22 → TellsPartly (texts words.now) F.is_known (F.contents files.old) (F.contents files.new) (O.taken out.old) (O.taken out.new)
         × IsWritten E.wants_memory (E.failures err.old) (E.failures err.new) (E.taken err.old) (E.taken err.new) no_memory_line }
 {
     let Some(command) = read_command(words) else {
@@ -102,17 +109,50 @@ fn carry_out<F: Files, O: Sink>(
     files: &mut F,
     out: &mut O,
 ) -> Result<u8, Failure>
-    ensures told { IfOk result (TellsFor (F.contents files.old) command.entry (O.taken out.old) (O.taken out.new)) }
-    ensures refused { IfErr result (λ failure. IfSome (fault_in failure) (λ fault.
-        IsFaultFor (F.contents files.old) command.entry fault × (O.taken out.new ≡ O.taken out.old))) }
-    ensures partly { IfErr result (λ failure. TellsPartlyFor (F.contents files.old) command.entry (O.taken out.old) (O.taken out.new)) }
+    ensures told { IfOk result (TellsFor command.entry F.is_known (F.contents files.old) (F.contents files.new) (O.taken out.old) (O.taken out.new)) }
+    ensures refused { IfErr result (λ failure. IfSome (fault_in failure) (λ fault. IsFaultFor (F.contents files.old) command.entry fault
+        × (O.taken out.new ≡ O.taken out.old) × AreKept (F.contents files.old) (F.contents files.new))) }
+    ensures partly { IfErr result (λ failure. TellsPartlyFor command.entry F.is_known (F.contents files.old) (F.contents files.new) (O.taken out.old) (O.taken out.new)) }
     ensures unfailed { IfOk result (λ _. HasNotFailed (F.failures files.old) (F.failures files.new) (O.failures out.old) (O.failures out.new)) }
     ensures failures { IfErr result (CountsEither (F.failures files.old) (F.failures files.new) (O.failures out.old) (O.failures out.new)) }
     ensures missing { IsTrue (F.is_missing files.old (domain_of command.entry)) → result ≡ Err device_failure }
+    ensures unread { (name : List ℕ) → IsOneOf (inputs_of command.entry) name → IsTrue (F.is_missing files.old name) → IsUnread result }
 {
     let (text, status) = answer_command(alloc, command, files)?;
+    save_plan(command, &text, status, files)?;
     write_all(out, &text)?;
     Ok(status)
+}
+
+/// Writes the text of a plan to the file that is asked for, if any.
+fn save_plan<F: Files>(
+    command: Command<'_>,
+    text: &[u8],
+    status: u8,
+    files: &mut F,
+) -> Result<(), WriteFault>
+    ensures held { OnOk result (IsTrue F.is_known → HoldsPlan (F.contents files.old) (F.contents files.new) (IsFileOf command.entry) text.now status) }
+    ensures partly { IsErr result → (status ≡ PLAN) × (IsTrue F.is_known → HoldsPlanPartly (F.contents files.old) (F.contents files.new) (IsFileOf command.entry) text.now) }
+    ensures failures { CountsDevice (F.failures files.old) (F.failures files.new) result }
+{
+    match command.plan_file() {
+        Some(name) if status == PLAN => write_file(files, name, text),
+        _ => Ok(()),
+    }
+}
+
+/// Writes these bytes to the file of this name, in place of what it had.
+fn write_file<F: Files>(files: &mut F, name: &str, bytes: &[u8]) -> Result<(), WriteFault>
+    ensures held { IsTrue F.is_known → OnOk result (F.contents files.new name.now ≡ Some bytes.now) }
+    ensures partly { IsTrue F.is_known → HoldsBeginning (F.contents files.old name.now) (F.contents files.new name.now) bytes.now }
+    ensures kept { IsTrue F.is_known → (other : List ℕ) → other ≢ name.now → F.contents files.new other ≡ F.contents files.old other }
+    ensures failures { CountsDevice (F.failures files.old) (F.failures files.new) result }
+{
+    let mut output = files.create(name)?;
+    let written = write_all(&mut output, bytes);
+    // It is closed first, since a closing counts a write that failed.
+    files.close(output)?;
+    written
 }
 
 /// The text that answers what is asked for, and its status.
@@ -123,9 +163,11 @@ fn answer_command<F: Files>(
 ) -> Result<(Vec<u8>, u8), Failure>
     ensures answer { IfOk result (λ told. IsAnswerFor (F.contents files.old) command.entry told.0.items told.1) }
     ensures refused { IfErr result (λ failure. IfSome (fault_in failure) (IsFaultFor (F.contents files.old) command.entry)) }
+    ensures kept { AreKept (F.contents files.old) (F.contents files.new) }
     ensures unfailed { IfOk result (λ _. F.failures files.new ≡ F.failures files.old) }
     ensures failures { IfErr result (CountsFailure (F.failures files.old) (F.failures files.new)) }
     ensures missing { IsTrue (F.is_missing files.old (domain_of command.entry)) → result ≡ Err device_failure }
+    ensures unread { (name : List ℕ) → IsOneOf (inputs_of command.entry) name → IsTrue (F.is_missing files.old name) → IsUnread result }
 {
     match command {
         Command::Validate {
@@ -137,6 +179,7 @@ fn answer_command<F: Files>(
             domain,
             problem,
             limits,
+            ..
         } => answer_solve(alloc, domain, problem, limits, files),
     }
 }
@@ -152,9 +195,11 @@ fn answer_validate<F: Files>(
     ensures answer { IfOk result (λ told. IsVerdictText (F.contents files.old) domain.now problem.now plan.now told.0.items told.1) }
     ensures refused { IfErr result (λ failure. IfSome (fault_in failure) (λ fault.
         OnThree (F.contents files.old) domain.now problem.now plan.now (λ d p l. IsFileFault d p l fault))) }
+    ensures kept { AreKept (F.contents files.old) (F.contents files.new) }
     ensures unfailed { IfOk result (λ _. F.failures files.new ≡ F.failures files.old) }
     ensures failures { IfErr result (CountsFailure (F.failures files.old) (F.failures files.new)) }
     ensures missing { IsTrue (F.is_missing files.old domain.now) → result ≡ Err device_failure }
+    ensures unread { (name : List ℕ) → IsOneOf (domain.now ∷ problem.now ∷ plan.now ∷ []) name → IsTrue (F.is_missing files.old name) → IsUnread result }
 {
     let task = read_pair(alloc, files, domain, problem)?;
     let plan = read_file(alloc, files, plan)?;
@@ -173,9 +218,11 @@ fn answer_solve<F: Files>(
         told.0.items told.1) }
     ensures refused { IfErr result (λ failure. IfSome (fault_in failure) (λ fault.
         OnTwo (F.contents files.old) domain.now problem.now (λ d p. IsTaskFault d p fault))) }
+    ensures kept { AreKept (F.contents files.old) (F.contents files.new) }
     ensures unfailed { IfOk result (λ _. F.failures files.new ≡ F.failures files.old) }
     ensures failures { IfErr result (CountsFailure (F.failures files.old) (F.failures files.new)) }
     ensures missing { IsTrue (F.is_missing files.old domain.now) → result ≡ Err device_failure }
+    ensures unread { (name : List ℕ) → IsOneOf (domain.now ∷ problem.now ∷ []) name → IsTrue (F.is_missing files.old name) → IsUnread result }
 {
     let task = read_pair(alloc, files, domain, problem)?;
     Ok(solution_text(alloc, &task.domain, &task.problem, limits)?)
@@ -236,9 +283,11 @@ fn read_pair<F: Files>(
 ) -> Result<Pair, WriteFault>
     ensures domain { IfOk result (λ pair. IsText (F.contents files.old) domain.now pair.domain.items) }
     ensures problem { IfOk result (λ pair. IsText (F.contents files.old) problem.now pair.problem.items) }
-    ensures kept { (other : List ℕ) → F.contents files.new other ≡ F.contents files.old other }
+    ensures kept { AreKept (F.contents files.old) (F.contents files.new) }
+    ensures still { (other : List ℕ) → F.is_missing files.new other ≡ F.is_missing files.old other }
     ensures failures { CountsDevice (F.failures files.old) (F.failures files.new) result }
     ensures missing { IsTrue (F.is_missing files.old domain.now) → result ≡ Err Device }
+    ensures unread { IsTrue (F.is_missing files.old problem.now) → IsErr result }
 {
     let domain = read_file(alloc, files, domain)?;
     let problem = read_file(alloc, files, problem)?;
@@ -248,7 +297,8 @@ fn read_pair<F: Files>(
 /// The first 16,777,217 bytes of a file, or all that it has.
 fn read_file<F: Files>(alloc: Global, files: &mut F, name: &str) -> Result<Vec<u8>, WriteFault>
     ensures bytes { IfOk result (λ text. IsText (F.contents files.old) name.now text.items) }
-    ensures kept { (other : List ℕ) → F.contents files.new other ≡ F.contents files.old other }
+    ensures kept { AreKept (F.contents files.old) (F.contents files.new) }
+    ensures still { (other : List ℕ) → F.is_missing files.new other ≡ F.is_missing files.old other }
     ensures failures { CountsDevice (F.failures files.old) (F.failures files.new) result }
     ensures missing { IsTrue (F.is_missing files.old name.now) → result ≡ Err Device }
 {

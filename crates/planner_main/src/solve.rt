@@ -12,7 +12,7 @@ use crate::task_file::{FileFault, read_task};
 use faults::NoMemory;
 use solver::{Answer, Limits, solve};
 use std::alloc::Global;
-pub(crate) use text::answer_text;
+pub(crate) use text::{PLAN, answer_text};
 use typing::Task;
 
 /// A task with what was found out of it.

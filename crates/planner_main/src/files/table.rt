@@ -129,6 +129,10 @@ impl Files for Table {
 
     ghost is_missing = { λ table name. is_none (contents_of table.entries.items name) };
 
+    ghost is_known = { true };
+
+    ghost name_of = { draft_name };
+
     fn open(&mut self, name: &str) -> Result<FailsAt<Memory>, WriteFault>
         ensures failures { CountsDevice (⟦<Table as Files>⟧.failures self.old) (⟦<Table as Files>⟧.failures self.new) result }
         ensures missing { IsTrue (⟦<Table as Files>⟧.is_missing self.old name.now) → result ≡ Err WriteFault.Device }

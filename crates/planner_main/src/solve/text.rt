@@ -1,16 +1,19 @@
 //! What an answer is told as: the text of the plan, or a line, and the status.
-ghost use Rattle.std.specs.Prelude.{◌≡◌, ◌++◌, codes, IfOk, OnOk};
+ghost use Rattle.std.specs.Prelude.{◌≡◌, IfOk};
 ghost use Rattle.typing.specs.Task.{task_of};
-ghost use Rattle.formulas.specs.State.{instance_of, plan_of};
-ghost use Rattle.planner_main.specs.Solution.{text_of, status_of, plan_text, step_text, object_text, schema_name, object_name};
+ghost use Rattle.formulas.specs.State.{plan_of};
+ghost use Rattle.planner_main.specs.Solution.{text_of, status_of};
+ghost use Rattle.model.specs.PlanWriting.{plan_text};
 
-use formulas::{Instance, Plan};
+use devices::Memory;
+use formulas::Plan;
+use plan_file::write_plan;
 use solver::{Answer, Limit};
 use std::alloc::{AllocError, Global};
-use typing::{ObjectId, SchemaId, Task};
+use typing::Task;
 
 /// A plan is told.
-const PLAN: u8 = 0;
+pub(crate) const PLAN: u8 = 0;
 
 /// There is no plan.
 const UNSOLVABLE: u8 = 10;
@@ -49,53 +52,10 @@ fn line(alloc: Global, bytes: &[u8]) -> Result<Vec<u8>, AllocError>
 fn plan_text(alloc: Global, task: &Task, steps: &Plan, cost: u64) -> Result<Vec<u8>, AllocError>
     ensures { IfOk result (λ text. text.items ≡ plan_text (task_of task.now) (plan_of steps.now) cost) }
 {
-    let mut text = Vec::new(alloc);
-    for step in steps.steps() {
-        add_step(task, step, &mut text)?;
-    }
-    let cost = format!(in alloc; "; cost = {cost}\n")?;
-    text.extend_from_slice(cost.as_bytes())?;
-    Ok(text)
-}
-
-/// Adds a step: the schema's name and the names of its objects.
-fn add_step(task: &Task, step: &Instance, text: &mut Vec<u8>) -> Result<(), AllocError>
-    ensures { OnOk result (text.new.items ≡ text.old.items ++ step_text (task_of task.now) (instance_of step.now)) }
-{
-    text.extend_from_slice(b"(")?;
-    text.extend_from_slice(schema_name(task, step.schema))?;
-    for object in step.objects.as_slice() {
-        add_object(task, *object, text)?;
-    }
-    text.extend_from_slice(b")\n")?;
-    Ok(())
-}
-
-/// Adds a blank and the object's name.
-fn add_object(task: &Task, object: ObjectId, text: &mut Vec<u8>) -> Result<(), AllocError>
-    ensures { OnOk result (text.new.items ≡ text.old.items ++ object_text (task_of task.now) object.0) }
-{
-    text.extend_from_slice(b" ")?;
-    text.extend_from_slice(object_name(task, object))?;
-    Ok(())
-}
-
-/// The schema's name; no bytes where there is no such schema.
-fn schema_name(task: &Task, schema: SchemaId) -> &[u8]
-    ensures { result.now ≡ schema_name (task_of task.now) schema.0 }
-{
-    match task.schema_name(schema) {
-        Some(name) => name,
-        None => b"",
-    }
-}
-
-/// The object's name; no bytes where there is no such object.
-fn object_name(task: &Task, object: ObjectId) -> &[u8]
-    ensures { result.now ≡ object_name (task_of task.now) object.0 }
-{
-    match task.object_name(object) {
-        Some(name) => name,
-        None => b"",
+    let mut text = Memory::empty(alloc);
+    match write_plan(alloc, task, steps, cost, &mut text) {
+        Ok(()) => Ok(text.into_vec()),
+        // Memory is the one thing that a device in memory can want.
+        Err(_) => Err(AllocError),
     }
 }

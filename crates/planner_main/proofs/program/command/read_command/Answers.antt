@@ -8,7 +8,7 @@ returns-in-len4-clause-asks c = for_verdict c.args.words.now _ c.in-len4.len_at_
 
 pub returns-in-Some-clause-asks : goal.returns-in-Some-clause-asks
 returns-in-Some-clause-asks c =
-    (for_plan c.args.words.now _ _ c.in-Some.limits.states (take_rest c.args.words.now 3) c.in-len3-up.len_at_least (search rules) c.in-Some.ensures.states, c.in-Some.ensures.instances)
+    (for_plan c.args.words.now _ _ c.in-Some.field-0.limits.states _ (take_rest c.args.words.now 3) c.in-len3-up.len_at_least (search rules) c.in-Some.ensures.options, c.in-Some.ensures.instances)
 
 pub returns-in-None-clause-none : goal.returns-in-None-clause-none
 returns-in-None-clause-none c = λ is.
