@@ -226,6 +226,31 @@ impl<S: Source> Source for FailsAt<S> {
     }
 }
 
+impl<S: Sink> FailsAt<S> {
+    ghost use Rattle.devices.specs.Failing.{calls_left};
+
+    /// The same as a sink of which no write has failed yet.
+    pub fn sink(inner: S, writes_before: Option<u64>) -> FailsAt<S>
+        ensures failures { ⟦<FailsAt<S> as Sink>⟧.failures result ≡ 0 }
+        ensures taken { ⟦<FailsAt<S> as Sink>⟧.taken result ≡ S.taken inner }
+        ensures inner { result.inner ≡ inner }
+        ensures calls { calls_left result ≡ writes_before }
+    {
+        FailsAt {
+            inner,
+            calls_before: writes_before,
+            failures: 0,
+        }
+    }
+
+    /// How often a write of it has failed. A write that is refused for want of memory has not.
+    pub fn failed_writes(&self) -> u64
+        ensures { result ≡ ⟦<FailsAt<S> as Sink>⟧.failures self.now }
+    {
+        self.failures
+    }
+}
+
 impl<S: Sink> Sink for FailsAt<S> {
     ghost use Rattle.std.specs.Prelude.{Err, IfOk, IsTrue, false, length};
     ghost use Rattle.std.specs.Io.{WritesAtMost};

@@ -21,6 +21,13 @@ impl<W: Write> Device<W> {
         Device { inner, failures: 0 }
     }
 
+    /// How often a write of it has failed.
+    pub fn failed_writes(&self) -> u64
+        ensures { result ≡ ⟦<Device<W> as Sink>⟧.failures self.now }
+    {
+        self.failures
+    }
+
     /// What it is over.
     pub fn into_inner(self) -> W
         ensures { W.contents result ≡ ⟦<Device<W> as Sink>⟧.taken self }
