@@ -2,6 +2,7 @@
 ghost use Rattle.std.specs.Prelude.{◌≡◌, ◌<◌, ◌≤◌, ◌++◌, drop, length, min, take, vec_len};
 
 use crate::device::{DeviceFault, Source};
+use crate::memory::fill;
 
 /// A source of a text, and then of the same bytes again and again. It never ends, and it never fails.
 #[derive(Drop)]
@@ -53,19 +54,12 @@ impl Source for Endless {
         ensures progress { 0 < length into.old → IfOk result (λ count. 0 < count) }
     {
         let of_text = fill(into, &self.text.as_slice()[self.text_read..]);
-        let of_again = fill(&mut into[of_text..], &self.again.as_slice()[self.again_read..]);
+        let of_again = fill(
+            &mut into[of_text..],
+            &self.again.as_slice()[self.again_read..],
+        );
         self.text_read += of_text;
         self.again_read = (self.again_read + of_again) % self.again.len();
         Ok(of_text + of_again)
     }
-}
-
-/// Copies as many of the bytes as there is room for, and tells how many.
-fn fill(into: &mut [u8], bytes: &[u8]) -> usize
-    ensures count { result ≡ min (length into.old) (length bytes.now) }
-    ensures room { into.new ≡ take (length into.old) bytes.now ++ drop (length bytes.now) into.old }
-{
-    let count = bytes.len().min(into.len());
-    into[..count].copy_from_slice(&bytes[..count]);
-    count
 }

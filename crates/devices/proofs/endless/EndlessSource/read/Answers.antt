@@ -1,8 +1,9 @@
-use Rattle.std.proofs.Common.{◌≡◌, ℕ, zero, suc, inl, inr, ◌+◌, ◌-◌, ◌%◌, ◌<◌, ◌≤◌, List, [], ◌∷◌, ◌++◌, ◌∙◌, length, take, drop, min, refl, sym, ap, arith, append_assoc, append-nil, length-append, length-drop, length-take}
+use Rattle.std.proofs.Common.{◌≡◌, ℕ, zero, suc, inl, inr, ◌+◌, ◌-◌, ◌%◌, ◌<◌, ◌≤◌, List, [], ◌∷◌, ◌++◌, ◌∙◌, length, take, drop, min, refl, sym, ap, arith, append_assoc, append-nil, length-append, length-drop}
 use Rattle.std.proofs.lemmas.Bool.{cases_lt}
-use Rattle.std.proofs.lemmas.List.{drop-drop, take_rest, take_at, drop_at, drop_all, drop_min}
+use Rattle.std.proofs.lemmas.List.{drop-drop, take_rest, drop_all}
 use Rattle.std.proofs.Math.Nat.{mod_self, mod-eq_of_lt}
 use Rattle.devices.specs.Endless.{or_anew}
+use Rattle.devices.proofs.Filling.{from_place, past, rest_of}
 use Rattle.devices.proofs.endless.EndlessSource.read.Goals as goal
 
 take_of_both : (count : ℕ) (front rest : List ℕ) → take count (front ++ rest) ≡ take count front ++ take (count - length front) rest
@@ -18,16 +19,6 @@ drop_of_both (suc n) [] rest = let all : suc n - length {A = ℕ} [] ≡ suc n =
 drop_of_both (suc n) (x ∷ front) rest =
     let less : n - length front ≡ suc n - length (x ∷ front) = omega arith in
     drop_of_both n front rest ∙ ap (λ k. drop n front ++ drop k rest) less
-
--- past what the first call filled lies the rest of the room
-past : (into text first : List ℕ) (of_text : ℕ) → of_text ≡ min (length into) (length text)
-    → first ≡ take (length into) text ++ drop (length text) into
-    → (take of_text first ≡ take (length into) text) × (drop of_text first ≡ drop (length text) into)
-past into text first of_text count room =
-    let long : length (take (length into) text) ≡ of_text = length-take (length into) text ∙ sym count in (
-      ap (take of_text) room ∙ take_at (take (length into) text) (drop (length text) into) of_text long,
-      ap (drop of_text) room ∙ drop_at (take (length into) text) (drop (length text) into) of_text long,
-    )
 
 -- what two calls put into some room, one behind the other, is what one puts there of both lists
 filled : (into text again first second : List ℕ) (of_text : ℕ) → of_text ≡ min (length into) (length text)
@@ -79,10 +70,8 @@ left_over : (text bytes : List ℕ) (text_read place of_text gone room : ℕ) �
 left_over text bytes text_read place of_text gone room in_bytes count more =
     let rest = drop text_read text in
     let again = drop place bytes in
-    let front : drop (text_read + of_text) text ≡ drop room rest =
-    sym (drop-drop of_text text_read text) ∙ ap (λ k. drop k rest) count ∙ drop_min room rest in
-    let behind : drop (place + gone) bytes ≡ drop (room - length rest) again =
-    sym (drop-drop gone place bytes) ∙ ap (λ k. drop k again) more ∙ drop_min (room - length rest) again in
+    let front = rest_of text text_read of_text room count in
+    let behind = rest_of bytes place gone (room - length rest) more in
     let long = length-drop place bytes in
     let used : place + gone ≡ length bytes → drop room rest ≡ [] = λ all. drop_all room rest (omega (arith, all, more, long, in_bytes)) in
     ap (λ l. l ++ drop ((place + gone) % length bytes) bytes) front
@@ -94,19 +83,23 @@ returns-clause-room c =
     let into = c.args.into.now in
     let self = c.args.self.now in
     let first = c.fill-of_text.new.into in
+    let second = c.fill-of_again.new.into in
     let of_text = c.fill-of_text.result in
-    let text_rest = ap (λ l. take (length l - self.text_read) (drop self.text_read l)) c.as_slice.ensures.value ∙ take_rest self.text.items self.text_read in
-    let again_rest = ap (λ l. take (length l - self.again_read) (drop self.again_read l)) c.as_slice-2.ensures.value ∙ take_rest self.again.items self.again_read in
+    let text_rest = from_place _ _ self.text_read c.as_slice.ensures.value in
+    let again_rest = from_place _ _ self.again_read c.as_slice-2.ensures.value in
     let text = drop self.text_read self.text.items in
     let again = drop self.again_read self.again.items in
-    let none : drop (length first - of_text) (drop of_text first) ≡ [] = drop_all (length first - of_text) (drop of_text first) (omega (arith, length-drop of_text first)) in
-    ap (λ l. take of_text first ++ (c.fill-of_again.new.into ++ l)) none ∙ ap (λ l. take of_text first ++ l) (append-nil c.fill-of_again.new.into)
-    ∙ filled into text again first c.fill-of_again.new.into of_text
+    let room = take_rest first of_text in
+    let behind : second ≡ take (length (drop of_text first)) again ++ drop (length again) (drop of_text first) =
+    c.fill-of_again.ensures.room ∙ ap (λ l. take (length (take (length first - of_text) (drop of_text first))) l ++ drop (length l) (take (length first - of_text) (drop of_text first))) again_rest
+    ∙ ap (λ l. take (length l) again ++ drop (length again) l) room in
+    let none : drop (length first - of_text) (drop of_text first) ≡ [] =
+    drop_all (length first - of_text) (drop of_text first) (omega (arith, length-drop of_text first)) in
+    ap (λ l. take of_text first ++ (second ++ l)) none ∙ ap (λ l. take of_text first ++ l) (append-nil second)
+    ∙ filled into text again first second of_text
     (c.fill-of_text.ensures.count ∙ ap (λ l. min (length into) (length l)) text_rest)
     (c.fill-of_text.ensures.room ∙ ap (λ l. take (length into) l ++ drop (length l) into) text_rest)
-    (c.fill-of_again.ensures.room
-      ∙ ap (λ l. take (length (take (length first - of_text) (drop of_text first))) l ++ drop (length l) (take (length first - of_text) (drop of_text first))) again_rest
-      ∙ ap (λ l. take (length l) again ++ drop (length again) l) (take_rest first of_text))
+    behind
 
 pub returns-clause-left : goal.returns-clause-left
 returns-clause-left c =
@@ -114,16 +107,19 @@ returns-clause-left c =
     let self = c.args.self.now in
     let first = c.fill-of_text.new.into in
     let of_text = c.fill-of_text.result in
-    let text_rest = ap (λ l. take (length l - self.text_read) (drop self.text_read l)) c.as_slice.ensures.value ∙ take_rest self.text.items self.text_read in
-    let again_rest = ap (λ l. take (length l - self.again_read) (drop self.again_read l)) c.as_slice-2.ensures.value ∙ take_rest self.again.items self.again_read in
+    let of_again = c.fill-of_again.result in
+    let text_rest = from_place _ _ self.text_read c.as_slice.ensures.value in
+    let again_rest = from_place _ _ self.again_read c.as_slice-2.ensures.value in
     let text = drop self.text_read self.text.items in
     let again = drop self.again_read self.again.items in
     let long : c.len.result ≡ length self.again.items = c.len.ensures ∙ sym c.as_slice-2.ensures.len ∙ ap length c.as_slice-2.ensures.value in
     let count : of_text ≡ min (length into) (length text) = c.fill-of_text.ensures.count ∙ ap (λ l. min (length into) (length l)) text_rest in
     let (front, left) = past into text first of_text count (c.fill-of_text.ensures.room ∙ ap (λ l. take (length into) l ++ drop (length l) into) text_rest) in
-    let more : c.fill-of_again.result ≡ min (length into - length text) (length again) =
-    c.fill-of_again.ensures.count ∙ ap (λ l. min (length l) (length (take (length c.as_slice-2.result.now - self.again_read) (drop self.again_read c.as_slice-2.result.now)))) (take_rest first of_text)
-    ∙ ap (λ l. min (length (drop of_text first)) (length l)) again_rest ∙ ap (λ n. min n (length again)) (ap length left ∙ length-drop (length text) into) in
-    let in_bytes : self.again_read < length self.again.items = omega (arith, self.in_again, long, c.len.ensures) in
-    ap (λ n. drop (self.text_read + of_text) self.text.items ++ drop ((self.again_read + c.fill-of_again.result) % n) self.again.items) long
-    ∙ left_over self.text.items self.again.items self.text_read self.again_read of_text c.fill-of_again.result (length into) in_bytes count more
+    let room : length (take (length first - of_text) (drop of_text first)) ≡ length into - length text =
+    ap length (take_rest first of_text ∙ left) ∙ length-drop (length text) into in
+    let more : of_again ≡ min (length into - length text) (length again) =
+    c.fill-of_again.ensures.count ∙ ap (λ l. min (length (take (length first - of_text) (drop of_text first))) (length l)) again_rest
+    ∙ ap (λ n. min n (length again)) room in
+    ap (λ n. drop (self.text_read + of_text) self.text.items ++ drop ((self.again_read + of_again) % n) self.again.items) long
+    ∙ left_over self.text.items self.again.items self.text_read self.again_read of_text of_again (length into)
+    (omega (arith, self.in_again, long, c.len.ensures)) count more
