@@ -1,5 +1,5 @@
 //! Devices over memory, and devices that fail, for tests.
-ghost use Rattle.std.specs.Prelude.{◌≡◌, ◌<◌, ◌≤◌, drop, vec_len, Some, []};
+ghost use Rattle.std.specs.Prelude.{◌≡◌, ◌<◌, ◌≤◌, ◌++◌, drop, length, min, take, vec_len, Some, []};
 ghost use Rattle.devices.specs.Devices.{one_more};
 
 use crate::device::{DeviceFault, Sink, Source, WriteFault};
@@ -50,9 +50,7 @@ impl Source for Memory {
     ghost remaining = { λ device. Some (drop device.next device.bytes.items) };
 
     fn read(&mut self, into: &mut [u8]) -> Result<usize, DeviceFault> {
-        let rest = &self.bytes.as_slice()[self.next..];
-        let count = rest.len().min(into.len());
-        into[..count].copy_from_slice(&rest[..count]);
+        let count = fill(into, &self.bytes.as_slice()[self.next..]);
         self.next += count;
         Ok(count)
     }
@@ -69,6 +67,16 @@ impl Sink for Memory {
             Err(_) => Err(WriteFault::NoMemory),
         }
     }
+}
+
+// Copies as many of the bytes as there is room for, and tells how many.
+pub(crate) fn fill(into: &mut [u8], bytes: &[u8]) -> usize
+    ensures count { result ≡ min (length into.old) (length bytes.now) }
+    ensures room { into.new ≡ take (length into.old) bytes.now ++ drop (length bytes.now) into.old }
+{
+    let count = bytes.len().min(into.len());
+    into[..count].copy_from_slice(&bytes[..count]);
+    count
 }
 
 /// A device that moves at most so many bytes at a call.
@@ -226,8 +234,33 @@ impl<S: Source> Source for FailsAt<S> {
     }
 }
 
+impl<S: Sink> FailsAt<S> {
+    ghost use Rattle.devices.specs.Failing.{calls_left};
+
+    /// The same as a sink of which no write has failed yet.
+    pub fn sink(inner: S, writes_before: Option<u64>) -> FailsAt<S>
+        ensures failures { ⟦<FailsAt<S> as Sink>⟧.failures result ≡ 0 }
+        ensures taken { ⟦<FailsAt<S> as Sink>⟧.taken result ≡ S.taken inner }
+        ensures inner { result.inner ≡ inner }
+        ensures calls { calls_left result ≡ writes_before }
+    {
+        FailsAt {
+            inner,
+            calls_before: writes_before,
+            failures: 0,
+        }
+    }
+
+    /// How often a write of it has failed. A write that is refused for want of memory has not.
+    pub fn failed_writes(&self) -> u64
+        ensures { result ≡ ⟦<FailsAt<S> as Sink>⟧.failures self.now }
+    {
+        self.failures
+    }
+}
+
 impl<S: Sink> Sink for FailsAt<S> {
-    ghost use Rattle.std.specs.Prelude.{Err, IfOk, IsTrue, false, length};
+    ghost use Rattle.std.specs.Prelude.{Err, IfOk, IsTrue, false};
     ghost use Rattle.std.specs.Io.{WritesAtMost};
     ghost use Rattle.std.specs.Io.KnownBytes.{WriteAppends};
     ghost use Rattle.devices.specs.Devices.{CountsDevice};

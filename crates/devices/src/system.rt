@@ -21,6 +21,13 @@ impl<W: Write> Device<W> {
         Device { inner, failures: 0 }
     }
 
+    /// How often a write of it has failed.
+    pub fn failed_writes(&self) -> u64
+        ensures { result ≡ ⟦<Device<W> as Sink>⟧.failures self.now }
+    {
+        self.failures
+    }
+
     /// What it is over.
     pub fn into_inner(self) -> W
         ensures { W.contents result ≡ ⟦<Device<W> as Sink>⟧.taken self }
@@ -66,6 +73,7 @@ impl<R: Read> Source for Device<R> {
     fn read(&mut self, into: &mut [u8]) -> Result<usize, DeviceFault> {
         match self.inner.read(into) {
             Ok(count) => Ok(count),
+            // `ErrorKind::Interrupted` too: an interrupted call is counted, and not made again
             Err(_) => {
                 self.count_failure();
                 Err(DeviceFault)
@@ -84,6 +92,7 @@ impl<W: Write> Sink for Device<W> {
     fn write(&mut self, piece: &[u8]) -> Result<usize, WriteFault> {
         match self.inner.write(piece) {
             Ok(count) if count > 0 || piece.is_empty() => Ok(count),
+            // nothing was taken, or an error, `ErrorKind::Interrupted` too: counted, and not tried again
             _ => {
                 self.count_failure();
                 Err(WriteFault::Device)
