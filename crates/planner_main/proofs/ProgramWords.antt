@@ -1,7 +1,8 @@
 -- What the words of the program are, and what it tells of them.
-use Rattle.std.proofs.Common.{◌≡◌, ℕ, ◌^◌, ◌<◌, ◌≤◌, ◌⊎◌, inl, inr, List, [], ◌∷◌, length, codes, get_or, take, drop, refl, sym, ap, ◌∙◌, subst, arith, length-append, take_at}
+use Rattle.std.proofs.Common.{◌≡◌, ℕ, ◌^◌, ◌<◌, ◌≤◌, ◌⊎◌, inl, inr, zero, suc, ◌+◌, List, [], ◌∷◌, length, codes, get_or, take, drop, refl, sym, ap, ◌∙◌, subst, arith, length-append, take_at}
 use Rattle.std.proofs.lemmas.Bool.Decides.{nat_tests}
-use Rattle.std.specs.Prelude.{◌++◌, Result, Ok, Err, Option, None, Some, IfSome, OnOk, IsTrue, Bool, is_some, true, false, ◌&&◌, if◌then◌else◌}
+use Rattle.std.proofs.lemmas.List.{length-map}
+use Rattle.std.specs.Prelude.{◌++◌, Result, Ok, Err, Option, None, Some, IfNone, IfSome, OnOk, IsTrue, Bool, is_some, true, false, ◌&&◌, if◌then◌else◌}
 use Rattle.model.specs.Resolution.{is_same}
 use Rattle.std.specs.Io.KnownBytes.{Appends}
 use Rattle.std.specs.Str.Parse.{IsNumeral, without_leading_plus, digits_value}
@@ -11,6 +12,7 @@ use Rattle.std.specs.Borrow.{Bor}
 use Rattle.solver.specs.declared.answer.Answer.{Answer}
 use Rattle.solver.specs.declared.answer.Answer.TheVariants.{Plan, Unsolvable, Unknown}
 use Rattle.planner_main.specs.declared.program.command.Command.{Command}
+use Rattle.planner_main.specs.declared.program.command.Options.{Options}
 use Rattle.planner_main.specs.declared.program.command.Command.TheVariants.{Validate, Solve}
 use Rattle.planner_main.specs.declared.report.Failure.{Failure}
 use Rattle.planner_main.specs.declared.report.Failure.TheVariants as failure
@@ -148,6 +150,47 @@ pub split_first : (words rest : List (Bor (List ℕ))) (d : Bor (List ℕ)) → 
 split_first [] rest d two first same = absurd (omega arith)
 split_first (a ∷ []) rest d two first same = absurd (omega arith)
 split_first (a ∷ b ∷ more) rest d two first same = ap (λ word. word ∷ b.now ∷ texts more) first ∙ ap (λ l. codes "--plan" ∷ b.now ∷ texts l) (sym same)
+
+pub split_last : (words : List (Bor (List ℕ))) (d : Bor (List ℕ)) (n : ℕ) → length words ≡ n + 2 → (get_or words n d).now ≡ codes "--plan"
+    → texts words ≡ texts (take n words) ++ codes "--plan" ∷ (get_or words (suc n) d).now ∷ []
+split_last [] d n count is = absurd (omega (arith, count))
+split_last (a ∷ []) d n count is = absurd (omega (arith, count))
+split_last (a ∷ b ∷ []) d zero count is = ap (λ word. word ∷ b.now ∷ []) is
+split_last (a ∷ b ∷ []) d (suc n) count is = absurd (omega (arith, count))
+split_last (a ∷ b ∷ c ∷ rest) d zero count is = absurd (omega (arith, count))
+split_last (a ∷ b ∷ c ∷ rest) d (suc n) count is = ap (λ l. a.now ∷ l) (split_last (b ∷ c ∷ rest) d n (omega (arith, count)) is)
+
+-- the last word but one of words that end with these two
+pub last_is : (words : List (Bor (List ℕ))) (d : Bor (List ℕ)) (n : ℕ) (others : List (List ℕ)) (option name : List ℕ) → length words ≡ n + 2
+    → texts words ≡ others ++ option ∷ name ∷ [] → (get_or words n d).now ≡ option
+last_is [] d n others option name count is = absurd (omega (arith, count))
+last_is (a ∷ []) d n others option name count is = absurd (omega (arith, count))
+last_is (a ∷ b ∷ []) d zero [] option name count is = first_same _ _ _ _ is
+last_is (a ∷ b ∷ []) d zero (other ∷ others) option name count is = absurd (omega (arith, ap length is, length-append others (option ∷ name ∷ [])))
+last_is (a ∷ b ∷ []) d (suc n) others option name count is = absurd (omega (arith, count))
+last_is (a ∷ b ∷ c ∷ rest) d zero others option name count is = absurd (omega (arith, count))
+last_is (a ∷ b ∷ c ∷ rest) d (suc n) [] option name count is = absurd (omega (arith, ap length is))
+last_is (a ∷ b ∷ c ∷ rest) d (suc n) (other ∷ others) option name count is =
+    last_is (b ∷ c ∷ rest) d n others option name (omega (arith, count)) (rest_same _ _ _ _ is)
+
+pub two_words : (words : List (Bor (List ℕ))) (others : List (List ℕ)) (option name : List ℕ) → texts words ≡ others ++ option ∷ name ∷ [] → 2 ≤ length words
+two_words words others option name is =
+    omega (arith, ap length is, length-map words (λ (word : Bor (List ℕ)). word.now), length-append others (option ∷ name ∷ []))
+
+-- What options are with the limits that the others ask for.
+module _ (words others : List (List ℕ)) (plan : Option (Bor (List ℕ))) where
+  pub with_allowed : (found : Option Options) → ((states : ℕ) → AllowsStates others states → AreOptions words states (name_in plan))
+      → IfSome found (λ options. AllowsStates others options.limits.states) → IfSome found (λ options. options.plan ≡ plan)
+      → IfSome found (λ options. AreOptions words options.limits.states (name_in options.plan))
+  with_allowed None make allows same = tt
+  with_allowed (Some options) make allows same =
+      subst (λ plan. AreOptions words options.limits.states (name_in plan)) (sym same) (make options.limits.states allows)
+
+  pub with_none : (found : Option Options) → (((states : ℕ) → AllowsStates others states → ⊥) → (states : ℕ) (file : Option (List ℕ)) → AreOptions words states file → ⊥)
+      → IfNone found ((states : ℕ) → AllowsStates others states → ⊥)
+      → IfNone found ((states : ℕ) (file : Option (List ℕ)) → AreOptions words states file → ⊥)
+  with_none None none fails = none fails
+  with_none (Some options) none fails = tt
 
 -- What answers a command answers the words that ask for it, and so with what is refused.
 module _ (contents : List ℕ → Option (List ℕ)) (words : List (List ℕ)) where

@@ -64,6 +64,10 @@ impl<R: rt::Files> Files for SystemFiles<'_, R> {
     }
 
     fn close(&mut self, output: Device<R::File>) -> Result<(), WriteFault> {
+        if output.failed_writes() > 0 {
+            self.failures = self.failures.saturating_add(1);
+            return Err(WriteFault::Device);
+        }
         let flushed = output.into_inner().flush();
         self.counted(flushed)
     }

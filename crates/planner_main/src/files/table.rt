@@ -141,6 +141,7 @@ impl Files for Table {
         ensures bytes { IfOk result (λ input. IsKept (⟦<Table as Files>⟧.contents self.old name.now) (⟦<FailsAt<Memory> as Source>⟧.remaining input)) }
         ensures reads { IfOk result (λ input. calls_left input ≡ reads_before self.old name.now) }
         ensures kept { (other : List ℕ) → ⟦<Table as Files>⟧.contents self.new other ≡ ⟦<Table as Files>⟧.contents self.old other }
+        ensures still { (other : List ℕ) → ⟦<Table as Files>⟧.is_missing self.new other ≡ ⟦<Table as Files>⟧.is_missing self.old other }
         ensures unchanged { KeepsFiles self.old self.new }
     {
         for entry in &self.entries {

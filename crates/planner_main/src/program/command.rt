@@ -108,9 +108,13 @@ fn plan_last<'a, 'w>(words: &'w [&'a str]) -> Option<(&'a str, &'w [&'a str])>
     ensures split { IfSome result (λ split. texts words.now ≡ texts split.1.now ++ codes "--plan" ∷ split.0.now ∷ []) }
     ensures none { IfNone result ((name : List ℕ) (others : List (List ℕ)) → texts words.now ≡ others ++ codes "--plan" ∷ name ∷ [] → ⊥) }
 {
-    match words {
-        [others @ .., option, file] if *option == "--plan" => Some((*file, others)),
-        _ => None,
+    let [others @ .., option, file] = words else {
+        return None;
+    };
+    if *option == "--plan" {
+        Some((*file, others))
+    } else {
+        None
     }
 }
 

@@ -1,27 +1,32 @@
-use Rattle.std.proofs.Common.{rules, ◌≡◌, ℕ, IfNone, IfSome, List, [], ◌∷◌, ◌++◌, Option, codes, ◌+◌, ◌-◌, ◌*◌, ◌<◌, ◌≤◌, length, ◌/◌, ◌%◌, Bool, true, false, nat_eq, nat_lt, slice_index_or, slice_set, bit_and, bit_or, Fits, w8, w32, w64, Bor, MutBor}
-use Rattle.planner_main.specs.Program.{AllowsStates, AreOptions, Asks, IsCommand, file_of, name_in, texts}
+use Rattle.std.proofs.Common.{refl, None, Some}
+use Rattle.planner_main.specs.Program.{no_file, file_first, file_last, texts}
+use Rattle.planner_main.proofs.ProgramWords.{with_allowed, with_none, none_first, none_last, none_alone}
 use Rattle.planner_main.proofs.program.command.read_options.Goals as goal
 
--- src/program/command.rt:87:9
 pub returns-in-Some-clause-options : goal.returns-in-Some-clause-options
-returns-in-Some-clause-options c = ?
+returns-in-Some-clause-options c =
+    with_allowed _ (texts c.in-Some.others.now) (Some c.in-Some.file) _ (λ states allows. file_first _ _ c.in-Some.ensures.split allows refl)
+    c.with_limits.ensures.states c.with_limits.ensures.plan
 
--- src/program/command.rt:87:9
 pub returns-in-Some-clause-none : goal.returns-in-Some-clause-none
-returns-in-Some-clause-none c = ?
+returns-in-Some-clause-none c =
+    with_none _ (texts c.in-Some.others.now) (Some c.in-Some.file) _ (none_first _ _ _ c.in-Some.ensures.split) c.with_limits.ensures.none
 
--- src/program/command.rt:90:9
 pub returns-in-Some-plan_last-clause-options : goal.returns-in-Some-plan_last-clause-options
-returns-in-Some-plan_last-clause-options c = ?
+returns-in-Some-plan_last-clause-options c =
+    let last = c.in-Some-plan_last in
+    let found = c.with_limits-in-Some-plan_last.ensures in
+    with_allowed _ (texts last.others.now) (Some last.file) _ (λ states allows. file_last _ _ last.ensures.split allows refl) found.states found.plan
 
--- src/program/command.rt:90:9
 pub returns-in-Some-plan_last-clause-none : goal.returns-in-Some-plan_last-clause-none
-returns-in-Some-plan_last-clause-none c = ?
+returns-in-Some-plan_last-clause-none c =
+    let last = c.in-Some-plan_last in
+    with_none _ (texts last.others.now) (Some last.file) _ (none_last _ _ _ c.in_default.ensures.none last.ensures.split) c.with_limits-in-Some-plan_last.ensures.none
 
--- src/program/command.rt:81:1
 pub returns-clause-options : goal.returns-clause-options
-returns-clause-options c = ?
+returns-clause-options c =
+    with_allowed _ _ None _ (λ states allows. no_file allows refl) c.with_limits-2.ensures.states c.with_limits-2.ensures.plan
 
--- src/program/command.rt:81:1
 pub returns-clause-none : goal.returns-clause-none
-returns-clause-none c = ?
+returns-clause-none c =
+    with_none _ _ None _ (none_alone _ c.in_default.ensures.none c.in_default-plan_last.ensures.none) c.with_limits-2.ensures.none
