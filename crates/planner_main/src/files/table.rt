@@ -1,5 +1,5 @@
 //! A table of files in memory, for tests.
-ghost use Rattle.std.specs.Prelude.{◌≡◌, ℕ, List, None, IfOk, IfSome, IsOkUnless, IsTrue, OnErr, OnOk, Some, [], false, is_none, position};
+ghost use Rattle.std.specs.Prelude.{◌≡◌, ℕ, List, None, IfOk, IfSome, IsOkUnless, IsTrue, OnErr, OnOk, Some, [], false, is_none, position, true};
 ghost use Rattle.std.specs.Option.{option_map};
 ghost use Rattle.devices.specs.Devices.{CountsDevice, IsKept, one_more};
 ghost use Rattle.devices.specs.Failing.{calls_left};
