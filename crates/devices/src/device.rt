@@ -1,5 +1,5 @@
 //! Devices: where bytes come from, and where they go. A device may fail at any call.
-ghost use Rattle.std.specs.Prelude.{◌≡◌, ℕ, ◌<◌, Bool, true, List, Option, length, Err, IfOk, IsTrue, OnOk, None};
+ghost use Rattle.std.specs.Prelude.{◌≡◌, ℕ, ◌<◌, Bool, true, List, [], Option, length, Err, IfOk, IsTrue, OnOk, None};
 ghost use Rattle.std.specs.Io.{ReadsAtMost, WritesAtMost};
 ghost use Rattle.std.specs.Io.KnownBytes.{Appends, ReadConsumes, WriteAppends};
 ghost use Rattle.devices.specs.Devices.{AppendsBeginning, Counts, CountsDevice};
@@ -83,6 +83,9 @@ pub trait Sink {
     /// Whether a write may be refused for want of memory.
     ghost wants_memory: { Bool } = { true };
 
+    /// The name of the file that it writes, where that is known.
+    ghost name: { Self → List ℕ } = { λ _. [] };
+
     /// Takes some of the bytes, and tells how many. A device that takes nothing of a piece that is not empty
     /// has failed, and so has an interrupted call.
     fn write(&mut self, piece: &[u8]) -> Result<usize, WriteFault>
@@ -90,7 +93,8 @@ pub trait Sink {
         ensures progress { 0 < length piece.now → IfOk result (λ count. 0 < count) }
         ensures bytes { WriteAppends (taken self.old) (taken self.new) result piece.now }
         ensures memory { result ≡ Err WriteFault.NoMemory → IsTrue wants_memory }
-        ensures failures { CountsDevice (failures self.old) (failures self.new) result };
+        ensures failures { CountsDevice (failures self.old) (failures self.new) result }
+        ensures name { name self.new ≡ name self.old };
 }
 
 /// Writes all of the bytes. A sink that fails has taken some beginning of them.
@@ -99,6 +103,7 @@ pub fn write_all<S: Sink>(sink: &mut S, bytes: &[u8]) -> Result<(), WriteFault>
     ensures beginning { AppendsBeginning (S.taken sink.old) (S.taken sink.new) bytes.now }
     ensures failures { CountsDevice (S.failures sink.old) (S.failures sink.new) result }
     ensures memory { result ≡ Err WriteFault.NoMemory → IsTrue S.wants_memory }
+    ensures name { S.name sink.new ≡ S.name sink.old }
 {
     let mut rest = bytes;
     'writes: while !rest.is_empty() {

@@ -116,6 +116,8 @@ impl<S: Sink> Sink for InPieces<S> {
 
     ghost wants_memory = { S.wants_memory };
 
+    ghost name = { λ device. S.name device.inner };
+
     fn write(&mut self, piece: &[u8]) -> Result<usize, WriteFault> {
         let count = self.length.min(piece.len());
         self.inner.write(&piece[..count])
@@ -272,12 +274,15 @@ impl<S: Sink> Sink for FailsAt<S> {
 
     ghost wants_memory = { S.wants_memory };
 
+    ghost name = { λ device. S.name device.inner };
+
     fn write(&mut self, piece: &[u8]) -> Result<usize, WriteFault>
         ensures bound { WritesAtMost result piece.now }
         ensures progress { 0 < length piece.now → IfOk result (λ count. 0 < count) }
         ensures bytes { WriteAppends (S.taken self.old.inner) (S.taken self.new.inner) result piece.now }
         ensures memory { result ≡ Err WriteFault.NoMemory → IsTrue S.wants_memory }
         ensures failures { CountsDevice (⟦<FailsAt<S> as Sink>⟧.failures self.old) (⟦<FailsAt<S> as Sink>⟧.failures self.new) result }
+        ensures name { S.name self.new.inner ≡ S.name self.old.inner }
         ensures fails { IsTrue (fails_now (calls_left self.old)) → (result ≡ Err WriteFault.Device) × (self.new.inner ≡ self.old.inner) }
         ensures passes { fails_now (calls_left self.old) ≡ false → CountsDevice (S.failures self.old.inner) (S.failures self.new.inner) result }
         ensures calls { calls_left self.new ≡ after_a_call (calls_left self.old) }

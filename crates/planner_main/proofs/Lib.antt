@@ -3,3 +3,4 @@ pub mod FilesRead
 pub mod ProgramWords
 pub mod TableLemmas
 pub mod ProgramTold
+pub mod PlanFiles

@@ -31,9 +31,6 @@ pub trait Files {
     /// Whether the bytes of files that are written here are known.
     ghost is_known: { Bool } = { false };
 
-    /// The name of a file that is open for writing, where that is known.
-    ghost name_of: { Self.Output → List ℕ } = { λ _. [] };
-
     /// Opens the file of this name for reading, from its first byte on. No read of it has failed yet.
     fn open(&mut self, name: &str) -> Result<Self::Input, WriteFault>
         ensures failures { CountsDevice (failures self.old) (failures self.new) result }
@@ -56,7 +53,7 @@ pub trait Files {
     fn create(&mut self, name: &str) -> Result<Self::Output, WriteFault>
         ensures failures { CountsDevice (failures self.old) (failures self.new) result }
         ensures fresh { IfOk result (λ output. Self.Output.failures output ≡ 0) }
-        ensures named { IsTrue is_known → IfOk result (λ output. name_of output ≡ name.now) }
+        ensures named { IsTrue is_known → IfOk result (λ output. Self.Output.name output ≡ name.now) }
         ensures empty { IsTrue is_known → IfOk result (λ output. Self.Output.taken output ≡ Some []) }
         ensures made { HoldsBeginning (contents self.old name.now) (contents self.new name.now) [] }
         ensures kept { (other : List ℕ) → other ≢ name.now → contents self.new other ≡ contents self.old other }
@@ -68,7 +65,7 @@ pub trait Files {
     fn close(&mut self, output: Self::Output) -> Result<(), WriteFault>
         ensures failures { CountsDevice (failures self.old) (failures self.new) result }
         ensures failed { 0 < Self.Output.failures output → result ≡ Err Device }
-        ensures written { IsTrue is_known → OnOk result (contents self.new (name_of output) ≡ Self.Output.taken output) }
-        ensures beginning { IsTrue is_known → IfSome (Self.Output.taken output) (HoldsBeginning (contents self.old (name_of output)) (contents self.new (name_of output))) }
-        ensures kept { IsTrue is_known → (other : List ℕ) → other ≢ name_of output → contents self.new other ≡ contents self.old other };
+        ensures written { IsTrue is_known → OnOk result (contents self.new (Self.Output.name output) ≡ Self.Output.taken output) }
+        ensures beginning { IsTrue is_known → IfSome (Self.Output.taken output) (HoldsBeginning (contents self.old (Self.Output.name output)) (contents self.new (Self.Output.name output))) }
+        ensures kept { IsTrue is_known → (other : List ℕ) → other ≢ Self.Output.name output → contents self.new other ≡ contents self.old other };
 }

@@ -131,8 +131,6 @@ impl Files for Table {
 
     ghost is_known = { true };
 
-    ghost name_of = { draft_name };
-
     fn open(&mut self, name: &str) -> Result<FailsAt<Memory>, WriteFault>
         ensures failures { CountsDevice (⟦<Table as Files>⟧.failures self.old) (⟦<Table as Files>⟧.failures self.new) result }
         ensures missing { IsTrue (⟦<Table as Files>⟧.is_missing self.old name.now) → result ≡ Err WriteFault.Device }
@@ -196,6 +194,8 @@ impl Sink for Draft {
     ghost failures = { λ draft. 0 };
 
     ghost taken = { λ draft. ⟦<Memory as Sink>⟧.taken draft.bytes };
+
+    ghost name = { draft_name };
 
     fn write(&mut self, piece: &[u8]) -> Result<usize, WriteFault> {
         self.bytes.write(piece)

@@ -17,4 +17,5 @@ writes-preserved g c =
         Appends-trans _ _ _ _ _ appended write.bytes,
       );
       failures = write.failures ∙ c.writes.invariant.failures;
+      name = write.name ∙ c.writes.invariant.name;
     }
