@@ -17,6 +17,7 @@ pub mod GrammarStops
 pub mod GrammarBegins
 pub mod GrammarRefusals
 pub mod GrammarOneRefusal
+pub mod GrammarNames
 pub mod GrammarExampleProofs
 pub mod TypingExampleProofs
 pub mod TypingFaultsLemmas
