@@ -18,6 +18,7 @@ pub mod GrammarBegins
 pub mod GrammarRefusals
 pub mod GrammarOneRefusal
 pub mod GrammarNames
+pub mod TaskNames
 pub mod GrammarExampleProofs
 pub mod TypingExampleProofs
 pub mod TypingFaultsLemmas
