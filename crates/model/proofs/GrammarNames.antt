@@ -1,5 +1,5 @@
--- The names of a file's tree are words of the file: what passes as each of its names passes as the names of the tree's
--- actions, constants and objects.
+-- The names that stand in a file's tree are names among its words: where each name among the words passes a test, so do
+-- those of the tree's actions, constants and objects.
 use Rattle.std.proofs.Common.{◌≡◌, Bool, true, false, ◌&&◌, cond, List, [], ◌∷◌, fold, Option, None, Some, refl, ◌∙◌, ap, subst}
 use Rattle.std.specs.Prelude.{⊤}
 use Rattle.std.specs.List.{list_all}
@@ -83,6 +83,7 @@ module _ (passes : Name → Bool) where
   with_name_passes n [] here later = λ i. here i && true
   with_name_passes n (g ∷ groups) here later = λ i. here i && later i
 
+  -- what follows a name of a typed list, one within a group, and an action's name
   typed_keeps : (o : Option Name) → option_map_or passes o true ≡ true → KeepsAfter (typed names) (option_map (group_after names) o)
   typed_keeps None h = tt
   typed_keeps (Some n) h = λ gs later. with_name_passes n gs h later
@@ -105,6 +106,7 @@ module _ (passes : Name → Bool) where
   name_from a [] = refl
   name_from a (p ∷ ps) = name_from (with_part a p) ps ∙ name_with a p
 
+  -- the productions of sections, of one and of a file's
   section_keeps : (f : File) (k : SectionKeyword) (others : List SectionKeyword) (j : SectionKeyword) → Keeps (section f k others) (section_after j)
   section_keeps f k others words.requirements = λ _ _. tt
   section_keeps f k others words.types = λ gs _. tt

@@ -18,7 +18,6 @@ pub mod GrammarBegins
 pub mod GrammarRefusals
 pub mod GrammarOneRefusal
 pub mod GrammarNames
-pub mod TaskNames
 pub mod GrammarExampleProofs
 pub mod TypingExampleProofs
 pub mod TypingFaultsLemmas
@@ -31,3 +30,4 @@ pub mod PlanExampleProofs
 pub mod CertificateExampleProofs
 pub mod PlanWritingLemmas
 pub mod PlanWritingExampleProofs
+pub mod TaskNames

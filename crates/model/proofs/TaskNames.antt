@@ -1,6 +1,6 @@
 -- The names of each task that files make can be written and read back: they are names of words, folded to lower case,
 -- and no two are the same, since a name that is declared twice is a fault.
-use Rattle.std.proofs.Common.{◌≡◌, ℕ, ◌+◌, ◌≤◌, inl, inr, Bool, true, false, not, ◌&&◌, List, [], ◌∷◌, length, map, None, Some, refl, sym, ap, ◌∙◌, subst, arith}
+use Rattle.std.proofs.Common.{◌≡◌, ℕ, ◌+◌, ◌≤◌, inl, inr, Bool, true, false, not, ◌&&◌, List, [], ◌∷◌, length, map, Some, refl, sym, ap, ◌∙◌, subst, arith}
 use Rattle.std.specs.Prelude.{IsTrue, nat_le, if◌then◌else◌}
 use Rattle.std.specs.Char.{is_ascii_alphabetic, to_ascii_lowercase}
 use Rattle.std.specs.Cmp.Lexicographic.{same_text}
@@ -13,7 +13,7 @@ use Rattle.std.proofs.lemmas.List.{length-map}
 use Rattle.std.proofs.lemmas.List.Folds.{list_all-append, Any-from_list_any}
 use Rattle.std.proofs.lemmas.Simd.{map-map}
 use Rattle.std.proofs.lemmas.Str.Ascii.{lowercase-lowercase}
-use Rattle.model.specs.Words.{Word, Kind, Form, Part, form, bytes, size, is_name, is_name_byte, is_marked_name, is_number, is_only, kind_of_run, kind_by, longest_run, IsWordAt, AreGapsAndWords, ReadsAs}
+use Rattle.model.specs.Words.{Word, Kind, Form, Part, form, bytes, size, is_name, is_name_byte, kind_by, longest_run, IsWordAt, AreGapsAndWords}
 use Rattle.model.specs.Words as words
 use Rattle.model.specs.Trees.{File, domain_file, problem_file, Group, Action, Domain, Problem, names_of}
 use Rattle.model.specs.Trees as tree
@@ -33,6 +33,7 @@ use Rattle.model.proofs.TypingFaultsRepeats.{repeated_first, repeated_later}
 
 -- ---- a name in lower case
 
+-- a letter stays one in lower case, a byte of a name too, and so a name
 lower_letter : (byte : ℕ) → is_ascii_alphabetic byte ≡ true → is_ascii_alphabetic (to_ascii_lowercase byte) ≡ true
 lower_letter byte letter = grind (arith, nat_tests)
 
@@ -46,6 +47,7 @@ lower_is_name (byte ∷ others) h =
     let rest = passes_map is_name_byte to_ascii_lowercase others ∙ passes_weaker is_name_byte (λ b. is_name_byte (to_ascii_lowercase b)) lower_name_byte others both.1 in
     λ i. lower_letter byte both.0 i && rest i
 
+-- what is in lower case stays as it is
 lower_stays : (text : List ℕ) → map to_ascii_lowercase (map to_ascii_lowercase text) ≡ map to_ascii_lowercase text
 lower_stays [] = refl
 lower_stays (byte ∷ text) = λ i. lowercase-lowercase byte i ∷ lower_stays text i
@@ -71,17 +73,9 @@ named_run words.comment text e = absurd (cc)
 named_run words.opening text e = absurd (cc)
 named_run words.closing text e = absurd (cc)
 named_run words.stray text e = absurd (cc)
-named_run words.run text e = (refl, by_tests (is_name text) (is_marked_name 63 text) (is_marked_name 58 text) (is_number text) (is_only 45 text) (is_only 61 text) e)
-  where
-    by_tests : (a b c d m n : Bool) → (if a then Some words.name else (if b then Some words.variable else (if c then Some words.keyword else (if d then Some words.number else (if m then Some words.dash else (if n then Some words.equals else None)))))) ≡ Some words.name → a ≡ true
-    by_tests true b c d m n e = refl
-    by_tests false true c d m n e = absurd (cc)
-    by_tests false false true d m n e = absurd (cc)
-    by_tests false false false true m n e = absurd (cc)
-    by_tests false false false false true n e = absurd (cc)
-    by_tests false false false false false true e = absurd (cc)
-    by_tests false false false false false false e = absurd (cc)
+named_run words.run text e = (refl, grind arith)
 
+-- the name that a token is made of is the token's
 named_keeps : (text : List ℕ) (n : tree.Name) → name_in (named text n) ≡ Some n
 named_keeps text n = grind arith
 
@@ -107,6 +101,7 @@ word_named start part w at = by_kind w.kind refl
     by_kind words.opens is = refl
     by_kind words.closes is = refl
 
+-- each word of a text, from any offset on
 words_named : (start : ℕ) (parts : List Part) (ws : List Word) → AreGapsAndWords start parts ws → list_all (word_passes has_lower_name) (tokens_of ws) ≡ true
 words_named start [] ws none = ap (λ vs. list_all (word_passes has_lower_name) (tokens_of vs)) none
 words_named start (part ∷ parts) [] in_turn = refl
@@ -130,6 +125,7 @@ first_differs v ws none = by_test (list_any (is_same (folded_word v)) (map folde
         let text : folded_word v ≡ folded_word there.0 = same_text (folded_word v) same.1 (sym same.4) ∙ sym there.2 in
         absurd (none there.0 (repeated_first v ws there.0 there.1 (ap (is_same (folded_word there.0)) text ∙ nat_list_eq_equiv.refl (folded_word there.0))))
 
+-- where no word is repeated the names differ
 differ_unrepeated : (ws : List Placed) → ((w : Placed) → IsRepeated ws w → ⊥) → differ (map folded_word ws) ≡ true
 differ_unrepeated [] none = refl
 differ_unrepeated (v ∷ ws) none =
