@@ -17,6 +17,7 @@ pub mod GrammarStops
 pub mod GrammarBegins
 pub mod GrammarRefusals
 pub mod GrammarOneRefusal
+pub mod GrammarNames
 pub mod GrammarExampleProofs
 pub mod TypingExampleProofs
 pub mod TypingFaultsLemmas
@@ -29,3 +30,4 @@ pub mod PlanExampleProofs
 pub mod CertificateExampleProofs
 pub mod PlanWritingLemmas
 pub mod PlanWritingExampleProofs
+pub mod TaskNames

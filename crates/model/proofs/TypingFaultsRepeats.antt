@@ -65,25 +65,11 @@ known_with-new before new name same =
 
 -- ---- from the list
 
--- what is repeated later
-again_there : (before : List task.Name) (v : Placed) (rest : List Placed) (w : Placed) → (Contains rest w × (is_known (with_name before v.word) w.word ≡ true)) ⊎ IsRepeated rest w
-    → (Contains (v ∷ rest) w × (is_known before w.word ≡ true)) ⊎ IsRepeated (v ∷ rest) w
-again_there before v rest w (inr r) = inr (record {
-  before = v ∷ r.before;
-  after = r.after;
-  stands = ap (λ ws. v ∷ ws) r.stands;
-  earlier = r.earlier;
-  is_before = Contains-there v r.before r.earlier r.is_before;
-  is_same = r.is_same;
-})
-again_there before v rest w (inl (at, known)) =
-    elim (known_with-cases before v.word w.word known) [
-      | inl earlier ↦ inl (Contains-there v rest w at, earlier)
-      | inr same ↦ inr (after_first (split rest w at) same)
-    ]
-  where
-    after_first : Split rest w → is_same (folded w.word) (folded v.word) ≡ true → IsRepeated (v ∷ rest) w
-    after_first s same = record {
+-- a word that is the same as the first
+pub repeated_first : (v : Placed) (rest : List Placed) (w : Placed) → Contains rest w → is_same (folded w.word) (folded v.word) ≡ true → IsRepeated (v ∷ rest) w
+repeated_first v rest w at same =
+    let s = split rest w at in
+    record {
       before = v ∷ s.before;
       after = s.after;
       stands = ap (λ ws. v ∷ ws) s.stands;
@@ -91,6 +77,26 @@ again_there before v rest w (inl (at, known)) =
       is_before = Contains-here v s.before;
       is_same = same;
     }
+
+-- what is repeated later
+pub repeated_later : (v : Placed) (rest : List Placed) (w : Placed) → IsRepeated rest w → IsRepeated (v ∷ rest) w
+repeated_later v rest w r = record {
+  before = v ∷ r.before;
+  after = r.after;
+  stands = ap (λ ws. v ∷ ws) r.stands;
+  earlier = r.earlier;
+  is_before = Contains-there v r.before r.earlier r.is_before;
+  is_same = r.is_same;
+}
+
+again_there : (before : List task.Name) (v : Placed) (rest : List Placed) (w : Placed) → (Contains rest w × (is_known (with_name before v.word) w.word ≡ true)) ⊎ IsRepeated rest w
+    → (Contains (v ∷ rest) w × (is_known before w.word ≡ true)) ⊎ IsRepeated (v ∷ rest) w
+again_there before v rest w (inr r) = inr (repeated_later v rest w r)
+again_there before v rest w (inl (at, known)) =
+    elim (known_with-cases before v.word w.word known) [
+      | inl earlier ↦ inl (Contains-there v rest w at, earlier)
+      | inr same ↦ inr (repeated_first v rest w at same)
+    ]
 
 -- the first word, where it is listed
 first_again : (before : List task.Name) (v w : Placed) → Contains (if is_known before v.word then v ∷ [] else []) w → (v ≡ w) × (is_known before v.word ≡ true)

@@ -1,0 +1,171 @@
+-- The names of each task that files make can be written and read back: they are names of words, folded to lower case,
+-- and no two are the same, since a name that is declared twice is a fault.
+use Rattle.std.proofs.Common.{◌≡◌, ℕ, ◌+◌, ◌≤◌, inl, inr, Bool, true, false, not, ◌&&◌, List, [], ◌∷◌, length, map, Some, refl, sym, ap, ◌∙◌, subst, arith}
+use Rattle.std.specs.Prelude.{IsTrue, nat_le, if◌then◌else◌}
+use Rattle.std.specs.Char.{is_ascii_alphabetic, to_ascii_lowercase}
+use Rattle.std.specs.Cmp.Lexicographic.{same_text}
+use Rattle.std.specs.List.{list_all, list_any}
+use Rattle.std.specs.Option.{option_map_or}
+use Rattle.std.proofs.lemmas.Bool.{and_parts, le-leb}
+use Rattle.std.proofs.lemmas.Bool.Decides.{nat_tests}
+use Rattle.std.proofs.lemmas.Cmp.{nat_list_eq_equiv}
+use Rattle.std.proofs.lemmas.List.{length-map}
+use Rattle.std.proofs.lemmas.List.Folds.{list_all-append, Any-from_list_any}
+use Rattle.std.proofs.lemmas.Simd.{map-map}
+use Rattle.std.proofs.lemmas.Str.Ascii.{lowercase-lowercase}
+use Rattle.model.specs.Words.{Word, Kind, Form, Part, form, bytes, size, is_name, is_name_byte, kind_by, longest_run, IsWordAt, AreGapsAndWords}
+use Rattle.model.specs.Words as words
+use Rattle.model.specs.Trees.{File, domain_file, problem_file, Group, Action, Domain, Problem, names_of}
+use Rattle.model.specs.Trees as tree
+use Rattle.model.specs.GrammarWords.{number, large_number, number_of_digits, name_from, named, token_from, token_of, tokens_of}
+use Rattle.model.specs.Limits.{max_number}
+use Rattle.model.specs.Grammar.{name_in}
+use Rattle.model.specs.Task.{Name, Object, Schema, Task}
+use Rattle.model.specs.Resolution.{folded, is_same, Declared, declared, declared_in_group, declared_objects, type_names, object_in, known_in_domain, schema_in, task_of_trees, Placed, placed, words_of}
+use Rattle.model.specs.TypingFaults.{IsRepeated, IsWellTyped, action_words, of_objects, of_actions, object_again, action_again}
+use Rattle.model.specs.PlanText.{schema_names, object_names}
+use Rattle.model.specs.PlanWriting.{is_lower_name, differ, are_lower_names, has_names}
+use Rattle.model.specs.Files.{IsTaskOf}
+use Rattle.model.proofs.GrammarNames.{word_passes, GroupsPass, ActionsPass, domain_passes, problem_passes}
+use Rattle.model.proofs.ListLemmas.{map-Contains}
+use Rattle.model.proofs.Tests.{passes_map, passes_weaker}
+use Rattle.model.proofs.TypingFaultsRepeats.{repeated_first, repeated_later}
+
+-- ---- a name in lower case
+
+-- a letter stays one in lower case, a byte of a name too, and so a name
+lower_letter : (byte : ℕ) → is_ascii_alphabetic byte ≡ true → is_ascii_alphabetic (to_ascii_lowercase byte) ≡ true
+lower_letter byte letter = grind (arith, nat_tests)
+
+lower_name_byte : (byte : ℕ) → is_name_byte byte ≡ true → is_name_byte (to_ascii_lowercase byte) ≡ true
+lower_name_byte byte h = grind (arith, nat_tests)
+
+lower_is_name : (text : List ℕ) → is_name text ≡ true → is_name (map to_ascii_lowercase text) ≡ true
+lower_is_name [] h = h
+lower_is_name (byte ∷ others) h =
+    let both = and_parts (is_ascii_alphabetic byte) (list_all is_name_byte others) h in
+    let rest = passes_map is_name_byte to_ascii_lowercase others ∙ passes_weaker is_name_byte (λ b. is_name_byte (to_ascii_lowercase b)) lower_name_byte others both.1 in
+    λ i. lower_letter byte both.0 i && rest i
+
+-- what is in lower case stays as it is
+lower_stays : (text : List ℕ) → map to_ascii_lowercase (map to_ascii_lowercase text) ≡ map to_ascii_lowercase text
+lower_stays [] = refl
+lower_stays (byte ∷ text) = λ i. lowercase-lowercase byte i ∷ lower_stays text i
+
+-- a name that is no longer than a run may be
+lower_name : (text : List ℕ) → is_name text ≡ true → length text ≤ longest_run → is_lower_name (map to_ascii_lowercase text) ≡ true
+lower_name text named short =
+    let lower = map to_ascii_lowercase text in
+    let same : is_same (map to_ascii_lowercase lower) lower ≡ true = ap (λ n. is_same n lower) (lower_stays text) ∙ nat_list_eq_equiv.refl lower in
+    let within : nat_le (length lower) longest_run ≡ true = le-leb (length lower) longest_run (omega (arith, length-map text to_ascii_lowercase)) in
+    λ i. (lower_is_name text named i && same i) && within i
+
+-- ---- the names among words
+
+-- a name of a tree whose bytes, folded, are a name in lower case
+abbrev has_lower_name : tree.Name → Bool
+has_lower_name n = is_lower_name (folded n)
+
+-- a part that is a word of kind name is a run, and a name
+named_run : (f : Form) (text : List ℕ) → kind_by f text ≡ Some words.name → (f ≡ words.run) × (is_name text ≡ true)
+named_run words.blank text e = absurd (cc)
+named_run words.comment text e = absurd (cc)
+named_run words.opening text e = absurd (cc)
+named_run words.closing text e = absurd (cc)
+named_run words.stray text e = absurd (cc)
+named_run words.run text e = (refl, grind arith)
+
+-- the name that a token is made of is the token's
+named_keeps : (text : List ℕ) (n : tree.Name) → name_in (named text n) ≡ Some n
+named_keeps text n = grind arith
+
+-- a word of a text that is a name, folded, is a name in lower case
+word_named : (start : ℕ) (part : Part) (w : Word) → IsWordAt start part w → word_passes has_lower_name (token_of w) ≡ true
+word_named start part w at = by_kind w.kind refl
+  where
+    number_named : (b : Bool) (n : ℕ) (name : tree.Name) → word_passes has_lower_name (if b then number n name else large_number) ≡ true
+    number_named true n name = refl
+    number_named false n name = refl
+
+    by_kind : (k : Kind) → w.kind ≡ k → word_passes has_lower_name (token_from k (map to_ascii_lowercase w.text) (name_from w)) ≡ true
+    by_kind words.name is =
+        let run = named_run (form part) (bytes part) (at.kind ∙ ap Some is) in
+        let short : length w.text ≤ longest_run = subst (λ text. length text ≤ longest_run) (sym at.text) (at.short run.0) in
+        ap (λ o. option_map_or has_lower_name o true) (named_keeps (map to_ascii_lowercase w.text) (name_from w))
+        ∙ lower_name w.text (ap is_name at.text ∙ run.1) short
+    by_kind words.variable is = refl
+    by_kind words.keyword is = refl
+    by_kind words.number is = number_named (nat_le (number_of_digits (map to_ascii_lowercase w.text)) max_number) _ _
+    by_kind words.dash is = refl
+    by_kind words.equals is = refl
+    by_kind words.opens is = refl
+    by_kind words.closes is = refl
+
+-- each word of a text, from any offset on
+words_named : (start : ℕ) (parts : List Part) (ws : List Word) → AreGapsAndWords start parts ws → list_all (word_passes has_lower_name) (tokens_of ws) ≡ true
+words_named start [] ws none = ap (λ vs. list_all (word_passes has_lower_name) (tokens_of vs)) none
+words_named start (part ∷ parts) [] in_turn = refl
+words_named start (part ∷ parts) (w ∷ ws) (inl (gap, rest)) = words_named (start + size part) parts (w ∷ ws) rest
+words_named start (part ∷ parts) (w ∷ ws) (inr (at, rest)) = λ i. word_named start part w at i && words_named (start + size part) parts ws rest i
+
+-- ---- names that differ
+
+abbrev folded_word : Placed → Name
+folded_word w = folded w.word
+
+-- where no word is repeated, none is the same as the first
+first_differs : (v : Placed) (ws : List Placed) → ((w : Placed) → IsRepeated (v ∷ ws) w → ⊥) → not (list_any (is_same (folded_word v)) (map folded_word ws)) ≡ true
+first_differs v ws none = by_test (list_any (is_same (folded_word v)) (map folded_word ws)) refl
+  where
+    by_test : (b : Bool) → list_any (is_same (folded_word v)) (map folded_word ws) ≡ b → not b ≡ true
+    by_test false e = refl
+    by_test true e =
+        let same = Any-from_list_any (is_same (folded_word v)) (map folded_word ws) e in
+        let there = map-Contains folded_word ws same.1 (same.0, same.2, same.3) in
+        let text : folded_word v ≡ folded_word there.0 = same_text (folded_word v) same.1 (sym same.4) ∙ sym there.2 in
+        absurd (none there.0 (repeated_first v ws there.0 there.1 (ap (is_same (folded_word there.0)) text ∙ nat_list_eq_equiv.refl (folded_word there.0))))
+
+-- where no word is repeated the names differ
+differ_unrepeated : (ws : List Placed) → ((w : Placed) → IsRepeated ws w → ⊥) → differ (map folded_word ws) ≡ true
+differ_unrepeated [] none = refl
+differ_unrepeated (v ∷ ws) none =
+    let later = differ_unrepeated ws (λ w r. none w (repeated_later v ws w r)) in
+    λ i. first_differs v ws none i && later i
+
+-- words whose names, folded, are in lower case, and of which none is repeated
+names_of_words : (ws : List Placed) → list_all (λ (w : Placed). has_lower_name w.word) ws ≡ true → ((w : Placed) → IsRepeated ws w → ⊥) → are_lower_names (map folded_word ws) ≡ true
+names_of_words ws named none = let lower = passes_map is_lower_name folded_word ws ∙ named in λ i. lower i && differ_unrepeated ws none i
+
+-- ---- the task's names
+
+-- what a file's typed lists declare
+declared_named : (file : File) (groups : List Group) → list_all has_lower_name (names_of groups) ≡ true → list_all (λ (x : Declared). has_lower_name x.name) (declared file groups) ≡ true
+declared_named file [] named = refl
+declared_named file (g ∷ groups) named =
+    let both = and_parts (list_all has_lower_name g.names) (list_all has_lower_name (names_of groups)) (sym (list_all-append has_lower_name g.names (names_of groups)) ∙ named) in
+    let here = passes_map (λ (x : Declared). has_lower_name x.name) (λ (n : tree.Name). record { file = file; name = n; types = g.types }) g.names ∙ both.0 in
+    list_all-append (λ (x : Declared). has_lower_name x.name) (declared_in_group file g) (declared file groups) ∙ (λ i. here i && declared_named file groups both.1 i)
+
+module _ (d : Domain) (p : Problem) (well_typed : IsWellTyped d p) where
+  objects_named : GroupsPass has_lower_name d.constants → GroupsPass has_lower_name p.objects → are_lower_names (object_names (task_of_trees d p)) ≡ true
+  objects_named constants objects =
+      let xs = declared_objects d p in
+      let all = list_all-append (λ (x : Declared). has_lower_name x.name) (declared domain_file d.constants) (declared problem_file p.objects) ∙ (λ i. declared_named domain_file d.constants constants i && declared_named problem_file p.objects objects i) in
+      let named = passes_map (λ (w : Placed). has_lower_name w.word) (λ (x : Declared). placed x.file x.name) xs ∙ all in
+      let same : map (λ (o : Object). o.name) (map (object_in (type_names d)) xs) ≡ map folded_word (words_of xs) = map-map _ _ xs ∙ sym (map-map _ _ xs) in
+      ap are_lower_names same ∙ names_of_words (words_of xs) named (λ w r. well_typed of_objects 16 w (object_again w r))
+
+  schemas_named : ActionsPass has_lower_name d.actions → are_lower_names (schema_names (task_of_trees d p)) ≡ true
+  schemas_named actions =
+      let named = passes_map (λ (w : Placed). has_lower_name w.word) (λ (a : Action). placed domain_file a.name) d.actions ∙ actions in
+      let same : map (λ (s : Schema). s.name) (map (schema_in (known_in_domain d)) d.actions) ≡ map folded_word (action_words d) = map-map _ _ d.actions ∙ sym (map-map _ _ d.actions) in
+      ap are_lower_names same ∙ names_of_words (action_words d) named (λ w r. well_typed of_actions 16 w (action_again w r))
+
+-- the names of a task that files make can be written and read back
+pub task_has_names : (domain problem : List ℕ) (task : Task) → IsTaskOf domain problem task → IsTrue (has_names task)
+task_has_names domain problem task is =
+    let d = is.domain_tree in
+    let p = is.problem_tree in
+    let in_domain = domain_passes has_lower_name _ d is.domain_reads.tree (words_named 0 is.domain_reads.reads.parts is.domain_reads.words is.domain_reads.reads.in_turn) in
+    let in_problem = problem_passes has_lower_name _ p is.problem_reads.tree (words_named 0 is.problem_reads.reads.parts is.problem_reads.words is.problem_reads.reads.in_turn) in
+    subst (λ u. has_names u ≡ true) (sym is.resolved) (λ i. schemas_named d p is.well_typed in_domain.1 i && objects_named d p is.well_typed in_domain.0 in_problem i)
