@@ -8,6 +8,7 @@ ghost use Rattle.devices.specs.Devices.{AppendsBeginning, CountsDevice};
 ghost use Rattle.typing.specs.Task.{task_of};
 ghost use Rattle.formulas.specs.State.{instance_of, plan_of};
 ghost use Rattle.model.specs.Task as model;
+ghost use Rattle.model.specs.Files.{IsTaskOf};
 ghost use Rattle.model.specs.Meaning.{is_instance};
 ghost use Rattle.model.specs.PlanText.{IsPlanText};
 ghost use Rattle.model.specs.PlanWriting.{plan_text, step_text, step_line, cost_line, object_text, schema_name, object_name, has_names};
@@ -69,13 +70,14 @@ pub fn step_text(alloc: Global, task: &Task, step: &Instance) -> Result<String, 
 }
 
 /// What the writer writes reads as its list: where a task's names are names and differ, the text of a list of its
-/// instances is that list, unless the text is over 16,777,216 bytes. It is stated of all tasks, lists and costs, and
-/// proved; the call does nothing.
+/// instances is that list, unless the text is over 16,777,216 bytes; and the names of each task of files are such. It is
+/// stated of all tasks, lists and costs, and proved; the call does nothing.
 pub fn written_text_reads_back()
-    ensures { (task : model.Task) (plan : List model.Instance) (cost : ℕ)
+    ensures reads { (task : model.Task) (plan : List model.Instance) (cost : ℕ)
         → IsTrue (has_names task) → IsTrue (list_all (is_instance task) plan)
         → length (plan_text task plan cost) ≤ longest_text
         → IsPlanText task (plan_text task plan cost) plan }
+    ensures names { (domain problem : List ℕ) (task : model.Task) → IsTaskOf domain problem task → IsTrue (has_names task) }
 {}
 
 /// The worked examples of what is written: small plans with their texts.

@@ -1,12 +1,12 @@
 -- What the program tells, and what it writes to the file of a plan, of a command and of the words that ask for it.
-use Rattle.std.proofs.Common.{◌≡◌, ℕ, List, ◌∙◌, refl, sym, subst}
+use Rattle.std.proofs.Common.{◌≡◌, ℕ, List, ◌∙◌, refl, subst}
 use Rattle.std.specs.Prelude.{Option, Bool, false, IsTrue}
 use Rattle.std.specs.Io.KnownBytes.{Appends}
 use Rattle.devices.specs.Devices.{AppendsBeginning}
 use Rattle.planner_main.specs.declared.program.command.Command.{Command}
 use Rattle.planner_main.specs.Written.{HoldsBeginning}
 use Rattle.planner_main.specs.Report.{is_failure}
-use Rattle.planner_main.specs.Program.{HoldsPlan, HoldsPlanPartly, AreKept, IsToldPartly, nothing, in_the_file, on_the_output, IsAnswer, IsAnswerFor, IsFileOf, NamesPlanFile, Tells, TellsPartly, TellsFor, TellsPartlyFor, Asks}
+use Rattle.planner_main.specs.Program.{HoldsPlan, HoldsPlanPartly, AreKept, nothing, in_the_file, on_the_output, IsAnswerFor, IsFileOf, NamesPlanFile, Tells, TellsPartly, TellsFor, TellsPartlyFor, Asks}
 use Rattle.planner_main.proofs.ProgramWords.{answer_of_words, answered_status, file_named, names_file}
 
 -- What the file of a plan holds, where the files were the same before.

@@ -114,7 +114,7 @@ not_allowed_last name (a ∷ rest) words states is (as_asked text asked number l
 same_before : (xs ys : List (List ℕ)) (a b : List ℕ) → xs ++ codes "--plan" ∷ a ∷ [] ≡ ys ++ codes "--plan" ∷ b ∷ [] → xs ≡ ys
 same_before xs ys a b same =
     let lengths : length xs ≡ length ys =
-        omega (arith, ap length same, length-append xs (codes "--plan" ∷ a ∷ []), length-append ys (codes "--plan" ∷ b ∷ [])) in
+    omega (arith, ap length same, length-append xs (codes "--plan" ∷ a ∷ []), length-append ys (codes "--plan" ∷ b ∷ [])) in
     sym (take_at xs (codes "--plan" ∷ a ∷ []) (length xs) refl) ∙ ap (take (length xs)) same ∙ take_at ys (codes "--plan" ∷ b ∷ []) (length xs) (sym lengths)
 
 pub none_first : (words others : List (List ℕ)) (name : List ℕ) → words ≡ codes "--plan" ∷ name ∷ others → ((states : ℕ) → AllowsStates others states → ⊥)
@@ -247,7 +247,7 @@ module _ (words : List (List ℕ)) where
   file_named (Validate domain problem plan) asks name named = absurd (not_both _ _ _ _ _ _ _ _ asks named.asks)
   file_named (Solve domain problem limits file) asks name named =
       let same : asks.0.options ≡ named.asks.options =
-          rest_same _ _ _ _ (rest_same _ _ _ _ (rest_same _ _ _ _ (sym asks.0.in_order ∙ named.asks.in_order))) in
+      rest_same _ _ _ _ (rest_same _ _ _ _ (rest_same _ _ _ _ (sym asks.0.in_order ∙ named.asks.in_order))) in
       file_is _ _ _ asks.0.are ∙ ap file_in same ∙ sym (file_is _ _ _ named.asks.are)
 
   pub names_file : (command : Command) → Asks words command → (name : List ℕ) → IsFileOf command name → NamesPlanFile words name

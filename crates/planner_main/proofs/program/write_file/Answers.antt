@@ -1,5 +1,5 @@
-use Rattle.std.proofs.Common.{◌≡◌, ◌≢◌, List, ℕ, ◌∙◌, [], subst, sym}
-use Rattle.std.specs.Prelude.{IfSome, OnOk, Some}
+use Rattle.std.proofs.Common.{◌≡◌, ◌∙◌, subst}
+use Rattle.std.specs.Prelude.{IfSome}
 use Rattle.planner_main.specs.Written.{HoldsBeginning}
 use Rattle.planner_main.proofs.PlanFiles.{written_partly, whole_if_written, others_kept}
 use Rattle.planner_main.proofs.program.write_file.Goals as goal
@@ -10,8 +10,8 @@ returns-in_err-close-clause-partly g c = λ known.
     let made = c.in_ok-output.ensures in
     let named = c.write_all-written.ensures.name ∙ made.named known in
     let closed = subst
-        (λ name. IfSome (g.F.Output.Sink.taken c.write_all-written.new.sink) (HoldsBeginning (g.F.Files.contents c.create.new.self name) (g.F.Files.contents c.close.new.self name)))
-        named (c.close.ensures.beginning known) in
+    (λ name. IfSome (g.F.Output.Sink.taken c.write_all-written.new.sink) (HoldsBeginning (g.F.Files.contents c.create.new.self name) (g.F.Files.contents c.close.new.self name)))
+    named (c.close.ensures.beginning known) in
     written_partly _ _ _ _ _ _ (made.empty known) c.write_all-written.ensures.beginning made.made closed
 
 pub returns-in_err-close-clause-kept : goal.returns-in_err-close-clause-kept
@@ -31,8 +31,8 @@ returns-clause-partly g c = λ known.
     let made = c.in_ok-output.ensures in
     let named = c.write_all-written.ensures.name ∙ made.named known in
     let closed = subst
-        (λ name. IfSome (g.F.Output.Sink.taken c.write_all-written.new.sink) (HoldsBeginning (g.F.Files.contents c.create.new.self name) (g.F.Files.contents c.close.new.self name)))
-        named (c.close.ensures.beginning known) in
+    (λ name. IfSome (g.F.Output.Sink.taken c.write_all-written.new.sink) (HoldsBeginning (g.F.Files.contents c.create.new.self name) (g.F.Files.contents c.close.new.self name)))
+    named (c.close.ensures.beginning known) in
     written_partly _ _ _ _ _ _ (made.empty known) c.write_all-written.ensures.beginning made.made closed
 
 pub returns-clause-kept : goal.returns-clause-kept

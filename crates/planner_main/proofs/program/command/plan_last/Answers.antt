@@ -1,4 +1,4 @@
-use Rattle.std.proofs.Common.{rules, ◌≡◌, ℕ, ◌-◌, suc, arith, List, [], ◌∷◌, ◌++◌, length, take, codes, get_or, ap, subst, ◌∙◌}
+use Rattle.std.proofs.Common.{rules, ◌≡◌, ℕ, ◌-◌, suc, arith, [], ◌∷◌, ◌++◌, length, take, codes, get_or, ap, subst, ◌∙◌}
 use Rattle.std.specs.Str.{bytes_eq}
 use Rattle.planner_main.specs.Program.{texts}
 use Rattle.planner_main.proofs.ProgramWords.{split_last, last_is}
