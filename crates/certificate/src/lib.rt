@@ -6,5 +6,5 @@ mod cert;
 
 pub use cert::{Cert, Claim, MAX_ATOMS, MAX_STATE_LINES, NUMBER_LIMIT, StateLine};
 pub use devices::{
-    Device, DeviceFault, FailsAt, InPieces, Memory, Sink, Source, WriteFault, write_all,
+    Device, DeviceFault, Endless, FailsAt, InPieces, Memory, Sink, Source, WriteFault, write_all,
 };
