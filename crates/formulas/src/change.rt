@@ -17,6 +17,9 @@ use typing::{Effect, EffectLiteral, ObjectId, Task, TypeUnion};
 
 /// The state that the instance, which is one of the task's, leads to, and `None` where it is not applicable.
 /// All conditions are read in the state before, and an atom that is both deleted and added is true afterwards.
+///
+/// # Errors
+/// Memory was refused, which says nothing of the instance.
 pub fn apply(
     _alloc: Global,
     task: &Task,

@@ -35,6 +35,9 @@ pub struct Change<'t> {
 
 /// The changes of the instance, which is one of the task's, in the order of its effect: those of a `forall` for each object
 /// of its variable's types.
+///
+/// # Errors
+/// Memory was refused, which says nothing of the instance.
 pub fn changes<'t>(
     alloc: Global,
     task: &'t Task,
