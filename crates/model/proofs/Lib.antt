@@ -2,9 +2,11 @@ pub mod Atoms
 pub mod ListLemmas
 pub mod Tests
 pub mod ClaimsLemmas
+pub mod BisimulationLemmas
 pub mod InstancesLemmas
 pub mod StaticLemmas
 pub mod SureLiteralsHold
+pub mod ClosedOffLemmas
 pub mod Steps
 pub mod ExampleProofs
 pub mod FormulaExampleProofs

@@ -17,6 +17,11 @@ pub mod Runs
 pub mod Meaning
 pub mod Instances
 pub mod SureLiterals
+pub mod Fluents
+pub mod ClosedOff
+pub mod NumberedAtoms
+pub mod Bisimulation
+pub mod Grounding
 pub mod Claims
 pub mod Certificates
 pub mod CertificateRefusals

@@ -20,3 +20,7 @@ max_variables = 16
 -- the greatest number that is written
 abbrev pub max_number : ℕ
 max_number = 2147483647
+
+-- the most atoms that have numbers once a task is grounded
+abbrev pub max_numbered_atoms : ℕ
+max_numbered_atoms = 1048576
