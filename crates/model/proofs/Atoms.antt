@@ -9,6 +9,7 @@ use Rattle.std.proofs.lemmas.List.Folds.{list_any-append}
 use Rattle.std.specs.FinSet.{contains, from_list, insert, remove, union, difference, contains-from_list, contains-insert, contains-remove, contains-difference, contains-union, same_set, IsAntisymmetric, nat_cmp-IsAntisymmetric, slice_cmp-IsAntisymmetric}
 use Rattle.model.specs.Task.{Atom}
 use Rattle.model.specs.Meaning.{State, atom_cmp, GroundLiteral, adds, deletes, added_by, deleted_by}
+pub use Rattle.model.specs.NumberedAtoms.{stands_in}
 
 abbrev numbers_of : Atom → List ℕ
 numbers_of a = a.predicate ∷ a.objects
@@ -64,9 +65,6 @@ set_of atoms = from_list atoms
 
 abbrev has : State → Atom → Bool
 has s a = contains s a
-
-abbrev pub stands_in : List Atom → Atom → Bool
-stands_in atoms q = list_any (eq_by_cmp atom_cmp q) atoms
 
 has-set_of : (atoms : List Atom) (q : Atom) → has (set_of atoms) q ≡ stands_in atoms q
 has-set_of atoms q = contains-from_list atoms_total atoms q

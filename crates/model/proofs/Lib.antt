@@ -5,6 +5,8 @@ pub mod ClaimsLemmas
 pub mod BisimulationLemmas
 pub mod InstancesLemmas
 pub mod StaticLemmas
+pub mod NumberingLemmas
+pub mod PackedStates
 pub mod SureLiteralsHold
 pub mod ClosedOffLemmas
 pub mod Steps
