@@ -87,13 +87,15 @@ module _ {S A T B : Type 0} (t : System S A) (u : System T B) (same : S → T �
   pub unsolvable_forth : IsUnsolvable t → IsUnsolvable u
   unsolvable_forth never plan' solves = let other = solves_back plan' solves in never other.0 other.2
 
--- what is optimal, and what is unsolvable, is so on both sides
+-- what is optimal, at least so dear, or unsolvable, is so on both sides
 pub solve_alike : {S A T B : Type 0} (t : System S A) (u : System T B) (same : S → T → Type 0) (names : A → B → Type 0) → IsBisimulation t u same names → SolveAlike t u names
 solve_alike t u same names both = record {
   optimal = optimal_forth t u same names both;
   optimal_back = λ plan' optimal.
       let other = optimal_forth u t (flip same) (flip names) (flipped t u same names both) plan' optimal in
       (other.0, flipped_lists names other.0 plan' other.1, other.2);
+  bound = bound_forth t u same names both;
+  bound_back = bound_forth u t (flip same) (flip names) (flipped t u same names both);
   unsolvable = unsolvable_forth t u same names both;
   unsolvable_back = unsolvable_forth u t (flip same) (flip names) (flipped t u same names both);
 }

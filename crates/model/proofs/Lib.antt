@@ -10,6 +10,7 @@ pub mod PackedStates
 pub mod SureLiteralsHold
 pub mod ClosedOffLemmas
 pub mod Steps
+pub mod GroundTaskLemmas
 pub mod ExampleProofs
 pub mod FormulaExampleProofs
 pub mod CertificateRefusalsLemmas

@@ -11,7 +11,7 @@ use Rattle.model.specs.Fluents.{is_fluent, static_atoms, HasInitialStatics}
 use Rattle.model.specs.SureLiterals.{Literal, is_true, is_false, sure}
 use Rattle.model.specs.ClosedOff.{kept_instances, counting_changes, is_unconditional}
 use Rattle.model.specs.NumberedAtoms.{numbered_atoms, number_of, HasNumberedFluents}
-use Rattle.model.specs.Bisimulation.{IsBisimulation}
+use Rattle.model.specs.Bisimulation.{IsBisimulation, SolveAlike}
 
 -- ---- states
 
@@ -122,6 +122,12 @@ abbrev pub GroundTaskIsTheTask : Type 0
 GroundTaskIsTheTask =
     (task : Task) (more : List Atom) → All (λ (a : Atom). IsTrue (is_fluent task a.predicate)) more
     → IsBisimulation (ground_system task (numbered_atoms task more)) (system_of task) (StandsFor task (numbered_atoms task more)) (NamesKept task)
+
+-- So what solves the one solves the other, by the instances that the numbers name.
+abbrev pub GroundTaskSolvesTheTask : Type 0
+GroundTaskSolvesTheTask =
+    (task : Task) (more : List Atom) → All (λ (a : Atom). IsTrue (is_fluent task a.predicate)) more
+    → SolveAlike (ground_system task (numbered_atoms task more)) (system_of task) (NamesKept task)
 
 -- Packed states stand for the states that have the initial static atoms and no fluent atom without a number, and each of
 -- these has one, which is as long as the numbered atoms.
