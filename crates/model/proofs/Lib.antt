@@ -11,8 +11,10 @@ pub mod SureLiteralsHold
 pub mod ClosedOffLemmas
 pub mod Steps
 pub mod GroundTaskLemmas
+pub mod GroundingComputes
 pub mod ExampleProofs
 pub mod FormulaExampleProofs
+pub mod GroundingExampleProofs
 pub mod CertificateRefusalsLemmas
 pub mod PlanReading
 pub mod PlanMeaning

@@ -27,6 +27,7 @@ pub mod Certificates
 pub mod CertificateRefusals
 pub mod Examples
 pub mod FormulaExamples
+pub mod GroundingExamples
 pub mod PlanExamples
 pub mod CertificateExamples
 pub mod PlanText
