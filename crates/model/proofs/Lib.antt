@@ -10,6 +10,7 @@ pub mod PackedStates
 pub mod SureLiteralsHold
 pub mod ClosedOffLemmas
 pub mod Steps
+pub mod EnumerationLemmas
 pub mod GroundTaskLemmas
 pub mod GroundingComputes
 pub mod ExampleProofs
