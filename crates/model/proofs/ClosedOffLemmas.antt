@@ -3,14 +3,13 @@ use Rattle.std.proofs.Common.{◌≡◌, ◌∙◌, ℕ, Bool, true, false, not,
 use Rattle.std.specs.Prelude.{Contains, slice_get, if◌then◌else◌}
 use Rattle.std.specs.List.{list_any, list_all}
 use Rattle.std.specs.Option.{option_map_or, option_and_then}
-use Rattle.std.specs.FinSet.{contains}
 use Rattle.std.proofs.lemmas.Bool.{and_parts, or_cases, cases_Bool, not-true, not-false, false_from_ne_true}
 use Rattle.model.specs.Task.{Formula, Schema, Task, Instance}
-use Rattle.model.specs.Meaning.{State, initial_state, holds, fits, step, after_changes, changes_of, Change}
+use Rattle.model.specs.Meaning.{State, initial_state, holds, fits, step, after_changes, changes_of}
 use Rattle.model.specs.Instances.{all_instances}
 use Rattle.model.specs.Fluents.{is_fluent, HasInitialStatics}
 use Rattle.model.specs.SureLiterals.{Literal, is_true, is_false, are_same, are_different, literal_holds, sure}
-use Rattle.model.specs.ClosedOff.{is_settled, is_closed_off, is_kept, kept_instances, counts, ClosedOffIsNotApplicable, OnlyCountingChangesAreMade}
+use Rattle.model.specs.ClosedOff.{is_settled, is_closed_off, is_kept, kept_instances, ClosedOffIsNotApplicable, OnlyCountingChangesAreMade}
 use Rattle.model.proofs.SureLiteralsHold.{sure_literals_hold}
 use Rattle.model.proofs.ListLemmas.{Contains-filter}
 use Rattle.model.proofs.InstancesLemmas.{Contains-all_instances, is_instance-of_step}

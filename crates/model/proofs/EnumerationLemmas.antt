@@ -1,7 +1,7 @@
 -- Finding the kept instances, part by part: what is found, with what the parts that are left give, is the whole. A part is
 -- a schema, or one of the objects that the next parameter may be.
-use Rattle.std.proofs.Common.{◌≡◌, ◌∙◌, ℕ, zero, suc, ◌+◌, ◌<◌, ◌≤◌, Bool, true, false, not, ◌&&◌, ◌||◌, inl, inr, List, [], ◌∷◌, ◌++◌, map, length, drop, Option, None, Some, refl, sym, ap, subst, arith, append-nil, append_assoc}
-use Rattle.std.specs.Prelude.{slice_get, slice_index, nat_lt, nat_eq, filter, cond, if◌then◌else◌}
+use Rattle.std.proofs.Common.{◌≡◌, ◌∙◌, ℕ, zero, suc, ◌+◌, ◌<◌, ◌≤◌, Bool, true, false, not, ◌&&◌, ◌||◌, inl, inr, List, [], ◌∷◌, ◌++◌, map, length, drop, None, Some, refl, sym, ap, arith, append-nil, append_assoc}
+use Rattle.std.specs.Prelude.{slice_get, slice_index, nat_lt, filter, cond}
 use Rattle.std.specs.List.{list_all, list_any, flat_map}
 use Rattle.std.specs.Option.{option_map_or}
 use Rattle.std.proofs.lemmas.Bool.{and_parts, or_cases, or_left, or_right, ltb-true}
@@ -11,9 +11,9 @@ use Rattle.std.proofs.lemmas.List.Elements.{filter-append}
 use Rattle.model.specs.Task.{Atom, LiftedAtom, Term, variable, object, Formula, Formulas, atom, equal, and, or, imply, exists, forall, no_formula, more_formulas, Schema, Task, Instance}
 use Rattle.model.specs.Task as task_of
 use Rattle.model.specs.Meaning.{object_of, objects_of, ground_atom, initial_state}
-use Rattle.model.specs.Instances.{product, instances_of_schema, instances_from, all_instances}
+use Rattle.model.specs.Instances.{product, instances_of_schema, instances_from}
 use Rattle.model.specs.SureLiterals.{Literal, is_true, is_false, are_same, are_different, literal_holds, sure, sure_not, all_sure}
-use Rattle.model.specs.ClosedOff.{is_settled, is_closed_off, is_kept, kept_instances}
+use Rattle.model.specs.ClosedOff.{is_settled, is_closed_off, is_kept}
 use Rattle.model.proofs.ListLemmas.{drop-here, drop-absent}
 
 -- ---- one part after another

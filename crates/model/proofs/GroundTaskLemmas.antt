@@ -1,8 +1,8 @@
 -- The ground task does what its task does: the atoms that have numbers are fluent, and no other fluent atom ever becomes
 -- true.
-use Rattle.std.proofs.Common.{◌≡◌, ◌∙◌, ℕ, ◌+◌, ◌≤◌, ◌<◌, ◌⊎◌, Bool, true, false, not, ◌&&◌, ◌||◌, inl, inr, List, [], ◌∷◌, ◌++◌, map, length, Option, None, Some, refl, sym, ap, subst, arith, true≢false}
-use Rattle.std.specs.Prelude.{Contains, All, IsTrue, slice_get, nat_lt, cond, filter, if◌then◌else◌}
-use Rattle.std.specs.List.{list_any, flat_map}
+use Rattle.std.proofs.Common.{◌≡◌, ◌∙◌, ℕ, ◌≤◌, ◌<◌, ◌⊎◌, Bool, true, false, not, ◌&&◌, ◌||◌, inl, inr, List, [], ◌∷◌, ◌++◌, map, length, Option, None, Some, refl, sym, ap, true≢false}
+use Rattle.std.specs.Prelude.{All, IsTrue, slice_get, nat_lt, cond, filter, if◌then◌else◌}
+use Rattle.std.specs.List.{flat_map}
 use Rattle.std.specs.Option.{option_map, option_map_or, option_and_then}
 use Rattle.std.specs.Ordering.{eq_by_cmp}
 use Rattle.std.specs.FinSet.{contains, from_list, difference, contains-from_list, contains-union, contains-difference}
@@ -13,7 +13,6 @@ use Rattle.model.specs.Meaning.{State, atom_cmp, initial_state, holds, fits, Gro
 use Rattle.model.specs.Fluents.{touches, is_fluent, HasInitialStatics}
 use Rattle.model.specs.ClosedOff.{kept_instances, counts, counting_changes}
 use Rattle.model.specs.NumberedAtoms.{stands_in, with_atoms, atom_of_literal, touched_by, initial_fluent_atoms, numbered_atoms, are_distinct, HasNumberedFluents}
-use Rattle.model.specs.Bisimulation.{IsBisimulation}
 use Rattle.model.specs.Grounding.{state_of_bits, bits_of_state, ground_step, ground_system, GroundLimit, of_instances, of_atoms, limit_told, StandsFor, NamesKept, GroundTaskIsTheTask, GroundTaskSolvesTheTask, PacksStates}
 use Rattle.model.proofs.Atoms.{atoms_total}
 use Rattle.model.proofs.BisimulationLemmas.{solve_alike}
@@ -120,9 +119,9 @@ filtered-changed p [] q at = absurd (true≢false (sym at))
 filtered-changed p (c ∷ changes) q at =
     elim (p c) as (λ b. stands_in (atoms_of (cond b (c ∷ filter p changes) (filter p changes))) q ≡ true → (eq_by_cmp atom_cmp q (atom_of_literal c.literal) || is_changed q changes) ≡ true) [
       | true ↦ λ some. elim (or_cases (eq_by_cmp atom_cmp q (atom_of_literal c.literal)) (stands_in (atoms_of (filter p changes)) q) some) [
-          | inl here ↦ or_left (eq_by_cmp atom_cmp q (atom_of_literal c.literal)) (is_changed q changes) here
-          | inr later ↦ or_right (eq_by_cmp atom_cmp q (atom_of_literal c.literal)) (is_changed q changes) (filtered-changed p changes q later)
-        ]
+        | inl here ↦ or_left (eq_by_cmp atom_cmp q (atom_of_literal c.literal)) (is_changed q changes) here
+        | inr later ↦ or_right (eq_by_cmp atom_cmp q (atom_of_literal c.literal)) (is_changed q changes) (filtered-changed p changes q later)
+      ]
       | false ↦ λ later. or_right (eq_by_cmp atom_cmp q (atom_of_literal c.literal)) (is_changed q changes) (filtered-changed p changes q later)
     ] at
 
@@ -131,10 +130,10 @@ changed-fluent task i q changed =
     elim (is_fluent task q.predicate) as (λ f. is_fluent task q.predicate ≡ f → f ≡ true) [
       | true ↦ λ _. refl
       | false ↦ λ static. elim (slice_get task.schemas i.schema) as (λ o. slice_get task.schemas i.schema ≡ o → is_changed q (option_map_or (λ (schema : Schema). changes_of task schema.effect i.objects) o []) ≡ true → false ≡ true) [
-          | None ↦ λ _ none. none
-          | Some schema ↦ λ at some.
-              sym (untouched task q schema.effect i.objects (none_of_all (λ (x : Schema). touches q.predicate x.effect) task.schemas i.schema schema static at)) ∙ some
-        ] refl changed
+        | None ↦ λ _ none. none
+        | Some schema ↦ λ at some.
+            sym (untouched task q schema.effect i.objects (none_of_all (λ (x : Schema). touches q.predicate x.effect) task.schemas i.schema schema static at)) ∙ some
+      ] refl changed
     ] refl
 
 pub touched-fluent : (task : Task) (i : Instance) (q : Atom) → stands_in (touched_by task i) q ≡ true → is_fluent task q.predicate ≡ true
@@ -199,9 +198,9 @@ module _ (task : Task) (more : List Atom) where
     numbered-fluent q at =
         elim (or_cases (stands_in more q || stands_in initial_atoms q) (stands_in touched_atoms q) (sym (stands_in-numbered q) ∙ at)) [
           | inl before ↦ elim (or_cases (stands_in more q) (stands_in initial_atoms q) before) [
-              | inl given ↦ All-contains (λ (a : Atom). IsTrue (is_fluent task a.predicate)) more q fluent (stands_in-Contains more q given)
-              | inr start ↦ (and_parts (is_fluent task q.predicate) (contains (initial_state task) q) (sym (stands_in-initial q) ∙ start)).0
-            ]
+            | inl given ↦ All-contains (λ (a : Atom). IsTrue (is_fluent task a.predicate)) more q fluent (stands_in-Contains more q given)
+            | inr start ↦ (and_parts (is_fluent task q.predicate) (contains (initial_state task) q) (sym (stands_in-initial q) ∙ start)).0
+          ]
           | inr touched ↦ let there = flat_map-stands_in (touched_by task) (kept_instances task) q touched in touched-fluent task there.0 q there.2
         ]
 
@@ -254,17 +253,19 @@ pub ground_task_is_the_task : GroundTaskIsTheTask
 ground_task_is_the_task task more fluent = record {
   initial = (packs task more fluent).packed (initial_state task) (λ q static. refl) (initial-numbered task more);
   forth = λ bits s number next stands leads.
-      let there = ground_led task more fluent bits next number leads in
-      (
-        there.0, there.1, there.2,
+      let there = ground_led task more fluent bits next number leads in (
+        there.0,
+        there.1,
+        there.2,
         ap (λ (t : State). step task t there.0) (sym stands) ∙ there.3,
         ap (state_of_bits task (numbered_atoms task more)) (sym there.4) ∙ stands_after task more fluent bits there.1 there.0 there.3,
       );
   back = λ bits s i next stands leads.
       let here : step task (state_of_bits task (numbered_atoms task more) bits) i ≡ Some next = ap (λ (t : State). step task t i) stands ∙ leads in
-      let place = Contains-place (kept_instances task) i (Contains-kept task (state_of_bits task (numbered_atoms task more) bits) next i ((packs task more fluent).statics bits) here) in
-      (
-        place.0, bits_of_state (numbered_atoms task more) next, place.1,
+      let place = Contains-place (kept_instances task) i (Contains-kept task (state_of_bits task (numbered_atoms task more) bits) next i ((packs task more fluent).statics bits) here) in (
+        place.0,
+        bits_of_state (numbered_atoms task more) next,
+        place.1,
         ground_leads task more fluent bits place.0 i next place.1 here,
         stands_after task more fluent bits next i here,
       );

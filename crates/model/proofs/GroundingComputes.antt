@@ -3,7 +3,7 @@ use Rattle.std.specs.Prelude.{◌≡◌, ℕ, Bool, true, false, not, ◌&&◌, 
 use Rattle.std.proofs.Common.{◌∙◌, ap}
 use Rattle.std.specs.List.{list_any, flat_map, filter_map, range_with_len}
 use Rattle.std.specs.Option.{option_map, option_map_or, option_and_then}
-use Rattle.std.specs.FinSet.{contains, contains-from_list}
+use Rattle.std.specs.FinSet.{contains-from_list}
 use Rattle.model.specs.Task.{Atom, Formula, Schema, Task, Instance}
 use Rattle.model.specs.Meaning.{State, initial_state, fits, holds, Change, changes_of, changes_of_instance, after_changes, cost_of, step}
 use Rattle.model.specs.Fluents.{static_atoms}
@@ -11,7 +11,7 @@ use Rattle.model.specs.Instances.{all_instances}
 use Rattle.model.specs.SureLiterals.{Literal, is_true, is_false, are_same, are_different, literal_holds, sure}
 use Rattle.model.specs.ClosedOff.{is_settled, is_closed_off, kept_instances, counting_changes}
 use Rattle.model.specs.NumberedAtoms.{stands_in, with_atoms, atom_of_literal, initial_fluent_atoms, numbered_atoms}
-use Rattle.model.specs.Grounding.{chosen, state_of_bits, bits_of_state, ground_step, ground_system, applicable_numbers, NumberedChange, numbered_change, counting_of_instance, GroundLimit, of_instances, of_atoms, limit_told}
+use Rattle.model.specs.Grounding.{chosen, state_of_bits, bits_of_state, ground_step, ground_system, applicable_numbers, numbered_change, counting_of_instance, of_instances, of_atoms, limit_told}
 use Rattle.model.proofs.Atoms.{atoms_total}
 use Rattle.model.proofs.Steps.{holds_where, true_after, contains-state_after, holds-after}
 

@@ -1,19 +1,16 @@
 -- What the definitions say of the worked examples of grounding.
-use Rattle.std.specs.Prelude.{◌≡◌, ℕ, Bool, true, false, List, [], ◌∷◌, map, slice_get, filter, length, is_some, Option, None, Some, nat_lt, if◌then◌else◌, refl}
+use Rattle.std.specs.Prelude.{◌≡◌, ℕ, Bool, true, false, List, [], ◌∷◌, slice_get, length, Option, None, Some, nat_lt, if◌then◌else◌, refl}
 use Rattle.std.proofs.Common.{◌∙◌, ap}
-use Rattle.std.specs.List.{filter_map, range_with_len}
-use Rattle.std.specs.Option.{option_map, option_map_or, option_and_then}
+use Rattle.std.specs.Option.{option_map, option_and_then}
 use Rattle.model.specs.Task.{Atom, LiftedAtom, variable, Formula, atom, not, Task, Instance}
-use Rattle.model.specs.Meaning.{step, cost_of}
-use Rattle.model.specs.ClosedOff.{is_closed_off, kept_instances}
+use Rattle.model.specs.Meaning.{step}
 use Rattle.model.specs.Fluents.{is_fluent}
-use Rattle.model.specs.NumberedAtoms.{stands_in, numbered_atoms}
-use Rattle.model.specs.Grounding.{state_of_bits, bits_of_state, ground_step, ground_system, applicable_numbers, NumberedChange, numbered_change, counting_of_instance, GroundLimit, of_instances, of_atoms, limit_told}
+use Rattle.model.specs.Grounding.{state_of_bits, bits_of_state, ground_step, ground_system, GroundLimit, of_instances, of_atoms}
 use Rattle.model.specs.Examples.{ground, instance, priced, q, doer, trucks, seen, adds, walk_to}
 use Rattle.model.specs.GroundingExamples.{adding_q, deleting_q, Closes, Keeps, Numbers, Leads, Meets, Tells, unreached, conditional_task, at_places, at_a, AreGrounded}
 use Rattle.model.proofs.PackedStates.{contains-unnumbered}
 use Rattle.model.proofs.Steps.{leads_nowhere}
-use Rattle.model.proofs.GroundingComputes.{closed_off, closed_off-is, kept, kept-is, counting, counting_numbers-is, numbered, numbered-is, limit_told-is, initial-is, cost-is, holds_packed, meets_goal-is, leads_packed, ground_step-is, applicable-is}
+use Rattle.model.proofs.GroundingComputes.{closed_off, closed_off-is, kept, kept-is, counting_numbers-is, numbered, numbered-is, limit_told-is, initial-is, cost-is, holds_packed, meets_goal-is, leads_packed, ground_step-is, applicable-is}
 
 -- where this computes, the definition says so
 

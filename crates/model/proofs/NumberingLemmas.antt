@@ -1,10 +1,10 @@
 -- Lists of atoms that are numbered one after another, each once: what stands in them, and where.
-use Rattle.std.proofs.Common.{◌≡◌, ◌∙◌, ℕ, zero, suc, ◌+◌, ◌≤◌, ◌<◌, ◌⊎◌, inl, inr, Bool, true, false, not, ◌&&◌, ◌||◌, List, [], ◌∷◌, ◌++◌, map, length, drop, take, get_or, Option, None, Some, refl, sym, ap, subst, arith, add-one, append-nil, append_assoc, true≢false}
-use Rattle.std.specs.Prelude.{Contains, slice_get, nat_lt, cond, filter, if◌then◌else◌}
-use Rattle.std.specs.List.{list_any, flat_map, position, position_or_len}
+use Rattle.std.proofs.Common.{◌≡◌, ◌∙◌, ℕ, zero, suc, ◌+◌, ◌≤◌, ◌<◌, inl, inr, Bool, true, false, not, ◌||◌, List, [], ◌∷◌, ◌++◌, length, drop, get_or, None, Some, refl, sym, ap, subst, arith, append-nil, append_assoc, true≢false}
+use Rattle.std.specs.Prelude.{Contains, slice_get, nat_lt, cond, if◌then◌else◌}
+use Rattle.std.specs.List.{flat_map, position_or_len}
 use Rattle.std.specs.Ordering.{eq_by_cmp}
 use Rattle.std.specs.Cmp.{eq_by_cmp_equiv}
-use Rattle.std.proofs.lemmas.Bool.{or_parts, or_from, or_cases, or_left, or_right, and_parts, and_from, cases_Bool, not-true, not-false, not_from_true, not_from_false, false_from_ne_true, lt-ltb, le-ltb}
+use Rattle.std.proofs.lemmas.Bool.{or_parts, or_from, or_cases, or_left, or_right, and_parts, and_from, not-true, false_from_ne_true, lt-ltb, le-ltb}
 use Rattle.std.proofs.lemmas.Option.{slice_get_within, slice_get-get_or}
 use Rattle.std.proofs.lemmas.List.Quantifiers.{position-Some}
 use Rattle.std.proofs.lemmas.List.{length-append, drop_all}
@@ -165,7 +165,7 @@ place_of (x ∷ xs) zero a distinct at =
 place_of (x ∷ xs) (suc n) a distinct at =
     let parts = and_parts (not (stands_in xs x)) (are_distinct xs) distinct in
     let other : eq_by_cmp atom_cmp a x ≡ false = false_from_ne_true (eq_by_cmp atom_cmp a x) (λ same.
-        true≢false (sym (stands_in-got xs n a at) ∙ ap (stands_in xs) (same_atom a x same) ∙ not-true (stands_in xs x) parts.0)) in
+    true≢false (sym (stands_in-got xs n a at) ∙ ap (stands_in xs) (same_atom a x same) ∙ not-true (stands_in xs x) parts.0)) in
     let later : 1 + position_or_len (eq_by_cmp atom_cmp a) xs ≡ suc n = omega (arith, place_of xs n a parts.1 at) in
     ap (λ b. cond (not b) (1 + position_or_len (eq_by_cmp atom_cmp a) xs) 0) other ∙ later
 

@@ -1,7 +1,7 @@
 -- What is true in the state that a packed state stands for. Said of any choice of fluent predicates and any initial atoms,
 -- of which those of a task are one.
-use Rattle.std.proofs.Common.{◌≡◌, ◌∙◌, ℕ, zero, suc, ◌+◌, ◌<◌, Bool, true, false, not, ◌&&◌, ◌||◌, inl, inr, List, [], ◌∷◌, ◌++◌, map, length, get_or, Option, None, Some, refl, sym, ap, subst, arith, true≢false}
-use Rattle.std.specs.Prelude.{Contains, slice_get, filter, if◌then◌else◌}
+use Rattle.std.proofs.Common.{◌≡◌, ◌∙◌, ℕ, zero, suc, ◌<◌, Bool, true, false, not, ◌&&◌, ◌||◌, inl, inr, List, [], ◌∷◌, ◌++◌, length, get_or, Some, refl, sym, ap, arith, true≢false}
+use Rattle.std.specs.Prelude.{slice_get, filter, if◌then◌else◌}
 use Rattle.std.specs.Ordering.{eq_by_cmp}
 use Rattle.std.specs.FinSet.{contains, from_list, contains-from_list}
 use Rattle.std.proofs.lemmas.Bool.{or_cases, or_left, or_right, and_parts, not-true, false_from_ne_true}
@@ -66,7 +66,7 @@ chosen-number (x ∷ atoms) (b ∷ bits) zero a distinct at =
 chosen-number (x ∷ atoms) (b ∷ bits) (suc n) a distinct at =
     let parts = and_parts (not (stands_in atoms x)) (are_distinct atoms) distinct in
     let other : eq_by_cmp atom_cmp a x ≡ false = false_from_ne_true (eq_by_cmp atom_cmp a x) (λ same.
-        true≢false (sym (stands_in-got atoms n a at) ∙ ap (stands_in atoms) (same_atom a x same) ∙ not-true (stands_in atoms x) parts.0)) in
+    true≢false (sym (stands_in-got atoms n a at) ∙ ap (stands_in atoms) (same_atom a x same) ∙ not-true (stands_in atoms x) parts.0)) in
     elim b as (λ b. stands_in (if b then x ∷ chosen atoms bits else chosen atoms bits) a ≡ get_or bits n false) [
       | true ↦ ap (λ v. v || stands_in (chosen atoms bits) a) other ∙ chosen-number atoms bits n a parts.1 at
       | false ↦ chosen-number atoms bits n a parts.1 at

@@ -2,7 +2,7 @@
 -- and what packed states mean. Each is chosen so that a wrong reading says otherwise.
 use Rattle.std.specs.Prelude.{◌≡◌, ℕ, Bool, true, false, List, [], ◌∷◌, Option, None, Some}
 use Rattle.model.specs.Task.{Union, Atom, LiftedAtom, variable, object, Formula, atom, equal, and, or, not, imply, exists, forall, add, delete, Effect, each, when, Task, Instance}
-use Rattle.model.specs.Examples.{formulas, lifted, ground, instance, walk_to, priced, trucks, vehicles, boats, seen, p, q, r, doer, doing, adds, deletes, all, the_truck, the_vehicle}
+use Rattle.model.specs.Examples.{formulas, ground, instance, walk_to, priced, trucks, vehicles, boats, seen, p, q, doer, doing, adds, deletes, all, the_truck, the_vehicle}
 use Rattle.model.specs.ClosedOff.{is_closed_off, kept_instances}
 use Rattle.model.specs.NumberedAtoms.{numbered_atoms, number_of}
 use Rattle.model.specs.Grounding.{ground_step, ground_system, applicable_numbers, NumberedLiteral, literals_of_instance, literals_of_goal, NumberedChange, counting_of_instance, GroundLimit, of_instances, of_atoms, limit_told}
