@@ -6,8 +6,8 @@ use Rattle.model.specs.Task.{Atom, LiftedAtom, variable, Formula, atom, not, Tas
 use Rattle.model.specs.Meaning.{step}
 use Rattle.model.specs.Fluents.{is_fluent}
 use Rattle.model.specs.Grounding.{state_of_bits, bits_of_state, ground_step, ground_system, GroundLimit, of_instances, of_atoms}
-use Rattle.model.specs.Examples.{ground, instance, priced, q, doer, trucks, seen, adds, walk_to}
-use Rattle.model.specs.GroundingExamples.{adding_q, deleting_q, Closes, Keeps, Numbers, Leads, Meets, Tells, unreached, conditional_task, at_places, at_a, AreGrounded}
+use Rattle.model.specs.Examples.{ground, instance, priced, p, q, doer, trucks, seen, adds, walk_to}
+use Rattle.model.specs.GroundingExamples.{adding_q, deleting_q, acting, Closes, Keeps, Numbers, Leads, Meets, Tells, unreached, conditional_task, at_places, at_a, AreGrounded}
 use Rattle.model.proofs.PackedStates.{contains-unnumbered}
 use Rattle.model.proofs.Steps.{leads_nowhere}
 use Rattle.model.proofs.GroundingComputes.{closed_off, closed_off-is, kept, kept-is, counting_numbers-is, numbered, numbered-is, limit_told-is, initial-is, cost-is, holds_packed, meets_goal-is, leads_packed, ground_step-is, applicable-is}
@@ -74,6 +74,9 @@ are_grounded = record {
   not_of_and = closes refl;
   conclusion = closes refl;
   under_exists = closes refl;
+  never_added = closed_off-is (acting [] (atom p) (adds q) []) (atom q) [] ∙ refl;
+  is_not_kept = keeps refl;
+  has_no_atoms = numbers refl;
   any_two = keeps refl;
   two_that_differ = keeps refl;
   initial_fluent = numbers refl;
@@ -88,6 +91,8 @@ are_grounded = record {
   with_a_number = leads refl;
   only_what_counts = numbers refl;
   its_changes = counting_numbers-is conditional_task (ground 0 (0 ∷ []) ∷ ground 0 (1 ∷ []) ∷ ground 0 (2 ∷ []) ∷ []) (instance 0 []) ∙ refl;
+  may_be_made = numbers refl;
+  for_one_object = numbers refl;
   along_roads = keeps refl;
   of_places = numbers refl;
   starts_at_a = initial-is (walk_to 2) at_places ∙ refl;

@@ -2,7 +2,7 @@
 -- and what packed states mean. Each is chosen so that a wrong reading says otherwise.
 use Rattle.std.specs.Prelude.{◌≡◌, ℕ, Bool, true, false, List, [], ◌∷◌, Option, None, Some}
 use Rattle.model.specs.Task.{Union, Atom, LiftedAtom, variable, object, Formula, atom, equal, and, or, not, imply, exists, forall, add, delete, Effect, each, when, Task, Instance}
-use Rattle.model.specs.Examples.{formulas, ground, instance, walk_to, priced, trucks, vehicles, boats, seen, p, q, doer, doing, adds, deletes, all, the_truck, the_vehicle}
+use Rattle.model.specs.Examples.{formulas, ground, instance, walk_to, priced, trucks, vehicles, boats, seen, p, q, r, doer, doing, adds, deletes, all, the_truck, the_vehicle}
 use Rattle.model.specs.ClosedOff.{is_closed_off, kept_instances}
 use Rattle.model.specs.NumberedAtoms.{numbered_atoms, number_of}
 use Rattle.model.specs.Grounding.{ground_step, ground_system, applicable_numbers, NumberedLiteral, literals_of_instance, literals_of_goal, NumberedChange, counting_of_instance, GroundLimit, of_instances, of_atoms, limit_told}
@@ -111,6 +111,10 @@ pub record AreGrounded : Type 0 where
   pub not_of_and : Closes (p ∷ []) (not (and (formulas (atom p ∷ [])))) [] false
   pub conclusion : Closes [] (imply (and (formulas [])) (atom p)) [] false
   pub under_exists : Closes [] (exists trucks (atom p)) [] false
+  -- What an action adds is fluent, also where its one instance is closed off; that instance's atoms have no numbers.
+  pub never_added : is_closed_off (acting [] (atom p) (adds q) []) (atom q) [] ≡ false
+  pub is_not_kept : Keeps (acting [] (atom p) (adds q) []) []
+  pub has_no_atoms : Numbers (acting [] (atom p) (adds q) []) [] []
   -- Two parameters may have one object; where they must differ, those instances are closed off, and the others keep their
   -- order.
   pub any_two : Keeps (of_two (and (formulas []))) (instance 0 (0 ∷ 0 ∷ []) ∷ instance 0 (0 ∷ 1 ∷ []) ∷ instance 0 (1 ∷ 0 ∷ []) ∷ instance 0 (1 ∷ 1 ∷ []) ∷ [])
@@ -138,6 +142,9 @@ pub record AreGrounded : Type 0 where
   pub only_what_counts : Numbers conditional_task [] (ground 0 (0 ∷ []) ∷ ground 0 (1 ∷ []) ∷ ground 0 (2 ∷ []) ∷ [])
   pub its_changes : counting_of_instance conditional_task (ground 0 (0 ∷ []) ∷ ground 0 (1 ∷ []) ∷ ground 0 (2 ∷ []) ∷ []) (instance 0 [])
       ≡ becomes 0 true true ∷ becomes 1 false false ∷ becomes 2 false true ∷ []
+  -- One that may be made later counts, and of a `forall` those for the objects for which it may be made, each in its place.
+  pub may_be_made : Numbers (doing [] (all (when (atom q) (add r ∷ []) ∷ adds q ∷ [])) [] []) [] (ground 3 [] ∷ ground 2 [] ∷ [])
+  pub for_one_object : Numbers (doing [] (each vehicles (when (equal (variable 0) the_vehicle) (add (seen (variable 0)) ∷ []))) [] []) [] (ground 0 (1 ∷ []) ∷ [])
   -- Of the walk to c the moves along roads are kept, and the atoms of places have numbers, the place at the start the first.
   pub along_roads : Keeps (walk_to 2) (instance 0 (0 ∷ 0 ∷ []) ∷ instance 0 (0 ∷ 1 ∷ []) ∷ instance 0 (1 ∷ 2 ∷ []) ∷ [])
   pub of_places : Numbers (walk_to 2) [] at_places
