@@ -61,10 +61,10 @@ numbered task more = with_atoms [] (more ++ initial_fluent_atoms task ++ flat_ma
 pub numbered-is : (task : Task) (more : List Atom) → numbered_atoms task more ≡ numbered task more
 numbered-is task more = λ i. with_atoms [] (more ++ initial_fluent_atoms task ++ flat_map (λ j. atoms_of (counting-is task j i)) (kept-is task i))
 
-pub limit_told-is : (most_instances most_atoms : ℕ) (task : Task) (more : List Atom)
-    → limit_told most_instances most_atoms task more ≡ (if nat_lt most_instances (length (kept task)) then Some of_instances else if nat_lt most_atoms (length (numbered task more)) then Some of_atoms else None)
-limit_told-is most_instances most_atoms task more =
-    λ i. if nat_lt most_instances (length (kept-is task i)) then Some of_instances else if nat_lt most_atoms (length (numbered-is task more i)) then Some of_atoms else None
+pub limit_told-is : (max_instances max_atoms : ℕ) (task : Task) (more : List Atom)
+    → limit_told max_instances max_atoms task more ≡ (if nat_lt max_instances (length (kept task)) then Some of_instances else if nat_lt max_atoms (length (numbered task more)) then Some of_atoms else None)
+limit_told-is max_instances max_atoms task more =
+    λ i. if nat_lt max_instances (length (kept-is task i)) then Some of_instances else if nat_lt max_atoms (length (numbered-is task more i)) then Some of_atoms else None
 
 -- ---- what packed states mean
 

@@ -13,6 +13,7 @@ pub mod Steps
 pub mod EnumerationLemmas
 pub mod GroundTaskLemmas
 pub mod GroundingComputes
+pub mod PackedSteps
 pub mod ExampleProofs
 pub mod FormulaExampleProofs
 pub mod GroundingExampleProofs

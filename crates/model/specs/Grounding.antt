@@ -1,12 +1,12 @@
 -- The ground task: a planning task seen through numbers, those of its atoms and of its kept instances. A packed state is
 -- one bit for each numbered atom, and each step is the task's own.
-use Rattle.std.specs.Prelude.{◌≡◌, ℕ, Bool, true, false, nat_lt, IsTrue, List, [], ◌∷◌, ◌++◌, map, filter, length, slice_get, if◌then◌else◌, Option, None, Some, is_some, All}
-use Rattle.std.specs.List.{filter_map, range_with_len}
+use Rattle.std.specs.Prelude.{◌≡◌, ℕ, Bool, true, false, not, nat_lt, IsTrue, List, [], ◌∷◌, ◌++◌, map, filter, length, slice_get, get_or, if◌then◌else◌, Option, None, Some, is_some, All}
+use Rattle.std.specs.List.{list_all, filter_map, range_with_len}
 use Rattle.std.specs.Option.{option_map, option_map_or, option_and_then}
 use Rattle.std.specs.FinSet.{contains, from_list}
 use Rattle.model.specs.Task.{Atom, Formula, Schema, Task, Instance}
 use Rattle.model.specs.Runs.{System}
-use Rattle.model.specs.Meaning.{State, initial_state, GroundLiteral, adds, deletes, Change, cost_of, step, meets_goal, system_of}
+use Rattle.model.specs.Meaning.{State, initial_state, holds, GroundLiteral, adds, deletes, Change, cost_of, step, meets_goal, system_of}
 use Rattle.model.specs.Fluents.{is_fluent, static_atoms, HasInitialStatics}
 use Rattle.model.specs.SureLiterals.{Literal, is_true, is_false, sure}
 use Rattle.model.specs.ClosedOff.{kept_instances, counting_changes, is_unconditional}
@@ -72,6 +72,10 @@ abbrev pub literals_of_instance : Task → List Atom → Instance → List Numbe
 literals_of_instance task atoms i =
     option_map_or (λ (s : Schema). numbered_literals task atoms s.precondition i.objects) (slice_get task.schemas i.schema) []
 
+-- those of the instance of this number
+abbrev pub literals_of_number : Task → List Atom → ℕ → List NumberedLiteral
+literals_of_number task atoms number = option_map_or (literals_of_instance task atoms) (slice_get (kept_instances task) number) []
+
 -- those of the goal
 abbrev pub literals_of_goal : Task → List Atom → List NumberedLiteral
 literals_of_goal task atoms = numbered_literals task atoms task.goal []
@@ -93,6 +97,14 @@ numbered_change atoms c =
 -- the changes of an instance that count, in order
 abbrev pub counting_of_instance : Task → List Atom → Instance → List NumberedChange
 counting_of_instance task atoms i = filter_map (numbered_change atoms) (counting_changes task i)
+
+-- those of the instance of this number
+abbrev pub counting_of_number : Task → List Atom → ℕ → List NumberedChange
+counting_of_number task atoms number = option_map_or (counting_of_instance task atoms) (slice_get (kept_instances task) number) []
+
+-- the literal's atom is true in the packed state, or false, as the literal says
+abbrev pub agrees : List Bool → NumberedLiteral → Bool
+agrees bits l = if l.value then get_or bits l.atom false else not (get_or bits l.atom false)
 
 -- ---- the limits
 
@@ -136,3 +148,10 @@ pub record PacksStates (task : Task) (atoms : List Atom) : Type 0 where
   pub fluents : (bits : List Bool) → HasNumberedFluents task atoms (state_of_bits task atoms bits)
   pub packed : (state : State) → HasInitialStatics task state → HasNumberedFluents task atoms state → StandsFor task atoms (bits_of_state atoms state) state
   pub one_packed : (bits : List Bool) → length bits ≡ length atoms → bits_of_state atoms (state_of_bits task atoms bits) ≡ bits
+
+-- Where a formula holds in a packed state, the state agrees with its sure literals.
+abbrev pub NumberedLiteralsHold : Type 0
+NumberedLiteralsHold =
+    (task : Task) (more : List Atom) → All (λ (a : Atom). IsTrue (is_fluent task a.predicate)) more
+    → (formula : Formula) (binding : List ℕ) (bits : List Bool) → IsTrue (holds task formula binding (state_of_bits task (numbered_atoms task more) bits))
+    → IsTrue (list_all (agrees bits) (numbered_literals task (numbered_atoms task more) formula binding))
