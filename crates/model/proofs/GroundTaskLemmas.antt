@@ -12,14 +12,14 @@ use Rattle.model.specs.Task.{Atom, Schema, Task, Instance}
 use Rattle.model.specs.Meaning.{State, atom_cmp, initial_state, holds, fits, GroundLiteral, adds, deletes, Change, changes_of, changes_of_instance, literals_in, added_by, deleted_by, after_literals, after_changes, step, meets_goal, cost_of, system_of}
 use Rattle.model.specs.Fluents.{touches, is_fluent, HasInitialStatics}
 use Rattle.model.specs.ClosedOff.{kept_instances, counts, counting_changes}
-use Rattle.model.specs.NumberedAtoms.{stands_in, with_atoms, atom_of_literal, touched_by, initial_fluent_atoms, numbered_atoms, are_distinct, HasNumberedFluents}
-use Rattle.model.specs.Grounding.{state_of_bits, bits_of_state, ground_step, ground_system, GroundLimit, of_instances, of_atoms, limit_told, StandsFor, NamesKept, GroundTaskIsTheTask, GroundTaskSolvesTheTask, PacksStates}
+use Rattle.model.specs.NumberedAtoms.{stands_in, with_atoms, atom_of_literal, touched_by, initial_fluent_atoms, numbered_atoms, are_distinct, AreNumbered, HasNumberedFluents}
+use Rattle.model.specs.Grounding.{state_of_bits, bits_of_state, ground_step, ground_system, GroundLimit, of_instances, of_atoms, limit_told, StandsFor, NamesKept, GroundTaskIsBisimilar, GroundTaskSolvesAlike, PacksStates}
 use Rattle.model.proofs.Atoms.{atoms_total}
 use Rattle.model.proofs.BisimulationLemmas.{solve_alike}
 use Rattle.model.proofs.ListLemmas.{Contains-place}
 use Rattle.model.proofs.StaticLemmas.{is_changed, untouched, none_of_all, contains-step, stands_in-filter}
 use Rattle.model.proofs.ClosedOffLemmas.{only_counting_changes_are_made, Contains-kept}
-use Rattle.model.proofs.NumberingLemmas.{stands_in-append, stands_in-Contains, stands_in-flat_map, flat_map-stands_in, stands_in-with_atoms, distinct-with_atoms, numbered-first}
+use Rattle.model.proofs.NumberingLemmas.{stands_in-append, stands_in-Contains, stands_in-flat_map, stands_in-flat_map_any, flat_map-stands_in, stands_in-with_atoms, distinct-with_atoms, numbered-first}
 use Rattle.model.proofs.PackedStates.{contains-static, contains-fluent, chosen-stands_in, packed-bits_of_state, bits_of-packed_state}
 
 -- ---- what a step changes
@@ -174,6 +174,15 @@ module _ (task : Task) (more : List Atom) where
       append_right [] ys zs = refl
       append_right (x ∷ xs) ys zs = ap (λ l. x ∷ l) (append_right xs ys zs)
 
+  pub are_numbered : AreNumbered task more (numbered_atoms task more)
+  are_numbered = record {
+    once = numbered-distinct;
+    more_first = numbered-more_first;
+    which = λ a.
+        stands_in-numbered a
+        ∙ (λ i. (stands_in more a || stands_in-initial a i) || stands_in-flat_map_any (touched_by task) (kept_instances task) a i);
+  }
+
   -- the fluent atoms that are true at the start have numbers
   pub initial-numbered : HasNumberedFluents task (numbered_atoms task more) (initial_state task)
   initial-numbered q is has =
@@ -249,8 +258,8 @@ module _ (task : Task) (more : List Atom) (fluent : All (λ (a : Atom). IsTrue (
             ] refl some
       ] refl leads
 
-pub ground_task_is_the_task : GroundTaskIsTheTask
-ground_task_is_the_task task more fluent = record {
+pub ground_task_is_bisimilar : GroundTaskIsBisimilar
+ground_task_is_bisimilar task more fluent = record {
   initial = (packs task more fluent).packed (initial_state task) (λ q static. refl) (initial-numbered task more);
   forth = λ bits s number next stands leads.
       let there = ground_led task more fluent bits next number leads in (
@@ -273,9 +282,9 @@ ground_task_is_the_task task more fluent = record {
   costs = λ number i named. ap (λ o. option_map_or (cost_of task) o 0) named;
 }
 
-pub ground_task_solves_the_task : GroundTaskSolvesTheTask
-ground_task_solves_the_task task more fluent =
-    solve_alike (ground_system task (numbered_atoms task more)) (system_of task) (StandsFor task (numbered_atoms task more)) (NamesKept task) (ground_task_is_the_task task more fluent)
+pub ground_task_solves_alike : GroundTaskSolvesAlike
+ground_task_solves_alike task more fluent =
+    solve_alike (ground_system task (numbered_atoms task more)) (system_of task) (StandsFor task (numbered_atoms task more)) (NamesKept task) (ground_task_is_bisimilar task more fluent)
 
 -- ---- the limits
 

@@ -11,7 +11,8 @@ use Rattle.model.specs.Instances.{all_instances}
 use Rattle.model.specs.SureLiterals.{Literal, is_true, is_false, are_same, are_different, literal_holds, sure}
 use Rattle.model.specs.ClosedOff.{is_settled, is_closed_off, kept_instances, counting_changes}
 use Rattle.model.specs.NumberedAtoms.{stands_in, with_atoms, atom_of_literal, initial_fluent_atoms, numbered_atoms}
-use Rattle.model.specs.Grounding.{chosen, state_of_bits, bits_of_state, ground_step, ground_system, applicable_numbers, numbered_change, counting_of_instance, of_instances, of_atoms, limit_told}
+use Rattle.model.specs.NumberedLiterals.{numbered_change, counting_of_instance}
+use Rattle.model.specs.Grounding.{chosen, state_of_bits, bits_of_state, ground_step, ground_system, applicable_numbers, of_instances, of_atoms, limit_told}
 use Rattle.model.proofs.Atoms.{atoms_total}
 use Rattle.model.proofs.Steps.{holds_where, true_after, contains-state_after, holds-after}
 

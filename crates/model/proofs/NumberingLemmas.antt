@@ -1,7 +1,7 @@
 -- Lists of atoms that are numbered one after another, each once: what stands in them, and where.
 use Rattle.std.proofs.Common.{◌≡◌, ◌∙◌, ℕ, zero, suc, ◌+◌, ◌≤◌, ◌<◌, inl, inr, Bool, true, false, not, ◌||◌, List, [], ◌∷◌, ◌++◌, length, drop, get_or, None, Some, refl, sym, ap, subst, arith, append-nil, append_assoc, true≢false}
 use Rattle.std.specs.Prelude.{Contains, slice_get, nat_lt, cond, if◌then◌else◌}
-use Rattle.std.specs.List.{flat_map, position_or_len}
+use Rattle.std.specs.List.{list_any, flat_map, position_or_len}
 use Rattle.std.specs.Ordering.{eq_by_cmp}
 use Rattle.std.specs.Cmp.{eq_by_cmp_equiv}
 use Rattle.std.proofs.lemmas.Bool.{or_parts, or_from, or_cases, or_left, or_right, and_parts, and_from, not-true, false_from_ne_true, lt-ltb, le-ltb}
@@ -62,6 +62,10 @@ flat_map-stands_in f (first ∷ xs) q among =
       | inl here ↦ (first, Contains-here first xs, here)
       | inr later ↦ let rest = flat_map-stands_in f xs q later in (rest.0, Contains-there first xs rest.0 rest.1, rest.2)
     ]
+
+pub stands_in-flat_map_any : {X : Type 0} (f : X → List Atom) (xs : List X) (q : Atom) → stands_in (flat_map f xs) q ≡ list_any (λ x. stands_in (f x) q) xs
+stands_in-flat_map_any f [] q = refl
+stands_in-flat_map_any f (x ∷ xs) q = stands_in-append (f x) (flat_map f xs) q ∙ ap (λ b. stands_in (f x) q || b) (stands_in-flat_map_any f xs q)
 
 -- ---- one atom after another
 

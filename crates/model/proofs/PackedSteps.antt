@@ -1,6 +1,6 @@
 -- What is true of packed states bit by bit: the literals of a formula that holds, and the state after a step.
 use Rattle.std.proofs.Common.{◌≡◌, ◌∙◌, ℕ, Bool, true, false, not, ◌&&◌, ◌||◌, List, [], ◌∷◌, get_or, Option, None, Some, refl, sym, ap}
-use Rattle.std.specs.Prelude.{All, IsTrue, slice_get, if◌then◌else◌}
+use Rattle.std.specs.Prelude.{All, IsTrue, slice_get}
 use Rattle.std.specs.List.{list_all, filter_map, cons_option}
 use Rattle.std.specs.Option.{option_map}
 use Rattle.std.specs.FinSet.{contains}
@@ -8,12 +8,13 @@ use Rattle.std.proofs.lemmas.Bool.{and_parts, and_from}
 use Rattle.std.proofs.lemmas.List.{get_or-map}
 use Rattle.std.proofs.lemmas.Option.{slice_get_within, get_or_from_slice_get}
 use Rattle.model.specs.Task.{Atom, Task, Instance}
-use Rattle.model.specs.Meaning.{State, GroundLiteral, literals_in, added_by, deleted_by, after_literals, step}
+use Rattle.model.specs.Meaning.{State, literals_in, added_by, deleted_by, step}
 use Rattle.model.specs.Fluents.{is_fluent}
 use Rattle.model.specs.SureLiterals.{Literal, is_true, is_false, are_same, are_different, literal_holds, sure}
 use Rattle.model.specs.ClosedOff.{counting_changes}
 use Rattle.model.specs.NumberedAtoms.{stands_in, numbered_atoms, number_of}
-use Rattle.model.specs.Grounding.{state_of_bits, bits_of_state, NumberedLiteral, numbered_literal, agrees, NumberedLiteralsHold}
+use Rattle.model.specs.NumberedLiterals.{NumberedLiteral, numbered_literal, agrees}
+use Rattle.model.specs.Grounding.{state_of_bits, bits_of_state, NumberedLiteralsHold}
 use Rattle.model.proofs.SureLiteralsHold.{sure_literals_hold}
 use Rattle.model.proofs.NumberingLemmas.{stands_in-got, got-number_of}
 use Rattle.model.proofs.PackedStates.{contains-numbered}

@@ -5,7 +5,8 @@ use Rattle.model.specs.Task.{Union, Atom, LiftedAtom, variable, object, Formula,
 use Rattle.model.specs.Examples.{formulas, ground, instance, walk_to, priced, trucks, vehicles, boats, seen, p, q, r, doer, doing, adds, deletes, all, the_truck, the_vehicle}
 use Rattle.model.specs.ClosedOff.{is_closed_off, kept_instances}
 use Rattle.model.specs.NumberedAtoms.{numbered_atoms, number_of}
-use Rattle.model.specs.Grounding.{ground_step, ground_system, applicable_numbers, NumberedLiteral, literals_of_instance, literals_of_goal, NumberedChange, counting_of_instance, GroundLimit, of_instances, of_atoms, limit_told}
+use Rattle.model.specs.NumberedLiterals.{NumberedLiteral, literals_of_instance, literals_of_goal, NumberedChange, counting_of_instance}
+use Rattle.model.specs.Grounding.{ground_step, ground_system, applicable_numbers, GroundLimit, of_instances, of_atoms, limit_told}
 
 -- The objects t and v are vehicles, and t is a truck; there is no boat. Of (:predicates (seen ?x) (p) (q) (r)) the one
 -- action adds q, or deletes it: q is fluent, the others are static. These atoms are true at the start.

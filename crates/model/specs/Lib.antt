@@ -20,6 +20,7 @@ pub mod SureLiterals
 pub mod Fluents
 pub mod ClosedOff
 pub mod NumberedAtoms
+pub mod NumberedLiterals
 pub mod Bisimulation
 pub mod Grounding
 pub mod Claims

@@ -1,10 +1,10 @@
 -- The atoms that have numbers once a task is grounded.
-use Rattle.std.specs.Prelude.{◌≡◌, ℕ, Bool, true, not, ◌&&◌, List, [], ◌∷◌, ◌++◌, map, filter, if◌then◌else◌, Option}
+use Rattle.std.specs.Prelude.{◌≡◌, ℕ, Bool, true, not, ◌&&◌, ◌||◌, List, [], ◌∷◌, ◌++◌, map, filter, if◌then◌else◌, Option}
 use Rattle.std.specs.List.{list_any, flat_map, position}
 use Rattle.std.specs.Ordering.{eq_by_cmp}
 use Rattle.std.specs.FinSet.{contains}
 use Rattle.model.specs.Task.{Atom, Task, Instance}
-use Rattle.model.specs.Meaning.{State, atom_cmp, GroundLiteral, adds, deletes, Change}
+use Rattle.model.specs.Meaning.{State, initial_state, atom_cmp, GroundLiteral, adds, deletes, Change}
 use Rattle.model.specs.Fluents.{is_fluent}
 use Rattle.model.specs.ClosedOff.{kept_instances, counting_changes}
 
@@ -51,3 +51,12 @@ are_distinct (a ∷ rest) = not (stands_in rest a) && are_distinct rest
 -- the fluent atoms that are true in the state have numbers
 abbrev pub HasNumberedFluents : Task → List Atom → State → Type 0
 HasNumberedFluents task atoms state = (a : Atom) → is_fluent task a.predicate ≡ true → contains state a ≡ true → stands_in atoms a ≡ true
+
+-- What numbering gives: no atom has two numbers; those of `more` are numbered as they stand, if none stands there twice;
+-- and the numbered atoms are those of `more`, the fluent ones that are true at the start, and those that a change that
+-- counts of a kept instance adds or deletes.
+pub record AreNumbered (task : Task) (more atoms : List Atom) : Type 0 where
+  pub once : are_distinct atoms ≡ true
+  pub more_first : are_distinct more ≡ true → (others : List Atom) × (atoms ≡ more ++ others)
+  pub which : (a : Atom) → stands_in atoms a
+      ≡ ((stands_in more a || (is_fluent task a.predicate && contains (initial_state task) a)) || list_any (λ i. stands_in (touched_by task i) a) (kept_instances task))
