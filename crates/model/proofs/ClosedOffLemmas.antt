@@ -5,14 +5,14 @@ use Rattle.std.specs.List.{list_any, list_all}
 use Rattle.std.specs.Option.{option_map_or, option_and_then}
 use Rattle.std.proofs.lemmas.Bool.{and_parts, or_cases, cases_Bool, not-true, not-false, false_from_ne_true}
 use Rattle.model.specs.Task.{Formula, Schema, Task, Instance}
-use Rattle.model.specs.Meaning.{State, initial_state, holds, fits, step, after_changes, changes_of}
+use Rattle.model.specs.Meaning.{State, initial_state, holds, fits, step, after_changes, changes_of, is_instance}
 use Rattle.model.specs.Instances.{all_instances}
 use Rattle.model.specs.Fluents.{is_fluent, HasInitialStatics}
 use Rattle.model.specs.SureLiterals.{Literal, is_true, is_false, are_same, are_different, literal_holds, sure}
 use Rattle.model.specs.ClosedOff.{is_settled, is_closed_off, is_kept, kept_instances, ClosedOffIsNotApplicable, OnlyCountingChangesAreMade}
 use Rattle.model.proofs.SureLiteralsHold.{sure_literals_hold}
-use Rattle.model.proofs.ListLemmas.{Contains-filter}
-use Rattle.model.proofs.InstancesLemmas.{Contains-all_instances, is_instance-of_step}
+use Rattle.model.proofs.ListLemmas.{Contains-filter, filter-Contains}
+use Rattle.model.proofs.InstancesLemmas.{Contains-all_instances, all_instances-Contains, is_instance-of_step}
 
 -- a settled literal says what it says at the start
 settled : (task : Task) (s : State) (l : Literal) → HasInitialStatics task s → is_settled task l ≡ true → literal_holds s l ≡ literal_holds (initial_state task) l
@@ -68,3 +68,7 @@ Contains-kept task s next i statics leads =
       | inl kept ↦ kept
       | inr closed ↦ let nowhere_at_all = closed_off_is_not_applicable task i s statics closed in absurd (cc)
     ])
+
+-- and what is kept is an instance that is not closed off
+pub kept-Contains : (task : Task) (i : Instance) → Contains (kept_instances task) i → (is_instance task i ≡ true) × (is_kept task i ≡ true)
+kept-Contains task i at = let both = filter-Contains (is_kept task) (all_instances task) i at in (all_instances-Contains task i both.0, both.1)

@@ -1,8 +1,9 @@
 -- The ground task does what its task does: the atoms that have numbers are fluent, and no other fluent atom ever becomes
 -- true.
 use Rattle.std.proofs.Common.{◌≡◌, ◌∙◌, ℕ, ◌≤◌, ◌<◌, ◌⊎◌, Bool, true, false, not, ◌&&◌, ◌||◌, inl, inr, List, [], ◌∷◌, ◌++◌, map, length, Option, None, Some, refl, sym, ap, true≢false}
-use Rattle.std.specs.Prelude.{All, IsTrue, slice_get, nat_lt, cond, filter, if◌then◌else◌}
-use Rattle.std.specs.List.{flat_map}
+use Rattle.std.specs.Prelude.{Contains, All, IsTrue, slice_get, nat_lt, cond, filter, if◌then◌else◌, is_some}
+use Rattle.std.specs.List.{flat_map, range_with_len}
+use Rattle.std.proofs.lemmas.Option.{slice_get_within}
 use Rattle.std.specs.Option.{option_map, option_map_or, option_and_then}
 use Rattle.std.specs.Ordering.{eq_by_cmp}
 use Rattle.std.specs.FinSet.{contains, from_list, difference, contains-from_list, contains-union, contains-difference}
@@ -13,10 +14,10 @@ use Rattle.model.specs.Meaning.{State, atom_cmp, initial_state, holds, fits, Gro
 use Rattle.model.specs.Fluents.{touches, is_fluent, HasInitialStatics}
 use Rattle.model.specs.ClosedOff.{kept_instances, counts, counting_changes}
 use Rattle.model.specs.NumberedAtoms.{stands_in, with_atoms, atom_of_literal, touched_by, initial_fluent_atoms, numbered_atoms, are_distinct, AreNumbered, HasNumberedFluents}
-use Rattle.model.specs.Grounding.{state_of_bits, bits_of_state, ground_step, ground_system, GroundLimit, of_instances, of_atoms, limit_told, StandsFor, NamesKept, GroundTaskIsBisimilar, GroundTaskSolvesAlike, PacksStates}
+use Rattle.model.specs.Grounding.{state_of_bits, bits_of_state, ground_step, ground_system, applicable_numbers, GroundLimit, of_instances, of_atoms, limit_told, StandsFor, NamesKept, GroundTaskIsBisimilar, GroundTaskSolvesAlike, PacksStates}
 use Rattle.model.proofs.Atoms.{atoms_total}
 use Rattle.model.proofs.BisimulationLemmas.{solve_alike}
-use Rattle.model.proofs.ListLemmas.{Contains-place}
+use Rattle.model.proofs.ListLemmas.{Contains-place, Contains-filter, filter-Contains, Contains-range}
 use Rattle.model.proofs.StaticLemmas.{is_changed, untouched, none_of_all, contains-step, stands_in-filter}
 use Rattle.model.proofs.ClosedOffLemmas.{only_counting_changes_are_made, Contains-kept}
 use Rattle.model.proofs.NumberingLemmas.{stands_in-append, stands_in-Contains, stands_in-flat_map, stands_in-flat_map_any, flat_map-stands_in, stands_in-with_atoms, distinct-with_atoms, numbered-first}
@@ -285,6 +286,31 @@ ground_task_is_bisimilar task more fluent = record {
 pub ground_task_solves_alike : GroundTaskSolvesAlike
 ground_task_solves_alike task more fluent =
     solve_alike (ground_system task (numbered_atoms task more)) (system_of task) (StandsFor task (numbered_atoms task more)) (NamesKept task) (ground_task_is_bisimilar task more fluent)
+
+-- ---- the applicable numbers
+
+module _ (task : Task) (atoms : List Atom) (bits : List Bool) where
+  abbrev applies : ℕ → Bool
+  applies number = is_some (ground_step task atoms bits number)
+
+  pub Contains-applicable : (number : ℕ) (next : List Bool) → ground_step task atoms bits number ≡ Some next → Contains (applicable_numbers task atoms bits) number
+  Contains-applicable number next leads =
+      elim (slice_get (kept_instances task) number) as (λ o. slice_get (kept_instances task) number ≡ o → option_and_then (λ (i : Instance). option_map (bits_of_state atoms) (step task (state_of_bits task atoms bits) i)) o ≡ Some next
+      → Contains (applicable_numbers task atoms bits) number) [
+        | None ↦ λ _ none. absurd (cc)
+        | Some i ↦ λ named _.
+            Contains-filter applies (range_with_len 0 (length (kept_instances task))) number
+            (Contains-range 0 (length (kept_instances task)) number (omega arith) (omega (arith, slice_get_within (kept_instances task) number i named)))
+            (ap is_some leads)
+      ] refl leads
+
+  pub applicable-Contains : (number : ℕ) → Contains (applicable_numbers task atoms bits) number → (next : List Bool) × (ground_step task atoms bits number ≡ Some next)
+  applicable-Contains number at =
+      let both = filter-Contains applies (range_with_len 0 (length (kept_instances task))) number at in
+      elim (ground_step task atoms bits number) as (λ o. is_some o ≡ true → (next : List Bool) × (o ≡ Some next)) [
+        | None ↦ λ none. absurd (cc)
+        | Some next ↦ λ _. (next, refl)
+      ] both.1
 
 -- ---- the limits
 

@@ -1,10 +1,10 @@
 -- Lists of atoms that are numbered one after another, each once: what stands in them, and where.
 use Rattle.std.proofs.Common.{◌≡◌, ◌∙◌, ℕ, zero, suc, ◌+◌, ◌≤◌, ◌<◌, inl, inr, Bool, true, false, not, ◌||◌, List, [], ◌∷◌, ◌++◌, length, drop, get_or, None, Some, refl, sym, ap, subst, arith, append-nil, append_assoc, true≢false}
-use Rattle.std.specs.Prelude.{Contains, slice_get, nat_lt, cond, if◌then◌else◌}
+use Rattle.std.specs.Prelude.{Contains, slice_get, nat_lt, cond, if◌then◌else◌, AllPairs, ◌≢◌}
 use Rattle.std.specs.List.{list_any, flat_map, position_or_len}
 use Rattle.std.specs.Ordering.{eq_by_cmp}
 use Rattle.std.specs.Cmp.{eq_by_cmp_equiv}
-use Rattle.std.proofs.lemmas.Bool.{or_parts, or_from, or_cases, or_left, or_right, and_parts, and_from, not-true, false_from_ne_true, lt-ltb, le-ltb}
+use Rattle.std.proofs.lemmas.Bool.{or_parts, or_from, or_cases, or_left, or_right, and_parts, and_from, not-true, false_from_ne_true, lt-ltb, le-ltb, not_from_false}
 use Rattle.std.proofs.lemmas.Option.{slice_get_within, slice_get-get_or}
 use Rattle.std.proofs.lemmas.List.Quantifiers.{position-Some}
 use Rattle.std.proofs.lemmas.List.{length-append, drop_all}
@@ -159,6 +159,16 @@ pub numbered-first : (more rest : List Atom) → are_distinct more ≡ true → 
 numbered-first more rest distinct =
     let begun = with_atoms-begins more rest in
     (begun.0, with_atoms-append [] more rest ∙ ap (λ l. with_atoms l rest) (with_atoms-distinct [] more distinct) ∙ begun.1)
+
+-- said of each pair of places
+pub distinct-from_pairs : (xs : List Atom) → AllPairs (λ (a b : Atom). a ≢ b) xs → are_distinct xs ≡ true
+distinct-from_pairs [] apart = refl
+distinct-from_pairs (x ∷ xs) apart =
+    and_from (not (stands_in xs x)) (are_distinct xs)
+    (not_from_false (stands_in xs x) (false_from_ne_true (stands_in xs x) (λ among.
+    let there = stands_in-Contains xs x among in
+    apart 0 (suc there.0) x (omega arith) (omega (arith, there.1)) (sym there.2))))
+    (distinct-from_pairs xs (λ i j d before within. apart (suc i) (suc j) d (omega (arith, before)) (omega (arith, within))))
 
 -- ---- the number of an atom
 
