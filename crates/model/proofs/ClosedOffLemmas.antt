@@ -9,28 +9,28 @@ use Rattle.model.specs.Meaning.{State, initial_state, holds, fits, step, after_c
 use Rattle.model.specs.Instances.{all_instances}
 use Rattle.model.specs.Fluents.{is_fluent, HasInitialStatics}
 use Rattle.model.specs.SureLiterals.{Literal, is_true, is_false, are_same, are_different, literal_holds, sure}
-use Rattle.model.specs.ClosedOff.{is_settled, is_closed_off, is_kept, kept_instances, ClosedOffIsNotApplicable, OnlyCountingChangesAreMade}
+use Rattle.model.specs.ClosedOff.{is_fixed, is_closed_off, is_kept, kept_instances, ClosedOffIsNotApplicable, OnlyCountingChangesAreMade}
 use Rattle.model.proofs.SureLiteralsHold.{sure_literals_hold}
 use Rattle.model.proofs.ListLemmas.{Contains-filter, filter-Contains}
 use Rattle.model.proofs.InstancesLemmas.{Contains-all_instances, all_instances-Contains, is_instance-of_step}
 
--- a settled literal says what it says at the start
-settled : (task : Task) (s : State) (l : Literal) → HasInitialStatics task s → is_settled task l ≡ true → literal_holds s l ≡ literal_holds (initial_state task) l
-settled task s (is_true a) statics is = statics a (not-true (is_fluent task a.predicate) is)
-settled task s (is_false a) statics is = ap not (statics a (not-true (is_fluent task a.predicate) is))
-settled task s (are_same a b) statics is = refl
-settled task s (are_different a b) statics is = refl
+-- a fixed literal says what it says at the start
+fixed : (task : Task) (s : State) (l : Literal) → HasInitialStatics task s → is_fixed task l ≡ true → literal_holds s l ≡ literal_holds (initial_state task) l
+fixed task s (is_true a) statics is = statics a (not-true (is_fluent task a.predicate) is)
+fixed task s (is_false a) statics is = ap not (statics a (not-true (is_fluent task a.predicate) is))
+fixed task s (are_same a b) statics is = refl
+fixed task s (are_different a b) statics is = refl
 
--- they do not all hold where one is settled and false at the start
+-- they do not all hold where one is fixed and false at the start
 not_all_hold : (task : Task) (s : State) (ls : List Literal) → HasInitialStatics task s → list_all (literal_holds s) ls ≡ true
-    → list_any (λ l. is_settled task l && not (literal_holds (initial_state task) l)) ls ≡ true → ⊥
+    → list_any (λ l. is_fixed task l && not (literal_holds (initial_state task) l)) ls ≡ true → ⊥
 not_all_hold task s [] statics all some = true≢false (sym some)
 not_all_hold task s (l ∷ ls) statics all some =
     let both = and_parts (literal_holds s l) (list_all (literal_holds s) ls) all in
-    elim (or_cases (is_settled task l && not (literal_holds (initial_state task) l)) _ some) [
+    elim (or_cases (is_fixed task l && not (literal_holds (initial_state task) l)) _ some) [
       | inl here ↦
-          let parts = and_parts (is_settled task l) (not (literal_holds (initial_state task) l)) here in
-          true≢false (sym both.0 ∙ settled task s l statics parts.0 ∙ not-true (literal_holds (initial_state task) l) parts.1)
+          let parts = and_parts (is_fixed task l) (not (literal_holds (initial_state task) l)) here in
+          true≢false (sym both.0 ∙ fixed task s l statics parts.0 ∙ not-true (literal_holds (initial_state task) l) parts.1)
       | inr later ↦ not_all_hold task s ls statics both.1 later
     ]
 

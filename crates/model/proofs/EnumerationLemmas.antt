@@ -13,7 +13,7 @@ use Rattle.model.specs.Task as task_of
 use Rattle.model.specs.Meaning.{object_of, objects_of, ground_atom, initial_state}
 use Rattle.model.specs.Instances.{product, instances_of_schema, instances_from}
 use Rattle.model.specs.SureLiterals.{Literal, is_true, is_false, are_same, are_different, literal_holds, sure, sure_not, all_sure}
-use Rattle.model.specs.ClosedOff.{is_settled, is_closed_off, is_kept}
+use Rattle.model.specs.ClosedOff.{is_fixed, is_closed_off, is_kept}
 use Rattle.model.proofs.ListLemmas.{drop-here, drop-absent}
 
 -- ---- one part after another
@@ -138,9 +138,9 @@ abbrev mutual
   some_closed_within task no_formula objects = false
   some_closed_within task (more_formulas first rest) objects = closed_within task first objects || some_closed_within task rest objects
 
--- some of these are settled and false at the start
+-- some of these are fixed and false at the start
 abbrev pub some_closes : Task → List Literal → Bool
-some_closes task literals = list_any (λ l. is_settled task l && not (literal_holds (initial_state task) l)) literals
+some_closes task literals = list_any (λ l. is_fixed task l && not (literal_holds (initial_state task) l)) literals
 
 sure_not-more : (part : Formula) (objects rest : List ℕ) → are_bound (length objects) part ≡ true → sure_not part (objects ++ rest) ≡ sure_not part objects
 sure_not-more (atom a) objects rest bound = ap (λ b. is_false b ∷ []) (ground_atom-more objects rest a bound)
@@ -175,7 +175,7 @@ mutual
   pub some_closed-later : (task : Task) (fs : Formulas) (objects rest : List ℕ) → some_closed_within task fs objects ≡ true → some_closes task (all_sure task fs (objects ++ rest)) ≡ true
   some_closed-later task no_formula objects rest closed = absurd (cc)
   some_closed-later task (more_formulas first others) objects rest closed =
-      list_any-append (λ l. is_settled task l && not (literal_holds (initial_state task) l)) (sure task first (objects ++ rest)) (all_sure task others (objects ++ rest))
+      list_any-append (λ l. is_fixed task l && not (literal_holds (initial_state task) l)) (sure task first (objects ++ rest)) (all_sure task others (objects ++ rest))
       ∙ elim (or_cases (closed_within task first objects) (some_closed_within task others objects) closed) [
         | inl here ↦ or_left (is_closed_off task first (objects ++ rest)) (some_closes task (all_sure task others (objects ++ rest))) (closed-later task first objects rest here)
         | inr later ↦ or_right (is_closed_off task first (objects ++ rest)) (some_closes task (all_sure task others (objects ++ rest))) (some_closed-later task others objects rest later)

@@ -9,7 +9,7 @@ use Rattle.model.specs.Meaning.{State, initial_state, fits, holds, Change, chang
 use Rattle.model.specs.Fluents.{static_atoms}
 use Rattle.model.specs.Instances.{all_instances}
 use Rattle.model.specs.SureLiterals.{Literal, is_true, is_false, are_same, are_different, literal_holds, sure}
-use Rattle.model.specs.ClosedOff.{is_settled, is_closed_off, kept_instances, counting_changes}
+use Rattle.model.specs.ClosedOff.{is_fixed, is_closed_off, kept_instances, counting_changes}
 use Rattle.model.specs.NumberedAtoms.{stands_in, with_atoms, atom_of_literal, initial_fluent_atoms, numbered_atoms}
 use Rattle.model.specs.NumberedLiterals.{numbered_change, counting_of_instance}
 use Rattle.model.specs.Grounding.{chosen, state_of_bits, bits_of_state, ground_step, ground_system, applicable_numbers, of_instances, of_atoms, limit_told}
@@ -31,10 +31,10 @@ literal-holds task (are_same a b) = refl
 literal-holds task (are_different a b) = refl
 
 abbrev pub closed_off : Task → Formula → List ℕ → Bool
-closed_off task f binding = list_any (λ l. is_settled task l && not (holds_among task.init l)) (sure task f binding)
+closed_off task f binding = list_any (λ l. is_fixed task l && not (holds_among task.init l)) (sure task f binding)
 
 pub closed_off-is : (task : Task) (f : Formula) (binding : List ℕ) → is_closed_off task f binding ≡ closed_off task f binding
-closed_off-is task f binding = λ i. list_any (λ l. is_settled task l && not (literal-holds task l i)) (sure task f binding)
+closed_off-is task f binding = λ i. list_any (λ l. is_fixed task l && not (literal-holds task l i)) (sure task f binding)
 
 abbrev pub kept : Task → List Instance
 kept task = filter (λ j. option_map_or (λ schema. not (closed_off task schema.precondition j.objects)) (slice_get task.schemas j.schema) false) (all_instances task)

@@ -10,17 +10,17 @@ use Rattle.model.specs.Instances.{all_instances}
 use Rattle.model.specs.SureLiterals.{Literal, is_true, is_false, are_same, are_different, literal_holds, sure}
 
 -- the literal is of a static predicate, or of an equality: in each reachable state it says what it says at the start
-abbrev pub is_settled : Task → Literal → Bool
-is_settled task (is_true a) = not (is_fluent task a.predicate)
-is_settled task (is_false a) = not (is_fluent task a.predicate)
-is_settled task (are_same a b) = true
-is_settled task (are_different a b) = true
+abbrev pub is_fixed : Task → Literal → Bool
+is_fixed task (is_true a) = not (is_fluent task a.predicate)
+is_fixed task (is_false a) = not (is_fluent task a.predicate)
+is_fixed task (are_same a b) = true
+is_fixed task (are_different a b) = true
 
 -- A formula is closed off, where the variables have these objects, where one of its sure literals is static, or of an
 -- equality, and is false at the start.
 abbrev pub is_closed_off : Task → Formula → List ℕ → Bool
 is_closed_off task formula binding =
-    list_any (λ l. is_settled task l && not (literal_holds (initial_state task) l)) (sure task formula binding)
+    list_any (λ l. is_fixed task l && not (literal_holds (initial_state task) l)) (sure task formula binding)
 
 -- an instance is kept where its precondition is not closed off
 abbrev pub is_kept : Task → Instance → Bool
