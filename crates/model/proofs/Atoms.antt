@@ -74,7 +74,7 @@ has-difference s atoms q = contains-difference atoms_total s (set_of atoms) q �
 has-union : (s : State) (atoms : List Atom) (q : Atom) → has (union s (set_of atoms)) q ≡ (has s q || stands_in atoms q)
 has-union s atoms q = contains-union atoms_total s (set_of atoms) q ∙ ap (λ b. has s q || b) (has-set_of atoms q)
 
-stands_in-append : (xs ys : List Atom) (q : Atom) → stands_in (xs ++ ys) q ≡ (stands_in xs q || stands_in ys q)
+pub stands_in-append : (xs ys : List Atom) (q : Atom) → stands_in (xs ++ ys) q ≡ (stands_in xs q || stands_in ys q)
 stands_in-append xs ys q = list_any-append (eq_by_cmp atom_cmp q) xs ys
 
 pub difference-none : (s : State) → difference s (set_of []) ≡ s

@@ -6,7 +6,7 @@ use Rattle.std.specs.List.{flat_map, range_with_len}
 use Rattle.std.proofs.lemmas.Option.{slice_get_within}
 use Rattle.std.specs.Option.{option_map, option_map_or, option_and_then}
 use Rattle.std.specs.Ordering.{eq_by_cmp}
-use Rattle.std.specs.FinSet.{contains, from_list, difference, contains-from_list, contains-union, contains-difference}
+use Rattle.std.specs.FinSet.{contains, contains-from_list}
 use Rattle.std.proofs.lemmas.Bool.{or_cases, or_left, or_right, and_parts, and_from, lt-ltb, le-ltb}
 use Rattle.std.proofs.lemmas.List.Elements.{All-contains}
 use Rattle.model.specs.Task.{Atom, Schema, Task, Instance}
@@ -15,12 +15,12 @@ use Rattle.model.specs.Fluents.{touches, is_fluent, HasInitialStatics}
 use Rattle.model.specs.ClosedOff.{kept_instances, counts, counting_changes}
 use Rattle.model.specs.NumberedAtoms.{stands_in, with_atoms, atom_of_literal, touched_by, initial_fluent_atoms, numbered_atoms, are_distinct, AreNumbered, HasNumberedFluents}
 use Rattle.model.specs.Grounding.{state_of_bits, bits_of_state, ground_step, ground_system, applicable_numbers, GroundLimit, of_instances, of_atoms, limit_told, StandsFor, NamesKept, GroundTaskIsBisimilar, GroundTaskSolvesAlike, PacksStates}
-use Rattle.model.proofs.Atoms.{atoms_total}
+use Rattle.model.proofs.Atoms.{atoms_total, stands_in-append}
 use Rattle.model.proofs.BisimulationLemmas.{solve_alike}
 use Rattle.model.proofs.ListLemmas.{Contains-place, Contains-filter, filter-Contains, Contains-range}
-use Rattle.model.proofs.StaticLemmas.{is_changed, untouched, none_of_all, contains-step, stands_in-filter}
+use Rattle.model.proofs.StaticLemmas.{contains-after_literals, is_changed, untouched, none_of_all, contains-step, stands_in-filter}
 use Rattle.model.proofs.ClosedOffLemmas.{only_counting_changes_are_made, Contains-kept}
-use Rattle.model.proofs.NumberingLemmas.{stands_in-append, stands_in-Contains, stands_in-flat_map, stands_in-flat_map_any, flat_map-stands_in, stands_in-with_atoms, distinct-with_atoms, numbered-first}
+use Rattle.model.proofs.NumberingLemmas.{stands_in-Contains, stands_in-flat_map, stands_in-flat_map_any, flat_map-stands_in, stands_in-with_atoms, distinct-with_atoms, numbered-first}
 use Rattle.model.proofs.PackedStates.{contains-static, contains-fluent, chosen-stands_in, packed-bits_of_state, bits_of-packed_state}
 
 -- ---- what a step changes
@@ -63,16 +63,6 @@ literals_in-counting task s (c ∷ changes) statics =
 pub step-counting : (task : Task) (s next : State) (i : Instance) → HasInitialStatics task s → step task s i ≡ Some next → after_changes task s (counting_changes task i) ≡ next
 step-counting task s next i statics leads =
     ap (after_literals s) (literals_in-counting task s (changes_of_instance task i) statics) ∙ step-changes task s next i leads
-
--- what is true after some literals
-pub contains-after_literals : (s : State) (literals : List GroundLiteral) (q : Atom)
-    → contains (after_literals s literals) q ≡ ((contains s q && not (stands_in (deleted_by literals) q)) || stands_in (added_by literals) q)
-contains-after_literals s literals q =
-    let gone : State = from_list (deleted_by literals) in
-    let new : State = from_list (added_by literals) in
-    contains-union atoms_total (difference s gone) new q
-    ∙ (λ i. contains-difference atoms_total s gone q i || contains-from_list atoms_total (added_by literals) q i)
-    ∙ ap (λ b. (contains s q && not b) || stands_in (added_by literals) q) (contains-from_list atoms_total (deleted_by literals) q)
 
 -- the atoms of these changes
 abbrev pub atoms_of : List Change → List Atom

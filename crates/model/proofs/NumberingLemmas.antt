@@ -1,6 +1,6 @@
 -- Lists of atoms that are numbered one after another, each once: what stands in them, and where.
-use Rattle.std.proofs.Common.{◌≡◌, ◌∙◌, ℕ, zero, suc, ◌+◌, ◌≤◌, ◌<◌, inl, inr, Bool, true, false, not, ◌||◌, List, [], ◌∷◌, ◌++◌, length, drop, get_or, None, Some, refl, sym, ap, subst, arith, append-nil, append_assoc, true≢false}
-use Rattle.std.specs.Prelude.{Contains, slice_get, nat_lt, cond, if◌then◌else◌, AllPairs, ◌≢◌}
+use Rattle.std.proofs.Common.{◌≡◌, ◌∙◌, ℕ, zero, suc, ◌+◌, ◌≤◌, ◌<◌, inl, inr, Bool, true, false, not, ◌||◌, List, [], ◌∷◌, ◌++◌, length, drop, get_or, None, Some, refl, sym, ap, subst, arith, append-nil, append_assoc, true≢false, map}
+use Rattle.std.specs.Prelude.{Contains, slice_get, nat_lt, cond, if◌then◌else◌, AllPairs, ◌≢◌, filter}
 use Rattle.std.specs.List.{list_any, flat_map, position_or_len}
 use Rattle.std.specs.Ordering.{eq_by_cmp}
 use Rattle.std.specs.Cmp.{eq_by_cmp_equiv}
@@ -8,11 +8,11 @@ use Rattle.std.proofs.lemmas.Bool.{or_parts, or_from, or_cases, or_left, or_righ
 use Rattle.std.proofs.lemmas.Option.{slice_get_within, slice_get-get_or}
 use Rattle.std.proofs.lemmas.List.Quantifiers.{position-Some}
 use Rattle.std.proofs.lemmas.List.{length-append, drop_all}
-use Rattle.std.proofs.lemmas.List.Folds.{list_any-append}
+use Rattle.std.proofs.lemmas.List.Concat.{flat_map-append}
 use Rattle.model.specs.Task.{Atom}
 use Rattle.model.specs.Meaning.{atom_cmp}
 use Rattle.model.specs.NumberedAtoms.{stands_in, with_atom, with_atoms, number_of, are_distinct}
-use Rattle.model.proofs.Atoms.{atoms_total}
+use Rattle.model.proofs.Atoms.{atoms_total, stands_in-append}
 use Rattle.model.proofs.ListLemmas.{Contains-here, Contains-there, Contains-cases, Contains-none, drop-here}
 use Rattle.model.proofs.StaticLemmas.{same_atom, or_false}
 
@@ -20,9 +20,6 @@ use Rattle.model.proofs.StaticLemmas.{same_atom, or_false}
 
 pub same_itself : (a : Atom) → eq_by_cmp atom_cmp a a ≡ true
 same_itself a = (eq_by_cmp_equiv atoms_total).refl a
-
-pub stands_in-append : (xs ys : List Atom) (q : Atom) → stands_in (xs ++ ys) q ≡ (stands_in xs q || stands_in ys q)
-stands_in-append xs ys q = list_any-append (eq_by_cmp atom_cmp q) xs ys
 
 pub stands_in-Contains : (xs : List Atom) (q : Atom) → stands_in xs q ≡ true → Contains xs q
 stands_in-Contains [] q at = absurd (true≢false (sym at))
@@ -232,3 +229,22 @@ module _ (now first rest whole : List Atom) (all : with_atoms now (first ++ rest
 
   pub too_many-part : (max : ℕ) → max < length (with_atoms now first) → max < length whole
   too_many-part max more = omega (arith, more, length-with_atoms (with_atoms now first) rest, ap length numbered-part)
+
+-- ---- lists that are made item by item
+
+-- of the items that pass, what each gives
+pub flat_map-passing : {X Y : Type 0} (p : X → Bool) (f : X → Y) (xs : List X) → flat_map (λ x. if p x then f x ∷ [] else []) xs ≡ map f (filter p xs)
+flat_map-passing p f [] = refl
+flat_map-passing p f (x ∷ xs) =
+    elim (p x) as (λ b. (if b then f x ∷ [] else []) ++ flat_map (λ y. if p y then f y ∷ [] else []) xs ≡ map f (if b then x ∷ filter p xs else filter p xs)) [
+      | true ↦ ap (λ l. f x ∷ l) (flat_map-passing p f xs)
+      | false ↦ flat_map-passing p f xs
+    ]
+
+pub flat_map-map : {X Y Z : Type 0} (g : Y → List Z) (h : X → Y) (xs : List X) → flat_map g (map h xs) ≡ flat_map (λ x. g (h x)) xs
+flat_map-map g h [] = refl
+flat_map-map g h (x ∷ xs) = ap (λ l. g (h x) ++ l) (flat_map-map g h xs)
+
+pub flat_map-flat_map : {X Y Z : Type 0} (g : Y → List Z) (f : X → List Y) (xs : List X) → flat_map g (flat_map f xs) ≡ flat_map (λ x. flat_map g (f x)) xs
+flat_map-flat_map g f [] = refl
+flat_map-flat_map g f (x ∷ xs) = flat_map-append g (f x) (flat_map f xs) ∙ ap (λ l. flat_map g (f x) ++ l) (flat_map-flat_map g f xs)

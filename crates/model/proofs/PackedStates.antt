@@ -11,9 +11,9 @@ use Rattle.model.specs.Task.{Atom}
 use Rattle.model.specs.Meaning.{State, atom_cmp}
 use Rattle.model.specs.NumberedAtoms.{stands_in, are_distinct}
 use Rattle.model.specs.Grounding.{chosen, bits_of_state}
-use Rattle.model.proofs.Atoms.{atoms_total, same_state}
+use Rattle.model.proofs.Atoms.{atoms_total, stands_in-append, same_state}
 use Rattle.model.proofs.StaticLemmas.{same_atom, stands_in-filter, and_false, or_false}
-use Rattle.model.proofs.NumberingLemmas.{stands_in-append, stands_in-got, same_itself}
+use Rattle.model.proofs.NumberingLemmas.{stands_in-got, same_itself}
 
 -- ---- the chosen atoms
 

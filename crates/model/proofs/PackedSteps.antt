@@ -16,9 +16,10 @@ use Rattle.model.specs.NumberedAtoms.{stands_in, numbered_atoms, number_of}
 use Rattle.model.specs.NumberedLiterals.{NumberedLiteral, numbered_literal, agrees}
 use Rattle.model.specs.Grounding.{state_of_bits, bits_of_state, NumberedLiteralsHold}
 use Rattle.model.proofs.SureLiteralsHold.{sure_literals_hold}
+use Rattle.model.proofs.StaticLemmas.{contains-after_literals}
 use Rattle.model.proofs.NumberingLemmas.{stands_in-got, got-number_of}
 use Rattle.model.proofs.PackedStates.{contains-numbered}
-use Rattle.model.proofs.GroundTaskLemmas.{numbered-distinct, numbered-fluent, packs_states, step-counting, contains-after_literals}
+use Rattle.model.proofs.GroundTaskLemmas.{numbered-distinct, numbered-fluent, packs_states, step-counting}
 
 -- all pass that come from those that pass
 all_mapped : {X Y : Type 0} (h : X → Option Y) (p : X → Bool) (q : Y → Bool) → ((x : X) (y : Y) → h x ≡ Some y → p x ≡ true → q y ≡ true)

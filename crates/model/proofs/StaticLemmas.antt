@@ -97,21 +97,26 @@ and_or_nothing false = refl
 kept : (x y z : Bool) → y ≡ false → z ≡ false → ((x && not y) || z) ≡ x
 kept x y z ey ez = ap (λ v. (x && not v) || z) ey ∙ ap (λ v. (x && not false) || v) ez ∙ and_or_nothing x
 
--- literals that are not of an atom leave it as it is
-contains-after_literals : (s : State) (q : Atom) (literals : List GroundLiteral) → is_among q literals ≡ false → contains (after_literals s literals) q ≡ contains s q
-contains-after_literals s q literals none =
+-- what is true after some literals
+pub contains-after_literals : (s : State) (literals : List GroundLiteral) (q : Atom)
+    → contains (after_literals s literals) q ≡ ((contains s q && not (stands_in (deleted_by literals) q)) || stands_in (added_by literals) q)
+contains-after_literals s literals q =
     let gone : State = from_list (deleted_by literals) in
     let new : State = from_list (added_by literals) in
     contains-union atoms_total (difference s gone) new q
-    ∙ ap (λ v. v || contains new q) (contains-difference atoms_total s gone q)
-    ∙ kept (contains s q) (contains gone q) (contains new q)
-    (contains-from_list atoms_total (deleted_by literals) q ∙ not_deleted q literals none)
-    (contains-from_list atoms_total (added_by literals) q ∙ not_added q literals none)
+    ∙ (λ i. contains-difference atoms_total s gone q i || contains-from_list atoms_total (added_by literals) q i)
+    ∙ ap (λ b. (contains s q && not b) || stands_in (added_by literals) q) (contains-from_list atoms_total (deleted_by literals) q)
+
+-- literals that are not of an atom leave it as it is
+left_by_literals : (s : State) (q : Atom) (literals : List GroundLiteral) → is_among q literals ≡ false → contains (after_literals s literals) q ≡ contains s q
+left_by_literals s q literals none =
+    contains-after_literals s literals q
+    ∙ kept (contains s q) (stands_in (deleted_by literals) q) (stands_in (added_by literals) q) (not_deleted q literals none) (not_added q literals none)
 
 -- so do the changes of an effect that does not touch the atom's predicate
 contains-after : (task : Task) (s : State) (q : Atom) (e : Effect) (b : List ℕ) → touches q.predicate e ≡ false → contains (after_changes task s (changes_of task e b)) q ≡ contains s q
 contains-after task s q e b apart =
-    contains-after_literals s q (literals_in task s (changes_of task e b)) (not_among task s q (changes_of task e b) (untouched task q e b apart))
+    left_by_literals s q (literals_in task s (changes_of task e b)) (not_among task s q (changes_of task e b) (untouched task q e b apart))
 
 pub none_of_all : {X : Type 0} (p : X → Bool) (xs : List X) (k : ℕ) (x : X) → list_any p xs ≡ false → slice_get xs k ≡ Some x → p x ≡ false
 none_of_all p [] k x none at = absurd (cc)
