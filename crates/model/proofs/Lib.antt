@@ -3,6 +3,7 @@ pub mod ListLemmas
 pub mod Tests
 pub mod ClaimsLemmas
 pub mod BisimulationLemmas
+pub mod BisimilarListings
 pub mod InstancesLemmas
 pub mod StaticLemmas
 pub mod NumberingLemmas
