@@ -47,11 +47,12 @@ abbrev pub acting : List Union → Formula → Effect → List LiftedAtom → Ta
 acting parameters precondition effect before =
     record (doing parameters effect before []) { schemas = record (doer parameters effect) { precondition = precondition } ∷ [] }
 
--- of any two vehicles, and of two that differ
+-- an action of two vehicles, under this precondition
 abbrev pub of_two : Formula → Task
 of_two precondition = acting (vehicles ∷ vehicles ∷ []) precondition (adds (seen (variable 0))) []
 
--- A truck is seen where the vehicle v is: no action ever makes that true, though `seen` is fluent.
+-- An action sees a truck where the vehicle v is seen. Nothing ever makes that true, though `seen` is fluent, and it is the
+-- goal.
 abbrev pub unreached : Task
 unreached = record (acting (trucks ∷ []) (atom (seen the_vehicle)) (adds (seen (variable 0))) []) { goal = atom (seen the_vehicle) }
 
@@ -67,6 +68,7 @@ conditional = all (
 abbrev pub conditional_task : Task
 conditional_task = doing [] conditional [] []
 
+-- the atom of this number is true, or false, and becomes so, under a condition or under none
 abbrev pub value : ℕ → Bool → NumberedLiteral
 value number is_true = record { atom = number; value = is_true }
 

@@ -1,4 +1,5 @@
--- The limits of the language profile on what a domain and a problem have. Each is the most that is taken.
+-- The limits of the language profile on what a domain and a problem have, and of grounding on what it numbers. Each is the
+-- most that is taken.
 use Rattle.std.specs.Prelude.{ℕ}
 
 -- the most types that a domain declares, beside `object`
