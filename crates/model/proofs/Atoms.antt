@@ -4,11 +4,11 @@ use Rattle.std.proofs.Common.{sym, ◌∙◌, ap}
 use Rattle.std.specs.Cmp.{IsTotalOrder, on_total}
 use Rattle.std.specs.Cmp.Lexicographic.{nat_list_cmp_total}
 use Rattle.std.specs.Ordering.{eq_by_cmp}
-use Rattle.std.specs.List.{list_any}
 use Rattle.std.proofs.lemmas.List.Folds.{list_any-append}
 use Rattle.std.specs.FinSet.{contains, from_list, insert, remove, union, difference, contains-from_list, contains-insert, contains-remove, contains-difference, contains-union, same_set, IsAntisymmetric, nat_cmp-IsAntisymmetric, slice_cmp-IsAntisymmetric}
 use Rattle.model.specs.Task.{Atom}
 use Rattle.model.specs.Meaning.{State, atom_cmp, GroundLiteral, adds, deletes, added_by, deleted_by}
+pub use Rattle.model.specs.NumberedAtoms.{stands_in}
 
 abbrev numbers_of : Atom → List ℕ
 numbers_of a = a.predicate ∷ a.objects
@@ -65,9 +65,6 @@ set_of atoms = from_list atoms
 abbrev has : State → Atom → Bool
 has s a = contains s a
 
-abbrev pub stands_in : List Atom → Atom → Bool
-stands_in atoms q = list_any (eq_by_cmp atom_cmp q) atoms
-
 has-set_of : (atoms : List Atom) (q : Atom) → has (set_of atoms) q ≡ stands_in atoms q
 has-set_of atoms q = contains-from_list atoms_total atoms q
 
@@ -77,7 +74,7 @@ has-difference s atoms q = contains-difference atoms_total s (set_of atoms) q �
 has-union : (s : State) (atoms : List Atom) (q : Atom) → has (union s (set_of atoms)) q ≡ (has s q || stands_in atoms q)
 has-union s atoms q = contains-union atoms_total s (set_of atoms) q ∙ ap (λ b. has s q || b) (has-set_of atoms q)
 
-stands_in-append : (xs ys : List Atom) (q : Atom) → stands_in (xs ++ ys) q ≡ (stands_in xs q || stands_in ys q)
+pub stands_in-append : (xs ys : List Atom) (q : Atom) → stands_in (xs ++ ys) q ≡ (stands_in xs q || stands_in ys q)
 stands_in-append xs ys q = list_any-append (eq_by_cmp atom_cmp q) xs ys
 
 pub difference-none : (s : State) → difference s (set_of []) ≡ s

@@ -11,8 +11,9 @@ use Rattle.std.proofs.lemmas.List.Folds.{list_any-append}
 use Rattle.model.specs.Task.{Atom, LiftedAtom, Formula, EffectLiteral, add, delete, Effect, Effects, literal, both, each, when, no_effect, more_effects, Schema, Task, Instance}
 use Rattle.model.specs.Meaning.{State, atom_cmp, objects_of, ground_atom, GroundLiteral, adds, deletes, Change, ground_literal, change_under, changes_of, changes_of_all, literals_in, added_by, deleted_by, after_literals, after_changes, step, holds, fits, system_of, initial_state}
 use Rattle.model.specs.Runs.{run, IsReachable}
-use Rattle.model.specs.Certificates.{is_literal_of, touches, any_touches, is_fluent, static_atoms}
-use Rattle.model.proofs.Atoms.{stands_in, atoms_total, atoms_apart, same_state}
+use Rattle.model.specs.Fluents.{is_literal_of, touches, any_touches, is_fluent, static_atoms}
+use Rattle.model.specs.NumberedAtoms.{stands_in, atom_of_literal}
+use Rattle.model.proofs.Atoms.{atoms_total, atoms_apart, same_state}
 
 -- a ground atom of another predicate is another atom
 other_atom : (q : Atom) (a : LiftedAtom) (b : List ℕ) → (a.predicate == q.predicate) ≡ false → eq_by_cmp atom_cmp q (ground_atom b a) ≡ false
@@ -25,17 +26,12 @@ other_atom q a b apart =
         let named : (a.predicate == q.predicate) ≡ true = eq-eqb a.predicate q.predicate (ap (λ (x : Atom). x.predicate) (sym is)) in
         absurd (cc)
 
--- the atom that a literal is of
-abbrev atom_in : GroundLiteral → Atom
-atom_in (adds a) = a
-atom_in (deletes a) = a
-
 -- some change is of the atom
-abbrev is_changed : Atom → List Change → Bool
-is_changed q changes = list_any (λ (c : Change). eq_by_cmp atom_cmp q (atom_in c.literal)) changes
+abbrev pub is_changed : Atom → List Change → Bool
+is_changed q changes = list_any (λ (c : Change). eq_by_cmp atom_cmp q (atom_of_literal c.literal)) changes
 
 -- the changes of an effect that does not touch an atom's predicate are not of the atom
-untouched_literal : (q : Atom) (l : EffectLiteral) (b : List ℕ) → is_literal_of q.predicate l ≡ false → eq_by_cmp atom_cmp q (atom_in (ground_literal b l)) ≡ false
+untouched_literal : (q : Atom) (l : EffectLiteral) (b : List ℕ) → is_literal_of q.predicate l ≡ false → eq_by_cmp atom_cmp q (atom_of_literal (ground_literal b l)) ≡ false
 untouched_literal q (add a) b apart = other_atom q a b apart
 untouched_literal q (delete a) b apart = other_atom q a b apart
 
@@ -48,14 +44,14 @@ untouched_literals q condition (l ∷ ls) b apart =
 
 unchanged_both : (q : Atom) (xs ys : List Change) → is_changed q xs ≡ false → is_changed q ys ≡ false → is_changed q (xs ++ ys) ≡ false
 unchanged_both q xs ys left right =
-    list_any-append (λ (c : Change). eq_by_cmp atom_cmp q (atom_in c.literal)) xs ys ∙ or_from (is_changed q xs) (is_changed q ys) left right
+    list_any-append (λ (c : Change). eq_by_cmp atom_cmp q (atom_of_literal c.literal)) xs ys ∙ or_from (is_changed q xs) (is_changed q ys) left right
 
 unchanged_each : (q : Atom) (of : ℕ → List Change) (objects : List ℕ) → ((one : ℕ) → is_changed q (of one) ≡ false) → is_changed q (flat_map of objects) ≡ false
 unchanged_each q of [] none = refl
 unchanged_each q of (one ∷ objects) none = unchanged_both q (of one) (flat_map of objects) (none one) (unchanged_each q of objects none)
 
 mutual
-  untouched : (task : Task) (q : Atom) (e : Effect) (b : List ℕ) → touches q.predicate e ≡ false → is_changed q (changes_of task e b) ≡ false
+  pub untouched : (task : Task) (q : Atom) (e : Effect) (b : List ℕ) → touches q.predicate e ≡ false → is_changed q (changes_of task e b) ≡ false
   untouched task q (literal l) b apart = or_from _ false (untouched_literal q l b apart) refl
   untouched task q (both parts) b apart = all_untouched task q parts b apart
   untouched task q (each types part) b apart =
@@ -70,16 +66,16 @@ mutual
 
 -- some literal is of the atom
 abbrev is_among : Atom → List GroundLiteral → Bool
-is_among q literals = list_any (λ l. eq_by_cmp atom_cmp q (atom_in l)) literals
+is_among q literals = list_any (λ l. eq_by_cmp atom_cmp q (atom_of_literal l)) literals
 
 -- those whose condition holds are not of it either
 not_among : (task : Task) (s : State) (q : Atom) (changes : List Change) → is_changed q changes ≡ false → is_among q (literals_in task s changes) ≡ false
 not_among task s q [] none = refl
 not_among task s q (c ∷ changes) none =
-    let parts = or_parts (eq_by_cmp atom_cmp q (atom_in c.literal)) (is_changed q changes) none in
+    let parts = or_parts (eq_by_cmp atom_cmp q (atom_of_literal c.literal)) (is_changed q changes) none in
     by_condition (holds task c.condition c.binding s) parts.0 (not_among task s q changes parts.1)
   where
-    by_condition : (held : Bool) → eq_by_cmp atom_cmp q (atom_in c.literal) ≡ false → is_among q (literals_in task s changes) ≡ false
+    by_condition : (held : Bool) → eq_by_cmp atom_cmp q (atom_of_literal c.literal) ≡ false → is_among q (literals_in task s changes) ≡ false
         → is_among q (map (λ (d : Change). d.literal) (cond held (c ∷ filter (λ (d : Change). holds task d.condition d.binding s) changes) (filter (λ (d : Change). holds task d.condition d.binding s) changes))) ≡ false
     by_condition true first rest = or_from _ _ first rest
     by_condition false first rest = rest
@@ -101,23 +97,28 @@ and_or_nothing false = refl
 kept : (x y z : Bool) → y ≡ false → z ≡ false → ((x && not y) || z) ≡ x
 kept x y z ey ez = ap (λ v. (x && not v) || z) ey ∙ ap (λ v. (x && not false) || v) ez ∙ and_or_nothing x
 
--- literals that are not of an atom leave it as it is
-contains-after_literals : (s : State) (q : Atom) (literals : List GroundLiteral) → is_among q literals ≡ false → contains (after_literals s literals) q ≡ contains s q
-contains-after_literals s q literals none =
+-- what is true after some literals
+pub contains-after_literals : (s : State) (literals : List GroundLiteral) (q : Atom)
+    → contains (after_literals s literals) q ≡ ((contains s q && not (stands_in (deleted_by literals) q)) || stands_in (added_by literals) q)
+contains-after_literals s literals q =
     let gone : State = from_list (deleted_by literals) in
     let new : State = from_list (added_by literals) in
     contains-union atoms_total (difference s gone) new q
-    ∙ ap (λ v. v || contains new q) (contains-difference atoms_total s gone q)
-    ∙ kept (contains s q) (contains gone q) (contains new q)
-    (contains-from_list atoms_total (deleted_by literals) q ∙ not_deleted q literals none)
-    (contains-from_list atoms_total (added_by literals) q ∙ not_added q literals none)
+    ∙ (λ i. contains-difference atoms_total s gone q i || contains-from_list atoms_total (added_by literals) q i)
+    ∙ ap (λ b. (contains s q && not b) || stands_in (added_by literals) q) (contains-from_list atoms_total (deleted_by literals) q)
+
+-- literals that are not of an atom leave it as it is
+left_by_literals : (s : State) (q : Atom) (literals : List GroundLiteral) → is_among q literals ≡ false → contains (after_literals s literals) q ≡ contains s q
+left_by_literals s q literals none =
+    contains-after_literals s literals q
+    ∙ kept (contains s q) (stands_in (deleted_by literals) q) (stands_in (added_by literals) q) (not_deleted q literals none) (not_added q literals none)
 
 -- so do the changes of an effect that does not touch the atom's predicate
 contains-after : (task : Task) (s : State) (q : Atom) (e : Effect) (b : List ℕ) → touches q.predicate e ≡ false → contains (after_changes task s (changes_of task e b)) q ≡ contains s q
 contains-after task s q e b apart =
-    contains-after_literals s q (literals_in task s (changes_of task e b)) (not_among task s q (changes_of task e b) (untouched task q e b apart))
+    left_by_literals s q (literals_in task s (changes_of task e b)) (not_among task s q (changes_of task e b) (untouched task q e b apart))
 
-none_of_all : {X : Type 0} (p : X → Bool) (xs : List X) (k : ℕ) (x : X) → list_any p xs ≡ false → slice_get xs k ≡ Some x → p x ≡ false
+pub none_of_all : {X : Type 0} (p : X → Bool) (xs : List X) (k : ℕ) (x : X) → list_any p xs ≡ false → slice_get xs k ≡ Some x → p x ≡ false
 none_of_all p [] k x none at = absurd (cc)
 none_of_all p (first ∷ xs) zero x none at =
     let same : first ≡ x = cc in ap p (sym same) ∙ (or_parts (p first) (list_any p xs) none).0

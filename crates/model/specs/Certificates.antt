@@ -1,10 +1,11 @@
 -- Certificates, and when one is closed for a task.
-use Rattle.std.specs.Prelude.{◌≢◌, ℕ, ◌+◌, Bool, true, false, not, ◌&&◌, ◌||◌, ◌==◌, nat_lt, nat_le, IsTrue, List, [], ◌∷◌, ◌++◌, map, filter, length, All, AllPairs, slice_get, Option}
+use Rattle.std.specs.Prelude.{◌≢◌, ℕ, ◌+◌, Bool, true, ◌&&◌, nat_lt, nat_le, IsTrue, List, [], ◌∷◌, ◌++◌, map, length, All, AllPairs, slice_get, Option}
 use Rattle.std.specs.Option.{option_map_or}
-use Rattle.std.specs.List.{list_all, list_any, filter_map}
+use Rattle.std.specs.List.{list_all, filter_map}
 use Rattle.std.specs.FinSet.{from_list}
-use Rattle.model.specs.Task.{Atom, EffectLiteral, add, delete, Effect, Effects, literal, both, each, when, no_effect, more_effects, Schema, Task}
+use Rattle.model.specs.Task.{Atom, Task}
 use Rattle.model.specs.WellTyped.{is_atom}
+pub use Rattle.model.specs.Fluents.{is_literal_of, touches, any_touches, is_fluent, static_atoms}
 use Rattle.model.specs.Meaning.{State, system_of}
 use Rattle.model.specs.Claims.{Claim, bound, none, Line, IsClosed}
 
@@ -40,31 +41,6 @@ is_state_line atom_count line = is_number line.cost && option_map_or is_number l
 abbrev pub keeps_limits : Certificate → Bool
 keeps_limits c =
     is_claim c.claim && nat_le (length c.atoms) 1048576 && nat_le (length c.lines) 16777216 && list_all (is_state_line (length c.atoms)) c.lines
-
--- the literal is of this predicate
-abbrev pub is_literal_of : ℕ → EffectLiteral → Bool
-is_literal_of predicate (add a) = a.predicate == predicate
-is_literal_of predicate (delete a) = a.predicate == predicate
-
--- the effect has a literal of this predicate
-abbrev mutual
-  pub touches : ℕ → Effect → Bool
-  touches predicate (literal l) = is_literal_of predicate l
-  touches predicate (both parts) = any_touches predicate parts
-  touches predicate (each types part) = touches predicate part
-  touches predicate (when condition literals) = list_any (is_literal_of predicate) literals
-
-  pub any_touches : ℕ → Effects → Bool
-  any_touches predicate no_effect = false
-  any_touches predicate (more_effects first rest) = touches predicate first || any_touches predicate rest
-
--- a predicate is fluent where some action adds or deletes an atom of it, and else static
-abbrev pub is_fluent : Task → ℕ → Bool
-is_fluent task predicate = list_any (λ (s : Schema). touches predicate s.effect) task.schemas
-
--- the atoms of static predicates that are true at the start, and so in every reachable state
-abbrev pub static_atoms : Task → List Atom
-static_atoms task = filter (λ (a : Atom). not (is_fluent task a.predicate)) task.init
 
 -- the state that a line lists: its atoms with the initial static ones
 abbrev pub state_of_line : Task → Certificate → StateLine → State

@@ -1,4 +1,5 @@
--- The limits of the language profile on what a domain and a problem have. Each is the most that is taken.
+-- The limits of the language profile on what a domain and a problem have, and of grounding on what it numbers. Each is the
+-- most that is taken.
 use Rattle.std.specs.Prelude.{ℕ}
 
 -- the most types that a domain declares, beside `object`
@@ -20,3 +21,7 @@ max_variables = 16
 -- the greatest number that is written
 abbrev pub max_number : ℕ
 max_number = 2147483647
+
+-- the most atoms that have numbers once a task is grounded
+abbrev pub max_numbered_atoms : ℕ
+max_numbered_atoms = 1048576

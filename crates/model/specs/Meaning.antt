@@ -115,6 +115,10 @@ abbrev mutual
   changes_of_all task no_effect binding = []
   changes_of_all task (more_effects first rest) binding = changes_of task first binding ++ changes_of_all task rest binding
 
+-- the changes of an instance: those of its schema's effect, where the parameters have its objects
+abbrev pub changes_of_instance : Task → Instance → List Change
+changes_of_instance task i = option_map_or (λ (s : Schema). changes_of task s.effect i.objects) (slice_get task.schemas i.schema) []
+
 -- the literals of the changes whose condition holds in the state
 abbrev pub literals_in : Task → State → List Change → List GroundLiteral
 literals_in task state changes =

@@ -1,0 +1,74 @@
+-- What is closed off holds in no state with the initial static atoms.
+use Rattle.std.proofs.Common.{◌≡◌, ◌∙◌, ℕ, Bool, true, false, not, ◌&&◌, inl, inr, List, [], ◌∷◌, Option, None, Some, refl, sym, ap, true≢false}
+use Rattle.std.specs.Prelude.{Contains, slice_get, if◌then◌else◌}
+use Rattle.std.specs.List.{list_any, list_all}
+use Rattle.std.specs.Option.{option_map_or, option_and_then}
+use Rattle.std.proofs.lemmas.Bool.{and_parts, or_cases, cases_Bool, not-true, not-false, false_from_ne_true}
+use Rattle.model.specs.Task.{Formula, Schema, Task, Instance}
+use Rattle.model.specs.Meaning.{State, initial_state, holds, fits, step, after_changes, changes_of, is_instance}
+use Rattle.model.specs.Instances.{all_instances}
+use Rattle.model.specs.Fluents.{is_fluent, HasInitialStatics}
+use Rattle.model.specs.SureLiterals.{Literal, is_true, is_false, are_same, are_different, literal_holds, sure}
+use Rattle.model.specs.ClosedOff.{is_fixed, is_closed_off, is_kept, kept_instances, ClosedOffIsNotApplicable, OnlyCountingChangesAreMade}
+use Rattle.model.proofs.SureLiteralsHold.{sure_literals_hold}
+use Rattle.model.proofs.ListLemmas.{Contains-filter, filter-Contains}
+use Rattle.model.proofs.InstancesLemmas.{Contains-all_instances, all_instances-Contains, is_instance-of_step}
+
+-- a fixed literal says what it says at the start
+fixed : (task : Task) (s : State) (l : Literal) → HasInitialStatics task s → is_fixed task l ≡ true → literal_holds s l ≡ literal_holds (initial_state task) l
+fixed task s (is_true a) statics is = statics a (not-true (is_fluent task a.predicate) is)
+fixed task s (is_false a) statics is = ap not (statics a (not-true (is_fluent task a.predicate) is))
+fixed task s (are_same a b) statics is = refl
+fixed task s (are_different a b) statics is = refl
+
+-- they do not all hold where one is fixed and false at the start
+not_all_hold : (task : Task) (s : State) (ls : List Literal) → HasInitialStatics task s → list_all (literal_holds s) ls ≡ true
+    → list_any (λ l. is_fixed task l && not (literal_holds (initial_state task) l)) ls ≡ true → ⊥
+not_all_hold task s [] statics all some = true≢false (sym some)
+not_all_hold task s (l ∷ ls) statics all some =
+    let both = and_parts (literal_holds s l) (list_all (literal_holds s) ls) all in
+    elim (or_cases (is_fixed task l && not (literal_holds (initial_state task) l)) _ some) [
+      | inl here ↦
+          let parts = and_parts (is_fixed task l) (not (literal_holds (initial_state task) l)) here in
+          true≢false (sym both.0 ∙ fixed task s l statics parts.0 ∙ not-true (literal_holds (initial_state task) l) parts.1)
+      | inr later ↦ not_all_hold task s ls statics both.1 later
+    ]
+
+pub closed_off-fails : (task : Task) (f : Formula) (b : List ℕ) (s : State) → HasInitialStatics task s → is_closed_off task f b ≡ true → holds task f b s ≡ false
+closed_off-fails task f b s statics closed =
+    false_from_ne_true (holds task f b s) (λ holding. not_all_hold task s (sure task f b) statics (sure_literals_hold task f b s holding) closed)
+
+pub only_counting_changes_are_made : OnlyCountingChangesAreMade
+only_counting_changes_are_made task c s statics uncounted =
+    closed_off-fails task c.condition c.binding s statics (not-false (is_closed_off task c.condition c.binding) uncounted)
+
+abbrev leads_by : Task → State → Instance → Schema → Option State
+leads_by task s i schema =
+    if fits task schema i.objects && holds task schema.precondition i.objects s then Some (after_changes task s (changes_of task schema.effect i.objects)) else None
+
+nowhere : (a b : Bool) (x : State) → b ≡ false → (if a && b then Some x else None) ≡ None
+nowhere true b x is = ap (λ c. if c then Some x else None) is
+nowhere false b x is = refl
+
+pub closed_off_is_not_applicable : ClosedOffIsNotApplicable
+closed_off_is_not_applicable task i s statics closed =
+    elim (slice_get task.schemas i.schema) as (λ o. option_map_or (λ (schema : Schema). not (is_closed_off task schema.precondition i.objects)) o false ≡ false
+    → option_and_then (leads_by task s i) o ≡ None) [
+      | None ↦ λ _. refl
+      | Some schema ↦ λ is.
+          nowhere (fits task schema i.objects) (holds task schema.precondition i.objects s) _
+          (closed_off-fails task schema.precondition i.objects s statics (not-false (is_closed_off task schema.precondition i.objects) is))
+    ] closed
+
+-- so only a kept instance leads anywhere
+pub Contains-kept : (task : Task) (s next : State) (i : Instance) → HasInitialStatics task s → step task s i ≡ Some next → Contains (kept_instances task) i
+Contains-kept task s next i statics leads =
+    Contains-filter (is_kept task) (all_instances task) i (Contains-all_instances task i (is_instance-of_step task s i next leads))
+    (elim (cases_Bool (is_kept task i)) [
+      | inl kept ↦ kept
+      | inr closed ↦ let nowhere_at_all = closed_off_is_not_applicable task i s statics closed in absurd (cc)
+    ])
+
+-- and what is kept is an instance that is not closed off
+pub kept-Contains : (task : Task) (i : Instance) → Contains (kept_instances task) i → (is_instance task i ≡ true) × (is_kept task i ≡ true)
+kept-Contains task i at = let both = filter-Contains (is_kept task) (all_instances task) i at in (all_instances-Contains task i both.0, both.1)

@@ -1,0 +1,27 @@
+-- Two transition systems of which each does what the other does, step by step, under names of its own.
+use Rattle.std.specs.Prelude.{◌≡◌, ℕ, List, Some}
+use Rattle.std.specs.List.{AllZip}
+use Rattle.model.specs.Runs.{System, CostsAtLeast, IsOptimal, IsUnsolvable}
+
+-- A bisimulation: the initial states are the same; from states that are the same, each step of the one system is a step
+-- of the other, by actions that name one another, to states that are the same; the goal is met in both or in none, and
+-- actions that name one another cost the same.
+pub record IsBisimulation {S A T B : Type 0} (t : System S A) (u : System T B) (same : S → T → Type 0) (names : A → B → Type 0) : Type 0 where
+  pub initial : same t.initial u.initial
+  pub forth : (s : S) (s' : T) (a : A) (next : S) → same s s' → t.step s a ≡ Some next
+      → (b : B) × (next' : T) × names a b × (u.step s' b ≡ Some next') × same next next'
+  pub back : (s : S) (s' : T) (b : B) (next' : T) → same s s' → u.step s' b ≡ Some next'
+      → (a : A) × (next : S) × names a b × (t.step s a ≡ Some next) × same next next'
+  pub goals : (s : S) (s' : T) → same s s' → t.meets_goal s ≡ u.meets_goal s'
+  pub costs : (a : A) (b : B) → names a b → t.cost a ≡ u.cost b
+
+-- What solves the one system at least cost has a list of the other that does, each action of which is named by the one in
+-- its place; what each list that solves costs at least is so of both; and where nothing solves the one, nothing solves the
+-- other.
+pub record SolveAlike {S A T B : Type 0} (t : System S A) (u : System T B) (names : A → B → Type 0) : Type 0 where
+  pub optimal : (plan : List A) → IsOptimal t plan → (plan' : List B) × AllZip names plan plan' × IsOptimal u plan'
+  pub optimal_back : (plan' : List B) → IsOptimal u plan' → (plan : List A) × AllZip names plan plan' × IsOptimal t plan
+  pub bound : (least : ℕ) → CostsAtLeast t least → CostsAtLeast u least
+  pub bound_back : (least : ℕ) → CostsAtLeast u least → CostsAtLeast t least
+  pub unsolvable : IsUnsolvable t → IsUnsolvable u
+  pub unsolvable_back : IsUnsolvable u → IsUnsolvable t

@@ -1,0 +1,58 @@
+-- What no reachable state allows, as the initial state already tells: formulas that are closed off, the instances that are
+-- not, and the changes that count (a planner's own notions; the meaning of a task does not rest on them).
+use Rattle.std.specs.Prelude.{◌≡◌, ℕ, Bool, true, false, not, ◌&&◌, List, filter, slice_get, None}
+use Rattle.std.specs.List.{list_any}
+use Rattle.std.specs.Option.{option_map_or}
+use Rattle.model.specs.Task.{Formula, and, no_formula, Task, Instance}
+use Rattle.model.specs.Meaning.{State, initial_state, holds, Change, changes_of_instance, step}
+use Rattle.model.specs.Fluents.{is_fluent, HasInitialStatics}
+use Rattle.model.specs.Instances.{all_instances}
+use Rattle.model.specs.SureLiterals.{Literal, is_true, is_false, are_same, are_different, literal_holds, sure}
+
+-- the literal is of a static predicate, or of an equality: in each reachable state it says what it says at the start
+abbrev pub is_fixed : Task → Literal → Bool
+is_fixed task (is_true a) = not (is_fluent task a.predicate)
+is_fixed task (is_false a) = not (is_fluent task a.predicate)
+is_fixed task (are_same a b) = true
+is_fixed task (are_different a b) = true
+
+-- A formula is closed off, where the variables have these objects, where one of its sure literals is static, or of an
+-- equality, and is false at the start.
+abbrev pub is_closed_off : Task → Formula → List ℕ → Bool
+is_closed_off task formula binding =
+    list_any (λ l. is_fixed task l && not (literal_holds (initial_state task) l)) (sure task formula binding)
+
+-- an instance is kept where its precondition is not closed off
+abbrev pub is_kept : Task → Instance → Bool
+is_kept task i = option_map_or (λ schema. not (is_closed_off task schema.precondition i.objects)) (slice_get task.schemas i.schema) false
+
+-- The instances that are kept, in the order of all instances. The number of one is its place, from 0.
+abbrev pub kept_instances : Task → List Instance
+kept_instances task = filter (is_kept task) (all_instances task)
+
+-- a change counts where its condition is not closed off
+abbrev pub counts : Task → Change → Bool
+counts task c = not (is_closed_off task c.condition c.binding)
+
+-- the changes of an instance that count
+abbrev pub counting_changes : Task → Instance → List Change
+counting_changes task i = filter (counts task) (changes_of_instance task i)
+
+-- the formula is `(and)`, as it is written
+abbrev pub is_empty_and : Formula → Bool
+is_empty_and (and no_formula) = true
+is_empty_and _ = false
+
+-- a change is unconditional where its condition is `(and)`, as it is outside a `when`
+abbrev pub is_unconditional : Change → Bool
+is_unconditional c = is_empty_and c.condition
+
+-- an instance that is not kept is applicable in no state with the initial static atoms
+abbrev pub ClosedOffIsNotApplicable : Type 0
+ClosedOffIsNotApplicable =
+    (task : Task) (i : Instance) (state : State) → HasInitialStatics task state → is_kept task i ≡ false → step task state i ≡ None
+
+-- in no such state is the condition of a change met that does not count
+abbrev pub OnlyCountingChangesAreMade : Type 0
+OnlyCountingChangesAreMade =
+    (task : Task) (c : Change) (state : State) → HasInitialStatics task state → counts task c ≡ false → holds task c.condition c.binding state ≡ false

@@ -1,0 +1,62 @@
+-- The atoms that have numbers once a task is grounded.
+use Rattle.std.specs.Prelude.{◌≡◌, ℕ, Bool, true, not, ◌&&◌, ◌||◌, List, [], ◌∷◌, ◌++◌, map, filter, if◌then◌else◌, Option}
+use Rattle.std.specs.List.{list_any, flat_map, position}
+use Rattle.std.specs.Ordering.{eq_by_cmp}
+use Rattle.std.specs.FinSet.{contains}
+use Rattle.model.specs.Task.{Atom, Task, Instance}
+use Rattle.model.specs.Meaning.{State, initial_state, atom_cmp, GroundLiteral, adds, deletes, Change}
+use Rattle.model.specs.Fluents.{is_fluent}
+use Rattle.model.specs.ClosedOff.{kept_instances, counting_changes}
+
+-- the atom stands in the list
+abbrev pub stands_in : List Atom → Atom → Bool
+stands_in atoms a = list_any (eq_by_cmp atom_cmp a) atoms
+
+-- the list with the atom at its end, unless it stands there already
+abbrev pub with_atom : List Atom → Atom → List Atom
+with_atom atoms a = if stands_in atoms a then atoms else atoms ++ a ∷ []
+
+-- the list with each of these in turn
+abbrev pub with_atoms : List Atom → List Atom → List Atom
+with_atoms atoms [] = atoms
+with_atoms atoms (a ∷ rest) = with_atoms (with_atom atoms a) rest
+
+-- the atom that is added or deleted
+abbrev pub atom_of_literal : GroundLiteral → Atom
+atom_of_literal (adds a) = a
+atom_of_literal (deletes a) = a
+
+-- the atoms that a change that counts adds or deletes
+abbrev pub touched_by : Task → Instance → List Atom
+touched_by task i = map (λ (c : Change). atom_of_literal c.literal) (counting_changes task i)
+
+abbrev pub initial_fluent_atoms : Task → List Atom
+initial_fluent_atoms task = filter (λ (a : Atom). is_fluent task a.predicate) task.init
+
+-- The atoms that have numbers, each once, at the places, from 0, that are their numbers: `more`, in its order, then the
+-- fluent atoms that are true at the start, then those that a change that counts of a kept instance adds or deletes.
+abbrev pub numbered_atoms : Task → List Atom → List Atom
+numbered_atoms task more =
+    with_atoms [] (more ++ initial_fluent_atoms task ++ flat_map (touched_by task) (kept_instances task))
+
+-- the number of an atom, if it has one
+abbrev pub number_of : List Atom → Atom → Option ℕ
+number_of atoms a = position (eq_by_cmp atom_cmp a) atoms
+
+-- no atom stands there twice
+abbrev pub are_distinct : List Atom → Bool
+are_distinct [] = true
+are_distinct (a ∷ rest) = not (stands_in rest a) && are_distinct rest
+
+-- the fluent atoms that are true in the state have numbers
+abbrev pub HasNumberedFluents : Task → List Atom → State → Type 0
+HasNumberedFluents task atoms state = (a : Atom) → is_fluent task a.predicate ≡ true → contains state a ≡ true → stands_in atoms a ≡ true
+
+-- What numbering gives: no atom has two numbers; those of `more` are numbered as they stand, if none stands there twice;
+-- and the numbered atoms are those of `more`, the fluent ones that are true at the start, and those that a change that
+-- counts of a kept instance adds or deletes.
+pub record AreNumbered (task : Task) (more atoms : List Atom) : Type 0 where
+  pub once : are_distinct atoms ≡ true
+  pub more_first : are_distinct more ≡ true → (others : List Atom) × (atoms ≡ more ++ others)
+  pub which : (a : Atom) → stands_in atoms a
+      ≡ ((stands_in more a || (is_fluent task a.predicate && contains (initial_state task) a)) || list_any (λ i. stands_in (touched_by task i) a) (kept_instances task))
