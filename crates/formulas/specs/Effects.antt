@@ -1,5 +1,5 @@
 -- The code's changes one by one, in the model's terms.
-use Rattle.std.specs.Prelude.{List, [], map, slice_get, Option}
+use Rattle.std.specs.Prelude.{map, Option}
 use Rattle.std.specs.Borrow.{Bor}
 use Rattle.std.specs.Option.{option_map_or}
 use Rattle.formulas.specs.declared.effects.GroundLiteral.{GroundLiteral}
@@ -24,7 +24,3 @@ change_of c = record {
   binding = map object_of c.binding.items;
   literal = ground_literal_of c.literal;
 }
-
--- the changes of an instance are those of its schema's effect, where the parameters have its objects
-abbrev pub changes_of_instance : task.Task → task.Instance → List meaning.Change
-changes_of_instance t i = option_map_or (λ (s : task.Schema). meaning.changes_of t s.effect i.objects) (slice_get t.schemas i.schema) []

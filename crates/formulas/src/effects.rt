@@ -3,9 +3,9 @@ ghost use Rattle.std.specs.Prelude.{◌≡◌, ◌++◌, ◌∷◌, [], map, IsT
 ghost use Rattle.typing.specs.TaskParts.{object_of, formula_of, effect_literal_of, effect_of, union_of};
 ghost use Rattle.typing.specs.Task.{task_of};
 ghost use Rattle.formulas.specs.State.{instance_of, FitsEffect, FitsLiteral, FitsLiterals};
-ghost use Rattle.formulas.specs.Effects.{ground_literal_of, condition_of, change_of, changes_of_instance};
+ghost use Rattle.formulas.specs.Effects.{ground_literal_of, condition_of, change_of};
 ghost use Rattle.model.specs.Task.{each};
-ghost use Rattle.model.specs.Meaning.{is_instance, changes_of, change_under, ground_literal};
+ghost use Rattle.model.specs.Meaning.{is_instance, changes_of, changes_of_instance, change_under, ground_literal};
 
 use crate::instance::{Binding, Instance};
 use crate::truth::{copied, ground_atom};
