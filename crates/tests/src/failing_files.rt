@@ -53,6 +53,10 @@ impl FailingFiles {
         }
     }
 
+    fn fails_at_closing(&self) -> bool {
+        matches!(self.failing, Failing::Closing)
+    }
+
     fn count_failure(&mut self)
         ensures table { self.new.table ≡ self.old.table }
         ensures failures { self.new.failures ≡ one_more self.old.failures }
@@ -114,9 +118,9 @@ impl Files for FailingFiles {
         &mut self,
         output: FailsAt<InPieces<<Table as Files>::Output>>,
     ) -> Result<(), WriteFault> {
-        let fails = matches!(self.failing, Failing::Closing) || output.failed_writes() > 0;
+        let has_failed = output.failed_writes() > 0;
         let closed = self.table.close(output.inner.inner);
-        if fails {
+        if has_failed || self.fails_at_closing() {
             self.count_failure();
             return Err(WriteFault::Device);
         }
