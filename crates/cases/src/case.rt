@@ -1,5 +1,6 @@
 //! A case: the files, the words of the command, and what is wanted of it.
 use crate::files::CaseFiles;
+use crate::holdings::Holdings;
 use crate::section::{Section, Turn};
 use crate::stream::Stream;
 use faults::NoMemory;
@@ -61,6 +62,8 @@ pub struct Case<'a> {
     pub files: CaseFiles,
     /// The words of the command, if one is run.
     pub words: Option<Vec<&'a str>>,
+    /// What files are to hold after the run.
+    pub holdings: Holdings<'a>,
     /// The standard output.
     pub out: Stream,
     /// The standard error.
@@ -75,6 +78,7 @@ impl<'a> Case<'a> {
         Case {
             files: CaseFiles::new(alloc),
             words: None,
+            holdings: Holdings::new(alloc),
             out: Stream::new(alloc),
             err: Stream::new(alloc),
             status: 0,
@@ -115,10 +119,31 @@ impl<'a> Case<'a> {
                 self.files.piece = number_of(section.words)?;
                 Ok(())
             }
+            "file" => want_file(alloc, &mut self.holdings, section, turn),
+            "no" => want_no_file(&mut self.holdings, section),
             "stdout" => self.out.take(alloc, section, turn),
             "stderr" => self.err.take(alloc, section, turn),
             _ => take_file(alloc, &mut self.files.table, section, turn),
         }
+    }
+}
+
+/// Has the file of the section hold its bytes after the run.
+fn want_file<'a>(
+    alloc: Global,
+    holdings: &mut Holdings<'a>,
+    section: Section<'a>,
+    turn: Turn,
+) -> Result<(), CaseFault> {
+    let bytes = section.bytes(alloc, turn)?;
+    holdings.want(section.words, Some(bytes))
+}
+
+/// Has the file of the section be missing after the run.
+fn want_no_file<'a>(holdings: &mut Holdings<'a>, section: Section<'a>) -> Result<(), CaseFault> {
+    match section.verb() {
+        ("file", name) => holdings.want(name, None),
+        _ => Err(CaseFault::Words),
     }
 }
 

@@ -31,6 +31,12 @@ impl Files for CaseFiles {
 
     ghost contents = { λ files name. ⟦<Table as Files>⟧.contents files.table name };
 
+    ghost is_missing = { λ files name. ⟦<Table as Files>⟧.is_missing files.table name };
+
+    ghost is_known = { ⟦<Table as Files>⟧.is_known };
+
+    ghost name_of = { ⟦<Table as Files>⟧.name_of };
+
     fn open(&mut self, name: &str) -> Result<InPieces<FailsAt<Memory>>, WriteFault> {
         let input = self.table.open(name)?;
         Ok(InPieces::new(input, self.piece.max(1) as usize))

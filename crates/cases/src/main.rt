@@ -5,6 +5,7 @@
 mod case;
 mod each;
 mod files;
+mod holdings;
 mod outcome;
 mod section;
 mod stream;

@@ -1,5 +1,6 @@
 //! What a case gives, beside what it is to give.
 use crate::case::{Case, CaseFault};
+use crate::stream::Device;
 use std::alloc::{AllocError, Global};
 
 /// How a case differs from what is wanted, and `None` where it does not.
@@ -26,8 +27,21 @@ fn run(alloc: Global, case: &mut Case<'_>) -> Result<Option<String>, CaseFault> 
     if u32::from(status) != case.status {
         return Ok(Some(status_text(alloc, status, case.status)?));
     }
-    match case.err.difference(alloc, "stderr", &err)? {
-        None => Ok(case.out.difference(alloc, "stdout", &out)?),
+    match stream_difference(alloc, case, &out, &err)? {
+        None => Ok(case.holdings.difference(alloc, &case.files.table)?),
+        found => Ok(found),
+    }
+}
+
+/// How what the streams took differs, and `None` where it does not.
+fn stream_difference(
+    alloc: Global,
+    case: &Case<'_>,
+    out: &Device,
+    err: &Device,
+) -> Result<Option<String>, AllocError> {
+    match case.err.difference(alloc, "stderr", err)? {
+        None => case.out.difference(alloc, "stdout", out),
         found => Ok(found),
     }
 }

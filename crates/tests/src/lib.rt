@@ -7,11 +7,17 @@ mod answers;
 #[cfg(test)]
 mod certificates;
 #[cfg(test)]
+mod failing_files;
+#[cfg(test)]
+mod failing_runs;
+#[cfg(test)]
 mod helpers;
 #[cfg(test)]
 mod laws;
 #[cfg(test)]
 mod listings;
+#[cfg(test)]
+mod plan_files;
 #[cfg(test)]
 mod searches;
 #[cfg(test)]
