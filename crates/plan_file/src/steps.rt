@@ -29,26 +29,27 @@ pub(super) fn instances_of(
     ensures refused { IfErr result (λ fault. IfSome (told_by fault) (IsFirstFault (task_of task.now) (map step_of steps.now))) }
 {
     let mut instances = Vec::new(alloc);
+    let mut buffer = Vec::new(alloc);
     for step in steps {
-        let instance = instance_of(alloc, task, step)?;
+        let instance = instance_of(task, step, &mut buffer)?;
         instances.push(instance)?;
     }
     Ok(instances)
 }
 
-/// The instance of a step.
-fn instance_of(alloc: Global, task: &Task, step: &Step<'_>) -> Result<Instance, Fault>
+/// The instance of a step. Its names are folded in the buffer that is lent.
+fn instance_of(task: &Task, step: &Step<'_>, buffer: &mut Vec<u8>) -> Result<Instance, Fault>
     ensures means { IfOk result (λ i. Means (task_of task.now) (step_of step.now) (view.instance_of i)) }
     ensures refused { IfErr result (λ fault. IfSome (told_by fault) (IsStepFault (task_of task.now) (step_of step.now))) }
 {
-    let Some(schema) = schema_named(alloc, task, step.action)? else {
+    let Some(schema) = schema_named(task, step.action, buffer)? else {
         return Err(step.action.refused(Code::UnknownAction));
     };
     let parameters = parameters_of(task, schema);
     if step.objects.len() != parameters.len() {
         return Err(step.action.refused(Code::StepArity));
     }
-    let objects = objects_of(alloc, task, parameters, &step.objects)?;
+    let objects = objects_of(task, parameters, &step.objects, buffer)?;
     Ok(Instance { schema, objects })
 }
 
@@ -63,10 +64,10 @@ fn parameters_of(task: &Task, schema: SchemaId) -> &[TypeUnion]
 
 /// The objects of these names, in order, each of one of the types in its place.
 fn objects_of(
-    alloc: Global,
     task: &Task,
     parameters: &[TypeUnion],
     names: &[Word<'_>],
+    buffer: &mut Vec<u8>,
 ) -> Result<Binding, Fault>
     requires few { length parameters.now ≤ 16 }
     requires counts { length names.now ≡ length parameters.now }
@@ -77,40 +78,48 @@ fn objects_of(
 {
     let mut objects = Binding::new();
     for (types, name) in parameters.iter().zip(names) {
-        objects.push(object_of(alloc, task, types, *name)?);
+        objects.push(object_of(task, types, *name, buffer)?);
     }
     Ok(objects)
 }
 
 /// The object of this name, which has to be of one of these types.
 fn object_of(
-    alloc: Global,
     task: &Task,
     types: &TypeUnion,
     name: Word<'_>,
+    buffer: &mut Vec<u8>,
 ) -> Result<ObjectId, Fault>
     ensures number { IfOk result (λ object. IsNumberOf (object_names (task_of task.now)) (name_of name.entry) object.0) }
     ensures fits { IfOk result (λ object. IsTrue (is_of (task_of task.now) (union_of types.now) object.0)) }
     ensures refused { IfErr result (λ fault. IfSome (told_by fault) (IsNoObject (task_of task.now) (union_of types.now) (name_of name.entry))) }
 {
-    match object_named(alloc, task, name)? {
+    match object_named(task, name, buffer)? {
         Some(object) if task.is_of(object, types) => Ok(object),
         _ => Err(name.refused(Code::StepType)),
     }
 }
 
-fn schema_named(alloc: Global, task: &Task, name: Word<'_>) -> Result<Option<SchemaId>, NoMemory>
+fn schema_named(
+    task: &Task,
+    name: Word<'_>,
+    buffer: &mut Vec<u8>,
+) -> Result<Option<SchemaId>, NoMemory>
     ensures { IfOk result (λ found.
         option_map schema_id_of found ≡ position (is_same (folded (name_of name.entry))) (schema_names (task_of task.now))) }
 {
-    let folded = name.text().to_ascii_lowercase(alloc)?;
-    Ok(task.schema_named(folded.as_slice()))
+    name.fold_into(buffer)?;
+    Ok(task.schema_named(buffer.as_slice()))
 }
 
-fn object_named(alloc: Global, task: &Task, name: Word<'_>) -> Result<Option<ObjectId>, NoMemory>
+fn object_named(
+    task: &Task,
+    name: Word<'_>,
+    buffer: &mut Vec<u8>,
+) -> Result<Option<ObjectId>, NoMemory>
     ensures { IfOk result (λ found.
         option_map object_of found ≡ position (is_same (folded (name_of name.entry))) (object_names (task_of task.now))) }
 {
-    let folded = name.text().to_ascii_lowercase(alloc)?;
-    Ok(task.object_named(folded.as_slice()))
+    name.fold_into(buffer)?;
+    Ok(task.object_named(buffer.as_slice()))
 }
