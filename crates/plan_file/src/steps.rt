@@ -1,55 +1,102 @@
-//! The instances that the steps of a plan text name.
-ghost use Rattle.std.specs.Prelude.{◌≡◌, ◌<◌, ◌≤◌, ℕ, Some, IsTrue, IfOk, IfErr, IfSome, length, map, position, slice_get};
+//! What the steps of a plan text mean.
+ghost use Rattle.std.specs.Prelude.{◌≡◌, ◌<◌, ◌≤◌, ◌++◌, ◌∷◌, [], ℕ, List, Some, IsTrue, IfOk, IfErr, IfSome, OnOk, length, map, position, slice_get};
 ghost use Rattle.std.specs.Cmp.Lexicographic.{pointwise};
 ghost use Rattle.std.specs.Option.{option_map};
 ghost use Rattle.faults.specs.Fault.{told_by};
 ghost use Rattle.typing.specs.Task.{task_of};
 ghost use Rattle.typing.specs.TaskParts.{object_of, schema_id_of, union_of};
 ghost use Rattle.formulas.specs.State as view;
-ghost use Rattle.plan_file.specs.PlanFile.{step_of, name_of, IsFirstFault, IsWrongObject, IsNoObject};
+ghost use Rattle.plan_file.specs.PlanFile.{step_of, name_of, IsMeaning, IsFirstFault, IsWrongObject, IsNoObject};
 ghost use Rattle.model.specs.Task as model;
 ghost use Rattle.model.specs.Meaning.{is_of};
 ghost use Rattle.model.specs.Typing.{folded, is_same};
+ghost use Rattle.model.specs.PlanText as text;
 ghost use Rattle.model.specs.PlanText.{Means, AllMean, IsNumberOf, AreNumbersOf, IsStepFault, schema_names, object_names};
 
-use crate::text::Step;
 use crate::word::Word;
-use faults::{Code, Fault, NoMemory};
+use faults::{Code, Fault, NoMemory, Refusal, Refused};
 use formulas::{Binding, Instance};
 use std::alloc::Global;
 use typing::{ObjectId, SchemaId, Task, TypeUnion};
 
-/// The instances of these steps, in order.
-pub(super) fn instances_of(
-    alloc: Global,
-    task: &Task,
-    steps: &[Step<'_>],
-) -> Result<Vec<Instance>, Fault>
-    ensures mean { IfOk result (λ found. AllMean (task_of task.now) (map step_of steps.now) (map view.instance_of found.items)) }
-    ensures refused { IfErr result (λ fault. IfSome (told_by fault) (IsFirstFault (task_of task.now) (map step_of steps.now))) }
-{
-    let mut instances = Vec::new(alloc);
-    let mut buffer = Vec::new(alloc);
-    for step in steps {
-        let instance = instance_of(task, step, &mut buffer)?;
-        instances.push(instance)?;
-    }
-    Ok(instances)
+/// What the steps of a text mean, up to one: their instances, in order, or the refusal of the first that is at fault.
+#[derive(Drop)]
+pub(super) struct Meaning {
+    /// The instances of the steps before the first at fault.
+    instances: Vec<Instance>,
+    refusal: Option<Refusal>,
+    /// Where names are folded.
+    buffer: Vec<u8>,
 }
 
-/// The instance of a step. Its names are folded in the buffer that is lent.
-fn instance_of(task: &Task, step: &Step<'_>, buffer: &mut Vec<u8>) -> Result<Instance, Fault>
-    ensures means { IfOk result (λ i. Means (task_of task.now) (step_of step.now) (view.instance_of i)) }
-    ensures refused { IfErr result (λ fault. IfSome (told_by fault) (IsStepFault (task_of task.now) (step_of step.now))) }
+impl Meaning {
+    /// What no steps mean.
+    pub(super) fn new(alloc: Global) -> Meaning
+        ensures { (task : model.Task) → IsMeaning task [] result }
+    {
+        Meaning {
+            instances: Vec::new(alloc),
+            refusal: None,
+            buffer: Vec::new(alloc),
+        }
+    }
+
+    /// Takes one step more, of this action and these objects. After the first that is at fault none is looked at.
+    pub(super) fn take(
+        &mut self,
+        task: &Task,
+        action: Word<'_>,
+        objects: &[Word<'_>],
+    ) -> Result<(), NoMemory>
+        ensures { OnOk result ((steps : List text.Step) → IsMeaning (task_of task.now) steps self.old
+            → IsMeaning (task_of task.now) (steps ++ step_of action.entry objects.now ∷ []) self.new) }
+    {
+        if self.refusal.is_some() {
+            return Ok(());
+        }
+        match instance_of(task, action, objects, &mut self.buffer) {
+            Ok(instance) => self.instances.push(instance)?,
+            Err(Refused::At(refusal)) => self.refusal = Some(refusal),
+            Err(Refused::NoMemory) => return Err(NoMemory),
+        }
+        Ok(())
+    }
+
+    /// The instances of all the steps, or the refusal of the first that is at fault.
+    pub(super) fn of_all(self) -> Result<Vec<Instance>, Fault>
+        ensures mean { IfOk result (λ found. (task : model.Task) (steps : List text.Step) → IsMeaning task steps self
+            → AllMean task steps (map view.instance_of found.items)) }
+        ensures refused { IfErr result (λ fault. (task : model.Task) (steps : List text.Step) → IsMeaning task steps self
+            → IfSome (told_by fault) (IsFirstFault task steps)) }
+    {
+        let Meaning {
+            instances, refusal, ..
+        } = self;
+        match refusal {
+            Some(refusal) => Err(Refused::At(refusal)),
+            None => Ok(instances),
+        }
+    }
+}
+
+/// The instance of the step of this action and these objects. Its names are folded in the buffer that is lent.
+fn instance_of(
+    task: &Task,
+    action: Word<'_>,
+    names: &[Word<'_>],
+    buffer: &mut Vec<u8>,
+) -> Result<Instance, Fault>
+    ensures means { IfOk result (λ i. Means (task_of task.now) (step_of action.entry names.now) (view.instance_of i)) }
+    ensures refused { IfErr result (λ fault. IfSome (told_by fault) (IsStepFault (task_of task.now) (step_of action.entry names.now))) }
 {
-    let Some(schema) = schema_named(task, step.action, buffer)? else {
-        return Err(step.action.refused(Code::UnknownAction));
+    let Some(schema) = schema_named(task, action, buffer)? else {
+        return Err(action.refused(Code::UnknownAction));
     };
     let parameters = parameters_of(task, schema);
-    if step.objects.len() != parameters.len() {
-        return Err(step.action.refused(Code::StepArity));
+    if names.len() != parameters.len() {
+        return Err(action.refused(Code::StepArity));
     }
-    let objects = objects_of(task, parameters, &step.objects, buffer)?;
+    let objects = objects_of(task, parameters, names, buffer)?;
     Ok(Instance { schema, objects })
 }
 
