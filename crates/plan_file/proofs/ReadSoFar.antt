@@ -1,5 +1,5 @@
 -- What the reader of plan texts keeps from word to word: the form of the text so far, and what its steps mean.
-use Rattle.std.proofs.Common.{◌≡◌, ℕ, ◌≤◌, List, [], ◌∷◌, ◌++◌, length, map, Option, Some, None, IfSome, ap, ◌∙◌, subst, sym, append_assoc, refl, Bool, true, false, true≢false}
+use Rattle.std.proofs.Common.{◌≡◌, ℕ, ◌≤◌, List, [], ◌∷◌, ◌++◌, length, map, Option, Some, None, IfSome, ap, ◌∙◌, subst, sym, append_assoc, true, false, true≢false}
 use Rattle.std.specs.Prelude.{is_some}
 use Rattle.std.proofs.lemmas.List.{map-append}
 use Rattle.faults.specs.Fault.{told_by}
@@ -7,13 +7,13 @@ use Rattle.faults.specs.declared.refused.Refusal.{Refusal}
 use Rattle.faults.specs.declared.refused.Refused.TheVariants.{At}
 use Rattle.model.specs.Fault.{Span, Fault}
 use Rattle.model.specs.Task.{Task, Instance}
-use Rattle.model.specs.PlanText.{Step, HasSteps, Means, AllMean, IsStepFault, IsPlanText, IsPlanFault}
+use Rattle.model.specs.PlanText.{Step, HasSteps, Means, AllMean, IsPlanText, IsPlanFault}
 use Rattle.model.specs.Words.{longest_text}
 use Rattle.model.specs.PlanMachine.{Place, outside, Turn, goes, ends, after_turn, at_end}
 use Rattle.model.proofs.PlanMeaning.{all_mean_push}
 use Rattle.plan_file.specs.PlanFile.{read_from, IsFirstFault, MeanOrRefused, IsMeaning}
 use Rattle.plan_file.specs.declared.steps.Meaning.{Meaning}
-use Rattle.plan_file.proofs.PlanWords.{Keeps, keeps_at_start, keeps_on, keeps_step, all_read}
+use Rattle.plan_file.proofs.PlanWords.{Keeps, keeps_on, keeps_step, all_read}
 use Rattle.plan_file.proofs.PlanSteps.{told_more, meaning_refused}
 
 -- There are steps so far, of which no list is in memory: the text is read as them up to here, and this is what they mean
@@ -22,20 +22,16 @@ pub record IsReadSoFar (task : Task) (text : List ℕ) (at : ℕ) (place : Place
   pub keeps : Keeps text at place steps
   pub mean : IsMeaning task steps meaning
 
--- one step more means one instance more, or is the first at fault, or comes after the first
+-- one step more
 module _ (task : Task) (steps : List Step) (step : Step) where
-  pub more_mean : {A : Type 0} (f : A → Instance) (items more : List A) (x : A) → more ≡ items ++ x ∷ [] → AllMean task steps (map f items) → Means task step (f x)
+  more_mean : {A : Type 0} (f : A → Instance) (items more : List A) (x : A) → more ≡ items ++ x ∷ [] → AllMean task steps (map f items) → Means task step (f x)
       → AllMean task (steps ++ step ∷ []) (map f more)
   more_mean f items more x more_is mean means =
       subst (AllMean task (steps ++ step ∷ [])) (sym (ap (map f) more_is ∙ map-append f items (x ∷ [])))
       (all_mean_push task steps (map f items) step (f x) mean means)
 
-  pub first_at_fault : (plan : List Instance) → AllMean task steps plan → (o : Option Fault) → IfSome o (IsStepFault task step) → IfSome o (IsFirstFault task (steps ++ step ∷ []))
-  first_at_fault plan mean o h =
-      told_more (IsStepFault task step) (IsFirstFault task (steps ++ step ∷ [])) o
-      (λ fault wrong. record { before = steps; after = []; step = step; plan = plan; in_order = refl; mean = mean; wrong = wrong }) h
-
-  pub stays_first : (o : Option Fault) → IfSome o (IsFirstFault task steps) → IfSome o (IsFirstFault task (steps ++ step ∷ []))
+  -- what is refused stays the first
+  stays_first : (o : Option Fault) → IfSome o (IsFirstFault task steps) → IfSome o (IsFirstFault task (steps ++ step ∷ []))
   stays_first o h =
       told_more (IsFirstFault task steps) (IsFirstFault task (steps ++ step ∷ [])) o
       (λ fault first. record {
@@ -57,11 +53,6 @@ module _ (task : Task) (steps : List Step) (step : Step) where
       → Means task step (f x) → MeanOrRefused task (steps ++ step ∷ []) o (map f more)
   instance_taken f items more x more_is None unrefused mean means = more_mean f items more x more_is mean means
   instance_taken f items more x more_is (Some refusal) unrefused mean means = absurd (true≢false unrefused)
-
-  pub fault_taken : (o : Option Refusal) → is_some o ≡ false → (plan : List Instance) → MeanOrRefused task steps o plan → (refusal : Refusal) → IfSome (told_by (At refusal)) (IsStepFault task step)
-      → MeanOrRefused task (steps ++ step ∷ []) (Some refusal) plan
-  fault_taken None unrefused plan mean refusal wrong = first_at_fault plan mean (told_by (At refusal)) wrong
-  fault_taken (Some earlier) unrefused plan mean refusal wrong = absurd (true≢false unrefused)
 
 -- what a word does here
 module _ (task : Task) (text : List ℕ) (at end : ℕ) (place : Place) (t : Turn) (span : Span) (meaning : Meaning)

@@ -1,4 +1,5 @@
-//! From a plan text to the plan, in one pass: a step's meaning is taken as the step ends, so that no list of steps is made.
+//! From a plan text to the plan, in one pass: what a step means is taken as it ends, so that no list of steps is made. The
+//! first fault of a step's meaning then waits for the end of the text, since a fault of form goes before it.
 ghost use Rattle.std.specs.Prelude.{◌≡◌, ◌<◌, List, IsTrue, IfOk, IfErr, IsErrAnd, IfSome, None, Some, ℕ, length, map};
 ghost use Rattle.std.specs.List.{list_all};
 ghost use Rattle.faults.specs.Fault.{told_by};
@@ -26,10 +27,10 @@ use typing::Task;
 /// name of an action, the names of an object for each of its parameters, and `)`. Case does not matter.
 ///
 /// # Errors
-/// The whole text is looked at first, and its first parenthesis, run or stray byte that no plan text goes on with is
+/// Form goes before meaning: the text's first parenthesis, run or stray byte that no plan text goes on with is
 /// refused: code 31 where it is a time stamp, a run outside of steps that begins with a digit, `.` or `[`, and else 30.
 /// A text that ends in a step is refused at its end, and one over 16,777,216 bytes at what is over, by 30.
-/// Then the steps are taken in order: 32 at an action that is not declared, 33 at the action where the count of objects
+/// Else the first step at fault is: 32 at an action that is not declared, 33 at the action where the count of objects
 /// is not that of its parameters, 34 at the first object that is not declared or not of the types of its parameter.
 /// `NoMemory` is answered only where memory that was asked for was refused; a text over 16,777,216 bytes is refused
 /// before any is asked for.
@@ -89,7 +90,7 @@ fn instances_of(alloc: Global, task: &Task, text: &[u8]) -> Result<Vec<Instance>
         at = word.end();
     }
     match place {
-        Place::Outside => meaning.of_all(),
+        Place::Outside => meaning.into_instances(),
         Place::Opened | Place::Inside(_) => { Err(refusal(Code::PlanForm, text.len(), text.len())) }
     }
 }

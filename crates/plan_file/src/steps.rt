@@ -63,14 +63,16 @@ impl Meaning {
     }
 
     /// The instances of all the steps, or the refusal of the first that is at fault.
-    pub(super) fn of_all(self) -> Result<Vec<Instance>, Fault>
+    pub(super) fn into_instances(self) -> Result<Vec<Instance>, Fault>
         ensures mean { IfOk result (λ found. (task : model.Task) (steps : List text.Step) → IsMeaning task steps self
             → AllMean task steps (map view.instance_of found.items)) }
         ensures refused { IfErr result (λ fault. (task : model.Task) (steps : List text.Step) → IsMeaning task steps self
             → IfSome (told_by fault) (IsFirstFault task steps)) }
     {
         let Meaning {
-            instances, refusal, ..
+            instances,
+            refusal,
+            ..
         } = self;
         match refusal {
             Some(refusal) => Err(Refused::At(refusal)),

@@ -56,18 +56,18 @@ returns-in-Outside-clause-plan c =
     let short : length c.args.text.now ≤ 16777216 = search rules in
     let place = place_of c.words.place c.words.objects.items in
     let is_outside = ap (λ p. place_of p c.words.objects.items) c.in-Outside.is in
-    if_ok c.of_all.result
+    if_ok c.into_instances.result
     (λ found mean. plan_read (task_of c.args.task.now) c.args.text.now c.words.at place c.words.meaning short (c.in_default.ensures.word place) c.words.invariant.so_far is_outside (map instance_of found.items) mean)
-    c.of_all.ensures.mean
+    c.into_instances.ensures.mean
 
 pub returns-in-Outside-clause-refused : goal.returns-in-Outside-clause-refused
 returns-in-Outside-clause-refused c =
     let short : length c.args.text.now ≤ 16777216 = search rules in
     let place = place_of c.words.place c.words.objects.items in
     let is_outside = ap (λ p. place_of p c.words.objects.items) c.in-Outside.is in
-    if_err c.of_all.result
+    if_err c.into_instances.result
     (λ fault first. fault_read (task_of c.args.task.now) c.args.text.now c.words.at place c.words.meaning short (c.in_default.ensures.word place) c.words.invariant.so_far is_outside (told_by fault) first)
-    c.of_all.ensures.refused
+    c.into_instances.ensures.refused
 
 pub returns : goal.returns
 returns c =

@@ -3,7 +3,7 @@ use Rattle.std.specs.Prelude.{is_some}
 use Rattle.typing.specs.Task.{task_of}
 use Rattle.formulas.specs.State as view
 use Rattle.plan_file.specs.PlanFile.{step_of}
-use Rattle.plan_file.proofs.ReadSoFar.{none_taken, instance_taken, fault_taken}
+use Rattle.plan_file.proofs.ReadSoFar.{none_taken, instance_taken}
 use Rattle.plan_file.proofs.steps.Meaning.take.Goals as goal
 
 pub returns-then-is_some : goal.returns-then-is_some
