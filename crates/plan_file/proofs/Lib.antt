@@ -1,3 +1,4 @@
 pub mod PlanWords
+pub mod ReadSoFar
 pub mod PlanSteps
 pub mod WritingLemmas

@@ -15,7 +15,7 @@ use Rattle.model.specs.Task.{Union, Task, Schema, Instance}
 use Rattle.model.specs.Typing.{folded, is_same}
 use Rattle.model.specs.Meaning.{is_of, fits}
 use Rattle.model.specs.PlanText.{Step, HasSteps, IsNumberOf, AreNumbersOf, schema_names, object_names, Means, AllMean, IsStepFault, unknown_action, wrong_count, wrong_object, IsPlanText, IsFormFault, IsPlanFault, of_form, of_step}
-use Rattle.model.proofs.PlanMeaning.{names_each, numbers_push, all_mean_push, plan_length, few_steps, one_reading, no_fault, one_fault}
+use Rattle.model.proofs.PlanMeaning.{names_each, numbers_push, plan_length, few_steps, one_reading, no_fault, one_fault}
 use Rattle.tokens.proofs.Cut.{cut_unique}
 use Rattle.plan_file.specs.PlanFile.{IsNoObject, IsWrongObject, IsFirstFault}
 
@@ -48,13 +48,6 @@ numbers_more declared f xs i x g items more y inside is more_is are number =
     subst (λ ns. AreNumbersOf declared ns (map g more)) (sym (taken_at f xs i x inside is))
     (subst (AreNumbersOf declared (map f (take i xs) ++ f x ∷ [])) (sym (ap (map g) more_is ∙ map-append g items (y ∷ [])))
     (numbers_push declared (map f (take i xs)) (map g items) (f x) (g y) are number))
-
-pub mean_more : {A B : Type 0} (task : Task) (f : A → Step) (xs : List A) (i : ℕ) (x : A) (g : B → Instance) (items more : List B) (y : B) → i < length xs → x ≡ get_or xs i x → more ≡ items ++ y ∷ []
-    → AllMean task (map f (take i xs)) (map g items) → Means task (f x) (g y) → AllMean task (map f (take (i + 1) xs)) (map g more)
-mean_more task f xs i x g items more y inside is more_is mean means =
-    subst (λ ss. AllMean task ss (map g more)) (sym (taken_at f xs i x inside is))
-    (subst (AllMean task (map f (take i xs) ++ f x ∷ [])) (sym (ap (map g) more_is ∙ map-append g items (y ∷ [])))
-    (all_mean_push task (map f (take i xs)) (map g items) (f x) (g y) mean means))
 
 -- a number that a name has is below the count of the declared
 number_within : (declared : List (List ℕ)) (name : Name) (number : ℕ) → IsNumberOf declared name number → number < length declared
@@ -140,12 +133,6 @@ object_refused task f xs g ys i x y h items inside within types_are name_is are 
       objects_before = names_each task (map f (take i xs)) (map g (take i ys)) (map h items) are fit;
       wrong = wrong;
     }) told
-
--- what is told of steps
-pub step_refused : (task : Task) (steps before after : List Step) (step : Step) (plan : List Instance) → steps ≡ before ++ step ∷ after → AllMean task before plan → (o : Option Fault) → IfSome o (IsStepFault task step) → IfSome o (IsFirstFault task steps)
-step_refused task steps before after step plan in_order mean o h =
-    told_more (IsStepFault task step) (IsFirstFault task steps) o
-    (λ fault wrong. record { before = before; after = after; step = step; plan = plan; in_order = in_order; mean = mean; wrong = wrong }) h
 
 -- what is told of a text
 pub form_refused : (task : Task) (text : List ℕ) (o : Option Fault) → IfSome o (IsFormFault text) → IfSome o (IsPlanFault task text)

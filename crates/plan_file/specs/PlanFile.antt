@@ -1,13 +1,17 @@
 -- The words and steps of a plan text in the code, in the model's terms, and what is read of a text from an offset on.
-use Rattle.std.specs.Prelude.{◌≡◌, ℕ, ◌+◌, List, ◌∷◌, ◌++◌, length, map, drop, Option, None, Some}
+use Rattle.std.specs.Prelude.{◌≡◌, ℕ, ◌+◌, List, ◌∷◌, ◌++◌, length, map, drop, Option, None, Some, IfSome}
 use Rattle.plan_file.specs.declared.word.Sort.{Sort}
 use Rattle.plan_file.specs.declared.word.Sort.TheVariants.{Open, Close, Name, Stamp, Other}
 use Rattle.plan_file.specs.declared.word.Word.{Word}
-use Rattle.plan_file.specs.declared.text.Step.{Step}
 use Rattle.plan_file.specs.declared.text.Place.{Place}
 use Rattle.plan_file.specs.declared.text.Place.TheVariants.{Outside, Opened, Inside}
 use Rattle.plan_file.specs.declared.text.Turn.{Turn}
 use Rattle.plan_file.specs.declared.text.Turn.TheVariants.{Goes, Ends}
+use Rattle.plan_file.specs.declared.steps.Meaning.{Meaning}
+use Rattle.faults.specs.Fault.{told_by}
+use Rattle.faults.specs.declared.refused.Refusal.{Refusal}
+use Rattle.faults.specs.declared.refused.Refused.TheVariants.{At}
+use Rattle.formulas.specs.State.{instance_of}
 use Rattle.tokens.specs.Cut.{cut}
 use Rattle.model.specs.Fault.{Span, Fault}
 use Rattle.model.specs.Trees as tree
@@ -30,17 +34,19 @@ span_of word = record { start = word.start; end = word.start + length word.text.
 abbrev pub name_of : Word → tree.Name
 name_of word = record { text = word.text.now; span = span_of word }
 
-abbrev pub step_of : Step → text.Step
-step_of step = record { action = name_of step.action; objects = map name_of step.objects.items }
+-- the step of this action and these objects
+abbrev pub step_of : Word → List Word → text.Step
+step_of action objects = record { action = name_of action; objects = map name_of objects }
 
-abbrev pub place_of : Place → machine.Place
-place_of Outside = machine.outside
-place_of Opened = machine.opened
-place_of (Inside step) = machine.inside (name_of step.action) (map name_of step.objects.items)
+-- the place, where these are the names of the open step's objects
+abbrev pub place_of : Place → List Word → machine.Place
+place_of Outside objects = machine.outside
+place_of Opened objects = machine.opened
+place_of (Inside action) objects = machine.inside (name_of action) (map name_of objects)
 
-abbrev pub turn_of : Turn → machine.Turn
-turn_of (Goes place) = machine.goes (place_of place)
-turn_of (Ends step) = machine.ends (step_of step)
+abbrev pub turn_of : Turn → List Word → machine.Turn
+turn_of (Goes place) objects = machine.goes (place_of place objects)
+turn_of (Ends action) objects = machine.ends (step_of action objects)
 
 -- the word stops the reading, by the number that is told, and its span is told
 abbrev pub TellsStop : machine.Turn → Span → Fault → Type 0
@@ -85,3 +91,12 @@ pub record IsFirstFault (task : Task) (steps : List text.Step) (fault : Fault) :
   pub in_order : steps ≡ before ++ step ∷ after
   pub mean : AllMean task before plan
   pub wrong : IsStepFault task step fault
+
+-- the steps name these instances, or the first that is at fault is refused so
+abbrev pub MeanOrRefused : Task → List text.Step → Option Refusal → List Instance → Type 0
+MeanOrRefused task steps None plan = AllMean task steps plan
+MeanOrRefused task steps (Some refusal) plan = IfSome (told_by (At refusal)) (IsFirstFault task steps)
+
+-- it is what these steps mean
+abbrev pub IsMeaning : Task → List text.Step → Meaning → Type 0
+IsMeaning task steps meaning = MeanOrRefused task steps meaning.refusal (map instance_of meaning.instances.items)

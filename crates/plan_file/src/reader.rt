@@ -1,9 +1,10 @@
-//! From a plan text to the plan.
-ghost use Rattle.std.specs.Prelude.{◌≡◌, ◌<◌, List, IsTrue, IfOk, IfErr, IsErrAnd, IfSome, None, Some, ℕ, length};
+//! From a plan text to the plan, in one pass: what a step means is taken as it ends, so that no list of steps is made. The
+//! first fault of a step's meaning then waits for the end of the text, since a fault of form goes before it.
+ghost use Rattle.std.specs.Prelude.{◌≡◌, ◌<◌, List, IsTrue, IfOk, IfErr, IsErrAnd, IfSome, None, Some, ℕ, length, map};
 ghost use Rattle.std.specs.List.{list_all};
 ghost use Rattle.faults.specs.Fault.{told_by};
 ghost use Rattle.typing.specs.Task.{task_of};
-ghost use Rattle.formulas.specs.State.{plan_of};
+ghost use Rattle.formulas.specs.State.{instance_of, plan_of};
 ghost use Rattle.model.specs.Meaning.{is_instance};
 ghost use Rattle.model.specs.PlanExamples.{ArePlans};
 ghost use Rattle.model.specs.PlanText.{IsPlanText, IsPlanFault};
@@ -11,11 +12,13 @@ ghost use Rattle.model.specs.Words.{longest_text};
 ghost use Rattle.model.specs.Task as model;
 ghost use Rattle.model.specs.Fault as told;
 
-use crate::steps::instances_of;
-use crate::text::steps_of;
-use faults::Fault;
-use formulas::Plan;
+use crate::steps::Meaning;
+use crate::text::{Place, Turn};
+use crate::word::{Word, refusal};
+use faults::{Code, Fault};
+use formulas::{Instance, Plan};
 use std::alloc::Global;
+use tokens::LONGEST_TEXT;
 use typing::Task;
 
 /// The plan that a text is for the task.
@@ -24,10 +27,10 @@ use typing::Task;
 /// name of an action, the names of an object for each of its parameters, and `)`. Case does not matter.
 ///
 /// # Errors
-/// The whole text is looked at first, and its first parenthesis, run or stray byte that no plan text goes on with is
+/// Form goes before meaning: the text's first parenthesis, run or stray byte that no plan text goes on with is
 /// refused: code 31 where it is a time stamp, a run outside of steps that begins with a digit, `.` or `[`, and else 30.
 /// A text that ends in a step is refused at its end, and one over 16,777,216 bytes at what is over, by 30.
-/// Then the steps are taken in order: 32 at an action that is not declared, 33 at the action where the count of objects
+/// Else the first step at fault is: 32 at an action that is not declared, 33 at the action where the count of objects
 /// is not that of its parameters, 34 at the first object that is not declared or not of the types of its parameter.
 /// `NoMemory` is answered only where memory that was asked for was refused; a text over 16,777,216 bytes is refused
 /// before any is asked for.
@@ -57,10 +60,39 @@ pub fn read_plan(alloc: Global, task: &Task, text: &[u8]) -> Result<Plan, Fault>
     ensures too_long { longest_text < length text.now → IsErrAnd result (λ fault. told_by fault
         ≡ Some (record { code = 30; span = record { start = longest_text; end = length text.now } })) }
 {
-    let steps = steps_of(alloc, text)?;
-    let instances = instances_of(alloc, task, &steps)?;
+    let instances = instances_of(alloc, task, text)?;
     // a step has at least three bytes, so that there are never too many
     Ok(Plan::new(instances).unwrap())
+}
+
+/// The instances of the steps of a whole text, in order.
+fn instances_of(alloc: Global, task: &Task, text: &[u8]) -> Result<Vec<Instance>, Fault>
+    ensures plan { IfOk result (λ found. IsPlanText (task_of task.now) text.now (map instance_of found.items)) }
+    ensures refused { IfErr result (λ fault. IfSome (told_by fault) (IsPlanFault (task_of task.now) text.now)) }
+    ensures too_long { longest_text < length text.now → IsErrAnd result (λ fault. told_by fault
+        ≡ Some (record { code = 30; span = record { start = longest_text; end = length text.now } })) }
+{
+    if text.len() > LONGEST_TEXT {
+        return Err(refusal(Code::PlanForm, LONGEST_TEXT, text.len()));
+    }
+    let mut place = Place::Outside;
+    let mut objects = Vec::new(alloc);
+    let mut meaning = Meaning::new(alloc);
+    let mut at = 0;
+    'words: while let Some(word) = Word::first_from(text, at) {
+        match place.after(word, &mut objects)? {
+            Turn::Goes(next) => place = next,
+            Turn::Ends(action) => {
+                meaning.take(task, action, objects.as_slice())?;
+                place = Place::Outside;
+            }
+        }
+        at = word.end();
+    }
+    match place {
+        Place::Outside => meaning.into_instances(),
+        Place::Opened | Place::Inside(_) => { Err(refusal(Code::PlanForm, text.len(), text.len())) }
+    }
 }
 
 /// A text is at most one plan for a task, and no fault is told of one that is a plan. It is stated of all texts, and

@@ -1,54 +1,104 @@
-//! The instances that the steps of a plan text name.
-ghost use Rattle.std.specs.Prelude.{◌≡◌, ◌<◌, ◌≤◌, ℕ, Some, IsTrue, IfOk, IfErr, IfSome, length, map, position, slice_get};
+//! What the steps of a plan text mean.
+ghost use Rattle.std.specs.Prelude.{◌≡◌, ◌<◌, ◌≤◌, ◌++◌, ◌∷◌, [], ℕ, List, Some, IsTrue, IfOk, IfErr, IfSome, OnOk, length, map, position, slice_get};
 ghost use Rattle.std.specs.Cmp.Lexicographic.{pointwise};
 ghost use Rattle.std.specs.Option.{option_map};
 ghost use Rattle.faults.specs.Fault.{told_by};
 ghost use Rattle.typing.specs.Task.{task_of};
 ghost use Rattle.typing.specs.TaskParts.{object_of, schema_id_of, union_of};
 ghost use Rattle.formulas.specs.State as view;
-ghost use Rattle.plan_file.specs.PlanFile.{step_of, name_of, IsFirstFault, IsWrongObject, IsNoObject};
+ghost use Rattle.plan_file.specs.PlanFile.{step_of, name_of, IsMeaning, IsFirstFault, IsWrongObject, IsNoObject};
 ghost use Rattle.model.specs.Task as model;
 ghost use Rattle.model.specs.Meaning.{is_of};
 ghost use Rattle.model.specs.Typing.{folded, is_same};
+ghost use Rattle.model.specs.PlanText as text;
 ghost use Rattle.model.specs.PlanText.{Means, AllMean, IsNumberOf, AreNumbersOf, IsStepFault, schema_names, object_names};
 
-use crate::text::Step;
 use crate::word::Word;
-use faults::{Code, Fault, NoMemory};
+use faults::{Code, Fault, NoMemory, Refusal, Refused};
 use formulas::{Binding, Instance};
 use std::alloc::Global;
 use typing::{ObjectId, SchemaId, Task, TypeUnion};
 
-/// The instances of these steps, in order.
-pub(super) fn instances_of(
-    alloc: Global,
-    task: &Task,
-    steps: &[Step<'_>],
-) -> Result<Vec<Instance>, Fault>
-    ensures mean { IfOk result (λ found. AllMean (task_of task.now) (map step_of steps.now) (map view.instance_of found.items)) }
-    ensures refused { IfErr result (λ fault. IfSome (told_by fault) (IsFirstFault (task_of task.now) (map step_of steps.now))) }
-{
-    let mut instances = Vec::new(alloc);
-    for step in steps {
-        let instance = instance_of(alloc, task, step)?;
-        instances.push(instance)?;
-    }
-    Ok(instances)
+/// What the steps of a text mean, up to one: their instances, in order, or the refusal of the first that is at fault.
+#[derive(Drop)]
+pub(super) struct Meaning {
+    /// The instances of the steps before the first at fault.
+    instances: Vec<Instance>,
+    refusal: Option<Refusal>,
+    /// Where names are folded.
+    buffer: Vec<u8>,
 }
 
-/// The instance of a step.
-fn instance_of(alloc: Global, task: &Task, step: &Step<'_>) -> Result<Instance, Fault>
-    ensures means { IfOk result (λ i. Means (task_of task.now) (step_of step.now) (view.instance_of i)) }
-    ensures refused { IfErr result (λ fault. IfSome (told_by fault) (IsStepFault (task_of task.now) (step_of step.now))) }
+impl Meaning {
+    /// What no steps mean.
+    pub(super) fn new(alloc: Global) -> Meaning
+        ensures { (task : model.Task) → IsMeaning task [] result }
+    {
+        Meaning {
+            instances: Vec::new(alloc),
+            refusal: None,
+            buffer: Vec::new(alloc),
+        }
+    }
+
+    /// Takes one step more, of this action and these objects. After the first that is at fault none is looked at.
+    pub(super) fn take(
+        &mut self,
+        task: &Task,
+        action: Word<'_>,
+        objects: &[Word<'_>],
+    ) -> Result<(), NoMemory>
+        ensures { OnOk result ((steps : List text.Step) → IsMeaning (task_of task.now) steps self.old
+            → IsMeaning (task_of task.now) (steps ++ step_of action.entry objects.now ∷ []) self.new) }
+    {
+        if self.refusal.is_some() {
+            return Ok(());
+        }
+        match instance_of(task, action, objects, &mut self.buffer) {
+            Ok(instance) => self.instances.push(instance)?,
+            Err(Refused::At(refusal)) => self.refusal = Some(refusal),
+            Err(Refused::NoMemory) => return Err(NoMemory),
+        }
+        Ok(())
+    }
+
+    /// The instances of all the steps, or the refusal of the first that is at fault.
+    pub(super) fn into_instances(self) -> Result<Vec<Instance>, Fault>
+        ensures mean { IfOk result (λ found. (task : model.Task) (steps : List text.Step) → IsMeaning task steps self
+            → AllMean task steps (map view.instance_of found.items)) }
+        ensures refused { IfErr result (λ fault. (task : model.Task) (steps : List text.Step) → IsMeaning task steps self
+            → IfSome (told_by fault) (IsFirstFault task steps)) }
+    {
+        let Meaning {
+            instances,
+            refusal,
+            ..
+        } = self;
+        match refusal {
+            Some(refusal) => Err(Refused::At(refusal)),
+            None => Ok(instances),
+        }
+    }
+}
+
+/// The instance of the step of this action and these objects. Its names are folded in the buffer that is lent.
+fn instance_of(
+    task: &Task,
+    action: Word<'_>,
+    names: &[Word<'_>],
+    buffer: &mut Vec<u8>,
+) -> Result<Instance, Fault>
+    ensures means { IfOk result (λ i. Means (task_of task.now) (step_of action.entry names.now) (view.instance_of i)) }
+    ensures refused { IfErr result (λ fault. IfSome (told_by fault) (IsStepFault (task_of task.now) (step_of action.entry names.now))) }
 {
-    let Some(schema) = schema_named(alloc, task, step.action)? else {
-        return Err(step.action.refused(Code::UnknownAction));
+    let Some(schema) = schema_named(task, action, buffer)? else {
+        return Err(action.refused(Code::UnknownAction));
     };
     let parameters = parameters_of(task, schema);
-    if step.objects.len() != parameters.len() {
-        return Err(step.action.refused(Code::StepArity));
+    if names.len() != parameters.len() {
+        return Err(action.refused(Code::StepArity));
     }
-    let objects = objects_of(alloc, task, parameters, &step.objects)?;
+    let objects = objects_of(task, parameters, names, buffer)?;
     Ok(Instance { schema, objects })
 }
 
@@ -63,10 +113,10 @@ fn parameters_of(task: &Task, schema: SchemaId) -> &[TypeUnion]
 
 /// The objects of these names, in order, each of one of the types in its place.
 fn objects_of(
-    alloc: Global,
     task: &Task,
     parameters: &[TypeUnion],
     names: &[Word<'_>],
+    buffer: &mut Vec<u8>,
 ) -> Result<Binding, Fault>
     requires few { length parameters.now ≤ 16 }
     requires counts { length names.now ≡ length parameters.now }
@@ -77,40 +127,48 @@ fn objects_of(
 {
     let mut objects = Binding::new();
     for (types, name) in parameters.iter().zip(names) {
-        objects.push(object_of(alloc, task, types, *name)?);
+        objects.push(object_of(task, types, *name, buffer)?);
     }
     Ok(objects)
 }
 
 /// The object of this name, which has to be of one of these types.
 fn object_of(
-    alloc: Global,
     task: &Task,
     types: &TypeUnion,
     name: Word<'_>,
+    buffer: &mut Vec<u8>,
 ) -> Result<ObjectId, Fault>
     ensures number { IfOk result (λ object. IsNumberOf (object_names (task_of task.now)) (name_of name.entry) object.0) }
     ensures fits { IfOk result (λ object. IsTrue (is_of (task_of task.now) (union_of types.now) object.0)) }
     ensures refused { IfErr result (λ fault. IfSome (told_by fault) (IsNoObject (task_of task.now) (union_of types.now) (name_of name.entry))) }
 {
-    match object_named(alloc, task, name)? {
+    match object_named(task, name, buffer)? {
         Some(object) if task.is_of(object, types) => Ok(object),
         _ => Err(name.refused(Code::StepType)),
     }
 }
 
-fn schema_named(alloc: Global, task: &Task, name: Word<'_>) -> Result<Option<SchemaId>, NoMemory>
+fn schema_named(
+    task: &Task,
+    name: Word<'_>,
+    buffer: &mut Vec<u8>,
+) -> Result<Option<SchemaId>, NoMemory>
     ensures { IfOk result (λ found.
         option_map schema_id_of found ≡ position (is_same (folded (name_of name.entry))) (schema_names (task_of task.now))) }
 {
-    let folded = name.text().to_ascii_lowercase(alloc)?;
-    Ok(task.schema_named(folded.as_slice()))
+    name.fold_into(buffer)?;
+    Ok(task.schema_named(buffer.as_slice()))
 }
 
-fn object_named(alloc: Global, task: &Task, name: Word<'_>) -> Result<Option<ObjectId>, NoMemory>
+fn object_named(
+    task: &Task,
+    name: Word<'_>,
+    buffer: &mut Vec<u8>,
+) -> Result<Option<ObjectId>, NoMemory>
     ensures { IfOk result (λ found.
         option_map object_of found ≡ position (is_same (folded (name_of name.entry))) (object_names (task_of task.now))) }
 {
-    let folded = name.text().to_ascii_lowercase(alloc)?;
-    Ok(task.object_named(folded.as_slice()))
+    name.fold_into(buffer)?;
+    Ok(task.object_named(buffer.as_slice()))
 }

@@ -5,7 +5,7 @@ ghost use Rattle.tokens.specs.Form.{view};
 ghost use Rattle.model.specs.Words.{is_gap};
 ghost use Rattle.model.specs.PlanText.{is_stamp};
 
-use faults::{Code, Fault, Refusal, Refused, Span};
+use faults::{Code, Fault, NoMemory, Refusal, Refused, Span};
 use tokens::{Form, is_name, part_end};
 
 /// What a word may be in a step.
@@ -55,7 +55,9 @@ pub(super) struct Word<'a> {
 }
 
 impl<'a> Word<'a> {
-    ghost use Rattle.plan_file.specs.PlanFile.{span_of, GivesWord};
+    ghost use Rattle.std.specs.Prelude.{OnOk};
+    ghost use Rattle.plan_file.specs.PlanFile.{span_of, name_of, GivesWord};
+    ghost use Rattle.model.specs.Typing.{folded};
 
     /// The first word of the text from this offset on.
     pub(super) fn first_from(text: &'a [u8], at: usize) -> Option<Word<'a>>
@@ -82,11 +84,14 @@ impl<'a> Word<'a> {
         None
     }
 
-    /// Its bytes: not folded to lower case.
-    pub(super) fn text(self) -> &'a [u8]
-        ensures { result.now ≡ self.entry.text.now }
+    /// Its bytes in lower case, which take the place of what is in the buffer.
+    pub(super) fn fold_into(self, buffer: &mut Vec<u8>) -> Result<(), NoMemory>
+        ensures { OnOk result (buffer.new.items ≡ folded (name_of self.entry)) }
     {
-        self.text
+        buffer.clear();
+        buffer.extend_from_slice(self.text)?;
+        buffer.make_ascii_lowercase();
+        Ok(())
     }
 
     /// The offset after it.

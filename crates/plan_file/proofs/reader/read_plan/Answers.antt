@@ -5,38 +5,20 @@ use Rattle.std.proofs.lemmas.List.{length-map}
 use Rattle.std.proofs.lemmas.Result.{err_from_is_err_and}
 use Rattle.typing.specs.Task.{task_of}
 use Rattle.formulas.specs.State as view
-use Rattle.plan_file.specs.PlanFile.{step_of}
 use Rattle.model.proofs.PlanMeaning.{are_instances}
-use Rattle.plan_file.proofs.PlanSteps.{form_refused, meaning_refused, none_of_plan, few_instances}
+use Rattle.plan_file.proofs.PlanSteps.{none_of_plan, few_instances}
 use Rattle.plan_file.proofs.reader.read_plan.Goals as goal
-
-pub returns-in_err-steps-clause-refused : goal.returns-in_err-steps-clause-refused
-returns-in_err-steps-clause-refused c =
-    let p = err_from_is_err_and c.from_residual.result c.from_residual.ensures.1 in
-    rw (p.1, p.2) (form_refused (task_of c.args.task.now) c.args.text.now _ c.in_err-steps.ensures.refused)
-
-pub returns-in_err-steps-clause-taken : goal.returns-in_err-steps-clause-taken
-returns-in_err-steps-clause-taken c = λ plan is.
-    let p = err_from_is_err_and c.from_residual.result c.from_residual.ensures.1 in
-    rw (p.1, p.2) (none_of_plan (task_of c.args.task.now) c.args.text.now _ (form_refused (task_of c.args.task.now) c.args.text.now _ c.in_err-steps.ensures.refused) plan is)
-
-pub returns-in_err-instances-clause-refused : goal.returns-in_err-instances-clause-refused
-returns-in_err-instances-clause-refused c =
-    let p = err_from_is_err_and c.from_residual-in_err-instances.result c.from_residual-in_err-instances.ensures.1 in
-    let refused = rw c.deref.ensures.value at c.in_err-instances.ensures.refused in
-    rw (p.1, p.2) (meaning_refused (task_of c.args.task.now) c.args.text.now (map step_of c.in_ok-steps.steps.items) c.in_ok-steps.ensures.steps _ refused)
 
 pub returns-in_err-instances-clause-taken : goal.returns-in_err-instances-clause-taken
 returns-in_err-instances-clause-taken c = λ plan is.
-    let p = err_from_is_err_and c.from_residual-in_err-instances.result c.from_residual-in_err-instances.ensures.1 in
-    let refused = rw c.deref.ensures.value at c.in_err-instances.ensures.refused in
-    rw (p.1, p.2) (none_of_plan (task_of c.args.task.now) c.args.text.now _ (meaning_refused (task_of c.args.task.now) c.args.text.now (map step_of c.in_ok-steps.steps.items) c.in_ok-steps.ensures.steps _ refused) plan is)
+    let p = err_from_is_err_and c.from_residual.result c.from_residual.ensures.1 in
+    rw (p.1, p.2) (none_of_plan (task_of c.args.task.now) c.args.text.now _ c.in_err-instances.ensures.refused plan is)
 
 pub unwrap-requires : goal.unwrap-requires
 unwrap-requires c =
-    let mean = rw c.deref.ensures.value at c.in_ok-instances.ensures.mean in
     let instances = c.in_ok-instances.instances.items in
-    let few = few_instances (task_of c.args.task.now) c.args.text.now (map step_of c.in_ok-steps.steps.items) (map view.instance_of instances) c.in_ok-steps.ensures.steps mean in
+    let (steps, has, mean) = c.in_ok-instances.ensures.plan in
+    let few = few_instances (task_of c.args.task.now) c.args.text.now steps (map view.instance_of instances) has mean in
     ⊎_elim (λ (yes : is_some c.new.result ≡ true). yes)
     (λ (no : is_some c.new.result ≡ false).
     let long : 16777216 < length instances = search (rules, c.new.ensures.too_long.0 no) in
@@ -44,6 +26,6 @@ unwrap-requires c =
 
 pub returns-clause-instances : goal.returns-clause-instances
 returns-clause-instances c =
-    let mean = rw c.deref.ensures.value at c.in_ok-instances.ensures.mean in
+    let (steps, has, mean) = c.in_ok-instances.ensures.plan in
     let same : view.plan_of c.unwrap.result ≡ map view.instance_of c.in_ok-instances.instances.items = search rules in
-    rw same (are_instances (task_of c.args.task.now) (map step_of c.in_ok-steps.steps.items) (map view.instance_of c.in_ok-instances.instances.items) mean)
+    rw same (are_instances (task_of c.args.task.now) steps (map view.instance_of c.in_ok-instances.instances.items) mean)
