@@ -35,8 +35,6 @@ impl Files for CaseFiles {
 
     ghost is_known = { ⟦<Table as Files>⟧.is_known };
 
-    ghost name_of = { ⟦<Table as Files>⟧.name_of };
-
     fn open(&mut self, name: &str) -> Result<InPieces<FailsAt<Memory>>, WriteFault> {
         let input = self.table.open(name)?;
         Ok(InPieces::new(input, self.piece.max(1) as usize))

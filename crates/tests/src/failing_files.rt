@@ -78,8 +78,6 @@ impl Files for FailingFiles {
 
     ghost is_known = { ⟦<Table as Files>⟧.is_known };
 
-    ghost name_of = { λ output. ⟦<Table as Files>⟧.name_of output.inner.inner };
-
     fn open(&mut self, name: &str) -> Result<InPieces<FailsAt<Memory>>, WriteFault> {
         match self.table.open(name) {
             Ok(input) => Ok(InPieces::new(input, READ_PIECE)),
