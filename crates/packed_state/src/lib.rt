@@ -2,6 +2,10 @@
 #![tactic(auto)]
 
 mod packed;
+mod plain;
+mod store;
 mod words;
 
 pub use packed::{Mask, Packed};
+pub use plain::PlainStore;
+pub use store::StateStore;

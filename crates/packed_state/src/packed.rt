@@ -1,7 +1,7 @@
 //! Sets of numbers below a width, as words of 64 bits.
 ghost use Rattle.std.specs.Prelude.{◌≡◌, ◌<◌, ◌≤◌, ℕ, false, List, []};
 ghost use Rattle.std.proofs.Props.{props};
-ghost use Rattle.packed_state.specs.Words.{AreWordsOf};
+ghost use Rattle.packed_state.specs.Words.{bits_in, AreWordsOf};
 
 use crate::words;
 use faults::NoMemory;
@@ -62,6 +62,22 @@ impl Packed {
         ensures { result ≡ length (bits_of self.now) }
     {
         self.width
+    }
+
+    /// The words that hold the set, as few as its width needs.
+    pub(crate) fn words(&self) -> &[u64]
+        ensures packed { AreWordsOf (length (bits_of self.now)) result.now }
+        ensures bits { bits_in (length (bits_of self.now)) result.now ≡ bits_of self.now }
+    {
+        &self.words
+    }
+
+    /// Makes it the set that these words hold.
+    pub(crate) fn copy_words(&mut self, words: &[u64])
+        requires { AreWordsOf (length (bits_of self.old)) words.now }
+        ensures { bits_of self.new ≡ bits_in (length (bits_of self.old)) words.now }
+    {
+        self.words.copy_from_slice(words);
     }
 
     /// Whether the number is in the set.
