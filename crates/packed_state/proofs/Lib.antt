@@ -3,3 +3,5 @@ pub mod PackedLemmas
 pub mod Equality
 pub mod StoreLemmas
 pub mod PlainLemmas
+pub mod PoolLemmas
+pub mod PoolSearch

@@ -147,8 +147,8 @@ row_for width wide rows place words same stored at =
     subst P (sym same) (stored.packed place words at)
 
 pub got_state : (width wide : ℕ) (rows : List (List ℕ)) (place : ℕ) (words : List ℕ) (bits : List Bool) → wide ≡ width → slice_get rows place ≡ Some words
-    → bits ≡ bits_in wide words → (slice_get (sets_in width rows) place ≡ Some bits) × (length bits ≡ width)
-got_state width wide rows place words bits same at is = (
-  set_at width rows place words at ∙ ap Some (ap (λ n. bits_in n words) (sym same) ∙ sym is),
-  ap length is ∙ length-bits wide words ∙ same,
-)
+    → bits ≡ bits_in wide words → slice_get (sets_in width rows) place ≡ Some bits
+got_state width wide rows place words bits same at is = set_at width rows place words at ∙ ap Some (ap (λ n. bits_in n words) (sym same) ∙ sym is)
+
+pub got_width : (width wide : ℕ) (words : List ℕ) (bits : List Bool) → wide ≡ width → bits ≡ bits_in wide words → length bits ≡ width
+got_width width wide words bits same is = ap length is ∙ length-bits wide words ∙ same

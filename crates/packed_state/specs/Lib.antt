@@ -3,3 +3,6 @@ pub mod Words
 pub mod Packed
 pub mod Store
 pub mod PlainStore
+pub mod Pool
+pub mod PooledStore
+pub mod PooledView
