@@ -1,5 +1,5 @@
 //! The words of states, one after another, and where they stand.
-ghost use Rattle.std.specs.Prelude.{◌≡◌, ℕ, ◌+◌, ◌*◌, ◌<◌, ◌≤◌, [], ◌∷◌, ◌++◌, length, slice_get, Contains, MatchOption, IfOk, OnOk, OnErr};
+ghost use Rattle.std.specs.Prelude.{◌≡◌, ℕ, ◌+◌, ◌*◌, ◌<◌, ◌≤◌, [], ◌∷◌, ◌++◌, ◌↔◌, IsTrue, length, slice_get, Contains, MatchOption, IfOk, OnOk, OnErr};
 ghost use Rattle.packed_state.specs.Pool.{row_at, mixed, key_of, bucket_of, AreChained};
 
 use crate::chains::Chains;
@@ -59,7 +59,7 @@ impl Pool {
         let mut end = self.chains.ends[bucket(words, self.chains.ends.len())];
         'chain: while end > 0 {
             let place = end - 1;
-            if self.row(place as usize) == words {
+            if are_same(self.row(place as usize), words) {
                 return Some(place);
             }
             end = self.chains.earlier[place as usize];
@@ -117,6 +117,13 @@ impl Pool {
         }
         Ok(chains)
     }
+}
+
+/// Whether these are the same words.
+fn are_same(words: &[u64], others: &[u64]) -> bool
+    ensures { IsTrue result ↔ (words.now ≡ others.now) }
+{
+    words == others
 }
 
 /// The bucket of these words, of `count`.

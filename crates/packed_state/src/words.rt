@@ -33,7 +33,7 @@ pub(crate) fn includes(words: &[u64], part: &[u64]) -> bool
     requires { length words.now ≡ length part.now }
     ensures { IsTrue result ↔ ((k : ℕ) → IsTrue (word_has part.now k) → IsTrue (word_has words.now k)) }
 {
-    'words: for place in 0..words.len() {
+    'parts: for place in 0..words.len() {
         if part[place] & !words[place] != 0 {
             return false;
         }
@@ -46,7 +46,7 @@ pub(crate) fn are_disjoint(words: &[u64], others: &[u64]) -> bool
     requires { length words.now ≡ length others.now }
     ensures { IsTrue result ↔ ((k : ℕ) → ¬ (IsTrue (word_has words.now k) × IsTrue (word_has others.now k))) }
 {
-    'words: for place in 0..words.len() {
+    'shared: for place in 0..words.len() {
         if words[place] & others[place] != 0 {
             return false;
         }

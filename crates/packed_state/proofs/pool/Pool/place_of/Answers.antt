@@ -1,6 +1,4 @@
 use Rattle.std.proofs.Common.{◌≡◌, ◌∙◌, ◌<◌, ◌-◌, ℕ, length, ap, sym, arith}
-use Rattle.std.specs.Cmp.{unsigned_Decides}
-use Rattle.std.specs.Cmp.Lexicographic.{pointwise_decides}
 use Rattle.std.proofs.lemmas.Bool.{both_ways}
 use Rattle.std.proofs.lemmas.List.{get_or_read}
 use Rattle.packed_state.specs.Pool.{bucket_of}
@@ -21,14 +19,14 @@ chain-preserved c =
     let place : ℕ = c.chain.end - 1 in
     let inside : place < length p.chains.earlier.items = omega (arith, c.chain.invariant.within) in
     search_goes_on p.stride p.words.items p.chains.ends.items p.chains.earlier.items c.args.words.now place c.chain.end c.index-end-in-chain.result.now c.requires c.chain.invariant (omega arith)
-    (λ same. both_ways _ (sym c.if-eq.ensures) ((pointwise_decides unsigned_Decides c.row.result.now c.args.words.now).1 (c.row.ensures ∙ same)))
+    (λ same. both_ways _ c.if-are_same.false (c.are_same.ensures.1 (c.row.ensures ∙ same)))
     (get_or_read p.chains.earlier.items place c.index-end-in-chain.result.now inside c.index-end-in-chain.ensures 0)
 
-pub returns-then-eq : goal.returns-then-eq
-returns-then-eq c =
+pub returns-then-are_same : goal.returns-then-are_same
+returns-then-are_same c =
     let p = c.args.self.now in
     search_finds p.stride p.words.items p.chains.ends.items p.chains.earlier.items c.args.words.now (c.chain.end - 1) (omega (arith, c.chain.invariant.within))
-    (sym c.row.ensures ∙ (pointwise_decides unsigned_Decides c.row.result.now c.args.words.now).0 (sym c.if-eq.ensures))
+    (sym c.row.ensures ∙ c.are_same.ensures.0 c.if-are_same.true)
 
 pub returns : goal.returns
 returns c =
