@@ -1,0 +1,7 @@
+pub mod WordLemmas
+pub mod PackedLemmas
+pub mod Equality
+pub mod StoreLemmas
+pub mod PlainLemmas
+pub mod PoolLemmas
+pub mod PoolSearch

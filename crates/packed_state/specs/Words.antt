@@ -1,0 +1,19 @@
+-- Sets as words of 64 bits: bit `k % 64` of word `k / 64`, counted from the lowest, says whether the number k is in.
+use Rattle.std.specs.Prelude.{◌≡◌, ℕ, ◌+◌, ◌*◌, ◌/◌, ◌%◌, ◌^◌, ◌<◌, ◌≤◌, ◌==◌, Bool, false, List, length, map, slice_index}
+use Rattle.std.specs.List.{range_with_len}
+use Rattle.std.specs.Int.{bit_at}
+
+-- whether the number is in
+unfoldable pub word_has : List ℕ → ℕ → Bool
+word_has words number = bit_at (slice_index words (number / 64)) (number % 64) == 1
+
+-- the set that the words hold, of the numbers below the width
+unfoldable pub bits_in : ℕ → List ℕ → List Bool
+bits_in width words = map (word_has words) (range_with_len 0 width)
+
+-- As many words as the width needs, and no number from the width on is in: so a set has one list of words.
+pub record AreWordsOf (width : ℕ) (words : List ℕ) : Type 0 where
+  pub enough : width ≤ 64 * length words
+  pub no_more : 64 * length words < width + 64
+  pub small : (place : ℕ) → slice_index words place < 2 ^ 64
+  pub rest : (number : ℕ) → width ≤ number → word_has words number ≡ false

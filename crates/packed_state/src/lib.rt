@@ -1,0 +1,15 @@
+//! Sets of numbers packed into words of 64 bits.
+#![tactic(auto)]
+
+mod chains;
+mod packed;
+mod plain;
+mod pool;
+mod pooled;
+mod store;
+mod words;
+
+pub use packed::{Mask, Packed};
+pub use plain::PlainStore;
+pub use pooled::PooledStore;
+pub use store::StateStore;

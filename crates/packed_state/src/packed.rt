@@ -1,0 +1,162 @@
+//! Sets of numbers below a width, as words of 64 bits.
+ghost use Rattle.std.specs.Prelude.{◌≡◌, ◌<◌, ◌≤◌, ℕ, false, List, []};
+ghost use Rattle.std.proofs.Props.{props};
+ghost use Rattle.packed_state.specs.Words.{bits_in, AreWordsOf};
+
+use crate::words;
+use faults::NoMemory;
+use std::alloc::Global;
+
+/// A set of numbers below its width. Two are equal where they have the same width and the same numbers.
+#[derive(Debug, Drop)]
+pub struct Packed {
+    width: u32,
+    words: Vec<u64>,
+    ghost packed: { AreWordsOf width words.items } by { Prim.hlevel props },
+}
+
+/// A set of numbers below its width, to compare a [`Packed`] with, or to change it by.
+#[derive(Debug, Drop)]
+pub struct Mask {
+    set: Packed,
+}
+
+impl Packed {
+    ghost use Rattle.std.specs.Prelude.{◌↔◌, IsTrue, IfOk, length, true, slice_set};
+    ghost use Rattle.std.specs.List.{All};
+    ghost use Rattle.packed_state.specs.Sets.{has, set_of, Includes, AreDisjoint, changed, at_width};
+    ghost use Rattle.packed_state.specs.Packed.{bits_of, mask_bits_of};
+
+    /// The empty set of numbers below `width`.
+    pub fn empty(alloc: Global, width: u32) -> Result<Packed, NoMemory>
+        ensures { IfOk result (λ set. bits_of set ≡ set_of width []) }
+    {
+        let words = vec![in alloc; 0; words::words_for(width)]?;
+        Ok(Packed { width, words })
+    }
+
+    /// The set of these numbers below `width`.
+    pub fn new(alloc: Global, width: u32, numbers: &[u32]) -> Result<Packed, NoMemory>
+        requires { All (λ number. number < width) numbers.now }
+        ensures { IfOk result (λ set. bits_of set ≡ set_of width numbers.now) }
+    {
+        let mut set = Packed::empty(alloc, width)?;
+        for &number in numbers {
+            set.insert(number);
+        }
+        Ok(set)
+    }
+
+    /// The same set, of numbers below `width`.
+    pub fn with_width(&self, alloc: Global, width: u32) -> Result<Packed, NoMemory>
+        requires { (number : ℕ) → IsTrue (has (bits_of self.now) number) → number < width }
+        ensures { IfOk result (λ set. bits_of set ≡ at_width width (bits_of self.now)) }
+    {
+        let mut words = Vec::from_slice(alloc, &self.words)?;
+        words.resize(words::words_for(width), 0)?;
+        Ok(Packed { width, words })
+    }
+
+    /// The numbers in the set are below the width.
+    pub fn width(&self) -> u32
+        ensures { result ≡ length (bits_of self.now) }
+    {
+        self.width
+    }
+
+    /// The words that hold the set, as few as its width needs.
+    pub(crate) fn words(&self) -> &[u64]
+        ensures packed { AreWordsOf (length (bits_of self.now)) result.now }
+        ensures bits { bits_in (length (bits_of self.now)) result.now ≡ bits_of self.now }
+    {
+        &self.words
+    }
+
+    /// Makes it the set that these words hold.
+    pub(crate) fn copy_words(&mut self, words: &[u64])
+        requires { AreWordsOf (length (bits_of self.old)) words.now }
+        ensures { bits_of self.new ≡ bits_in (length (bits_of self.old)) words.now }
+    {
+        self.words.copy_from_slice(words);
+    }
+
+    /// Whether the number is in the set.
+    pub fn has(&self, number: u32) -> bool
+        requires { number < length (bits_of self.now) }
+        ensures { result ≡ has (bits_of self.now) number }
+    {
+        words::has(&self.words, number)
+    }
+
+    /// Puts the number into the set.
+    pub fn insert(&mut self, number: u32)
+        requires { number < length (bits_of self.old) }
+        ensures { bits_of self.new ≡ slice_set (bits_of self.old) number true }
+    {
+        words::insert(&mut self.words, number);
+    }
+
+    /// Whether each number of the mask is in the set.
+    pub fn has_all(&self, mask: &Mask) -> bool
+        requires { length (bits_of self.now) ≡ length (mask_bits_of mask.now) }
+        ensures { IsTrue result ↔ Includes (bits_of self.now) (mask_bits_of mask.now) }
+    {
+        words::includes(&self.words, &mask.set.words)
+    }
+
+    /// Whether no number of the mask is in the set.
+    pub fn has_none(&self, mask: &Mask) -> bool
+        requires { length (bits_of self.now) ≡ length (mask_bits_of mask.now) }
+        ensures { IsTrue result ↔ AreDisjoint (bits_of self.now) (mask_bits_of mask.now) }
+    {
+        words::are_disjoint(&self.words, &mask.set.words)
+    }
+
+    /// Takes the numbers of `deletes` out of the set, and then puts those of `adds` in.
+    pub fn change(&mut self, deletes: &Mask, adds: &Mask)
+        requires deletes { length (bits_of self.old) ≡ length (mask_bits_of deletes.now) }
+        requires adds { length (bits_of self.old) ≡ length (mask_bits_of adds.now) }
+        ensures { bits_of self.new ≡ changed (bits_of self.old) (mask_bits_of deletes.now) (mask_bits_of adds.now) }
+    {
+        words::change(&mut self.words, &deletes.set.words, &adds.set.words);
+    }
+}
+
+impl PartialEq for Packed {
+    ghost use Rattle.std.proofs.Common.{rules};
+    ghost use Rattle.std.specs.Bool.{beq};
+    ghost use Rattle.std.specs.Cmp.Lexicographic.{pointwise};
+    ghost use Rattle.std.specs.Cmp.Rules.{comparing};
+    ghost use Rattle.packed_state.specs.Packed.{bits_of};
+
+    ghost eq = { λ a b. pointwise beq (bits_of a) (bits_of b) };
+
+    ghost laws = { Prim.search (comparing, rules) };
+
+    fn eq(&self, other: &Packed) -> bool {
+        self.width == other.width && self.words == other.words
+    }
+}
+
+impl Eq for Packed {
+    ghost use Rattle.std.proofs.Common.{rules};
+    ghost use Rattle.std.specs.Cmp.Rules.{comparing};
+
+    ghost laws = { Prim.search (comparing, rules) };
+}
+
+impl Mask {
+    ghost use Rattle.std.specs.Prelude.{IfOk};
+    ghost use Rattle.std.specs.List.{All};
+    ghost use Rattle.packed_state.specs.Sets.{set_of};
+    ghost use Rattle.packed_state.specs.Packed.{mask_bits_of};
+
+    /// The mask of these numbers below `width`.
+    pub fn new(alloc: Global, width: u32, numbers: &[u32]) -> Result<Mask, NoMemory>
+        requires { All (λ number. number < width) numbers.now }
+        ensures { IfOk result (λ mask. mask_bits_of mask ≡ set_of width numbers.now) }
+    {
+        let set = Packed::new(alloc, width, numbers)?;
+        Ok(Mask { set })
+    }
+}

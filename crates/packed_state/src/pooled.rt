@@ -1,0 +1,86 @@
+//! A store of states whose words stand in one vector.
+ghost use Rattle.std.specs.Prelude.{◌≡◌, ◌<◌, [], length, IfOk, OnErr};
+ghost use Rattle.std.proofs.Props.{props};
+ghost use Rattle.packed_state.specs.Words.{AreWordsOf};
+ghost use Rattle.packed_state.specs.PooledStore.{IsPoolOf};
+
+use crate::packed::Packed;
+use crate::pool::Pool;
+use crate::store::StateStore;
+use crate::words;
+use faults::NoMemory;
+use std::alloc::Global;
+
+/// A list of distinct sets, all in one vector.
+#[derive(Drop)]
+pub struct PooledStore {
+    width: u32,
+    pool: Pool,
+    alloc: Global,
+    ghost pooled: { IsPoolOf width pool } by { Prim.hlevel props },
+}
+
+/// How many buckets a new store has.
+const FIRST_BUCKETS: usize = 64;
+
+impl PooledStore {
+    ghost use Rattle.packed_state.specs.Store.{IsPlaced};
+    ghost use Rattle.packed_state.specs.PooledStore.{rows_of};
+    ghost use Rattle.packed_state.specs.PooledView.{pooled_width, pooled_states};
+
+    /// A store of sets of numbers below `width`, without any.
+    pub fn new(alloc: Global, width: u32) -> Result<PooledStore, NoMemory>
+        ensures width { IfOk result (λ store. pooled_width store ≡ width) }
+        ensures states { IfOk result (λ store. pooled_states store ≡ []) }
+    {
+        let pool = Pool::new(alloc, words::words_for(width), FIRST_BUCKETS)?;
+        Ok(PooledStore { width, pool, alloc })
+    }
+
+    /// The place of the state with these words, and whether it was new.
+    fn put(&mut self, words: &[u64]) -> Result<(u32, bool), NoMemory>
+        requires packed { AreWordsOf self.old.width words.now }
+        requires room { length (rows_of self.old.pool) < 16777216 }
+        ensures width { self.new.width ≡ self.old.width }
+        ensures ok { IfOk result (λ r. IsPlaced (rows_of self.old.pool) (rows_of self.new.pool) words.now r.0 r.1) }
+        ensures err { OnErr result (rows_of self.new.pool ≡ rows_of self.old.pool) }
+    {
+        if let Some(place) = self.pool.place_of(words) {
+            return Ok((place, false));
+        }
+        let place = self.pool.len() as u32;
+        self.pool.make_room(self.alloc)?;
+        self.pool.push(words)?;
+        Ok((place, true))
+    }
+}
+
+impl StateStore for PooledStore {
+    ghost use Rattle.packed_state.specs.PooledView.{pooled_width, pooled_states};
+
+    ghost width_of = { pooled_width };
+
+    ghost states = { pooled_states };
+
+    fn width(&self) -> u32 {
+        self.width
+    }
+
+    fn len(&self) -> usize {
+        self.pool.len()
+    }
+
+    fn get(&self, place: u32, into: &mut Packed) {
+        into.copy_words(self.pool.row(place as usize));
+    }
+
+    fn find(&self, state: &Packed) -> Option<u32> {
+        self.pool.place_of(state.words())
+    }
+
+    fn insert_if_new(&mut self, state: &Packed) -> Result<(u32, bool), NoMemory> {
+        self.put(state.words())
+    }
+
+    ghost distinct = { λ store. store.pooled.stored.distinct };
+}

@@ -1,0 +1,68 @@
+//! Words of 64 bits as sets: bit `k % 64` of word `k / 64`, counted from the lowest, stands for the number k.
+ghost use Rattle.std.specs.Prelude.{◌≡◌, ℕ, ◌+◌, ◌*◌, ◌/◌, ◌<◌, ◌≤◌, ◌↔◌, ◌==◌, ◌&&◌, ◌||◌, ◌^◌, not, IsTrue, length, slice_index};
+ghost use Rattle.packed_state.specs.Words.{word_has};
+
+/// How many words the numbers below `width` need.
+pub(crate) fn words_for(width: u32) -> usize
+    ensures enough { width ≤ 64 * result }
+    ensures no_more { 64 * result < width + 64 }
+{
+    width.div_ceil(64) as usize
+}
+
+/// Whether the number is in.
+pub(crate) fn has(words: &[u64], number: u32) -> bool
+    requires { number < 64 * length words.now }
+    ensures { result ≡ word_has words.now number }
+{
+    (words[number as usize / 64] >> (number % 64)) & 1 == 1
+}
+
+/// Puts the number in.
+pub(crate) fn insert(words: &mut [u64], number: u32)
+    requires within { number < 64 * length words.old }
+    requires small { (place : ℕ) → slice_index words.old place < 2 ^ 64 }
+    ensures has { (k : ℕ) → word_has words.new k ≡ (word_has words.old k || (number == k)) }
+    ensures small { (place : ℕ) → slice_index words.new place < 2 ^ 64 }
+{
+    words[number as usize / 64] |= 1 << (number % 64);
+}
+
+/// Whether each number of `part` is in.
+pub(crate) fn includes(words: &[u64], part: &[u64]) -> bool
+    requires { length words.now ≡ length part.now }
+    ensures { IsTrue result ↔ ((k : ℕ) → IsTrue (word_has part.now k) → IsTrue (word_has words.now k)) }
+{
+    'parts: for place in 0..words.len() {
+        if part[place] & !words[place] != 0 {
+            return false;
+        }
+    }
+    true
+}
+
+/// Whether no number is in both.
+pub(crate) fn are_disjoint(words: &[u64], others: &[u64]) -> bool
+    requires { length words.now ≡ length others.now }
+    ensures { IsTrue result ↔ ((k : ℕ) → ¬ (IsTrue (word_has words.now k) × IsTrue (word_has others.now k))) }
+{
+    'shared: for place in 0..words.len() {
+        if words[place] & others[place] != 0 {
+            return false;
+        }
+    }
+    true
+}
+
+/// Takes the numbers of `deletes` out, and then puts those of `adds` in.
+pub(crate) fn change(words: &mut [u64], deletes: &[u64], adds: &[u64])
+    requires deletes { length deletes.now ≡ length words.old }
+    requires adds { length adds.now ≡ length words.old }
+    requires small { (place : ℕ) → slice_index words.old place < 2 ^ 64 }
+    ensures small { (place : ℕ) → slice_index words.new place < 2 ^ 64 }
+    ensures has { (k : ℕ) → word_has words.new k ≡ ((word_has words.old k && not (word_has deletes.now k)) || word_has adds.now k) }
+{
+    'words: for place in 0..words.len() {
+        words[place] = words[place] & !deletes[place] | adds[place];
+    }
+}
