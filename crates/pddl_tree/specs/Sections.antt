@@ -1,11 +1,8 @@
 -- The parts of an action and the sections of a file, in the model's terms, and what the grammar makes of some of them.
 use Rattle.std.specs.Option.{option_map}
 use Rattle.std.specs.Prelude.{map, fold, [], ◌≡◌, ℕ, List, true, Some}
-use Rattle.pddl_tree.specs.declared.action.Part.{Part}
-use Rattle.pddl_tree.specs.declared.action.Part.TheVariants as part
 use Rattle.pddl_words.specs.Name.{name_of}
 use Rattle.syntax_tree.specs.Tree.{formula_of, groups_of, predicate_of, action_of, fact_of}
-use Rattle.pddl_tree.specs.Values.{value_tree}
 use Rattle.pddl_tree.specs.declared.sections.Section.{Section}
 use Rattle.pddl_tree.specs.declared.sections.Section.TheVariants as section
 use Rattle.pddl_tree.specs.declared.sections.Contents.{Contents}
@@ -16,19 +13,18 @@ use Rattle.pddl_words.specs.Token.{from, first}
 use Rattle.pddl_words.specs.Refusal.{told}
 use Rattle.pddl_tree.specs.Reading.{number_seen}
 use Rattle.model.specs.Trees.{File, Name, Action, Formula}
-use Rattle.model.specs.GrammarWords.{SectionKeyword, keyword, of_section}
-use Rattle.model.specs.Grammar.{Phrase, gives, ◌>>=◌, ◌>>◌, a_name, close, listed, formula, action_name, parts, with_part, action_from, sections, with_section, no_contents, has_section, sections_of}
+use Rattle.model.specs.GrammarWords.{PartKeyword, SectionKeyword, keyword, of_section}
+use Rattle.model.specs.Grammar.{Phrase, gives, ◌>>=◌, ◌>>◌, and_then, a_name, close, listed, formula, action_name, parts, part_after, with_part, action_from, sections, with_section, no_contents, has_section, sections_of}
 use Rattle.model.specs.Grammar as grammar
 use Rattle.model.specs.GrammarWords as grammar_words
 
-abbrev pub part_tree : Part → grammar.Part
-part_tree (part.Parameters v) = grammar.parameters (groups_of v)
-part_tree (part.Precondition f) = grammar.precondition (formula_of f)
-part_tree (part.Effect v) = grammar.effect (value_tree v)
+-- the parts of an action that follow those seen, taken into the action as it is with these
+abbrev pub parts_on : List PartKeyword → Action → Phrase Action
+parts_on seen a = parts seen >>= λ ps. gives (fold with_part a ps)
 
--- the parts of an action of which some were read
-abbrev pub parts_on : Action → Phrase Action
-parts_on a = parts [] >>= λ ps. gives (fold with_part a ps)
+-- the value of a part, which is seen, taken into the action
+abbrev pub part_into : List PartKeyword → PartKeyword → Action → Phrase Action
+part_into seen p a = and_then (part_after seen p) (λ x. gives (with_part a x))
 
 -- an action, from its name on
 abbrev pub the_action : Phrase Action
