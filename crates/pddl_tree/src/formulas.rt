@@ -125,9 +125,9 @@ fn quantified<'a>(
     Ok((variables, part, next))
 }
 
-/// A formula, and `)`: the formula, and the index after the parenthesis.
+/// A formula in its parentheses, and `)`: the formula, and the index after the last parenthesis.
 #[cycle(formula)]
-fn last<'a>(
+pub(crate) fn last<'a>(
     alloc: Global,
     words: &[Word<'a>],
     at: usize,
@@ -143,7 +143,7 @@ fn last<'a>(
 
 /// A formula in its parentheses, and the index after them.
 #[cycle(formula)]
-fn part<'a>(
+pub(crate) fn part<'a>(
     alloc: Global,
     words: &[Word<'a>],
     at: usize,
