@@ -11,6 +11,7 @@ ghost use Rattle.pddl_tree.specs.Sections.{the_action, parts_on, part_into};
 
 use crate::formulas::formula;
 use crate::look::{action_name, is_close, open};
+use crate::put::put;
 use crate::refusal::{Listed, Place, has_part, refusal};
 use crate::typed::typed;
 use crate::values::effect_value;
@@ -44,9 +45,9 @@ pub(crate) fn action<'a>(
     ensures told { IfErr result (λ refusal. IsTold the_action words.now at refusal) }
 {
     let (name, next) = action_name(words, at)?;
-    let mut action = bare(alloc, name);
+    let mut action = Box::new(alloc, bare(alloc, name))?;
     let end = parts(alloc, words, next, &mut action)?;
-    Ok((action, end))
+    Ok((Box::into_inner(action), end))
 }
 
 /// Parts of an action, each at most once, and `)`, taken into the action: the index after the parenthesis.
@@ -130,12 +131,12 @@ fn value<'a>(
         }
         PartKeyword::Precondition => {
             let (precondition, next) = precondition(alloc, words, inside)?;
-            action.precondition = precondition;
+            put(&mut action.precondition, precondition);
             Ok(next)
         }
         PartKeyword::Effect => {
             let (value, next) = effect_value(alloc, words, inside)?;
-            action.effect = value.effect;
+            put(&mut action.effect, value.effect);
             action.increases = value.increases;
             Ok(next)
         }

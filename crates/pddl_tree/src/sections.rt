@@ -16,6 +16,7 @@ use crate::declared::{declarations, facts};
 use crate::formulas::last;
 use crate::lists::keys;
 use crate::look::{close, is_close, name, open};
+use crate::put::put;
 use crate::refusal::{Listed, Place, allowed, has_section, refusal, required};
 use crate::typed::typed;
 use faults::{NoMemory, Refused, Span};
@@ -201,7 +202,7 @@ fn section_rest<'a>(
         SectionKeyword::Init => (contents.init, next) = facts(alloc, words, at)?,
         SectionKeyword::Goal => {
             let (goal, end) = last(alloc, words, at)?;
-            contents.goal = Box::into_inner(goal);
+            put(&mut contents.goal, Box::into_inner(goal));
             next = end;
         }
         SectionKeyword::Metric => {

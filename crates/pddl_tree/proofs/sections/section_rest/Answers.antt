@@ -69,7 +69,7 @@ pub returns-in_err-action-in-Action-clause-told : goal.returns-in_err-action-in-
 returns-in_err-action-in-Action-clause-told c = rw c.in-Action.is (told_by _ c.from_residual-in_err-action-in-Action.ensures.1 (told_as grammar.action c.in_err-action-in-Action.ensures.told))
 
 pub returns-in_ok-goal-in-Goal-clause-read : goal.returns-in_ok-goal-in-Goal-clause-read
-returns-in_ok-goal-in-Goal-clause-read c = rw c.in-Goal.is (record { section = _; read = read_as grammar.goal c.in_ok-goal-in-Goal.ensures.read; kind = refl; taken = ap (λ f. record (contents_of c.args.contents.now) { goal = formula_of f }) c.into_inner.ensures })
+returns-in_ok-goal-in-Goal-clause-read c = rw c.in-Goal.is (record { section = _; read = read_as grammar.goal c.in_ok-goal-in-Goal.ensures.read; kind = refl; taken = ap (λ f. record (contents_of c.args.contents.now) { goal = formula_of f }) (c.put.ensures ∙ c.into_inner.ensures) })
 
 pub returns-in_err-goal-in-Goal-clause-told : goal.returns-in_err-goal-in-Goal-clause-told
 returns-in_err-goal-in-Goal-clause-told c = rw c.in-Goal.is (told_by _ c.from_residual-in_err-goal-in-Goal.ensures.1 (told_as grammar.goal c.in_err-goal-in-Goal.ensures.told))
