@@ -10,13 +10,14 @@ use Rattle.faults.specs.declared.refused.Refused.TheVariants.{At}
 use Rattle.pddl_words.specs.declared.refusal.WordRefusal.{WordRefusal}
 use Rattle.pddl_words.specs.Token.{from, first}
 use Rattle.pddl_words.specs.Refusal.{WordFault, told}
-use Rattle.pddl_tree.specs.Reading.{the, IsRead, IsTold, number_seen, closes_first, opens_first}
-use Rattle.pddl_tree.specs.Sections.{the_sections, IsNotNew}
+use Rattle.pddl_tree.specs.Reading.{the, IsRead, IsTold, GoesOn, number_seen, closes_first, opens_first}
+use Rattle.pddl_tree.specs.Sections.{sections_on, IsNotNew, IsSection}
+use Rattle.pddl_tree.proofs.Parts.{is_closes}
 use Rattle.pddl_tree.proofs.ReadOn.{taken, told_later, not_there, by_word_told, first_told, IsRefusedAs}
 use Rattle.model.specs.Trees.{File}
 use Rattle.model.specs.GrammarWords.{Token, opens, closes, keyword, SectionKeyword, of_section, of_part, requirement_key, left_out_keyword, unknown_keyword}
 use Rattle.model.specs.GrammarWords as words
-use Rattle.model.specs.Grammar.{Tree, Section, Contents, Phrase, gives, ◌>>=◌, and_then, after, sections, section, section_of, section_after, define_word, with_section, no_contents, keyword_in, seen_with, is_section, has_section, has_all, left_of, sections_of, required_of}
+use Rattle.model.specs.Grammar.{Tree, Section, Contents, Phrase, gives, ◌>>=◌, and_then, after, sections, section, section_of, section_after, define_word, with_section, keyword_in, seen_with, is_section, has_section, has_all, left_of, sections_of, required_of}
 use Rattle.model.specs.GrammarMachine.{run}
 use Rattle.model.proofs.GrammarBegins.{is_left, same_section}
 
@@ -62,56 +63,38 @@ left_is j (k ∷ all) seen e = by_first (has_section seen k) refl (is_section j 
 
 -- ---- one section
 
--- the `(` and the keyword of a section that is new
-pub one_section : (f : File) (list : List Word) (at : ℕ) (seen : List SectionKeyword) (j : SectionKeyword) (k : List Section → Phrase Tree) → first (from list at) ≡ Some opens → first (from list (at + 1)) ≡ Some (keyword (of_section j))
+-- the `(` and the keyword of a section that is new: what follows them
+begun : (f : File) (seen : List SectionKeyword) (j : SectionKeyword) (c : Contents) (list : List Word) (at : ℕ) → first (from list at) ≡ Some opens → first (from list (at + 1)) ≡ Some (keyword (of_section j))
     → has_section (sections_of f) j ≡ true → has_section seen j ≡ false
-    → run (from list at) (sections f seen >>= k) ≡ run (from list (at + 2)) (and_then (section_after j) (λ x. sections f (seen_with seen (keyword_in x)) >>= λ xs. k (x ∷ xs)))
-one_section f list at seen j k o e here new = by_left (left_of (sections_of f) seen) refl (is_left j (sections_of f) seen here new)
+    → (k : Contents → Phrase Tree) → run (from list at) (and_then (sections_on f seen c) k) ≡ run (from list (at + 2)) (and_then (section_after j) (λ x. and_then (sections_on f (seen_with seen (keyword_in x)) (with_section c x)) k))
+begun f seen j c list at o e here new k = by_left (left_of (sections_of f) seen) refl (is_left j (sections_of f) seen here new)
   where
-    by_left : (l : List SectionKeyword) → left_of (sections_of f) seen ≡ l → has_section l j ≡ true → run (from list at) (sections f seen >>= k) ≡ run (from list (at + 2)) (and_then (section_after j) (λ x. sections f (seen_with seen (keyword_in x)) >>= λ xs. k (x ∷ xs)))
+    by_left : (l : List SectionKeyword) → left_of (sections_of f) seen ≡ l → has_section l j ≡ true → run (from list at) (and_then (sections_on f seen c) k) ≡ run (from list (at + 2)) (and_then (section_after j) (λ x. and_then (sections_on f (seen_with seen (keyword_in x)) (with_section c x)) k))
     by_left [] are has = absurd (cc)
     by_left (i ∷ others) are has =
-        let rest : Section → Phrase Tree = λ x. sections f (seen_with seen (keyword_in x)) >>= λ xs. k (x ∷ xs) in
-        taken (sections f seen) list at opens o (ap (section_of f seen) are) k
+        let rest : Section → Phrase Tree = λ x. and_then (sections_on f (seen_with seen (keyword_in x)) (with_section c x)) k in
+        taken (sections f seen) list at opens o (ap (section_of f seen) are) (λ ss. k (fold with_section c ss))
         ∙ taken (section f i others) list (at + 1) (keyword (of_section j)) e (ap (λ b. cond b (Some (section_after j)) None) has) rest
         ∙ ap (λ n. run (from list n) (and_then (section_after j) rest)) (omega arith)
 
--- what was read so far of the sections, and what the words left make of the rest
-pub record AreSectionsOn (f : File) (list : List Word) (at : ℕ) (seen : List SectionKeyword) (c : Contents) (next : ℕ) : Type 0 where
-  pub goes : (k : Contents → Phrase Tree) → run (from list at) (sections f [] >>= λ ss. k (fold with_section no_contents ss)) ≡ run (from list next) (sections f seen >>= λ ss. k (fold with_section c ss))
-
-pub sections_start : (f : File) (list : List Word) (at : ℕ) → AreSectionsOn f list at [] no_contents at
-sections_start f list at = record { goes = λ k. refl }
-
-pub sections_more : (f : File) (list : List Word) (at next after : ℕ) (c d : Contents) (seen seen' : List SectionKeyword) (j : SectionKeyword) (x : Section)
-    → AreSectionsOn f list at seen c next → first (from list next) ≡ Some opens → first (from list (next + 1)) ≡ Some (keyword (of_section j)) → has_section (sections_of f) j ≡ true → has_section seen j ≡ false
-    → IsRead (section_after j) list (next + 2) x after → keyword_in x ≡ j → seen' ≡ seen_with seen j → d ≡ with_section c x → AreSectionsOn f list at seen' d after
-sections_more f list at next after c d seen seen' j x h o e here new one is s w =
+pub section_read : (f : File) (seen : List SectionKeyword) (j : SectionKeyword) {list : List Word} {at next : ℕ} {c d : Contents} → first (from list at) ≡ Some opens → first (from list (at + 1)) ≡ Some (keyword (of_section j))
+    → has_section (sections_of f) j ≡ true → has_section seen j ≡ false → IsSection j list (at + 2) c d next → GoesOn (sections_on f seen c) list at (sections_on f (seen_with seen j) d) next
+section_read f seen j {list} {at} {next} {c} o e here new one =
     record {
-      goes = λ k. h.goes k ∙ one_section f list next seen j (λ ss. k (fold with_section c ss)) o e here new ∙ one.runs (λ y. sections f (seen_with seen (keyword_in y)) >>= λ ys. k (fold with_section c (y ∷ ys)))
-          ∙ (λ i. run (from list after) (sections f (seen_with seen (is i)) >>= λ ys. k (fold with_section (sym w i) ys))) ∙ (λ i. run (from list after) (sections f (sym s i) >>= λ ys. k (fold with_section d ys)));
+      goes = λ k. begun f seen j c list at o e here new k ∙ one.read.runs (λ x. and_then (sections_on f (seen_with seen (keyword_in x)) (with_section c x)) k)
+          ∙ (λ i. run (from list next) (and_then (sections_on f (seen_with seen (one.kind i)) (sym one.taken i)) k));
     }
 
-pub sections_end : (f : File) (list : List Word) (at next : ℕ) (seen : List SectionKeyword) (c : Contents) → AreSectionsOn f list at seen c next → closes_first (first (from list next)) ≡ true → has_all (required_of f) seen ≡ true
-    → IsRead (the_sections f) list at c (next + 1)
-sections_end f list at next seen c h e all = record { runs = λ k. h.goes k ∙ by_first k (first (from list next)) refl e }
-  where
-    by_first : (k : Contents → Phrase Tree) (o : Option Token) → first (from list next) ≡ o → closes_first o ≡ true → run (from list next) (sections f seen >>= λ ss. k (fold with_section c ss)) ≡ run (from list (next + 1)) (k c)
-    by_first k (Some closes) is e = taken (sections f seen) list next closes is (ap (λ b. cond b (Some (gives [])) None) all) (λ ss. k (fold with_section c ss))
-    by_first k o is e = absurd (cc)
+pub section_told : (f : File) (seen : List SectionKeyword) (j : SectionKeyword) {list : List Word} {at : ℕ} {c : Contents} {refusal : WordFault} → first (from list at) ≡ Some opens → first (from list (at + 1)) ≡ Some (keyword (of_section j))
+    → has_section (sections_of f) j ≡ true → has_section seen j ≡ false → IsTold (section_after j) list (at + 2) refusal → IsTold (sections_on f seen c) list at refusal
+section_told f seen j {list} {at} {c} {refusal} o e here new told =
+    let rest : (Contents → Phrase Tree) → Section → Phrase Tree = λ k x. and_then (sections_on f (seen_with seen (keyword_in x)) (with_section c x)) k in
+    record { stops = λ k. told_later list at (at + 2) (and_then (sections_on f seen c) k) (and_then (section_after j) (rest k)) refusal (begun f seen j c list at o e here new k) (told.stops (rest k)) }
 
-pub sections_told : (f : File) (list : List Word) (at next : ℕ) (seen : List SectionKeyword) (c : Contents) (refusal : WordFault) → AreSectionsOn f list at seen c next → IsTold (the (sections f seen)) list next refusal → IsTold (the_sections f) list at refusal
-sections_told f list at next seen c refusal h told =
-    record { stops = λ k. told_later list at next (sections f [] >>= λ ss. k (fold with_section no_contents ss)) (sections f seen >>= λ ss. k (fold with_section c ss)) refusal (h.goes k) (told.stops (λ ss. k (fold with_section c ss))) }
-
-pub section_told : (f : File) (list : List Word) (at next : ℕ) (seen : List SectionKeyword) (c : Contents) (j : SectionKeyword) (refusal : WordFault)
-    → AreSectionsOn f list at seen c next → first (from list next) ≡ Some opens → first (from list (next + 1)) ≡ Some (keyword (of_section j)) → has_section (sections_of f) j ≡ true → has_section seen j ≡ false
-    → IsTold (section_after j) list (next + 2) refusal → IsTold (the_sections f) list at refusal
-section_told f list at next seen c j refusal h o e here new told =
-    record {
-      stops = λ k. told_later list at (next + 2) (sections f [] >>= λ ss. k (fold with_section no_contents ss)) (and_then (section_after j) (λ y. sections f (seen_with seen (keyword_in y)) >>= λ ys. k (fold with_section c (y ∷ ys)))) refusal
-          (h.goes k ∙ one_section f list next seen j (λ ss. k (fold with_section c ss)) o e here new) (told.stops (λ y. sections f (seen_with seen (keyword_in y)) >>= λ ys. k (fold with_section c (y ∷ ys))));
-    }
+-- `)` after what is required
+pub sections_end : (f : File) (seen : List SectionKeyword) {list : List Word} {at : ℕ} {c : Contents} → closes_first (first (from list at)) ≡ true → has_all (required_of f) seen ≡ true → IsRead (sections_on f seen c) list at c (at + 1)
+sections_end f seen {list} {at} {c} e all =
+    record { runs = λ k. taken (sections f seen) list at closes (is_closes (first (from list at)) e) (ap (λ b. cond b (Some (gives [])) None) all) (λ ss. k (fold with_section c ss)) }
 
 -- ---- words that may not stand there
 

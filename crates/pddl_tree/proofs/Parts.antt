@@ -1,63 +1,45 @@
 -- The parts of an action, one after another.
-use Rattle.std.proofs.Common.{◌≡◌, ℕ, ◌+◌, true, false, cond, List, [], ◌∷◌, ◌++◌, fold, Option, Some, None, refl, sym, ◌∙◌, ap, subst}
+use Rattle.std.proofs.Common.{◌≡◌, ℕ, ◌+◌, true, false, cond, List, [], ◌∷◌, ◌++◌, fold, Option, Some, None, refl, sym, ◌∙◌, ap}
 use Rattle.tokens.specs.declared.word.Word.{Word}
 use Rattle.pddl_words.specs.Token.{from, first}
 use Rattle.pddl_words.specs.Refusal.{WordFault, told}
-use Rattle.pddl_tree.specs.Reading.{the, IsRead, IsTold, closes_first, Opens}
-use Rattle.pddl_tree.proofs.ReadOn.{taken, told_later, IsRefusedAs}
-use Rattle.pddl_tree.proofs.ReadOn.{in_turn}
+use Rattle.pddl_tree.specs.Reading.{the, IsRead, IsTold, GoesOn, closes_first, Opens}
+use Rattle.pddl_tree.specs.Sections.{parts_on, part_into}
+use Rattle.pddl_tree.proofs.ReadOn.{in_turn, taken, told_later, IsRefusedAs}
 use Rattle.model.specs.Trees.{Action, Formula}
 use Rattle.model.specs.GrammarWords.{Token, opens, closes, keyword, PartKeyword, of_part, of_section, requirement_key, left_out_keyword, unknown_keyword}
 use Rattle.model.specs.GrammarWords as words
-use Rattle.model.specs.Grammar.{Tree, Part, Phrase, gives, ◌>>=◌, and_then, after, value, formula, precondition_list, parts, part_after, parts_after, with_part, has_part}
+use Rattle.model.specs.Grammar.{Tree, Phrase, gives, ◌>>=◌, and_then, value, formula, precondition_list, parts, part_after, parts_after, with_part, has_part}
 use Rattle.model.specs.GrammarMachine.{run}
 
--- a part that is new, and those after it
-pub one_part : (list : List Word) (at : ℕ) (seen : List PartKeyword) (p : PartKeyword) (k : List Part → Phrase Tree) → first (from list at) ≡ Some (keyword (of_part p)) → has_part seen p ≡ false
-    → run (from list at) (parts seen >>= k) ≡ run (from list (at + 1)) (and_then (part_after (seen ++ p ∷ []) p) (λ x. parts (seen ++ p ∷ []) >>= λ xs. k (x ∷ xs)))
-one_part list at seen p k e new =
-    taken (parts seen) list at (keyword (of_part p)) e (ap (λ b. cond b None (Some (parts_after seen p))) new) k
-    ∙ ap (run (from list (at + 1))) (in_turn (part_after (seen ++ p ∷ []) p) (λ x. parts (seen ++ p ∷ []) >>= λ xs. gives (x ∷ xs)) k)
+-- `)` stands there
+pub is_closes : (o : Option Token) → closes_first o ≡ true → o ≡ Some closes
+is_closes (Some closes) e = refl
+is_closes o e = absurd (cc)
 
--- what was read so far of the parts, and what the words left make of the rest
-pub record ArePartsOn (list : List Word) (at : ℕ) (a : Action) (seen : List PartKeyword) (b : Action) (next : ℕ) : Type 0 where
-  pub goes : (k : Action → Phrase Tree) → run (from list at) (parts [] >>= λ ps. k (fold with_part a ps)) ≡ run (from list next) (parts seen >>= λ ps. k (fold with_part b ps))
+-- the keyword of a part that is new: what follows it
+begun : (seen : List PartKeyword) (p : PartKeyword) (a : Action) (list : List Word) (at : ℕ) → first (from list at) ≡ Some (keyword (of_part p)) → has_part seen p ≡ false
+    → (k : Action → Phrase Tree) → run (from list at) (and_then (parts_on seen a) k) ≡ run (from list (at + 1)) (and_then (part_into (seen ++ p ∷ []) p a) (λ b. and_then (parts_on (seen ++ p ∷ []) b) k))
+begun seen p a list at e new k =
+    let one = part_after (seen ++ p ∷ []) p in
+    taken (parts seen) list at (keyword (of_part p)) e (ap (λ b. cond b None (Some (parts_after seen p))) new) (λ ps. k (fold with_part a ps))
+    ∙ ap (run (from list (at + 1))) (in_turn one (λ x. parts (seen ++ p ∷ []) >>= λ xs. gives (x ∷ xs)) (λ ps. k (fold with_part a ps)) ∙ sym (in_turn one (λ x. gives (with_part a x)) (λ b. and_then (parts_on (seen ++ p ∷ []) b) k)))
 
-pub parts_start : (list : List Word) (at : ℕ) (a : Action) → ArePartsOn list at a [] a at
-parts_start list at a = record { goes = λ k. refl }
+pub part_read : (seen : List PartKeyword) (p : PartKeyword) {list : List Word} {at next : ℕ} {a b : Action} → first (from list at) ≡ Some (keyword (of_part p)) → has_part seen p ≡ false
+    → IsRead (part_into (seen ++ p ∷ []) p a) list (at + 1) b next → GoesOn (parts_on seen a) list at (parts_on (seen ++ p ∷ []) b) next
+part_read seen p {list} {at} {a = a} e new one =
+    record { goes = λ k. begun seen p a list at e new k ∙ one.runs (λ b. and_then (parts_on (seen ++ p ∷ []) b) k) }
 
-pub parts_more : (list : List Word) (at next after : ℕ) (a b c : Action) (seen seen' : List PartKeyword) (p : PartKeyword) (x : Part)
-    → ArePartsOn list at a seen b next → first (from list next) ≡ Some (keyword (of_part p)) → has_part seen p ≡ false → seen' ≡ seen ++ p ∷ []
-    → IsRead (part_after seen' p) list (next + 1) x after → c ≡ with_part b x → ArePartsOn list at a seen' c after
-parts_more list at next after a b c seen seen' p x h e new s one d =
-    let one' : IsRead (part_after (seen ++ p ∷ []) p) list (next + 1) x after = subst (λ l. IsRead (part_after l p) list (next + 1) x after) s one in
-    record {
-      goes = λ k. h.goes k ∙ one_part list next seen p (λ ps. k (fold with_part b ps)) e new ∙ one'.runs (λ y. parts (seen ++ p ∷ []) >>= λ xs. k (fold with_part b (y ∷ xs)))
-          ∙ (λ i. run (from list after) (parts (sym s i) >>= λ xs. k (fold with_part (sym d i) xs)));
-    }
+pub part_told : (seen : List PartKeyword) (p : PartKeyword) {list : List Word} {at : ℕ} {a : Action} {refusal : WordFault} → first (from list at) ≡ Some (keyword (of_part p)) → has_part seen p ≡ false
+    → IsTold (part_into (seen ++ p ∷ []) p a) list (at + 1) refusal → IsTold (parts_on seen a) list at refusal
+part_told seen p {list} {at} {a} {refusal} e new told =
+    let rest : (Action → Phrase Tree) → Action → Phrase Tree = λ k b. and_then (parts_on (seen ++ p ∷ []) b) k in
+    record { stops = λ k. told_later list at (at + 1) (and_then (parts_on seen a) k) (and_then (part_into (seen ++ p ∷ []) p a) (rest k)) refusal (begun seen p a list at e new k) (told.stops (rest k)) }
 
-pub parts_end : (list : List Word) (at next : ℕ) (a b : Action) (seen : List PartKeyword) → ArePartsOn list at a seen b next → closes_first (first (from list next)) ≡ true → has_part seen words.parameters ≡ true
-    → IsRead (parts [] >>= λ ps. gives (fold with_part a ps)) list at b (next + 1)
-parts_end list at next a b seen h e all = record { runs = λ k. h.goes k ∙ by_first k (first (from list next)) refl e }
-  where
-    by_first : (k : Action → Phrase Tree) (o : Option Token) → first (from list next) ≡ o → closes_first o ≡ true → run (from list next) (parts seen >>= λ ps. k (fold with_part b ps)) ≡ run (from list (next + 1)) (k b)
-    by_first k (Some closes) is e = taken (parts seen) list next closes is (ap (λ b. cond b (Some (gives [])) None) all) (λ ps. k (fold with_part b ps))
-    by_first k o is e = absurd (cc)
-
-pub parts_told : (list : List Word) (at next : ℕ) (a b : Action) (seen : List PartKeyword) (refusal : WordFault) → ArePartsOn list at a seen b next → IsTold (the (parts seen)) list next refusal → IsTold (parts [] >>= λ ps. gives (fold with_part a ps)) list at refusal
-parts_told list at next a b seen refusal h told =
-    record { stops = λ k. told_later list at next (parts [] >>= λ ps. k (fold with_part a ps)) (parts seen >>= λ ps. k (fold with_part b ps)) refusal (h.goes k) (told.stops (λ ps. k (fold with_part b ps))) }
-
--- the value of a part was refused
-pub value_told : (list : List Word) (at next : ℕ) (a b : Action) (seen seen' : List PartKeyword) (p : PartKeyword) (refusal : WordFault)
-    → ArePartsOn list at a seen b next → first (from list next) ≡ Some (keyword (of_part p)) → has_part seen p ≡ false → seen' ≡ seen ++ p ∷ []
-    → IsTold (part_after seen' p) list (next + 1) refusal → IsTold (parts [] >>= λ ps. gives (fold with_part a ps)) list at refusal
-value_told list at next a b seen seen' p refusal h e new s told =
-    let told' : IsTold (part_after (seen ++ p ∷ []) p) list (next + 1) refusal = subst (λ l. IsTold (part_after l p) list (next + 1) refusal) s told in
-    record {
-      stops = λ k. told_later list at (next + 1) (parts [] >>= λ ps. k (fold with_part a ps)) (and_then (part_after (seen ++ p ∷ []) p) (λ y. parts (seen ++ p ∷ []) >>= λ xs. k (fold with_part b (y ∷ xs)))) refusal
-          (h.goes k ∙ one_part list next seen p (λ ps. k (fold with_part b ps)) e new) (told'.stops (λ y. parts (seen ++ p ∷ []) >>= λ xs. k (fold with_part b (y ∷ xs))));
-    }
+-- `)` after the parameters
+pub parts_end : (seen : List PartKeyword) {list : List Word} {at : ℕ} {a : Action} → closes_first (first (from list at)) ≡ true → has_part seen words.parameters ≡ true → IsRead (parts_on seen a) list at a (at + 1)
+parts_end seen {list} {at} {a} e all =
+    record { runs = λ k. taken (parts seen) list at closes (is_closes (first (from list at)) e) (ap (λ b. cond b (Some (gives [])) None) all) (λ ps. k (fold with_part a ps)) }
 
 -- `)` where the parameters are missing
 pub parameters_missing : (seen : List PartKeyword) (o : Option Token) → closes_first o ≡ true → has_part seen words.parameters ≡ false → IsRefusedAs (parts seen) (parts []) o
@@ -68,11 +50,7 @@ parameters_missing seen o e none = absurd (cc)
 pub opened : (seen : List PartKeyword) {list : List Word} {at inside : ℕ} → Opens list at inside → IsRead (the (value seen)) list at tt inside
 opened seen {list} {at} {inside} o = record { runs = λ k. taken (value seen) list at opens o.0 refl k ∙ ap (λ i. run (from list i) (k tt)) (sym o.1) }
 
--- `)` as a precondition, or a formula
-pub is_closes : (o : Option Token) → closes_first o ≡ true → o ≡ Some closes
-is_closes (Some closes) e = refl
-is_closes o e = absurd (cc)
-
+-- a word of a formula as a precondition
 some_word : (t : Token) (w : List Token) (k : Formula → Phrase Tree) → closes_first (Some t) ≡ false → run (t ∷ w) (precondition_list >>= k) ≡ run (t ∷ w) (formula >>= k)
 some_word closes w k e = absurd (cc)
 some_word t w k e = refl

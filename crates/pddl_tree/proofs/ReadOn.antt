@@ -7,7 +7,7 @@ use Rattle.tokens.specs.declared.word.Word.{Word}
 use Rattle.tokens.specs.Word.{word_of}
 use Rattle.pddl_words.specs.Token.{from, first, reserved_view}
 use Rattle.pddl_words.specs.Refusal.{WordFault, told}
-use Rattle.pddl_tree.specs.Reading.{the, IsRead, IsWord, IsTold, StopsAs, number_seen, opens_first, Opens, IsNotOpen, free_first, Heads, IsNoPredicate}
+use Rattle.pddl_tree.specs.Reading.{the, IsRead, IsWord, IsTold, GoesOn, StopsAs, number_seen, opens_first, Opens, IsNotOpen, free_first, Heads, IsNoPredicate}
 use Rattle.model.specs.Trees.{Name}
 use Rattle.pddl_tree.specs.declared.refusal.Place.TheVariants.{Elsewhere}
 use Rattle.faults.specs.declared.refused.Refused.TheVariants.{At}
@@ -126,6 +126,19 @@ told_as {p = p} {words} {at} {refusal} f a =
 -- the same tree by another name
 pub of_tree : {A : Type 0} {p : Phrase A} {words : List Word} {at next : ℕ} {x y : A} → IsRead p words at x next → x ≡ y → IsRead p words at y next
 of_tree {words = words} {next = next} a e = record { runs = λ k. a.runs k ∙ ap (λ z. run (from words next) (k z)) e }
+
+-- what was begun goes on
+pub goes_here : {A : Type 0} {p : Phrase A} {words : List Word} {at : ℕ} → GoesOn p words at p at
+goes_here = record { goes = λ k. refl }
+
+pub goes_further : {A : Type 0} {p q r : Phrase A} {words : List Word} {at next end : ℕ} → GoesOn p words at q next → GoesOn q words next r end → GoesOn p words at r end
+goes_further a b = record { goes = λ k. a.goes k ∙ b.goes k }
+
+pub then_ended : {A : Type 0} {p q : Phrase A} {words : List Word} {at next end : ℕ} {x : A} → GoesOn p words at q next → IsRead q words next x end → IsRead p words at x end
+then_ended a b = record { runs = λ k. a.goes k ∙ b.runs k }
+
+pub then_stopped : {A : Type 0} {p q : Phrase A} {words : List Word} {at next : ℕ} {refusal : WordFault} → GoesOn p words at q next → IsTold q words next refusal → IsTold p words at refusal
+then_stopped {p = p} {q} {words} {at} {next} {refusal} a b = record { stops = λ k. told_later words at next (and_then p k) (and_then q k) refusal (a.goes k) (b.stops k) }
 
 -- what stands in a list
 pub in_list : (s : Sort) {words : List Word} {at inside end : ℕ} {x : Value s} → Opens words at inside → IsRead (the s) words inside x end → IsRead (the (listed s)) words at x end

@@ -2,7 +2,7 @@
 use Rattle.std.specs.Prelude.{ℕ, ◌<◌, ◌≤◌, ◌⊎◌, List, [], length, take, fold}
 use Rattle.model.specs.GrammarWords.{Token}
 use Rattle.model.specs.Trees.{File, Name}
-use Rattle.model.specs.Grammar.{Tree, Phrase, gives, ◌>>=◌, sections, tree_from, with_section, no_contents}
+use Rattle.model.specs.Grammar.{Tree, Contents, Phrase, gives, ◌>>=◌, sections, tree_from, with_section, no_contents}
 use Rattle.model.specs.Refusals.{Begins}
 
 -- the words of a head
@@ -17,6 +17,10 @@ HasHead file w = (head_length ≤ length w) × Begins file (take head_length w)
 abbrev pub HasNoHead : File → List Token → Type 0
 HasNoHead file w = (length w < head_length) ⊎ (Begins file (take head_length w) → ⊥)
 
+-- the sections of a file of this name, taken into its contents
+abbrev pub sections_and : File → Name → Contents → Phrase Tree
+sections_and f n c = sections f [] >>= λ ss. gives (tree_from f n (fold with_section c ss))
+
 -- what has to follow the head
 abbrev pub after_head : File → Name → Phrase Tree
-after_head f n = sections f [] >>= λ ss. gives (tree_from f n (fold with_section no_contents ss))
+after_head f n = sections_and f n no_contents

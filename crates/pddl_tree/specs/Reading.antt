@@ -22,6 +22,10 @@ the s = s >>= gives
 pub record IsRead {A : Type 0} (p : Phrase A) (words : List Word) (at : ℕ) (tree : A) (next : ℕ) : Type 0 where
   pub runs : (k : A → Phrase Tree) → run (from words at) (and_then p k) ≡ run (from words next) (k tree)
 
+-- a beginning was read of what p wants: with the words left it goes on as q
+pub record GoesOn {A : Type 0} (p : Phrase A) (words : List Word) (at : ℕ) (q : Phrase A) (next : ℕ) : Type 0 where
+  pub goes : (k : A → Phrase Tree) → run (from words at) (and_then p k) ≡ run (from words next) (and_then q k)
+
 -- the index after something that was read: it is of one word or more
 abbrev pub IsAfter : List Word → ℕ → ℕ → Type 0
 IsAfter words at next = (at < next) × (next ≤ length words)

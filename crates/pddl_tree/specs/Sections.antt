@@ -1,51 +1,32 @@
--- The parts of an action and the sections of a file, in the model's terms, and what the grammar makes of some of them.
+-- The parts of an action and the sections of a file, and what the grammar makes of some of them.
 use Rattle.std.specs.Option.{option_map}
 use Rattle.std.specs.Prelude.{map, fold, [], ◌≡◌, ℕ, List, true, Some}
-use Rattle.pddl_tree.specs.declared.action.Part.{Part}
-use Rattle.pddl_tree.specs.declared.action.Part.TheVariants as part
 use Rattle.pddl_words.specs.Name.{name_of}
 use Rattle.syntax_tree.specs.Tree.{formula_of, groups_of, predicate_of, action_of, fact_of}
-use Rattle.pddl_tree.specs.Values.{value_tree}
-use Rattle.pddl_tree.specs.declared.sections.Section.{Section}
-use Rattle.pddl_tree.specs.declared.sections.Section.TheVariants as section
 use Rattle.pddl_tree.specs.declared.sections.Contents.{Contents}
 use Rattle.tokens.specs.declared.word.Word.{Word}
 use Rattle.faults.specs.declared.refused.Refused.TheVariants.{At}
 use Rattle.pddl_words.specs.declared.refusal.WordRefusal.{WordRefusal}
 use Rattle.pddl_words.specs.Token.{from, first}
 use Rattle.pddl_words.specs.Refusal.{told}
-use Rattle.pddl_tree.specs.Reading.{number_seen}
-use Rattle.model.specs.Trees.{File, Name, Action, Formula}
-use Rattle.model.specs.GrammarWords.{SectionKeyword, keyword, of_section}
-use Rattle.model.specs.Grammar.{Phrase, gives, ◌>>=◌, ◌>>◌, a_name, close, listed, formula, action_name, parts, with_part, action_from, sections, with_section, no_contents, has_section, sections_of}
+use Rattle.pddl_tree.specs.Reading.{IsRead, number_seen}
+use Rattle.model.specs.Trees.{File, Name, Action}
+use Rattle.model.specs.GrammarWords.{PartKeyword, SectionKeyword, keyword, of_section}
+use Rattle.model.specs.Grammar.{Phrase, gives, ◌>>=◌, ◌>>◌, and_then, a_name, close, action_name, parts, part_after, with_part, action_from, sections, section_after, with_section, keyword_in, has_section, sections_of}
 use Rattle.model.specs.Grammar as grammar
 use Rattle.model.specs.GrammarWords as grammar_words
 
-abbrev pub part_tree : Part → grammar.Part
-part_tree (part.Parameters v) = grammar.parameters (groups_of v)
-part_tree (part.Precondition f) = grammar.precondition (formula_of f)
-part_tree (part.Effect v) = grammar.effect (value_tree v)
+-- the parts of an action that follow those seen, taken into the action as it is with these
+abbrev pub parts_on : List PartKeyword → Action → Phrase Action
+parts_on seen a = parts seen >>= λ ps. gives (fold with_part a ps)
 
--- the parts of an action of which some were read
-abbrev pub parts_on : Action → Phrase Action
-parts_on a = parts [] >>= λ ps. gives (fold with_part a ps)
+-- the value of a part, which is seen, taken into the action
+abbrev pub part_into : List PartKeyword → PartKeyword → Action → Phrase Action
+part_into seen p a = and_then (part_after seen p) (λ x. gives (with_part a x))
 
 -- an action, from its name on
 abbrev pub the_action : Phrase Action
 the_action = action_name >>= λ n. parts [] >>= λ ps. gives (action_from n ps)
-
-abbrev pub section_tree : Section → grammar.Section
-section_tree section.Requirements = grammar.requirements
-section_tree (section.Types v) = grammar.types (groups_of v)
-section_tree (section.Constants v) = grammar.constants (groups_of v)
-section_tree (section.Predicates v) = grammar.predicates (map predicate_of v.items)
-section_tree (section.Functions v) = grammar.functions (map name_of v.items)
-section_tree (section.Action a) = grammar.action (action_of a)
-section_tree (section.Domain n) = grammar.domain (name_of n)
-section_tree (section.Objects v) = grammar.objects (groups_of v)
-section_tree (section.Init v) = grammar.init (map fact_of v.items)
-section_tree (section.Goal f) = grammar.goal (formula_of f)
-section_tree (section.Metric n) = grammar.metric (name_of n)
 
 abbrev pub contents_of : Contents → grammar.Contents
 contents_of c = record {
@@ -61,16 +42,20 @@ contents_of c = record {
   metric = option_map name_of c.metric;
 }
 
--- the sections of a file, and what stands in them
-abbrev pub the_sections : File → Phrase grammar.Contents
-the_sections f = sections f [] >>= λ ss. gives (fold with_section no_contents ss)
+-- the sections of a file that follow those seen, taken into the contents as they are with these
+abbrev pub sections_on : File → List SectionKeyword → grammar.Contents → Phrase grammar.Contents
+sections_on f seen c = sections f seen >>= λ ss. gives (fold with_section c ss)
 
--- what follows `:domain` and `:goal`
+-- a section of this keyword was read, and taken into the contents
+pub record IsSection (k : SectionKeyword) (words : List Word) (at : ℕ) (before after : grammar.Contents) (next : ℕ) : Type 0 where
+  pub section : grammar.Section
+  pub read : IsRead (section_after k) words at section next
+  pub kind : keyword_in section ≡ k
+  pub taken : after ≡ with_section before section
+
+-- what follows `:domain`
 abbrev pub the_domain : Phrase Name
 the_domain = a_name >>= λ n. close >> gives n
-
-abbrev pub the_goal : Phrase Formula
-the_goal = listed formula >>= λ f. close >> gives f
 
 -- the word at an index is no keyword of a section of the file that is new, and is told as such
 abbrev pub IsNotNew : List Word → ℕ → File → List SectionKeyword → WordRefusal → Type 0

@@ -1,32 +1,25 @@
 //! Actions, from the word after `:action` on.
-ghost use Rattle.std.specs.Prelude.{◌≡◌, IfOk, IfErr, map, Some, false};
+ghost use Rattle.std.specs.Prelude.{◌≡◌, [], IfOk, IfErr, map, Some, false};
 ghost use Rattle.faults.specs.declared.refused.Refused.TheVariants.{At};
 ghost use Rattle.model.specs.GrammarWords.{keyword, of_part};
 ghost use Rattle.model.specs.Grammar as grammar;
 ghost use Rattle.pddl_words.specs.Token.{from, first, part_view};
-ghost use Rattle.pddl_tree.specs.Reading.{the, IsAfter, IsRead, IsTold, closes_first};
+ghost use Rattle.pddl_tree.specs.Reading.{the, IsAfter, IsRead, IsTold, GoesOn, closes_first};
 ghost use Rattle.pddl_words.specs.Name.{name_of};
 ghost use Rattle.syntax_tree.specs.Tree.{action_of, formula_of};
-ghost use Rattle.pddl_tree.specs.Sections.{part_tree, the_action, parts_on};
+ghost use Rattle.pddl_tree.specs.Sections.{the_action, parts_on, part_into};
 
 use crate::formulas::formula;
 use crate::look::{action_name, is_close, open};
+use crate::put::put;
 use crate::refusal::{Listed, Place, has_part, refusal};
 use crate::typed::typed;
-use crate::values::{EffectValue, effect_value};
+use crate::values::effect_value;
 use faults::Refused;
 use pddl_words::{Keyword, Name, PartKeyword, Token, WordFault, WordRefusal, token_at};
 use std::alloc::Global;
 use syntax_tree::{Action, Effect, Formula, Group};
 use tokens::Word;
-
-/// A part of an action.
-#[derive(Drop)]
-enum Part<'a> {
-    Parameters(Vec<Group<'a>>),
-    Precondition(Formula<'a>),
-    Effect(EffectValue<'a>),
-}
 
 /// An action of which no part was read: what may be left out is `(and)`.
 fn bare(alloc: Global, name: Name<'_>) -> Action<'_>
@@ -41,20 +34,6 @@ fn bare(alloc: Global, name: Name<'_>) -> Action<'_>
     }
 }
 
-/// Takes one part more into the action.
-fn add<'a>(action: &mut Action<'a>, part: Part<'a>)
-    ensures { action_of action.new ≡ grammar.with_part (action_of action.old) (part_tree part.entry) }
-{
-    match part {
-        Part::Parameters(parameters) => action.parameters = parameters,
-        Part::Precondition(precondition) => action.precondition = precondition,
-        Part::Effect(value) => {
-            action.effect = value.effect;
-            action.increases = value.increases;
-        }
-    }
-}
-
 /// An action whose `:action` was read, and the index after its `)`.
 pub(crate) fn action<'a>(
     alloc: Global,
@@ -66,34 +45,50 @@ pub(crate) fn action<'a>(
     ensures told { IfErr result (λ refusal. IsTold the_action words.now at refusal) }
 {
     let (name, next) = action_name(words, at)?;
-    parts(alloc, words, next, bare(alloc, name))
+    let mut action = Box::new(alloc, bare(alloc, name))?;
+    let end = parts(alloc, words, next, &mut action)?;
+    Ok((Box::into_inner(action), end))
 }
 
-/// Parts of an action, each at most once, and `)`: the action with them, and the index after the parenthesis.
+/// Parts of an action, each at most once, and `)`, taken into the action: the index after the parenthesis.
 fn parts<'a>(
     alloc: Global,
     words: &[Word<'a>],
     at: usize,
-    mut action: Action<'a>,
-) -> Result<(Action<'a>, usize), WordFault>
-    ensures after { IfOk result (λ r. IsAfter words.now at r.1) }
-    ensures read { IfOk result (λ r. IsRead (parts_on (action_of action.entry)) words.now at (action_of r.0) r.1) }
-    ensures told { IfErr result (λ refusal. IsTold (parts_on (action_of action.entry)) words.now at refusal) }
+    action: &mut Action<'a>,
+) -> Result<usize, WordFault>
+    ensures after { IfOk result (λ next. IsAfter words.now at next) }
+    ensures read { IfOk result (λ next. IsRead (parts_on [] (action_of action.old)) words.now at (action_of action.new) next) }
+    ensures told { IfErr result (λ refusal. IsTold (parts_on [] (action_of action.old)) words.now at refusal) }
 {
     let mut seen = Vec::new(alloc);
     let mut next = at;
     'parts: while !is_close(words, next) {
-        let keyword = part_keyword(words, next, &seen)?;
-        seen.push(keyword)?;
-        let (part, after) = value(alloc, words, next + 1, keyword, &seen)?;
-        add(&mut action, part);
-        next = after;
+        next = part(alloc, words, next, action, &mut seen)?;
     }
     if has_part(&seen, PartKeyword::Parameters) {
-        Ok((action, next + 1))
+        Ok(next + 1)
     } else {
         Err(Refused::At(refusal(words, next, Place::Parts)))
     }
+}
+
+/// A part that is not seen yet, taken into the action and those seen: the index after it.
+fn part<'a>(
+    alloc: Global,
+    words: &[Word<'a>],
+    at: usize,
+    action: &mut Action<'a>,
+    seen: &mut Vec<PartKeyword>,
+) -> Result<usize, WordFault>
+    requires { closes_first (first (from words.now at)) ≡ false }
+    ensures after { IfOk result (λ next. IsAfter words.now at next) }
+    ensures read { IfOk result (λ next. GoesOn (parts_on (map part_view seen.old.items) (action_of action.old)) words.now at (parts_on (map part_view seen.new.items) (action_of action.new)) next) }
+    ensures told { IfErr result (λ refusal. IsTold (parts_on (map part_view seen.old.items) (action_of action.old)) words.now at refusal) }
+{
+    let keyword = part_keyword(words, at, seen)?;
+    seen.push(keyword)?;
+    value(alloc, words, at + 1, keyword, seen, action)
 }
 
 /// The keyword of a part that is not seen yet.
@@ -114,31 +109,36 @@ fn part_keyword(words: &[Word], at: usize, seen: &[PartKeyword]) -> Result<PartK
     }
 }
 
-/// The value of a part whose keyword was read, which is seen: the part, and the index after it.
+/// The value of a part whose keyword was read, which is seen, taken into the action: the index after it.
 fn value<'a>(
     alloc: Global,
     words: &[Word<'a>],
     at: usize,
     keyword: PartKeyword,
     seen: &[PartKeyword],
-) -> Result<(Part<'a>, usize), WordFault>
-    ensures after { IfOk result (λ r. IsAfter words.now at r.1) }
-    ensures read { IfOk result (λ r. IsRead (grammar.part_after (map part_view seen.now) (part_view keyword)) words.now at (part_tree r.0) r.1) }
-    ensures told { IfErr result (λ refusal. IsTold (grammar.part_after (map part_view seen.now) (part_view keyword)) words.now at refusal) }
+    action: &mut Action<'a>,
+) -> Result<usize, WordFault>
+    ensures after { IfOk result (λ next. IsAfter words.now at next) }
+    ensures read { IfOk result (λ next. IsRead (part_into (map part_view seen.now) (part_view keyword) (action_of action.old)) words.now at (action_of action.new) next) }
+    ensures told { IfErr result (λ refusal. IsTold (part_into (map part_view seen.now) (part_view keyword) (action_of action.old)) words.now at refusal) }
 {
     let inside = open(words, at, Place::Value(seen))?;
     match keyword {
         PartKeyword::Parameters => {
             let (parameters, next) = typed(alloc, words, inside, Listed::Variables)?;
-            Ok((Part::Parameters(parameters), next))
+            action.parameters = parameters;
+            Ok(next)
         }
         PartKeyword::Precondition => {
             let (precondition, next) = precondition(alloc, words, inside)?;
-            Ok((Part::Precondition(precondition), next))
+            put(&mut action.precondition, precondition);
+            Ok(next)
         }
         PartKeyword::Effect => {
             let (value, next) = effect_value(alloc, words, inside)?;
-            Ok((Part::Effect(value), next))
+            put(&mut action.effect, value.effect);
+            action.increases = value.increases;
+            Ok(next)
         }
     }
 }

@@ -80,8 +80,7 @@ fn listed_total_cost<'a>(words: &[Word<'a>], at: usize) -> Result<(Name<'a>, usi
     ensures told { IfErr result (λ refusal. IsTold (the (listed wants_total_cost)) words.now at (At refusal)) }
 {
     let inside = open(words, at, Place::Elsewhere)?;
-    let (function, next) = total_cost(words, inside)?;
-    Ok((function, next))
+    total_cost(words, inside)
 }
 
 /// `minimize ( total-cost )`, and `)`: the function's name, and the index after the last parenthesis.

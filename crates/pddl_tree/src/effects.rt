@@ -6,7 +6,7 @@ ghost use Rattle.pddl_tree.specs.Formula.{IsReserved};
 ghost use Rattle.pddl_tree.specs.Reading.{the, IsAfter, IsRead, IsTold};
 ghost use Rattle.syntax_tree.specs.Tree.{effect_of, groups_of};
 
-use crate::formulas::formula;
+use crate::formulas::part;
 use crate::lists::terms;
 use crate::literals::{conditional, last_atom};
 use crate::look::{close, is_close, open};
@@ -89,12 +89,11 @@ fn when<'a>(alloc: Global, words: &[Word<'a>], at: usize) -> Result<(Effect<'a>,
     ensures read { IfOk result (λ r. IsRead the_when words.now at (effect_of r.0) r.1) }
     ensures told { IfErr result (λ refusal. IsTold the_when words.now at refusal) }
 {
-    let inside = open(words, at, Place::Elsewhere)?;
-    let (condition, next) = formula(alloc, words, inside)?;
+    let (condition, next) = part(alloc, words, at)?;
     let inside = open(words, next, Place::Elsewhere)?;
     let (literals, next) = conditional(alloc, words, inside)?;
     let next = close(words, next)?;
-    Ok((Effect::When(condition, literals), next))
+    Ok((Effect::When(Box::into_inner(condition), literals), next))
 }
 
 /// An effect in its parentheses, and `)`: the effect, and the index after the last parenthesis.
@@ -110,8 +109,8 @@ fn last<'a>(
 {
     let inside = open(words, at, Place::Elsewhere)?;
     let (part, next) = effect(alloc, words, inside)?;
-    let next = close(words, next)?;
     let part = Box::new(alloc, part)?;
+    let next = close(words, next)?;
     Ok((part, next))
 }
 

@@ -1,6 +1,5 @@
 //! Formulas, from the word after their parenthesis on.
 ghost use Rattle.std.specs.Prelude.{IfOk, IfErr, map};
-ghost use Rattle.faults.specs.declared.refused.Refused.TheVariants.{At};
 ghost use Rattle.model.specs.Grammar.{many, listed, formula as wants_formula};
 ghost use Rattle.pddl_tree.specs.Formula.{IsReserved, the_equality, the_last, the_implication, the_quantified};
 ghost use Rattle.pddl_tree.specs.Reading.{the, IsAfter, IsRead, IsTold};
@@ -11,7 +10,7 @@ use crate::look::{close, is_close, open, term};
 use crate::refusal::{Listed, Place, refusal};
 use crate::typed::typed;
 use faults::Refused;
-use pddl_words::{ReservedName, Token, WordFault, WordRefusal, token_at};
+use pddl_words::{ReservedName, Token, WordFault, token_at};
 use std::alloc::Global;
 use syntax_tree::{Atom, Formula, Group};
 use tokens::Word;
@@ -32,10 +31,7 @@ pub(crate) fn formula<'a>(
             let (terms, next) = terms(alloc, words, at + 1)?;
             Ok((Formula::Atom(Atom { predicate, terms }), next))
         }
-        Token::Equals(_) => {
-            let (equality, next) = equality(words, at + 1)?;
-            Ok((equality, next))
-        }
+        Token::Equals(_) => equality(words, at + 1),
         Token::Reserved(word, _) => compound(alloc, words, at, word),
         _ => Err(Refused::At(refusal(words, at, Place::Elsewhere))),
     }
@@ -81,10 +77,10 @@ fn compound<'a>(
 }
 
 /// Two terms, and `)`: that they are one object, and the index after the parenthesis.
-fn equality<'a>(words: &[Word<'a>], at: usize) -> Result<(Formula<'a>, usize), WordRefusal>
+fn equality<'a>(words: &[Word<'a>], at: usize) -> Result<(Formula<'a>, usize), WordFault>
     ensures after { IfOk result (λ r. IsAfter words.now at r.1) }
     ensures read { IfOk result (λ r. IsRead the_equality words.now at (formula_of r.0) r.1) }
-    ensures told { IfErr result (λ refusal. IsTold the_equality words.now at (At refusal)) }
+    ensures told { IfErr result (λ refusal. IsTold the_equality words.now at refusal) }
 {
     let (first, next) = term(words, at)?;
     let (second, next) = term(words, next)?;
@@ -125,9 +121,9 @@ fn quantified<'a>(
     Ok((variables, part, next))
 }
 
-/// A formula, and `)`: the formula, and the index after the parenthesis.
+/// A formula in its parentheses, and `)`: the formula, and the index after the last parenthesis.
 #[cycle(formula)]
-fn last<'a>(
+pub(crate) fn last<'a>(
     alloc: Global,
     words: &[Word<'a>],
     at: usize,
@@ -143,7 +139,7 @@ fn last<'a>(
 
 /// A formula in its parentheses, and the index after them.
 #[cycle(formula)]
-fn part<'a>(
+pub(crate) fn part<'a>(
     alloc: Global,
     words: &[Word<'a>],
     at: usize,

@@ -9,6 +9,7 @@ mod formulas;
 mod lists;
 mod literals;
 mod look;
+mod put;
 mod reader;
 mod refusal;
 mod sections;

@@ -24,7 +24,7 @@ ghost use Rattle.pddl_words.specs.Token.{from};
 ghost use Rattle.pddl_words.specs.Refusal.{told, fault_of};
 ghost use Rattle.pddl_tree.specs.Reading.{the, IsTold, StopsAs};
 ghost use Rattle.pddl_tree.specs.Sections.{contents_of};
-ghost use Rattle.pddl_tree.specs.Head.{HasHead, HasNoHead, after_head};
+ghost use Rattle.pddl_tree.specs.Head.{HasHead, HasNoHead, after_head, sections_and};
 ghost use Rattle.syntax_tree.specs.Tree.{file_of, domain_of, problem_of};
 
 use crate::look::{close, define, kind, name, open};
@@ -189,27 +189,27 @@ fn file<'a>(
         Ok(name) => name,
         Err(refusal) => return Err(fault(words, Refused::At(refusal))),
     };
-    match rest(alloc, words, file, name) {
-        Ok(contents) => Ok((name, contents)),
+    let mut contents = Contents::new(alloc);
+    match rest(alloc, words, file, name, &mut contents) {
+        Ok(()) => Ok((name, contents)),
         Err(refusal) => Err(fault(words, refusal)),
     }
 }
 
-/// What follows the head of a file of this name: what stands in its sections, or the refused word.
+/// What follows the head of a file of this name, taken into the contents, or the refused word.
 fn rest<'a>(
     alloc: Global,
     words: &[Word<'a>],
     file: TaskFile,
     name: Name<'a>,
-) -> Result<Contents<'a>, WordFault>
-    ensures read { IfOk result (λ contents. run (from words.now 6) (after_head (file_of file) (name_of name.entry)) ≡ finished (tree_from (file_of file) (name_of name.entry) (contents_of contents))) }
-    ensures told { IfErr result (λ refusal. StopsAs words.now 6 (after_head (file_of file) (name_of name.entry)) refusal) }
+    contents: &mut Contents<'a>,
+) -> Result<(), WordFault>
+    ensures read { IfOk result (λ _. run (from words.now 6) (sections_and (file_of file) (name_of name.entry) (contents_of contents.old)) ≡ finished (tree_from (file_of file) (name_of name.entry) (contents_of contents.new))) }
+    ensures told { IfErr result (λ refusal. StopsAs words.now 6 (sections_and (file_of file) (name_of name.entry) (contents_of contents.old)) refusal) }
 {
-    let (contents, next) = sections(alloc, words, 6, file)?;
-    match end(words, next) {
-        Ok(()) => Ok(contents),
-        Err(refusal) => Err(Refused::At(refusal)),
-    }
+    let next = sections(alloc, words, 6, file, contents)?;
+    end(words, next)?;
+    Ok(())
 }
 
 /// `( define ( domain NAME )`, or `problem` in place of `domain`: the name.

@@ -1,21 +1,22 @@
 //! The sections of a file, one loop for both kinds.
-ghost use Rattle.std.specs.Prelude.{◌≡◌, ◌+◌, IfOk, IfErr, map, Some, true, false};
+ghost use Rattle.std.specs.Prelude.{◌≡◌, ◌+◌, [], IfOk, IfErr, map, Some, true, false};
 ghost use Rattle.std.specs.List.{list_all};
 ghost use Rattle.faults.specs.declared.refused.Refused.TheVariants.{At};
 ghost use Rattle.model.specs.GrammarWords.{keyword, of_section};
 ghost use Rattle.model.specs.Grammar as grammar;
 ghost use Rattle.pddl_words.specs.Name.{name_of};
 ghost use Rattle.pddl_words.specs.Token.{from, first, section_view};
-ghost use Rattle.pddl_tree.specs.Reading.{the, IsAfter, IsRead, IsTold, Opens, closes_first};
-ghost use Rattle.syntax_tree.specs.Tree.{file_of, formula_of};
-ghost use Rattle.pddl_tree.specs.Sections.{section_tree, contents_of, the_domain, the_goal, the_sections, IsNotNew};
+ghost use Rattle.pddl_tree.specs.Reading.{the, IsAfter, IsRead, IsTold, GoesOn, Opens, closes_first};
+ghost use Rattle.syntax_tree.specs.Tree.{file_of};
+ghost use Rattle.pddl_tree.specs.Sections.{contents_of, sections_on, the_domain, IsNotNew, IsSection};
 
 use crate::action::action;
 use crate::costs::{functions, metric};
 use crate::declared::{declarations, facts};
-use crate::formulas::formula;
+use crate::formulas::last;
 use crate::lists::keys;
 use crate::look::{close, is_close, name, open};
+use crate::put::put;
 use crate::refusal::{Listed, Place, allowed, has_section, refusal, required};
 use crate::typed::typed;
 use faults::{NoMemory, Refused, Span};
@@ -23,22 +24,6 @@ use pddl_words::{Keyword, Name, SectionKeyword, Token, WordFault, WordRefusal, t
 use std::alloc::Global;
 use syntax_tree::{Action, Fact, Formula, Group, Predicate, TaskFile};
 use tokens::Word;
-
-/// What was read of a section.
-#[derive(Drop)]
-enum Section<'a> {
-    Requirements,
-    Types(Vec<Group<'a>>),
-    Constants(Vec<Group<'a>>),
-    Predicates(Vec<Predicate<'a>>),
-    Functions(Vec<Name<'a>>),
-    Action(Action<'a>),
-    Domain(Name<'a>),
-    Objects(Vec<Group<'a>>),
-    Init(Vec<Fact<'a>>),
-    Goal(Formula<'a>),
-    Metric(Name<'a>),
-}
 
 /// What stands in a file's sections; what does not is empty.
 #[derive(Drop)]
@@ -57,7 +42,7 @@ pub(crate) struct Contents<'a> {
 
 impl<'a> Contents<'a> {
     /// No section.
-    fn new(alloc: Global) -> Contents<'a>
+    pub(crate) fn new(alloc: Global) -> Contents<'a>
         ensures { contents_of result ≡ grammar.no_contents }
     {
         Contents {
@@ -76,55 +61,51 @@ impl<'a> Contents<'a> {
             metric: None,
         }
     }
-
-    /// Takes in one section more.
-    fn add(&mut self, section: Section<'a>) -> Result<(), NoMemory>
-        ensures { IfOk result (λ _. contents_of self.new ≡ grammar.with_section (contents_of self.old) (section_tree section.entry)) }
-    {
-        match section {
-            Section::Requirements => {}
-            Section::Types(types) => self.types = types,
-            Section::Constants(constants) => self.constants = constants,
-            Section::Predicates(predicates) => self.predicates = predicates,
-            Section::Functions(functions) => self.functions = functions,
-            Section::Action(action) => self.actions.push(action)?,
-            Section::Domain(domain) => self.domain = domain,
-            Section::Objects(objects) => self.objects = objects,
-            Section::Init(init) => self.init = init,
-            Section::Goal(goal) => self.goal = goal,
-            Section::Metric(metric) => self.metric = Some(metric),
-        }
-        Ok(())
-    }
 }
 
-/// Sections of a file, each but `:action` at most once, and `)`: what stands in them, and the index after the
+/// Sections of a file, each but `:action` at most once, and `)`, taken into the contents: the index after the
 /// parenthesis.
 pub(crate) fn sections<'a>(
     alloc: Global,
     words: &[Word<'a>],
     at: usize,
     file: TaskFile,
-) -> Result<(Contents<'a>, usize), WordFault>
-    ensures after { IfOk result (λ r. IsAfter words.now at r.1) }
-    ensures read { IfOk result (λ r. IsRead (the_sections (file_of file)) words.now at (contents_of r.0) r.1) }
-    ensures told { IfErr result (λ refusal. IsTold (the_sections (file_of file)) words.now at refusal) }
+    contents: &mut Contents<'a>,
+) -> Result<usize, WordFault>
+    ensures after { IfOk result (λ next. IsAfter words.now at next) }
+    ensures read { IfOk result (λ next. IsRead (sections_on (file_of file) [] (contents_of contents.old)) words.now at (contents_of contents.new) next) }
+    ensures told { IfErr result (λ refusal. IsTold (sections_on (file_of file) [] (contents_of contents.old)) words.now at refusal) }
 {
-    let mut contents = Contents::new(alloc);
     let mut seen = Vec::new(alloc);
     let mut next = at;
     'sections: while !is_close(words, next) {
-        let keyword = section_head(words, next, file, &seen)?;
-        let (section, after) = section_rest(alloc, words, next + 2, keyword)?;
-        contents.add(section)?;
-        see(&mut seen, keyword)?;
-        next = after;
+        next = section(alloc, words, next, file, contents, &mut seen)?;
     }
     if has_all(&seen, required(file)) {
-        Ok((contents, next + 1))
+        Ok(next + 1)
     } else {
         Err(Refused::At(refusal(words, next, Place::Incomplete)))
     }
+}
+
+/// A section that may stand, taken into the contents and those seen: the index after it.
+fn section<'a>(
+    alloc: Global,
+    words: &[Word<'a>],
+    at: usize,
+    file: TaskFile,
+    contents: &mut Contents<'a>,
+    seen: &mut Vec<SectionKeyword>,
+) -> Result<usize, WordFault>
+    requires { closes_first (first (from words.now at)) ≡ false }
+    ensures after { IfOk result (λ next. IsAfter words.now at next) }
+    ensures read { IfOk result (λ next. GoesOn (sections_on (file_of file) (map section_view seen.old.items) (contents_of contents.old)) words.now at (sections_on (file_of file) (map section_view seen.new.items) (contents_of contents.new)) next) }
+    ensures told { IfErr result (λ refusal. IsTold (sections_on (file_of file) (map section_view seen.old.items) (contents_of contents.old)) words.now at refusal) }
+{
+    let keyword = section_head(words, at, file, seen)?;
+    let next = section_rest(alloc, words, at + 2, keyword, contents)?;
+    see(seen, keyword)?;
+    Ok(next)
 }
 
 /// Whether all of some sections are seen.
@@ -186,64 +167,51 @@ fn section_keyword(
     }
 }
 
-/// A section whose keyword was read: what was read of it, and the index after it.
+/// A section whose keyword was read, taken into the contents: the index after it.
 fn section_rest<'a>(
     alloc: Global,
     words: &[Word<'a>],
     at: usize,
     keyword: SectionKeyword,
-) -> Result<(Section<'a>, usize), WordFault>
-    ensures after { IfOk result (λ r. IsAfter words.now at r.1) }
-    ensures kind { IfOk result (λ r. grammar.keyword_in (section_tree r.0) ≡ section_view keyword) }
-    ensures read { IfOk result (λ r. IsRead (grammar.section_after (section_view keyword)) words.now at (section_tree r.0) r.1) }
+    contents: &mut Contents<'a>,
+) -> Result<usize, WordFault>
+    ensures after { IfOk result (λ next. IsAfter words.now at next) }
+    ensures read { IfOk result (λ next. IsSection (section_view keyword) words.now at (contents_of contents.old) (contents_of contents.new) next) }
     ensures told { IfErr result (λ refusal. IsTold (grammar.section_after (section_view keyword)) words.now at refusal) }
 {
+    let next;
     match keyword {
-        SectionKeyword::Requirements => {
-            let next = keys(words, at)?;
-            Ok((Section::Requirements, next))
-        }
-        SectionKeyword::Types => {
-            let (types, next) = typed(alloc, words, at, Listed::Names)?;
-            Ok((Section::Types(types), next))
-        }
+        SectionKeyword::Requirements => next = keys(words, at)?,
+        SectionKeyword::Types => (contents.types, next) = typed(alloc, words, at, Listed::Names)?,
         SectionKeyword::Constants => {
-            let (constants, next) = typed(alloc, words, at, Listed::Names)?;
-            Ok((Section::Constants(constants), next))
+            (contents.constants, next) = typed(alloc, words, at, Listed::Names)?
         }
         SectionKeyword::Predicates => {
-            let (predicates, next) = declarations(alloc, words, at)?;
-            Ok((Section::Predicates(predicates), next))
+            (contents.predicates, next) = declarations(alloc, words, at)?
         }
-        SectionKeyword::Functions => {
-            let (functions, next) = functions(alloc, words, at)?;
-            Ok((Section::Functions(functions), next))
-        }
+        SectionKeyword::Functions => (contents.functions, next) = functions(alloc, words, at)?,
         SectionKeyword::Action => {
-            let (action, next) = action(alloc, words, at)?;
-            Ok((Section::Action(action), next))
+            let (action, end) = action(alloc, words, at)?;
+            contents.actions.push(action)?;
+            next = end;
         }
-        SectionKeyword::Domain => {
-            let (domain, next) = domain_name(words, at)?;
-            Ok((Section::Domain(domain), next))
-        }
+        SectionKeyword::Domain => (contents.domain, next) = domain_name(words, at)?,
         SectionKeyword::Objects => {
-            let (objects, next) = typed(alloc, words, at, Listed::Names)?;
-            Ok((Section::Objects(objects), next))
+            (contents.objects, next) = typed(alloc, words, at, Listed::Names)?
         }
-        SectionKeyword::Init => {
-            let (init, next) = facts(alloc, words, at)?;
-            Ok((Section::Init(init), next))
-        }
+        SectionKeyword::Init => (contents.init, next) = facts(alloc, words, at)?,
         SectionKeyword::Goal => {
-            let (goal, next) = goal(alloc, words, at)?;
-            Ok((Section::Goal(goal), next))
+            let (goal, end) = last(alloc, words, at)?;
+            put(&mut contents.goal, Box::into_inner(goal));
+            next = end;
         }
         SectionKeyword::Metric => {
-            let (metric, next) = metric(words, at)?;
-            Ok((Section::Metric(metric), next))
+            let (metric, end) = metric(words, at)?;
+            contents.metric = Some(metric);
+            next = end;
         }
     }
+    Ok(next)
 }
 
 /// A name, and `)`: the name, and the index after the parenthesis.
@@ -255,16 +223,4 @@ fn domain_name<'a>(words: &[Word<'a>], at: usize) -> Result<(Name<'a>, usize), W
     let (name, next) = name(words, at)?;
     let next = close(words, next)?;
     Ok((name, next))
-}
-
-/// A formula in its parentheses, and `)`: the formula, and the index after the last parenthesis.
-fn goal<'a>(alloc: Global, words: &[Word<'a>], at: usize) -> Result<(Formula<'a>, usize), WordFault>
-    ensures after { IfOk result (λ r. IsAfter words.now at r.1) }
-    ensures read { IfOk result (λ r. IsRead the_goal words.now at (formula_of r.0) r.1) }
-    ensures told { IfErr result (λ refusal. IsTold the_goal words.now at refusal) }
-{
-    let inside = open(words, at, Place::Elsewhere)?;
-    let (goal, next) = formula(alloc, words, inside)?;
-    let next = close(words, next)?;
-    Ok((goal, next))
 }

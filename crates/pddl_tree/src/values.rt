@@ -41,10 +41,11 @@ impl<'a> Entry<'a> {
                 effect,
                 increases: Vec::new(alloc),
             }),
-            Entry::Increase(increase) => Ok(EffectValue {
-                effect: Effect::And(Vec::new(alloc)),
-                increases: vec![in alloc; increase]?,
-            }),
+            Entry::Increase(increase) => {
+                let increases = vec![in alloc; increase]?;
+                let effect = Effect::And(Vec::new(alloc));
+                Ok(EffectValue { effect, increases })
+            }
         }
     }
 }

@@ -1,13 +1,14 @@
-use Rattle.std.proofs.Common.{◌-◌, ◌≤◌, length, map}
+use Rattle.std.proofs.Common.{◌-◌, ◌≤◌, [], length, map}
 use Rattle.pddl_words.specs.Token.{part_view}
 use Rattle.syntax_tree.specs.Tree.{action_of}
-use Rattle.pddl_tree.proofs.Parts.{ArePartsOn}
+use Rattle.pddl_tree.specs.Reading.{GoesOn}
+use Rattle.pddl_tree.specs.Sections.{parts_on}
 use Rattle.pddl_tree.proofs.action.parts.Given as goal
 
 abbrev pub invariant-parts : goal.invariant-parts
 invariant-parts l = record {
   moved : l.at ≤ l.next;
-  read : ArePartsOn l.words l.at (action_of l.fn.action) (map part_view l.seen.items) (action_of l.action) l.next;
+  read : GoesOn (parts_on [] (action_of l.initial.action)) l.words l.at (parts_on (map part_view l.seen.items) (action_of l.action)) l.next;
 }
 
 abbrev pub decreases-parts : goal.decreases-parts

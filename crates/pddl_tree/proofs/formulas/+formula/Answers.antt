@@ -17,11 +17,11 @@ pub formula-returns-in_err-terms-in-Free-clause-told : goal.formula-returns-in_e
 formula-returns-in_err-terms-in-Free-clause-told t c = told_by _ c.from_residual.ensures.1 (by_word_told formula (sym c.in-Free.ensures.first) refl (first_told (many term) c.in_err-terms-in-Free.ensures.told))
 
 -- `=`
-pub formula-returns-in_ok-equality-in-Equals-clause-read : goal.formula-returns-in_ok-equality-in-Equals-clause-read
-formula-returns-in_ok-equality-in-Equals-clause-read t c = by_word formula (sym c.in-Equals.ensures.first) refl c.in_ok-equality-in-Equals.ensures.read
+pub formula-returns-in-Equals-clause-read : goal.formula-returns-in-Equals-clause-read
+formula-returns-in-Equals-clause-read t c = if_ok c.equality.result (λ r read. by_word formula (sym c.in-Equals.ensures.first) refl read) c.equality.ensures.read
 
-pub formula-returns-in_err-equality-in-Equals-clause-told : goal.formula-returns-in_err-equality-in-Equals-clause-told
-formula-returns-in_err-equality-in-Equals-clause-told t c = told_by _ c.from_residual-in_err-equality-in-Equals.ensures.1 (by_word_told formula (sym c.in-Equals.ensures.first) refl c.in_err-equality-in-Equals.ensures.told)
+pub formula-returns-in-Equals-clause-told : goal.formula-returns-in-Equals-clause-told
+formula-returns-in-Equals-clause-told t c = if_err c.equality.result (λ refusal told. by_word_told formula (sym c.in-Equals.ensures.first) refl told) c.equality.ensures.told
 
 -- `and`
 pub compound-returns-in_ok-parts-in-And-clause-read : goal.compound-returns-in_ok-parts-in-And-clause-read

@@ -6,22 +6,23 @@ use Rattle.faults.proofs.Results.{passed_on}
 use Rattle.pddl_words.specs.Name.{name_of}
 use Rattle.syntax_tree.specs.Tree.{file_of}
 use Rattle.pddl_tree.specs.Reading.{StopsAs}
-use Rattle.pddl_tree.specs.Head.{after_head}
+use Rattle.pddl_tree.specs.Head.{sections_and}
 use Rattle.pddl_tree.specs.Sections.{contents_of}
 use Rattle.pddl_tree.proofs.ReadOn.{told_later}
 use Rattle.pddl_tree.proofs.reader.rest.Goals as goal
 
-pub returns-in_err-contents-clause-told : goal.returns-in_err-contents-clause-told
-returns-in_err-contents-clause-told c =
+pub returns-in_err-next-clause-told : goal.returns-in_err-next-clause-told
+returns-in_err-next-clause-told c =
     let f = file_of c.args.file in let n = name_of c.args.name in
-    passed_on (StopsAs c.args.words.now 6 (after_head f n)) c.from_residual.result c.in_err-contents.field-0.0 c.from_residual.ensures.1 (c.in_err-contents.ensures.told.stops (λ x. gives (tree_from f n x)))
+    passed_on (StopsAs c.args.words.now 6 (sections_and f n (contents_of c.args.contents.now))) c.from_residual.result c.in_err-next.field-0.0 c.from_residual.ensures.1 (c.in_err-next.ensures.told.stops (λ x. gives (tree_from f n x)))
 
-pub returns-in-Ok-clause-read : goal.returns-in-Ok-clause-read
-returns-in-Ok-clause-read c =
-    let f = file_of c.args.file in let n = name_of c.args.name in
-    c.in_ok-contents.ensures.read.runs (λ x. gives (tree_from f n x)) ∙ ap (λ w. run w (gives (tree_from f n (contents_of c.in_ok-contents.contents)))) c.in-Ok.ensures.none
+pub returns-clause-read : goal.returns-clause-read
+returns-clause-read c =
+    let f = file_of c.args.file in let n = name_of c.args.name in let d = contents_of c.sections.new.contents in
+    c.in_ok-next.ensures.read.runs (λ x. gives (tree_from f n x)) ∙ ap (λ w. run w (gives (tree_from f n d))) c.in_ok-end.ensures.none
 
-pub returns-clause-told : goal.returns-clause-told
-returns-clause-told c =
-    let f = file_of c.args.file in let n = name_of c.args.name in let tree = tree_from f n (contents_of c.in_ok-contents.contents) in
-    told_later c.args.words.now 6 c.in_ok-contents.next (after_head f n) (gives tree) (At c.in-Err.refusal) (c.in_ok-contents.ensures.read.runs (λ x. gives (tree_from f n x))) (c.in-Err.ensures.told tree)
+pub returns-in_err-end-clause-told : goal.returns-in_err-end-clause-told
+returns-in_err-end-clause-told c =
+    let f = file_of c.args.file in let n = name_of c.args.name in let before = contents_of c.args.contents.now in let tree = tree_from f n (contents_of c.sections.new.contents) in
+    passed_on (StopsAs c.args.words.now 6 (sections_and f n before)) c.from_residual-in_err-end.result (At c.in_err-end.field-0.0) c.from_residual-in_err-end.ensures.1
+    (told_later c.args.words.now 6 c.in_ok-next.next (sections_and f n before) (gives tree) (At c.in_err-end.field-0.0) (c.in_ok-next.ensures.read.runs (λ x. gives (tree_from f n x))) (c.in_err-end.ensures.told tree))
