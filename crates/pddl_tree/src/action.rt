@@ -45,6 +45,7 @@ pub(crate) fn action<'a>(
     ensures told { IfErr result (λ refusal. IsTold the_action words.now at refusal) }
 {
     let (name, next) = action_name(words, at)?;
+    // Boxed, since a box is dropped in one step of a proof, and an action in one for each form that its parts may have.
     let mut action = Box::new(alloc, bare(alloc, name))?;
     let end = parts(alloc, words, next, &mut action)?;
     Ok((Box::into_inner(action), end))
