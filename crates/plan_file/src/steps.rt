@@ -24,8 +24,9 @@ use typing::{ObjectId, SchemaId, Task, TypeUnion};
 pub(super) struct Meaning {
     /// The instances of the steps before the first at fault.
     instances: Vec<Instance>,
+    /// What is told of the first at fault.
     refusal: Option<Refusal>,
-    /// Where names are folded.
+    /// Where each name is folded: it grows to the longest.
     buffer: Vec<u8>,
 }
 
