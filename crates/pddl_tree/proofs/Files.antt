@@ -17,7 +17,7 @@ use Rattle.pddl_tree.proofs.ReadOn.{taken, told_later, not_there, by_word_told, 
 use Rattle.model.specs.Trees.{File}
 use Rattle.model.specs.GrammarWords.{Token, opens, closes, keyword, SectionKeyword, of_section, of_part, requirement_key, left_out_keyword, unknown_keyword}
 use Rattle.model.specs.GrammarWords as words
-use Rattle.model.specs.Grammar.{Tree, Section, Contents, Phrase, gives, ◌>>=◌, and_then, after, sections, section, section_of, section_after, define_word, with_section, keyword_in, seen_with, is_section, has_section, has_all, left_of, sections_of, required_of}
+use Rattle.model.specs.Grammar.{Tree, Section, Contents, Phrase, gives, and_then, after, sections, section, section_of, section_after, define_word, with_section, keyword_in, seen_with, is_section, has_section, has_all, left_of, sections_of, required_of}
 use Rattle.model.specs.GrammarMachine.{run}
 use Rattle.model.proofs.GrammarBegins.{is_left, same_section}
 

@@ -1,4 +1,4 @@
-use Rattle.std.proofs.Common.{refl, sym, ap, ◌++◌, map, ◌∷◌, [], ◌∙◌}
+use Rattle.std.proofs.Common.{refl, ap, map, ◌∷◌, [], ◌∙◌}
 use Rattle.std.proofs.lemmas.List.{map-append}
 use Rattle.model.specs.Grammar as grammar
 use Rattle.pddl_tree.proofs.ReadOn.{read_as, told_as, told_by}
