@@ -17,6 +17,8 @@ mod laws;
 #[cfg(test)]
 mod listings;
 #[cfg(test)]
+mod packed_states;
+#[cfg(test)]
 mod plan_files;
 #[cfg(test)]
 mod searches;

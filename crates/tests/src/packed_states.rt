@@ -1,0 +1,308 @@
+//! Packed sets, each call against the numbers that are in the sets, at widths around those of words; and both stores.
+ghost use Rattle.std.specs.Prelude.{ℕ, ◌<◌, ◌≡◌, IfOk, length};
+ghost use Rattle.std.specs.List.{All};
+ghost use Rattle.packed_state.specs.Packed.{bits_of, mask_bits_of};
+
+use faults::NoMemory;
+use packed_state::{Mask, Packed, PlainStore, PooledStore, StateStore};
+use std::alloc::{AllocError, Global};
+use std::process::Abort;
+use std::test::Fail;
+
+/// Widths of no word, of some that are just full, and of those one number more or less.
+static WIDTHS: [u32; 10] = [0, 1, 63, 64, 65, 127, 128, 511, 512, 513];
+
+/// Which numbers below a width are in a set.
+#[derive(Clone, Copy)]
+enum Sample {
+    Empty,
+    Full,
+    Last,
+    AllButLast,
+}
+
+static SAMPLES: [Sample; 4] = [
+    Sample::Empty,
+    Sample::Full,
+    Sample::Last,
+    Sample::AllButLast,
+];
+
+impl Sample {
+    /// Whether the number is in the set of this width.
+    fn has(self, width: u32, number: u32) -> bool {
+        let is_last = number.saturating_add(1) == width;
+        match self {
+            Sample::Empty => false,
+            Sample::Full => true,
+            Sample::Last => is_last,
+            Sample::AllButLast => !is_last,
+        }
+    }
+
+    fn numbers(self, alloc: Global, width: u32) -> Result<Vec<u32>, AllocError>
+        ensures { IfOk result (λ numbers. All (λ n. n < width) numbers.items) }
+    {
+        let mut numbers = Vec::new(alloc);
+        for number in 0..width {
+            if self.has(width, number) {
+                numbers.push(number)?;
+            }
+        }
+        Ok(numbers)
+    }
+
+    fn packed(self, alloc: Global, width: u32) -> Result<Packed, NoMemory>
+        ensures { IfOk result (λ set. length (bits_of set) ≡ width) }
+    {
+        let numbers = self.numbers(alloc, width)?;
+        Packed::new(alloc, width, &numbers)
+    }
+
+    fn mask(self, alloc: Global, width: u32) -> Result<Mask, NoMemory>
+        ensures { IfOk result (λ mask. length (mask_bits_of mask) ≡ width) }
+    {
+        let numbers = self.numbers(alloc, width)?;
+        Mask::new(alloc, width, &numbers)
+    }
+}
+
+/// What a set is compared with.
+#[derive(Clone, Copy)]
+enum Wanted {
+    /// This one.
+    Just(Sample),
+    /// The first less the second, with the third.
+    Changed(Sample, Sample, Sample),
+    /// This one of another width.
+    Widened(Sample, u32),
+}
+
+impl Wanted {
+    fn has(self, width: u32, number: u32) -> bool {
+        match self {
+            Wanted::Just(sample) => sample.has(width, number),
+            Wanted::Changed(set, deletes, adds) => {
+                set.has(width, number) && !deletes.has(width, number) || adds.has(width, number)
+            }
+            Wanted::Widened(sample, before) => number < before && sample.has(before, number),
+        }
+    }
+}
+
+/// Whether the set has this width and just these numbers.
+fn is_just(set: &Packed, width: u32, wanted: Wanted) -> bool {
+    for number in 0..set.width() {
+        if set.has(number) != wanted.has(width, number) {
+            return false;
+        }
+    }
+    set.width() == width
+}
+
+/// The set, number by number.
+fn inserted(alloc: Global, width: u32, sample: Sample) -> Result<Packed, NoMemory> {
+    let mut set = Packed::empty(alloc, width)?;
+    for number in 0..width {
+        if number < set.width() && sample.has(width, number) {
+            set.insert(number);
+        }
+    }
+    Ok(set)
+}
+
+/// Of two sets of a width: whether they are the same, whether the first has all of the second, and whether none.
+fn compared(width: u32, set: Sample, other: Sample) -> [bool; 3] {
+    let mut answers = [true; 3];
+    for number in 0..width {
+        let (is_in, is_in_other) = (set.has(width, number), other.has(width, number));
+        answers[0] &= is_in == is_in_other;
+        answers[1] &= is_in || !is_in_other;
+        answers[2] &= !(is_in && is_in_other);
+    }
+    answers
+}
+
+/// The same as the calls tell it.
+fn told(alloc: Global, width: u32, set: Sample, other: Sample) -> Result<[bool; 3], NoMemory> {
+    let mask = other.mask(alloc, width)?;
+    let other = inserted(alloc, width, other)?;
+    let set = set.packed(alloc, width)?;
+    Ok([set == other, set.has_all(&mask), set.has_none(&mask)])
+}
+
+/// The first set less the second, with the third.
+fn changed(
+    alloc: Global,
+    width: u32,
+    [set, deletes, adds]: [Sample; 3],
+) -> Result<Packed, NoMemory> {
+    let deletes = deletes.mask(alloc, width)?;
+    let adds = adds.mask(alloc, width)?;
+    let mut set = set.packed(alloc, width)?;
+    set.change(&deletes, &adds);
+    Ok(set)
+}
+
+fn pair_is_right(
+    rt: &impl Abort,
+    alloc: Global,
+    width: u32,
+    [set, other]: [Sample; 2],
+) -> Result<(), Fail> {
+    assert_eq!(rt;
+        told(alloc, width, set, other)?,
+        compared(width, set, other)
+    );
+    for &adds in &SAMPLES {
+        let after = changed(alloc, width, [set, other, adds])?;
+        assert!(rt; is_just(&after, width, Wanted::Changed(set, other, adds)));
+    }
+    Ok(())
+}
+
+fn sample_is_right(rt: &impl Abort, alloc: Global, width: u32, set: Sample) -> Result<(), Fail> {
+    assert!(rt; is_just(&set.packed(alloc, width)?, width, Wanted::Just(set)));
+    assert!(rt; is_just(&inserted(alloc, width, set)?, width, Wanted::Just(set)));
+    for &other in &SAMPLES {
+        pair_is_right(rt, alloc, width, [set, other])?;
+    }
+    Ok(())
+}
+
+#[test]
+fn sets_have_their_numbers(rt: HostRuntime) -> Result<(), Fail> {
+    for &width in &WIDTHS {
+        for &set in &SAMPLES {
+            sample_is_right(&rt, rt.alloc(), width, set)?;
+        }
+    }
+    Ok(())
+}
+
+/// Empty sets of two widths differ, and a set stays itself where its width grows.
+fn width_is_right(
+    rt: &impl Abort,
+    alloc: Global,
+    [narrow, wide]: [u32; 2],
+    sample: Sample,
+) -> Result<(), Fail> {
+    let empty = [Packed::empty(alloc, narrow)?, Packed::empty(alloc, wide)?];
+    assert!(rt; empty[0] != empty[1]);
+    let set = sample.packed(alloc, narrow)?;
+    if set.width() <= wide {
+        let grown = set.with_width(alloc, wide)?;
+        assert!(rt; is_just(&grown, wide, Wanted::Widened(sample, narrow)));
+    }
+    Ok(())
+}
+
+#[test]
+fn widths_grow(rt: HostRuntime) -> Result<(), Fail> {
+    for &widths in &[[0, 1], [63, 64], [64, 65], [127, 513]] {
+        for &sample in &SAMPLES {
+            width_is_right(&rt, rt.alloc(), widths, sample)?;
+        }
+    }
+    Ok(())
+}
+
+/// Under a width of at least 128, a set with the key of the empty set.
+#[rattlefmt::skip]
+static TWIN: [u32; 37] = [
+    0, 66, 67, 69, 71, 72, 74, 80, 82, 83, 84, 85, 86, 88, 93, 94, 95, 96, 99, 100, 101, 103, 104, 107, 108, 109, 110,
+    112, 113, 114, 116, 117, 121, 122, 123, 124, 127,
+];
+
+fn set_of(alloc: Global, width: u32, numbers: &[u32]) -> Result<Packed, NoMemory> {
+    let mut set = Packed::empty(alloc, width)?;
+    for &number in numbers {
+        if number < set.width() {
+            set.insert(number);
+        }
+    }
+    Ok(set)
+}
+
+/// The empty set, one with its key, and the sets of one number.
+fn distinct_sets(alloc: Global, width: u32) -> Result<Vec<Packed>, NoMemory> {
+    let mut sets = Vec::new(alloc);
+    sets.push(set_of(alloc, width, &[])?)?;
+    if width >= 128 {
+        sets.push(set_of(alloc, width, &TWIN)?)?;
+    }
+    for number in 0..width {
+        sets.push(set_of(alloc, width, &[number])?)?;
+    }
+    Ok(sets)
+}
+
+/// What the store answers to the set, where it is of the store's width.
+fn put<S: StateStore>(store: &mut S, set: &Packed) -> Result<Option<(u32, bool)>, NoMemory> {
+    if set.width() == store.width() && store.len() < 16_777_216 {
+        return Ok(Some(store.insert_if_new(set)?));
+    }
+    Ok(None)
+}
+
+/// Whether the store has the set at this place.
+fn stands_at<S: StateStore>(
+    alloc: Global,
+    store: &S,
+    set: &Packed,
+    place: u32,
+) -> Result<bool, NoMemory> {
+    let mut lent = Sample::Full.packed(alloc, set.width())?;
+    if lent.width() != store.width() || place as usize >= store.len() {
+        return Ok(false);
+    }
+    store.get(place, &mut lent);
+    Ok(lent == *set)
+}
+
+/// The set's place, where it is of the store's width.
+fn found<S: StateStore>(store: &S, set: &Packed) -> Option<u32> {
+    if set.width() == store.width() {
+        return store.find(set);
+    }
+    None
+}
+
+/// Each set is new the first time only, and gets the next place.
+fn takes<S: StateStore>(rt: &impl Abort, store: &mut S, sets: &[Packed]) -> Result<(), Fail> {
+    for (set, place) in sets.iter().zip(0..u32::MAX) {
+        assert_eq!(rt; store.len(), place as usize);
+        assert!(rt; found(store, set).is_none());
+        assert_eq!(rt; put(store, set)?, Some((place, true)));
+        assert_eq!(rt; put(store, set)?, Some((place, false)));
+    }
+    Ok(())
+}
+
+fn keeps<S: StateStore>(
+    rt: &impl Abort,
+    alloc: Global,
+    store: &mut S,
+    sets: &[Packed],
+) -> Result<(), Fail> {
+    takes(rt, store, sets)?;
+    assert_eq!(rt; store.len(), sets.len());
+    for (set, place) in sets.iter().zip(0..u32::MAX) {
+        assert_eq!(rt; found(store, set), Some(place));
+        assert!(rt; stands_at(alloc, store, set, place)?);
+    }
+    Ok(())
+}
+
+#[test]
+fn stores_keep_their_sets(rt: HostRuntime) -> Result<(), Fail> {
+    let alloc = rt.alloc();
+    for &width in &[0, 1, 64, 128, 513] {
+        let sets = distinct_sets(alloc, width)?;
+        let mut plain = PlainStore::new(alloc, width);
+        keeps(&rt, alloc, &mut plain, &sets)?;
+        let mut pooled = PooledStore::new(alloc, width)?;
+        keeps(&rt, alloc, &mut pooled, &sets)?;
+    }
+    Ok(())
+}
