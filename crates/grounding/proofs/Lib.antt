@@ -1,0 +1,5 @@
+pub mod FluentTable
+pub mod Closings
+pub mod DecidedLiterals
+pub mod ChosenObjects
+pub mod ObjectLists
