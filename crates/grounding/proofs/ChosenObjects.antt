@@ -4,10 +4,12 @@ use Rattle.std.specs.Prelude.{IsTrue, slice_get, filter, cond}
 use Rattle.std.specs.Cmp.{first_so, second_so}
 use Rattle.std.specs.Cmp.Lexicographic.{pointwise, as_long}
 use Rattle.std.specs.List.{list_all, list_any, flat_map, range_with_len}
-use Rattle.std.specs.Option.{option_map_or}
+use Rattle.std.specs.Option.{option_map, option_map_or}
 use Rattle.std.proofs.lemmas.Bool.{and_parts, and_from}
 use Rattle.std.proofs.lemmas.List.{length-append, drop_all}
 use Rattle.std.proofs.lemmas.Option.{slice_get_past}
+use Rattle.typing.specs.TaskParts.{shape_of_schema}
+use Rattle.typing.proofs.Shapes.{Shape, found as schema_found}
 use Rattle.formulas.specs.State.{FitsFormulas}
 use Rattle.model.specs.Task as task
 use Rattle.model.specs.Task.{Task, Union, Instance, Schema}
@@ -27,7 +29,7 @@ use Rattle.grounding.proofs.DecidedLiterals.{literals-close, literals-typed}
 
 -- ---- lists
 
-pointwise-push : {A B : Type 0} (p : A → B → Bool) (xs : List A) (ys : List B) (x : A) (y : B) → pointwise p xs ys ≡ true → p x y ≡ true → pointwise p (xs ++ x ∷ []) (ys ++ y ∷ []) ≡ true
+pub pointwise-push : {A B : Type 0} (p : A → B → Bool) (xs : List A) (ys : List B) (x : A) (y : B) → pointwise p xs ys ≡ true → p x y ≡ true → pointwise p (xs ++ x ∷ []) (ys ++ y ∷ []) ≡ true
 pointwise-push p [] [] x y all here = λ i. here i && true
 pointwise-push p [] (z ∷ ys) x y all here = absurd (cc)
 pointwise-push p (z ∷ xs) [] x y all here = absurd (cc)
@@ -167,3 +169,43 @@ left-here t number =
         past [] k is = omega arith
         past (y ∷ ys) zero is = absurd (cc)
         past (y ∷ ys) (suc k) is = omega (arith, past ys k is)
+
+-- ---- the first choice, and all instances of a schema
+
+-- the instances that begin with one of its objects
+pub begun-split : (schema : ℕ) (objects firsts : List ℕ) (left : List Choice) (choice : Choice) (later : List Choice) → left ≡ choice ∷ later → firsts ≡ choice.objects
+    → begun_from schema objects (ranges_of later) firsts ≡ begun schema objects (ranges_of left)
+begun-split schema objects firsts left choice later is same =
+    ap (begun_from schema objects (ranges_of later)) same
+    ∙ sym (begun-next schema objects choice.objects (ranges_of later))
+    ∙ sym (ap (λ l. begun schema objects (ranges_of l)) is)
+
+ranges-from : (t : Task) (precondition : task.Formula) (count : ℕ) (unions : List Union) → ranges_of (choices_from t precondition count unions) ≡ map (objects_of t) unions
+ranges-from t precondition count [] = refl
+ranges-from t precondition count (types ∷ unions) = ap (λ l. objects_of t types ∷ l) (ranges-from t precondition (count + 1) unions)
+
+module _ (t : Task) (number : ℕ) (shape : Shape) (is : Some shape ≡ option_map shape_of_schema (slice_get t.schemas number)) (choices : List Choice) (from : choices ≡ choices_from t shape.1 0 shape.0) where
+  abbrev it : (s : Schema) × (slice_get t.schemas number ≡ Some s) × (shape ≡ shape_of_schema s)
+  it = schema_found (slice_get t.schemas number) shape is
+
+  -- with no object chosen
+  pub begun-all : (objects : List ℕ) → objects ≡ [] → begun number objects (ranges_of choices) ≡ instances_of_number t number
+  begun-all objects none =
+      (λ i. begun number (none i) (ranges_of (from i)))
+      ∙ ap (begun number []) (ranges-from t shape.1 0 shape.0)
+      ∙ ap (λ (s : Shape). begun number [] (map (objects_of t) s.0)) it.2
+      ∙ sym (ap (λ o. option_map_or (instances_of_schema t number) o []) it.1)
+
+  pub begun-start : (objects : List ℕ) (literals : List task.Formula) → objects ≡ [] → literals ≡ decided_literals 0 shape.1 → IsBegun t number objects literals choices
+  begun-start objects literals none decided =
+      let long : 0 ≡ length objects = sym (ap length none) in
+      record {
+        found = it.0;
+        at = it.1;
+        scope = [];
+        rest = it.0.parameters;
+        split = refl;
+        fits = ap (pointwise (is_of t) []) none;
+        decided = decided ∙ (λ i. decided_literals (long i) (ap (λ (s : Shape). s.1) it.2 i));
+        choices = from ∙ (λ i. choices_from t (ap (λ (s : Shape). s.1) it.2 i) (long i) (ap (λ (s : Shape). s.0) it.2 i));
+      }

@@ -3,3 +3,6 @@ pub mod Closings
 pub mod DecidedLiterals
 pub mod ChosenObjects
 pub mod ObjectLists
+pub mod ChangesFit
+pub mod NumberLists
+pub mod LimitsTold

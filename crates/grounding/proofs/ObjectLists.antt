@@ -55,3 +55,12 @@ parameters-more t precondition items i count types before after p below at so_fa
           ∙ ap (choices_from t precondition 0) (sym next),
       omega (arith, ap length push, length-append before (p ∷ []), long),
     )
+
+pub no-choices : (parameters : List Parameter) → length parameters ≡ 0 → map choice_of parameters ≡ []
+no-choices [] none = refl
+no-choices (p ∷ parameters) none = absurd (omega (arith, none))
+
+-- a schema has few
+pub few-choices : (t : Task) (precondition : task.Formula) (unions : List TypeUnion) (parameters : List Parameter) → map choice_of parameters ≡ choices_from t precondition 0 (map union_of unions) → length parameters ≡ length unions
+few-choices t precondition unions parameters is =
+    omega (arith, length-map parameters choice_of, ap length is, choices-long t precondition 0 (map union_of unions), length-map unions union_of)

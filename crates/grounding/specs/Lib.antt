@@ -1,3 +1,5 @@
 pub mod Literals
 pub mod Parameters
 pub mod Kept
+pub mod Numbering
+pub mod Ground

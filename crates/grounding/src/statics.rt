@@ -13,7 +13,7 @@ ghost use Rattle.model.specs.Meaning.{initial_state};
 use crate::bindings::copied;
 use crate::fluents::fluents;
 use faults::NoMemory;
-use formulas::{Binding, Instance, State, holds};
+use formulas::{Binding, Change, Instance, State, holds};
 use std::alloc::Global;
 use typing::{Formula, ObjectId, PredicateId, Task, TypeUnion};
 
@@ -33,6 +33,7 @@ impl<'t> Statics<'t> {
     ghost use Rattle.std.specs.List.{list_any};
     ghost use Rattle.typing.specs.TaskParts.{object_of, formula_of, union_of};
     ghost use Rattle.formulas.specs.State.{FitsFormula, FitsFormulas, instance_of};
+    ghost use Rattle.formulas.specs.Effects.{change_of};
     ghost use Rattle.grounding.specs.Parameters.{lent_formula};
     ghost use Rattle.model.specs.Meaning.{is_instance};
     ghost use Rattle.model.specs.ClosedOff as closed_off;
@@ -66,6 +67,17 @@ impl<'t> Statics<'t> {
         match self.task.schema(instance.schema) {
             Some(schema) => !self.is_closed_off(&schema.precondition, &instance.objects),
             None => false,
+        }
+    }
+
+    /// Whether the change counts: its condition is not closed off.
+    pub(crate) fn counts(&self, change: &Change<'_>) -> bool
+        requires { FitsFormula (task_of self.now.task.now) (change_of change.now).condition (change_of change.now).binding }
+        ensures { result ≡ closed_off.counts (task_of self.now.task.now) (change_of change.now) }
+    {
+        match change.condition {
+            Some(condition) => !self.is_closed_off(condition, &change.binding),
+            None => true,
         }
     }
 
