@@ -1,12 +1,12 @@
 -- Instances of which some objects are chosen: what the objects so far close off, and one object after another.
-use Rattle.std.proofs.Common.{◌≡◌, ◌∙◌, ℕ, zero, suc, ◌+◌, ◌<◌, ◌≤◌, Bool, true, false, not, ◌&&◌, List, [], ◌∷◌, ◌++◌, length, map, drop, Option, None, Some, refl, sym, ap, subst, arith, append_assoc, append-nil}
+use Rattle.std.proofs.Common.{◌≡◌, ◌∙◌, ℕ, zero, suc, ◌+◌, ◌≤◌, Bool, true, false, ◌&&◌, List, [], ◌∷◌, ◌++◌, length, map, drop, None, Some, refl, sym, ap, subst, arith, append_assoc, append-nil}
 use Rattle.std.specs.Prelude.{IsTrue, slice_get, filter, cond}
 use Rattle.std.specs.Cmp.{first_so, second_so}
 use Rattle.std.specs.Cmp.Lexicographic.{pointwise, as_long}
 use Rattle.std.specs.List.{list_all, list_any, flat_map, range_with_len}
 use Rattle.std.specs.Option.{option_map, option_map_or}
 use Rattle.std.proofs.lemmas.Bool.{and_parts, and_from}
-use Rattle.std.proofs.lemmas.List.{length-append, drop_all}
+use Rattle.std.proofs.lemmas.List.{length-append}
 use Rattle.std.proofs.lemmas.Option.{slice_get_past}
 use Rattle.typing.specs.TaskParts.{shape_of_schema}
 use Rattle.typing.proofs.Shapes.{Shape, found as schema_found}
@@ -14,12 +14,11 @@ use Rattle.formulas.specs.State.{FitsFormulas}
 use Rattle.model.specs.Task as task
 use Rattle.model.specs.Task.{Task, Union, Instance, Schema}
 use Rattle.model.specs.Meaning.{is_of, objects_of, fits, is_instance}
-use Rattle.model.specs.WellTyped.{is_task, is_schema, is_formula, is_effect, max_variables}
+use Rattle.model.specs.WellTyped.{is_task, is_schema, is_formula}
 use Rattle.model.specs.Instances.{instances_of_schema}
 use Rattle.model.specs.ClosedOff.{is_closed_off, is_kept}
 use Rattle.model.proofs.Tests.{passes_got}
-use Rattle.model.proofs.EnumerationLemmas.{closed_within, is_pruned, begun, begun-one, begun-next, begun-pruned, flat_map-here, flat_map-end, found-more, instances_left, instances-here, instances-end}
-use Rattle.grounding.specs.declared.fault.GroundLimit.{GroundLimit}
+use Rattle.model.proofs.EnumerationLemmas.{closed_within, begun, begun-one, begun-next, begun-pruned, flat_map-here, found-more, instances_left, instances-here, instances-end}
 use Rattle.grounding.specs.declared.fault.GroundLimit.TheVariants.{Instances, Atoms}
 use Rattle.faults.specs.declared.refused.Refused.TheVariants.{At, NoMemory}
 use Rattle.grounding.specs.Literals.{decided_literals}

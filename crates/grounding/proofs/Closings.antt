@@ -1,9 +1,9 @@
 -- What closes a formula off, by the formula's form, as it is asked at the start.
-use Rattle.std.proofs.Common.{◌≡◌, ◌∙◌, ℕ, ◌<◌, Bool, true, false, not, ◌&&◌, ◌||◌, List, [], ◌∷◌, ◌++◌, length, map, Option, None, Some, refl, sym, ap, arith, true≢false}
-use Rattle.std.specs.Prelude.{IsTrue, nat_eq, slice_get}
+use Rattle.std.proofs.Common.{◌≡◌, ◌∙◌, ℕ, ◌<◌, Bool, true, false, not, ◌&&◌, ◌||◌, List, [], ◌∷◌, ◌++◌, length, map, None, Some, refl, sym, ap, true≢false}
+use Rattle.std.specs.Prelude.{nat_eq, slice_get}
 use Rattle.std.specs.Global.{Vec}
 use Rattle.std.specs.Cmp.Lexicographic.{pointwise}
-use Rattle.std.specs.List.{list_any, flat_map, range_with_len}
+use Rattle.std.specs.List.{list_any, flat_map}
 use Rattle.std.specs.Option.{option_map_or}
 use Rattle.std.specs.FinSet.{contains}
 use Rattle.std.proofs.lemmas.Option.{slice_get_within}
@@ -17,8 +17,8 @@ use Rattle.formulas.specs.State.{FitsFormula}
 use Rattle.formulas.proofs.Trees.{sure_by_parts, list_any_map}
 use Rattle.model.specs.Task as task
 use Rattle.model.specs.Task.{Atom, Task}
-use Rattle.model.specs.Meaning.{State, initial_state, holds, ground_atom, is_of, objects_of, object_of}
-use Rattle.model.specs.WellTyped.{is_formula, is_term, is_lifted_atom}
+use Rattle.model.specs.Meaning.{State, initial_state, holds, ground_atom, objects_of, object_of}
+use Rattle.model.specs.WellTyped.{is_formula, is_term}
 use Rattle.model.specs.Fluents.{is_fluent}
 use Rattle.model.specs.SureLiterals.{Literal, literal_holds, sure}
 use Rattle.model.specs.ClosedOff.{is_fixed, is_closed_off}

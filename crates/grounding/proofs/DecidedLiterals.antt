@@ -1,6 +1,6 @@
 -- The literals that some first variables decide, part by part, and what they close off.
-use Rattle.std.proofs.Common.{◌≡◌, ◌∙◌, ℕ, zero, suc, ◌+◌, ◌-◌, ◌<◌, Bool, true, false, not, ◌&&◌, ◌||◌, List, [], ◌∷◌, ◌++◌, length, map, Option, None, Some, refl, sym, ap, arith, true≢false, inl, inr, append_assoc}
-use Rattle.std.specs.Prelude.{IsTrue, nat_lt, nat_eq, ◌==◌, slice_get, filter, cond}
+use Rattle.std.proofs.Common.{◌≡◌, ◌∙◌, ℕ, zero, suc, ◌-◌, ◌<◌, Bool, true, false, not, ◌&&◌, ◌||◌, List, [], ◌∷◌, ◌++◌, length, None, Some, refl, sym, ap, arith, true≢false, inl, inr}
+use Rattle.std.specs.Prelude.{◌==◌, slice_get, filter, cond}
 use Rattle.std.specs.Global.{Vec}
 use Rattle.std.specs.Cmp.Lexicographic.{pointwise}
 use Rattle.std.specs.List.{list_all, list_any, flat_map}
@@ -14,7 +14,7 @@ use Rattle.typing.specs.TaskParts.{formula_of}
 use Rattle.formulas.proofs.Trees.{formulas_in, formula_of-And}
 use Rattle.model.specs.Task as task
 use Rattle.model.specs.Task.{Task, Union, Term, variable, object, atom, equal, and, or, imply, exists, forall, no_formula, more_formulas}
-use Rattle.model.specs.WellTyped.{is_formula, are_formulas, is_term, is_some_term, is_lifted_atom}
+use Rattle.model.specs.WellTyped.{is_formula, are_formulas, is_term, is_some_term}
 use Rattle.model.specs.Meaning.{is_below}
 use Rattle.model.specs.ClosedOff.{is_closed_off}
 use Rattle.model.proofs.StaticLemmas.{or_false}

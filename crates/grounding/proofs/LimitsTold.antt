@@ -1,5 +1,5 @@
 -- The limit that is told where one of the two passes tells one.
-use Rattle.std.proofs.Common.{ℕ, ◌≡◌, ◌≤◌, List, length, None, Some}
+use Rattle.std.proofs.Common.{ℕ, ◌≤◌, List, length}
 use Rattle.faults.specs.declared.refused.Refused.TheVariants.{At, NoMemory}
 use Rattle.grounding.specs.declared.fault.GroundLimit.TheVariants.{Instances, Atoms}
 use Rattle.grounding.specs.Kept.{GroundFault, TellsInstances}

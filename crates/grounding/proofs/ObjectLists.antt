@@ -1,5 +1,5 @@
 -- The code's lists of objects and of parameters, one more at a time.
-use Rattle.std.proofs.Common.{◌≡◌, ◌∙◌, ℕ, ◌+◌, ◌<◌, List, [], ◌∷◌, ◌++◌, length, map, take, get_or, Option, None, Some, refl, sym, ap, arith, zero, suc}
+use Rattle.std.proofs.Common.{◌≡◌, ◌∙◌, ℕ, ◌+◌, ◌<◌, List, [], ◌∷◌, ◌++◌, length, map, take, get_or, Some, refl, sym, ap, arith, suc}
 use Rattle.std.specs.Prelude.{slice_get}
 use Rattle.std.specs.Option.{option_map}
 use Rattle.std.proofs.lemmas.List.{map_push, take_more, length-append, length-map}
@@ -9,7 +9,7 @@ use Rattle.typing.specs.declared.schemas.TypeUnion.{TypeUnion}
 use Rattle.typing.specs.TaskParts.{object_of, union_of}
 use Rattle.grounding.specs.declared.parameters.Parameter.{Parameter}
 use Rattle.grounding.specs.Literals.{decided_literals}
-use Rattle.grounding.specs.Parameters.{Choice, choice_of, choices_from, lent_formula}
+use Rattle.grounding.specs.Parameters.{choice_of, choices_from, lent_formula}
 use Rattle.model.specs.Task as task
 use Rattle.model.specs.Task.{Task, Union}
 use Rattle.model.specs.Meaning.{objects_of}

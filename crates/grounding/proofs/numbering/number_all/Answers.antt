@@ -1,4 +1,4 @@
-use Rattle.std.proofs.Common.{◌∙◌, [], ◌∷◌, ap, map}
+use Rattle.std.proofs.Common.{[], ◌∷◌, ap, map}
 use Rattle.faults.proofs.Results.{passed_on}
 use Rattle.typing.specs.declared.atoms.Atom.{Atom}
 use Rattle.typing.specs.TaskParts.{atom_of}

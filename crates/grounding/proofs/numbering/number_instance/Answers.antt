@@ -1,5 +1,4 @@
 use Rattle.std.proofs.Common.{◌∙◌, ap, map}
-use Rattle.std.specs.Prelude.{OnOk, IfErr}
 use Rattle.typing.specs.Task.{task_of}
 use Rattle.formulas.specs.State.{instance_of}
 use Rattle.formulas.specs.Effects.{change_of}

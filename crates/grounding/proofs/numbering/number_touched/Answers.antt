@@ -1,20 +1,16 @@
-use Rattle.std.proofs.Common.{◌∙◌, [], ◌∷◌, ap, sym, map}
-use Rattle.std.specs.Prelude.{filter}
-use Rattle.std.specs.List.{flat_map, list_all}
+use Rattle.std.proofs.Common.{◌∙◌, ap, sym, map}
+use Rattle.std.specs.List.{flat_map}
 use Rattle.faults.proofs.Results.{passed_on}
 use Rattle.typing.specs.Task.{task_of}
 use Rattle.typing.specs.TaskParts.{atom_of}
 use Rattle.formulas.specs.State.{instance_of}
-use Rattle.formulas.specs.Effects.{change_of}
 use Rattle.formulas.specs.declared.instance.Instance.{Instance}
-use Rattle.formulas.specs.declared.effects.Change.{Change}
 use Rattle.model.specs.Meaning.{is_instance}
-use Rattle.model.specs.ClosedOff.{counts}
-use Rattle.model.specs.NumberedAtoms.{with_atoms, touched_by, initial_fluent_atoms, atom_of_literal}
+use Rattle.model.specs.NumberedAtoms.{with_atoms, touched_by}
 use Rattle.model.proofs.Tests.{passes_at, passes_map}
 use Rattle.model.proofs.NumberingLemmas.{numbered-end, flat_map-map}
-use Rattle.grounding.specs.Numbering.{TellsAtoms, atoms_changed}
-use Rattle.grounding.proofs.NumberLists.{item-told, next-numbered, got-item, got-mapped, if_fluent, if_counting, initial-atoms, initial-within, counting-atoms}
+use Rattle.grounding.specs.Numbering.{TellsAtoms}
+use Rattle.grounding.proofs.NumberLists.{item-told, next-numbered, got-item}
 use Rattle.grounding.proofs.numbering.number_touched.Goals as goal
 
 pub loop-instance-init : goal.loop-instance-init

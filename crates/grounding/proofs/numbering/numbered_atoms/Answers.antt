@@ -1,4 +1,4 @@
-use Rattle.std.proofs.Common.{◌∙◌, ◌++◌, ◌≡◌, [], ap, sym, subst, map, List}
+use Rattle.std.proofs.Common.{◌∙◌, ◌≡◌, [], ap, subst, map, List}
 use Rattle.std.specs.List.{flat_map, list_all}
 use Rattle.faults.proofs.Results.{passed_on}
 use Rattle.typing.specs.Task.{task_of}

@@ -1,4 +1,4 @@
-use Rattle.std.proofs.Common.{◌∙◌, sym, map}
+use Rattle.std.proofs.Common.{◌∙◌, sym}
 use Rattle.typing.specs.TaskParts.{term_of}
 use Rattle.model.proofs.EnumerationLemmas.{is_bound}
 use Rattle.model.proofs.Tests.{passes_not_index, passes_whole, passes_map}

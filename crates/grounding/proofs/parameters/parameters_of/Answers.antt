@@ -1,4 +1,4 @@
-use Rattle.std.proofs.Common.{◌≡◌, length, arith}
+use Rattle.std.proofs.Common.{◌≡◌, arith}
 use Rattle.typing.specs.Task.{task_of}
 use Rattle.typing.specs.TaskParts.{formula_of}
 use Rattle.grounding.specs.declared.parameters.Parameter.{Parameter}

@@ -1,4 +1,4 @@
-use Rattle.std.proofs.Common.{◌≡◌, ◌≤◌, ◌∙◌, ap, sym, subst, map, length, arith, refl}
+use Rattle.std.proofs.Common.{◌≤◌, ◌∙◌, ap, map, length, arith, refl}
 use Rattle.std.proofs.lemmas.List.{length-map}
 use Rattle.faults.proofs.Results.{passed_on}
 use Rattle.typing.specs.Task.{task_of}
