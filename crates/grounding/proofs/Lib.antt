@@ -6,3 +6,4 @@ pub mod ObjectLists
 pub mod ChangesFit
 pub mod NumberLists
 pub mod LimitsTold
+pub mod NumberedParts

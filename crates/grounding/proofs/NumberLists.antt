@@ -42,7 +42,7 @@ both_true true b to from = sym (to refl)
 both_true false true to from = from refl
 both_true false false to from = refl
 
-eq-alike : (a b : Atom) → atom_eq a b ≡ eq_by_cmp atom_cmp (atom_of a) (atom_of b)
+pub eq-alike : (a b : Atom) → atom_eq a b ≡ eq_by_cmp atom_cmp (atom_of a) (atom_of b)
 eq-alike a b =
     both_true (atom_eq a b) (eq_by_cmp atom_cmp (atom_of a) (atom_of b))
     (λ same. subst (λ q. eq_by_cmp atom_cmp (atom_of a) q ≡ true) (equal_atoms a b same) ((eq_by_cmp_equiv atoms_total).refl (atom_of a)))

@@ -3,3 +3,4 @@ pub mod Parameters
 pub mod Kept
 pub mod Numbering
 pub mod Ground
+pub mod Numbers

@@ -7,9 +7,11 @@ mod fluents;
 mod ground;
 mod kept;
 mod numbering;
+mod numbers;
 mod parameters;
 mod statics;
 
 pub use fault::{GroundFault, GroundLimit};
 pub use ground::Ground;
 pub use numbering::MAX_ATOMS;
+pub use numbers::NumberedLiteral;
