@@ -1,15 +1,18 @@
 //! Ground tasks.
-ghost use Rattle.std.specs.Prelude.{◌≡◌, map};
+ghost use Rattle.std.specs.Prelude.{◌≡◌, ◌≤◌, length, map};
 ghost use Rattle.std.proofs.Props.{props};
 ghost use Rattle.typing.specs.Task.{task_of};
 ghost use Rattle.formulas.specs.State.{instance_of};
 ghost use Rattle.model.specs.ClosedOff as closed_off;
+ghost use Rattle.grounding.specs.declared.numbering.TheConstants.{MAX_ATOMS};
 
 use crate::fault::GroundFault;
 use crate::kept::kept_instances;
-use crate::numbering::numbered_atoms;
+use crate::numbering::{MAX_ATOMS, numbered_atoms};
+use crate::numbers::{NumberedLiteral, number_of, numbered_literals};
 use crate::statics::Statics;
-use formulas::Instance;
+use faults::NoMemory;
+use formulas::{Binding, Instance};
 use indexmap::IndexSet;
 use std::alloc::Global;
 use typing::{Atom, Task};
@@ -20,12 +23,16 @@ pub struct Ground<'t> {
     task: &'t Task,
     atoms: IndexSet<Atom>,
     instances: Vec<Instance>,
+    ghost few_atoms: { length atoms.keys ≤ MAX_ATOMS },
     ghost kept: { map instance_of instances.items ≡ closed_off.kept_instances (task_of task.now) } by { Prim.hlevel props },
 }
 
 impl<'t> Ground<'t> {
-    ghost use Rattle.std.specs.Prelude.{length, IfOk, IfErr};
+    ghost use Rattle.std.specs.Prelude.{IfOk, IfErr};
     ghost use Rattle.typing.specs.TaskParts.{atom_of};
+    ghost use Rattle.model.specs.NumberedAtoms as numbered;
+    ghost use Rattle.model.specs.NumberedLiterals.{literals_of_goal};
+    ghost use Rattle.grounding.specs.Numbers.{numbered_of};
     ghost use Rattle.grounding.specs.Ground.{task_in, atoms_in, instances_in, IsGroundOf, TellsLimit};
 
     /// The ground task of a task, in which `more` have the first numbers, if none of them stands there twice.
@@ -92,5 +99,20 @@ impl<'t> Ground<'t> {
         ensures { map atom_of result.now.keys ≡ atoms_in self.now }
     {
         &self.atoms
+    }
+
+    /// The number of the atom, if it has one.
+    pub fn number_of(&self, atom: &Atom) -> Option<u32>
+        ensures { result ≡ numbered.number_of (atoms_in self.now) (atom_of atom.now) }
+    {
+        number_of(&self.atoms, atom)
+    }
+
+    /// The sure literals of the goal that are of numbered atoms, in order.
+    pub fn goal_literals(&self, alloc: Global) -> Result<Vec<NumberedLiteral>, NoMemory>
+        ensures { IfOk result (λ found. map numbered_of found.items ≡ literals_of_goal (task_in self.now) (atoms_in self.now)) }
+    {
+        let goal = self.task.goal();
+        numbered_literals(alloc, self.task, &self.atoms, goal, &Binding::new())
     }
 }
