@@ -1,10 +1,11 @@
 -- What is wrong with a certificate, or with the plan that was handed in with it, where the checker refuses it.
-use Rattle.std.specs.Prelude.{◌≡◌, ℕ, ◌+◌, ◌<◌, ◌≤◌, ◌⊎◌, ◌&&◌, false, IsTrue, List, length, Contains, slice_get, Option, None, Some, MatchOption}
+use Rattle.std.specs.Prelude.{◌≡◌, ℕ, ◌+◌, ◌<◌, ◌≤◌, ◌⊎◌, ◌&&◌, false, IsTrue, List, length, Contains, slice_get, Option, None, Some, IsSome, MatchOption}
 use Rattle.model.specs.Task.{Atom, Task, Instance}
 use Rattle.model.specs.WellTyped.{is_atom}
 use Rattle.model.specs.Runs.{cost_of_all, Solves}
 use Rattle.model.specs.Meaning.{State, initial_state, step, meets_goal, system_of}
-use Rattle.model.specs.Instances.{all_instances}
+use Rattle.model.specs.Limits.{max_numbered_atoms}
+use Rattle.model.specs.Grounding.{limit_told}
 use Rattle.model.specs.Claims.{Claim, bound, none, Allows, Line, IsListedWithin}
 use Rattle.model.specs.Certificates.{Certificate, is_fluent, lines_of, value_of}
 
@@ -77,7 +78,7 @@ IsWrongLine task c cut_not_allowed line = (l : Line State) × (rest : ℕ) × Ha
 IsWrongLine task c _ line = ⊥
 
 -- What is wrong, and not with a line: with the whole certificate, with the plan, if one is handed in, or with the
--- count of the task's instances, of which at most `most` may be gone through.
+-- ground task in which the certificate's atoms have the first numbers, of whose instances at most `most` may be kept.
 abbrev pub IsWrong : Task → Certificate → Option (List Instance) → ℕ → Reason → Type 0
 -- the initial state is not listed at 0
 IsWrong task c plan most no_initial = ¬ IsListedWithin (lines_of task c) (initial_state task) 0
@@ -86,11 +87,11 @@ IsWrong task c plan most plan_invalid = MatchOption plan ⊥ (λ p. ¬ Solves (s
 -- the plan solves it, and costs more than is claimed
 IsWrong task c plan most plan_dearer =
     MatchOption plan ⊥ (λ p. (least : ℕ) × (c.claim ≡ bound least) × Solves (system_of task) p × (least < cost_of_all (system_of task) p))
--- the task has more instances
-IsWrong task c plan most limit = most < length (all_instances task)
+-- more instances are kept, or too many atoms have numbers
+IsWrong task c plan most limit = IsSome (limit_told most max_numbered_atoms task c.atoms)
 IsWrong task c plan most _ = ⊥
 
--- The checker looks for what is wrong in this order: it reads the lines one by one, counts the instances, looks for the
+-- The checker looks for what is wrong in this order: it reads the lines one by one, grounds the task, looks for the
 -- initial state, goes through the state lines one by one, and holds the plan against the claim.
 abbrev pub stage_of : Reason → ℕ
 stage_of not_fluent = 0
