@@ -1,0 +1,34 @@
+use Rattle.std.proofs.Common.{Bool, ◌∙◌, sym, map}
+use Rattle.typing.specs.Task.{task_of}
+use Rattle.typing.specs.TaskParts.{object_of}
+use Rattle.model.specs.Task.{Formula}
+use Rattle.model.specs.ClosedOff.{is_closed_off}
+use Rattle.model.specs.WellTyped.{is_formula}
+use Rattle.model.proofs.Tests.{passes_at, passes_map}
+use Rattle.formulas.proofs.FluentPredicates.{any_here, any_nowhere}
+use Rattle.formulas.proofs.Trees.{list_any_map}
+use Rattle.grounding_kept.specs.Parameters.{lent_formula}
+use Rattle.grounding_kept.proofs.statics.Statics.closes_off_literal.Goals as goal
+
+pub is_closed_off-requires : goal.is_closed_off-requires
+is_closed_off-requires c =
+    let typed = is_formula (task_of c.args.self.now.task.now) c.requires.scope in
+    record {
+      scope = c.requires.scope;
+      typed = passes_at (λ part. typed (lent_formula part)) c.args.literals.now c.loop-literal.literal-index c.literal-item.result c.loop-literal-test.true c.literal-item.is
+          (sym (passes_map typed lent_formula c.args.literals.now) ∙ c.requires.typed);
+      fits = c.requires.fits;
+    }
+
+pub returns-then-is_closed_off : goal.returns-then-is_closed_off
+returns-then-is_closed_off c =
+    let test : Formula → Bool = λ part. is_closed_off (task_of c.args.self.now.task.now) part (map object_of c.args.binding.now.items) in
+    any_here (λ part. test (lent_formula part)) c.args.literals.now c.loop-literal.literal-index c.literal-item.result c.loop-literal-test.true c.literal-item.is
+    (sym c.is_closed_off.ensures ∙ c.if-is_closed_off.true)
+    ∙ sym (list_any_map test lent_formula c.args.literals.now)
+
+pub returns : goal.returns
+returns c =
+    let test : Formula → Bool = λ part. is_closed_off (task_of c.args.self.now.task.now) part (map object_of c.args.binding.now.items) in
+    any_nowhere (λ part. test (lent_formula part)) c.args.literals.now c.loop-literal.literal-index c.loop-literal-test.false c.loop-literal.invariant
+    ∙ sym (list_any_map test lent_formula c.args.literals.now)

@@ -1,0 +1,41 @@
+-- Ground tasks of the code, in the model's terms.
+use Rattle.std.specs.Prelude.{◌≡◌, ℕ, List, map, None, Some}
+use Rattle.faults.specs.declared.refused.Refused.TheVariants.{At, NoMemory}
+use Rattle.typing.specs.Task.{task_of}
+use Rattle.typing.specs.TaskParts.{atom_of}
+use Rattle.formulas.specs.State.{instance_of}
+use Rattle.grounding_kept.specs.declared.ground.Ground.{Ground}
+use Rattle.grounding_kept.specs.declared.fault.GroundLimit.{GroundLimit}
+use Rattle.grounding_kept.specs.declared.fault.GroundLimit.TheVariants.{Instances, Atoms}
+use Rattle.grounding_kept.specs.Kept.{GroundFault}
+use Rattle.model.specs.Task.{Task, Atom, Instance}
+use Rattle.model.specs.Limits.{max_numbered_atoms}
+use Rattle.model.specs.ClosedOff.{kept_instances}
+use Rattle.model.specs.NumberedAtoms.{numbered_atoms}
+use Rattle.model.specs.Grounding as model
+
+abbrev pub task_in : Ground → Task
+task_in g = task_of g.task.now
+
+-- by their numbers
+abbrev pub instances_in : Ground → List Instance
+instances_in g = map instance_of g.instances.items
+
+abbrev pub atoms_in : Ground → List Atom
+atoms_in g = map atom_of g.atoms.keys
+
+-- It has the kept instances of the task and its numbered atoms, and no limit is exceeded.
+pub record IsGroundOf (t : Task) (more : List Atom) (max_instances : ℕ) (g : Ground) : Type 0 where
+  pub task : task_in g ≡ t
+  pub instances : instances_in g ≡ kept_instances t
+  pub atoms : atoms_in g ≡ numbered_atoms t more
+  pub within : model.limit_told max_instances max_numbered_atoms t more ≡ None
+
+abbrev pub limit_of : GroundLimit → model.GroundLimit
+limit_of Instances = model.of_instances
+limit_of Atoms = model.of_atoms
+
+-- the limit that is told is the model's; want of memory says nothing
+abbrev pub TellsLimit : Task → List Atom → ℕ → GroundFault → Type 0
+TellsLimit t more max_instances (At limit) = model.limit_told max_instances max_numbered_atoms t more ≡ Some (limit_of limit)
+TellsLimit t more max_instances NoMemory = Unit {0}

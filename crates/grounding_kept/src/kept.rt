@@ -1,0 +1,126 @@
+//! The kept instances, in order. Objects that close the precondition off already are not gone on with.
+ghost use Rattle.std.specs.Prelude.{◌≡◌, ◌+◌, ◌≤◌, ◌++◌, [], ◌∷◌, map, filter, length, IfOk, IfErr, OnOk, IsTrue};
+ghost use Rattle.typing.specs.Task.{task_of};
+ghost use Rattle.typing.specs.TaskParts.{object_of};
+ghost use Rattle.formulas.specs.State.{instance_of};
+ghost use Rattle.model.specs.Meaning.{is_instance};
+ghost use Rattle.model.specs.ClosedOff as closed_off;
+ghost use Rattle.model.proofs.EnumerationLemmas.{begun};
+ghost use Rattle.grounding_kept.specs.Parameters.{choice_of, lent_formula, ranges_of};
+ghost use Rattle.grounding_kept.specs.Kept.{IsBegun, TellsInstances, instances_of_number};
+
+use crate::bindings::with_object;
+use crate::fault::{GroundFault, GroundLimit};
+use crate::parameters::{Parameter, decided_literals, parameters_of};
+use crate::statics::Statics;
+use formulas::{Binding, Instance};
+use std::alloc::Global;
+use typing::{Formula, SchemaId};
+
+/// The kept instances, in the order of all instances, where there are at most `max`.
+///
+/// # Errors
+/// [`GroundLimit::Instances`] where there are more; or memory was refused.
+pub(crate) fn kept_instances(
+    alloc: Global,
+    statics: &Statics<'_>,
+    max: u32,
+) -> Result<Vec<Instance>, GroundFault>
+    ensures kept { IfOk result (λ found. map instance_of found.items ≡ closed_off.kept_instances (task_of statics.now.task.now)) }
+    ensures few { IfOk result (λ found. length found.items ≤ max) }
+    ensures told { IfErr result (TellsInstances max (closed_off.kept_instances (task_of statics.now.task.now))) }
+{
+    let mut found = Vec::new(alloc);
+    for number in 0..statics.task.schema_count() {
+        let enumeration = Enumeration {
+            statics,
+            schema: SchemaId(number),
+            max,
+        };
+        enumeration.add_all(alloc, &mut found)?;
+    }
+    Ok(found)
+}
+
+/// The instances of one schema, of which the kept ones are wanted.
+#[derive(Drop)]
+struct Enumeration<'a, 't> {
+    statics: &'a Statics<'t>,
+    schema: SchemaId,
+    max: u32,
+}
+
+impl Enumeration<'_, '_> {
+    /// Adds the kept ones among all of them.
+    fn add_all(&self, alloc: Global, found: &mut Vec<Instance>) -> Result<(), GroundFault>
+        requires { length found.old.items ≤ self.now.max }
+        ensures kept { OnOk result (map instance_of found.new.items ≡ map instance_of found.old.items
+            ++ filter (closed_off.is_kept (task_of self.now.statics.now.task.now)) (instances_of_number (task_of self.now.statics.now.task.now) self.now.schema.0)) }
+        ensures few { OnOk result (length found.new.items ≤ self.now.max) }
+        ensures told { IfErr result (TellsInstances self.now.max (map instance_of found.old.items
+            ++ filter (closed_off.is_kept (task_of self.now.statics.now.task.now)) (instances_of_number (task_of self.now.statics.now.task.now) self.now.schema.0))) }
+    {
+        let Some(schema) = self.statics.task.schema(self.schema) else {
+            return Ok(());
+        };
+        let literals = decided_literals(alloc, &schema.precondition, 0)?;
+        let parameters = parameters_of(alloc, self.statics.task, schema)?;
+        let literals = literals.as_slice();
+        self.add(literals, parameters.as_slice(), Binding::new(), found)
+    }
+
+    /// Adds the kept ones among those whose first objects are these, and whose others are one for each of the parameters
+    /// that are left. The literals are decided by the objects, and not by fewer of them.
+    fn add(
+        &self,
+        literals: &[&Formula],
+        left: &[Parameter<'_>],
+        objects: Binding,
+        found: &mut Vec<Instance>,
+    ) -> Result<(), GroundFault>
+        requires begun { IsBegun (task_of self.now.statics.now.task.now) self.now.schema.0 (map object_of objects.items) (map lent_formula literals.now) (map choice_of left.now) }
+        requires room { length objects.items + length left.now ≤ 16 }
+        requires few { length found.old.items ≤ self.now.max }
+        ensures kept { OnOk result (map instance_of found.new.items ≡ map instance_of found.old.items
+            ++ filter (closed_off.is_kept (task_of self.now.statics.now.task.now)) (begun self.now.schema.0 (map object_of objects.items) (ranges_of (map choice_of left.now)))) }
+        ensures few { OnOk result (length found.new.items ≤ self.now.max) }
+        ensures told { IfErr result (TellsInstances self.now.max (map instance_of found.old.items
+            ++ filter (closed_off.is_kept (task_of self.now.statics.now.task.now)) (begun self.now.schema.0 (map object_of objects.items) (ranges_of (map choice_of left.now))))) }
+    {
+        if self.statics.closes_off_literal(literals, &objects) {
+            return Ok(());
+        }
+        let Some((parameter, rest)) = left.split_first() else {
+            let instance = Instance {
+                schema: self.schema,
+                objects,
+            };
+            return self.add_one(instance, found);
+        };
+        let decided = parameter.literals.as_slice();
+        for object in &parameter.objects {
+            self.add(decided, rest, with_object(&objects, *object), found)?;
+        }
+        Ok(())
+    }
+
+    /// Adds the instance, if it is kept.
+    fn add_one(&self, instance: Instance, found: &mut Vec<Instance>) -> Result<(), GroundFault>
+        requires instance { IsTrue (is_instance (task_of self.now.statics.now.task.now) (instance_of instance)) }
+        requires few { length found.old.items ≤ self.now.max }
+        ensures kept { OnOk result (map instance_of found.new.items ≡ map instance_of found.old.items
+            ++ filter (closed_off.is_kept (task_of self.now.statics.now.task.now)) (instance_of instance ∷ [])) }
+        ensures few { OnOk result (length found.new.items ≤ self.now.max) }
+        ensures told { IfErr result (TellsInstances self.now.max (map instance_of found.old.items
+            ++ filter (closed_off.is_kept (task_of self.now.statics.now.task.now)) (instance_of instance ∷ []))) }
+    {
+        if !self.statics.is_kept(&instance) {
+            return Ok(());
+        }
+        if found.len() >= self.max as usize {
+            return Err(GroundFault::At(GroundLimit::Instances));
+        }
+        found.push(instance)?;
+        Ok(())
+    }
+}

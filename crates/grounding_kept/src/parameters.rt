@@ -1,0 +1,138 @@
+//! What a schema's parameters may be, and which literals of its precondition are decided once they have objects.
+ghost use Rattle.std.specs.Prelude.{◌≡◌, [], ◌∷◌, ◌++◌, map, filter, IfOk, OnOk};
+ghost use Rattle.std.specs.List.{list_all};
+ghost use Rattle.typing.specs.Task.{task_of};
+ghost use Rattle.typing.specs.TaskParts.{formula_of, term_of, union_of};
+ghost use Rattle.model.proofs.EnumerationLemmas as enumeration;
+ghost use Rattle.grounding_kept.specs.Literals as literals;
+ghost use Rattle.grounding_kept.specs.Parameters.{choice_of, choices_from, lent_formula};
+
+use faults::NoMemory;
+use std::alloc::Global;
+use typing::{Formula, ObjectId, Schema, Task, Term};
+
+/// A parameter of a schema.
+#[derive(Drop)]
+pub(crate) struct Parameter<'t> {
+    /// The objects of its types, in order.
+    pub(crate) objects: Vec<ObjectId>,
+    /// The literals of the precondition that are decided once it has an object, and not before.
+    pub(crate) literals: Vec<&'t Formula>,
+}
+
+/// The parameters of the schema, in order.
+pub(crate) fn parameters_of<'t>(
+    alloc: Global,
+    task: &Task,
+    schema: &'t Schema,
+) -> Result<Vec<Parameter<'t>>, NoMemory>
+    ensures { IfOk result (λ parameters. map choice_of parameters.items
+        ≡ choices_from (task_of task.now) (formula_of schema.now.precondition) 0 (map union_of schema.now.parameters.items)) }
+{
+    let mut parameters = Vec::new(alloc);
+    for types in &schema.parameters {
+        let objects = task.objects_of(alloc, types)?;
+        let literals = decided_literals(alloc, &schema.precondition, parameters.len() + 1)?;
+        parameters.push(Parameter { objects, literals })?;
+    }
+    Ok(parameters)
+}
+
+/// The literals that the formula says outright, under no `forall`, and that are decided once the first `count` variables
+/// have objects, and not before.
+pub(crate) fn decided_literals<'t>(
+    alloc: Global,
+    formula: &'t Formula,
+    count: usize,
+) -> Result<Vec<&'t Formula>, NoMemory>
+    ensures { IfOk result (λ found. map lent_formula found.items ≡ literals.decided_literals count (formula_of formula.now)) }
+{
+    let mut found = Vec::new(alloc);
+    add_decided(formula, count, &mut found)?;
+    Ok(found)
+}
+
+/// Adds those of the formula's conjuncts that are decided once the first `count` variables have objects, and not before.
+fn add_decided<'t>(
+    formula: &'t Formula,
+    count: usize,
+    found: &mut Vec<&'t Formula>,
+) -> Result<(), NoMemory>
+    ensures { OnOk result (map lent_formula found.new.items ≡ map lent_formula found.old.items ++ literals.decided_literals count (formula_of formula.now)) }
+{
+    match formula {
+        Formula::And(parts) => {
+            for part in parts {
+                add_decided(part, count, found)?;
+            }
+            Ok(())
+        }
+        _ => add_if_decided(formula, count, found),
+    }
+}
+
+/// Adds the formula, if it is decided once the first `count` variables have objects, and not before.
+fn add_if_decided<'t>(
+    formula: &'t Formula,
+    count: usize,
+    found: &mut Vec<&'t Formula>,
+) -> Result<(), NoMemory>
+    ensures { OnOk result (map lent_formula found.new.items ≡ map lent_formula found.old.items ++ filter (literals.is_first_decided count) (formula_of formula.now ∷ [])) }
+{
+    if !is_first_decided(formula, count) {
+        return Ok(());
+    }
+    found.push(formula)?;
+    Ok(())
+}
+
+/// Whether the formula is decided once the first `count` variables have objects, and not before.
+fn is_first_decided(formula: &Formula, count: usize) -> bool
+    ensures { result ≡ literals.is_first_decided count (formula_of formula.now) }
+{
+    is_decided(formula, count) && (count == 0 || !is_decided(formula, count - 1))
+}
+
+/// Whether the formula is an atom, an equality, or the `not` of one of these, all of whose variables are among the first
+/// `count`.
+fn is_decided(formula: &Formula, count: usize) -> bool
+    ensures { result ≡ literals.is_decided count (formula_of formula.now) }
+{
+    match formula {
+        Formula::Not(part) => are_bound(part, count),
+        _ => are_bound(formula, count),
+    }
+}
+
+/// Whether the formula is an atom or an equality all of whose variables are among the first `count`.
+fn are_bound(formula: &Formula, count: usize) -> bool
+    ensures { result ≡ enumeration.are_bound count (formula_of formula.now) }
+{
+    match formula {
+        Formula::Atom(atom) => all_bound(atom.terms.as_slice(), count),
+        Formula::Equal(first, second) => is_bound(first, count) && is_bound(second, count),
+        _ => false,
+    }
+}
+
+/// Whether each variable among the terms is one of the first `count`.
+fn all_bound(terms: &[Term], count: usize) -> bool
+    ensures { result ≡ list_all (enumeration.is_bound count) (map term_of terms.now) }
+{
+    for term in terms {
+        if !is_bound(term, count) {
+            return false;
+        }
+    }
+    true
+}
+
+/// Whether the term, if it is a variable, is one of the first `count`.
+fn is_bound(term: &Term, count: usize) -> bool
+    ensures { result ≡ enumeration.is_bound count (term_of term.now) }
+{
+    match term {
+        Term::Variable(variable) => variable.0 < count,
+        Term::Object(_) => true,
+    }
+}

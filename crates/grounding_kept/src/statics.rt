@@ -1,0 +1,172 @@
+//! What no action changes: the static predicates and the equalities, which say in each reachable state what they say at
+//! the start.
+ghost use Rattle.std.specs.Prelude.{◌≡◌, length, map};
+ghost use Rattle.std.specs.List.{range_with_len};
+ghost use Rattle.std.specs.FinSet.{contains};
+ghost use Rattle.std.proofs.Props.{props};
+ghost use Rattle.typing.specs.Task.{task_of};
+ghost use Rattle.formulas.specs.State.{state_of};
+ghost use Rattle.model.specs.Task as model_task;
+ghost use Rattle.model.specs.Fluents as model_fluents;
+ghost use Rattle.model.specs.Meaning.{initial_state};
+
+use crate::bindings::copied;
+use crate::fluents::fluents;
+use faults::NoMemory;
+use formulas::{Binding, Change, Instance, State, holds};
+use std::alloc::Global;
+use typing::{Formula, ObjectId, PredicateId, Task, TypeUnion};
+
+/// A task with its fluent predicates and its initial state.
+#[derive(Drop)]
+pub(crate) struct Statics<'t> {
+    pub(crate) task: &'t Task,
+    /// For each predicate, by its number, whether it is fluent.
+    fluents: Vec<bool>,
+    initial: State,
+    ghost are_fluents: { fluents.items ≡ map (model_fluents.is_fluent (task_of task.now)) (range_with_len 0 (length (task_of task.now).predicates)) },
+    ghost is_initial: { (a : model_task.Atom) → contains (state_of initial) a ≡ contains (initial_state (task_of task.now)) a } by { Prim.hlevel props },
+}
+
+impl<'t> Statics<'t> {
+    ghost use Rattle.std.specs.Prelude.{◌<◌, IfOk, IsTrue};
+    ghost use Rattle.std.specs.List.{list_any};
+    ghost use Rattle.typing.specs.TaskParts.{object_of, formula_of, union_of};
+    ghost use Rattle.formulas.specs.State.{FitsFormula, FitsFormulas, instance_of};
+    ghost use Rattle.formulas.specs.Effects.{change_of};
+    ghost use Rattle.grounding_kept.specs.Parameters.{lent_formula};
+    ghost use Rattle.model.specs.Meaning.{is_instance};
+    ghost use Rattle.model.specs.ClosedOff as closed_off;
+
+    /// Those of the task.
+    pub(crate) fn new(alloc: Global, task: &'t Task) -> Result<Statics<'t>, NoMemory>
+        ensures { IfOk result (λ s. s.task.now ≡ task.now) }
+    {
+        let fluents = fluents(alloc, task)?;
+        let initial = State::initial(alloc, task)?;
+        Ok(Statics {
+            task,
+            fluents,
+            initial,
+        })
+    }
+
+    /// Whether some action adds or deletes an atom of the task's predicate.
+    pub(crate) fn is_fluent(&self, predicate: PredicateId) -> bool
+        requires { predicate.0 < length (task_of self.now.task.now).predicates }
+        ensures { result ≡ model_fluents.is_fluent (task_of self.now.task.now) predicate.0 }
+    {
+        self.fluents[predicate.0]
+    }
+
+    /// Whether the instance's precondition is not closed off.
+    pub(crate) fn is_kept(&self, instance: &Instance) -> bool
+        requires { IsTrue (is_instance (task_of self.now.task.now) (instance_of instance.now)) }
+        ensures { result ≡ closed_off.is_kept (task_of self.now.task.now) (instance_of instance.now) }
+    {
+        match self.task.schema(instance.schema) {
+            Some(schema) => !self.is_closed_off(&schema.precondition, &instance.objects),
+            None => false,
+        }
+    }
+
+    /// Whether the change counts: its condition is not closed off.
+    pub(crate) fn counts(&self, change: &Change<'_>) -> bool
+        requires { FitsFormula (task_of self.now.task.now) (change_of change.now).condition (change_of change.now).binding }
+        ensures { result ≡ closed_off.counts (task_of self.now.task.now) (change_of change.now) }
+    {
+        match change.condition {
+            Some(condition) => !self.is_closed_off(condition, &change.binding),
+            None => true,
+        }
+    }
+
+    /// Whether one of the literals is closed off.
+    pub(crate) fn closes_off_literal(&self, literals: &[&Formula], binding: &Binding) -> bool
+        requires { FitsFormulas (task_of self.now.task.now) (map lent_formula literals.now) (map object_of binding.now.items) }
+        ensures { result ≡ list_any (λ part. closed_off.is_closed_off (task_of self.now.task.now) part (map object_of binding.now.items)) (map lent_formula literals.now) }
+    {
+        for literal in literals {
+            if self.is_closed_off(literal, binding) {
+                return true;
+            }
+        }
+        false
+    }
+
+    /// Whether the formula is closed off, where the variables in scope have these objects: one of its sure literals is
+    /// static, or of an equality, and is false at the start. The formula is well-typed for variables of some types that
+    /// the objects are of. No memory is taken.
+    #[cycle(closed_off)]
+    pub(crate) fn is_closed_off(&self, formula: &Formula, binding: &Binding) -> bool
+        requires { FitsFormula (task_of self.now.task.now) (formula_of formula.now) (map object_of binding.now.items) }
+        ensures { result ≡ closed_off.is_closed_off (task_of self.now.task.now) (formula_of formula.now) (map object_of binding.now.items) }
+    {
+        match formula {
+            Formula::Atom(atom) => {
+                if self.is_fluent(atom.predicate) {
+                    return false;
+                }
+                !holds(self.task, formula, binding, &self.initial)
+            }
+            Formula::Equal(_, _) => !holds(self.task, formula, binding, &self.initial),
+            Formula::Not(part) => self.closes_off_not(part, binding),
+            Formula::And(parts) => self.closes_off_some(parts, binding),
+            Formula::Forall(types, part) => self.closes_off_for_some(types, part, binding),
+            Formula::Or(_) => false,
+            Formula::Imply(_, _) => false,
+            Formula::Exists(_, _) => false,
+        }
+    }
+
+    /// Whether the `not` of the formula is closed off.
+    fn closes_off_not(&self, part: &Formula, binding: &Binding) -> bool
+        requires { FitsFormula (task_of self.now.task.now) (formula_of part.now) (map object_of binding.now.items) }
+        ensures { result ≡ closed_off.is_closed_off (task_of self.now.task.now) (model_task.not (formula_of part.now)) (map object_of binding.now.items) }
+    {
+        match part {
+            Formula::Atom(atom) => {
+                if self.is_fluent(atom.predicate) {
+                    return false;
+                }
+                holds(self.task, part, binding, &self.initial)
+            }
+            Formula::Equal(_, _) => holds(self.task, part, binding, &self.initial),
+            _ => false,
+        }
+    }
+
+    /// Whether one of the formulas is closed off.
+    #[cycle(closed_off)]
+    pub(crate) fn closes_off_some(&self, parts: &[Formula], binding: &Binding) -> bool
+        requires { FitsFormulas (task_of self.now.task.now) (map formula_of parts.now) (map object_of binding.now.items) }
+        ensures { result ≡ list_any (λ part. closed_off.is_closed_off (task_of self.now.task.now) part (map object_of binding.now.items)) (map formula_of parts.now) }
+    {
+        for part in parts {
+            if self.is_closed_off(part, binding) {
+                return true;
+            }
+        }
+        false
+    }
+
+    /// Whether the formula is closed off for one of the objects of these types, as that of the next variable.
+    #[cycle(closed_off)]
+    fn closes_off_for_some(&self, types: &TypeUnion, part: &Formula, binding: &Binding) -> bool
+        requires { FitsFormula (task_of self.now.task.now) (model_task.forall (union_of types.now) (formula_of part.now)) (map object_of binding.now.items) }
+        ensures { result ≡ closed_off.is_closed_off (task_of self.now.task.now) (model_task.forall (union_of types.now) (formula_of part.now)) (map object_of binding.now.items) }
+    {
+        let mut tried = copied(binding);
+        for number in 0..self.task.object_count() {
+            let object = ObjectId(number as u32);
+            if self.task.is_of(object, types) {
+                tried.push(object);
+                if self.is_closed_off(part, &tried) {
+                    return true;
+                }
+                tried.pop();
+            }
+        }
+        false
+    }
+}
