@@ -33,7 +33,7 @@ use Rattle.model.proofs.ListLemmas.{Contains-here, Contains-there}
 use Rattle.model.proofs.ClosedOffLemmas.{kept-Contains}
 use Rattle.model.proofs.NumberingLemmas.{length-with_atoms, with_atoms-append, numbered-more, numbered-too_many}
 use Rattle.grounding_kept.specs.Kept.{GroundFault}
-use Rattle.grounding_kept.specs.Numbering.{TellsAtoms, atoms_changed}
+use Rattle.grounding_kept.specs.Atoms.{TellsAtoms, atoms_changed}
 
 -- ---- the code's test of equality is the model's
 
