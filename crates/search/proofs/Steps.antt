@@ -167,7 +167,7 @@ module _ {S : Type 0} (t : System S ℕ) (states : List S) (all : List Node) (qu
         }),
       )
 
--- the actions that are applicable in the state at a place, of which those that lead elsewhere than to a found state are left
+-- of the actions that are applicable in the state at a place, those whose successors are still to be listed
 pub record AreLeft {S : Type 0} (t : System S ℕ) (nodes : List (Found S)) (i : ℕ) (rest : List ℕ) : Type 0 where
   pub sound : (n : Found S) → slice_get nodes i ≡ Some n → (a : ℕ) → Contains rest a → IsTrue (is_some (t.step n.state a))
   pub complete : (n : Found S) → slice_get nodes i ≡ Some n → (a : ℕ) (next : S) → t.step n.state a ≡ Some next
