@@ -58,6 +58,8 @@ pub(super) fn check_states(alloc: Global, cert: &Cert) -> Result<(), Refusal>
     ensures wrong { IfErr result (λ e. (task : model_task.Task) → IsTrueAnyway task (certificate_of cert.now) e) }
     ensures first { IfErr result (λ e. (task : model_task.Task) → AreFluent task (certificate_of cert.now).atoms → IsFirstAnyway task (certificate_of cert.now) e) }
 {
+    // What is wrong with a line is told before the limits of the ground task, whose width is not known yet: the sets are
+    // made once more where it is.
     packed_lines(alloc, cert, cert.atoms().len() as u32)?;
     Ok(())
 }
