@@ -8,9 +8,9 @@ ghost use Rattle.formulas.specs.Changes.{after_some};
 ghost use Rattle.model.specs.Task.{each};
 ghost use Rattle.model.specs.Meaning.{is_instance, step, changes_of, literals_in, ground_literal};
 
-use crate::instance::{Binding, Instance};
+use crate::instance::{Binding, Instance, copied};
 use crate::state::State;
-use crate::truth::{copied, ground_atom, holds};
+use crate::truth::{ground_atom, holds};
 use faults::NoMemory;
 use std::alloc::Global;
 use typing::{Effect, EffectLiteral, ObjectId, Task, TypeUnion};

@@ -7,8 +7,8 @@ ghost use Rattle.formulas.specs.Effects.{ground_literal_of, condition_of, change
 ghost use Rattle.model.specs.Task.{each};
 ghost use Rattle.model.specs.Meaning.{is_instance, changes_of, changes_of_instance, change_under, ground_literal};
 
-use crate::instance::{Binding, Instance};
-use crate::truth::{copied, ground_atom};
+use crate::instance::{Binding, Instance, copied};
+use crate::truth::ground_atom;
 use faults::NoMemory;
 use std::alloc::Global;
 use typing::{Atom, Effect, EffectLiteral, Formula, ObjectId, Task, TypeUnion};

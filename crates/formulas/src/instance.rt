@@ -1,5 +1,5 @@
 //! Instances: schemas with objects for their parameters.
-ghost use Rattle.std.specs.Prelude.{◌≡◌, map};
+ghost use Rattle.std.specs.Prelude.{◌≡◌, ◌<◌, [], ◌∷◌, ◌++◌, map, length};
 ghost use Rattle.std.specs.Cmp.Lexicographic.{pointwise};
 ghost use Rattle.typing.specs.Task.{task_of};
 ghost use Rattle.typing.specs.TaskParts.{object_of, union_of};
@@ -12,6 +12,27 @@ use typing::{MAX_VARIABLES, ObjectId, SchemaId, Task, TypeUnion};
 /// The objects of the variables in scope, in order: first those of a schema's parameters, then those of the quantifiers
 /// around.
 pub type Binding = ArrayVec<ObjectId, MAX_VARIABLES>;
+
+/// The same objects, to which those of further variables may be added.
+pub fn copied(binding: &Binding) -> Binding
+    ensures { result.items ≡ binding.now.items }
+{
+    let mut copy = Binding::new();
+    for object in binding.as_slice() {
+        copy.push(*object);
+    }
+    copy
+}
+
+/// These objects, and then one more.
+pub fn with_object(objects: &Binding, last: ObjectId) -> Binding
+    requires { length objects.now.items < MAX_VARIABLES }
+    ensures { result.items ≡ objects.now.items ++ last ∷ [] }
+{
+    let mut longer = copied(objects);
+    longer.push(last);
+    longer
+}
 
 /// An action: a schema with an object for each of its parameters.
 #[derive(Drop)]

@@ -11,15 +11,17 @@ mod literals;
 mod plan;
 mod state;
 mod truth;
+mod valuation;
 
 pub use change::apply;
 pub use costs::cost;
 pub use effects::{Change, GroundLiteral, changes};
 pub use fluents::{is_atom, is_fluent, is_fluent_atom};
-pub use instance::{Binding, Instance, is_instance};
+pub use instance::{Binding, Instance, copied, is_instance, with_object};
 pub use laws::{formula_examples_are_judged, one_state, sure_literals_hold};
 pub use literals::{Literal, sure};
 pub use plan::{MAX_STEPS, Plan};
 pub use state::State;
 pub use truth::{holds, meets_goal};
 pub use typing::Atom;
+pub use valuation::Valuation;

@@ -7,8 +7,8 @@ ghost use Rattle.formulas.specs.Literals.{literal_of};
 ghost use Rattle.model.specs.Task.{forall};
 ghost use Rattle.model.specs.SureLiterals as literals;
 
-use crate::instance::Binding;
-use crate::truth::{copied, ground_atom, named_by};
+use crate::instance::{Binding, copied};
+use crate::truth::{ground_atom, named_by};
 use faults::NoMemory;
 use std::alloc::Global;
 use typing::{Atom, Formula, ObjectId, Task, TypeUnion};

@@ -7,17 +7,18 @@ ghost use Rattle.formulas.specs.State.{is_bound, state_of, FitsFormula, FitsForm
 ghost use Rattle.model.specs.Task.{exists, forall};
 ghost use Rattle.model.specs.Meaning as meaning;
 
-use crate::instance::Binding;
+use crate::instance::{Binding, copied};
 use crate::state::State;
+use crate::valuation::Valuation;
 use arrayvec::ArrayVec;
 use typing::{Atom, Formula, LiftedAtom, MAX_ARGUMENTS, ObjectId, Task, Term, TypeUnion};
 
 /// Whether the formula holds in the state, where the variables in scope have these objects. The formula is well-typed for
 /// variables of some types that the objects are of. No memory is taken, and what decides ends the search.
 #[cycle(holds)]
-pub fn holds(task: &Task, formula: &Formula, binding: &Binding, state: &State) -> bool
+pub fn holds<V: Valuation>(task: &Task, formula: &Formula, binding: &Binding, state: &V) -> bool
     requires { FitsFormula (task_of task.now) (formula_of formula.now) (map object_of binding.now.items) }
-    ensures { result ≡ meaning.holds (task_of task.now) (formula_of formula.now) (map object_of binding.now.items) (state_of state.now) }
+    ensures { result ≡ meaning.holds (task_of task.now) (formula_of formula.now) (map object_of binding.now.items) (V.facts state.now) }
 {
     match formula {
         Formula::Atom(atom) => state.contains(&ground_atom(atom, binding)),
@@ -35,9 +36,9 @@ pub fn holds(task: &Task, formula: &Formula, binding: &Binding, state: &State) -
 
 /// Whether each of the formulas holds.
 #[cycle(holds)]
-fn all_hold(task: &Task, parts: &[Formula], binding: &Binding, state: &State) -> bool
+fn all_hold<V: Valuation>(task: &Task, parts: &[Formula], binding: &Binding, state: &V) -> bool
     requires { FitsFormulas (task_of task.now) (map formula_of parts.now) (map object_of binding.now.items) }
-    ensures { result ≡ list_all (λ part. meaning.holds (task_of task.now) part (map object_of binding.now.items) (state_of state.now)) (map formula_of parts.now) }
+    ensures { result ≡ list_all (λ part. meaning.holds (task_of task.now) part (map object_of binding.now.items) (V.facts state.now)) (map formula_of parts.now) }
 {
     for part in parts {
         if !holds(task, part, binding, state) {
@@ -49,9 +50,9 @@ fn all_hold(task: &Task, parts: &[Formula], binding: &Binding, state: &State) ->
 
 /// Whether one of the formulas holds.
 #[cycle(holds)]
-fn some_holds(task: &Task, parts: &[Formula], binding: &Binding, state: &State) -> bool
+fn some_holds<V: Valuation>(task: &Task, parts: &[Formula], binding: &Binding, state: &V) -> bool
     requires { FitsFormulas (task_of task.now) (map formula_of parts.now) (map object_of binding.now.items) }
-    ensures { result ≡ list_any (λ part. meaning.holds (task_of task.now) part (map object_of binding.now.items) (state_of state.now)) (map formula_of parts.now) }
+    ensures { result ≡ list_any (λ part. meaning.holds (task_of task.now) part (map object_of binding.now.items) (V.facts state.now)) (map formula_of parts.now) }
 {
     for part in parts {
         if holds(task, part, binding, state) {
@@ -63,15 +64,15 @@ fn some_holds(task: &Task, parts: &[Formula], binding: &Binding, state: &State) 
 
 /// Whether the formula holds for each object of these types, as that of the next variable.
 #[cycle(holds)]
-fn holds_for_all(
+fn holds_for_all<V: Valuation>(
     task: &Task,
     types: &TypeUnion,
     part: &Formula,
     binding: &Binding,
-    state: &State,
+    state: &V,
 ) -> bool
     requires { FitsFormula (task_of task.now) (forall (union_of types.now) (formula_of part.now)) (map object_of binding.now.items) }
-    ensures { result ≡ meaning.holds (task_of task.now) (forall (union_of types.now) (formula_of part.now)) (map object_of binding.now.items) (state_of state.now) }
+    ensures { result ≡ meaning.holds (task_of task.now) (forall (union_of types.now) (formula_of part.now)) (map object_of binding.now.items) (V.facts state.now) }
 {
     let mut extended = copied(binding);
     for number in 0..task.object_count() {
@@ -89,15 +90,15 @@ fn holds_for_all(
 
 /// Whether the formula holds for one of the objects of these types, as that of the next variable.
 #[cycle(holds)]
-fn holds_for_some(
+fn holds_for_some<V: Valuation>(
     task: &Task,
     types: &TypeUnion,
     part: &Formula,
     binding: &Binding,
-    state: &State,
+    state: &V,
 ) -> bool
     requires { FitsFormula (task_of task.now) (exists (union_of types.now) (formula_of part.now)) (map object_of binding.now.items) }
-    ensures { result ≡ meaning.holds (task_of task.now) (exists (union_of types.now) (formula_of part.now)) (map object_of binding.now.items) (state_of state.now) }
+    ensures { result ≡ meaning.holds (task_of task.now) (exists (union_of types.now) (formula_of part.now)) (map object_of binding.now.items) (V.facts state.now) }
 {
     let mut tried = copied(binding);
     for candidate in 0..task.object_count() {
@@ -111,17 +112,6 @@ fn holds_for_some(
         }
     }
     false
-}
-
-/// The same objects, to which those of further variables may be added.
-pub(crate) fn copied(binding: &Binding) -> Binding
-    ensures { result.items ≡ binding.now.items }
-{
-    let mut copy = Binding::new();
-    for object in binding.as_slice() {
-        copy.push(*object);
-    }
-    copy
 }
 
 /// Whether the goal holds in the state.

@@ -1,5 +1,5 @@
 use Rattle.std.proofs.Common.{◌≡◌, take}
-use Rattle.formulas.proofs.truth.copied.Given as goal
+use Rattle.formulas.proofs.instance.copied.Given as goal
 
 -- the copy has the objects so far
 abbrev pub invariant-loop-object : goal.invariant-loop-object

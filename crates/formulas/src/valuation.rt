@@ -1,0 +1,26 @@
+//! What formulas are true of.
+ghost use Rattle.std.specs.Prelude.{◌≡◌};
+ghost use Rattle.std.specs.FinSet.{contains};
+ghost use Rattle.typing.specs.TaskParts.{atom_of};
+ghost use Rattle.formulas.specs.State.{state_of};
+ghost use Rattle.model.specs.Meaning as meaning;
+
+use crate::state::State;
+use typing::Atom;
+
+/// Says of each atom whether it is true.
+pub trait Valuation {
+    ghost facts: { Self → meaning.State };
+
+    /// Whether the atom is true.
+    fn contains(&self, atom: &Atom) -> bool
+        ensures { result ≡ contains (facts self.now) (atom_of atom.now) };
+}
+
+impl Valuation for State {
+    ghost facts = { state_of };
+
+    fn contains(&self, atom: &Atom) -> bool {
+        State::contains(self, atom)
+    }
+}
