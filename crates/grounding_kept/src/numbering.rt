@@ -76,8 +76,8 @@ impl<'t> Numbering<'t> {
         max_instances: u32,
     ) -> Result<Numbering<'t>, GroundFault>
         requires fluent { All (λ a. IsTrue (is_fluent_atom (task_of statics.task.now) a)) (map atom_of more.now) }
-        ensures numbering { IfOk result (IsNumberingOf (task_of statics.task.now) (map atom_of more.now) max_instances) }
-        ensures told { IfErr result (TellsLimit (task_of statics.task.now) (map atom_of more.now) max_instances) }
+        ensures numbering { IfOk result (IsNumberingOf (task_of statics.entry.task.now) (map atom_of more.now) max_instances) }
+        ensures told { IfErr result (TellsLimit (task_of statics.entry.task.now) (map atom_of more.now) max_instances) }
     {
         let instances = kept_instances(alloc, &statics, max_instances)?;
         let atoms = numbered_atoms(alloc, &statics, more, instances.as_slice())?;

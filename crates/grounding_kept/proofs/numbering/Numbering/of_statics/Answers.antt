@@ -8,6 +8,7 @@ use Rattle.model.specs.ClosedOff as closed_off
 use Rattle.model.specs.Limits.{max_numbered_atoms}
 use Rattle.model.proofs.GroundTaskLemmas.{told_none}
 use Rattle.grounding_kept.specs.Numbering.{TellsLimit}
+use Rattle.grounding_kept.proofs.NumberedFacts.{atoms-fluent, atoms-distinct}
 use Rattle.grounding_kept.proofs.LimitsTold.{first-told, second-told}
 use Rattle.grounding_kept.proofs.numbering.Numbering.of_statics.Goals as goal
 
@@ -43,4 +44,16 @@ returns-clause-numbering c =
       within = told_none t more c.args.max_instances max_numbered_atoms
           (omega (arith, c.in_ok-instances.ensures.few, ap length c.in_ok-instances.ensures.kept, length-map instances instance_of))
           (omega (arith, c.in_ok-atoms.ensures.few, ap length c.in_ok-atoms.ensures.numbered, length-map atoms atom_of));
+    }
+
+pub invariant_of-result : goal.invariant_of-result
+invariant_of-result c =
+    let t = task_of c.args.statics.task.now in
+    let more = map atom_of c.args.more.now in
+    let atoms = map atom_of c.in_ok-atoms.atoms.keys in
+    record {
+      few_atoms = c.in_ok-atoms.ensures.few;
+      kept = c.in_ok-instances.ensures.kept;
+      fluent = atoms-fluent t more atoms c.in_ok-atoms.ensures.numbered c.requires.fluent;
+      distinct = atoms-distinct t more atoms c.in_ok-atoms.ensures.numbered;
     }
