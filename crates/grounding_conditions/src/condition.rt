@@ -56,7 +56,7 @@ impl Condition {
         ensures { IfOk result (IsConditionOf (task_in numbering.now) (atoms_in numbering.now) (formula_of formula.now) (map object_of binding.now.items)) }
     {
         let literals = numbering.numbered_literals(alloc, formula, binding)?;
-        let beyond = beyond(alloc, numbering, formula, binding)?;
+        let beyond = asked_beyond(alloc, numbering, formula, binding)?;
         let literals = SmallVec::from_slice(alloc, literals.as_slice())?;
         Ok(Condition { literals, beyond })
     }
@@ -109,7 +109,7 @@ pub fn holds_in(
 }
 
 /// What is to be asked beyond the formula's numbered literals.
-fn beyond(
+fn asked_beyond(
     alloc: Global,
     numbering: &Numbering<'_>,
     formula: &Formula,
@@ -136,9 +136,17 @@ fn all_agree(literals: &[NumberedLiteral], state: &Packed) -> bool
     ensures { result ≡ list_all (model_literals.agrees (bits_of state.now)) (map numbered_of literals.now) }
 {
     for literal in literals {
-        if state.has(literal.atom) != literal.value {
+        if !agrees(literal, state) {
             return false;
         }
     }
     true
+}
+
+/// Whether the literal is true in the packed state.
+fn agrees(literal: &NumberedLiteral, state: &Packed) -> bool
+    requires { literal.now.atom < length (bits_of state.now) }
+    ensures { result ≡ model_literals.agrees (bits_of state.now) (numbered_of literal.now) }
+{
+    state.has(literal.atom) == literal.value
 }

@@ -11,6 +11,7 @@ use typing::Atom;
 
 /// The state that a packed state stands for, as formulas are judged in it: the numbered atoms whose bits are set, and the
 /// static atoms that are true at the start.
+#[derive(Drop)]
 pub struct StateView<'a, 't> {
     numbering: &'a Numbering<'t>,
     state: &'a Packed,

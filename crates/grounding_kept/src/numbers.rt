@@ -18,7 +18,7 @@ use std::alloc::Global;
 use typing::{Atom, Formula, Task};
 
 /// A numbered atom is true, or false.
-#[derive(Clone, Copy, Debug, PartialEq, Eq)]
+#[derive(Clone, Copy, Debug, Default, PartialEq, Eq)]
 pub struct NumberedLiteral {
     /// The atom's number, from 0.
     pub atom: u32,
