@@ -3,11 +3,11 @@ ghost use Rattle.std.specs.Prelude.{◌≡◌, ◌<◌, length, map, IfOk};
 ghost use Rattle.std.specs.List.{All, list_all};
 ghost use Rattle.typing.specs.TaskParts.{object_of, formula_of};
 ghost use Rattle.formulas.specs.State.{FitsFormula};
+ghost use Rattle.formulas.specs.Literals.{literal_of};
 ghost use Rattle.packed_state.specs.Packed.{bits_of};
 ghost use Rattle.grounding_kept.specs.Numbering.{task_in, atoms_in};
 ghost use Rattle.grounding_kept.specs.Numbers.{numbered_of};
 ghost use Rattle.model.specs.Meaning as meaning;
-ghost use Rattle.model.specs.SureLiterals as sure_literals;
 ghost use Rattle.model.specs.NumberedLiterals as model_literals;
 ghost use Rattle.model.specs.Grounding.{state_of_bits};
 ghost use Rattle.grounding_conditions.specs.Outright as outright;
@@ -18,7 +18,7 @@ use crate::outright::is_outright;
 use crate::state_view::StateView;
 use crate::unnumbered::all_may_hold;
 use faults::NoMemory;
-use formulas::{Binding, holds, sure};
+use formulas::{Binding, Literal, holds, sure};
 use grounding_kept::{NumberedLiteral, Numbering};
 use packed_state::Packed;
 use smallvec::SmallVec;
@@ -55,9 +55,11 @@ impl Condition {
         requires { FitsFormula (task_in numbering.now) (formula_of formula.now) (map object_of binding.now.items) }
         ensures { IfOk result (IsConditionOf (task_in numbering.now) (atoms_in numbering.now) (formula_of formula.now) (map object_of binding.now.items)) }
     {
-        let literals = numbering.numbered_literals(alloc, formula, binding)?;
-        let beyond = asked_beyond(alloc, numbering, formula, binding)?;
-        let literals = SmallVec::from_slice(alloc, literals.as_slice())?;
+        let outright = sure(alloc, numbering.task(), formula, binding)?;
+        let outright = outright.as_slice();
+        let numbered = numbering.numbered(alloc, outright)?;
+        let beyond = asked_beyond(numbering, formula, outright);
+        let literals = SmallVec::from_slice(alloc, numbered.as_slice())?;
         Ok(Condition { literals, beyond })
     }
 
@@ -108,26 +110,17 @@ pub fn holds_in(
     }
 }
 
-/// What is to be asked beyond the formula's numbered literals.
-fn asked_beyond(
-    alloc: Global,
-    numbering: &Numbering<'_>,
-    formula: &Formula,
-    binding: &Binding,
-) -> Result<Beyond, NoMemory>
-    requires { FitsFormula (task_in numbering.now) (formula_of formula.now) (map object_of binding.now.items) }
-    ensures { IfOk result (λ asked. asked ≡ beyond_of
-        (list_all (unnumbered.may_hold (task_in numbering.now) (atoms_in numbering.now)) (sure_literals.sure (task_in numbering.now) (formula_of formula.now) (map object_of binding.now.items)))
-        (outright.is_outright (formula_of formula.now))) }
+/// What is to be asked of a formula beyond its numbered literals, where these are its sure literals.
+fn asked_beyond(numbering: &Numbering<'_>, formula: &Formula, literals: &[Literal]) -> Beyond
+    ensures { result ≡ beyond_of (list_all (unnumbered.may_hold (task_in numbering.now) (atoms_in numbering.now)) (map literal_of literals.now)) (outright.is_outright (formula_of formula.now)) }
 {
-    let literals = sure(alloc, numbering.task(), formula, binding)?;
-    if !all_may_hold(numbering, literals.as_slice()) {
-        return Ok(Beyond::Never);
+    if !all_may_hold(numbering, literals) {
+        return Beyond::Never;
     }
     if is_outright(formula) {
-        return Ok(Beyond::Nothing);
+        return Beyond::Nothing;
     }
-    Ok(Beyond::Formula)
+    Beyond::Formula
 }
 
 /// Whether each of the literals is true in the packed state.
