@@ -1,33 +1,32 @@
--- What a list of instances that solves says of them.
+-- What the answer to the ground task says of its task, and what a list of instances that solves says of them.
 use Rattle.std.proofs.Common.{◌≡◌, ℕ, suc, ◌<◌, ◌≤◌, ◌*◌, Bool, true, false, List, [], ◌∷◌, length, map, ◌∙◌, None, Some, inl, inr, refl, sym, ap, subst, arith}
 use Rattle.std.specs.Prelude.{nat_le, slice_get, Contains, All, IsTrue}
 use Rattle.std.specs.Option.{option_and_then}
 use Rattle.std.specs.List.{list_all, AllZip}
+use Rattle.std.proofs.lemmas.Bool.{and_parts, and_from, lt-ltb, leb-true}
+use Rattle.std.proofs.lemmas.Bool.Decides.{nat_tests}
 use Rattle.std.proofs.lemmas.List.{length-map}
 use Rattle.std.proofs.lemmas.Slice.Zip.{AllZip-long}
 use Rattle.formulas.specs.declared.instance.Instance as code
 use Rattle.formulas.specs.State.{instance_of}
-use Rattle.std.proofs.lemmas.Bool.{and_parts, and_from, lt-ltb, leb-true}
-use Rattle.std.proofs.lemmas.Bool.Decides.{nat_tests}
 use Rattle.search.specs.declared.nodes.Node.{Node}
 use Rattle.search.specs.Outcome.{line_of, lines_of, AreFound, AreMoreReachable}
 use Rattle.solver.specs.Limit.{is_limit}
-use Rattle.solver.proofs.GroundLemmas.{more_reachable, none_told, numbers_named, one_named}
+use Rattle.solver.proofs.GroundLemmas.{more_reachable, numbers_named, one_named}
 use Rattle.model.specs.Task.{Task, Atom, Instance}
 use Rattle.model.specs.Runs.{System, run, cost_of_all, Solves, IsOptimal, IsUnsolvable}
-use Rattle.model.specs.Limits.{max_numbered_atoms}
-use Rattle.model.specs.Fluents.{is_fluent}
-use Rattle.model.specs.ClosedOff.{kept_instances}
-use Rattle.model.specs.NumberedAtoms.{numbered_atoms}
-use Rattle.model.specs.Grounding.{ground_system, limit_told, StandsFor, NamesKept}
-use Rattle.model.proofs.BisimulationLemmas.{same_cost}
-use Rattle.model.proofs.GroundTaskLemmas.{ground_task_is_bisimilar, ground_task_solves_alike}
 use Rattle.model.specs.Claims.{bound, none, Line, IsClosed}
 use Rattle.model.specs.Meaning.{State, step, is_instance, system_of}
 use Rattle.model.specs.Certificates.{is_claim}
+use Rattle.model.specs.Fluents.{is_fluent}
+use Rattle.model.specs.ClosedOff.{kept_instances}
+use Rattle.model.specs.NumberedAtoms.{numbered_atoms}
+use Rattle.model.specs.Grounding.{ground_system, StandsFor, NamesKept}
 use Rattle.model.proofs.ListLemmas.{Contains-cases, Contains-none}
 use Rattle.model.proofs.ClaimsLemmas.{claim-of_closed}
 use Rattle.model.proofs.InstancesLemmas.{is_instance-of_step}
+use Rattle.model.proofs.BisimulationLemmas.{same_cost}
+use Rattle.model.proofs.GroundTaskLemmas.{ground_task_is_bisimilar, ground_task_solves_alike}
 
 all_instances_run : (task : Task) (plan : List Instance) (s end : State) → run (system_of task) s plan ≡ Some end → list_all (is_instance task) plan ≡ true
 all_instances_run task [] s end runs = refl
@@ -98,7 +97,7 @@ cheap_plan t cost max_states states nodes plan solves found few =
     let cheap = bound_within t cost states nodes max_states found plan solves in
     lt-ltb cost 1152921504606846976 (omega (arith, cheap, few_found))
 
--- ---- what is known of the ground task, of its task
+-- ---- what the ground task's answer says of its task
 
 module _ (task : Task) (atoms : List Atom) (numbered : atoms ≡ numbered_atoms task []) where
   abbrev none_more : All (λ (a : Atom). IsTrue (is_fluent task a.predicate)) []
@@ -107,6 +106,7 @@ module _ (task : Task) (atoms : List Atom) (numbered : atoms ≡ numbered_atoms 
   abbrev ground : System (List Bool) ℕ
   ground = ground_system task (numbered_atoms task [])
 
+  -- the numbers of a cheapest list are those of kept instances, and these solve the task as cheaply
   pub plan_named : (numbers : List ℕ) → IsOptimal (ground_system task atoms) numbers → All (λ (n : ℕ). n < length (kept_instances task)) numbers
   plan_named numbers optimal =
       let other = (ground_task_solves_alike task [] none_more).optimal numbers (subst (λ (l : List Atom). IsOptimal (ground_system task l) numbers) numbered optimal) in
@@ -127,9 +127,6 @@ module _ (task : Task) (atoms : List Atom) (numbered : atoms ≡ numbered_atoms 
 
   pub more_of_task : (max_states : ℕ) → AreMoreReachable (ground_system task atoms) max_states → AreMoreReachable (system_of task) max_states
   more_of_task max_states more = more_reachable task max_states (subst (λ (l : List Atom). AreMoreReachable (ground_system task l) max_states) numbered more)
-
-  pub few_atoms : (max_instances : ℕ) → limit_told max_instances max_numbered_atoms task [] ≡ None → length atoms ≤ 1048576
-  few_atoms max_instances told = subst (λ (l : List Atom). length l ≤ 1048576) (sym numbered) (none_told task [] max_instances 1048576 told)
 
 -- as many instances as numbers
 pub plan_length : (task : Task) (numbers : List ℕ) (plan : List code.Instance) → AllZip (NamesKept task) numbers (map instance_of plan) → length plan ≡ length numbers

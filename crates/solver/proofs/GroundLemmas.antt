@@ -1,10 +1,8 @@
--- What is found of the ground task, of its task.
+-- What is known of the ground task, carried over to its task.
 use Rattle.std.proofs.Common.{◌≡◌, ◌∙◌, ℕ, zero, suc, ◌<◌, ◌≤◌, Bool, true, List, [], ◌∷◌, map, length, Option, None, Some, refl, sym, ap, subst, arith}
 use Rattle.std.specs.Prelude.{Contains, All, IsTrue, slice_get, is_some}
 use Rattle.std.specs.List.{AllZip}
 use Rattle.std.specs.Option.{option_map, option_and_then}
-use Rattle.std.proofs.lemmas.Bool.Decides.{nat_tests}
-use Rattle.model.specs.Fluents.{is_fluent}
 use Rattle.std.proofs.lemmas.List.{length-map}
 use Rattle.std.proofs.lemmas.Option.{slice_get_within}
 use Rattle.packed_state.specs.Store.{AreDistinct}
@@ -14,9 +12,10 @@ use Rattle.model.specs.Task.{Atom, Task, Instance}
 use Rattle.model.specs.Runs.{run, cost_of_all, CostsAtLeast, IsReachable}
 use Rattle.model.specs.Meaning.{State, step, system_of}
 use Rattle.model.specs.Bisimulation.{IsBisimulation}
+use Rattle.model.specs.Fluents.{is_fluent}
 use Rattle.model.specs.ClosedOff.{kept_instances}
 use Rattle.model.specs.NumberedAtoms.{numbered_atoms}
-use Rattle.model.specs.Grounding.{state_of_bits, bits_of_state, ground_step, ground_system, applicable_numbers, limit_told, NamesKept}
+use Rattle.model.specs.Grounding.{state_of_bits, bits_of_state, ground_step, ground_system, applicable_numbers, NamesKept}
 use Rattle.model.proofs.ListLemmas.{Contains-got, map-Contains}
 use Rattle.model.proofs.BisimulationLemmas.{run_forth, same_cost, bound_forth}
 use Rattle.model.proofs.GroundTaskLemmas.{Contains-applicable, applicable-Contains, packs_states, ground_task_is_bisimilar}
@@ -122,10 +121,6 @@ module _ (task : Task) where
     λ s among. let from = map-Contains view states s among in subst (λ (t : State). PrecedesPlans (system_of task) t) from.2 (precedes from.0 (preceding from.0 from.1)),
     omega (arith, more, length-map states view),
   )
-
--- where no limit is told, neither is exceeded
-pub none_told : (task : Task) (more : List Atom) (max_instances max_atoms : ℕ) → limit_told max_instances max_atoms task more ≡ None → length (numbered_atoms task more) ≤ max_atoms
-none_told task more max_instances max_atoms told = grind (arith, nat_tests)
 
 -- ---- named instances
 

@@ -18,7 +18,6 @@ use Rattle.solver.proofs.TypedLemmas.{numbered_typed}
 use Rattle.solver.proofs.GroundLemmas.{length-reachable, distinct_states}
 use Rattle.model.specs.Task.{Task, Atom}
 use Rattle.model.specs.WellTyped.{is_task, is_atom}
-use Rattle.model.specs.Runs.{System}
 use Rattle.model.specs.Claims.{Claim, Line, IsClosed}
 use Rattle.model.specs.Meaning.{State, system_of}
 use Rattle.model.specs.Fluents.{is_fluent, static_atoms}
@@ -235,14 +234,3 @@ module _ (task : Task) (claim : Claim) (most : ℕ) (states : List (List Bool)) 
 -- what is shown with so many states is shown with more
 pub more_allowed : {task : Task} {claim : Claim} {count most : ℕ} {certificate : Certificate} → IsShownBy task claim count certificate → count ≤ most → IsShownBy task claim most certificate
 more_allowed given le = record { claims = given.claims; closed = given.closed; within_limit = omega (arith, given.within_limit, le); atoms = given.atoms }
-
--- what was found within a limit was found within a greater one
-pub found_within : {S A : Type 0} {t : System S A} {claim : Claim} {count most : ℕ} {states : List S} {nodes : List Node} → AreFound t claim count states nodes → count ≤ most → AreFound t claim most states nodes
-found_within found le = record {
-  one_for_each = found.one_for_each;
-  within_limit = omega (arith, found.within_limit, le);
-  distinct = found.distinct;
-  reachable = found.reachable;
-  cheap = found.cheap;
-  closed = found.closed;
-}

@@ -1,9 +1,9 @@
 use Rattle.std.proofs.Common.{◌≡◌, ◌∙◌, ◌<◌, refl, sym, ap, subst, map, length, List, ℕ, arith}
 use Rattle.std.specs.Prelude.{All}
-use Rattle.search.specs.Outcome.{AreMoreReachable}
 use Rattle.std.specs.List.{list_all}
 use Rattle.formulas.specs.State.{instance_of, plan_of}
 use Rattle.packed_state.specs.PooledView.{pooled_states}
+use Rattle.search.specs.Outcome.{AreMoreReachable}
 use Rattle.grounding.specs.Ground.{task_in, atoms_in}
 use Rattle.model.specs.Task.{Instance}
 use Rattle.model.specs.Runs.{cost_of_all, IsOptimal}
