@@ -4,3 +4,5 @@ pub mod ProgramWords
 pub mod TableLemmas
 pub mod ProgramTold
 pub mod PlanFiles
+pub mod OptionWords
+pub mod OptionsHeld

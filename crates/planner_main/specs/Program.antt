@@ -1,12 +1,12 @@
 -- What the program does: what its words ask for, which texts its files have, and what it tells of them with which status.
-use Rattle.std.specs.Prelude.{◌≡◌, ℕ, ◌≤◌, ◌⊎◌, Bool, List, [], ◌∷◌, ◌++◌, codes, map, take, Option, None, Some, IfSome, IsTrue, Result, Ok, Err}
+use Rattle.std.specs.Prelude.{◌≡◌, ℕ, ◌⊎◌, Bool, List, [], ◌∷◌, codes, map, take, Option, None, Some, IfSome, IsTrue, Result, Ok, Err}
 use Rattle.std.specs.Option.{option_map}
 use Rattle.std.specs.Borrow.{Bor}
-use Rattle.std.specs.Str.Parse.{IsNumeral, without_leading_plus, digits_value}
 use Rattle.std.specs.Io.KnownBytes.{Appends}
 use Rattle.solver.specs.declared.answer.Answer.{Answer}
 use Rattle.solver.specs.Solver.{IsTrueAnswer}
 use Rattle.planner_main.specs.declared.program.command.Command.{Command}
+use Rattle.planner_main.specs.declared.program.command.Options.{Options}
 use Rattle.planner_main.specs.declared.program.command.Command.TheVariants.{Validate, Solve}
 use Rattle.planner_main.specs.declared.report.Failure.{Failure}
 use Rattle.planner_main.specs.declared.report.Failure.TheVariants as failure
@@ -15,6 +15,7 @@ use Rattle.devices.specs.declared.device.WriteFault.TheVariants as device
 use Rattle.devices.specs.Devices.{AppendsBeginning, one_more}
 use Rattle.planner_main.specs.Failures.{line_of_fault, device_line, no_memory_line}
 use Rattle.planner_main.specs.Files.{fault_at, told_in}
+use Rattle.planner_main.specs.Options.{NamedValue, value_of, IsOneOf, AreDistinct, AreOptions}
 use Rattle.planner_main.specs.Report.{line_of}
 use Rattle.planner_main.specs.Report as verdict
 use Rattle.planner_main.specs.Written.{HoldsBeginning}
@@ -28,54 +29,31 @@ use Rattle.model.specs.Files.{FileFault, IsTaskOf, IsTaskFault, IsVerdictOf, IsF
 abbrev pub texts : List (Bor (List ℕ)) → List (List ℕ)
 texts words = map (λ word. word.now) words
 
--- the text writes this number in decimal digits, which a plus may precede
-abbrev pub IsNumber : List ℕ → ℕ → Type 0
-IsNumber text number = IsNumeral 10 (without_leading_plus text) × (number ≡ digits_value 10 (without_leading_plus text))
-
--- So many states may be listed: 1,000,000 with no options, and N, from 1 to 16,777,216, with the options `--states N`.
-pub data AllowsStates (options : List (List ℕ)) (states : ℕ) : Type 0 where
-  by_default : options ≡ [] → states ≡ 1000000 → AllowsStates options states
-  as_asked : (text : List ℕ) → options ≡ codes "--states" ∷ text ∷ [] → IsNumber text states → 1 ≤ states → states ≤ 16777216
-      → AllowsStates options states
-
--- The options allow so many states, and name the file that a plan is to be written to, or none: `--plan FILE` stands before
--- the other option or after it.
-pub data AreOptions (options : List (List ℕ)) (states : ℕ) (file : Option (List ℕ)) : Type 0 where
-  no_file : AllowsStates options states → file ≡ None → AreOptions options states file
-  file_first : (name : List ℕ) (others : List (List ℕ)) → options ≡ codes "--plan" ∷ name ∷ others → AllowsStates others states → file ≡ Some name
-      → AreOptions options states file
-  file_last : (name : List ℕ) (others : List (List ℕ)) → options ≡ others ++ codes "--plan" ∷ name ∷ [] → AllowsStates others states → file ≡ Some name
-      → AreOptions options states file
-
--- The words ask for the verdict on a plan file, or for a cheapest plan within so many states, with the file to write it to.
+-- The words ask for the verdict on a plan file, or for a cheapest plan within so many states and instances, with the file to
+-- write it to.
 abbrev pub AsksForVerdict : List (List ℕ) → (domain problem plan : List ℕ) → Type 0
 AsksForVerdict words domain problem plan = words ≡ codes "validate" ∷ domain ∷ problem ∷ plan ∷ []
 
-pub record AsksForPlan (words : List (List ℕ)) (domain problem : List ℕ) (states : ℕ) (file : Option (List ℕ)) : Type 0 where
+pub record AsksForPlan (words : List (List ℕ)) (domain problem : List ℕ) (states instances : ℕ) (file : Option (List ℕ)) : Type 0 where
   pub options : List (List ℕ)
   pub in_order : words ≡ codes "solve" ∷ domain ∷ problem ∷ options
-  pub are : AreOptions options states file
+  pub are : AreOptions options states instances file
 
 -- the words are a command
 pub data IsCommand (words : List (List ℕ)) : Type 0 where
   is_validate : (domain problem plan : List ℕ) → AsksForVerdict words domain problem plan → IsCommand words
-  is_solve : (domain problem : List ℕ) (states : ℕ) (file : Option (List ℕ)) → AsksForPlan words domain problem states file → IsCommand words
+  is_solve : (domain problem : List ℕ) (states instances : ℕ) (file : Option (List ℕ)) → AsksForPlan words domain problem states instances file → IsCommand words
 
 -- The words are a command whose domain file has this name.
 pub data NamesDomain (words : List (List ℕ)) (domain : List ℕ) : Type 0 where
   in_validate : (problem plan : List ℕ) → AsksForVerdict words domain problem plan → NamesDomain words domain
-  in_solve : (problem : List ℕ) (states : ℕ) (file : Option (List ℕ)) → AsksForPlan words domain problem states file → NamesDomain words domain
-
--- the name is one of these
-abbrev pub IsOneOf : List (List ℕ) → List ℕ → Type 0
-IsOneOf [] name = ⊥
-IsOneOf (first ∷ rest) name = (name ≡ first) ⊎ IsOneOf rest name
+  in_solve : (problem : List ℕ) (states instances : ℕ) (file : Option (List ℕ)) → AsksForPlan words domain problem states instances file → NamesDomain words domain
 
 -- The words are a command that reads the file of this name.
 pub data NamesInput (words : List (List ℕ)) (name : List ℕ) : Type 0 where
   of_validate : (domain problem plan : List ℕ) → AsksForVerdict words domain problem plan → IsOneOf (domain ∷ problem ∷ plan ∷ []) name
       → NamesInput words name
-  of_solve : (domain problem : List ℕ) (states : ℕ) (file : Option (List ℕ)) → AsksForPlan words domain problem states file
+  of_solve : (domain problem : List ℕ) (states instances : ℕ) (file : Option (List ℕ)) → AsksForPlan words domain problem states instances file
       → IsOneOf (domain ∷ problem ∷ []) name → NamesInput words name
 
 -- The words ask for a plan, and for its text in the file of this name.
@@ -83,7 +61,8 @@ pub record NamesPlanFile (words : List (List ℕ)) (name : List ℕ) : Type 0 wh
   pub domain : List ℕ
   pub problem : List ℕ
   pub states : ℕ
-  pub asks : AsksForPlan words domain problem states (Some name)
+  pub instances : ℕ
+  pub asks : AsksForPlan words domain problem states instances (Some name)
 
 -- the text of the file of this name: where its contents are known, their first 16,777,217 bytes, or all where they are fewer
 abbrev pub IsText : (List ℕ → Option (List ℕ)) → List ℕ → List ℕ → Type 0
@@ -119,12 +98,12 @@ abbrev pub IsAnswerText : (List ℕ → Option (List ℕ)) → (domain problem :
 IsAnswerText contents domain problem states instances text status =
     OnTwo contents domain problem (λ d p. IsSolutionText d p states instances text status)
 
--- This text, with this status, is a true answer to what the words ask for. The limit of instances is 1,000,000.
+-- This text, with this status, is a true answer to what the words ask for.
 pub data IsAnswer (contents : List ℕ → Option (List ℕ)) (words : List (List ℕ)) (text : List ℕ) (status : ℕ) : Type 0 where
   a_verdict : (domain problem plan : List ℕ) → AsksForVerdict words domain problem plan
       → IsVerdictText contents domain problem plan text status → IsAnswer contents words text status
-  an_answer : (domain problem : List ℕ) (states : ℕ) (file : Option (List ℕ)) → AsksForPlan words domain problem states file
-      → IsAnswerText contents domain problem states 1000000 text status → IsAnswer contents words text status
+  an_answer : (domain problem : List ℕ) (states instances : ℕ) (file : Option (List ℕ)) → AsksForPlan words domain problem states instances file
+      → IsAnswerText contents domain problem states instances text status → IsAnswer contents words text status
 
 -- The file to which a plan is to be written, which `Named` tells, holds this text where it is a plan's, that is with the
 -- status 0; each other file is as it was.
@@ -170,7 +149,7 @@ TellsPartly words known files files_after = IsToldPartly (IsAnswer files words) 
 pub data IsRefusedFor (contents : List ℕ → Option (List ℕ)) (words : List (List ℕ)) (fault : FileFault) : Type 0 where
   a_verdict_refused : (domain problem plan : List ℕ) → AsksForVerdict words domain problem plan
       → OnThree contents domain problem plan (λ d p l. IsFileFault d p l fault) → IsRefusedFor contents words fault
-  an_answer_refused : (domain problem : List ℕ) (states : ℕ) (file : Option (List ℕ)) → AsksForPlan words domain problem states file
+  an_answer_refused : (domain problem : List ℕ) (states instances : ℕ) (file : Option (List ℕ)) → AsksForPlan words domain problem states instances file
       → OnTwo contents domain problem (λ d p. IsTaskFault d p fault) → IsRefusedFor contents words fault
 
 -- The texts are refused: the standard output and the files are as they were, and the standard error says the line of the fault.
@@ -193,14 +172,21 @@ IsAnswerFor contents (Validate domain problem plan) text status =
 IsAnswerFor contents (Solve domain problem limits file) text status =
     IsAnswerText contents domain.now problem.now limits.states limits.instances text status
 
--- the bytes of a name, where there is one
-abbrev pub name_in : Option (Bor (List ℕ)) → Option (List ℕ)
-name_in = option_map (λ (name : Bor (List ℕ)). name.now)
+-- the bytes of a word, where there is one
+abbrev pub text_in : Option (Bor (List ℕ)) → Option (List ℕ)
+text_in = option_map (λ (word : Bor (List ℕ)). word.now)
+
+-- These options are known, none stands twice, and their values are held.
+pub record Holds (held : Options) (options : List NamedValue) : Type 0 where
+  pub distinct : AreDistinct options
+  pub plan : text_in held.plan ≡ value_of (codes "--plan") options
+  pub states : text_in held.states ≡ value_of (codes "--states") options
+  pub instances : text_in held.instances ≡ value_of (codes "--instances") options
 
 -- the file that a plan is to be written to
 abbrev pub file_of : Command → Option (List ℕ)
 file_of (Validate domain problem plan) = None
-file_of (Solve domain problem limits file) = name_in file
+file_of (Solve domain problem limits file) = text_in file
 
 abbrev pub IsFileOf : Command → List ℕ → Type 0
 IsFileOf command name = file_of command ≡ Some name
@@ -215,7 +201,7 @@ TellsPartlyFor command known files files_after = IsToldPartly (IsAnswerFor files
 abbrev pub Asks : List (List ℕ) → Command → Type 0
 Asks words (Validate domain problem plan) = AsksForVerdict words domain.now problem.now plan.now
 Asks words (Solve domain problem limits file) =
-    AsksForPlan words domain.now problem.now limits.states (name_in file) × (limits.instances ≡ 1000000)
+    AsksForPlan words domain.now problem.now limits.states limits.instances (text_in file)
 
 -- the fault of a text that the failure is, and None of a device or of memory
 abbrev pub fault_in : Failure → Option FileFault

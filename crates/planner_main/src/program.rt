@@ -3,7 +3,8 @@ ghost use Rattle.std.specs.Prelude.{◌≡◌, ◌≢◌, ℕ, ◌+◌, ◌↔�
 ghost use Rattle.planner_main.specs.Failures.{device_line, no_memory_line, usage};
 ghost use Rattle.planner_main.specs.Files.{told_in};
 ghost use Rattle.planner_main.specs.Report.{is_failure};
-ghost use Rattle.planner_main.specs.Program.{texts, AreKept, IsCommand, IsText, OnTwo, OnThree, IsVerdictLine, IsSolutionText, IsVerdictText, IsAnswerText, IsAnswerFor, Tells, TellsFor, TellsPartly, TellsPartlyFor, Refuses, HasFailed, HasNotFailed, HoldsPlan, HoldsPlanPartly, CountsFailure, CountsEither, NamesDomain, NamesInput, IsFaultFor, IsFileOf, IsOneOf, IsUnread, device_failure, domain_of, fault_in, inputs_of};
+ghost use Rattle.planner_main.specs.Options.{IsOneOf};
+ghost use Rattle.planner_main.specs.Program.{texts, AreKept, IsCommand, IsText, OnTwo, OnThree, IsVerdictLine, IsSolutionText, IsVerdictText, IsAnswerText, IsAnswerFor, Tells, TellsFor, TellsPartly, TellsPartlyFor, Refuses, HasFailed, HasNotFailed, HoldsPlan, HoldsPlanPartly, CountsFailure, CountsEither, NamesDomain, NamesInput, IsFaultFor, IsFileOf, IsUnread, device_failure, domain_of, fault_in, inputs_of};
 ghost use Rattle.planner_main.specs.Written.{HoldsBeginning};
 ghost use Rattle.devices.specs.declared.device.WriteFault.TheVariants.{Device};
 ghost use Rattle.devices.specs.Devices.{CountsDevice, IsReading, IsWritten, ReadsSome};
@@ -32,11 +33,12 @@ const PIECE: usize = 65_536;
 /// The whole program: what the words ask for, with its answer on the standard output and its faults on the standard
 /// error, and the status that it ends with.
 ///
-/// `solve DOMAIN PROBLEM [--plan FILE] [--states N]` tells a cheapest plan, or that there is none; at most N states are
-/// listed, where no N is given 1,000,000. A plan's text is also written to the file of `--plan`, before the standard
-/// output; where there is no plan that file is not touched. `validate DOMAIN PROBLEM PLAN` says whether the plan solves
-/// the task. Of a file at most 16,777,217 bytes are read and taken for its whole text, and all files are read before any
-/// fault of their texts is told.
+/// `solve DOMAIN PROBLEM [--plan FILE] [--states N] [--instances N]` tells a cheapest plan, or that there is none. At most
+/// so many states are listed, and so many instances may the task have; each N is 1,000,000 where it is not given. The
+/// options stand in any order. A plan's text is also written to the file of `--plan`, before the standard output; where
+/// there is no plan that file is not touched. `validate DOMAIN PROBLEM PLAN` says whether the plan solves the task. Of a
+/// file at most 16,777,217 bytes are read and taken for its whole text, and all files are read before any fault of their
+/// texts is told.
 ///
 /// | What comes | Standard output | Standard error | Status |
 /// |---|---|---|---|

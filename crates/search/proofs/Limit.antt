@@ -1,5 +1,5 @@
 -- Where one state more is found than may be listed: each of them is found from one that is no dearer than any plan.
-use Rattle.std.proofs.Common.{◌≡◌, ℕ, ◌<◌, ◌≢◌, inl, inr, List, [], ◌∷◌, ◌++◌, length, Option, Some, None, true, refl, sym, ap, ◌∙◌, subst, arith}
+use Rattle.std.proofs.Common.{◌≡◌, ℕ, ◌<◌, ◌≢◌, inl, inr, List, [], ◌∷◌, ◌++◌, length, Some, None, true, refl, sym, ap, ◌∙◌, subst, arith}
 use Rattle.std.specs.Prelude.{slice_get, Contains}
 use Rattle.std.proofs.lemmas.Bool.{cases_eq}
 use Rattle.std.proofs.lemmas.Option.{same_Some, slice_get_within}
@@ -7,13 +7,12 @@ use Rattle.std.proofs.lemmas.List.{length-append}
 use Rattle.std.proofs.lemmas.List.Elements.{Contains-push_cases}
 use Rattle.model.proofs.ListLemmas.{Contains-got, Contains-place}
 use Rattle.model.specs.Runs.{System, CostsAtLeast, IsReachable}
-use Rattle.search.specs.declared.progress.Reached.{Reached}
-use Rattle.search.specs.declared.progress.Origin.{Origin}
+use Rattle.search.specs.declared.nodes.Node.{Node}
 use Rattle.search.specs.Outcome.{PrecedesPlans, is_initial, is_next, AreMoreReachable}
-use Rattle.search.specs.Store.{AreDistinct}
-use Rattle.search.specs.Nodes.{Waiting, Node, nodes_of, AreNodes, IsTurn}
+use Rattle.packed_state.specs.Store.{AreDistinct}
+use Rattle.search.specs.Nodes.{Waiting, Found, found_of, AreNodes, IsTurn}
 use Rattle.search.proofs.Lists.{get-push_new, get-push_other, get_exists}
-use Rattle.search.proofs.Linked.{get-nodes_of}
+use Rattle.search.proofs.Linked.{get-found_of}
 use Rattle.search.proofs.NodesLemmas.{run-push}
 
 -- a new state joins distinct ones
@@ -38,13 +37,12 @@ distinct-push {S} states s distinct is_new j k x at_j at_k =
         let is_s : s ≡ x = same_Some s x (sym (get-push_new states s) ∙ ap (slice_get (states ++ s ∷ [])) (sym is_last) ∙ at_last) in
         is_new (subst (λ y. Contains states y) (sym is_s) (Contains-got states before x (sym (get-push_other states s before other) ∙ at_before)))
 
-module _ {S L Action : Type 0} (t : System S L) (label : Action → L) (states : List S) (all : List Reached) (origins : List (Option (Origin Action))) (queue : List Waiting)
-    (one_each : length all ≡ length states) (other : length origins ≡ length states) (nodes : AreNodes t label (nodes_of states all origins) queue) where
-  node_there : (k : ℕ) (x : S) → slice_get states k ≡ Some x → (n : Node S Action) × (slice_get (nodes_of states all origins) k ≡ Some n) × (n.state ≡ x)
+module _ {S : Type 0} (t : System S ℕ) (states : List S) (all : List Node) (queue : List Waiting)
+    (one_each : length all ≡ length states) (nodes : AreNodes t (found_of states all) queue) where
+  node_there : (k : ℕ) (x : S) → slice_get states k ≡ Some x → (n : Found S) × (slice_get (found_of states all) k ≡ Some n) × (n.state ≡ x)
   node_there k x at =
       let r = get_exists all k (omega (arith, slice_get_within states k x at)) in
-      let o = get_exists origins k (omega (arith, slice_get_within states k x at)) in
-      (record { state = x; reached = r.0; origin = o.0 }, get-nodes_of states all origins k x r.0 o.0 at r.1 o.1, refl)
+      (record { state = x; node = r.0 }, get-found_of states all k x r.0 at r.1, refl)
 
   states_distinct : AreDistinct states
   states_distinct j k x at_j at_k =
@@ -53,26 +51,26 @@ module _ {S L Action : Type 0} (t : System S L) (label : Action → L) (states :
       nodes.distinct j k m n there_m there_n (same_m ∙ sym same_n)
 
   -- an action leads to the state from an expanded one
-  precedes-next : (k : ℕ) (n : Node S Action) → slice_get (nodes_of states all origins) k ≡ Some n → n.reached.is_expanded ≡ true → (a : L) (x : S) → t.step n.state a ≡ Some x → PrecedesPlans t x
+  precedes-next : (k : ℕ) (n : Found S) → slice_get (found_of states all) k ≡ Some n → n.node.is_expanded ≡ true → (a : ℕ) (x : S) → t.step n.state a ≡ Some x → PrecedesPlans t x
   precedes-next k n there expanded a x leads =
       let (actions, runs, costs) = nodes.reachable k n there in
       is_next actions n.state a runs (nodes.no_goal k n there expanded) (subst (λ c. CostsAtLeast t c) (sym costs) (nodes.no_dearer k n there expanded)) leads
 
   -- a found state is the initial one, or has an origin
-  precedes-found : (k : ℕ) (n : Node S Action) → slice_get (nodes_of states all origins) k ≡ Some n → PrecedesPlans t n.state
+  precedes-found : (k : ℕ) (n : Found S) → slice_get (found_of states all) k ≡ Some n → PrecedesPlans t n.state
   precedes-found k n there =
-      elim n.origin as (λ o. n.origin ≡ o → PrecedesPlans t n.state) [
+      elim n.node.origin as (λ o. n.node.origin ≡ o → PrecedesPlans t n.state) [
         | None ↦ λ none.
             let first : k ≡ 0 = nodes.only_root k n there none in
-            let same : nodes.root.0 ≡ n = same_Some nodes.root.0 n (sym nodes.root.1 ∙ ap (slice_get (nodes_of states all origins)) (sym first) ∙ there) in
-            is_initial (sym (ap (λ (y : Node S Action). y.state) same) ∙ nodes.root.2)
+            let same : nodes.root.0 ≡ n = same_Some nodes.root.0 n (sym nodes.root.1 ∙ ap (slice_get (found_of states all)) (sym first) ∙ there) in
+            is_initial (sym (ap (λ (y : Found S). y.state) same) ∙ nodes.root.2)
         | Some o ↦ λ some.
             let leads = nodes.linked k n o there some in
-            precedes-next o.parent.0 leads.parent leads.stands leads.is_expanded (label o.action) n.state leads.step
+            precedes-next o.parent.0 leads.parent leads.stands leads.is_expanded o.action n.state leads.step
       ] refl
 
   -- the listed states are as many as the limit allows, and an action leads to a new one from the state whose turn it is
-  pub more_reachable : (i : ℕ) (turn : IsTurn (nodes_of states all origins) i) (a : L) (s : S) → t.step turn.node.state a ≡ Some s → (¬ Contains states s)
+  pub more_reachable : (i : ℕ) (turn : IsTurn (found_of states all) i) (a : ℕ) (s : S) → t.step turn.found.state a ≡ Some s → (¬ Contains states s)
       → (max_states : ℕ) → length states ≡ max_states → AreMoreReachable t max_states
   more_reachable i turn a s step is_new max_states full = (
     states ++ s ∷ [],
@@ -83,7 +81,7 @@ module _ {S L Action : Type 0} (t : System S L) (label : Action → L) (states :
               let (k, stands) = Contains-place states x among in
               let (n, there, same) = node_there k x stands in
               subst (λ y. PrecedesPlans t y) same (precedes-found k n there)
-          | inr is ↦ precedes-next i turn.node turn.stands turn.is_expanded a x (step ∙ ap Some is)
+          | inr is ↦ precedes-next i turn.found turn.stands turn.is_expanded a x (step ∙ ap Some is)
         ]),
     omega (arith, length-append states (s ∷ []), full),
   )

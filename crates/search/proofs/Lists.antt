@@ -1,5 +1,5 @@
 -- What stands at a place of a list after an element joins it at its end or takes another's place.
-use Rattle.std.proofs.Common.{◌≡◌, ℕ, zero, suc, ◌<◌, ◌≢◌, List, [], ◌∷◌, ◌++◌, length, set, Some, refl, ap, arith}
+use Rattle.std.proofs.Common.{◌≡◌, ℕ, zero, suc, ◌<◌, ◌≢◌, List, [], ◌∷◌, ◌++◌, length, set, get_or, Some, refl, ap, arith}
 use Rattle.std.specs.Prelude.{slice_get}
 
 pub get-push_new : {X : Type 0} (xs : List X) (y : X) → slice_get (xs ++ y ∷ []) (length xs) ≡ Some y
@@ -28,3 +28,8 @@ pub get_exists : {X : Type 0} (xs : List X) (k : ℕ) → k < length xs → (x :
 get_exists [] k within = absurd (omega arith)
 get_exists (z ∷ xs) zero within = (z, refl)
 get_exists (z ∷ xs) (suc k) within = get_exists xs k (omega arith)
+
+pub get_there : {X : Type 0} (xs : List X) (k : ℕ) (d : X) → k < length xs → slice_get xs k ≡ Some (get_or xs k d)
+get_there [] k d within = absurd (omega arith)
+get_there (z ∷ xs) zero d within = refl
+get_there (z ∷ xs) (suc k) d within = get_there xs k d (omega arith)

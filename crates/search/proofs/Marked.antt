@@ -4,13 +4,13 @@ use Rattle.std.specs.Prelude.{slice_get, Contains, All}
 use Rattle.std.proofs.lemmas.Bool.{cases_eq, false≢true}
 use Rattle.std.proofs.lemmas.Option.{same_Some}
 use Rattle.model.specs.Runs.{System, CostsAtLeast}
-use Rattle.search.specs.declared.progress.Origin.{Origin}
-use Rattle.search.specs.Nodes.{Waiting, place_of, entry, depth_of, Node, expanded_count, Leads, dearest, AreNodes, IsFoundWithin, IsOpen, AreOpen, AreOpenBut, IsTurn, marked}
+use Rattle.search.specs.declared.nodes.Origin.{Origin}
+use Rattle.search.specs.Nodes.{Waiting, place_of, entry, depth_of, Found, expanded_count, Leads, dearest, AreNodes, IsFoundWithin, IsOpen, AreOpen, AreOpenBut, IsTurn, marked}
 use Rattle.search.specs.Outcome.{IsReachableAt}
 
-module _ {S Action : Type 0} (nodes after : List (Node S Action)) (i : ℕ) (one : Node S Action) (stood : slice_get nodes i ≡ Some one) (waited : one.reached.is_expanded ≡ false)
+module _ {S : Type 0} (nodes after : List (Found S)) (i : ℕ) (one : Found S) (stood : slice_get nodes i ≡ Some one) (waited : one.node.is_expanded ≡ false)
     (here : slice_get after i ≡ Some (marked one)) (others : (k : ℕ) → k ≢ i → slice_get after k ≡ slice_get nodes k) (count : expanded_count after ≡ expanded_count nodes + 1) where
-  each_marked : (P : ℕ → Node S Action → Type 0) → P i (marked one) → ((k : ℕ) (n : Node S Action) → k ≢ i → slice_get nodes k ≡ Some n → P k n) → (k : ℕ) (n : Node S Action) → slice_get after k ≡ Some n → P k n
+  each_marked : (P : ℕ → Found S → Type 0) → P i (marked one) → ((k : ℕ) (n : Found S) → k ≢ i → slice_get nodes k ≡ Some n → P k n) → (k : ℕ) (n : Found S) → slice_get after k ≡ Some n → P k n
   each_marked P at_i elsewhere k n at =
       elim (cases_eq k i) [
         | inl e ↦ subst (λ p. P p n) (sym e) (subst (λ x. P i x) (same_Some (marked one) n (sym here ∙ ap (slice_get after) (sym e) ∙ at)) at_i)
@@ -18,12 +18,12 @@ module _ {S Action : Type 0} (nodes after : List (Node S Action)) (i : ℕ) (one
       ]
 
   -- an expanded node stays as it is
-  stays_marked : (k : ℕ) (n : Node S Action) → slice_get nodes k ≡ Some n → n.reached.is_expanded ≡ true → slice_get after k ≡ Some n
+  stays_marked : (k : ℕ) (n : Found S) → slice_get nodes k ≡ Some n → n.node.is_expanded ≡ true → slice_get after k ≡ Some n
   stays_marked k n at expanded =
       elim (cases_eq k i) [
         | inl e ↦
             let same : one ≡ n = same_Some one n (sym stood ∙ ap (slice_get nodes) (sym e) ∙ at) in
-            absurd (false≢true (sym waited ∙ ap (λ (x : Node S Action). x.reached.is_expanded) same ∙ expanded))
+            absurd (false≢true (sym waited ∙ ap (λ (x : Found S). x.node.is_expanded) same ∙ expanded))
         | inr other ↦ others k other ∙ at
       ]
 
@@ -32,13 +32,13 @@ module _ {S Action : Type 0} (nodes after : List (Node S Action)) (i : ℕ) (one
       elim (cases_eq k i) [
         | inl e ↦
             let same : one ≡ n = same_Some one n (sym stood ∙ ap (slice_get nodes) (sym e) ∙ at) in
-            (i, marked one, here, ap (λ (x : Node S Action). x.state) same ∙ is, omega (arith, within, ap (λ (x : Node S Action). x.reached.cost) same))
+            (i, marked one, here, ap (λ (x : Found S). x.state) same ∙ is, omega (arith, within, ap (λ (x : Found S). x.node.cost) same))
         | inr other ↦ (k, n, others k other ∙ at, is, within)
       ]
 
-  module _ {L : Type 0} (t : System S L) (label : Action → L) (queue queue' : List Waiting) (old : AreNodes t label nodes queue)
-      (cheapest : (k : ℕ) (n : Node S Action) → slice_get nodes k ≡ Some n → n.reached.is_expanded ≡ false → one.reached.cost ≤ n.reached.cost) where
-    leads_marked : (n n' : Node S Action) (origin : Origin Action) → n'.state ≡ n.state → n'.reached.cost ≡ n.reached.cost → Leads t label nodes n origin → Leads t label after n' origin
+  module _ (t : System S ℕ) (queue queue' : List Waiting) (old : AreNodes t nodes queue)
+      (cheapest : (k : ℕ) (n : Found S) → slice_get nodes k ≡ Some n → n.node.is_expanded ≡ false → one.node.cost ≤ n.node.cost) where
+    leads_marked : (n n' : Found S) (origin : Origin) → n'.state ≡ n.state → n'.node.cost ≡ n.node.cost → Leads t nodes n origin → Leads t after n' origin
     leads_marked n n' origin same_state same_cost leads = record {
       parent = leads.parent;
       stands = stays_marked origin.parent.0 leads.parent leads.stands leads.is_expanded;
@@ -48,20 +48,20 @@ module _ {S Action : Type 0} (nodes after : List (Node S Action)) (i : ℕ) (one
       step = leads.step ∙ ap Some (sym same_state);
     }
 
-    pub nodes_marked : t.meets_goal one.state ≡ false → CostsAtLeast t one.reached.cost
-        → ((k : ℕ) (n : Node S Action) → slice_get nodes k ≡ Some n → n.reached.is_expanded ≡ false → k ≢ i → Contains queue' (entry n.reached.cost k))
-        → All (λ w. place_of w < length after) queue' → AreNodes t label after queue'
+    pub nodes_marked : t.meets_goal one.state ≡ false → CostsAtLeast t one.node.cost
+        → ((k : ℕ) (n : Found S) → slice_get nodes k ≡ Some n → n.node.is_expanded ≡ false → k ≢ i → Contains queue' (entry n.node.cost k))
+        → All (λ w. place_of w < length after) queue' → AreNodes t after queue'
     nodes_marked no_goal no_dearer queued in_range = record {
       root =
           elim (cases_eq 0 i) [
             | inl e ↦
                 let same : one ≡ old.root.0 = same_Some one old.root.0 (sym stood ∙ ap (slice_get nodes) (sym e) ∙ old.root.1) in
-                (marked one, ap (slice_get after) e ∙ here, ap (λ (x : Node S Action). x.state) same ∙ old.root.2, ap (λ (x : Node S Action). x.reached.cost) same ∙ old.root.3)
+                (marked one, ap (slice_get after) e ∙ here, ap (λ (x : Found S). x.state) same ∙ old.root.2, ap (λ (x : Found S). x.node.cost) same ∙ old.root.3)
             | inr other ↦ (old.root.0, others 0 other ∙ old.root.1, old.root.2, old.root.3)
           ];
-      only_root = each_marked (λ k n. n.origin ≡ None → k ≡ 0) (λ none. old.only_root i one stood none) (λ k n other at. old.only_root k n at);
+      only_root = each_marked (λ k n. n.node.origin ≡ None → k ≡ 0) (λ none. old.only_root i one stood none) (λ k n other at. old.only_root k n at);
       linked = λ k n o.
-          each_marked (λ k n. n.origin ≡ Some o → Leads t label after n o)
+          each_marked (λ k n. n.node.origin ≡ Some o → Leads t after n o)
           (λ is. leads_marked one (marked one) o refl refl (old.linked i one o stood is))
           (λ k n other at is. leads_marked n n o refl refl (old.linked k n o at is)) k n;
       distinct = λ p k x n at_p at_k same.
@@ -70,20 +70,20 @@ module _ {S Action : Type 0} (nodes after : List (Node S Action)) (i : ℕ) (one
           (λ p x _ at.
           each_marked (λ k n. x.state ≡ n.state → p ≡ k) (λ same. old.distinct p i x one at stood same) (λ k n _ at' same. old.distinct p k x n at at' same) k n at_k)
           p x at_p same;
-      cheap = rw count (each_marked (λ k n. n.reached.cost ≤ (expanded_count nodes + 1) * dearest) (omega (arith, old.cheap i one stood)) (λ k n _ at. omega (arith, old.cheap k n at)));
-      shallow = rw count (each_marked (λ k n. depth_of n.origin ≤ expanded_count nodes + 1) (omega (arith, old.shallow i one stood)) (λ k n _ at. omega (arith, old.shallow k n at)));
-      reachable = each_marked (λ k n. IsReachableAt t n.state n.reached.cost) (old.reachable i one stood) (λ k n _ at. old.reachable k n at);
-      no_goal = each_marked (λ k n. n.reached.is_expanded ≡ true → t.meets_goal n.state ≡ false) (λ _. no_goal) (λ k n _ at. old.no_goal k n at);
-      no_dearer = each_marked (λ k n. n.reached.is_expanded ≡ true → CostsAtLeast t n.reached.cost) (λ _. no_dearer) (λ k n _ at. old.no_dearer k n at);
+      cheap = rw count (each_marked (λ k n. n.node.cost ≤ (expanded_count nodes + 1) * dearest) (omega (arith, old.cheap i one stood)) (λ k n _ at. omega (arith, old.cheap k n at)));
+      shallow = rw count (each_marked (λ k n. depth_of n.node.origin ≤ expanded_count nodes + 1) (omega (arith, old.shallow i one stood)) (λ k n _ at. omega (arith, old.shallow k n at)));
+      reachable = each_marked (λ k n. IsReachableAt t n.state n.node.cost) (old.reachable i one stood) (λ k n _ at. old.reachable k n at);
+      no_goal = each_marked (λ k n. n.node.is_expanded ≡ true → t.meets_goal n.state ≡ false) (λ _. no_goal) (λ k n _ at. old.no_goal k n at);
+      no_dearer = each_marked (λ k n. n.node.is_expanded ≡ true → CostsAtLeast t n.node.cost) (λ _. no_dearer) (λ k n _ at. old.no_dearer k n at);
       ordered = λ p k x n at_p at_k expanded waits.
-          each_marked (λ k n. n.reached.is_expanded ≡ false → x.reached.cost ≤ n.reached.cost)
+          each_marked (λ k n. n.node.is_expanded ≡ false → x.node.cost ≤ n.node.cost)
           (λ waits. absurd (false≢true (sym waits)))
           (λ k n _ at waits.
-          each_marked (λ p x. x.reached.is_expanded ≡ true → x.reached.cost ≤ n.reached.cost)
+          each_marked (λ p x. x.node.is_expanded ≡ true → x.node.cost ≤ n.node.cost)
           (λ _. cheapest k n at waits)
           (λ p x _ at' expanded. old.ordered p k x n at' at expanded waits) p x at_p expanded)
           k n at_k waits;
-      queued = each_marked (λ k n. n.reached.is_expanded ≡ false → Contains queue' (entry n.reached.cost k))
+      queued = each_marked (λ k n. n.node.is_expanded ≡ false → Contains queue' (entry n.node.cost k))
           (λ waits. absurd (false≢true (sym waits)))
           (λ k n other at waits. queued k n at waits other);
       in_range = in_range;
@@ -92,24 +92,24 @@ module _ {S Action : Type 0} (nodes after : List (Node S Action)) (i : ℕ) (one
     -- its turn begins
     pub turn_marked : IsTurn after i
     turn_marked = record {
-      node = marked one;
+      found = marked one;
       stands = here;
       is_expanded = refl;
       cheap = rw count (omega (arith, old.cheap i one stood));
       shallow = rw count (omega (arith, old.shallow i one stood));
-      dearest_expanded = each_marked (λ k n. n.reached.is_expanded ≡ true → n.reached.cost ≤ one.reached.cost) (λ _. omega arith) (λ k n _ at expanded. old.ordered k i n one at stood expanded waited);
-      cheapest = each_marked (λ k n. n.reached.is_expanded ≡ false → one.reached.cost ≤ n.reached.cost) (λ waits. absurd (false≢true (sym waits))) (λ k n _ at waits. cheapest k n at waits);
+      dearest_expanded = each_marked (λ k n. n.node.is_expanded ≡ true → n.node.cost ≤ one.node.cost) (λ _. omega arith) (λ k n _ at expanded. old.ordered k i n one at stood expanded waited);
+      cheapest = each_marked (λ k n. n.node.is_expanded ≡ false → one.node.cost ≤ n.node.cost) (λ waits. absurd (false≢true (sym waits))) (λ k n _ at waits. cheapest k n at waits);
     }
 
     pub open_but_marked : AreOpen t nodes → AreOpenBut t after i
-    open_but_marked all = each_marked (λ k n. n.reached.is_expanded ≡ true → k ≢ i → IsOpen t after n)
+    open_but_marked all = each_marked (λ k n. n.node.is_expanded ≡ true → k ≢ i → IsOpen t after n)
         (λ _ other. absurd (other refl))
-        (λ k n _ at expanded _ a next step. found_marked next (n.reached.cost + t.cost a) (all k n at expanded a next step))
+        (λ k n _ at expanded _ a next step. found_marked next (n.node.cost + t.cost a) (all k n at expanded a next step))
 
 -- its turn ends: it is open as the others are
-pub open_all : {S L Action : Type 0} (t : System S L) (nodes : List (Node S Action)) (i : ℕ) (one : Node S Action) → slice_get nodes i ≡ Some one → IsOpen t nodes one → AreOpenBut t nodes i → AreOpen t nodes
-open_all {S} {L} {Action} t nodes i one stands is_open others k n at expanded =
+pub open_all : {S : Type 0} (t : System S ℕ) (nodes : List (Found S)) (i : ℕ) (one : Found S) → slice_get nodes i ≡ Some one → IsOpen t nodes one → AreOpenBut t nodes i → AreOpen t nodes
+open_all {S} t nodes i one stands is_open others k n at expanded =
     elim (cases_eq k i) [
-      | inl e ↦ subst (λ (x : Node S Action). IsOpen t nodes x) (same_Some one n (sym stands ∙ ap (slice_get nodes) (sym e) ∙ at)) is_open
+      | inl e ↦ subst (λ (x : Found S). IsOpen t nodes x) (same_Some one n (sym stands ∙ ap (slice_get nodes) (sym e) ∙ at)) is_open
       | inr other ↦ others k n at expanded other
     ]

@@ -9,22 +9,22 @@ use Rattle.std.proofs.lemmas.Bool.{cases_eq, false≢true}
 use Rattle.std.proofs.lemmas.Option.{same_Some}
 use Rattle.std.proofs.lemmas.List.Sums.{sum_by-append}
 use Rattle.model.specs.Runs.{System, run, CostsAtLeast}
-use Rattle.search.specs.declared.progress.Origin.{Origin}
+use Rattle.search.specs.declared.nodes.Origin.{Origin}
 use Rattle.search.specs.Outcome.{IsReachableAt}
-use Rattle.search.specs.Nodes.{Waiting, place_of, entry, depth_of, Node, expanded_count, Leads, dearest, AreNodes, IsFoundWithin, IsOpen, AreOpenBut, IsTurn, Updates}
+use Rattle.search.specs.Nodes.{Waiting, place_of, entry, depth_of, Found, expanded_count, Leads, dearest, AreNodes, IsFoundWithin, IsOpen, AreOpenBut, IsTurn, Updates}
 use Rattle.search.specs.Progress.{Continues, IsListed}
 
 -- What holds of the nodes after a step of an expansion, by which the state is reached by the action.
-pub record Stepped {S L Action : Type 0} (t : System S L) (label : Action → L) (nodes after : List (Node S Action)) (queue : List Waiting) (i : ℕ) (a : L) (s : S) : Type 0 where
-  pub sound : AreNodes t label after queue
+pub record Stepped {S : Type 0} (t : System S ℕ) (nodes after : List (Found S)) (queue : List Waiting) (i : ℕ) (a : ℕ) (s : S) : Type 0 where
+  pub sound : AreNodes t after queue
   pub turn : IsTurn after i
   pub others : AreOpenBut t after i
   pub continues : Continues nodes after i
   pub listed : IsListed t after i a s
 
-module _ {S L : Type 0} (t : System S L) where
+module _ {S A : Type 0} (t : System S A) where
   -- a list that leads to a state, and one more action
-  pub run-push : (s : S) (actions : List L) (a : L) (middle end : S) → run t s actions ≡ Some middle → t.step middle a ≡ Some end → run t s (actions ++ a ∷ []) ≡ Some end
+  pub run-push : (s : S) (actions : List A) (a : A) (middle end : S) → run t s actions ≡ Some middle → t.step middle a ≡ Some end → run t s (actions ++ a ∷ []) ≡ Some end
   run-push s [] a middle end runs step =
       let same : s ≡ middle = same_Some s middle runs in
       ap (option_and_then (λ next. run t next [])) (ap (λ (x : S). t.step x a) same ∙ step)
@@ -34,13 +34,13 @@ module _ {S L : Type 0} (t : System S L) where
         | Some next ↦ λ rest. run-push next actions a middle end rest step
       ] runs
 
-  pub reachable-push : (s next : S) (cost : ℕ) (a : L) → IsReachableAt t s cost → t.step s a ≡ Some next → IsReachableAt t next (cost + t.cost a)
+  pub reachable-push : (s next : S) (cost : ℕ) (a : A) → IsReachableAt t s cost → t.step s a ≡ Some next → IsReachableAt t next (cost + t.cost a)
   reachable-push s next cost a (actions, runs, costs) step =
       (actions ++ a ∷ [], run-push t.initial actions a s next runs step, sum_by-append t.cost actions (a ∷ []) ∙ omega (arith, costs))
 
-module _ {S Action : Type 0} (nodes after : List (Node S Action)) (j : ℕ) (m : Node S Action) (updates : Updates nodes after j m) where
+module _ {S : Type 0} (nodes after : List (Found S)) (j : ℕ) (m : Found S) (updates : Updates nodes after j m) where
   -- a node after the update is the updated one, or was there before
-  pub at_cases : (k : ℕ) (n : Node S Action) → slice_get after k ≡ Some n → ((k ≡ j) × (m ≡ n)) ⊎ ((k ≢ j) × (slice_get nodes k ≡ Some n))
+  pub at_cases : (k : ℕ) (n : Found S) → slice_get after k ≡ Some n → ((k ≡ j) × (m ≡ n)) ⊎ ((k ≢ j) × (slice_get nodes k ≡ Some n))
   at_cases k n at =
       elim (cases_eq k j) [
         | inl e ↦ inl (e, same_Some m n (sym updates.here ∙ ap (slice_get after) (sym e) ∙ at))
@@ -48,7 +48,7 @@ module _ {S Action : Type 0} (nodes after : List (Node S Action)) (j : ℕ) (m :
       ]
 
   -- an expanded node stays as it is
-  pub stays : (k : ℕ) (n : Node S Action) → slice_get nodes k ≡ Some n → n.reached.is_expanded ≡ true → slice_get after k ≡ Some n
+  pub stays : (k : ℕ) (n : Found S) → slice_get nodes k ≡ Some n → n.node.is_expanded ≡ true → slice_get after k ≡ Some n
   stays k n at expanded =
       elim (cases_eq k j) [
         | inl e ↦ absurd (false≢true (sym (updates.waited n (ap (slice_get nodes) (sym e) ∙ at)) ∙ expanded))
@@ -65,15 +65,15 @@ module _ {S Action : Type 0} (nodes after : List (Node S Action)) (j : ℕ) (m :
       ]
 
   -- what holds of the updated node, and of each node before the update, holds of each node after it
-  each_after : (P : ℕ → Node S Action → Type 0) → P j m → ((k : ℕ) (n : Node S Action) → k ≢ j → slice_get nodes k ≡ Some n → P k n) → (k : ℕ) (n : Node S Action) → slice_get after k ≡ Some n → P k n
+  each_after : (P : ℕ → Found S → Type 0) → P j m → ((k : ℕ) (n : Found S) → k ≢ j → slice_get nodes k ≡ Some n → P k n) → (k : ℕ) (n : Found S) → slice_get after k ≡ Some n → P k n
   each_after P one others k n at =
       elim (at_cases k n at) [
         | inl is ↦ subst (λ i. P i n) (sym is.0) (subst (λ x. P j x) is.1 one)
         | inr was ↦ others k n was.0 was.1
       ]
 
-  module _ {L : Type 0} (t : System S L) (label : Action → L) where
-    leads_still : (n : Node S Action) (origin : Origin Action) → Leads t label nodes n origin → Leads t label after n origin
+  module _ (t : System S ℕ) where
+    leads_still : (n : Found S) (origin : Origin) → Leads t nodes n origin → Leads t after n origin
     leads_still n origin leads = record {
       parent = leads.parent;
       stands = stays origin.parent.0 leads.parent leads.stands leads.is_expanded;
@@ -83,50 +83,50 @@ module _ {S Action : Type 0} (nodes after : List (Node S Action)) (j : ℕ) (m :
       step = leads.step;
     }
 
-    pub open_still : (n : Node S Action) → IsOpen t nodes n → IsOpen t after n
-    open_still n is_open a next step = found_still next (n.reached.cost + t.cost a) (is_open a next step)
+    pub open_still : (n : Found S) → IsOpen t nodes n → IsOpen t after n
+    open_still n is_open a next step = found_still next (n.node.cost + t.cost a) (is_open a next step)
 
     pub open_but_still : (i : ℕ) → AreOpenBut t nodes i → AreOpenBut t after i
     open_but_still i all k n at expanded other =
         elim (at_cases k n at) [
-          | inl is ↦ absurd (false≢true (sym updates.waits ∙ ap (λ (x : Node S Action). x.reached.is_expanded) is.1 ∙ expanded))
+          | inl is ↦ absurd (false≢true (sym updates.waits ∙ ap (λ (x : Found S). x.node.is_expanded) is.1 ∙ expanded))
           | inr was ↦ open_still n (all k n was.1 expanded other)
         ]
 
     -- the node's turn is not over
-    pub turn_still : (i : ℕ) (turn : IsTurn nodes i) → turn.node.reached.cost ≤ m.reached.cost → IsTurn after i
+    pub turn_still : (i : ℕ) (turn : IsTurn nodes i) → turn.found.node.cost ≤ m.node.cost → IsTurn after i
     turn_still i turn dearer = record {
-      node = turn.node;
-      stands = stays i turn.node turn.stands turn.is_expanded;
+      found = turn.found;
+      stands = stays i turn.found turn.stands turn.is_expanded;
       is_expanded = turn.is_expanded;
       cheap = rw updates.count turn.cheap;
       shallow = rw updates.count turn.shallow;
-      dearest_expanded = each_after (λ k n. n.reached.is_expanded ≡ true → n.reached.cost ≤ turn.node.reached.cost)
+      dearest_expanded = each_after (λ k n. n.node.is_expanded ≡ true → n.node.cost ≤ turn.found.node.cost)
           (λ expanded. absurd (false≢true (sym updates.waits ∙ expanded)))
           (λ k n other at expanded. turn.dearest_expanded k n at expanded);
-      cheapest = each_after (λ k n. n.reached.is_expanded ≡ false → turn.node.reached.cost ≤ n.reached.cost)
+      cheapest = each_after (λ k n. n.node.is_expanded ≡ false → turn.found.node.cost ≤ n.node.cost)
           (λ waits. dearer)
           (λ k n other at waits. turn.cheapest k n at waits);
     }
 
     -- a state that an action leads to from the node whose turn it is joins the others, or is now reached at a lower cost
-    pub nodes_updated : (i : ℕ) (turn : IsTurn nodes i) (origin : Origin Action) (queue queue' : List Waiting) → AreNodes t label nodes queue
-        → m.origin ≡ Some origin → origin.parent.0 ≡ i → origin.depth ≡ depth_of turn.node.origin + 1
-        → m.reached.cost ≡ turn.node.reached.cost + t.cost (label origin.action) → t.cost (label origin.action) ≤ dearest
-        → t.step turn.node.state (label origin.action) ≡ Some m.state
-        → ((w : Waiting) → Contains queue w → Contains queue' w) → Contains queue' (entry m.reached.cost j) → All (λ w. place_of w < length after) queue'
-        → AreNodes t label after queue'
+    pub nodes_updated : (i : ℕ) (turn : IsTurn nodes i) (origin : Origin) (queue queue' : List Waiting) → AreNodes t nodes queue
+        → m.node.origin ≡ Some origin → origin.parent.0 ≡ i → origin.depth ≡ depth_of turn.found.node.origin + 1
+        → m.node.cost ≡ turn.found.node.cost + t.cost origin.action → t.cost origin.action ≤ dearest
+        → t.step turn.found.state origin.action ≡ Some m.state
+        → ((w : Waiting) → Contains queue w → Contains queue' w) → Contains queue' (entry m.node.cost j) → All (λ w. place_of w < length after) queue'
+        → AreNodes t after queue'
     nodes_updated i turn origin queue queue' old is_origin parent depth cost affordable step keeps queued in_range =
-        let dearer : turn.node.reached.cost ≤ m.reached.cost = omega (arith, cost) in
-        let leads : Leads t label after m origin = record {
-          parent = turn.node;
-          stands = ap (slice_get after) parent ∙ stays i turn.node turn.stands turn.is_expanded;
+        let dearer : turn.found.node.cost ≤ m.node.cost = omega (arith, cost) in
+        let leads : Leads t after m origin = record {
+          parent = turn.found;
+          stands = ap (slice_get after) parent ∙ stays i turn.found turn.stands turn.is_expanded;
           is_expanded = turn.is_expanded;
           depth = depth;
           cost = cost;
           step = step;
         } in
-        let deep : depth_of m.origin ≡ origin.depth = ap depth_of is_origin in
+        let deep : depth_of m.node.origin ≡ origin.depth = ap depth_of is_origin in
         record {
           root =
               elim (cases_eq 0 j) [
@@ -135,10 +135,10 @@ module _ {S Action : Type 0} (nodes after : List (Node S Action)) (j : ℕ) (m :
                     (m, ap (slice_get after) e ∙ updates.here, sym (updates.same_state old.root.0 was) ∙ old.root.2, omega (arith, updates.cheaper old.root.0 was, old.root.3))
                 | inr other ↦ (old.root.0, updates.others 0 other ∙ old.root.1, old.root.2, old.root.3)
               ];
-          only_root = each_after (λ k n. n.origin ≡ None → k ≡ 0) (λ none. absurd (cc)) (λ k n other at. old.only_root k n at);
+          only_root = each_after (λ k n. n.node.origin ≡ None → k ≡ 0) (λ none. absurd (cc)) (λ k n other at. old.only_root k n at);
           linked = λ k n o.
-              each_after (λ k n. n.origin ≡ Some o → Leads t label after n o)
-              (λ is. subst (λ (p : Origin Action). Leads t label after m p) (same_Some origin o (sym is_origin ∙ is)) leads)
+              each_after (λ k n. n.node.origin ≡ Some o → Leads t after n o)
+              (λ is. subst (λ (p : Origin). Leads t after m p) (same_Some origin o (sym is_origin ∙ is)) leads)
               (λ k n other at is. leads_still n o (old.linked k n o at is)) k n;
           distinct = λ p k x n at_p at_k same.
               each_after (λ p x. x.state ≡ n.state → p ≡ k)
@@ -146,56 +146,56 @@ module _ {S Action : Type 0} (nodes after : List (Node S Action)) (j : ℕ) (m :
               (λ p x other at.
               each_after (λ k n. x.state ≡ n.state → p ≡ k) (λ same. updates.only p x at same) (λ k n _ at' same. old.distinct p k x n at at' same) k n at_k)
               p x at_p same;
-          cheap = rw updates.count (each_after (λ k n. n.reached.cost ≤ expanded_count nodes * dearest) (omega (arith, cost, turn.cheap)) (λ k n other at. old.cheap k n at));
-          shallow = rw updates.count (each_after (λ k n. depth_of n.origin ≤ expanded_count nodes) (omega (arith, deep, depth, turn.shallow)) (λ k n other at. old.shallow k n at));
-          reachable = each_after (λ k n. IsReachableAt t n.state n.reached.cost)
-              (subst (λ c. IsReachableAt t m.state c) (sym cost) (reachable-push t turn.node.state m.state turn.node.reached.cost (label origin.action) (old.reachable i turn.node turn.stands) step))
+          cheap = rw updates.count (each_after (λ k n. n.node.cost ≤ expanded_count nodes * dearest) (omega (arith, cost, turn.cheap)) (λ k n other at. old.cheap k n at));
+          shallow = rw updates.count (each_after (λ k n. depth_of n.node.origin ≤ expanded_count nodes) (omega (arith, deep, depth, turn.shallow)) (λ k n other at. old.shallow k n at));
+          reachable = each_after (λ k n. IsReachableAt t n.state n.node.cost)
+              (subst (λ c. IsReachableAt t m.state c) (sym cost) (reachable-push t turn.found.state m.state turn.found.node.cost origin.action (old.reachable i turn.found turn.stands) step))
               (λ k n other at. old.reachable k n at);
-          no_goal = each_after (λ k n. n.reached.is_expanded ≡ true → t.meets_goal n.state ≡ false)
+          no_goal = each_after (λ k n. n.node.is_expanded ≡ true → t.meets_goal n.state ≡ false)
               (λ expanded. absurd (false≢true (sym updates.waits ∙ expanded)))
               (λ k n other at. old.no_goal k n at);
-          no_dearer = each_after (λ k n. n.reached.is_expanded ≡ true → CostsAtLeast t n.reached.cost)
+          no_dearer = each_after (λ k n. n.node.is_expanded ≡ true → CostsAtLeast t n.node.cost)
               (λ expanded. absurd (false≢true (sym updates.waits ∙ expanded)))
               (λ k n other at. old.no_dearer k n at);
           ordered = λ p k x n at_p at_k expanded waits.
-              each_after (λ p x. x.reached.is_expanded ≡ true → x.reached.cost ≤ n.reached.cost)
+              each_after (λ p x. x.node.is_expanded ≡ true → x.node.cost ≤ n.node.cost)
               (λ expanded. absurd (false≢true (sym updates.waits ∙ expanded)))
               (λ p x other at expanded.
-              each_after (λ k n. n.reached.is_expanded ≡ false → x.reached.cost ≤ n.reached.cost)
+              each_after (λ k n. n.node.is_expanded ≡ false → x.node.cost ≤ n.node.cost)
               (λ waits. omega (arith, dearer, turn.dearest_expanded p x at expanded))
               (λ k n _ at' waits. old.ordered p k x n at at' expanded waits) k n at_k waits)
               p x at_p expanded;
-          queued = each_after (λ k n. n.reached.is_expanded ≡ false → Contains queue' (entry n.reached.cost k))
+          queued = each_after (λ k n. n.node.is_expanded ≡ false → Contains queue' (entry n.node.cost k))
               (λ _. queued)
-              (λ k n other at waits. keeps (entry n.reached.cost k) (old.queued k n at waits));
+              (λ k n other at waits. keeps (entry n.node.cost k) (old.queued k n at waits));
           in_range = in_range;
         }
 
     -- all that a step keeps
-    pub stepped : (i : ℕ) (turn : IsTurn nodes i) (origin : Origin Action) (queue queue' : List Waiting) → AreNodes t label nodes queue → AreOpenBut t nodes i
-        → m.origin ≡ Some origin → origin.parent.0 ≡ i → origin.depth ≡ depth_of turn.node.origin + 1
-        → m.reached.cost ≡ turn.node.reached.cost + t.cost (label origin.action) → t.cost (label origin.action) ≤ dearest
-        → t.step turn.node.state (label origin.action) ≡ Some m.state
-        → IsPermutation (entry m.reached.cost j ∷ queue) queue' → j < length after
-        → Stepped t label nodes after queue' i (label origin.action) m.state
+    pub stepped : (i : ℕ) (turn : IsTurn nodes i) (origin : Origin) (queue queue' : List Waiting) → AreNodes t nodes queue → AreOpenBut t nodes i
+        → m.node.origin ≡ Some origin → origin.parent.0 ≡ i → origin.depth ≡ depth_of turn.found.node.origin + 1
+        → m.node.cost ≡ turn.found.node.cost + t.cost origin.action → t.cost origin.action ≤ dearest
+        → t.step turn.found.state origin.action ≡ Some m.state
+        → IsPermutation (entry m.node.cost j ∷ queue) queue' → j < length after
+        → Stepped t nodes after queue' i origin.action m.state
     stepped i turn origin queue queue' old others is_origin parent depth cost affordable step joins within =
         let longer : length nodes ≤ length after = updates.longer in
         let all_in : All (λ w. place_of w < length after) queue = All-weaker (λ w. place_of w < length nodes) (λ w. place_of w < length after) (λ w lt. omega (arith, lt, longer)) queue old.in_range in
         record {
           sound = nodes_updated i turn origin queue queue' old is_origin parent depth cost affordable step
-              (λ w at. Contains-permutation (entry m.reached.cost j ∷ queue) queue' w joins (Contains-there (entry m.reached.cost j) queue w at))
-              (Contains-permutation (entry m.reached.cost j ∷ queue) queue' (entry m.reached.cost j) joins (Contains-here (entry m.reached.cost j) queue))
-              (All-permutation (λ w. place_of w < length after) (entry m.reached.cost j ∷ queue) queue' joins
-              (All-cons (λ w. place_of w < length after) (entry m.reached.cost j) queue within all_in));
+              (λ w at. Contains-permutation (entry m.node.cost j ∷ queue) queue' w joins (Contains-there (entry m.node.cost j) queue w at))
+              (Contains-permutation (entry m.node.cost j ∷ queue) queue' (entry m.node.cost j) joins (Contains-here (entry m.node.cost j) queue))
+              (All-permutation (λ w. place_of w < length after) (entry m.node.cost j ∷ queue) queue' joins
+              (All-cons (λ w. place_of w < length after) (entry m.node.cost j) queue within all_in));
           turn = turn_still i turn (omega (arith, cost));
           others = open_but_still i others;
           continues = record {
             found = found_still;
-            stays = λ n at. stays i n at (sym (ap (λ (x : Node S Action). x.reached.is_expanded) (same_Some turn.node n (sym turn.stands ∙ at))) ∙ turn.is_expanded);
+            stays = λ n at. stays i n at (sym (ap (λ (x : Found S). x.node.is_expanded) (same_Some turn.found n (sym turn.stands ∙ at))) ∙ turn.is_expanded);
             count = updates.count;
           };
           listed = λ n at.
-              let now : slice_get after i ≡ Some turn.node = stays i turn.node turn.stands turn.is_expanded in
-              let same : turn.node ≡ n = same_Some turn.node n (sym now ∙ at) in
-              (j, m, updates.here, refl, omega (arith, cost, ap (λ (x : Node S Action). x.reached.cost) same));
+              let now : slice_get after i ≡ Some turn.found = stays i turn.found turn.stands turn.is_expanded in
+              let same : turn.found ≡ n = same_Some turn.found n (sym now ∙ at) in
+              (j, m, updates.here, refl, omega (arith, cost, ap (λ (x : Found S). x.node.cost) same));
         }

@@ -1,4 +1,4 @@
+pub mod Transitions
 pub mod Outcome
 pub mod Nodes
 pub mod Progress
-pub mod Store

@@ -4,9 +4,11 @@ use Rattle.std.specs.declared.cmp.Ordering.{Ordering}
 use Rattle.std.specs.Ordering.{nat_cmp, ordering_then}
 use Rattle.std.specs.BinaryHeap.{IsHeap, heap_items}
 use Rattle.model.specs.Runs.{System}
-use Rattle.search.specs.declared.progress.Reached.{Reached}
+use Rattle.search.specs.declared.nodes.Node.{Node}
+use Rattle.packed_state.specs.Packed.{bits_of}
+use Rattle.search.specs.declared.progress.Buffers.{Buffers}
 use Rattle.search.specs.declared.progress.Progress.{Progress}
-use Rattle.search.specs.Nodes.{Waiting, cost_of, place_of, entry, IsCurrent, Node, nodes_of, expanded_count, AreNodes, IsFoundWithin, AreOpen, AreOpenBut, IsTurn}
+use Rattle.search.specs.Nodes.{Waiting, cost_of, place_of, entry, IsCurrent, Found, found_of, expanded_count, AreNodes, IsFoundWithin, AreOpen, AreOpenBut, IsTurn}
 
 -- the queue's order: the least cost is on top, and then the least place
 abbrev pub by_cost : Waiting → Waiting → Ordering
@@ -14,7 +16,7 @@ by_cost x y = ordering_then (nat_cmp y.0.0 x.0.0) (nat_cmp y.0.1.0 x.0.1.0)
 
 -- The place has the least cost of those that wait, and of equal cost it comes first; it leaves the queue, and the others
 -- stay in it.
-pub record TakesNext (old new : List Waiting) (all : List Reached) (place : ℕ) : Type 0 where
+pub record TakesNext (old new : List Waiting) (all : List Node) (place : ℕ) : Type 0 where
   pub next : Waiting
   pub stands : place_of next ≡ place
   pub current : IsCurrent all next
@@ -28,29 +30,27 @@ pub record Joins (old new : List Waiting) (w : Waiting) : Type 0 where
   pub heap : IsHeap by_cost old → IsHeap by_cost new
 
 -- the found states of a search
-abbrev pub nodes_in : {S Action Store : Type 0} → (Store → List S) → Progress Action Store → List (Node S Action)
-nodes_in states_of p = nodes_of (states_of p.store) p.reached.items p.origins.items
+abbrev pub nodes_in : {S Store : Type 0} → (Store → List S) → Progress Store → List (Found S)
+nodes_in states_of p = found_of (states_of p.store) p.nodes.items
 
-module _ {S L Action Store : Type 0} (t : System S L) (label : Action → L) (states_of : Store → List S) (p : Progress Action Store) where
+module _ {S Store : Type 0} (t : System S ℕ) (states_of : Store → List S) (p : Progress Store) where
   -- between two turns
   pub record IsSearch : Type 0 where
-    pub one_reached : length p.reached.items ≡ length (states_of p.store)
-    pub one_origin : length p.origins.items ≡ length (states_of p.store)
-    pub nodes : AreNodes t label (nodes_in states_of p) (heap_items p.queue)
+    pub one_each : length p.nodes.items ≡ length (states_of p.store)
+    pub nodes : AreNodes t (nodes_in states_of p) (heap_items p.queue)
     pub heap : IsHeap by_cost (heap_items p.queue)
 
   -- the turn of the state at this place came: it waits, and is no more in the queue
   pub record IsAtTurn (i : ℕ) : Type 0 where
-    pub one_reached : length p.reached.items ≡ length (states_of p.store)
-    pub one_origin : length p.origins.items ≡ length (states_of p.store)
+    pub one_each : length p.nodes.items ≡ length (states_of p.store)
     pub queue : List Waiting
-    pub nodes : AreNodes t label (nodes_in states_of p) queue
+    pub nodes : AreNodes t (nodes_in states_of p) queue
     pub heap : IsHeap by_cost (heap_items p.queue)
-    pub node : Node S Action
-    pub stands : slice_get (nodes_in states_of p) i ≡ Some node
-    pub waits : node.reached.is_expanded ≡ false
-    pub cheapest : (k : ℕ) (n : Node S Action) → slice_get (nodes_in states_of p) k ≡ Some n → n.reached.is_expanded ≡ false → node.reached.cost ≤ n.reached.cost
-    pub rest : (k : ℕ) (n : Node S Action) → slice_get (nodes_in states_of p) k ≡ Some n → n.reached.is_expanded ≡ false → k ≢ i → Contains (heap_items p.queue) (entry n.reached.cost k)
+    pub found : Found S
+    pub stands : slice_get (nodes_in states_of p) i ≡ Some found
+    pub waits : found.node.is_expanded ≡ false
+    pub cheapest : (k : ℕ) (n : Found S) → slice_get (nodes_in states_of p) k ≡ Some n → n.node.is_expanded ≡ false → found.node.cost ≤ n.node.cost
+    pub rest : (k : ℕ) (n : Found S) → slice_get (nodes_in states_of p) k ≡ Some n → n.node.is_expanded ≡ false → k ≢ i → Contains (heap_items p.queue) (entry n.node.cost k)
     pub in_range : All (λ w. place_of w < length (nodes_in states_of p)) (heap_items p.queue)
 
   -- the state at this place is being expanded
@@ -60,25 +60,30 @@ module _ {S L Action Store : Type 0} (t : System S L) (label : Action → L) (st
     pub others_open : AreOpenBut t (nodes_in states_of p) i
 
 -- what was found stays found, at no higher cost, and the state that is being expanded stays as it is
-pub record Continues {S Action : Type 0} (old new : List (Node S Action)) (i : ℕ) : Type 0 where
+pub record Continues {S : Type 0} (old new : List (Found S)) (i : ℕ) : Type 0 where
   pub found : (s : S) (cost : ℕ) → IsFoundWithin old s cost → IsFoundWithin new s cost
-  pub stays : (n : Node S Action) → slice_get old i ≡ Some n → slice_get new i ≡ Some n
+  pub stays : (n : Found S) → slice_get old i ≡ Some n → slice_get new i ≡ Some n
   pub count : expanded_count new ≡ expanded_count old
 
 -- from the node at this place the action leads to a state that is found, at no more than what that costs
-abbrev pub IsListed : {S L Action : Type 0} → System S L → List (Node S Action) → ℕ → L → S → Type 0
-IsListed {S} {L} {Action} t nodes i a s = (n : Node S Action) → slice_get nodes i ≡ Some n → IsFoundWithin nodes s (n.reached.cost + t.cost a)
+abbrev pub IsListed : {S : Type 0} → System S ℕ → List (Found S) → ℕ → ℕ → S → Type 0
+IsListed {S} t nodes i a s = (n : Found S) → slice_get nodes i ≡ Some n → IsFoundWithin nodes s (n.node.cost + t.cost a)
 
 -- The action's successor is listed while the state at this place is being expanded.
-pub record Reaches {S L Action Store : Type 0} (t : System S L) (label : Action → L) (states_of : Store → List S) (old new : Progress Action Store) (i max_states : ℕ) (a : L) (s : S) : Type 0 where
-  pub expanding : IsExpanding t label states_of new i
+pub record Reaches {S Store : Type 0} (t : System S ℕ) (states_of : Store → List S) (old new : Progress Store) (i max_states : ℕ) (a : ℕ) (s : S) : Type 0 where
+  pub expanding : IsExpanding t states_of new i
   pub within : length (states_of new.store) ≤ max_states
   pub continues : Continues (nodes_in states_of old) (nodes_in states_of new) i
   pub listed : IsListed t (nodes_in states_of new) i a s
 
 -- The states' turn is over.
-pub record Expands {S L Action Store : Type 0} (t : System S L) (label : Action → L) (states_of : Store → List S) (old new : Progress Action Store) (max_states : ℕ) : Type 0 where
-  pub search : IsSearch t label states_of new
+pub record Expands {S Store : Type 0} (t : System S ℕ) (states_of : Store → List S) (old new : Progress Store) (max_states : ℕ) : Type 0 where
+  pub search : IsSearch t states_of new
   pub are_open : AreOpen t (nodes_in states_of new)
   pub within : length (states_of new.store) ≤ max_states
   pub count : expanded_count (nodes_in states_of new) ≡ expanded_count (nodes_in states_of old) + 1
+
+-- the buffers hold states of this width
+pub record AreWide (width : ℕ) (buffers : Buffers) : Type 0 where
+  pub state : length (bits_of buffers.state) ≡ width
+  pub next : length (bits_of buffers.next) ≡ width

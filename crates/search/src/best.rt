@@ -1,11 +1,12 @@
 //! Search for a cheapest plan of a transition system, by expanding states in the order of their cost.
-ghost use Rattle.std.specs.Prelude.{◌≡◌, ◌≤◌, [], map, IfOk};
+ghost use Rattle.std.specs.Prelude.{◌≡◌, ◌≤◌, [], IfOk};
 ghost use Rattle.search.specs.Outcome.{IsTrueOutcome};
 
-use crate::progress::{FoundStates, Progress};
-use crate::store::StateStore;
+use crate::nodes::FoundStates;
+use crate::progress::{Buffers, Progress};
 use crate::transitions::TransitionSystem;
 use faults::NoMemory;
+use packed_state::StateStore;
 use std::alloc::Global;
 
 /// The most states that a search may be allowed to list.
@@ -13,11 +14,11 @@ pub const MAX_STATES: u32 = 16_777_216;
 
 /// What a search finds out.
 #[derive(Drop)]
-pub enum Outcome<A, S> {
+pub enum Outcome<S> {
     /// A cheapest plan.
     Found {
         /// Its actions, in order.
-        steps: Vec<A>,
+        steps: Vec<u32>,
         /// What they cost together.
         cost: u64,
         /// The states that were found.
@@ -39,9 +40,10 @@ pub enum Outcome<A, S> {
 /// comes.
 ///
 /// What differs from these: the states stand in a store, in the order in which they were found, and are named by
-/// their places there. Where a cheaper way to a waiting state is found, the old entry stays in the queue beside the
-/// new one, and is passed over when it comes up (lazy deletion). At most `max_states` states are listed: where one
-/// more would have to be, the answer is `States`.
+/// their places there; actions are the system's numbers. Where a cheaper way to a waiting state is found, the old entry
+/// stays in the queue beside the new one, and is passed over when it comes up (lazy deletion). At most `max_states`
+/// states are listed: where one more would have to be, the answer is `States`. Each turn writes into the same buffers,
+/// so that a state takes no memory but its place in the store, among the nodes and in the queue.
 ///
 /// The clause promises what costs decide. A plan that is found is a cheapest one. `States` is told only where more
 /// states than the limit are next to one that is no dearer than any plan (`PrecedesPlans`): where there are no more of
@@ -52,27 +54,31 @@ pub enum Outcome<A, S> {
 /// shown by tests alone.
 ///
 /// ```text
+/// let store = PooledStore::new(alloc, system.width())?;
 /// match best_first(alloc, &system, store, 1_000_000)? {
 ///     Outcome::Found { steps, cost, states } => ..,
 ///     Outcome::Exhausted { states } => ..,
 ///     Outcome::States => ..,
 /// }
 /// ```
-pub fn best_first<T: TransitionSystem, S: StateStore<T>>(
+pub fn best_first<T: TransitionSystem, S: StateStore>(
     alloc: Global,
     system: &T,
     store: S,
     max_states: u32,
-) -> Result<Outcome<T::Action, S>, NoMemory>
+) -> Result<Outcome<S>, NoMemory>
     requires empty { S.states store ≡ [] }
+    requires width { S.width_of store ≡ T.width_of system.now }
     requires some { 1 ≤ max_states }
     requires limit { max_states ≤ MAX_STATES }
-    ensures { IfOk result (IsTrueOutcome (T.means system.now) T.label (λ s. map T.view (S.states s)) max_states) }
+    ensures { IfOk result (IsTrueOutcome (T.means system.now) S.states max_states) }
 {
+    let mut buffers = Buffers::new(alloc, system.width())?;
     let mut progress = Progress::start(alloc, system, store)?;
     while let Some(id) = progress.next_waiting() {
-        if system.meets_goal(progress.store.get(id)) {
-            let cost = progress.reached[id.0].cost;
+        progress.store.get(id.0, &mut buffers.state);
+        if system.meets_goal(&buffers.state) {
+            let cost = progress.nodes[id.0 as usize].cost;
             let (steps, states) = progress.into_plan(alloc, id)?;
             return Ok(Outcome::Found {
                 steps,
@@ -80,7 +86,7 @@ pub fn best_first<T: TransitionSystem, S: StateStore<T>>(
                 states,
             });
         }
-        if !progress.expand(alloc, system, id, max_states)? {
+        if !progress.expand(system, &mut buffers, id, max_states)? {
             return Ok(Outcome::States);
         }
     }

@@ -2,11 +2,10 @@
 #![tactic(auto)]
 
 mod best;
+mod nodes;
 mod progress;
-mod store;
 mod transitions;
 
 pub use best::{MAX_STATES, Outcome, best_first};
-pub use progress::{FoundStates, Reached};
-pub use store::{StateId, StateStore};
-pub use transitions::{Successor, TransitionSystem};
+pub use nodes::{FoundStates, Node, StateId};
+pub use transitions::TransitionSystem;

@@ -1,231 +1,195 @@
 //! How far a search has come: the states found so far, and which of them wait to be expanded.
-ghost use Rattle.std.specs.Prelude.{◌≡◌, ◌≢◌, ℕ, ◌+◌, ◌<◌, ◌≤◌, true, false, List, [], ◌∷◌, ◌++◌, length, map, slice_get, slice_set, Contains, All, MatchBool, MatchOption, IfOk, IfNone, IfSome, OnOk, vec_len};
+ghost use Rattle.std.specs.Prelude.{◌≡◌, ◌≢◌, ℕ, ◌+◌, ◌<◌, ◌≤◌, true, false, List, [], ◌∷◌, ◌++◌, length, slice_get, slice_set, Contains, All, MatchBool, MatchOption, IfOk, IfNone, IfSome, OnOk, Some, None};
 ghost use Rattle.std.specs.BinaryHeap.{IsHeap, heap_items};
+ghost use Rattle.packed_state.specs.Packed.{bits_of};
+ghost use Rattle.packed_state.specs.Store.{IsPlaced};
 ghost use Rattle.search.specs.Outcome.{AreMoreReachable};
-ghost use Rattle.search.specs.Store.{IsPlaced};
-ghost use Rattle.search.specs.Nodes.{Waiting, place_of, entry, IsCurrent, depth_of, expanded_count, AreOpen, AreDescending, IsPath};
-ghost use Rattle.search.specs.Progress.{by_cost, TakesNext, Joins, nodes_in, IsSearch, IsAtTurn, IsExpanding, Reaches, Expands};
+ghost use Rattle.search.specs.Nodes.{Waiting, place_of, entry, IsCurrent, expanded_count, AreOpen, AreDescending, IsPath};
+ghost use Rattle.search.specs.Progress.{by_cost, TakesNext, Joins, nodes_in, IsSearch, IsAtTurn, IsExpanding, Reaches, Expands, AreWide};
 
 use crate::best::MAX_STATES;
-use crate::store::{StateId, StateStore};
-use crate::transitions::{Successor, TransitionSystem};
+use crate::nodes::{FoundStates, Node, Origin, StateId, steps_to};
+use crate::transitions::TransitionSystem;
 use faults::NoMemory;
+use packed_state::{Packed, StateStore};
 use std::alloc::Global;
 use std::cmp::Reverse;
 use std::collections::BinaryHeap;
-
-/// A found state: at what cost it was reached, and whether it was expanded.
-#[derive(Clone, Copy, Debug, PartialEq, Eq)]
-pub struct Reached {
-    /// What some list of actions that leads to the state costs.
-    pub cost: u64,
-    /// Whether all its successors are among the found states.
-    pub is_expanded: bool,
-}
-
-/// The states that a search found.
-#[derive(Drop)]
-pub struct FoundStates<S> {
-    /// The states.
-    pub store: S,
-    /// For each state of the store, in the same order, how it was reached.
-    pub reached: Vec<Reached>,
-}
-
-/// How a state was reached at its cost: by an action from an expanded state.
-#[derive(Drop)]
-pub(crate) struct Origin<A> {
-    pub(crate) parent: StateId,
-    pub(crate) action: A,
-    /// How many actions lead from the initial state to this one.
-    pub(crate) depth: u32,
-}
 
 /// A waiting state at its cost: the cheapest, and among these the one found first, is the greatest.
 pub(crate) type QueueEntry = Reverse<(u64, StateId)>;
 
 /// How far a search has come.
 #[derive(Drop)]
-pub(crate) struct Progress<A, S> {
+pub(crate) struct Progress<S> {
     pub(crate) store: S,
-    pub(crate) reached: Vec<Reached>,
-    /// For each found state but the initial one, how it was reached.
-    pub(crate) origins: Vec<Option<Origin<A>>>,
+    pub(crate) nodes: Vec<Node>,
     /// Each waiting state at its cost, beside entries that are stale: a cheaper way was found, or it was expanded.
     pub(crate) queue: BinaryHeap<QueueEntry>,
 }
 
+/// Buffers that each turn uses again, so that a state takes no memory but its place in the lists.
+#[derive(Drop)]
+pub(crate) struct Buffers {
+    /// The state whose turn it is.
+    pub(crate) state: Packed,
+    /// One of its successors.
+    pub(crate) next: Packed,
+    /// The actions that are applicable in it.
+    pub(crate) applicable: Vec<u32>,
+}
+
+impl Buffers {
+    /// Buffers for states of this width.
+    pub(crate) fn new(alloc: Global, width: u32) -> Result<Buffers, NoMemory>
+        ensures { IfOk result (AreWide width) }
+    {
+        Ok(Buffers {
+            state: Packed::empty(alloc, width)?,
+            next: Packed::empty(alloc, width)?,
+            applicable: Vec::new(alloc),
+        })
+    }
+}
+
 /// The state's place in the store, and whether it is new there; `None` if it would be one too many.
-fn place_of_state<T: TransitionSystem, S: StateStore<T>>(
+fn place_of_state<S: StateStore>(
     store: &mut S,
-    state: T::State,
+    state: &Packed,
     max_states: u32,
 ) -> Result<Option<(StateId, bool)>, NoMemory>
-    requires { length (map T.view (S.states store.old)) ≤ max_states }
-    ensures within { IfOk result (λ _. length (map T.view (S.states store.new)) ≤ max_states) }
+    requires width { length (bits_of state.now) ≡ S.width_of store.old }
+    requires within { length (S.states store.old) ≤ max_states }
+    requires limit { max_states ≤ MAX_STATES }
+    ensures width { S.width_of store.new ≡ S.width_of store.old }
+    ensures within { IfOk result (λ _. length (S.states store.new) ≤ max_states) }
     ensures placed { IfOk result (λ r. MatchOption r
-        ((¬ Contains (map T.view (S.states store.old)) (T.view state))
-        × (length (map T.view (S.states store.old)) ≡ max_states))
-        (λ p. IsPlaced (map T.view (S.states store.old)) (map T.view (S.states store.new)) (T.view state) p.0.0 p.1)) }
+        ((¬ Contains (S.states store.old) (bits_of state.now)) × (length (S.states store.old) ≡ max_states))
+        (λ p. IsPlaced (S.states store.old) (S.states store.new) (bits_of state.now) p.0.0 p.1)) }
 {
     if store.len() < max_states as usize {
-        return Ok(Some(store.insert_if_new(state)?));
+        let (place, is_new) = store.insert_if_new(state)?;
+        return Ok(Some((StateId(place), is_new)));
     }
-    match store.find(&state) {
-        Some(id) => Ok(Some((id, false))),
+    match store.find(state) {
+        Some(place) => Ok(Some((StateId(place), false))),
         None => Ok(None),
     }
 }
 
-/// The actions that lead from the initial state to the goal state.
-fn steps_to<A: Drop>(
-    alloc: Global,
-    mut origins: Vec<Option<Origin<A>>>,
-    goal: StateId,
-) -> Result<Vec<A>, NoMemory>
-    requires descending { AreDescending origins.items }
-    requires found { goal.0 < length origins.items }
-    ensures { IfOk result (λ steps. IsPath origins.items goal.0 steps.items) }
-{
-    let mut steps = Vec::new(alloc);
-    let mut at = goal;
-    while let Some(origin) = origins[at.0].take() {
-        steps.push(origin.action)?;
-        at = origin.parent;
-    }
-    steps.reverse();
-    Ok(steps)
-}
-
-impl<A: Drop, S: Drop> Progress<A, S> {
+impl<S: StateStore> Progress<S> {
     /// The initial state alone is found, and waits.
-    pub(crate) fn start<T: TransitionSystem<Action = A>>(
+    pub(crate) fn start<T: TransitionSystem>(
         alloc: Global,
         system: &T,
         mut store: S,
-    ) -> Result<Progress<A, S>, NoMemory>
-    where
-        S: StateStore<T>,
-        requires { S.states store ≡ [] }
-        ensures search { IfOk result (λ p. IsSearch (T.means system.now) T.label (λ s. map T.view (S.states s)) p) }
-        ensures open { IfOk result (λ p. AreOpen (T.means system.now) (nodes_in (λ s. map T.view (S.states s)) p)) }
-        ensures one { IfOk result (λ p. length (map T.view (S.states p.store)) ≡ 1) }
+    ) -> Result<Progress<S>, NoMemory>
+        requires empty { S.states store ≡ [] }
+        requires width { S.width_of store ≡ T.width_of system.now }
+        ensures search { IfOk result (λ p. IsSearch (T.means system.now) S.states p) }
+        ensures open { IfOk result (λ p. AreOpen (T.means system.now) (nodes_in S.states p)) }
+        ensures one { IfOk result (λ p. length (S.states p.store) ≡ 1) }
+        ensures width { IfOk result (λ p. S.width_of p.store ≡ T.width_of system.now) }
     {
-        let (id, _) = store.insert_if_new(system.initial(alloc)?)?;
+        let (place, _) = store.insert_if_new(&system.initial(alloc)?)?;
         let mut progress = Progress {
             store,
-            reached: Vec::new(alloc),
-            origins: Vec::new(alloc),
+            nodes: Vec::new(alloc),
             queue: BinaryHeap::new(alloc),
         };
-        progress.add(id, 0, None)?;
+        progress.add(StateId(place), 0, None)?;
         Ok(progress)
     }
 
     /// The waiting state of the least cost and, among these, the one found first. It leaves the queue.
     pub(crate) fn next_waiting(&mut self) -> Option<StateId>
         requires heap { IsHeap by_cost (heap_items self.old.queue) }
-        requires in_range { All (λ w. place_of w < length self.old.reached.items) (heap_items self.old.queue) }
+        requires in_range { All (λ w. place_of w < length self.old.nodes.items) (heap_items self.old.queue) }
         ensures store { self.new.store ≡ self.old.store }
-        ensures reached { self.new.reached.items ≡ self.old.reached.items }
-        ensures origins { self.new.origins.items ≡ self.old.origins.items }
+        ensures nodes { self.new.nodes.items ≡ self.old.nodes.items }
         ensures heap { IsHeap by_cost (heap_items self.new.queue) }
-        ensures in_range { All (λ w. place_of w < length self.old.reached.items) (heap_items self.new.queue) }
+        ensures in_range { All (λ w. place_of w < length self.old.nodes.items) (heap_items self.new.queue) }
         ensures none { IfNone result ((w : Waiting) →
-            Contains (heap_items self.old.queue) w → ¬ IsCurrent self.old.reached.items w) }
+            Contains (heap_items self.old.queue) w → ¬ IsCurrent self.old.nodes.items w) }
         ensures some { IfSome result
-            (λ id. TakesNext (heap_items self.old.queue) (heap_items self.new.queue) self.old.reached.items id.0) }
+            (λ id. TakesNext (heap_items self.old.queue) (heap_items self.new.queue) self.old.nodes.items id.0) }
     {
         while let Some(Reverse((cost, id))) = self.queue.pop() {
-            let reached = self.reached[id.0];
-            if !reached.is_expanded && reached.cost == cost {
+            let node = self.nodes[id.0 as usize];
+            if !node.is_expanded && node.cost == cost {
                 return Some(id);
             }
         }
         None
     }
 
-    /// How many actions lead from the initial state to this one.
-    fn depth(&self, id: StateId) -> u32
-        requires { id.0 < length self.now.origins.items }
-        ensures { (origin : _) → slice_get self.now.origins.items id.0 ≡ Some origin → result ≡ depth_of origin }
-    {
-        match &self.origins[id.0] {
-            None => 0,
-            Some(origin) => origin.depth,
-        }
-    }
-
     /// A new state waits.
-    fn add(&mut self, id: StateId, cost: u64, origin: Option<Origin<A>>) -> Result<(), NoMemory>
+    fn add(&mut self, id: StateId, cost: u64, origin: Option<Origin>) -> Result<(), NoMemory>
         ensures store { self.new.store ≡ self.old.store }
-        ensures reached { OnOk result (self.new.reached.items
-            ≡ self.old.reached.items ++ record { cost = cost; is_expanded = false } ∷ []) }
-        ensures origins { OnOk result (self.new.origins.items ≡ self.old.origins.items ++ origin ∷ []) }
+        ensures nodes { OnOk result (self.new.nodes.items
+            ≡ self.old.nodes.items ++ record { cost = cost; is_expanded = false; origin = origin } ∷ []) }
         ensures queue { OnOk result
             (Joins (heap_items self.old.queue) (heap_items self.new.queue) (entry cost id.0)) }
     {
-        self.reached.push(Reached {
+        self.nodes.push(Node {
             cost,
             is_expanded: false,
+            origin,
         })?;
-        self.origins.push(origin)?;
         self.queue.push(Reverse((cost, id)))?;
         Ok(())
     }
 
     /// A cheaper way to a waiting state is kept in place of the dearer.
-    fn improve(&mut self, id: StateId, cost: u64, origin: Origin<A>) -> Result<(), NoMemory>
-        requires reached_in { id.0 < length self.old.reached.items }
-        requires origin_in { id.0 < length self.old.origins.items }
+    fn improve(&mut self, id: StateId, cost: u64, origin: Origin) -> Result<(), NoMemory>
+        requires { id.0 < length self.old.nodes.items }
         ensures store { self.new.store ≡ self.old.store }
-        ensures reached { (reached : _) → slice_get self.old.reached.items id.0 ≡ Some reached
-            → self.new.reached.items ≡ slice_set self.old.reached.items id.0 (record reached { cost = cost }) }
-        ensures origins { self.new.origins.items ≡ slice_set self.old.origins.items id.0 (Some origin) }
+        ensures nodes { (node : _) → slice_get self.old.nodes.items id.0 ≡ Some node
+            → self.new.nodes.items ≡ slice_set self.old.nodes.items id.0 (record node { cost = cost; origin = Some origin }) }
         ensures queue { OnOk result
             (Joins (heap_items self.old.queue) (heap_items self.new.queue) (entry cost id.0)) }
     {
-        self.reached[id.0].cost = cost;
-        self.origins[id.0] = Some(origin);
+        let node = &mut self.nodes[id.0 as usize];
+        node.cost = cost;
+        node.origin = Some(origin);
         self.queue.push(Reverse((cost, id)))?;
         Ok(())
     }
 
     /// The state is expanded from now on.
     fn mark_expanded(&mut self, id: StateId)
-        requires { id.0 < length self.old.reached.items }
+        requires { id.0 < length self.old.nodes.items }
         ensures store { self.new.store ≡ self.old.store }
-        ensures reached { (reached : _) → slice_get self.old.reached.items id.0 ≡ Some reached
-            → self.new.reached.items ≡ slice_set self.old.reached.items id.0 (record reached { is_expanded = true }) }
-        ensures origins { self.new.origins.items ≡ self.old.origins.items }
+        ensures nodes { (node : _) → slice_get self.old.nodes.items id.0 ≡ Some node
+            → self.new.nodes.items ≡ slice_set self.old.nodes.items id.0 (record node { is_expanded = true }) }
         ensures queue { heap_items self.new.queue ≡ heap_items self.old.queue }
     {
-        self.reached[id.0].is_expanded = true;
+        self.nodes[id.0 as usize].is_expanded = true;
     }
 
     /// Lists a successor of the state that is being expanded; tells whether the limit allows that.
-    fn reach<T: TransitionSystem<Action = A>>(
+    fn reach<T: TransitionSystem>(
         &mut self,
         system: &T,
         parent: StateId,
-        successor: Successor<A, T::State>,
+        action: u32,
+        state: &Packed,
         max_states: u32,
     ) -> Result<bool, NoMemory>
-    where
-        S: StateStore<T>,
-        requires expanding { IsExpanding (T.means system.now) T.label (λ s. map T.view (S.states s)) self.old parent.0 }
-        requires leads { (s : _) → slice_get (map T.view (S.states self.old.store)) parent.0 ≡ Some s
-            → (T.means system.now).step s (T.label successor.action) ≡ Some (T.view successor.state) }
-        requires within { length (map T.view (S.states self.old.store)) ≤ max_states }
+        requires expanding { IsExpanding (T.means system.now) S.states self.old parent.0 }
+        requires leads { (s : _) → slice_get (S.states self.old.store) parent.0 ≡ Some s
+            → (T.means system.now).step s action ≡ Some (bits_of state.now) }
+        requires width { length (bits_of state.now) ≡ S.width_of self.old.store }
+        requires within { length (S.states self.old.store) ≤ max_states }
         requires limit { max_states ≤ MAX_STATES }
-        ensures { IfOk result (λ is_listed. MatchBool is_listed
-            (Reaches (T.means system.now) T.label (λ s. map T.view (S.states s)) self.old self.new parent.0 max_states
-            (T.label successor.action) (T.view successor.state))
+        ensures width { S.width_of self.new.store ≡ S.width_of self.old.store }
+        ensures listed { IfOk result (λ is_listed. MatchBool is_listed
+            (Reaches (T.means system.now) S.states self.old self.new parent.0 max_states action (bits_of state.now))
             (AreMoreReachable (T.means system.now) max_states)) }
     {
-        let Successor { action, state } = successor;
-        let cost = self.reached[parent.0].cost + u64::from(system.cost(&action));
-        let depth = self.depth(parent) + 1;
+        let before = self.nodes[parent.0 as usize];
+        let cost = before.cost + u64::from(system.cost(action));
+        let depth = before.depth() + 1;
         let origin = Origin {
             parent,
             action,
@@ -236,36 +200,39 @@ impl<A: Drop, S: Drop> Progress<A, S> {
         };
         if is_new {
             self.add(id, cost, Some(origin))?;
-        } else if cost < self.reached[id.0].cost {
+        } else if cost < self.nodes[id.0 as usize].cost {
             self.improve(id, cost, origin)?;
         }
         Ok(true)
     }
 
-    /// Lists the successors of the state whose turn it is; tells whether the limit allows that.
-    pub(crate) fn expand<T: TransitionSystem<Action = A>>(
+    /// Lists the successors of the state whose turn it is, which the buffers hold; tells whether the limit allows that.
+    pub(crate) fn expand<T: TransitionSystem>(
         &mut self,
-        alloc: Global,
         system: &T,
+        buffers: &mut Buffers,
         id: StateId,
         max_states: u32,
     ) -> Result<bool, NoMemory>
-    where
-        S: StateStore<T>,
-        requires turn { IsAtTurn (T.means system.now) T.label (λ s. map T.view (S.states s)) self.old id.0 }
-        requires open { AreOpen (T.means system.now) (nodes_in (λ s. map T.view (S.states s)) self.old) }
-        requires no_goal { (s : _) → slice_get (map T.view (S.states self.old.store)) id.0 ≡ Some s
-            → (T.means system.now).meets_goal s ≡ false }
-        requires within { length (map T.view (S.states self.old.store)) ≤ max_states }
+        requires turn { IsAtTurn (T.means system.now) S.states self.old id.0 }
+        requires open { AreOpen (T.means system.now) (nodes_in S.states self.old) }
+        requires state { slice_get (S.states self.old.store) id.0 ≡ Some (bits_of buffers.old.state) }
+        requires no_goal { (T.means system.now).meets_goal (bits_of buffers.old.state) ≡ false }
+        requires width { S.width_of self.old.store ≡ T.width_of system.now }
+        requires buffers { AreWide (T.width_of system.now) buffers.old }
+        requires within { length (S.states self.old.store) ≤ max_states }
         requires limit { max_states ≤ MAX_STATES }
-        ensures { IfOk result (λ is_listed. MatchBool is_listed
-            (Expands (T.means system.now) T.label (λ s. map T.view (S.states s)) self.old self.new max_states)
+        ensures width { IfOk result (λ _. S.width_of self.new.store ≡ T.width_of system.now) }
+        ensures buffers { IfOk result (λ _. AreWide (T.width_of system.now) buffers.new) }
+        ensures listed { IfOk result (λ is_listed. MatchBool is_listed
+            (Expands (T.means system.now) S.states self.old self.new max_states)
             (AreMoreReachable (T.means system.now) max_states)) }
     {
-        let successors = system.successors(alloc, self.store.get(id))?;
+        system.applicable(&buffers.state, &mut buffers.applicable)?;
         self.mark_expanded(id);
-        for successor in successors {
-            if !self.reach(system, id, successor, max_states)? {
+        for &action in &buffers.applicable {
+            system.successor(action, &buffers.state, &mut buffers.next);
+            if !self.reach(system, id, action, &buffers.next, max_states)? {
                 return Ok(false);
             }
         }
@@ -277,33 +244,26 @@ impl<A: Drop, S: Drop> Progress<A, S> {
         self,
         alloc: Global,
         goal: StateId,
-    ) -> Result<(Vec<A>, FoundStates<S>), NoMemory>
-        requires descending { AreDescending self.origins.items }
-        requires found { goal.0 < length self.origins.items }
-        ensures path { IfOk result (λ r. IsPath self.origins.items goal.0 r.0.items) }
+    ) -> Result<(Vec<u32>, FoundStates<S>), NoMemory>
+        requires descending { AreDescending self.nodes.items }
+        requires found { goal.0 < length self.nodes.items }
+        ensures path { IfOk result (λ r. IsPath self.nodes.items goal.0 r.0.items) }
         ensures store { IfOk result (λ r. r.1.store ≡ self.store) }
-        ensures reached { IfOk result (λ r. r.1.reached.items ≡ self.reached.items) }
+        ensures nodes { IfOk result (λ r. r.1.nodes.items ≡ self.nodes.items) }
     {
-        let Progress {
-            store,
-            reached,
-            origins,
-            queue: _,
-        } = self;
-        let steps = steps_to(alloc, origins, goal)?;
-        Ok((steps, FoundStates { store, reached }))
+        let steps = steps_to(alloc, &self.nodes, goal)?;
+        Ok((steps, self.into_states()))
     }
 
     pub(crate) fn into_states(self) -> FoundStates<S>
         ensures store { result.store ≡ self.store }
-        ensures reached { result.reached.items ≡ self.reached.items }
+        ensures nodes { result.nodes.items ≡ self.nodes.items }
     {
         let Progress {
             store,
-            reached,
-            origins: _,
+            nodes,
             queue: _,
         } = self;
-        FoundStates { store, reached }
+        FoundStates { store, nodes }
     }
 }

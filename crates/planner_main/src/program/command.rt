@@ -1,10 +1,11 @@
 //! What the words of the program ask for.
-ghost use Rattle.std.specs.Prelude.{◌≡◌, ℕ, IfNone, IfSome, List, [], ◌∷◌, ◌++◌, Option, codes};
-ghost use Rattle.planner_main.specs.Program.{AllowsStates, AreOptions, Asks, IsCommand, file_of, name_in, texts};
+ghost use Rattle.std.specs.Prelude.{◌≡◌, ℕ, IfNone, IfSome, IsTrue, List, [], ◌∷◌, ◌++◌, Option, codes, false};
+ghost use Rattle.planner_main.specs.Options.{AreDistinct, AreOptions, IsLimit, IsNumberOf, NamedValue, named, words_of};
+ghost use Rattle.planner_main.specs.Program.{Asks, Holds, IsCommand, file_of, text_in, texts};
 
 use solver::Limits;
 
-/// How many states a search may list, and how many instances a task may have, where nothing else is asked for.
+/// A limit for which no number is given.
 const DEFAULT_LIMIT: u32 = 1_000_000;
 
 /// What the program is asked for.
@@ -35,7 +36,7 @@ pub(super) enum Command<'a> {
 impl<'a> Command<'a> {
     /// The name of the file that a plan is written to, if any.
     pub(super) fn plan_file(self) -> Option<&'a str>
-        ensures { name_in result ≡ file_of self.entry }
+        ensures { text_in result ≡ file_of self.entry }
     {
         match self {
             Command::Validate { .. } => None,
@@ -44,11 +45,52 @@ impl<'a> Command<'a> {
     }
 }
 
-/// What the options of `solve` ask for.
+/// The options of `solve` that are given, as they are written.
 #[derive(Clone, Copy)]
 struct Options<'a> {
-    limits: Limits,
     plan: Option<&'a str>,
+    states: Option<&'a str>,
+    instances: Option<&'a str>,
+}
+
+impl<'a> Options<'a> {
+    /// Takes one more option, and says whether there is one of that name that was not given before.
+    fn insert(&mut self, name: &str, value: &'a str) -> bool
+        ensures taken { IsTrue result → (options : List NamedValue) → Holds self.old options
+            → Holds self.new (options ++ named name.now value.now ∷ []) }
+        ensures refused { result ≡ false → (options rest : List NamedValue) → Holds self.old options
+            → AreDistinct (options ++ named name.now value.now ∷ rest) → ⊥ }
+    {
+        match name {
+            "--plan" => self.plan.replace(value).is_none(),
+            "--states" => self.states.replace(value).is_none(),
+            "--instances" => self.instances.replace(value).is_none(),
+            _ => false,
+        }
+    }
+
+    /// How far the search may go, and `None` where a text is no limit.
+    fn limits(self) -> Option<Limits>
+        ensures states { IfSome result (λ limits. IsLimit (text_in self.entry.states) limits.states) }
+        ensures instances { IfSome result (λ limits. IsLimit (text_in self.entry.instances) limits.instances) }
+        ensures none { IfNone result ((states instances : ℕ) → IsLimit (text_in self.entry.states) states
+            → IsLimit (text_in self.entry.instances) instances → ⊥) }
+    {
+        let states = number_of(self.states)?;
+        let instances = number_of(self.instances)?;
+        Limits::new(states, instances)
+    }
+}
+
+/// The number of an option's text, and the default limit where the option is not given.
+fn number_of(text: Option<&str>) -> Option<u32>
+    ensures number { IfSome result (IsNumberOf (text_in text.entry)) }
+    ensures none { IfNone result ((number : ℕ) → IsLimit (text_in text.entry) number → ⊥) }
+{
+    match text {
+        Some(text) => text.parse::<u32>().ok(),
+        None => Some(DEFAULT_LIMIT),
+    }
 }
 
 /// The command that the words are, and `None` where they are none.
@@ -58,15 +100,7 @@ pub(super) fn read_command<'a>(words: &[&'a str]) -> Option<Command<'a>>
 {
     match words {
         [command, domain, problem, options @ ..] if *command == "solve" => {
-            match read_options(options) {
-                Some(Options { limits, plan }) => Some(Command::Solve {
-                    domain: *domain,
-                    problem: *problem,
-                    limits,
-                    plan,
-                }),
-                None => None,
-            }
+            read_solve(*domain, *problem, options)
         }
         [command, domain, problem, plan] if *command == "validate" => Some(Command::Validate {
             domain: *domain,
@@ -77,72 +111,37 @@ pub(super) fn read_command<'a>(words: &[&'a str]) -> Option<Command<'a>>
     }
 }
 
-/// What the words after the files ask for, and `None` where they are no options.
+/// The command `solve` with these files and options, and `None` where the words are no options.
+fn read_solve<'a>(domain: &'a str, problem: &'a str, words: &[&'a str]) -> Option<Command<'a>>
+    ensures asks { IfSome result (Asks (codes "solve" ∷ domain.now ∷ problem.now ∷ texts words.now)) }
+    ensures none { IfNone result ((states instances : ℕ) (file : Option (List ℕ)) → AreOptions (texts words.now) states instances file → ⊥) }
+{
+    let options = read_options(words)?;
+    let limits = options.limits()?;
+    Some(Command::Solve {
+        domain,
+        problem,
+        limits,
+        plan: options.plan,
+    })
+}
+
+/// The options that the words are, and `None` where they are none.
 fn read_options<'a>(words: &[&'a str]) -> Option<Options<'a>>
-    ensures options { IfSome result (λ options. AreOptions (texts words.now) options.limits.states (name_in options.plan)) }
-    ensures instances { IfSome result (λ options. options.limits.instances ≡ 1000000) }
-    ensures none { IfNone result ((states : ℕ) (file : Option (List ℕ)) → AreOptions (texts words.now) states file → ⊥) }
+    ensures options { IfSome result (λ held. (options : List NamedValue) × (texts words.now ≡ words_of options) × Holds held options) }
+    ensures none { IfNone result ((options : List NamedValue) → texts words.now ≡ words_of options → AreDistinct options → ⊥) }
 {
-    if let Some((file, others)) = plan_first(words) {
-        return with_limits(Some(file), others);
-    }
-    if let Some((file, others)) = plan_last(words) {
-        return with_limits(Some(file), others);
-    }
-    with_limits(None, words)
-}
-
-/// The file of `--plan` where that stands first, and the other words.
-fn plan_first<'a, 'w>(words: &'w [&'a str]) -> Option<(&'a str, &'w [&'a str])>
-    ensures split { IfSome result (λ split. texts words.now ≡ codes "--plan" ∷ split.0.now ∷ texts split.1.now) }
-    ensures none { IfNone result ((name : List ℕ) (others : List (List ℕ)) → texts words.now ≡ codes "--plan" ∷ name ∷ others → ⊥) }
-{
-    match words {
-        [option, file, others @ ..] if *option == "--plan" => Some((*file, others)),
-        _ => None,
-    }
-}
-
-/// The file of `--plan` where that stands last, and the other words.
-fn plan_last<'a, 'w>(words: &'w [&'a str]) -> Option<(&'a str, &'w [&'a str])>
-    ensures split { IfSome result (λ split. texts words.now ≡ texts split.1.now ++ codes "--plan" ∷ split.0.now ∷ []) }
-    ensures none { IfNone result ((name : List ℕ) (others : List (List ℕ)) → texts words.now ≡ others ++ codes "--plan" ∷ name ∷ [] → ⊥) }
-{
-    let [others @ .., option, file] = words else {
-        return None;
+    let mut options = Options {
+        plan: None,
+        states: None,
+        instances: None,
     };
-    if *option == "--plan" {
-        Some((*file, others))
-    } else {
-        None
+    let mut rest = words;
+    'words: while let [name, value, others @ ..] = rest {
+        if !options.insert(*name, *value) {
+            return None;
+        }
+        rest = others;
     }
-}
-
-/// This file for a plan, and the limits that the other words ask for.
-fn with_limits<'a>(plan: Option<&'a str>, others: &[&str]) -> Option<Options<'a>>
-    ensures states { IfSome result (λ options. AllowsStates (texts others.now) options.limits.states) }
-    ensures instances { IfSome result (λ options. options.limits.instances ≡ 1000000) }
-    ensures plan { IfSome result (λ options. options.plan ≡ plan.entry) }
-    ensures none { IfNone result ((states : ℕ) → AllowsStates (texts others.now) states → ⊥) }
-{
-    match read_limits(others) {
-        Some(limits) => Some(Options { limits, plan }),
-        None => None,
-    }
-}
-
-/// The limits that the words after the files ask for, and `None` where they are no options.
-fn read_limits(options: &[&str]) -> Option<Limits>
-    ensures states { IfSome result (λ limits. AllowsStates (texts options.now) limits.states) }
-    ensures instances { IfSome result (λ limits. limits.instances ≡ 1000000) }
-    ensures none { IfNone result ((states : ℕ) → AllowsStates (texts options.now) states → ⊥) }
-{
-    match options {
-        [] => Limits::new(DEFAULT_LIMIT, DEFAULT_LIMIT),
-        [option, states] if *option == "--states" => match states.parse::<u32>() {
-            Ok(states) => Limits::new(states, DEFAULT_LIMIT),
-            Err(_) => None,
-        },
-        _ => None,
-    }
+    if rest.is_empty() { Some(options) } else { None }
 }

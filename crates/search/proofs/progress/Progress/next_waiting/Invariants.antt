@@ -7,9 +7,8 @@ abbrev pub invariant-loop-cost : goal.invariant-loop-cost
 invariant-loop-cost g l =
     record {
       store : l.self.store ≡ l.initial.self.store;
-      reached : l.self.reached.items ≡ l.initial.self.reached.items;
-      origins : l.self.origins.items ≡ l.initial.self.origins.items;
-      queue : KeepsCurrent (heap_items l.initial.self.queue) (heap_items l.self.queue) l.initial.self.reached.items;
+      nodes : l.self.nodes.items ≡ l.initial.self.nodes.items;
+      queue : KeepsCurrent (heap_items l.initial.self.queue) (heap_items l.self.queue) l.initial.self.nodes.items;
     }
 
 abbrev pub decreases-loop-cost : goal.decreases-loop-cost

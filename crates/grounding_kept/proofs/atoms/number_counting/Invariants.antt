@@ -1,0 +1,18 @@
+use Rattle.std.proofs.Common.{◌≡◌, ◌≤◌, map, length, drop}
+use Rattle.std.specs.Prelude.{filter}
+use Rattle.std.specs.List.{flat_map}
+use Rattle.typing.specs.Task.{task_of}
+use Rattle.typing.specs.TaskParts.{atom_of}
+use Rattle.model.specs.NumberedAtoms.{with_atoms}
+use Rattle.model.specs.ClosedOff.{counts}
+use Rattle.formulas.specs.Effects.{change_of}
+use Rattle.grounding_kept.specs.Atoms.{atoms_changed}
+use Rattle.grounding_kept.proofs.NumberLists.{if_counting}
+use Rattle.grounding_kept.proofs.atoms.number_counting.Given as goal
+
+-- the atoms so far, and then those of what is left, are all
+abbrev pub invariant-loop-change : goal.invariant-loop-change
+invariant-loop-change l = record {
+  all : with_atoms (map atom_of l.atoms.keys) (flat_map (if_counting (task_of l.statics.task.now)) (drop l.change-index l.changes)) ≡ with_atoms (map atom_of l.fn.atoms.keys) (atoms_changed (filter (counts (task_of l.statics.task.now)) (map change_of l.changes)));
+  few : length l.atoms.keys ≤ 1048576;
+}
