@@ -12,7 +12,7 @@ use Rattle.model.specs.Meaning.{is_of, objects_of, Change, change_under, changes
 use Rattle.model.specs.WellTyped.{is_effect, are_effects, is_formula, is_effect_literal, is_schema, is_task, max_variables}
 use Rattle.model.proofs.Tests.{passes_got}
 use Rattle.model.proofs.ListLemmas.{Contains-here, Contains-there, Contains-cases, Contains-none, map-Contains, flat_map-Contains, filter-Contains}
-use Rattle.grounding_kept.specs.Numbering.{AllFit}
+use Rattle.grounding_kept.specs.Atoms.{AllFit}
 use Rattle.grounding_kept.proofs.ChosenObjects.{pointwise-push}
 
 got-Contains : {X : Type 0} (xs : List X) (k : ℕ) (x : X) → slice_get xs k ≡ Some x → Contains xs x

@@ -7,3 +7,4 @@ pub mod ChangesFit
 pub mod NumberLists
 pub mod LimitsTold
 pub mod NumberedParts
+pub mod NumberedFacts

@@ -3,8 +3,8 @@ use Rattle.std.proofs.Common.{ℕ, ◌≤◌, List, length}
 use Rattle.faults.specs.declared.refused.Refused.TheVariants.{At, NoMemory}
 use Rattle.grounding_kept.specs.declared.fault.GroundLimit.TheVariants.{Instances, Atoms}
 use Rattle.grounding_kept.specs.Kept.{GroundFault, TellsInstances}
-use Rattle.grounding_kept.specs.Numbering.{TellsAtoms}
-use Rattle.grounding_kept.specs.Ground.{TellsLimit}
+use Rattle.grounding_kept.specs.Atoms.{TellsAtoms}
+use Rattle.grounding_kept.specs.Numbering.{TellsLimit}
 use Rattle.model.specs.Task.{Task, Atom}
 use Rattle.model.specs.Limits.{max_numbered_atoms}
 use Rattle.model.specs.ClosedOff.{kept_instances}

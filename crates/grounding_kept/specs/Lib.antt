@@ -1,6 +1,6 @@
 pub mod Literals
 pub mod Parameters
 pub mod Kept
+pub mod Atoms
 pub mod Numbering
-pub mod Ground
 pub mod Numbers

@@ -1,24 +1,41 @@
--- Atoms that are numbered one after another, and when a limit is told.
-use Rattle.std.specs.Prelude.{◌≡◌, ℕ, ◌<◌, List, map, length, slice_get, Some}
+-- Numberings of the code, in the model's terms.
+use Rattle.std.specs.Prelude.{◌≡◌, ℕ, List, map, None, Some}
 use Rattle.faults.specs.declared.refused.Refused.TheVariants.{At, NoMemory}
+use Rattle.typing.specs.Task.{task_of}
+use Rattle.typing.specs.TaskParts.{atom_of}
+use Rattle.formulas.specs.State.{instance_of}
+use Rattle.grounding_kept.specs.declared.numbering.Numbering.{Numbering}
+use Rattle.grounding_kept.specs.declared.fault.GroundLimit.{GroundLimit}
 use Rattle.grounding_kept.specs.declared.fault.GroundLimit.TheVariants.{Instances, Atoms}
 use Rattle.grounding_kept.specs.Kept.{GroundFault}
-use Rattle.formulas.specs.State.{FitsFormula}
-use Rattle.model.specs.Task.{Atom, Task}
-use Rattle.model.specs.Meaning.{Change}
+use Rattle.model.specs.Task.{Task, Atom, Instance}
 use Rattle.model.specs.Limits.{max_numbered_atoms}
-use Rattle.model.specs.NumberedAtoms.{atom_of_literal}
+use Rattle.model.specs.ClosedOff.{kept_instances}
+use Rattle.model.specs.NumberedAtoms.{numbered_atoms}
+use Rattle.model.specs.Grounding as model
 
--- the limit of atoms is told, where these are more; want of memory says nothing
-abbrev pub TellsAtoms : List Atom → GroundFault → Type 0
-TellsAtoms atoms (At Instances) = ⊥
-TellsAtoms atoms (At Atoms) = max_numbered_atoms < length atoms
-TellsAtoms atoms NoMemory = Unit {0}
+abbrev pub task_in : Numbering → Task
+task_in n = task_of n.statics.task.now
 
--- the atoms that the changes add or delete
-abbrev pub atoms_changed : List Change → List Atom
-atoms_changed changes = map (λ (c : Change). atom_of_literal c.literal) changes
+-- by their numbers
+abbrev pub instances_in : Numbering → List Instance
+instances_in n = map instance_of n.instances.items
 
--- the objects of each of these changes may stand for the variables in its condition
-abbrev pub AllFit : Task → List Change → Type 0
-AllFit t changes = (place : ℕ) (c : Change) → slice_get changes place ≡ Some c → FitsFormula t c.condition c.binding
+abbrev pub atoms_in : Numbering → List Atom
+atoms_in n = map atom_of n.atoms.keys
+
+-- It has the kept instances of the task and its numbered atoms, and no limit is exceeded.
+pub record IsNumberingOf (t : Task) (more : List Atom) (max_instances : ℕ) (n : Numbering) : Type 0 where
+  pub task : task_in n ≡ t
+  pub instances : instances_in n ≡ kept_instances t
+  pub atoms : atoms_in n ≡ numbered_atoms t more
+  pub within : model.limit_told max_instances max_numbered_atoms t more ≡ None
+
+abbrev pub limit_of : GroundLimit → model.GroundLimit
+limit_of Instances = model.of_instances
+limit_of Atoms = model.of_atoms
+
+-- the limit that is told is the model's; want of memory says nothing
+abbrev pub TellsLimit : Task → List Atom → ℕ → GroundFault → Type 0
+TellsLimit t more max_instances (At limit) = model.limit_told max_instances max_numbered_atoms t more ≡ Some (limit_of limit)
+TellsLimit t more max_instances NoMemory = Unit {0}

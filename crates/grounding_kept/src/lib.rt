@@ -1,17 +1,17 @@
 //! Grounding: the instances of a task that its start does not close off, in order, and the atoms that have numbers.
 #![tactic(auto)]
 
+mod atoms;
 mod bindings;
 mod fault;
 mod fluents;
-mod ground;
 mod kept;
 mod numbering;
 mod numbers;
 mod parameters;
 mod statics;
 
+pub use atoms::MAX_ATOMS;
 pub use fault::{GroundFault, GroundLimit};
-pub use ground::Ground;
-pub use numbering::MAX_ATOMS;
+pub use numbering::Numbering;
 pub use numbers::NumberedLiteral;

@@ -1,192 +1,171 @@
-//! The numbers of atoms.
-ghost use Rattle.std.specs.Prelude.{◌≡◌, ◌≤◌, ◌<◌, [], ◌∷◌, if◌then◌else◌, map, filter, length, IfOk, IfErr, OnOk, IsTrue};
-ghost use Rattle.std.specs.List.{flat_map, list_all};
+//! The kept instances of a task and its numbered atoms.
+ghost use Rattle.std.specs.Prelude.{◌≡◌, ◌≤◌, true, length, map};
+ghost use Rattle.std.proofs.Props.{props};
 ghost use Rattle.typing.specs.Task.{task_of};
 ghost use Rattle.typing.specs.TaskParts.{atom_of};
-ghost use Rattle.formulas.specs.State.{instance_of, FitsFormula};
-ghost use Rattle.formulas.specs.Effects.{change_of, ground_literal_of};
-ghost use Rattle.model.specs.Meaning.{is_instance};
-ghost use Rattle.model.specs.Fluents as model_fluents;
-ghost use Rattle.model.specs.ClosedOff as closed_off;
-ghost use Rattle.model.specs.NumberedAtoms as numbered;
-ghost use Rattle.grounding_kept.specs.Numbering.{AllFit, TellsAtoms, atoms_changed};
+ghost use Rattle.formulas.specs.State.{instance_of};
+ghost use Rattle.model.specs.Task as model_task;
+ghost use Rattle.model.specs.Fluents.{is_fluent};
+ghost use Rattle.model.specs.ClosedOff.{kept_instances};
+ghost use Rattle.model.specs.NumberedAtoms.{stands_in, are_distinct};
+ghost use Rattle.grounding_kept.specs.declared.atoms.TheConstants.{MAX_ATOMS};
 
-use crate::fault::{GroundFault, GroundLimit};
+use crate::atoms::{MAX_ATOMS, numbered_atoms};
+use crate::fault::GroundFault;
+use crate::kept::kept_instances;
+use crate::numbers::{NumberedLiteral, number_of, numbered_literals};
 use crate::statics::Statics;
-use formulas::{Change, GroundLiteral, Instance, changes};
+use faults::NoMemory;
+use formulas::{Binding, Change, Instance};
 use indexmap::IndexSet;
 use std::alloc::Global;
-use typing::Atom;
+use typing::{Atom, Formula, Task};
 
-/// The most atoms that may have numbers.
-pub const MAX_ATOMS: usize = 1_048_576;
-
-/// The numbered atoms, each at the place that is its number: `more`, in its order, then the fluent atoms that are true at
-/// the start, then those that a change that counts of a kept instance adds or deletes.
-///
-/// # Errors
-/// [`GroundLimit::Atoms`] where there are more than [`MAX_ATOMS`]; or memory was refused.
-pub(crate) fn numbered_atoms(
-    alloc: Global,
-    statics: &Statics<'_>,
-    more: &[Atom],
-    kept: &[Instance],
-) -> Result<IndexSet<Atom>, GroundFault>
-    requires { map instance_of kept.now ≡ closed_off.kept_instances (task_of statics.now.task.now) }
-    ensures numbered { IfOk result (λ atoms. map atom_of atoms.keys ≡ numbered.numbered_atoms (task_of statics.now.task.now) (map atom_of more.now)) }
-    ensures few { IfOk result (λ atoms. length atoms.keys ≤ MAX_ATOMS) }
-    ensures told { IfErr result (TellsAtoms (numbered.numbered_atoms (task_of statics.now.task.now) (map atom_of more.now))) }
-{
-    let mut atoms = IndexSet::new(alloc);
-    number_all(&mut atoms, more)?;
-    number_initial(statics, &mut atoms)?;
-    number_touched(alloc, statics, kept, &mut atoms)?;
-    Ok(atoms)
+/// The kept instances of a task and its numbered atoms, each at the place, from 0, that is its number. The atoms are of
+/// fluent predicates, and each has one number.
+#[derive(Drop)]
+pub struct Numbering<'t> {
+    statics: Statics<'t>,
+    atoms: IndexSet<Atom>,
+    instances: Vec<Instance>,
+    ghost few_atoms: { length atoms.keys ≤ MAX_ATOMS },
+    ghost kept: { map instance_of instances.items ≡ kept_instances (task_of statics.task.now) } by { Prim.hlevel props },
+    ghost fluent: { (a : model_task.Atom) → stands_in (map atom_of atoms.keys) a ≡ true → is_fluent (task_of statics.task.now) a.predicate ≡ true } by { Prim.hlevel props },
+    ghost distinct: { are_distinct (map atom_of atoms.keys) ≡ true } by { Prim.hlevel props },
 }
 
-/// Numbers each of the atoms.
-fn number_all(atoms: &mut IndexSet<Atom>, list: &[Atom]) -> Result<(), GroundFault>
-    requires { length atoms.old.keys ≤ MAX_ATOMS }
-    ensures numbered { OnOk result (map atom_of atoms.new.keys ≡ numbered.with_atoms (map atom_of atoms.old.keys) (map atom_of list.now)) }
-    ensures few { OnOk result (length atoms.new.keys ≤ MAX_ATOMS) }
-    ensures told { IfErr result (TellsAtoms (numbered.with_atoms (map atom_of atoms.old.keys) (map atom_of list.now))) }
-{
-    for atom in list {
-        number(atoms, atom)?;
-    }
-    Ok(())
-}
+impl<'t> Numbering<'t> {
+    ghost use Rattle.std.specs.Prelude.{not, ◌&&◌, All, IfOk, IfErr, IsTrue};
+    ghost use Rattle.std.specs.FinSet.{contains};
+    ghost use Rattle.typing.specs.TaskParts.{object_of, formula_of};
+    ghost use Rattle.formulas.specs.State.{FitsFormula};
+    ghost use Rattle.formulas.specs.Effects.{change_of};
+    ghost use Rattle.model.specs.Meaning.{initial_state};
+    ghost use Rattle.model.specs.Fluents.{is_fluent_atom};
+    ghost use Rattle.model.specs.ClosedOff as closed_off;
+    ghost use Rattle.model.specs.NumberedAtoms as numbered;
+    ghost use Rattle.model.specs.NumberedLiterals as model_literals;
+    ghost use Rattle.grounding_kept.specs.Numbers.{numbered_of};
+    ghost use Rattle.grounding_kept.specs.Numbering.{task_in, atoms_in, instances_in, IsNumberingOf, TellsLimit};
 
-/// Numbers the fluent atoms that are true at the start.
-fn number_initial(statics: &Statics<'_>, atoms: &mut IndexSet<Atom>) -> Result<(), GroundFault>
-    requires { length atoms.old.keys ≤ MAX_ATOMS }
-    ensures numbered { OnOk result (map atom_of atoms.new.keys ≡ numbered.with_atoms (map atom_of atoms.old.keys) (numbered.initial_fluent_atoms (task_of statics.now.task.now))) }
-    ensures few { OnOk result (length atoms.new.keys ≤ MAX_ATOMS) }
-    ensures told { IfErr result (TellsAtoms (numbered.with_atoms (map atom_of atoms.old.keys) (numbered.initial_fluent_atoms (task_of statics.now.task.now)))) }
-{
-    for atom in statics.task.init() {
-        number_if_fluent(statics, atom, atoms)?;
+    /// That of the task, in which `more` have the first numbers, if none of them stands there twice.
+    ///
+    /// # Errors
+    /// [`GroundLimit::Instances`](crate::GroundLimit::Instances) exactly where more than `max_instances` are kept;
+    /// [`GroundLimit::Atoms`](crate::GroundLimit::Atoms) exactly where no more are, and more than
+    /// [`MAX_ATOMS`](crate::MAX_ATOMS) atoms have numbers; or memory was refused.
+    pub fn new(
+        alloc: Global,
+        task: &'t Task,
+        more: &[Atom],
+        max_instances: u32,
+    ) -> Result<Numbering<'t>, GroundFault>
+        requires fluent { All (λ a. IsTrue (is_fluent_atom (task_of task.now) a)) (map atom_of more.now) }
+        ensures numbering { IfOk result (IsNumberingOf (task_of task.now) (map atom_of more.now) max_instances) }
+        ensures told { IfErr result (TellsLimit (task_of task.now) (map atom_of more.now) max_instances) }
+    {
+        let statics = Statics::new(alloc, task)?;
+        Numbering::of_statics(alloc, statics, more, max_instances)
     }
-    Ok(())
-}
 
-/// Numbers the atom, if it is fluent.
-fn number_if_fluent(
-    statics: &Statics<'_>,
-    atom: &Atom,
-    atoms: &mut IndexSet<Atom>,
-) -> Result<(), GroundFault>
-    requires few { length atoms.old.keys ≤ MAX_ATOMS }
-    requires within { atom.now.predicate.0 < length (task_of statics.now.task.now).predicates }
-    ensures numbered { OnOk result (map atom_of atoms.new.keys ≡ numbered.with_atoms (map atom_of atoms.old.keys)
-        (if model_fluents.is_fluent (task_of statics.now.task.now) (atom_of atom.now).predicate then atom_of atom.now ∷ [] else [])) }
-    ensures few { OnOk result (length atoms.new.keys ≤ MAX_ATOMS) }
-    ensures told { IfErr result (TellsAtoms (numbered.with_atoms (map atom_of atoms.old.keys)
-        (if model_fluents.is_fluent (task_of statics.now.task.now) (atom_of atom.now).predicate then atom_of atom.now ∷ [] else []))) }
-{
-    if !statics.is_fluent(atom.predicate) {
-        return Ok(());
+    /// That of the task with these statics.
+    fn of_statics(
+        alloc: Global,
+        statics: Statics<'t>,
+        more: &[Atom],
+        max_instances: u32,
+    ) -> Result<Numbering<'t>, GroundFault>
+        requires fluent { All (λ a. IsTrue (is_fluent_atom (task_of statics.task.now) a)) (map atom_of more.now) }
+        ensures numbering { IfOk result (IsNumberingOf (task_of statics.entry.task.now) (map atom_of more.now) max_instances) }
+        ensures told { IfErr result (TellsLimit (task_of statics.entry.task.now) (map atom_of more.now) max_instances) }
+    {
+        let instances = kept_instances(alloc, &statics, max_instances)?;
+        let atoms = numbered_atoms(alloc, &statics, more, instances.as_slice())?;
+        Ok(Numbering {
+            statics,
+            atoms,
+            instances,
+        })
     }
-    number(atoms, atom)
-}
 
-/// Numbers the atoms that changes that count of the instances add or delete.
-fn number_touched(
-    alloc: Global,
-    statics: &Statics<'_>,
-    instances: &[Instance],
-    atoms: &mut IndexSet<Atom>,
-) -> Result<(), GroundFault>
-    requires few { length atoms.old.keys ≤ MAX_ATOMS }
-    requires instances { IsTrue (list_all (is_instance (task_of statics.now.task.now)) (map instance_of instances.now)) }
-    ensures numbered { OnOk result (map atom_of atoms.new.keys ≡ numbered.with_atoms (map atom_of atoms.old.keys) (flat_map (numbered.touched_by (task_of statics.now.task.now)) (map instance_of instances.now))) }
-    ensures few { OnOk result (length atoms.new.keys ≤ MAX_ATOMS) }
-    ensures told { IfErr result (TellsAtoms (numbered.with_atoms (map atom_of atoms.old.keys) (flat_map (numbered.touched_by (task_of statics.now.task.now)) (map instance_of instances.now)))) }
-{
-    for instance in instances {
-        number_instance(alloc, statics, instance, atoms)?;
+    /// The task.
+    pub fn task(&self) -> &'t Task
+        ensures { task_of result.now ≡ task_in self.now }
+    {
+        self.statics.task
     }
-    Ok(())
-}
 
-/// Numbers the atoms that changes that count of the instance add or delete.
-fn number_instance(
-    alloc: Global,
-    statics: &Statics<'_>,
-    instance: &Instance,
-    atoms: &mut IndexSet<Atom>,
-) -> Result<(), GroundFault>
-    requires few { length atoms.old.keys ≤ MAX_ATOMS }
-    requires instance { IsTrue (is_instance (task_of statics.now.task.now) (instance_of instance.now)) }
-    ensures numbered { OnOk result (map atom_of atoms.new.keys ≡ numbered.with_atoms (map atom_of atoms.old.keys) (numbered.touched_by (task_of statics.now.task.now) (instance_of instance.now))) }
-    ensures few { OnOk result (length atoms.new.keys ≤ MAX_ATOMS) }
-    ensures told { IfErr result (TellsAtoms (numbered.with_atoms (map atom_of atoms.old.keys) (numbered.touched_by (task_of statics.now.task.now) (instance_of instance.now)))) }
-{
-    let changes = changes(alloc, statics.task, instance)?;
-    number_counting(statics, changes.as_slice(), atoms)
-}
+    /// How many atoms have numbers.
+    pub fn width(&self) -> u32
+        ensures { result ≡ length (atoms_in self.now) }
+    {
+        self.atoms.len() as u32
+    }
 
-/// Numbers the atoms that those of the changes that count add or delete.
-fn number_counting(
-    statics: &Statics<'_>,
-    changes: &[Change<'_>],
-    atoms: &mut IndexSet<Atom>,
-) -> Result<(), GroundFault>
-    requires few { length atoms.old.keys ≤ MAX_ATOMS }
-    requires fit { AllFit (task_of statics.now.task.now) (map change_of changes.now) }
-    ensures numbered { OnOk result (map atom_of atoms.new.keys ≡ numbered.with_atoms (map atom_of atoms.old.keys) (atoms_changed (filter (closed_off.counts (task_of statics.now.task.now)) (map change_of changes.now)))) }
-    ensures few { OnOk result (length atoms.new.keys ≤ MAX_ATOMS) }
-    ensures told { IfErr result (TellsAtoms (numbered.with_atoms (map atom_of atoms.old.keys) (atoms_changed (filter (closed_off.counts (task_of statics.now.task.now)) (map change_of changes.now))))) }
-{
-    for change in changes {
-        number_if_counting(statics, change, atoms)?;
+    /// The kept instances, each at the place, from 0, that is its number.
+    pub fn instances(&self) -> &[Instance]
+        ensures { map instance_of result.now ≡ instances_in self.now }
+    {
+        self.instances.as_slice()
     }
-    Ok(())
-}
 
-/// Numbers the atom that the change adds or deletes, if it counts.
-fn number_if_counting(
-    statics: &Statics<'_>,
-    change: &Change<'_>,
-    atoms: &mut IndexSet<Atom>,
-) -> Result<(), GroundFault>
-    requires few { length atoms.old.keys ≤ MAX_ATOMS }
-    requires fits { FitsFormula (task_of statics.now.task.now) (change_of change.now).condition (change_of change.now).binding }
-    ensures numbered { OnOk result (map atom_of atoms.new.keys ≡ numbered.with_atoms (map atom_of atoms.old.keys)
-        (if closed_off.counts (task_of statics.now.task.now) (change_of change.now) then numbered.atom_of_literal (change_of change.now).literal ∷ [] else [])) }
-    ensures few { OnOk result (length atoms.new.keys ≤ MAX_ATOMS) }
-    ensures told { IfErr result (TellsAtoms (numbered.with_atoms (map atom_of atoms.old.keys)
-        (if closed_off.counts (task_of statics.now.task.now) (change_of change.now) then numbered.atom_of_literal (change_of change.now).literal ∷ [] else []))) }
-{
-    if !statics.counts(change) {
-        return Ok(());
+    /// The numbered atoms, each at the place, from 0, that is its number.
+    pub fn atoms(&self) -> &IndexSet<Atom>
+        ensures { map atom_of result.now.keys ≡ atoms_in self.now }
+    {
+        &self.atoms
     }
-    number(atoms, changed_atom(&change.literal))
-}
 
-/// The atom that is added or deleted.
-fn changed_atom(literal: &GroundLiteral) -> &Atom
-    ensures { atom_of result.now ≡ numbered.atom_of_literal (ground_literal_of literal.now) }
-{
-    match literal {
-        GroundLiteral::Adds(atom) => atom,
-        GroundLiteral::Deletes(atom) => atom,
+    /// The number of the atom, if it has one.
+    pub fn number_of(&self, atom: &Atom) -> Option<u32>
+        ensures { result ≡ numbered.number_of (atoms_in self.now) (atom_of atom.now) }
+    {
+        number_of(&self.atoms, atom)
     }
-}
 
-/// Numbers the atom, if it has no number.
-fn number(atoms: &mut IndexSet<Atom>, atom: &Atom) -> Result<(), GroundFault>
-    requires { length atoms.old.keys ≤ MAX_ATOMS }
-    ensures numbered { OnOk result (map atom_of atoms.new.keys ≡ numbered.with_atom (map atom_of atoms.old.keys) (atom_of atom.now)) }
-    ensures few { OnOk result (length atoms.new.keys ≤ MAX_ATOMS) }
-    ensures told { IfErr result (TellsAtoms (numbered.with_atom (map atom_of atoms.old.keys) (atom_of atom.now))) }
-{
-    if atoms.contains(atom) {
-        return Ok(());
+    /// Whether the atom is true at the start.
+    pub fn is_initial(&self, atom: &Atom) -> bool
+        ensures { result ≡ contains (initial_state (task_in self.now)) (atom_of atom.now) }
+    {
+        self.statics.is_initial(atom)
     }
-    if atoms.len() >= MAX_ATOMS {
-        return Err(GroundFault::At(GroundLimit::Atoms));
+
+    /// Whether the atom is of a static predicate, and is true at the start.
+    pub fn is_initial_static(&self, atom: &Atom) -> bool
+        ensures { result ≡ (not (is_fluent (task_in self.now) (atom_of atom.now).predicate) && contains (initial_state (task_in self.now)) (atom_of atom.now)) }
+    {
+        self.statics.is_initial_static(atom)
     }
-    atoms.insert(atom.clone()?)?;
-    Ok(())
+
+    /// Whether the change counts: its condition is not closed off.
+    pub fn counts(&self, change: &Change<'_>) -> bool
+        requires { FitsFormula (task_in self.now) (change_of change.now).condition (change_of change.now).binding }
+        ensures { result ≡ closed_off.counts (task_in self.now) (change_of change.now) }
+    {
+        self.statics.counts(change)
+    }
+
+    /// Whether the formula is closed off, where the variables in scope have these objects: one of its sure literals is
+    /// static, or of an equality, and is false at the start. The formula is well-typed for variables of some types that
+    /// the objects are of. No memory is taken.
+    pub fn is_closed_off(&self, formula: &Formula, binding: &Binding) -> bool
+        requires { FitsFormula (task_in self.now) (formula_of formula.now) (map object_of binding.now.items) }
+        ensures { result ≡ closed_off.is_closed_off (task_in self.now) (formula_of formula.now) (map object_of binding.now.items) }
+    {
+        self.statics.is_closed_off(formula, binding)
+    }
+
+    /// The sure literals of the formula that are of numbered atoms, in order, where the variables in scope have these
+    /// objects. The formula is well-typed for variables of some types that the objects are of.
+    pub fn numbered_literals(
+        &self,
+        alloc: Global,
+        formula: &Formula,
+        binding: &Binding,
+    ) -> Result<Vec<NumberedLiteral>, NoMemory>
+        requires { FitsFormula (task_in self.now) (formula_of formula.now) (map object_of binding.now.items) }
+        ensures { IfOk result (λ found. map numbered_of found.items ≡ model_literals.numbered_literals (task_in self.now) (atoms_in self.now) (formula_of formula.now) (map object_of binding.now.items)) }
+    {
+        numbered_literals(alloc, self.statics.task, &self.atoms, formula, binding)
+    }
 }

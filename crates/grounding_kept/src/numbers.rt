@@ -10,7 +10,7 @@ ghost use Rattle.model.specs.NumberedAtoms as numbered;
 ghost use Rattle.model.specs.NumberedLiterals as model_literals;
 ghost use Rattle.grounding_kept.specs.Numbers.{numbered_of};
 
-use crate::numbering::MAX_ATOMS;
+use crate::atoms::MAX_ATOMS;
 use faults::NoMemory;
 use formulas::{Binding, Literal, sure};
 use indexmap::IndexSet;

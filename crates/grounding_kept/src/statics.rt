@@ -15,7 +15,7 @@ use crate::fluents::fluents;
 use faults::NoMemory;
 use formulas::{Binding, Change, Instance, State, holds};
 use std::alloc::Global;
-use typing::{Formula, ObjectId, PredicateId, Task, TypeUnion};
+use typing::{Atom, Formula, ObjectId, PredicateId, Task, TypeUnion};
 
 /// A task with its fluent predicates and its initial state.
 #[derive(Drop)]
@@ -29,9 +29,9 @@ pub(crate) struct Statics<'t> {
 }
 
 impl<'t> Statics<'t> {
-    ghost use Rattle.std.specs.Prelude.{◌<◌, IfOk, IsTrue};
+    ghost use Rattle.std.specs.Prelude.{◌<◌, ◌&&◌, not, IfOk, IsTrue};
     ghost use Rattle.std.specs.List.{list_any};
-    ghost use Rattle.typing.specs.TaskParts.{object_of, formula_of, union_of};
+    ghost use Rattle.typing.specs.TaskParts.{atom_of, object_of, formula_of, union_of};
     ghost use Rattle.formulas.specs.State.{FitsFormula, FitsFormulas, instance_of};
     ghost use Rattle.formulas.specs.Effects.{change_of};
     ghost use Rattle.grounding_kept.specs.Parameters.{lent_formula};
@@ -57,6 +57,23 @@ impl<'t> Statics<'t> {
         ensures { result ≡ model_fluents.is_fluent (task_of self.now.task.now) predicate.0 }
     {
         self.fluents[predicate.0]
+    }
+
+    /// Whether the atom is true at the start.
+    pub(crate) fn is_initial(&self, atom: &Atom) -> bool
+        ensures { result ≡ contains (initial_state (task_of self.now.task.now)) (atom_of atom.now) }
+    {
+        self.initial.contains(atom)
+    }
+
+    /// Whether the atom is of a static predicate, and is true at the start.
+    pub(crate) fn is_initial_static(&self, atom: &Atom) -> bool
+        ensures { result ≡ (not (model_fluents.is_fluent (task_of self.now.task.now) (atom_of atom.now).predicate) && contains (initial_state (task_of self.now.task.now)) (atom_of atom.now)) }
+    {
+        if !self.is_initial(atom) {
+            return false;
+        }
+        !self.is_fluent(atom.predicate)
     }
 
     /// Whether the instance's precondition is not closed off.

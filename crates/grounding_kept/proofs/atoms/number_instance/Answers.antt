@@ -3,7 +3,7 @@ use Rattle.typing.specs.Task.{task_of}
 use Rattle.formulas.specs.State.{instance_of}
 use Rattle.formulas.specs.Effects.{change_of}
 use Rattle.grounding_kept.proofs.ChangesFit.{all-fit}
-use Rattle.grounding_kept.proofs.numbering.number_instance.Goals as goal
+use Rattle.grounding_kept.proofs.atoms.number_instance.Goals as goal
 
 pub number_counting-requires-clause-fit : goal.number_counting-requires-clause-fit
 number_counting-requires-clause-fit c =

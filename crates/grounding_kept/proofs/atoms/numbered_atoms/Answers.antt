@@ -8,9 +8,9 @@ use Rattle.model.specs.Meaning.{is_instance}
 use Rattle.model.specs.ClosedOff.{kept_instances}
 use Rattle.model.specs.NumberedAtoms as numbered
 use Rattle.model.specs.NumberedAtoms.{with_atoms, touched_by, initial_fluent_atoms}
-use Rattle.grounding_kept.specs.Numbering.{TellsAtoms}
+use Rattle.grounding_kept.specs.Atoms.{TellsAtoms}
 use Rattle.grounding_kept.proofs.NumberLists.{three-parts, told-first, told-second, told-third, kept-are}
-use Rattle.grounding_kept.proofs.numbering.numbered_atoms.Goals as goal
+use Rattle.grounding_kept.proofs.atoms.numbered_atoms.Goals as goal
 
 pub number_touched-requires-clause-instances : goal.number_touched-requires-clause-instances
 number_touched-requires-clause-instances c =

@@ -5,7 +5,7 @@ use Rattle.typing.specs.TaskParts.{atom_of}
 use Rattle.model.specs.NumberedAtoms.{with_atoms, touched_by}
 use Rattle.formulas.specs.State.{instance_of}
 use Rattle.formulas.specs.declared.instance.Instance.{Instance}
-use Rattle.grounding_kept.proofs.numbering.number_touched.Given as goal
+use Rattle.grounding_kept.proofs.atoms.number_touched.Given as goal
 
 -- the atoms so far, and then those of what is left, are all
 abbrev pub invariant-loop-instance : goal.invariant-loop-instance

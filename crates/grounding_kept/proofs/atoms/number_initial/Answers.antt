@@ -4,9 +4,9 @@ use Rattle.typing.specs.Task.{task_of}
 use Rattle.typing.specs.TaskParts.{atom_of}
 use Rattle.model.specs.NumberedAtoms.{with_atoms, initial_fluent_atoms}
 use Rattle.model.proofs.NumberingLemmas.{numbered-end}
-use Rattle.grounding_kept.specs.Numbering.{TellsAtoms}
+use Rattle.grounding_kept.specs.Atoms.{TellsAtoms}
 use Rattle.grounding_kept.proofs.NumberLists.{item-told, next-numbered, got-item, if_fluent, initial-atoms, initial-within}
-use Rattle.grounding_kept.proofs.numbering.number_initial.Goals as goal
+use Rattle.grounding_kept.proofs.atoms.number_initial.Goals as goal
 
 pub loop-atom-init : goal.loop-atom-init
 loop-atom-init c =

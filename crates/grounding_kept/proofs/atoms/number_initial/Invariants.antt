@@ -4,7 +4,7 @@ use Rattle.typing.specs.Task.{task_of}
 use Rattle.typing.specs.TaskParts.{atom_of}
 use Rattle.model.specs.NumberedAtoms.{with_atoms, initial_fluent_atoms}
 use Rattle.grounding_kept.proofs.NumberLists.{if_fluent}
-use Rattle.grounding_kept.proofs.numbering.number_initial.Given as goal
+use Rattle.grounding_kept.proofs.atoms.number_initial.Given as goal
 
 -- the atoms so far, and then those of what is left, are all
 abbrev pub invariant-loop-atom : goal.invariant-loop-atom

@@ -6,9 +6,9 @@ use Rattle.typing.specs.TaskParts.{atom_of}
 use Rattle.model.specs.NumberedAtoms.{with_atoms}
 use Rattle.model.specs.ClosedOff.{counts}
 use Rattle.formulas.specs.Effects.{change_of}
-use Rattle.grounding_kept.specs.Numbering.{atoms_changed}
+use Rattle.grounding_kept.specs.Atoms.{atoms_changed}
 use Rattle.grounding_kept.proofs.NumberLists.{if_counting}
-use Rattle.grounding_kept.proofs.numbering.number_counting.Given as goal
+use Rattle.grounding_kept.proofs.atoms.number_counting.Given as goal
 
 -- the atoms so far, and then those of what is left, are all
 abbrev pub invariant-loop-change : goal.invariant-loop-change

@@ -7,32 +7,33 @@ use Rattle.formulas.specs.State.{instance_of}
 use Rattle.model.specs.ClosedOff as closed_off
 use Rattle.model.specs.Limits.{max_numbered_atoms}
 use Rattle.model.proofs.GroundTaskLemmas.{told_none}
-use Rattle.grounding_kept.specs.Ground.{TellsLimit}
+use Rattle.grounding_kept.specs.Numbering.{TellsLimit}
+use Rattle.grounding_kept.proofs.NumberedFacts.{atoms-fluent, atoms-distinct}
 use Rattle.grounding_kept.proofs.LimitsTold.{first-told, second-told}
-use Rattle.grounding_kept.proofs.ground.Ground.of_statics.Goals as goal
+use Rattle.grounding_kept.proofs.numbering.Numbering.of_statics.Goals as goal
 
 pub numbered_atoms-requires : goal.numbered_atoms-requires
 numbered_atoms-requires c = ap (map instance_of) c.as_slice.ensures.value ∙ c.in_ok-instances.ensures.kept
 
 pub returns-in_err-instances-clause-told : goal.returns-in_err-instances-clause-told
 returns-in_err-instances-clause-told c =
-    let t = task_of c.args.statics.now.task.now in
+    let t = task_of c.args.statics.task.now in
     let more = map atom_of c.args.more.now in
     let e = c.in_err-instances.field-0.0 in
     passed_on (TellsLimit t more c.args.max_instances) c.from_residual.result e c.from_residual.ensures.1 (first-told t more c.args.max_instances e c.in_err-instances.ensures.told)
 
 pub returns-in_err-atoms-clause-told : goal.returns-in_err-atoms-clause-told
 returns-in_err-atoms-clause-told c =
-    let t = task_of c.args.statics.now.task.now in
+    let t = task_of c.args.statics.task.now in
     let more = map atom_of c.args.more.now in
     let e = c.in_err-atoms.field-0.0 in
     let few : length (closed_off.kept_instances t) ≤ c.args.max_instances = omega (arith, c.in_ok-instances.ensures.few, ap length c.in_ok-instances.ensures.kept, length-map c.in_ok-instances.instances.items instance_of) in
     passed_on (TellsLimit t more c.args.max_instances) c.from_residual-in_err-atoms.result e c.from_residual-in_err-atoms.ensures.1
     (second-told t more c.args.max_instances e few c.in_err-atoms.ensures.told)
 
-pub returns-clause-ground_task : goal.returns-clause-ground_task
-returns-clause-ground_task c =
-    let t = task_of c.args.statics.now.task.now in
+pub returns-clause-numbering : goal.returns-clause-numbering
+returns-clause-numbering c =
+    let t = task_of c.args.statics.task.now in
     let more = map atom_of c.args.more.now in
     let instances = c.in_ok-instances.instances.items in
     let atoms = c.in_ok-atoms.atoms.keys in
@@ -43,4 +44,16 @@ returns-clause-ground_task c =
       within = told_none t more c.args.max_instances max_numbered_atoms
           (omega (arith, c.in_ok-instances.ensures.few, ap length c.in_ok-instances.ensures.kept, length-map instances instance_of))
           (omega (arith, c.in_ok-atoms.ensures.few, ap length c.in_ok-atoms.ensures.numbered, length-map atoms atom_of));
+    }
+
+pub invariant_of-result : goal.invariant_of-result
+invariant_of-result c =
+    let t = task_of c.args.statics.task.now in
+    let more = map atom_of c.args.more.now in
+    let atoms = map atom_of c.in_ok-atoms.atoms.keys in
+    record {
+      few_atoms = c.in_ok-atoms.ensures.few;
+      kept = c.in_ok-instances.ensures.kept;
+      fluent = atoms-fluent t more atoms c.in_ok-atoms.ensures.numbered c.requires.fluent;
+      distinct = atoms-distinct t more atoms c.in_ok-atoms.ensures.numbered;
     }

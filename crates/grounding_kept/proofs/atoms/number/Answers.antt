@@ -2,7 +2,7 @@ use Rattle.std.proofs.Common.{◌∙◌, ◌≤◌, sym, subst}
 use Rattle.std.specs.List.{each_same}
 use Rattle.formulas.proofs.States.{copied}
 use Rattle.grounding_kept.proofs.NumberLists.{numbered-there, numbered-new, numbered-full}
-use Rattle.grounding_kept.proofs.numbering.number.Goals as goal
+use Rattle.grounding_kept.proofs.atoms.number.Goals as goal
 
 pub returns-then-contains-clause-numbered : goal.returns-then-contains-clause-numbered
 returns-then-contains-clause-numbered c = numbered-there c.args.atom.now c.args.atoms.now.keys (sym c.contains.ensures ∙ c.if-contains.true)

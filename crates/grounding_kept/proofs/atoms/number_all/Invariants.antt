@@ -3,7 +3,7 @@ use Rattle.std.specs.List.{flat_map}
 use Rattle.typing.specs.declared.atoms.Atom.{Atom}
 use Rattle.typing.specs.TaskParts.{atom_of}
 use Rattle.model.specs.NumberedAtoms.{with_atoms}
-use Rattle.grounding_kept.proofs.numbering.number_all.Given as goal
+use Rattle.grounding_kept.proofs.atoms.number_all.Given as goal
 
 -- the atoms so far, and then those that are left, are all
 abbrev pub invariant-loop-atom : goal.invariant-loop-atom

@@ -9,9 +9,9 @@ use Rattle.model.specs.Meaning.{is_instance}
 use Rattle.model.specs.NumberedAtoms.{with_atoms, touched_by}
 use Rattle.model.proofs.Tests.{passes_at, passes_map}
 use Rattle.model.proofs.NumberingLemmas.{numbered-end, flat_map-map}
-use Rattle.grounding_kept.specs.Numbering.{TellsAtoms}
+use Rattle.grounding_kept.specs.Atoms.{TellsAtoms}
 use Rattle.grounding_kept.proofs.NumberLists.{item-told, next-numbered, got-item}
-use Rattle.grounding_kept.proofs.numbering.number_touched.Goals as goal
+use Rattle.grounding_kept.proofs.atoms.number_touched.Goals as goal
 
 pub loop-instance-init : goal.loop-instance-init
 loop-instance-init c =

@@ -4,9 +4,9 @@ use Rattle.typing.specs.declared.atoms.Atom.{Atom}
 use Rattle.typing.specs.TaskParts.{atom_of}
 use Rattle.model.specs.NumberedAtoms.{with_atoms}
 use Rattle.model.proofs.NumberingLemmas.{numbered-end}
-use Rattle.grounding_kept.specs.Numbering.{TellsAtoms}
+use Rattle.grounding_kept.specs.Atoms.{TellsAtoms}
 use Rattle.grounding_kept.proofs.NumberLists.{item-told, next-numbered, got-item, singles}
-use Rattle.grounding_kept.proofs.numbering.number_all.Goals as goal
+use Rattle.grounding_kept.proofs.atoms.number_all.Goals as goal
 
 pub loop-atom-init : goal.loop-atom-init
 loop-atom-init c = record { all = ap (with_atoms (map atom_of c.args.atoms.now.keys)) (singles atom_of c.args.list.now); few = c.requires }

@@ -7,9 +7,9 @@ use Rattle.formulas.specs.Effects.{change_of}
 use Rattle.model.specs.ClosedOff.{counts}
 use Rattle.model.specs.NumberedAtoms.{with_atoms}
 use Rattle.model.proofs.NumberingLemmas.{numbered-end}
-use Rattle.grounding_kept.specs.Numbering.{TellsAtoms, atoms_changed}
+use Rattle.grounding_kept.specs.Atoms.{TellsAtoms, atoms_changed}
 use Rattle.grounding_kept.proofs.NumberLists.{item-told, next-numbered, got-item, got-mapped, if_counting, counting-atoms}
-use Rattle.grounding_kept.proofs.numbering.number_counting.Goals as goal
+use Rattle.grounding_kept.proofs.atoms.number_counting.Goals as goal
 
 pub loop-change-init : goal.loop-change-init
 loop-change-init c =

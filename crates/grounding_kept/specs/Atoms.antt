@@ -1,0 +1,24 @@
+-- Atoms that are numbered one after another, and when a limit is told.
+use Rattle.std.specs.Prelude.{◌≡◌, ℕ, ◌<◌, List, map, length, slice_get, Some}
+use Rattle.faults.specs.declared.refused.Refused.TheVariants.{At, NoMemory}
+use Rattle.grounding_kept.specs.declared.fault.GroundLimit.TheVariants.{Instances, Atoms}
+use Rattle.grounding_kept.specs.Kept.{GroundFault}
+use Rattle.formulas.specs.State.{FitsFormula}
+use Rattle.model.specs.Task.{Atom, Task}
+use Rattle.model.specs.Meaning.{Change}
+use Rattle.model.specs.Limits.{max_numbered_atoms}
+use Rattle.model.specs.NumberedAtoms.{atom_of_literal}
+
+-- the limit of atoms is told, where these are more; want of memory says nothing
+abbrev pub TellsAtoms : List Atom → GroundFault → Type 0
+TellsAtoms atoms (At Instances) = ⊥
+TellsAtoms atoms (At Atoms) = max_numbered_atoms < length atoms
+TellsAtoms atoms NoMemory = Unit {0}
+
+-- the atoms that the changes add or delete
+abbrev pub atoms_changed : List Change → List Atom
+atoms_changed changes = map (λ (c : Change). atom_of_literal c.literal) changes
+
+-- the objects of each of these changes may stand for the variables in its condition
+abbrev pub AllFit : Task → List Change → Type 0
+AllFit t changes = (place : ℕ) (c : Change) → slice_get changes place ≡ Some c → FitsFormula t c.condition c.binding
