@@ -9,11 +9,10 @@ ghost use Rattle.model.proofs.EnumerationLemmas.{begun};
 ghost use Rattle.grounding_kept.specs.Parameters.{choice_of, lent_formula, ranges_of};
 ghost use Rattle.grounding_kept.specs.Kept.{IsBegun, TellsInstances, instances_of_number};
 
-use crate::bindings::with_object;
 use crate::fault::{GroundFault, GroundLimit};
 use crate::parameters::{Parameter, decided_literals, parameters_of};
 use crate::statics::Statics;
-use formulas::{Binding, Instance};
+use formulas::{Binding, Instance, with_object};
 use std::alloc::Global;
 use typing::{Formula, SchemaId};
 

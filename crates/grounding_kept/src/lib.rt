@@ -2,7 +2,6 @@
 #![tactic(auto)]
 
 mod atoms;
-mod bindings;
 mod fault;
 mod fluents;
 mod kept;

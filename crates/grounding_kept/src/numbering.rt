@@ -13,10 +13,10 @@ ghost use Rattle.grounding_kept.specs.declared.atoms.TheConstants.{MAX_ATOMS};
 use crate::atoms::{MAX_ATOMS, numbered_atoms};
 use crate::fault::GroundFault;
 use crate::kept::kept_instances;
-use crate::numbers::{NumberedLiteral, number_of, numbered_literals};
+use crate::numbers::{NumberedLiteral, number_of, numbered, numbered_literals};
 use crate::statics::Statics;
 use faults::NoMemory;
-use formulas::{Binding, Change, Instance};
+use formulas::{Binding, Change, Instance, Literal};
 use indexmap::IndexSet;
 use std::alloc::Global;
 use typing::{Atom, Formula, Task};
@@ -36,14 +36,16 @@ pub struct Numbering<'t> {
 
 impl<'t> Numbering<'t> {
     ghost use Rattle.std.specs.Prelude.{not, ◌&&◌, All, IfOk, IfErr, IsTrue};
+    ghost use Rattle.std.specs.List.{filter_map};
     ghost use Rattle.std.specs.FinSet.{contains};
     ghost use Rattle.typing.specs.TaskParts.{object_of, formula_of};
     ghost use Rattle.formulas.specs.State.{FitsFormula};
     ghost use Rattle.formulas.specs.Effects.{change_of};
+    ghost use Rattle.formulas.specs.Literals.{literal_of};
     ghost use Rattle.model.specs.Meaning.{initial_state};
     ghost use Rattle.model.specs.Fluents.{is_fluent_atom};
     ghost use Rattle.model.specs.ClosedOff as closed_off;
-    ghost use Rattle.model.specs.NumberedAtoms as numbered;
+    ghost use Rattle.model.specs.NumberedAtoms as model_atoms;
     ghost use Rattle.model.specs.NumberedLiterals as model_literals;
     ghost use Rattle.grounding_kept.specs.Numbers.{numbered_of};
     ghost use Rattle.grounding_kept.specs.Numbering.{task_in, atoms_in, instances_in, IsNumberingOf, TellsLimit};
@@ -118,7 +120,7 @@ impl<'t> Numbering<'t> {
 
     /// The number of the atom, if it has one.
     pub fn number_of(&self, atom: &Atom) -> Option<u32>
-        ensures { result ≡ numbered.number_of (atoms_in self.now) (atom_of atom.now) }
+        ensures { result ≡ model_atoms.number_of (atoms_in self.now) (atom_of atom.now) }
     {
         number_of(&self.atoms, atom)
     }
@@ -167,5 +169,16 @@ impl<'t> Numbering<'t> {
         ensures { IfOk result (λ found. map numbered_of found.items ≡ model_literals.numbered_literals (task_in self.now) (atoms_in self.now) (formula_of formula.now) (map object_of binding.now.items)) }
     {
         numbered_literals(alloc, self.statics.task, &self.atoms, formula, binding)
+    }
+
+    /// Those of the literals that are of numbered atoms, in order.
+    pub fn numbered(
+        &self,
+        alloc: Global,
+        literals: &[Literal],
+    ) -> Result<Vec<NumberedLiteral>, NoMemory>
+        ensures { IfOk result (λ found. map numbered_of found.items ≡ filter_map (model_literals.numbered_literal (atoms_in self.now)) (map literal_of literals.now)) }
+    {
+        numbered(alloc, &self.atoms, literals)
     }
 }

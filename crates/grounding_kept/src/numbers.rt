@@ -18,7 +18,7 @@ use std::alloc::Global;
 use typing::{Atom, Formula, Task};
 
 /// A numbered atom is true, or false.
-#[derive(Clone, Copy, Debug, PartialEq, Eq)]
+#[derive(Clone, Copy, Debug, Default, PartialEq, Eq)]
 pub struct NumberedLiteral {
     /// The atom's number, from 0.
     pub atom: u32,
@@ -40,8 +40,20 @@ pub(crate) fn numbered_literals(
     ensures { IfOk result (λ found. map numbered_of found.items ≡ model_literals.numbered_literals (task_of task.now) (map atom_of atoms.now.keys) (formula_of formula.now) (map object_of binding.now.items)) }
 {
     let literals = sure(alloc, task, formula, binding)?;
+    numbered(alloc, atoms, literals.as_slice())
+}
+
+/// Those of the literals that are of numbered atoms, in order.
+pub(crate) fn numbered(
+    alloc: Global,
+    atoms: &IndexSet<Atom>,
+    literals: &[Literal],
+) -> Result<Vec<NumberedLiteral>, NoMemory>
+    requires { length atoms.now.keys ≤ MAX_ATOMS }
+    ensures { IfOk result (λ found. map numbered_of found.items ≡ filter_map (model_literals.numbered_literal (map atom_of atoms.now.keys)) (map literal_of literals.now)) }
+{
     let mut found = Vec::new(alloc);
-    for literal in &literals {
+    for literal in literals {
         add_numbered(atoms, literal, &mut found)?;
     }
     Ok(found)

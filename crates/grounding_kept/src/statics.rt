@@ -10,10 +10,9 @@ ghost use Rattle.model.specs.Task as model_task;
 ghost use Rattle.model.specs.Fluents as model_fluents;
 ghost use Rattle.model.specs.Meaning.{initial_state};
 
-use crate::bindings::copied;
 use crate::fluents::fluents;
 use faults::NoMemory;
-use formulas::{Binding, Change, Instance, State, holds};
+use formulas::{Binding, Change, Instance, State, copied, holds};
 use std::alloc::Global;
 use typing::{Atom, Formula, ObjectId, PredicateId, Task, TypeUnion};
 

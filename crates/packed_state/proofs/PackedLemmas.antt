@@ -9,7 +9,7 @@ use Rattle.std.proofs.lemmas.List.FromFn.{length-map-range_with_len, get_or-map-
 use Rattle.std.proofs.lemmas.Nat.Bits.{bit_at-zero, same_from_bits_below, bit_at-lt}
 use Rattle.packed_state.specs.Sets.{has, set_of, changed, Includes, AreDisjoint, at_width}
 use Rattle.packed_state.specs.Words.{word_has, bits_in, AreWordsOf}
-use Rattle.packed_state.proofs.WordLemmas.{in_word}
+use Rattle.packed_state.proofs.WordLemmas.{in_word, taken, spared}
 
 pub length-bits : (width : ℕ) (words : List ℕ) → length (bits_in width words) ≡ width
 unfolding bits_in
@@ -111,6 +111,40 @@ insert_words width old new number are within long small each =
       small = small;
       rest = λ k past. each k ∙ or_from (word_has old k) (number == k) (are.rest k past) (ne_eqb number k (λ is. absurd (omega arith)));
     }
+
+-- ---- one number less
+
+absent_and : (a b : Bool) → a ≡ false → (a && b) ≡ false
+absent_and true b is = absurd (cc)
+absent_and false b is = refl
+
+pub remove_bits : (width : ℕ) (old new : List ℕ) (number : ℕ) → number < width → ((k : ℕ) → word_has new k ≡ (word_has old k && not (number == k)))
+    → bits_in width new ≡ set (bits_in width old) number false
+remove_bits width old new number within each =
+    bits_are width new (λ k. word_has old k && not (number == k)) (λ k _. each k)
+    ∙ sym (fill_by_all (λ k. word_has old k && not (number == k)) (set (bits_in width old) number false) width false
+    (length-set (bits_in width old) number false ∙ length-bits width old)
+    (λ k below.
+    elim (cases_eq k number) [
+      | inl same ↦
+          rw same (get_or-set_same (bits_in width old) number false false (omega (arith, length-bits width old))
+          ∙ sym (taken (word_has old number) (number == number) (eq-eqb number number refl)))
+      | inr other ↦
+          get_or-set_other (bits_in width old) number k false false other ∙ bit_below width old k below
+          ∙ sym (spared (word_has old k) (number == k) (ne_eqb number k (λ is. other (sym is))))
+    ]))
+
+pub remove_words : (width : ℕ) (old new : List ℕ) (number : ℕ) → AreWordsOf width old → length new ≡ length old
+    → ((place : ℕ) → get_or new place 0 < 2 ^ 64) → ((k : ℕ) → word_has new k ≡ (word_has old k && not (number == k))) → AreWordsOf width new
+remove_words width old new number are long small each =
+    record {
+      enough = omega (arith, are.enough);
+      no_more = omega (arith, are.no_more);
+      small = small;
+      rest = λ k past. each k ∙ absent_and (word_has old k) (not (number == k)) (are.rest k past);
+    }
+
+-- ---- the set of some numbers
 
 neither_in : (a b c : Bool) → a ≡ false → c ≡ false → ((a && b) || c) ≡ false
 neither_in true b c is none = absurd (cc)

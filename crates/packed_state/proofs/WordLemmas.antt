@@ -5,7 +5,7 @@ use Rattle.std.specs.Int.{bit_at, bit_not}
 use Rattle.std.proofs.lemmas.Bool.{cases_eq, cases_lt, or_right, ne_eqb, both_ways}
 use Rattle.std.proofs.lemmas.List.{get_or_past, get_or-set_same, get_or-set_other}
 use Rattle.std.proofs.lemmas.Nat.{and_le_l, or_lt}
-use Rattle.std.proofs.lemmas.Nat.Bits.{bit_at_or, bit_at_and, bit_at_not, bit_at-zero, bit_at-lt, bit_at_set_same, bit_at_set_other, same_from_bits_below}
+use Rattle.std.proofs.lemmas.Nat.Bits.{bit_at_or, bit_at_and, bit_at_not, bit_at-zero, bit_at-lt, bit_at_set_same, bit_at_set_other, bit_at_clear_same, bit_at_clear_other, same_from_bits_below}
 use Rattle.packed_state.specs.Words.{word_has}
 
 -- ---- one bit of a word
@@ -102,6 +102,52 @@ pub put_small : (words : List ℕ) (number : ℕ) → number < 64 * length words
 put_small words number within small place =
     let word : ℕ = bit_or (get_or words (number / 64) 0) (1 * 2 ^ (number % 64) % 2 ^ 64) in
     let fits : word < 2 ^ 64 = or_lt 64 (get_or words (number / 64) 0) (1 * 2 ^ (number % 64) % 2 ^ 64) (small (number / 64)) (omega arith) in
+    elim (cases_eq place (number / 64)) [
+      | inl same ↦ rw (same, get_or-set_same words (number / 64) word 0 (omega arith)) fits
+      | inr other ↦ rw (get_or-set_other words (number / 64) place word 0 other) (small place)
+    ]
+
+-- ---- one number less
+
+pub taken : (a b : Bool) → b ≡ true → (a && not b) ≡ false
+taken true b is = ap not is
+taken false b is = refl
+
+pub spared : (a b : Bool) → b ≡ false → (a && not b) ≡ a
+spared true b is = ap not is
+spared false b is = refl
+
+pub taken_out : (words : List ℕ) (number : ℕ) → number < 64 * length words → (k : ℕ)
+    → word_has (set words (number / 64) (bit_and (get_or words (number / 64) 0) (bit_not w64 (1 * 2 ^ (number % 64) % 2 ^ 64)))) k ≡ (word_has words k && not (number == k))
+unfolding word_has
+taken_out words number within k =
+    let word : ℕ = bit_and (get_or words (number / 64) 0) (bit_not w64 (1 * 2 ^ (number % 64) % 2 ^ 64)) in
+    let inside : number / 64 < length words = omega arith in
+    let low : number % 64 < 64 = omega arith in
+    elim (cases_eq number k) [
+      | inl same ↦
+          let here : (bit_at (get_or (set words (number / 64) word) (number / 64) 0) (number % 64) == 1) ≡ false =
+          ap (λ w. bit_at w (number % 64) == 1) (get_or-set_same words (number / 64) word 0 inside)
+          ∙ ap (λ n. n == 1) (bit_at_clear_same w64 (get_or words (number / 64) 0) (number % 64) low) in
+          let there : (bit_at (get_or (set words (number / 64) word) (k / 64) 0) (k % 64) == 1) ≡ false = rw (← same) here in
+          there ∙ sym (taken _ (number == k) (eq-eqb number k same))
+      | inr other ↦
+          let rest : (bit_at (get_or (set words (number / 64) word) (k / 64) 0) (k % 64) == 1) ≡ (bit_at (get_or words (k / 64) 0) (k % 64) == 1) =
+          elim (cases_eq (k / 64) (number / 64)) [
+            | inl in_it ↦
+                let apart : k % 64 ≡ number % 64 → ⊥ = λ is. other (omega arith) in
+                rw in_it (ap (λ w. bit_at w (k % 64) == 1) (get_or-set_same words (number / 64) word 0 inside)
+                ∙ ap (λ n. n == 1) (bit_at_clear_other w64 (get_or words (number / 64) 0) (number % 64) low (k % 64) (omega arith) apart))
+            | inr beside ↦ ap (λ w. bit_at w (k % 64) == 1) (get_or-set_other words (number / 64) (k / 64) word 0 beside)
+          ] in
+          rest ∙ sym (spared (bit_at (get_or words (k / 64) 0) (k % 64) == 1) (number == k) (ne_eqb number k other))
+    ]
+
+pub taken_small : (words : List ℕ) (number : ℕ) → number < 64 * length words → ((place : ℕ) → get_or words place 0 < 2 ^ 64) → (place : ℕ)
+    → get_or (set words (number / 64) (bit_and (get_or words (number / 64) 0) (bit_not w64 (1 * 2 ^ (number % 64) % 2 ^ 64)))) place 0 < 2 ^ 64
+taken_small words number within small place =
+    let word : ℕ = bit_and (get_or words (number / 64) 0) (bit_not w64 (1 * 2 ^ (number % 64) % 2 ^ 64)) in
+    let fits : word < 2 ^ 64 = omega (arith, small (number / 64), and_le_l (get_or words (number / 64) 0) (bit_not w64 (1 * 2 ^ (number % 64) % 2 ^ 64))) in
     elim (cases_eq place (number / 64)) [
       | inl same ↦ rw (same, get_or-set_same words (number / 64) word 0 (omega arith)) fits
       | inr other ↦ rw (get_or-set_other words (number / 64) place word 0 other) (small place)

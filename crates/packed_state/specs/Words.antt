@@ -1,6 +1,6 @@
 -- Sets as words of 64 bits: bit `k % 64` of word `k / 64`, counted from the lowest, says whether the number k is in.
-use Rattle.std.specs.Prelude.{◌≡◌, ℕ, ◌+◌, ◌*◌, ◌/◌, ◌%◌, ◌^◌, ◌<◌, ◌≤◌, ◌==◌, Bool, false, List, length, map, slice_index}
-use Rattle.std.specs.List.{range_with_len}
+use Rattle.std.specs.Prelude.{◌≡◌, ℕ, ◌+◌, ◌-◌, ◌*◌, ◌/◌, ◌%◌, ◌^◌, ◌<◌, ◌≤◌, ◌==◌, Bool, false, List, length, map, slice_index}
+use Rattle.std.specs.List.{filter, range_with_len}
 use Rattle.std.specs.Int.{bit_at}
 
 -- whether the number is in
@@ -10,6 +10,10 @@ word_has words number = bit_at (slice_index words (number / 64)) (number % 64) =
 -- the set that the words hold, of the numbers below the width
 unfoldable pub bits_in : ℕ → List ℕ → List Bool
 bits_in width words = map (word_has words) (range_with_len 0 width)
+
+-- the numbers of one word, rising, where its lowest bit stands for the number `first`
+unfoldable pub numbers_of_word : ℕ → ℕ → List ℕ
+numbers_of_word first word = filter (λ number. bit_at word (number - first) == 1) (range_with_len first 64)
 
 -- As many words as the width needs, and no number from the width on is in: so a set has one list of words.
 pub record AreWordsOf (width : ℕ) (words : List ℕ) : Type 0 where

@@ -22,8 +22,8 @@ pub struct Mask {
 }
 
 impl Packed {
-    ghost use Rattle.std.specs.Prelude.{◌↔◌, IsTrue, IfOk, length, true, slice_set};
-    ghost use Rattle.std.specs.List.{All};
+    ghost use Rattle.std.specs.Prelude.{◌↔◌, IsTrue, IfOk, OnOk, length, true, slice_set};
+    ghost use Rattle.std.specs.List.{All, filter, range_with_len};
     ghost use Rattle.packed_state.specs.Sets.{has, set_of, Includes, AreDisjoint, changed, at_width};
     ghost use Rattle.packed_state.specs.Packed.{bits_of, mask_bits_of};
 
@@ -80,6 +80,14 @@ impl Packed {
         self.words.copy_from_slice(words);
     }
 
+    /// Makes it the same set as another of its width.
+    pub fn copy_from(&mut self, other: &Packed)
+        requires { length (bits_of self.old) ≡ length (bits_of other.now) }
+        ensures { bits_of self.new ≡ bits_of other.now }
+    {
+        self.copy_words(other.words());
+    }
+
     /// Whether the number is in the set.
     pub fn has(&self, number: u32) -> bool
         requires { number < length (bits_of self.now) }
@@ -94,6 +102,32 @@ impl Packed {
         ensures { bits_of self.new ≡ slice_set (bits_of self.old) number true }
     {
         words::insert(&mut self.words, number);
+    }
+
+    /// Takes the number out of the set.
+    pub fn remove(&mut self, number: u32)
+        requires { number < length (bits_of self.old) }
+        ensures { bits_of self.new ≡ slice_set (bits_of self.old) number false }
+    {
+        words::remove(&mut self.words, number);
+    }
+
+    /// The numbers in the set, rising.
+    pub fn numbers(&self, alloc: Global) -> Result<Vec<u32>, NoMemory>
+        ensures { IfOk result (λ numbers. numbers.items ≡ filter (has (bits_of self.now)) (range_with_len 0 (length (bits_of self.now)))) }
+    {
+        let mut numbers = Vec::new(alloc);
+        self.list_numbers(&mut numbers)?;
+        Ok(numbers)
+    }
+
+    /// Puts the numbers in the set, rising, in the place of what `into` has.
+    pub fn list_numbers(&self, into: &mut Vec<u32>) -> Result<(), NoMemory>
+        ensures { OnOk result (into.new.items ≡ filter (has (bits_of self.now)) (range_with_len 0 (length (bits_of self.now)))) }
+    {
+        prove!(self.words.len() == words::words_for(self.width())); // so that each number is a u32
+        into.clear();
+        words::push_numbers(&self.words, into)
     }
 
     /// Whether each number of the mask is in the set.

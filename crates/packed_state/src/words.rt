@@ -1,6 +1,9 @@
 //! Words of 64 bits as sets: bit `k % 64` of word `k / 64`, counted from the lowest, stands for the number k.
-ghost use Rattle.std.specs.Prelude.{◌≡◌, ℕ, ◌+◌, ◌*◌, ◌/◌, ◌<◌, ◌≤◌, ◌↔◌, ◌==◌, ◌&&◌, ◌||◌, ◌^◌, not, IsTrue, length, slice_index};
-ghost use Rattle.packed_state.specs.Words.{word_has};
+ghost use Rattle.std.specs.Prelude.{◌≡◌, ℕ, ◌+◌, ◌*◌, ◌/◌, ◌<◌, ◌≤◌, ◌↔◌, ◌==◌, ◌&&◌, ◌||◌, ◌^◌, ◌++◌, not, IsTrue, OnOk, length, slice_index};
+ghost use Rattle.std.specs.List.{filter, range_with_len};
+ghost use Rattle.packed_state.specs.Words.{word_has, numbers_of_word};
+
+use faults::NoMemory;
 
 /// How many words the numbers below `width` need.
 pub(crate) fn words_for(width: u32) -> usize
@@ -26,6 +29,16 @@ pub(crate) fn insert(words: &mut [u64], number: u32)
     ensures small { (place : ℕ) → slice_index words.new place < 2 ^ 64 }
 {
     words[number as usize / 64] |= 1 << (number % 64);
+}
+
+/// Takes the number out.
+pub(crate) fn remove(words: &mut [u64], number: u32)
+    requires within { number < 64 * length words.old }
+    requires small { (place : ℕ) → slice_index words.old place < 2 ^ 64 }
+    ensures has { (k : ℕ) → word_has words.new k ≡ (word_has words.old k && not (number == k)) }
+    ensures small { (place : ℕ) → slice_index words.new place < 2 ^ 64 }
+{
+    words[number as usize / 64] &= !(1 << (number % 64));
 }
 
 /// Whether each number of `part` is in.
@@ -65,4 +78,29 @@ pub(crate) fn change(words: &mut [u64], deletes: &[u64], adds: &[u64])
     'words: for place in 0..words.len() {
         words[place] = words[place] & !deletes[place] | adds[place];
     }
+}
+
+/// Adds the numbers that are in, rising, to those of `into`.
+pub(crate) fn push_numbers(words: &[u64], into: &mut Vec<u32>) -> Result<(), NoMemory>
+    requires { 64 * length words.now ≤ 2 ^ 32 }
+    ensures { OnOk result (into.new.items ≡ into.old.items ++ filter (word_has words.now) (range_with_len 0 (64 * length words.now))) }
+{
+    'words: for (place, &word) in words.iter().enumerate() {
+        push_numbers_of_word(word, place as u32 * 64, into)?;
+    }
+    Ok(())
+}
+
+/// Adds the numbers of one word, whose lowest bit stands for `first`.
+fn push_numbers_of_word(word: u64, first: u32, into: &mut Vec<u32>) -> Result<(), NoMemory>
+    requires { first + 64 ≤ 2 ^ 32 }
+    ensures { OnOk result (into.new.items ≡ into.old.items ++ numbers_of_word first word) }
+{
+    let mut rest = word;
+    'rest: while rest != 0 {
+        let lowest = rest.trailing_zeros();
+        into.push(first + lowest)?;
+        rest &= !(1 << lowest);
+    }
+    Ok(())
 }

@@ -1,21 +1,13 @@
-use Rattle.std.proofs.Common.{◌∙◌, ap, map}
+use Rattle.std.proofs.Common.{◌≡◌, ◌∙◌, ap, subst, map}
+use Rattle.std.specs.Prelude.{IfOk}
 use Rattle.std.specs.List.{filter_map}
-use Rattle.std.proofs.lemmas.List.{take_all}
 use Rattle.typing.specs.TaskParts.{atom_of}
 use Rattle.formulas.specs.Literals.{literal_of}
 use Rattle.model.specs.NumberedLiterals.{numbered_literal}
 use Rattle.grounding_kept.specs.Numbers.{numbered_of}
-use Rattle.grounding_kept.proofs.NumberedParts.{filtered-more}
 use Rattle.grounding_kept.proofs.numbers.numbered_literals.Goals as goal
-
-pub loop-literal-preserved : goal.loop-literal-preserved
-loop-literal-preserved c =
-    filtered-more (numbered_literal (map atom_of c.args.atoms.now.keys)) literal_of c.deref-literal-items.result.now c.loop-literal.literal-index c.literal-item.result
-    (map numbered_of c.loop-literal.found.items) (map numbered_of c.add_numbered.new.found.items) c.loop-literal-test.true c.literal-item.is c.loop-literal.invariant c.in_ok-add_numbered.ensures
 
 pub returns : goal.returns
 returns c =
-    let h = filter_map (numbered_literal (map atom_of c.args.atoms.now.keys)) in
-    c.loop-literal.invariant
-    ∙ ap (λ l. h (map literal_of l)) (take_all c.loop-literal.literal-index c.deref-literal-items.result.now c.loop-literal-test.false ∙ c.deref-literal-items.ensures.value)
-    ∙ ap h c.in_ok-literals.ensures
+    subst (λ ls. IfOk c.numbered.result (λ found. map numbered_of found.items ≡ filter_map (numbered_literal (map atom_of c.args.atoms.now.keys)) ls))
+    (ap (map literal_of) c.as_slice.ensures.value ∙ c.in_ok-literals.ensures) c.numbered.ensures

@@ -4,9 +4,9 @@ use Rattle.typing.specs.TaskParts.{atom_of}
 use Rattle.formulas.specs.Literals.{literal_of}
 use Rattle.model.specs.NumberedLiterals.{numbered_literal}
 use Rattle.grounding_kept.specs.Numbers.{numbered_of}
-use Rattle.grounding_kept.proofs.numbers.numbered_literals.Given as goal
+use Rattle.grounding_kept.proofs.numbers.numbered.Given as goal
 
 -- those of the literals so far
 abbrev pub invariant-loop-literal : goal.invariant-loop-literal
 invariant-loop-literal l =
-    map numbered_of l.found.items ≡ filter_map (numbered_literal (map atom_of l.atoms.keys)) (map literal_of (take l.literal-index l.literal-items))
+    map numbered_of l.found.items ≡ filter_map (numbered_literal (map atom_of l.atoms.keys)) (map literal_of (take l.literal-index l.literals))

@@ -1,0 +1,4 @@
+pub mod OutrightLemmas
+pub mod PackedTruth
+pub mod LiteralLists
+pub mod Conditions

@@ -1,0 +1,4 @@
+pub mod Outright
+pub mod Unnumbered
+pub mod StateView
+pub mod Conditions
