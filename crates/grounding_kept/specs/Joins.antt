@@ -30,7 +30,7 @@ pub record IsJoint (t : task.Task) (formula : task.Formula) (number : ℕ) (j : 
   pub place : slice_get (map term_of j.atom.now.terms.items) j.place ≡ Some (task.variable number)
   pub key : IfSome j.key (λ place. option_map_or (is_bound number) (slice_get (map term_of j.atom.now.terms.items) place) false ≡ true)
 
--- and it is one of these
+-- the joint is one of these formulas
 pub record IsJointAmong (t : task.Task) (formulas : List task.Formula) (number : ℕ) (j : Joint) : Type 0 where
   pub place : ℕ
   pub formula : task.Formula
@@ -65,7 +65,8 @@ Grows old new =
     (key : ℕ) (set : BTreeSet ObjectId) → slice_get new key ≡ Some set
     → (before : BTreeSet ObjectId) × (slice_get old key ≡ Some before) × ((object : ℕ) → has before object ≡ true → has set object ≡ true)
 
--- Of the objects of these types, one closes off one of these literals that is not in the group of the earlier objects.
+-- The join is of the choice's types, its joint is one of the choice's literals, and each atom of the start has its object
+-- in the group of its key.
 pub record IsJoin (t : task.Task) (number : ℕ) (choice : Choice) (j : Join) : Type 0 where
   pub objects : choice.objects ≡ meaning.objects_of t (union_of j.types.now)
   pub joint : IsJointAmong t choice.literals number j.joint
@@ -78,6 +79,7 @@ pub record IsGroup (t : task.Task) (j : Join) (objects : List ℕ) (found : List
   pub ordered : IsStrictlySortedBy (object_ord.ghosts).cmp set.keys
   pub are : found ≡ filter (λ (o : ObjectId). meaning.is_of t (union_of j.types.now) o.0) set.keys
 
+-- the parameter's join, if it has one, is its own
 abbrev pub IsJoined : task.Task → ℕ → Parameter → Type 0
 IsJoined t number p = IfSome p.join (IsJoin t number (choice_of p))
 

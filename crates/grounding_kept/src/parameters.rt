@@ -23,7 +23,7 @@ pub(crate) struct Parameter<'t> {
     pub(crate) objects: Vec<ObjectId>,
     /// The literals of the precondition that are decided once it has an object, and not before.
     pub(crate) literals: Vec<&'t Formula>,
-    /// What one of the literals says of the objects.
+    /// Where one of the literals is a static atom that it stands in: the objects that it may be there.
     join: Option<Join<'t>>,
 }
 
