@@ -7,6 +7,7 @@ use Rattle.std.specs.List.{list_all, list_any, flat_map, range_with_len}
 use Rattle.std.specs.Option.{option_map, option_map_or}
 use Rattle.std.proofs.lemmas.Bool.{and_parts, and_from}
 use Rattle.std.proofs.lemmas.List.{length-append}
+use Rattle.std.proofs.lemmas.List.Elements.{filter-append}
 use Rattle.std.proofs.lemmas.Option.{slice_get_past}
 use Rattle.typing.specs.TaskParts.{shape_of_schema}
 use Rattle.typing.proofs.Shapes.{Shape, found as schema_found}
@@ -23,6 +24,7 @@ use Rattle.grounding_kept.specs.declared.fault.GroundLimit.TheVariants.{Instance
 use Rattle.faults.specs.declared.refused.Refused.TheVariants.{At, NoMemory}
 use Rattle.grounding_kept.specs.Literals.{decided_literals}
 use Rattle.grounding_kept.specs.Parameters.{Choice, choices_from, ranges_of}
+use Rattle.grounding_kept.specs.Joins.{AreCandidates}
 use Rattle.grounding_kept.specs.Kept.{IsBegun, GroundFault, TellsInstances, instances_of_number}
 use Rattle.grounding_kept.proofs.DecidedLiterals.{literals-close, literals-typed}
 
@@ -178,6 +180,46 @@ begun-split schema objects firsts left choice later is same =
     ap (begun_from schema objects (ranges_of later)) same
     ∙ sym (begun-next schema objects choice.objects (ranges_of later))
     ∙ sym (ap (λ l. begun schema objects (ranges_of l)) is)
+
+-- Candidates leave out objects whose instances are not kept.
+thinned : (keep : Instance → Bool) (give : ℕ → List Instance) (may : ℕ → Bool) (xs : List ℕ) → ((i one : ℕ) → slice_get xs i ≡ Some one → may one ≡ false → filter keep (give one) ≡ [])
+    → filter keep (flat_map give (filter may xs)) ≡ filter keep (flat_map give xs)
+thinned keep give may [] none = refl
+thinned keep give may (x ∷ xs) none =
+    let rest = filter may xs in
+    let later = thinned keep give may xs (λ i one at. none (suc i) one at) in
+    elim (may x) as (λ b. may x ≡ b → filter keep (flat_map give (cond b (x ∷ rest) rest)) ≡ filter keep (give x ++ flat_map give xs)) [
+      | true ↦ λ _.
+          filter-append keep (give x) (flat_map give rest) ∙ ap (λ l. filter keep (give x) ++ l) later ∙ sym (filter-append keep (give x) (flat_map give xs))
+      | false ↦ λ no.
+          later ∙ sym (filter-append keep (give x) (flat_map give xs) ∙ ap (λ l. l ++ filter keep (flat_map give xs)) (none zero x refl no))
+    ] refl
+
+pub begun-candidates : (t : Task) (schema : ℕ) (objects : List ℕ) (literals : List task.Formula) (left : List Choice) → IsBegun t schema objects literals left
+    → (choice : Choice) (later : List Choice) → left ≡ choice ∷ later → (candidates : List ℕ) → AreCandidates t objects choice candidates
+    → filter (is_kept t) (begun_from schema objects (ranges_of later) candidates) ≡ filter (is_kept t) (begun schema objects (ranges_of left))
+begun-candidates t schema objects literals left so_far choice later is candidates those =
+    ap (λ l. filter (is_kept t) (begun_from schema objects (ranges_of later) l)) those.are
+    ∙ thinned (is_kept t) (λ first. begun schema (objects ++ first ∷ []) (ranges_of later)) those.may choice.objects
+    (λ i one at no. pruned t schema (objects ++ one ∷ []) choice.literals later (one-chosen t schema objects literals left so_far choice later i one is at) (those.closes one no))
+    ∙ ap (filter (is_kept t)) (begun-split schema objects choice.objects left choice later is refl)
+
+filtered-place : (may : ℕ → Bool) (xs : List ℕ) (i x : ℕ) → slice_get (filter may xs) i ≡ Some x → (k : ℕ) × (slice_get xs k ≡ Some x)
+filtered-place may [] i x at = absurd (cc)
+filtered-place may (first ∷ xs) i x at =
+    let rest = filter may xs in
+    elim (may first) as (λ b. slice_get (cond b (first ∷ rest) rest) i ≡ Some x → (k : ℕ) × (slice_get (first ∷ xs) k ≡ Some x)) [
+      | true ↦ elim i as (λ n. slice_get (first ∷ rest) n ≡ Some x → (k : ℕ) × (slice_get (first ∷ xs) k ≡ Some x)) [
+        | zero ↦ λ here. (0, here)
+        | suc n ↦ λ later. let place = filtered-place may xs n x later in (suc place.0, place.1)
+      ]
+      | false ↦ λ later. let place = filtered-place may xs i x later in (suc place.0, place.1)
+    ] at
+
+-- one of them is one of the choice's objects
+pub candidate-place : (t : Task) (objects : List ℕ) (choice : Choice) (candidates : List ℕ) → AreCandidates t objects choice candidates → (i x : ℕ) → slice_get candidates i ≡ Some x
+    → (k : ℕ) × (slice_get choice.objects k ≡ Some x)
+candidate-place t objects choice candidates those i x at = filtered-place those.may choice.objects i x (ap (λ l. slice_get l i) (sym those.are) ∙ at)
 
 ranges-from : (t : Task) (precondition : task.Formula) (count : ℕ) (unions : List Union) → ranges_of (choices_from t precondition count unions) ≡ map (objects_of t) unions
 ranges-from t precondition count [] = refl

@@ -3,6 +3,8 @@ pub mod Closings
 pub mod DecidedLiterals
 pub mod ChosenObjects
 pub mod ObjectLists
+pub mod RisingObjects
+pub mod JoinGroups
 pub mod ChangesFit
 pub mod NumberLists
 pub mod LimitsTold

@@ -1,5 +1,6 @@
 pub mod Literals
 pub mod Parameters
+pub mod Joins
 pub mod Kept
 pub mod Atoms
 pub mod Numbering

@@ -7,6 +7,7 @@ ghost use Rattle.model.specs.Meaning.{is_instance};
 ghost use Rattle.model.specs.ClosedOff as closed_off;
 ghost use Rattle.model.proofs.EnumerationLemmas.{begun};
 ghost use Rattle.grounding_kept.specs.Parameters.{choice_of, lent_formula, ranges_of};
+ghost use Rattle.grounding_kept.specs.Joins.{AreJoined};
 ghost use Rattle.grounding_kept.specs.Kept.{IsBegun, TellsInstances, instances_of_number};
 
 use crate::fault::{GroundFault, GroundLimit};
@@ -63,21 +64,29 @@ impl Enumeration<'_, '_> {
             return Ok(());
         };
         let literals = decided_literals(alloc, &schema.precondition, 0)?;
-        let parameters = parameters_of(alloc, self.statics.task, schema)?;
+        let parameters = parameters_of(alloc, self.statics, schema)?;
         let literals = literals.as_slice();
-        self.add(literals, parameters.as_slice(), Binding::new(), found)
+        self.add(
+            alloc,
+            literals,
+            parameters.as_slice(),
+            Binding::new(),
+            found,
+        )
     }
 
     /// Adds the kept ones among those whose first objects are these, and whose others are one for each of the parameters
     /// that are left. The literals are decided by the objects, and not by fewer of them.
     fn add(
         &self,
+        alloc: Global,
         literals: &[&Formula],
         left: &[Parameter<'_>],
         objects: Binding,
         found: &mut Vec<Instance>,
     ) -> Result<(), GroundFault>
         requires begun { IsBegun (task_of self.now.statics.now.task.now) self.now.schema.0 (map object_of objects.items) (map lent_formula literals.now) (map choice_of left.now) }
+        requires joined { AreJoined (task_of self.now.statics.now.task.now) (length objects.items) left.now }
         requires room { length objects.items + length left.now ≤ 16 }
         requires few { length found.old.items ≤ self.now.max }
         ensures kept { OnOk result (map instance_of found.new.items ≡ map instance_of found.old.items
@@ -97,8 +106,9 @@ impl Enumeration<'_, '_> {
             return self.add_one(instance, found);
         };
         let decided = parameter.literals.as_slice();
-        for object in &parameter.objects {
-            self.add(decided, rest, with_object(&objects, *object), found)?;
+        let candidates = parameter.candidates(alloc, self.statics.task, &objects)?;
+        for object in &candidates {
+            self.add(alloc, decided, rest, with_object(&objects, *object), found)?;
         }
         Ok(())
     }

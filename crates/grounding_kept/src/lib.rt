@@ -4,6 +4,7 @@
 mod atoms;
 mod fault;
 mod fluents;
+mod joins;
 mod kept;
 mod numbering;
 mod numbers;

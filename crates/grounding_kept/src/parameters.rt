@@ -1,15 +1,20 @@
 //! What a schema's parameters may be, and which literals of its precondition are decided once they have objects.
-ghost use Rattle.std.specs.Prelude.{◌≡◌, [], ◌∷◌, ◌++◌, map, filter, IfOk, OnOk};
+ghost use Rattle.std.specs.Prelude.{◌≡◌, ◌+◌, ◌<◌, ◌^◌, [], ◌∷◌, ◌++◌, map, filter, length, IfOk, OnOk};
 ghost use Rattle.std.specs.List.{list_all};
 ghost use Rattle.typing.specs.Task.{task_of};
-ghost use Rattle.typing.specs.TaskParts.{formula_of, term_of, union_of};
+ghost use Rattle.typing.specs.TaskParts.{object_of, formula_of, term_of, union_of};
+ghost use Rattle.model.specs.Meaning as meaning;
 ghost use Rattle.model.proofs.EnumerationLemmas as enumeration;
+ghost use Rattle.grounding_kept.specs.Joins.{IsJoined, AreJoined, AreCandidates};
 ghost use Rattle.grounding_kept.specs.Literals as literals;
 ghost use Rattle.grounding_kept.specs.Parameters.{choice_of, choices_from, lent_formula};
 
+use crate::joins::Join;
+use crate::statics::Statics;
 use faults::NoMemory;
+use formulas::Binding;
 use std::alloc::Global;
-use typing::{Formula, ObjectId, Schema, Task, Term};
+use typing::{Formula, ObjectId, Schema, Task, Term, TypeUnion};
 
 /// A parameter of a schema.
 #[derive(Drop)]
@@ -18,24 +23,72 @@ pub(crate) struct Parameter<'t> {
     pub(crate) objects: Vec<ObjectId>,
     /// The literals of the precondition that are decided once it has an object, and not before.
     pub(crate) literals: Vec<&'t Formula>,
+    /// Where one of the literals is a static atom that it stands in: the objects that it may be there.
+    join: Option<Join<'t>>,
+}
+
+impl Parameter<'_> {
+    /// The objects that it may have where the earlier ones have these, in order: all of its types, but for some that close
+    /// off one of the literals.
+    pub(crate) fn candidates(
+        &self,
+        alloc: Global,
+        task: &Task,
+        binding: &Binding,
+    ) -> Result<Vec<ObjectId>, NoMemory>
+        requires { IsJoined (task_of task.now) (length binding.now.items) self.now }
+        ensures { IfOk result (λ candidates. AreCandidates (task_of task.now) (map object_of binding.now.items) (choice_of self.now) (map object_of candidates.items)) }
+    {
+        let Some(join) = &self.join else {
+            return Ok(self.objects.clone()?);
+        };
+        match join.candidates(alloc, task, binding)? {
+            Some(candidates) => Ok(candidates),
+            None => Ok(self.objects.clone()?),
+        }
+    }
 }
 
 /// The parameters of the schema, in order.
 pub(crate) fn parameters_of<'t>(
     alloc: Global,
-    task: &Task,
+    statics: &Statics<'_>,
     schema: &'t Schema,
 ) -> Result<Vec<Parameter<'t>>, NoMemory>
-    ensures { IfOk result (λ parameters. map choice_of parameters.items
-        ≡ choices_from (task_of task.now) (formula_of schema.now.precondition) 0 (map union_of schema.now.parameters.items)) }
+    ensures choices { IfOk result (λ parameters. map choice_of parameters.items
+        ≡ choices_from (task_of statics.now.task.now) (formula_of schema.now.precondition) 0 (map union_of schema.now.parameters.items)) }
+    ensures joined { IfOk result (λ parameters. AreJoined (task_of statics.now.task.now) 0 parameters.items) }
 {
     let mut parameters = Vec::new(alloc);
     for types in &schema.parameters {
-        let objects = task.objects_of(alloc, types)?;
-        let literals = decided_literals(alloc, &schema.precondition, parameters.len() + 1)?;
-        parameters.push(Parameter { objects, literals })?;
+        let number = parameters.len();
+        let parameter = parameter_of(alloc, statics, &schema.precondition, types, number)?;
+        parameters.push(parameter)?;
     }
     Ok(parameters)
+}
+
+/// The parameter of this number and of these types, in a schema with this precondition.
+fn parameter_of<'t>(
+    alloc: Global,
+    statics: &Statics<'_>,
+    precondition: &'t Formula,
+    types: &'t TypeUnion,
+    number: usize,
+) -> Result<Parameter<'t>, NoMemory>
+    requires { number < 2 ^ 63 }
+    ensures objects { IfOk result (λ p. map object_of p.objects.items ≡ meaning.objects_of (task_of statics.now.task.now) (union_of types.now)) }
+    ensures literals { IfOk result (λ p. map lent_formula p.literals.items ≡ literals.decided_literals (number + 1) (formula_of precondition.now)) }
+    ensures joined { IfOk result (λ p. IsJoined (task_of statics.now.task.now) number p) }
+{
+    let objects = statics.task.objects_of(alloc, types)?;
+    let literals = decided_literals(alloc, precondition, number + 1)?;
+    let join = Join::of_literals(alloc, statics, types, literals.as_slice(), number)?;
+    Ok(Parameter {
+        objects,
+        literals,
+        join,
+    })
 }
 
 /// The literals that the formula says outright, under no `forall`, and that are decided once the first `count` variables
@@ -128,7 +181,7 @@ fn all_bound(terms: &[Term], count: usize) -> bool
 }
 
 /// Whether the term, if it is a variable, is one of the first `count`.
-fn is_bound(term: &Term, count: usize) -> bool
+pub(crate) fn is_bound(term: &Term, count: usize) -> bool
     ensures { result ≡ enumeration.is_bound count (term_of term.now) }
 {
     match term {

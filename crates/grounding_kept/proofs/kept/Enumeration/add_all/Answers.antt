@@ -15,7 +15,7 @@ pub add-requires-clause-room : goal.add-requires-clause-room
 add-requires-clause-room c =
     let schema = c.in-Some.schema.now in
     let parameters = c.in_ok-parameters.parameters.items in
-    let count = few-choices (task_of c.args.self.now.statics.now.task.now) (formula_of schema.precondition) schema.parameters.items parameters c.in_ok-parameters.ensures in
+    let count = few-choices (task_of c.args.self.now.statics.now.task.now) (formula_of schema.precondition) schema.parameters.items parameters c.in_ok-parameters.ensures.choices in
     omega (arith, ap length c.new.ensures, ap length c.as_slice.ensures.value, count, c.in-Some.ensures.few)
 
 pub returns-clause-kept : goal.returns-clause-kept
@@ -23,7 +23,7 @@ returns-clause-kept c =
     let t = task_of c.args.self.now.statics.now.task.now in
     subst (λ (l : List Instance). OnOk c.add.result (map instance_of c.add.new.found.items ≡ map instance_of c.args.found.now.items ++ filter (is_kept t) l))
     (begun-all t c.args.self.now.schema.0 (shape_of c.in-Some.schema.now) c.in-Some.ensures.shape (map choice_of c.as_slice.result.now)
-    (ap (map choice_of) c.as_slice.ensures.value ∙ c.in_ok-parameters.ensures) (map object_of c.new.result.items) (ap (map object_of) c.new.ensures))
+    (ap (map choice_of) c.as_slice.ensures.value ∙ c.in_ok-parameters.ensures.choices) (map object_of c.new.result.items) (ap (map object_of) c.new.ensures))
     c.add.ensures.kept
 
 pub returns-clause-told : goal.returns-clause-told
@@ -31,5 +31,5 @@ returns-clause-told c =
     let t = task_of c.args.self.now.statics.now.task.now in
     subst (λ (l : List Instance). IfErr c.add.result (TellsInstances c.args.self.now.max (map instance_of c.args.found.now.items ++ filter (is_kept t) l)))
     (begun-all t c.args.self.now.schema.0 (shape_of c.in-Some.schema.now) c.in-Some.ensures.shape (map choice_of c.as_slice.result.now)
-    (ap (map choice_of) c.as_slice.ensures.value ∙ c.in_ok-parameters.ensures) (map object_of c.new.result.items) (ap (map object_of) c.new.ensures))
+    (ap (map choice_of) c.as_slice.ensures.value ∙ c.in_ok-parameters.ensures.choices) (map object_of c.new.result.items) (ap (map object_of) c.new.ensures))
     c.add.ensures.told

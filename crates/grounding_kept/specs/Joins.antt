@@ -1,0 +1,96 @@
+-- Which objects the static atoms of the start let stand at a parameter.
+use Rattle.std.specs.Prelude.{◌≡◌, ℕ, ◌+◌, ◌<◌, Bool, true, false, List, [], ◌∷◌, ◌++◌, map, filter, slice_get, length, Option, None, Some, IfSome}
+use Rattle.std.specs.Option.{option_map_or}
+use Rattle.std.specs.List.{list_any}
+use Rattle.std.specs.List.Sorted.{IsStrictlySortedBy}
+use Rattle.std.specs.BTreeSet as sorted
+use Rattle.std.specs.BTreeSet.{BTreeSet}
+use Rattle.typing.specs.declared.atoms.ObjectId.{ObjectId}
+use Rattle.typing.specs.contracts.atoms.ObjectIdOrd.TheImpl as object_ord
+use Rattle.typing.specs.TaskParts.{term_of, lifted_atom_of, union_of}
+use Rattle.grounding_kept.specs.declared.joins.Joint.{Joint}
+use Rattle.grounding_kept.specs.declared.joins.Join.{Join}
+use Rattle.grounding_kept.specs.declared.parameters.Parameter.{Parameter}
+use Rattle.grounding_kept.specs.Parameters.{Choice, choice_of}
+use Rattle.model.specs.Task as task
+use Rattle.model.specs.Meaning as meaning
+use Rattle.model.specs.Fluents.{is_fluent}
+use Rattle.model.specs.ClosedOff.{is_closed_off}
+use Rattle.model.proofs.EnumerationLemmas.{is_bound}
+
+-- the set has the object of this number
+abbrev pub has : BTreeSet ObjectId → ℕ → Bool
+has set number = sorted.contains (object_ord.ghosts).cmp set (record { 0 = number })
+
+-- The formula is an atom of a static predicate, which the parameter of this number stands in, and at the key's place, if
+-- there is one, an object or an earlier parameter.
+pub record IsJoint (t : task.Task) (formula : task.Formula) (number : ℕ) (j : Joint) : Type 0 where
+  pub is : formula ≡ task.atom (lifted_atom_of j.atom.now)
+  pub static : is_fluent t j.atom.now.predicate.0 ≡ false
+  pub place : slice_get (map term_of j.atom.now.terms.items) j.place ≡ Some (task.variable number)
+  pub key : IfSome j.key (λ place. option_map_or (is_bound number) (slice_get (map term_of j.atom.now.terms.items) place) false ≡ true)
+
+-- the joint is one of these formulas
+pub record IsJointAmong (t : task.Task) (formulas : List task.Formula) (number : ℕ) (j : Joint) : Type 0 where
+  pub place : ℕ
+  pub formula : task.Formula
+  pub at : slice_get formulas place ≡ Some formula
+  pub joint : IsJoint t formula number j
+
+-- the object at the key's place, and 0 where there is no key
+abbrev pub key_in : Option ℕ → List ℕ → Option ℕ
+key_in None objects = Some 0
+key_in (Some place) objects = slice_get objects place
+
+-- what the key names, where the earlier parameters have these objects
+abbrev pub key_number : Joint → List ℕ → ℕ
+key_number j objects = option_map_or (λ place. option_map_or (meaning.object_of objects) (slice_get (map term_of j.atom.now.terms.items) place) 0) j.key 0
+
+-- the group of this number, if there is one, has this object
+abbrev pub HasAt : List (BTreeSet ObjectId) → ℕ → ℕ → Type 0
+HasAt groups number object = (group : BTreeSet ObjectId) → slice_get groups number ≡ Some group → has group object ≡ true
+
+-- the atom, if it is of the joint's predicate, has its object in the group of its key
+abbrev pub IsPlaced : Joint → List (BTreeSet ObjectId) → task.Atom → Type 0
+IsPlaced j groups a =
+    a.predicate ≡ j.atom.now.predicate.0 → (object key : ℕ) → slice_get a.objects j.place ≡ Some object → key_in j.key a.objects ≡ Some key → HasAt groups key object
+
+-- the first so many of these atoms do
+abbrev pub ArePlaced : Joint → List (BTreeSet ObjectId) → List task.Atom → ℕ → Type 0
+ArePlaced j groups atoms count = (n : ℕ) (a : task.Atom) → n < count → slice_get atoms n ≡ Some a → IsPlaced j groups a
+
+-- each of the groups has what it had
+abbrev pub Grows : List (BTreeSet ObjectId) → List (BTreeSet ObjectId) → Type 0
+Grows old new =
+    (key : ℕ) (set : BTreeSet ObjectId) → slice_get new key ≡ Some set
+    → (before : BTreeSet ObjectId) × (slice_get old key ≡ Some before) × ((object : ℕ) → has before object ≡ true → has set object ≡ true)
+
+-- The join is of the choice's types, its joint is one of the choice's literals, and each atom of the start has its object
+-- in the group of its key.
+pub record IsJoin (t : task.Task) (number : ℕ) (choice : Choice) (j : Join) : Type 0 where
+  pub objects : choice.objects ≡ meaning.objects_of t (union_of j.types.now)
+  pub joint : IsJointAmong t choice.literals number j.joint
+  pub placed : ArePlaced j.joint j.groups.items t.init (length t.init)
+
+-- the objects of the join's types in the group of the earlier objects
+pub record IsGroup (t : task.Task) (j : Join) (objects : List ℕ) (found : List ObjectId) : Type 0 where
+  pub set : BTreeSet ObjectId
+  pub at : slice_get j.groups.items (key_number j.joint objects) ≡ Some set
+  pub ordered : IsStrictlySortedBy (object_ord.ghosts).cmp set.keys
+  pub are : found ≡ filter (λ (o : ObjectId). meaning.is_of t (union_of j.types.now) o.0) set.keys
+
+-- the parameter's join, if it has one, is its own
+abbrev pub IsJoined : task.Task → ℕ → Parameter → Type 0
+IsJoined t number p = IfSome p.join (IsJoin t number (choice_of p))
+
+-- each of the parameters, from this number on
+abbrev pub AreJoined : task.Task → ℕ → List Parameter → Type 0
+AreJoined t number [] = Unit {0}
+AreJoined t number (p ∷ parameters) = IsJoined t number p × AreJoined t (number + 1) parameters
+
+-- These are the choice's objects, in order, but for some that close off one of its literals, where the earlier parameters
+-- have these objects.
+pub record AreCandidates (t : task.Task) (objects : List ℕ) (choice : Choice) (candidates : List ℕ) : Type 0 where
+  pub may : ℕ → Bool
+  pub are : candidates ≡ filter may choice.objects
+  pub closes : (one : ℕ) → may one ≡ false → list_any (λ f. is_closed_off t f (objects ++ one ∷ [])) choice.literals ≡ true

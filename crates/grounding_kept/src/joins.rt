@@ -1,0 +1,277 @@
+//! Which objects the static atoms of the start let stand at a parameter.
+ghost use Rattle.std.specs.Prelude.{◌≡◌, true, false, length, map, filter, slice_get, Some, IfOk, IfSome, OnOk};
+ghost use Rattle.std.specs.Bool.{OnTrue};
+ghost use Rattle.std.specs.Option.{option_map, option_map_or};
+ghost use Rattle.std.specs.List.Sorted.{IsStrictlySortedBy};
+ghost use Rattle.typing.specs.contracts.atoms.ObjectIdOrd.TheImpl as object_ord;
+ghost use Rattle.typing.specs.Task.{task_of};
+ghost use Rattle.typing.specs.TaskParts.{atom_of, object_of, formula_of, term_of, union_of};
+ghost use Rattle.model.specs.Task as model_task;
+ghost use Rattle.model.specs.Fluents as model_fluents;
+ghost use Rattle.model.specs.Meaning as meaning;
+ghost use Rattle.model.proofs.EnumerationLemmas as enumeration;
+ghost use Rattle.grounding_kept.specs.Parameters.{lent_formula};
+ghost use Rattle.grounding_kept.specs.Joins.{IsJoint, IsJointAmong, IsPlaced, ArePlaced, IsGroup, Grows, HasAt, key_in, key_number};
+
+use crate::parameters::is_bound;
+use crate::statics::Statics;
+use faults::NoMemory;
+use formulas::Binding;
+use std::alloc::Global;
+use std::collections::BTreeSet;
+use typing::{Atom, Formula, LiftedAtom, ObjectId, PredicateId, Task, Term, TypeUnion};
+
+/// An atom of a static predicate, where a parameter stands in it, and where a term that is known before it.
+#[derive(Drop)]
+pub(crate) struct Joint<'t> {
+    atom: &'t LiftedAtom,
+    place: usize,
+    key: Option<usize>,
+}
+
+/// The objects that stand at a parameter's place in the atoms of the start, by the object at the key's place. Without a
+/// key they are one group.
+#[derive(Drop)]
+pub(crate) struct Join<'t> {
+    types: &'t TypeUnion,
+    joint: Joint<'t>,
+    groups: Vec<BTreeSet<ObjectId>>,
+}
+
+impl<'t> Join<'t> {
+    /// The join of the parameter of this number and of these types, if one of the literals gives one.
+    pub(crate) fn of_literals(
+        alloc: Global,
+        statics: &Statics<'_>,
+        types: &'t TypeUnion,
+        literals: &[&'t Formula],
+        number: usize,
+    ) -> Result<Option<Join<'t>>, NoMemory>
+        ensures types { IfOk result (λ o. IfSome o (λ j. j.types.now ≡ types.now)) }
+        ensures joint { IfOk result (λ o. IfSome o (λ j. IsJointAmong (task_of statics.now.task.now) (map lent_formula literals.now) number j.joint)) }
+        ensures placed { IfOk result (λ o. IfSome o (λ j. ArePlaced j.joint j.groups.items (task_of statics.now.task.now).init (length (task_of statics.now.task.now).init))) }
+    {
+        let Some(joint) = joint_among(statics, literals, number) else {
+            return Ok(None);
+        };
+        let groups = groups_of(alloc, statics.task, &joint)?;
+        Ok(Some(Join {
+            types,
+            joint,
+            groups,
+        }))
+    }
+
+    /// Those of the group of the earlier objects that are of the parameter's types, in order, if there is such a group.
+    pub(crate) fn candidates(
+        &self,
+        alloc: Global,
+        task: &Task,
+        binding: &Binding,
+    ) -> Result<Option<Vec<ObjectId>>, NoMemory>
+        ensures { IfOk result (λ o. IfSome o (λ found. IsGroup (task_of task.now) self.now (map object_of binding.now.items) found.items)) }
+    {
+        let Some(group) = self.group(binding) else {
+            return Ok(None);
+        };
+        Ok(Some(objects_in(alloc, task, group, self.types)?))
+    }
+
+    /// The group of the earlier objects.
+    fn group(&self, binding: &Binding) -> Option<&BTreeSet<ObjectId>>
+        ensures { IfSome result (λ group. slice_get self.now.groups.items (key_number self.now.joint (map object_of binding.now.items)) ≡ Some group.now) }
+    {
+        let key = self.joint.key_named(binding)?;
+        self.groups.get(key.0 as usize)
+    }
+}
+
+impl Joint<'_> {
+    /// The object that the key names, where the earlier parameters have these, and the first object without a key.
+    fn key_named(&self, binding: &Binding) -> Option<ObjectId>
+        ensures { IfSome result (λ key. key.0 ≡ key_number self.now (map object_of binding.now.items)) }
+    {
+        match self.key {
+            Some(place) => named_by(self.atom.terms.get(place)?, binding),
+            None => Some(ObjectId(0)),
+        }
+    }
+}
+
+/// The object that the term names, where the variables have these objects.
+fn named_by(term: &Term, binding: &Binding) -> Option<ObjectId>
+    ensures { IfSome result (λ object. object.0 ≡ meaning.object_of (map object_of binding.now.items) (term_of term.now)) }
+{
+    match term {
+        Term::Variable(variable) => binding.get(variable.0).copied(),
+        Term::Object(object) => Some(*object),
+    }
+}
+
+/// Those of the objects that are of these types, in order.
+fn objects_in(
+    alloc: Global,
+    task: &Task,
+    group: &BTreeSet<ObjectId>,
+    types: &TypeUnion,
+) -> Result<Vec<ObjectId>, NoMemory>
+    ensures ordered { IfOk result (λ _. IsStrictlySortedBy (object_ord.ghosts).cmp group.now.keys) }
+    ensures are { IfOk result (λ found. found.items ≡ filter (λ o. meaning.is_of (task_of task.now) (union_of types.now) o.0) group.now.keys) }
+{
+    let mut found = Vec::new(alloc);
+    for object in group {
+        if task.is_of(*object, types) {
+            found.push(*object)?;
+        }
+    }
+    Ok(found)
+}
+
+/// The first literal with a key for the parameter of this number, and else the first that it stands in.
+fn joint_among<'t>(
+    statics: &Statics<'_>,
+    literals: &[&'t Formula],
+    number: usize,
+) -> Option<Joint<'t>>
+    ensures { IfSome result (λ j. IsJointAmong (task_of statics.now.task.now) (map lent_formula literals.now) number j) }
+{
+    for literal in literals {
+        if let Some(joint) = keyed_joint(statics, literal, number) {
+            return Some(joint);
+        }
+    }
+    for literal in literals {
+        if let Some(joint) = joint_in(statics, literal, number) {
+            return Some(joint);
+        }
+    }
+    None
+}
+
+/// The literal's joint, if it has a key.
+fn keyed_joint<'t>(statics: &Statics<'_>, literal: &'t Formula, number: usize) -> Option<Joint<'t>>
+    ensures { IfSome result (λ j. IsJoint (task_of statics.now.task.now) (formula_of literal.now) number j) }
+{
+    let joint = joint_in(statics, literal, number)?;
+    if joint.key.is_none() {
+        return None;
+    }
+    Some(joint)
+}
+
+/// The literal with the place of the parameter of this number, if it is an atom of a static predicate that the parameter
+/// stands in, and the place of an object or an earlier parameter, if one stands in it.
+fn joint_in<'t>(statics: &Statics<'_>, literal: &'t Formula, number: usize) -> Option<Joint<'t>>
+    ensures { IfSome result (λ j. IsJoint (task_of statics.now.task.now) (formula_of literal.now) number j) }
+{
+    let Formula::Atom(atom) = literal else {
+        return None;
+    };
+    if !is_static(statics, atom.predicate) {
+        return None;
+    }
+    let place = place_of(atom.terms.as_slice(), number)?;
+    let key = key_of(atom.terms.as_slice(), number);
+    Some(Joint { atom, place, key })
+}
+
+/// Whether the predicate is the task's, and no action changes it.
+fn is_static(statics: &Statics<'_>, predicate: PredicateId) -> bool
+    ensures { OnTrue result (model_fluents.is_fluent (task_of statics.now.task.now) predicate.0 ≡ false) }
+{
+    if statics.task.predicate(predicate).is_none() {
+        return false;
+    }
+    !statics.is_fluent(predicate)
+}
+
+/// The first place of the variable of this number.
+fn place_of(terms: &[Term], number: usize) -> Option<usize>
+    ensures { IfSome result (λ place. slice_get (map term_of terms.now) place ≡ Some (model_task.variable number)) }
+{
+    for place in 0..terms.len() {
+        if let Term::Variable(variable) = terms[place] {
+            if variable.0 == number {
+                return Some(place);
+            }
+        }
+    }
+    None
+}
+
+/// The first place of an object, or of a variable before the one of this number.
+fn key_of(terms: &[Term], number: usize) -> Option<usize>
+    ensures { IfSome result (λ place. option_map_or (enumeration.is_bound number) (slice_get (map term_of terms.now) place) false ≡ true) }
+{
+    for place in 0..terms.len() {
+        if is_bound(&terms[place], number) {
+            return Some(place);
+        }
+    }
+    None
+}
+
+/// A group for each object, as the key: those that stand at the joint's place in the atoms of the start.
+fn groups_of(
+    alloc: Global,
+    task: &Task,
+    joint: &Joint<'_>,
+) -> Result<Vec<BTreeSet<ObjectId>>, NoMemory>
+    ensures { IfOk result (λ groups. ArePlaced joint.now groups.items (task_of task.now).init (length (task_of task.now).init)) }
+{
+    let mut groups = Vec::new(alloc);
+    for _ in 0..task.object_count() {
+        groups.push(BTreeSet::new(alloc))?;
+    }
+    for atom in task.init() {
+        add_atom(joint, atom, &mut groups)?;
+    }
+    Ok(groups)
+}
+
+/// Adds the object at the joint's place to the group of its key, if the atom is of the joint's predicate.
+fn add_atom(
+    joint: &Joint<'_>,
+    atom: &Atom,
+    groups: &mut Vec<BTreeSet<ObjectId>>,
+) -> Result<(), NoMemory>
+    ensures placed { OnOk result (IsPlaced joint.now groups.new.items (atom_of atom.now)) }
+    ensures grows { OnOk result (Grows groups.old.items groups.new.items) }
+{
+    if atom.predicate != joint.atom.predicate {
+        return Ok(());
+    }
+    let Some(object) = atom.objects.get(joint.place) else {
+        return Ok(());
+    };
+    let Some(key) = key_at(joint.key, atom) else {
+        return Ok(());
+    };
+    add_object(key.0 as usize, *object, groups)
+}
+
+/// The atom's object at the key's place, and the first object without a key.
+fn key_at(key: Option<usize>, atom: &Atom) -> Option<ObjectId>
+    ensures { option_map object_of result ≡ key_in key (atom_of atom.now).objects }
+{
+    match key {
+        Some(place) => atom.objects.get(place).copied(),
+        None => Some(ObjectId(0)),
+    }
+}
+
+/// Adds the object to the group of this number, if there is one.
+fn add_object(
+    number: usize,
+    object: ObjectId,
+    groups: &mut Vec<BTreeSet<ObjectId>>,
+) -> Result<(), NoMemory>
+    ensures has { OnOk result (HasAt groups.new.items number object.0) }
+    ensures grows { OnOk result (Grows groups.old.items groups.new.items) }
+{
+    if number >= groups.len() {
+        return Ok(());
+    }
+    groups[number].insert(object)?;
+    Ok(())
+}
