@@ -14,14 +14,14 @@ use std::alloc::Global;
 /// A certificate with the states that its lines list, packed, of a ground task in which the certificate's atoms have
 /// the first numbers.
 #[derive(Drop)]
-pub(super) struct PackedListing<'a> {
-    pub(super) grounded: &'a Ground<'a>,
+pub(super) struct PackedListing<'a, 't> {
+    pub(super) grounded: &'a Ground<'t>,
     pub(super) cert: &'a Cert,
     states: PooledStore,
     ghost listed: { IsPackedListing (task_in grounded.now) (atoms_in grounded.now) (certificate_of cert.now) states } by { Prim.hlevel props },
 }
 
-impl<'a> PackedListing<'a> {
+impl<'a, 't> PackedListing<'a, 't> {
     ghost use Rattle.std.specs.Prelude.{◌≡◌, ℕ, ◌<◌, IfErr, IfOk, MatchOption, Option, length};
     ghost use Rattle.cert_checker.specs.FluentAtoms.{AreFluent};
     ghost use Rattle.cert_checker.specs.CheckedLines.{HasCost, IsFirstAnyway, IsListedAt, IsTrueAnyway, Stands};
@@ -33,9 +33,9 @@ impl<'a> PackedListing<'a> {
     /// That of the certificate.
     pub(super) fn new(
         alloc: Global,
-        grounded: &'a Ground<'a>,
+        grounded: &'a Ground<'t>,
         cert: &'a Cert,
-    ) -> Result<PackedListing<'a>, Refusal>
+    ) -> Result<PackedListing<'a, 't>, Refusal>
         requires fluent { AreFluent (task_in grounded.now) (certificate_of cert.now).atoms }
         requires numbered { atoms_in grounded.now ≡ numbered_atoms (task_in grounded.now) (certificate_of cert.now).atoms }
         ensures same { IfOk result (λ listing. (task_at listing ≡ task_in grounded.now) × (certificate_at listing ≡ certificate_of cert.now)) }
