@@ -1,12 +1,11 @@
 -- Why a refusal of the checker is the first: what the reading of the lines has found out so far.
-use Rattle.std.proofs.Common.{◌≡◌, ◌≢◌, ℕ, ◌+◌, ◌<◌, ◌≤◌, ◌&&◌, Bool, true, false, List, [], ◌∷◌, length, map, take, get_or, Option, None, Some, inl, inr, refl, sym, ap, ◌∙◌, subst, arith}
+use Rattle.std.proofs.Common.{◌≡◌, ◌≢◌, ℕ, ◌+◌, ◌<◌, ◌≤◌, ◌&&◌, Bool, true, false, List, length, map, take, get_or, Option, None, Some, inl, inr, refl, sym, ap, ◌∙◌, subst, arith}
 use Rattle.std.specs.Prelude.{◌↔◌, Result, Ok, Err, IfErr, AllPairs, Contains, IsSome, IsTrue, is_some, slice_get}
 use Rattle.std.proofs.lemmas.Bool.{cases_eq, false≢true}
 use Rattle.std.proofs.lemmas.List.{length-map, length-take, get_or-take, take-map}
-use Rattle.std.proofs.lemmas.Option.{slice_get_within, get_or_from_slice_get}
+use Rattle.std.proofs.lemmas.Option.{slice_get_within, slice_get-get_or, get_or_from_slice_get}
 use Rattle.typing.specs.declared.atoms.Atom as code_atom
 use Rattle.typing.specs.TaskParts.{atom_of}
-use Rattle.task_system.proofs.StoreLemmas.{slice_get-or}
 use Rattle.cert_checker.specs.declared.check.Refusal.{Refusal}
 use Rattle.cert_checker.specs.declared.check.Refusal.TheVariants as refusal
 use Rattle.cert_checker.specs.declared.check.code.RefusalCode.{RefusalCode}
@@ -14,17 +13,22 @@ use Rattle.certificate.specs.declared.cert.StateLine as code_line
 use Rattle.certificate.specs.CertificateParts.{line_of}
 use Rattle.cert_checker.specs.RefusalCode.{reason_of}
 use Rattle.cert_checker.specs.CertChecker.{IsFirstRefusal, IsFirstSuccessor, IsFirstToLeave}
-use Rattle.cert_checker.specs.CheckedLines.{AreFluent, CutsAreAllowed, IsLineClosed, IsRightUpTo, Lists}
+use Rattle.cert_checker.specs.FluentAtoms.{AreFluent}
+use Rattle.cert_checker.specs.PackedLines.{packed_line, NamesAtoms}
+use Rattle.cert_checker.specs.CheckedLines.{CutsAreAllowed, IsLineClosed, IsRightUpTo}
 use Rattle.model.proofs.ListLemmas.{Contains-got}
-use Rattle.cert_checker.proofs.CertCheckerLemmas.{AllListed, entry, listed_there, slice_get-map}
-use Rattle.cert_checker.proofs.RefusalsLemmas.{states_of_lines, lines_apart}
+use Rattle.cert_checker.proofs.CertCheckerLemmas.{AllListed, entry, listed_there, slice_get-map, got_mapped, in_two}
+use Rattle.cert_checker.proofs.RefusalsLemmas.{AreApart}
+use Rattle.cert_checker.proofs.PackedLinesLemmas.{one_set}
 use Rattle.cert_checker.proofs.OrderLemmas.{AtomsAreRight, StatesAreRight}
 use Rattle.model.specs.Task.{Task, Atom, Instance}
 use Rattle.model.specs.WellTyped.{is_atom}
 use Rattle.model.specs.Meaning.{State, system_of}
-use Rattle.model.specs.Instances.{all_instances, successors_of}
+use Rattle.model.specs.Instances.{successors_of}
+use Rattle.model.specs.Limits.{max_numbered_atoms}
+use Rattle.model.specs.Grounding.{limit_told}
 use Rattle.model.specs.Claims.{none, Line, IsListedWithin}
-use Rattle.model.specs.Certificates.{Certificate, is_fluent, state_of_line, lines_of, IsClosedFor}
+use Rattle.model.specs.Certificates.{Certificate, StateLine, is_fluent, lines_of, IsClosedFor}
 use Rattle.model.specs.CertificateRefusals.{state_line, IsFirst}
 use Rattle.model.proofs.CertificateRefusalsLemmas.{apart}
 
@@ -34,7 +38,7 @@ told_first task c plan most r code line is first successor = subst (IsFirstRefus
 
 slice_get-take : {X : Type 0} (k : ℕ) (xs : List X) (i : ℕ) (x : X) → i < k → slice_get xs i ≡ Some x → slice_get (take k xs) i ≡ Some x
 slice_get-take k xs i x lt at =
-    slice_get-or (take k xs) i x (omega (arith, length-take k xs, slice_get_within xs i x at)) ∙ ap Some (get_or-take k xs i x lt ∙ get_or_from_slice_get xs i x x at)
+    slice_get-get_or (take k xs) i x (omega (arith, length-take k xs, slice_get_within xs i x at)) ∙ ap Some (get_or-take k xs i x lt ∙ get_or_from_slice_get xs i x x at)
 
 -- ---- the successors so far
 
@@ -47,7 +51,7 @@ first_to_leave {X} task c place s cost view xs k x there lt at is before = recor
   stands_there = (place, refl, there);
   is_open = refl;
   place = k;
-  leads = subst (λ those. slice_get those k ≡ Some (view x)) is (slice_get-map view xs k x (slice_get-or xs k x lt ∙ ap Some (sym at)));
+  leads = subst (λ those. slice_get those k ≡ Some (view x)) is (slice_get-map view xs k x (slice_get-get_or xs k x lt ∙ ap Some (sym at)));
   listed_before = λ earlier j next lt_k at_earlier.
       let there_earlier : slice_get (map view xs) earlier ≡ Some (j, next) = subst (λ those. slice_get those earlier ≡ Some (j, next)) (sym is) at_earlier in
       let in_first : slice_get (map view (take k xs)) earlier ≡ Some (j, next) =
@@ -74,7 +78,7 @@ atoms_upto task c atoms k is right = record {
 pub fluent_at : (task : Task) (c : Certificate) (atoms : List code_atom.Atom) (k : ℕ) (x : code_atom.Atom) → k < length atoms → x ≡ get_or atoms k x → map atom_of atoms ≡ c.atoms
     → (is_atom task (atom_of x) && is_fluent task (atom_of x).predicate) ≡ true → (a : Atom) → slice_get c.atoms k ≡ Some a → (is_atom task a && is_fluent task a.predicate) ≡ true
 fluent_at task c atoms k x lt at is right a at_a =
-    let at_x : slice_get c.atoms k ≡ Some (atom_of x) = subst (λ l. slice_get l k ≡ Some (atom_of x)) is (slice_get-map atom_of atoms k x (slice_get-or atoms k x lt ∙ ap Some (sym at))) in
+    let at_x : slice_get c.atoms k ≡ Some (atom_of x) = subst (λ l. slice_get l k ≡ Some (atom_of x)) is (slice_get-map atom_of atoms k x (slice_get-get_or atoms k x lt ∙ ap Some (sym at))) in
     let same : atom_of x ≡ a = cc in
     subst (λ (b : Atom). (is_atom task b && is_fluent task b.predicate) ≡ true) same right
 
@@ -84,42 +88,48 @@ within_atoms c atoms k lt is = omega (arith, lt, ap length is, length-map atoms 
 -- ---- the states so far
 
 module _ (task : Task) (c : Certificate) (lines : List code_line.StateLine) (is : map line_of lines ≡ c.lines) where
-  in_two : (ls : List code_line.StateLine) → map (λ line. state_of_line task c (line_of line)) ls ≡ map (state_of_line task c) (map line_of ls)
-  in_two [] = refl
-  in_two (l ∷ ls) = ap (λ rest. state_of_line task c (line_of l) ∷ rest) (in_two ls)
-
-  all_states : map (λ line. state_of_line task c (line_of line)) lines ≡ map (λ (l : Line State). l.state) (lines_of task c)
-  all_states = in_two lines ∙ ap (map (state_of_line task c)) is ∙ states_of_lines task c c.lines
-
-  state_in_first : (k : ℕ) (states : List State) → states ≡ map (λ line. state_of_line task c (line_of line)) (take k lines) → (place : ℕ) (a : Line State) → place < k
-      → slice_get (lines_of task c) place ≡ Some a → slice_get states place ≡ Some a.state
-  state_in_first k states so place a lt at =
-      let first : states ≡ take k (map (λ (l : Line State). l.state) (lines_of task c)) =
-      so ∙ sym (take-map (λ line. state_of_line task c (line_of line)) k lines) ∙ ap (take k) all_states in
-      subst (λ l. slice_get l place ≡ Some a.state) (sym first)
-      (slice_get-take k (map (λ (l : Line State). l.state) (lines_of task c)) place a.state lt (slice_get-map (λ (l : Line State). l.state) (lines_of task c) place a at))
-
-  pub states_upto : (k : ℕ) (states : List State) → states ≡ map (λ line. state_of_line task c (line_of line)) (take k lines) → AllPairs (λ (s t : State). s ≢ t) states → CutsAreAllowed task c k
-      → StatesAreRight task c k
-  states_upto k states so pairs allowed = record {
-    distinct = λ i j a b lt within at_i at_j same.
-        apart (λ (s t : State). s ≢ t) states i j a.state b.state pairs lt (state_in_first k states so i a (omega arith) at_i) (state_in_first k states so j b within at_j) same;
-    allowed = allowed;
-  }
-
   line_at : (k : ℕ) (x : code_line.StateLine) → k < length lines → x ≡ get_or lines k x → slice_get (lines_of task c) k ≡ Some (entry task c (line_of x))
-  line_at k x lt at = listed_there task c lines k x is (slice_get-or lines k x lt ∙ ap Some (sym at))
+  line_at k x lt at = listed_there task c lines k x is (slice_get-get_or lines k x lt ∙ ap Some (sym at))
 
-  -- a state that is not among the ones so far is not one of theirs
-  pub new_state : (k : ℕ) (x : code_line.StateLine) (states : List State) (s : State) → k < length lines → x ≡ get_or lines k x → states ≡ map (λ line. state_of_line task c (line_of line)) (take k lines)
-      → s ≡ state_of_line task c (line_of x) → (Contains states s → ⊥)
-      → (j : ℕ) (a b : Line State) → j < k → slice_get (lines_of task c) j ≡ Some a → slice_get (lines_of task c) k ≡ Some b → a.state ≡ b.state → ⊥
-  new_state k x states s lt at so here absent j a b before at_a at_b same =
-      let there = state_in_first k states so j a before at_a in
-      let at_x = line_at k x lt at in
-      let one : entry task c (line_of x) ≡ b = cc in
-      let is_s : a.state ≡ s = same ∙ sym (ap (λ (l : Line State). l.state) one) ∙ sym here in
-      absent (subst (Contains states) is_s (j, slice_get_within states j a.state there, get_or_from_slice_get states j a.state a.state there))
+  module _ (width : ℕ) (named : (l : StateLine) → Contains c.lines l → NamesAtoms c l) (fluent : AreFluent task c.atoms) where
+    names : (k : ℕ) (l : StateLine) → slice_get c.lines k ≡ Some l → NamesAtoms c l
+    names k l at = named l (Contains-got c.lines k l at)
+
+    set_in_first : (k : ℕ) (sets : List (List Bool)) → sets ≡ map (λ line. packed_line width (line_of line)) (take k lines) → (place : ℕ) (l : StateLine) → place < k
+        → slice_get c.lines place ≡ Some l → slice_get sets place ≡ Some (packed_line width l)
+    set_in_first k sets so place l lt at =
+        let first : sets ≡ take k (map (packed_line width) c.lines) =
+        so ∙ sym (take-map (λ line. packed_line width (line_of line)) k lines) ∙ ap (take k) (in_two (packed_line width) line_of lines ∙ ap (map (packed_line width)) is) in
+        subst (λ those. slice_get those place ≡ Some (packed_line width l)) (sym first)
+        (slice_get-take k (map (packed_line width) c.lines) place (packed_line width l) lt (slice_get-map (packed_line width) c.lines place l at))
+
+    pub states_upto : (k : ℕ) (sets : List (List Bool)) → sets ≡ map (λ line. packed_line width (line_of line)) (take k lines) → AllPairs (λ (s t : List Bool). s ≢ t) sets → CutsAreAllowed task c k
+        → StatesAreRight task c k
+    states_upto k sets so pairs allowed = record {
+      distinct = λ i j a b lt within at_i at_j same.
+          let first = got_mapped (entry task c) c.lines i a at_i in
+          let second = got_mapped (entry task c) c.lines j b at_j in
+          let state : Line State → State = λ l. l.state in
+          apart (λ (s t : List Bool). s ≢ t) sets i j (packed_line width first.0) (packed_line width second.0) pairs lt (set_in_first k sets so i first.0 (omega arith) first.1)
+          (set_in_first k sets so j second.0 within second.1)
+          (one_set task c fluent width first.0 second.0 (names i first.0 first.1) (names j second.0 second.1) (ap state first.2 ∙ same ∙ sym (ap state second.2)));
+      allowed = allowed;
+    }
+
+    -- a state that is not among the ones so far is not one of theirs
+    pub new_state : (k : ℕ) (x : code_line.StateLine) (sets : List (List Bool)) → k < length lines → x ≡ get_or lines k x → sets ≡ map (λ line. packed_line width (line_of line)) (take k lines)
+        → (Contains sets (packed_line width (line_of x)) → ⊥)
+        → (j : ℕ) (a b : Line State) → j < k → slice_get (lines_of task c) j ≡ Some a → slice_get (lines_of task c) k ≡ Some b → a.state ≡ b.state → ⊥
+    new_state k x sets lt at so absent j a b before at_a at_b same =
+        let first = got_mapped (entry task c) c.lines j a at_a in
+        let at_x = line_at k x lt at in
+        let here : slice_get c.lines k ≡ Some (line_of x) =
+        subst (λ those. slice_get those k ≡ Some (line_of x)) is (slice_get-map line_of lines k x (slice_get-get_or lines k x lt ∙ ap Some (sym at))) in
+        let one : entry task c (line_of x) ≡ b = cc in
+        let state : Line State → State = λ l. l.state in
+        absent
+        (subst (Contains sets) (one_set task c fluent width first.0 (line_of x) (names j first.0 first.1) (names k (line_of x) here) (ap state first.2 ∙ same ∙ sym (ap state one)))
+        (Contains-got sets j (packed_line width first.0) (set_in_first k sets so j first.0 before first.1)))
 
   pub cuts_more : (k : ℕ) (x : code_line.StateLine) (is_wrong : Bool) → k < length lines → x ≡ get_or lines k x → CutsAreAllowed task c k
       → IsTrue is_wrong ↔ ((c.claim ≡ none) × IsSome x.cut) → is_wrong ≡ false → CutsAreAllowed task c (k + 1)
@@ -138,17 +148,14 @@ module _ (task : Task) (c : Certificate) (lines : List code_line.StateLine) (is 
   cuts_all k past allowed place l rest below at cut claim =
       allowed place l rest (omega (arith, below, past, length-map c.lines (entry task c), ap length is, length-map lines line_of)) at cut claim
 
-pub cuts_none : (task : Task) (c : Certificate) → CutsAreAllowed task c 0
-cuts_none task c place l rest below at cut claim = omega arith
-
 -- ---- the lines so far
 
 -- all is right up to the first state line
-pub right_from : (task : Task) (c : Certificate) (states : List State) (most : ℕ) → Lists task c states → AreFluent task c.atoms → CutsAreAllowed task c (length (lines_of task c))
-    → length (all_instances task) ≤ most → IsListedWithin (lines_of task c) (system_of task).initial 0 → IsRightUpTo task c most 0
-right_from task c states most lists atoms allowed few initial = record {
+pub right_from : (task : Task) (c : Certificate) (most : ℕ) → AreApart task c → AreFluent task c.atoms → CutsAreAllowed task c (length (lines_of task c))
+    → limit_told most max_numbered_atoms task c.atoms ≡ None → IsListedWithin (lines_of task c) (system_of task).initial 0 → IsRightUpTo task c most 0
+right_from task c most apart atoms allowed few initial = record {
   atoms = atoms;
-  distinct = lines_apart task c states lists;
+  distinct = apart;
   allowed = allowed;
   within = few;
   initial = initial;
@@ -168,7 +175,7 @@ right_to_line task c most place right lines = record {
 
 -- ---- clauses of results
 
-pub first_of : {T : Type 0} (task : Task) (c : Certificate) (plan : Option (List Instance)) (most : ℕ) (r : Result T Refusal) → IsClosedFor task c → length (all_instances task) ≤ most
-    → IfErr r (λ e. (m : ℕ) → IsClosedFor task c → length (all_instances task) ≤ m → IsFirstRefusal task c plan m e) → IfErr r (IsFirstRefusal task c plan most)
+pub first_of : {T : Type 0} (task : Task) (c : Certificate) (plan : Option (List Instance)) (most : ℕ) (r : Result T Refusal) → IsClosedFor task c → limit_told most max_numbered_atoms task c.atoms ≡ None
+    → IfErr r (λ e. (m : ℕ) → IsClosedFor task c → limit_told m max_numbered_atoms task c.atoms ≡ None → IsFirstRefusal task c plan m e) → IfErr r (IsFirstRefusal task c plan most)
 first_of task c plan most (Ok v) closed within first = tt
 first_of task c plan most (Err e) closed within first = first most closed within

@@ -5,3 +5,6 @@ pub mod AnswerLemmas
 pub mod OrderLemmas
 pub mod FirstLemmas
 pub mod StaysLemmas
+pub mod GroundSuccessors
+pub mod PackedLinesLemmas
+pub mod PackedListingLemmas

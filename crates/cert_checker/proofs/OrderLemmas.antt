@@ -1,17 +1,19 @@
 -- What is told of a certificate is the first thing that is wrong: nothing before it is.
-use Rattle.std.proofs.Common.{◌≡◌, ◌≢◌, ℕ, ◌+◌, ◌<◌, ◌≤◌, ◌⊎◌, ◌&&◌, true, List, length, Option, None, Some, inl, inr, refl, sym, ap, ◌∙◌, subst, arith}
-use Rattle.std.specs.Prelude.{IsTrue, AllPairs, slice_get}
+use Rattle.std.proofs.Common.{◌≡◌, ◌≢◌, ℕ, ◌<◌, ◌≤◌, ◌⊎◌, ◌&&◌, true, List, length, Option, None, Some, inl, inr, refl, sym, ap, ◌∙◌, subst, arith}
+use Rattle.std.specs.Prelude.{IsSome, IsTrue, AllPairs, slice_get}
 use Rattle.std.proofs.lemmas.Bool.{cases_eq}
 use Rattle.std.proofs.lemmas.Option.{slice_get_within, get_or_from_slice_get}
 use Rattle.model.specs.Task.{Atom, Task, Instance}
 use Rattle.model.specs.WellTyped.{is_atom}
 use Rattle.model.specs.Runs.{Solves}
 use Rattle.model.specs.Meaning.{State, system_of, initial_state}
-use Rattle.model.specs.Instances.{all_instances}
+use Rattle.model.specs.Limits.{max_numbered_atoms}
+use Rattle.model.specs.Grounding.{limit_told}
 use Rattle.model.specs.Claims.{none, Allows, Line, IsListedWithin}
 use Rattle.model.specs.Certificates.{Certificate, is_fluent, lines_of, IsClosedFor}
 use Rattle.model.specs.CertificateRefusals.{Reason, not_fluent, repeated, no_initial, goal_open, successor_missing, successor_dearer, cut_weak, cut_not_allowed, plan_invalid, plan_dearer, limit, IsWrongLine, IsWrong, IsFirst, stage_of, rank_of, atom_line, state_line}
-use Rattle.cert_checker.specs.CheckedLines.{AreFluent, CutsAreAllowed, IsLineClosed, IsRightUpTo}
+use Rattle.cert_checker.specs.FluentAtoms.{AreFluent}
+use Rattle.cert_checker.specs.CheckedLines.{CutsAreAllowed, IsLineClosed, IsRightUpTo}
 use Rattle.model.proofs.CertificateRefusalsLemmas.{apart, right_line}
 
 -- ---- what is known of a beginning of the certificate
@@ -39,6 +41,10 @@ states_right_all task c pairs allowed = record {
   distinct = λ i j k l lt within at_i at_j same. apart (λ (x y : Line State). x.state ≢ y.state) (lines_of task c) i j k l pairs lt at_i at_j same;
   allowed = allowed;
 }
+
+none_told : {X : Type 0} (o : Option X) → o ≡ None → IsSome o → ⊥
+none_told None is told = absurd (cc)
+none_told (Some x) is told = absurd (cc)
 
 module _ (task : Task) (c : Certificate) where
   the_line : (place k : ℕ) (a b : Line State) → k ≡ place → slice_get (lines_of task c) k ≡ Some a → slice_get (lines_of task c) place ≡ Some b → a ≡ b
@@ -138,10 +144,6 @@ module _ (task : Task) (c : Certificate) where
   first_repeated_atom plan most k le right fluent =
       first_in_reading plan most repeated (atom_line k) refl (λ r l lt stage wrong. atoms_before k l r le right lt stage wrong) (λ r stage rank wrong. fluent_here k r fluent stage rank wrong)
 
-  -- up to the state line at this place, and in it what is looked for before
-  states_here : (k : ℕ) (r : Reason) → AtomsAreRight task c (length c.atoms) → StatesAreRight task c (k + 1) → stage_of r ≡ 0 → rank_of r < 2 → IsWrongLine task c r (state_line c k) → ⊥
-  states_here k r atoms right stage rank wrong = states_right (k + 1) (state_line c k) r atoms right (λ j told within. omega arith) stage wrong
-
   states_upto : (k l : ℕ) (r : Reason) → AtomsAreRight task c (length c.atoms) → StatesAreRight task c k → l < state_line c k → stage_of r ≡ 0 → IsWrongLine task c r l → ⊥
   states_upto k l r atoms right lt stage wrong = states_right k l r atoms right (λ j told within. omega arith) stage wrong
 
@@ -201,9 +203,9 @@ module _ (task : Task) (c : Certificate) where
   first_limit plan most atoms states r l (inr (same, inl before)) wrong = omega arith
   first_limit plan most atoms states r l (inr (same, inr (there, rank))) wrong = omega arith
 
-  in_limit : (plan : Option (List Instance)) (most : ℕ) (r : Reason) (l : ℕ) → length (all_instances task) ≤ most → stage_of r ≡ 1 → IsWrongLine task c r l ⊎ IsWrong task c plan most r → ⊥
+  in_limit : (plan : Option (List Instance)) (most : ℕ) (r : Reason) (l : ℕ) → limit_told most max_numbered_atoms task c.atoms ≡ None → stage_of r ≡ 1 → IsWrongLine task c r l ⊎ IsWrong task c plan most r → ⊥
   in_limit plan most limit l within stage (inl wrong) = wrong
-  in_limit plan most limit l within stage (inr wrong) = omega arith
+  in_limit plan most limit l within stage (inr wrong) = none_told (limit_told most max_numbered_atoms task c.atoms) within wrong
   in_limit plan most not_fluent l within stage wrong = absurd (omega arith)
   in_limit plan most repeated l within stage wrong = absurd (omega arith)
   in_limit plan most cut_not_allowed l within stage wrong = absurd (omega arith)
@@ -215,7 +217,7 @@ module _ (task : Task) (c : Certificate) where
   in_limit plan most plan_invalid l within stage wrong = absurd (omega arith)
   in_limit plan most plan_dearer l within stage wrong = absurd (omega arith)
 
-  before_initial : (plan : Option (List Instance)) (most : ℕ) (r : Reason) (l : ℕ) → AtomsAreRight task c (length c.atoms) → StatesAreRight task c (length (lines_of task c)) → length (all_instances task) ≤ most
+  before_initial : (plan : Option (List Instance)) (most : ℕ) (r : Reason) (l : ℕ) → AtomsAreRight task c (length c.atoms) → StatesAreRight task c (length (lines_of task c)) → limit_told most max_numbered_atoms task c.atoms ≡ None
       → stage_of r < 2 → IsWrongLine task c r l ⊎ IsWrong task c plan most r → ⊥
   before_initial plan most r l atoms states within stage wrong =
       elim (cases_eq (stage_of r) 0) [
@@ -223,7 +225,7 @@ module _ (task : Task) (c : Certificate) where
         | inr later ↦ in_limit plan most r l within (omega arith) wrong
       ]
 
-  pub first_initial : (plan : Option (List Instance)) (most : ℕ) → AtomsAreRight task c (length c.atoms) → StatesAreRight task c (length (lines_of task c)) → length (all_instances task) ≤ most
+  pub first_initial : (plan : Option (List Instance)) (most : ℕ) → AtomsAreRight task c (length c.atoms) → StatesAreRight task c (length (lines_of task c)) → limit_told most max_numbered_atoms task c.atoms ≡ None
       → IsFirst task c plan most no_initial 0
   first_initial plan most atoms states within r l (inl before) wrong = before_initial plan most r l atoms states within before wrong
   first_initial plan most atoms states within r l (inr (same, inl before)) wrong = omega arith
@@ -320,9 +322,9 @@ module _ (task : Task) (c : Certificate) where
 
   -- ---- the plan
 
-  before_plan : (plan : Option (List Instance)) (most : ℕ) (r : Reason) (l : ℕ) → IsClosedFor task c → length (all_instances task) ≤ most → stage_of r < 4 → IsWrongLine task c r l ⊎ IsWrong task c plan most r → ⊥
+  before_plan : (plan : Option (List Instance)) (most : ℕ) (r : Reason) (l : ℕ) → IsClosedFor task c → limit_told most max_numbered_atoms task c.atoms ≡ None → stage_of r < 4 → IsWrongLine task c r l ⊎ IsWrong task c plan most r → ⊥
   before_plan plan most r l closed within stage (inl wrong) = right_line task c closed r l wrong
-  before_plan plan most limit l closed within stage (inr wrong) = omega arith
+  before_plan plan most limit l closed within stage (inr wrong) = none_told (limit_told most max_numbered_atoms task c.atoms) within wrong
   before_plan plan most no_initial l closed within stage (inr wrong) = wrong closed.listing_is_closed.initial_listed
   before_plan plan most plan_invalid l closed within stage (inr wrong) = omega arith
   before_plan plan most plan_dearer l closed within stage (inr wrong) = omega arith
@@ -334,12 +336,12 @@ module _ (task : Task) (c : Certificate) where
   before_plan plan most successor_dearer l closed within stage (inr wrong) = wrong
   before_plan plan most cut_weak l closed within stage (inr wrong) = wrong
 
-  pub first_invalid : (plan : Option (List Instance)) (most : ℕ) → IsClosedFor task c → length (all_instances task) ≤ most → IsFirst task c plan most plan_invalid 0
+  pub first_invalid : (plan : Option (List Instance)) (most : ℕ) → IsClosedFor task c → limit_told most max_numbered_atoms task c.atoms ≡ None → IsFirst task c plan most plan_invalid 0
   first_invalid plan most closed within r l (inl before) wrong = before_plan plan most r l closed within before wrong
   first_invalid plan most closed within r l (inr (same, inl before)) wrong = omega arith
   first_invalid plan most closed within r l (inr (same, inr (there, rank))) wrong = omega arith
 
-  pub first_dearer : (p : List Instance) (most : ℕ) → IsClosedFor task c → length (all_instances task) ≤ most → Solves (system_of task) p → IsFirst task c (Some p) most plan_dearer 0
+  pub first_dearer : (p : List Instance) (most : ℕ) → IsClosedFor task c → limit_told most max_numbered_atoms task c.atoms ≡ None → Solves (system_of task) p → IsFirst task c (Some p) most plan_dearer 0
   first_dearer p most closed within solves r l (inl before) wrong = before_plan (Some p) most r l closed within before wrong
   first_dearer p most closed within solves r l (inr (same, inl before)) wrong = omega arith
   first_dearer p most closed within solves r l (inr (same, inr (there, rank))) wrong = solving r same rank wrong

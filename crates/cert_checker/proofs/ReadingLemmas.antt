@@ -1,31 +1,34 @@
 -- What the reading of a certificate's lines, one after another, finds out: distinct atoms, distinct states, and a line
 -- that repeats one before it.
 use Rattle.std.proofs.Common.{◌≡◌, ◌≢◌, ℕ, ◌+◌, ◌<◌, ◌≤◌, Bool, true, false, not, ◌&&◌, List, [], ◌∷◌, ◌++◌, length, map, take, get_or, Option, None, Some, inl, inr, refl, sym, ap, ◌∙◌, subst, arith}
-use Rattle.std.specs.Prelude.{IsSome, IsTrue, AllPairs, Contains, slice_get, if◌then◌else◌}
-use Rattle.std.specs.List.{list_any}
+use Rattle.std.specs.Prelude.{All, IsSome, IsTrue, AllPairs, Contains, slice_get, if◌then◌else◌}
+use Rattle.std.specs.List.{list_all, list_any}
 use Rattle.std.proofs.lemmas.Bool.{false≢true}
-use Rattle.std.proofs.lemmas.List.{take_all, take_more, map-append, length-map, length-take-le, get_or-map, get_or-take}
+use Rattle.std.proofs.lemmas.List.{take_more, map-append, length-map, length-take-le, get_or-map, get_or-take, get_or_default}
 use Rattle.std.proofs.lemmas.List.Elements.{All-push}
 use Rattle.std.proofs.lemmas.List.Folds.{list_any_at}
 use Rattle.std.proofs.lemmas.List.Quantifiers.{all_pairs_push}
 use Rattle.std.proofs.lemmas.Map.Views.{Contains-from_any}
-use Rattle.std.proofs.lemmas.Option.{get_or_from_slice_get}
+use Rattle.std.proofs.lemmas.Option.{slice_get-get_or, get_or_from_slice_get}
 use Rattle.indexmap.specs.IndexSet.{insert_key}
+use Rattle.packed_state.specs.Store.{IsPlaced}
 use Rattle.typing.specs.declared.atoms.Atom as code_atom
 use Rattle.typing.specs.TaskParts.{atom_of}
 use Rattle.formulas.proofs.Equality.{atom_eq, equal_atoms, same_atoms, one_atom}
-use Rattle.task_system.proofs.StoreLemmas.{slice_get-or}
 use Rattle.certificate.specs.declared.cert.StateLine as code_line
 use Rattle.certificate.specs.CertificateParts.{line_of}
-use Rattle.cert_checker.specs.CheckedLines.{AreFluent, Lists}
-use Rattle.cert_checker.proofs.CertCheckerLemmas.{entry, listed_there, slice_get-map, states_whole}
+use Rattle.cert_checker.specs.FluentAtoms.{AreFluent}
+use Rattle.cert_checker.specs.CheckedLines.{IsAdded}
+use Rattle.cert_checker.specs.PackedLines.{packed_line, NamesAtoms}
+use Rattle.cert_checker.proofs.CertCheckerLemmas.{entry, listed_there, slice_get-map}
+use Rattle.cert_checker.proofs.PackedLinesLemmas.{names_atoms, one_state}
 use Rattle.model.specs.Task.{Task, Atom}
 use Rattle.model.specs.WellTyped.{is_atom}
-use Rattle.model.specs.Meaning.{State}
 use Rattle.model.specs.Claims.{none}
-use Rattle.model.specs.Certificates.{Certificate, is_fluent, state_of_line}
+use Rattle.model.specs.Certificates.{Certificate, StateLine, is_fluent, is_state_line}
 use Rattle.model.specs.CertificateRefusals.{not_fluent, repeated, cut_not_allowed, IsWrongLine, atom_line, state_line}
-use Rattle.model.proofs.ListLemmas.{map-Contains}
+use Rattle.model.proofs.ListLemmas.{Contains-got, Contains-map, Contains-place, map-Contains}
+use Rattle.model.proofs.Tests.{passes_got}
 
 -- ---- lists of distinct elements
 
@@ -35,7 +38,7 @@ distinct_none i j d lt within = absurd (omega arith)
 pub distinct_more : {X : Type 0} (xs : List X) (y : X) → AllPairs (λ (a b : X). a ≢ b) xs → (Contains xs y → ⊥) → AllPairs (λ (a b : X). a ≢ b) (xs ++ y ∷ [])
 distinct_more {X} xs y pairs absent =
     all_pairs_push (λ (a b : X). a ≢ b) xs y pairs
-    (λ k d lt same. absent (k, lt, get_or_from_slice_get xs k (get_or xs k d) y (slice_get-or xs k d lt) ∙ same))
+    (λ k d lt same. absent (k, lt, get_or_from_slice_get xs k (get_or xs k d) y (slice_get-get_or xs k d lt) ∙ same))
 
 -- an element of the first ones is one of all, at an earlier place
 pub place_before : {X Y : Type 0} (view : X → Y) (xs : List X) (k : ℕ) (x : X) (y : Y) → k < length xs → Contains (map view (take k xs)) y
@@ -47,7 +50,7 @@ place_before view xs k x y lt (j, within, is) =
       j,
       get_or xs j x,
       lt_k,
-      slice_get-or xs j x (omega arith),
+      slice_get-get_or xs j x (omega arith),
       ap view (sym (get_or-take k xs j x lt_k)) ∙ sym (get_or-map view (take k xs) j x y in_first) ∙ is,
     )
 
@@ -57,34 +60,50 @@ some_there (Some x) there = (x, refl)
 
 -- ---- states
 
-pub wrong_repeated : (task : Task) (c : Certificate) (lines : List code_line.StateLine) (k : ℕ) (l : code_line.StateLine) (states : List State) (s : State) → k < length lines → l ≡ get_or lines k l
-    → map line_of lines ≡ c.lines → states ≡ map (λ line. state_of_line task c (line_of line)) (take k lines) → s ≡ state_of_line task c (line_of l) → Contains states s
-    → IsWrongLine task c repeated (state_line c k)
-wrong_repeated task c lines k l states s lt at is so here among =
-    let (j, before, earlier, at_j, same) = place_before (λ line. state_of_line task c (line_of line)) lines k l s lt (subst (λ ss. Contains ss s) so among) in
+pub wrong_repeated : (task : Task) (c : Certificate) (lines : List code_line.StateLine) (width k : ℕ) (l : code_line.StateLine) (sets : List (List Bool)) → length c.atoms ≤ width
+    → ((m : StateLine) → Contains c.lines m → NamesAtoms c m) → k < length lines → l ≡ get_or lines k l → map line_of lines ≡ c.lines → sets ≡ map (λ line. packed_line width (line_of line)) (take k lines)
+    → Contains sets (packed_line width (line_of l)) → IsWrongLine task c repeated (state_line c k)
+wrong_repeated task c lines width k l sets enough named lt at is so among =
+    let (j, before, earlier, at_j, same) = place_before (λ line. packed_line width (line_of line)) lines k l (packed_line width (line_of l)) lt (subst (λ ss. Contains ss (packed_line width (line_of l))) so among) in
+    let at_k = slice_get-get_or lines k l lt ∙ ap Some (sym at) in
     inr (
       entry task c (line_of before),
       entry task c (line_of l),
       state_line c j,
       omega arith,
       (j, refl, listed_there task c lines j before is at_j),
-      (k, refl, listed_there task c lines k l is (slice_get-or lines k l lt ∙ ap Some (sym at))),
-      same ∙ here,
+      (k, refl, listed_there task c lines k l is at_k),
+      one_state task c width (line_of before) (line_of l) enough (names j before at_j) (names k l at_k) same,
     )
+  where
+    names : (i : ℕ) (m : code_line.StateLine) → slice_get lines i ≡ Some m → NamesAtoms c (line_of m)
+    names i m at_i = named (line_of m) (Contains-got c.lines i (line_of m) (subst (λ those. slice_get those i ≡ Some (line_of m)) is (slice_get-map line_of lines i m at_i)))
 
 pub wrong_not_allowed : (task : Task) (c : Certificate) (lines : List code_line.StateLine) (k : ℕ) (l : code_line.StateLine) (rest : ℕ) → k < length lines → l ≡ get_or lines k l
     → map line_of lines ≡ c.lines → l.cut ≡ Some rest → c.claim ≡ none → IsWrongLine task c cut_not_allowed (state_line c k)
 wrong_not_allowed task c lines k l rest lt at is cut claim =
-    (entry task c (line_of l), rest, (k, refl, listed_there task c lines k l is (slice_get-or lines k l lt ∙ ap Some (sym at))), cut, claim)
+    (entry task c (line_of l), rest, (k, refl, listed_there task c lines k l is (slice_get-get_or lines k l lt ∙ ap Some (sym at))), cut, claim)
 
-pub lists_all : (task : Task) (c : Certificate) (lines : List code_line.StateLine) (k : ℕ) (states : List State) → length lines ≤ k → map line_of lines ≡ c.lines
-    → states ≡ map (λ line. state_of_line task c (line_of line)) (take k lines) → AllPairs (λ (s t : State). s ≢ t) states → Lists task c states
-lists_all task c lines k states past is so pairs = record { listed = states_whole task c lines k states past is so; distinct = pairs }
+-- each line names atoms of the certificate
+pub named_atoms : (c : Certificate) (lines : List code_line.StateLine) → map line_of lines ≡ c.lines → list_all (is_state_line (length c.atoms)) (map line_of lines) ≡ true
+    → (l : StateLine) → Contains c.lines l → NamesAtoms c l
+named_atoms c lines is all l among =
+    let place = Contains-place c.lines l among in
+    names_atoms (length c.atoms) l
+    (passes_got (is_state_line (length c.atoms)) (map line_of lines) place.0 l (subst (λ those. slice_get those place.0 ≡ Some l) (sym is) place.1) all)
+
+pub line_among : (c : Certificate) (lines : List code_line.StateLine) (k : ℕ) (l : code_line.StateLine) → k < length lines → l ≡ get_or lines k l → map line_of lines ≡ c.lines → Contains c.lines (line_of l)
+line_among c lines k l lt at is = subst (λ those. Contains those (line_of l)) is (Contains-map line_of lines l (k, lt, sym at))
+
+pub all_from : {X : Type 0} (P : X → Type 0) (xs : List X) → ((x : X) → Contains xs x → P x) → All P xs
+all_from P xs each = λ k d lt. each (get_or xs k d) (k, lt, get_or_default xs k (get_or xs k d) d lt)
+
+-- what was put into the store, or found there
+pub placed : {X : Type 0} (old new : List X) (x y : X) (place : ℕ) (is_new : Bool) → x ≡ y → IsPlaced old new x place is_new → IsAdded old new y is_new
+placed old new x y place true same (absent, pushed, at) = (λ among. absent (subst (Contains old) (sym same) among), pushed ∙ ap (λ z. old ++ z ∷ []) same)
+placed old new x y place false same (there, kept) = (subst (Contains old) same (Contains-got old place x there), kept)
 
 -- ---- atoms
-
-pub fluent_none : (task : Task) → AreFluent task []
-fluent_none task = record { fluent = λ k d lt. absurd (omega arith); distinct = distinct_none }
 
 atoms_more : (atoms : List code_atom.Atom) (k : ℕ) (x : code_atom.Atom) → k < length atoms → x ≡ get_or atoms k x → map atom_of (take (k + 1) atoms) ≡ map atom_of (take k atoms) ++ atom_of x ∷ []
 atoms_more atoms k x lt at = ap (map atom_of) (take_more atoms k x lt ∙ ap (λ y. take k atoms ++ y ∷ []) (sym at)) ∙ map-append atom_of (take k atoms) (x ∷ [])
@@ -101,9 +120,6 @@ fluent_more task atoms k x lt at before right new =
       fluent = All-push (λ (a : Atom). IsTrue (is_atom task a && is_fluent task a.predicate)) (map atom_of (take k atoms)) (atom_of x) before.fluent right;
       distinct = distinct_more (map atom_of (take k atoms)) (atom_of x) before.distinct (λ among. false≢true (sym new ∙ any_there x (take k atoms) among));
     })
-
-pub fluent_all : (task : Task) (atoms : List code_atom.Atom) (k : ℕ) (whole : List Atom) → length atoms ≤ k → map atom_of atoms ≡ whole → AreFluent task (map atom_of (take k atoms)) → AreFluent task whole
-fluent_all task atoms k whole past is so = subst (AreFluent task) (ap (map atom_of) (take_all k atoms past) ∙ is) so
 
 pub was_there : (is_new old : Bool) → is_new ≡ not old → is_new ≡ false → old ≡ true
 was_there is_new true is fails = refl
@@ -127,7 +143,7 @@ seen_more atoms k x copy before after lt at same so is new =
 pub wrong_atom : (task : Task) (c : Certificate) (atoms : List code_atom.Atom) (k : ℕ) (x : code_atom.Atom) → k < length atoms → x ≡ get_or atoms k x → map atom_of atoms ≡ c.atoms
     → (is_atom task (atom_of x) && is_fluent task (atom_of x).predicate) ≡ false → IsWrongLine task c not_fluent (atom_line k)
 wrong_atom task c atoms k x lt at is wrong =
-    (atom_of x, (k, refl, subst (λ those. slice_get those k ≡ Some (atom_of x)) is (slice_get-map atom_of atoms k x (slice_get-or atoms k x lt ∙ ap Some (sym at)))), wrong)
+    (atom_of x, (k, refl, subst (λ those. slice_get those k ≡ Some (atom_of x)) is (slice_get-map atom_of atoms k x (slice_get-get_or atoms k x lt ∙ ap Some (sym at)))), wrong)
 
 pub wrong_repeated_atom : (task : Task) (c : Certificate) (atoms : List code_atom.Atom) (k : ℕ) (x copy : code_atom.Atom) (seen : List code_atom.Atom) → k < length atoms → x ≡ get_or atoms k x
     → map atom_of atoms ≡ c.atoms → atom_of copy ≡ atom_of x → seen ≡ take k atoms → list_any (atom_eq copy) seen ≡ true → IsWrongLine task c repeated (atom_line k)
@@ -139,7 +155,7 @@ wrong_repeated_atom task c atoms k x copy seen lt at is same so old =
       atom_line j,
       omega arith,
       (j, refl, subst (λ those. slice_get those j ≡ Some (atom_of x)) is (slice_get-map atom_of atoms j before at_j ∙ ap Some (ap atom_of alike ∙ same))),
-      (k, refl, subst (λ those. slice_get those k ≡ Some (atom_of x)) is (slice_get-map atom_of atoms k x (slice_get-or atoms k x lt ∙ ap Some (sym at)))),
+      (k, refl, subst (λ those. slice_get those k ≡ Some (atom_of x)) is (slice_get-map atom_of atoms k x (slice_get-get_or atoms k x lt ∙ ap Some (sym at)))),
     )
   where
     map_same : (xs : List code_atom.Atom) → map (λ (a : code_atom.Atom). a) xs ≡ xs

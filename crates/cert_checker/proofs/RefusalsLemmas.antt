@@ -1,23 +1,21 @@
 -- Why the checker's refusals are true.
-use Rattle.std.proofs.Common.{◌≡◌, ◌≢◌, ℕ, ◌+◌, ◌<◌, ◌≤◌, ◌⊎◌, Bool, false, List, [], ◌∷◌, length, map, get_or, Option, None, Some, inl, inr, refl, sym, ap, ◌∙◌, subst, arith}
+use Rattle.std.proofs.Common.{◌≡◌, ◌≢◌, ℕ, ◌+◌, ◌<◌, ◌≤◌, ◌⊎◌, Bool, false, List, length, map, get_or, Option, None, Some, inl, inr, refl, sym, ap, ◌∙◌, subst, arith}
 use Rattle.std.specs.Prelude.{◌↔◌, Result, Ok, Err, IfErr, IsTrue, AllPairs, Contains, MatchOption, nat_eq, slice_get}
 use Rattle.std.specs.Option.{option_eq}
 use Rattle.std.proofs.lemmas.Bool.{cases_order, eq-eqb, false≢true}
-use Rattle.std.proofs.lemmas.List.{length-map}
-use Rattle.std.proofs.Math.ListN.{get_or-map}
 use Rattle.cert_checker.specs.declared.check.Refusal.{Refusal}
 use Rattle.cert_checker.specs.declared.check.Refusal.TheVariants as refusal
 use Rattle.cert_checker.specs.declared.check.code.RefusalCode.{RefusalCode}
 use Rattle.certificate.specs.declared.cert.StateLine as code_line
 use Rattle.certificate.specs.CertificateParts.{line_of}
 use Rattle.cert_checker.specs.RefusalCode.{reason_of}
-use Rattle.cert_checker.specs.CheckedLines.{Lists, HasCost, Stands, IsListedAt, IsTrueAnyway}
-use Rattle.cert_checker.proofs.CertCheckerLemmas.{slice_get-map, entry}
+use Rattle.cert_checker.specs.CheckedLines.{HasCost, Stands, IsListedAt, IsTrueAnyway}
+use Rattle.cert_checker.proofs.CertCheckerLemmas.{slice_get-map}
 use Rattle.model.specs.Task.{Task, Instance}
 use Rattle.model.specs.Meaning.{State, step, meets_goal, system_of}
 use Rattle.model.specs.Instances.{successors_of}
 use Rattle.model.specs.Claims.{Claim, Allows, Line, IsListedWithin}
-use Rattle.model.specs.Certificates.{Certificate, StateLine, state_of_line, lines_of, value_of}
+use Rattle.model.specs.Certificates.{Certificate, lines_of, value_of}
 use Rattle.model.specs.CertificateRefusals.{goal_open, successor_missing, successor_dearer, cut_weak, IsWrongLine, IsListed, state_line}
 use Rattle.model.proofs.ListLemmas.{Contains-place, Contains-map}
 use Rattle.model.proofs.InstancesLemmas.{successors-Contains}
@@ -35,35 +33,11 @@ pub has_cost : (c : Certificate) (lines : List code_line.StateLine) (place : ℕ
 has_cost c lines place l cut is at cut_is =
     (line_of l, subst (λ ls. slice_get ls place ≡ Some (line_of l)) is (slice_get-map line_of lines place l at), refl, cut_is)
 
-pub line_there : (task : Task) (c : Certificate) (states : List State) (place cost : ℕ) (cut : Option ℕ) (s : State) → Lists task c states → HasCost c place cost cut → slice_get states place ≡ Some s
-    → Stands task c place s cost cut
-line_there task c states place cost cut s lists (l, at, cost_is, cut_is) at_state =
-    let at_states = subst (λ ss. slice_get ss place ≡ Some (state_of_line task c l)) (sym lists.listed) (slice_get-map (state_of_line task c) c.lines place l at) in
-    let same : state_of_line task c l ≡ s = cc in
-    slice_get-map (entry task c) c.lines place l at ∙ (λ i. Some (record { state = same i; cost = cost_is i; cut = cut_is i }))
-
 -- ---- distinct states are listed once
 
-pairs-map : {X Y : Type 0} (f : X → Y) (xs : List X) → AllPairs (λ (s t : Y). s ≢ t) (map f xs) → AllPairs (λ (x y : X). f x ≢ f y) xs
-pairs-map f xs pairs i j d lt within same =
-    pairs i j (f d) lt (omega (arith, within, length-map xs f)) (get_or-map f xs i d ∙ same ∙ sym (get_or-map f xs j d))
-
-pub states_of_lines : (task : Task) (c : Certificate) (ls : List StateLine) → map (state_of_line task c) ls ≡ map (λ (k : Line State). k.state) (map (entry task c) ls)
-states_of_lines task c [] = refl
-states_of_lines task c (l ∷ ls) = ap (λ rest. state_of_line task c l ∷ rest) (states_of_lines task c ls)
-
-listed_states : (task : Task) (c : Certificate) (states : List State) → Lists task c states → states ≡ map (λ (k : Line State). k.state) (lines_of task c)
-listed_states task c states lists = lists.listed ∙ states_of_lines task c c.lines
-
-pub lines_apart : (task : Task) (c : Certificate) (states : List State) → Lists task c states → AllPairs (λ (k l : Line State). k.state ≢ l.state) (lines_of task c)
-lines_apart task c states lists =
-    pairs-map (λ (k : Line State). k.state) (lines_of task c) (subst (AllPairs (λ (s t : State). s ≢ t)) (listed_states task c states lists) lists.distinct)
-
--- a state that is listed is one of the states
-pub Contains-listed : (task : Task) (c : Certificate) (states : List State) (s : State) → Lists task c states → IsListed (lines_of task c) s → Contains states s
-Contains-listed task c states s lists (l, among, is) =
-    subst (λ ss. Contains ss s) (sym (listed_states task c states lists))
-    (subst (λ t. Contains (map (λ (k : Line State). k.state) (lines_of task c)) t) is (Contains-map (λ (k : Line State). k.state) (lines_of task c) l among))
+-- no state is listed twice
+abbrev pub AreApart : Task → Certificate → Type 0
+AreApart task c = AllPairs (λ (k l : Line State). k.state ≢ l.state) (lines_of task c)
 
 -- a state that is listed at one cost is not listed at less
 pub one_cost : {S : Type 0} (lines : List (Line S)) (s : S) (m n : ℕ) → AllPairs (λ (k l : Line S). k.state ≢ l.state) lines → IsListedAt lines s m → IsListedWithin lines s n → m ≤ n
@@ -112,21 +86,20 @@ wrong_missing task c place s cost i next there leads missing =
 pub listed_somewhere : (lines : List (Line State)) (s : State) (listed : ℕ) → IsListedAt lines s listed → IsListed lines s
 listed_somewhere lines s listed at = (at.0, at.1, at.2)
 
-pub not_within : (task : Task) (c : Certificate) (states : List State) (s : State) (listed most : ℕ) → Lists task c states → IsListedAt (lines_of task c) s listed → most < listed
+pub not_within : (task : Task) (c : Certificate) (s : State) (listed most : ℕ) → AreApart task c → IsListedAt (lines_of task c) s listed → most < listed
     → ¬ IsListedWithin (lines_of task c) s most
-not_within task c states s listed most lists at dearer within =
-    omega (arith, one_cost (lines_of task c) s listed most (lines_apart task c states lists) at within)
+not_within task c s listed most apart at dearer within = omega (arith, one_cost (lines_of task c) s listed most apart at within)
 
-pub wrong_dearer : (task : Task) (c : Certificate) (states : List State) (place : ℕ) (s : State) (cost : ℕ) (i : Instance) (next : State) (listed : ℕ) → Lists task c states
+pub wrong_dearer : (task : Task) (c : Certificate) (place : ℕ) (s : State) (cost : ℕ) (i : Instance) (next : State) (listed : ℕ) → AreApart task c
     → Stands task c place s cost None → step task s i ≡ Some next → IsListedAt (lines_of task c) next listed → cost + (system_of task).cost i < listed
     → IsWrongLine task c successor_dearer (state_line c place)
-wrong_dearer task c states place s cost i next listed lists there leads at dearer = (
+wrong_dearer task c place s cost i next listed apart there leads at dearer = (
   record { state = s; cost = cost; cut = None },
   i,
   next,
   ((place, refl, there), refl, leads),
   listed_somewhere (lines_of task c) next listed at,
-  not_within task c states next listed (cost + (system_of task).cost i) lists at dearer,
+  not_within task c next listed (cost + (system_of task).cost i) apart at dearer,
 )
 
 -- ---- cuts

@@ -26,13 +26,13 @@ Answers claim plan (Optimal cost) = (claim ≡ bound cost) × IsSome plan
 Answers claim plan (AtLeast cost) = (claim ≡ bound cost) × (plan ≡ None)
 Answers claim plan Unsolvable = (claim ≡ none) × (plan ≡ None)
 
--- The refusal is true of the certificate, the plan that was handed in, if one was, and the limit of instances.
+-- The refusal is true of the certificate, the plan that was handed in, if one was, and the limit of kept instances.
 abbrev pub IsTrueRefusal : Task → Certificate → Option (List Instance) → ℕ → Refusal → Type 0
 IsTrueRefusal task c plan most (refusal.Line code line) = IsWrongLine task c (reason_of code) line
 IsTrueRefusal task c plan most (refusal.Plain code) = IsWrong task c plan most (reason_of code)
 IsTrueRefusal task c plan most refusal.NoMemory = Unit {0}
 
--- Nothing is wrong with the certificate or the plan: the task has too many instances, or memory was refused.
+-- Nothing is wrong with the certificate or the plan: a limit of the ground task is exceeded, or memory was refused.
 abbrev pub IsNoFault : Refusal → Type 0
 IsNoFault (refusal.Line code line) = ⊥
 IsNoFault (refusal.Plain code) = reason_of code ≡ limit

@@ -1,33 +1,24 @@
 -- What the checker finds out of a certificate's lines, one after another.
-use Rattle.std.specs.Prelude.{◌≡◌, ◌≢◌, ℕ, ◌+◌, ◌<◌, ◌≤◌, Bool, ◌&&◌, IsTrue, MatchBool, List, [], ◌∷◌, ◌++◌, length, map, All, AllPairs, Contains, slice_get, Option, None, Some}
+use Rattle.std.specs.Prelude.{◌≡◌, ◌≢◌, ℕ, ◌+◌, ◌<◌, ◌≤◌, Bool, IsTrue, MatchBool, List, [], ◌∷◌, ◌++◌, length, AllPairs, Contains, slice_get, Option, None, Some}
 use Rattle.cert_checker.specs.declared.check.Refusal.{Refusal}
+use Rattle.cert_checker.specs.FluentAtoms.{AreFluent}
 use Rattle.cert_checker.specs.CertChecker.{IsFirstRefusal, IsTrueRefusal}
-use Rattle.model.specs.Task.{Atom, Task, Instance}
-use Rattle.model.specs.WellTyped.{is_atom}
+use Rattle.model.specs.Task.{Task, Instance}
 use Rattle.model.specs.Meaning.{State, initial_state, step, meets_goal, system_of}
-use Rattle.model.specs.Instances.{all_instances}
+use Rattle.model.specs.Limits.{max_numbered_atoms}
+use Rattle.model.specs.Grounding.{limit_told}
 use Rattle.model.specs.Claims.{none, Allows, Line, IsListedWithin}
-use Rattle.model.specs.Certificates.{Certificate, StateLine, is_fluent, state_of_line, lines_of, value_of}
+use Rattle.model.specs.Certificates.{Certificate, StateLine, lines_of, value_of}
 
--- the atoms are well-typed, of fluent predicates, and distinct
-pub record AreFluent (task : Task) (atoms : List Atom) : Type 0 where
-  pub fluent : All (λ (a : Atom). IsTrue (is_atom task a && is_fluent task a.predicate)) atoms
-  pub distinct : AllPairs (λ (a b : Atom). a ≢ b) atoms
+-- the elements before and after one is to stand among them: it comes to the end if it is new, and else nothing changes
+abbrev pub IsAdded : {X : Type 0} → List X → List X → X → Bool → Type 0
+IsAdded old new x is_new = MatchBool is_new ((¬ Contains old x) × (new ≡ old ++ x ∷ [])) (Contains old x × (new ≡ old))
 
--- these are the states that the certificate's lines list, in their order, and they are distinct
-pub record Lists (task : Task) (certificate : Certificate) (states : List State) : Type 0 where
-  pub listed : states ≡ map (state_of_line task certificate) certificate.lines
-  pub distinct : AllPairs (λ (s t : State). s ≢ t) states
-
--- the states before and after one is to stand among them: it comes to the end if it is new, and else nothing changes
-abbrev pub IsAdded : List State → List State → State → Bool → Type 0
-IsAdded old new state is_new = MatchBool is_new ((¬ Contains old state) × (new ≡ old ++ state ∷ [])) (Contains old state × (new ≡ old))
-
--- the refusal is true, whatever plan is handed in and whatever the limit of instances
+-- the refusal is true, whatever plan is handed in and whatever the limit of kept instances
 abbrev pub IsTrueAnyway : Task → Certificate → Refusal → Type 0
 IsTrueAnyway task c refusal = (plan : Option (List Instance)) (most : ℕ) → IsTrueRefusal task c plan most refusal
 
--- the refusal is the first, whatever plan is handed in and whatever the limit of instances
+-- the refusal is the first, whatever plan is handed in and whatever the limit of kept instances
 abbrev pub IsFirstAnyway : Task → Certificate → Refusal → Type 0
 IsFirstAnyway task c refusal = (plan : Option (List Instance)) (most : ℕ) → IsFirstRefusal task c plan most refusal
 
@@ -63,12 +54,12 @@ pub record IsLineClosed (task : Task) (c : Certificate) (line : Line State) : Ty
   pub is_open : line.cut ≡ None → IsOpenClosed task c line.state line.cost
   pub is_cut : (rest : ℕ) → line.cut ≡ Some rest → IsCutClosed c line.state line.cost rest
 
--- All is right up to the state line at this place: the reading of the certificate, the count of instances, the initial
--- state, and the state lines before.
+-- All is right up to the state line at this place: the reading of the certificate, the limits of its ground task, the
+-- initial state, and the state lines before.
 pub record IsRightUpTo (task : Task) (c : Certificate) (most place : ℕ) : Type 0 where
   pub atoms : AreFluent task c.atoms
   pub distinct : AllPairs (λ (k l : Line State). k.state ≢ l.state) (lines_of task c)
   pub allowed : CutsAreAllowed task c (length (lines_of task c))
-  pub within : length (all_instances task) ≤ most
+  pub within : limit_told most max_numbered_atoms task c.atoms ≡ None
   pub initial : IsListedWithin (lines_of task c) (initial_state task) 0
   pub lines : (k : ℕ) (l : Line State) → k < place → slice_get (lines_of task c) k ≡ Some l → IsLineClosed task c l

@@ -1,12 +1,13 @@
 //! The checker of certificates: it accepts exactly where the certificate is closed for the task, and then its claim is
 //! true of every plan.
-ghost use Rattle.std.specs.Prelude.{◌≡◌, ◌<◌, ◌≤◌, length, IsTrue, IfErr, IfOk, OnOk};
+ghost use Rattle.std.specs.Prelude.{◌≡◌, ◌<◌, length, None, IsTrue, IfErr, IfOk, OnOk};
 ghost use Rattle.std.specs.List.{list_all};
 ghost use Rattle.std.specs.Option.{ForSome, option_map};
 ghost use Rattle.typing.specs.Task.{task_of};
 ghost use Rattle.formulas.specs.State.{plan_of};
 ghost use Rattle.model.specs.Meaning.{is_instance};
-ghost use Rattle.model.specs.Instances.{all_instances};
+ghost use Rattle.model.specs.Limits.{max_numbered_atoms};
+ghost use Rattle.model.specs.Grounding.{limit_told};
 ghost use Rattle.model.specs.Certificates.{IsClosedFor};
 ghost use Rattle.model.specs.CertificateRefusals.{IsPlanWithin, atom_line, state_line};
 ghost use Rattle.certificate.specs.Certificate.{certificate_of};
@@ -15,6 +16,7 @@ ghost use Rattle.cert_checker.specs.CertChecker.{Answers, IsFirstRefusal, IsNoFa
 mod answer;
 mod code;
 mod listing;
+mod packed;
 mod steps;
 
 use certificate::Cert;
@@ -95,9 +97,10 @@ impl<T: Drop> From<AllocFailed<T>> for Refusal {
 /// at a cost of at most the claim's. Each instance of the plan is one of the task's.
 ///
 /// # Errors
-/// The first that applies: what is wrong with a line (43, 44, 52); 55 where the task has more than `max_instances`
-/// instances; 45 where the initial state is not listed at 0; what is wrong with the successors or the cost of a listed
-/// state, line by line (48 to 51); what is wrong with the plan (53, 54). [`Refusal::NoMemory`] where memory is refused.
+/// The first that applies: what is wrong with a line (43, 44, 52); 55 where the task keeps more than `max_instances`
+/// instances once it is grounded, or would number more than 1,048,576 atoms; 45 where the initial state is not listed
+/// at 0; what is wrong with the successors or the cost of a listed state, line by line (48 to 51); what is wrong with
+/// the plan (53, 54). [`Refusal::NoMemory`] where memory is refused.
 pub fn check_cert(
     alloc: Global,
     task: &Task,
@@ -109,22 +112,22 @@ pub fn check_cert(
     ensures shown { IfOk result (IsShown (task_of task.now) (option_map (λ p. plan_of p.now) plan.entry)) }
 
     // It accepts exactly where the certificate is closed and the plan, if one is handed in, costs no more than is
-    // claimed; the limit of instances and want of memory aside.
+    // claimed; the limits of the ground task and want of memory aside.
     ensures closed { OnOk result (IsClosedFor (task_of task.now) (certificate_of cert.now)) }
     ensures answers { IfOk result (Answers (certificate_of cert.now).claim (option_map (λ p. plan_of p.now) plan.entry)) }
     ensures accepts { IsClosedFor (task_of task.now) (certificate_of cert.now)
         → IsPlanWithin (task_of task.now) (certificate_of cert.now).claim (option_map (λ p. plan_of p.now) plan.entry)
         → IfErr result IsNoFault }
 
-    ensures within { OnOk result (length (all_instances (task_of task.now)) ≤ max_instances) }
+    ensures within { OnOk result (limit_told max_instances max_numbered_atoms (task_of task.now) (certificate_of cert.now).atoms ≡ None) }
 
     // Each refusal is true, and nothing that comes before it is wrong.
     ensures refused { IfErr result (IsTrueRefusal (task_of task.now) (certificate_of cert.now) (option_map (λ p. plan_of p.now) plan.entry) max_instances) }
     ensures first { IfErr result (IsFirstRefusal (task_of task.now) (certificate_of cert.now) (option_map (λ p. plan_of p.now) plan.entry) max_instances) }
 {
     listing::check_atoms(alloc, task, cert)?;
-    let states = listing::listed_states(alloc, task, cert)?;
-    steps::check_listing(alloc, task, cert, &states, max_instances)?;
+    listing::check_states(alloc, cert)?;
+    steps::check_listing(alloc, task, cert, max_instances)?;
     answer::answer(alloc, task, cert, plan)
 }
 

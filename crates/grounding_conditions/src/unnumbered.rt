@@ -1,5 +1,5 @@
 //! Literals of atoms that have no number, which are true in every packed state or in none.
-ghost use Rattle.std.specs.Prelude.{◌≡◌, ◌||◌, if◌then◌else◌, is_some, not, map};
+ghost use Rattle.std.specs.Prelude.{◌≡◌, is_some, map};
 ghost use Rattle.std.specs.List.{list_all};
 ghost use Rattle.typing.specs.TaskParts.{atom_of};
 ghost use Rattle.formulas.specs.Literals.{literal_of};

@@ -1,5 +1,5 @@
 pub mod TypedLemmas
-pub mod NumbersLemmas
+pub mod GroundLemmas
 pub mod ListingLemmas
 pub mod AnswerLemmas
 pub mod LoopLemmas

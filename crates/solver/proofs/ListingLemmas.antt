@@ -1,245 +1,236 @@
 -- The lines of the found states make a closed certificate.
-use Rattle.std.proofs.Common.{◌≡◌, ◌≢◌, ℕ, zero, suc, ◌*◌, ◌<◌, ◌≤◌, Bool, true, false, ◌&&◌, ◌||◌, List, [], ◌∷◌, ◌++◌, length, map, get_or, Option, None, Some, inl, inr, refl, sym, ap, ◌∙◌, subst, arith}
-use Rattle.std.specs.Prelude.{nat_le, slice_get, All, AllPairs, IsTrue, Contains, if◌then◌else◌}
-use Rattle.std.specs.List.{list_any, list_all, filter_map}
-use Rattle.std.specs.List.Sorted.{IsStrictlySortedBy}
+use Rattle.std.proofs.Common.{◌≡◌, ◌∙◌, ◌≢◌, ℕ, zero, suc, ◌+◌, ◌<◌, ◌≤◌, Bool, true, false, not, ◌&&◌, List, [], ◌∷◌, ◌++◌, length, map, get_or, cond, None, Some, refl, sym, ap, subst, arith}
+use Rattle.std.specs.Prelude.{nat_le, nat_lt, slice_get, All, AllPairs, IsTrue, filter, if◌then◌else◌}
+use Rattle.std.specs.List.{list_all, filter_map, range_with_len, cons_option}
 use Rattle.std.specs.Option.{option_map_or}
-use Rattle.std.specs.declared.cmp.Ordering.TheVariants.{Less}
-use Rattle.std.specs.FinSet.{contains, from_list, intersection, contains-from_list, contains-intersection}
-use Rattle.std.proofs.lemmas.Bool.{and_parts, and_from, cases_lt, cases_eq, lt-ltb, le-leb}
+use Rattle.std.specs.FinSet.{from_list}
+use Rattle.std.proofs.lemmas.Bool.{and_parts, and_from, not-true, true≢false, lt-ltb, le-leb}
 use Rattle.std.proofs.lemmas.List.{length-map}
 use Rattle.std.proofs.lemmas.Simd.{map-map}
-use Rattle.std.proofs.lemmas.Map.Keys.{Less-from_sorted, any_passes_from_place}
-use Rattle.std.proofs.lemmas.Option.{get_or_from_slice_get, slice_get-get_or, slice_get_within}
-use Rattle.certificate.specs.declared.cert.StateLine as code_line
-use Rattle.certificate.specs.CertificateParts.{line_of}
-use Rattle.search.specs.declared.progress.Reached.{Reached}
+use Rattle.std.proofs.lemmas.Option.{slice_get-get_or, slice_get_within}
+use Rattle.packed_state.specs.Sets.{has}
+use Rattle.packed_state.specs.Store.{AreDistinct}
+use Rattle.search.specs.declared.nodes.Node.{Node}
 use Rattle.search.specs.Outcome as search
-use Rattle.search.specs.Outcome.{AreFound, IsReachableAt}
-use Rattle.search.specs.Store.{AreDistinct}
-use Rattle.search.proofs.Lists.{get_exists}
-use Rattle.solver.specs.Listing.{is_true_in_one, AreFluentIn, Names, AreLinesFor, IsShownBy, AreMoreAtoms}
-use Rattle.solver.proofs.TypedLemmas.{reachable_typed}
-use Rattle.solver.proofs.NumbersLemmas.{stands_in-state, stands_at, never_below_itself}
+use Rattle.search.specs.Outcome.{AreFound}
+use Rattle.solver.specs.Listing.{numbers_in, state_line, IsShownBy}
+use Rattle.solver.proofs.TypedLemmas.{numbered_typed}
+use Rattle.solver.proofs.GroundLemmas.{length-reachable, distinct_states}
 use Rattle.model.specs.Task.{Task, Atom}
 use Rattle.model.specs.WellTyped.{is_task, is_atom}
-use Rattle.model.specs.Runs.{System, IsReachable}
 use Rattle.model.specs.Claims.{Claim, Line, IsClosed}
-use Rattle.model.specs.Meaning.{State, atom_cmp, system_of}
-use Rattle.model.specs.Certificates.{Certificate, StateLine, is_fluent, is_number, is_claim, is_state_line, keeps_limits, rise, static_atoms, state_of_line, lines_of, value_of}
-use Rattle.model.proofs.Atoms.{stands_in, atoms_total}
-use Rattle.model.proofs.StaticLemmas.{state_of_fluent, and_false}
+use Rattle.model.specs.Meaning.{State, system_of}
+use Rattle.model.specs.Fluents.{is_fluent, static_atoms}
+use Rattle.model.specs.NumberedAtoms.{stands_in, are_distinct, numbered_atoms}
+use Rattle.model.specs.Grounding.{chosen, state_of_bits, ground_system, NamesKept}
+use Rattle.model.specs.Certificates.{Certificate, StateLine, is_number, is_claim, is_state_line, keeps_limits, rise, state_of_line, lines_of, value_of}
+use Rattle.model.proofs.NumberingLemmas.{stands_in-got}
+use Rattle.model.proofs.GroundTaskLemmas.{numbered-distinct, numbered-fluent, ground_task_is_bisimilar}
+use Rattle.model.proofs.BisimilarListings.{closed_forth}
 
--- ---- lists
+-- ---- a packed state by its numbers
 
-some_at : {X : Type 0} (p : X → Bool) (xs : List X) → list_any p xs ≡ true → (k : ℕ) × (x : X) × (slice_get xs k ≡ Some x) × (p x ≡ true)
-some_at p [] any = absurd (cc)
-some_at {X} p (y ∷ xs) any =
-    elim (p y) as (λ v. p y ≡ v → (v || list_any p xs) ≡ true → (k : ℕ) × (x : X) × (slice_get (y ∷ xs) k ≡ Some x) × (p x ≡ true)) [
-      | true ↦ λ passes _. (0, y, refl, passes)
-      | false ↦ λ _ later. let (k, x, at, passes) = some_at p xs later in (suc k, x, at, passes)
-    ] refl any
+plus_one : (k : ℕ) → k + 1 ≡ suc k
+plus_one k = omega arith
 
-at_place : {X : Type 0} (xs : List X) (x : X) (among : Contains xs x) → slice_get xs among.0 ≡ Some x
-at_place xs x among = slice_get-get_or xs among.0 x among.1 ∙ ap Some among.2
+-- over numbers that are one greater
+filter_later : (p : ℕ → Bool) (from n : ℕ) → filter p (range_with_len (from + 1) n) ≡ map (λ k. k + 1) (filter (λ k. p (k + 1)) (range_with_len from n))
+filter_later p from zero = refl
+filter_later p from (suc n) =
+    let later = filter_later p (from + 1) n in
+    elim (p (from + 1)) as (λ v. cond v ((from + 1) ∷ filter p (range_with_len (from + 1 + 1) n)) (filter p (range_with_len (from + 1 + 1) n))
+    ≡ map (λ k. k + 1) (cond v (from ∷ filter (λ k. p (k + 1)) (range_with_len (from + 1) n)) (filter (λ k. p (k + 1)) (range_with_len (from + 1) n)))) [
+      | true ↦ λ i. (from + 1) ∷ later i
+      | false ↦ later
+    ]
 
--- ---- the atoms
+filter_same : (p q : ℕ → Bool) (numbers : List ℕ) → ((k : ℕ) → p k ≡ q k) → filter p numbers ≡ filter q numbers
+filter_same p q [] same = refl
+filter_same p q (n ∷ numbers) same = λ i. cond (same n i) (n ∷ filter_same p q numbers same i) (filter_same p q numbers same i)
 
-abbrev AllReachable : Task → List State → Type 0
-AllReachable task states = (k : ℕ) (s : State) → slice_get states k ≡ Some s → IsReachable (system_of task) s
+next_has : (b : Bool) (bits : List Bool) (k : ℕ) → has (b ∷ bits) (k + 1) ≡ has bits k
+next_has b bits k = ap (has (b ∷ bits)) (plus_one k)
 
-module _ (task : Task) (well : is_task task ≡ true) (states : List State) (reachable : AllReachable task states)
-    (fluent : State) (are : AreFluentIn task states fluent) (atoms : List Atom) (same : from_list atoms ≡ fluent) (sorted : IsStrictlySortedBy atom_cmp atoms) where
-  stands_fluent : (q : Atom) → stands_in atoms q ≡ (is_fluent task q.predicate && is_true_in_one states q)
-  stands_fluent q = stands_in-state atoms fluent q same ∙ are q
+named_later : (a : Atom) (atoms : List Atom) (numbers : List ℕ) → filter_map (slice_get (a ∷ atoms)) (map (λ k. k + 1) numbers) ≡ filter_map (slice_get atoms) numbers
+named_later a atoms [] = refl
+named_later a atoms (n ∷ numbers) = λ i. cons_option (slice_get (a ∷ atoms) (plus_one n i)) (named_later a atoms numbers i)
 
-  -- an atom of the list is fluent, and true in a found state
-  found_atom : (k : ℕ) (a : Atom) → slice_get atoms k ≡ Some a → (is_fluent task a.predicate ≡ true) × (is_true_in_one states a ≡ true)
-  found_atom k a at = and_parts (is_fluent task a.predicate) (is_true_in_one states a) (sym (stands_fluent a) ∙ stands_at atoms k a at)
+abbrev no_atoms : List Atom
+no_atoms = []
 
-  is_typed : (a : Atom) → is_true_in_one states a ≡ true → is_atom task a ≡ true
-  is_typed a there =
-      let (k, s, at, is) = some_at (λ (s : State). contains s a) states there in
-      reachable_typed task s a well (reachable k s at) is
+none_named : (numbers : List ℕ) → filter_map (slice_get no_atoms) numbers ≡ []
+none_named [] = refl
+none_named (n ∷ numbers) = none_named numbers
 
-  pub all_fluent : All (λ (a : Atom). IsTrue (is_atom task a && is_fluent task a.predicate)) atoms
-  all_fluent k d lt =
-      let a = get_or atoms k d in
-      let (is, there) = found_atom k a (slice_get-get_or atoms k d lt) in
-      and_from (is_atom task a) (is_fluent task a.predicate) (is_typed a there) is
+-- the atoms that its numbers name are those whose bits are set
+named_chosen : (atoms : List Atom) (bits : List Bool) → filter_map (slice_get atoms) (numbers_in bits) ≡ chosen atoms bits
+named_chosen [] bits = none_named (numbers_in bits)
+named_chosen (a ∷ atoms) [] = refl
+named_chosen (a ∷ atoms) (b ∷ bits) =
+    let later =
+    ap (filter_map (slice_get (a ∷ atoms))) (filter_later (has (b ∷ bits)) 0 (length bits))
+    ∙ named_later a atoms (filter (λ k. has (b ∷ bits) (k + 1)) (range_with_len 0 (length bits)))
+    ∙ ap (filter_map (slice_get atoms)) (filter_same (λ k. has (b ∷ bits) (k + 1)) (has bits) (range_with_len 0 (length bits)) (next_has b bits))
+    ∙ named_chosen atoms bits in
+    elim b as (λ v. filter_map (slice_get (a ∷ atoms)) (cond v (0 ∷ filter (has (b ∷ bits)) (range_with_len 1 (length bits))) (filter (has (b ∷ bits)) (range_with_len 1 (length bits))))
+    ≡ (if v then a ∷ chosen atoms bits else chosen atoms bits)) [
+      | true ↦ λ i. a ∷ later i
+      | false ↦ later
+    ]
 
-  pub apart : AllPairs (λ (a b : Atom). a ≢ b) atoms
-  apart i j d lt within is =
-      let below = Less-from_sorted atom_cmp atoms i j d sorted lt within in
-      never_below_itself (get_or atoms i d) (subst (λ (b : Atom). atom_cmp (get_or atoms i d) b ≡ Less) (sym is) below)
+-- and they rise
+rise_filter : (p : ℕ → Bool) (count least from n : ℕ) → least ≤ from → from + n ≤ count → rise count least (filter p (range_with_len from n)) ≡ true
+rise_filter p count least from zero above within = refl
+rise_filter p count least from (suc n) above within =
+    elim (p from) as (λ v. rise count least (cond v (from ∷ filter p (range_with_len (from + 1) n)) (filter p (range_with_len (from + 1) n))) ≡ true) [
+      | true ↦
+          and_from (nat_le least from && nat_lt from count) (rise count (from + 1) (filter p (range_with_len (from + 1) n)))
+          (and_from (nat_le least from) (nat_lt from count) (le-leb least from above) (lt-ltb from count (omega (arith, within))))
+          (rise_filter p count (from + 1) (from + 1) n (omega arith) (omega (arith, within)))
+      | false ↦ rise_filter p count least (from + 1) n (omega (arith, above)) (omega (arith, within))
+    ]
 
-  pub no_two : AreDistinct atoms
-  no_two j k a at_j at_k =
-      elim (cases_lt j k) [
-        | inl before ↦ absurd (apart j k a before (slice_get_within atoms k a at_k) (get_or_from_slice_get atoms j a a at_j ∙ sym (get_or_from_slice_get atoms k a a at_k)))
-        | inr after ↦ elim (cases_eq k j) [
-          | inl is ↦ sym is
-          | inr other ↦ absurd (apart k j a (omega arith) (slice_get_within atoms j a at_j) (get_or_from_slice_get atoms k a a at_k ∙ sym (get_or_from_slice_get atoms j a a at_j)))
-        ]
-      ]
-
-  pub more_atoms : (most : ℕ) → most < length atoms → AreMoreAtoms task (length states) most
-  more_atoms most more = record {
-    states = states;
-    reachable = λ s among. reachable among.0 s (at_place states s among);
-    within_limit = omega arith;
-    atoms = atoms;
-    distinct = no_two;
-    fluent = λ q among. (found_atom among.0 q (at_place atoms q among)).0;
-    true_in_one = λ q among. (found_atom among.0 q (at_place atoms q among)).1;
-    more = more;
-  }
-
-  -- a line's atoms, with the static ones, are the state's
-  pub listed_state : (k : ℕ) (s : State) (numbers : List ℕ) → slice_get states k ≡ Some s → Names atoms s numbers
-      → from_list (filter_map (slice_get atoms) numbers ++ static_atoms task) ≡ s
-  listed_state k s numbers at names =
-      state_of_fluent task s (filter_map (slice_get atoms) numbers) (reachable k s at) (record {
-        same = λ q is. sym (there q ∙ whole (contains s q) (stands_in atoms q)
-            (λ here. stands_fluent q ∙ and_from (is_fluent task q.predicate) (is_true_in_one states q) is (any_passes_from_place (λ (t : State). contains t q) states k s at here)));
-        none_static = λ q is. there q ∙ ap (λ v. contains s q && v) (stands_fluent q ∙ ap (λ v. v && is_true_in_one states q) is) ∙ and_false (contains s q);
-      })
-    where
-      there : (q : Atom) → stands_in (filter_map (slice_get atoms) numbers) q ≡ (contains s q && stands_in atoms q)
-      there q =
-          stands_in-state (filter_map (slice_get atoms) numbers) (intersection s (from_list atoms)) q names.named
-          ∙ contains-intersection atoms_total s (from_list atoms) q
-          ∙ ap (λ v. contains s q && v) (contains-from_list atoms_total atoms q)
-
-      whole : (c a : Bool) → (c ≡ true → a ≡ true) → (c && a) ≡ c
-      whole true a known = known refl
-      whole false a known = refl
+pub numbers_rise : (bits : List Bool) → rise (length bits) 0 (numbers_in bits) ≡ true
+numbers_rise bits = rise_filter (has bits) (length bits) 0 0 (length bits) (omega arith) (omega arith)
 
 -- ---- the lines
 
-lines_same : {S : Type 0} (entry : code_line.StateLine → Line S) (states : List S) (all : List Reached) (lines : List code_line.StateLine) → length all ≡ length states → length lines ≡ length states
-    → ((k : ℕ) (s : S) (r : Reached) (l : code_line.StateLine) → slice_get states k ≡ Some s → slice_get all k ≡ Some r → slice_get lines k ≡ Some l → entry l ≡ search.line_of s r)
-    → map entry lines ≡ search.lines_of states all
-lines_same entry [] all [] one each alike = refl
-lines_same entry [] all (l ∷ lines) one each alike = absurd (omega arith)
-lines_same entry (s ∷ states) [] lines one each alike = absurd (omega arith)
-lines_same entry (s ∷ states) (r ∷ all) [] one each alike = absurd (omega arith)
-lines_same entry (s ∷ states) (r ∷ all) (l ∷ lines) one each alike =
-    λ i. alike 0 s r l refl refl refl i ∷ lines_same entry states all lines (omega arith) (omega arith) (λ k. alike (suc k)) i
+line_at : {S : Type 0} (states : List S) (nodes : List Node) (k : ℕ) (d : Line S) → length nodes ≡ length states → k < length (search.lines_of states nodes)
+    → (s : S) × (slice_get states k ≡ Some s) × ((get_or (search.lines_of states nodes) k d).state ≡ s)
+line_at [] nodes k d one below = absurd (omega (arith, below))
+line_at (s ∷ states) [] k d one below = absurd (omega (arith, one))
+line_at (s ∷ states) (node ∷ nodes) zero d one below = (s, refl, refl)
+line_at (s ∷ states) (node ∷ nodes) (suc k) d one below = line_at states nodes k d (omega (arith, one)) (omega (arith, below))
 
-line_at : {S : Type 0} (states : List S) (all : List Reached) (k : ℕ) (d : Line S) → length all ≡ length states → k < length (search.lines_of states all)
-    → (s : S) × (slice_get states k ≡ Some s) × ((get_or (search.lines_of states all) k d).state ≡ s)
-line_at [] all k d one lt = absurd (omega arith)
-line_at (s ∷ states) [] k d one lt = absurd (omega arith)
-line_at (s ∷ states) (r ∷ all) zero d one lt = (s, refl, refl)
-line_at (s ∷ states) (r ∷ all) (suc k) d one lt = line_at states all k d (omega arith) (omega arith)
-
-states_apart : {S : Type 0} (states : List S) (all : List Reached) → length all ≡ length states → AreDistinct states → AllPairs (λ (k l : Line S). k.state ≢ l.state) (search.lines_of states all)
-states_apart states all one distinct i j d lt within is =
-    let (s, at_i, is_i) = line_at states all i d one (omega arith) in
-    let (t, at_j, is_j) = line_at states all j d one within in
+states_apart : {S : Type 0} (states : List S) (nodes : List Node) → length nodes ≡ length states → AreDistinct states → AllPairs (λ (k l : Line S). k.state ≢ l.state) (search.lines_of states nodes)
+states_apart states nodes one distinct i j d before within is =
+    let (s, at_i, is_i) = line_at states nodes i d one (omega (arith, before, within)) in
+    let (t, at_j, is_j) = line_at states nodes j d one within in
     let same : t ≡ s = sym is_j ∙ sym is ∙ is_i in
     let place = distinct i j s at_i (at_j ∙ ap Some same) in
-    absurd (omega arith)
+    absurd (omega (arith, before, place))
 
-pub reached : (task : Task) (claim : Claim) (most : ℕ) (states : List State) (all : List Reached) → AreFound (system_of task) claim most states all → AllReachable task states
-reached task claim most states all found k s at =
-    let (r, at_r) = get_exists all k (omega (arith, slice_get_within states k s at, found.one_for_each)) in
-    let there = found.reachable k s r at at_r in
-    (there.0, there.1)
+lines_mapped : {S T : Type 0} (f : S → T) (states : List S) (nodes : List Node)
+    → map (λ (l : Line S). record { state = f l.state; cost = l.cost; cut = l.cut }) (search.lines_of states nodes) ≡ search.lines_of (map f states) nodes
+lines_mapped f [] nodes = refl
+lines_mapped f (s ∷ states) [] = refl
+lines_mapped f (s ∷ states) (node ∷ nodes) = ap (λ l. search.line_of (f s) node ∷ l) (lines_mapped f states nodes)
 
-pub shown_by : (task : Task) (well : is_task task ≡ true) (claim : Claim) (most : ℕ) (states : List State) (all : List Reached) (fluent : State) (atoms : List Atom) (lines : List code_line.StateLine) (certificate : Certificate)
-    → AreFound (system_of task) claim most states all → AreFluentIn task states fluent → from_list atoms ≡ fluent → IsStrictlySortedBy atom_cmp atoms → AreLinesFor atoms states all lines
-    → certificate ≡ record { claim = claim; atoms = atoms; lines = map line_of lines } → IsShownBy task claim (length states) certificate
-shown_by task well claim most states all fluent atoms lines certificate found are same sorted each is =
-    subst (IsShownBy task claim (length states)) (sym is) (record {
+node_at : (nodes : List Node) (k : ℕ) → k < length nodes → (node : Node) × (slice_get nodes k ≡ Some node)
+node_at [] k below = absurd (omega (arith, below))
+node_at (node ∷ nodes) zero below = (node, refl)
+node_at (n ∷ nodes) (suc k) below = node_at nodes k (omega (arith, below))
+
+pub length-lines : {S : Type 0} (states : List S) (nodes : List Node) → length nodes ≡ length states → length (search.lines_of states nodes) ≡ length states
+length-lines [] nodes one = refl
+length-lines (s ∷ states) [] one = absurd (omega (arith, one))
+length-lines (s ∷ states) (node ∷ nodes) one = ap suc (length-lines states nodes (omega (arith, one)))
+
+pairs_apart : (atoms : List Atom) → are_distinct atoms ≡ true → AllPairs (λ (a b : Atom). a ≢ b) atoms
+pairs_apart [] distinct i j d before within = absurd (omega (arith, within))
+pairs_apart (a ∷ atoms) distinct zero zero d before within = absurd (omega (arith, before))
+pairs_apart (a ∷ atoms) distinct (suc i) zero d before within = absurd (omega (arith, before))
+pairs_apart (a ∷ atoms) distinct zero (suc j) d before within =
+    λ same.
+    let parts = and_parts (not (stands_in atoms a)) (are_distinct atoms) distinct in
+    let there = stands_in-got atoms j (get_or atoms j d) (slice_get-get_or atoms j d (omega (arith, within))) in
+    true≢false (sym (ap (stands_in atoms) same ∙ there) ∙ not-true (stands_in atoms a) parts.0)
+pairs_apart (a ∷ atoms) distinct (suc i) (suc j) d before within =
+    pairs_apart atoms (and_parts (not (stands_in atoms a)) (are_distinct atoms) distinct).1 i j d (omega (arith, before)) (omega (arith, within))
+
+-- ---- the certificate
+
+module _ (task : Task) (claim : Claim) (most : ℕ) (states : List (List Bool)) (nodes : List Node) where
+  abbrev atoms : List Atom
+  atoms = numbered_atoms task []
+
+  abbrev none_more : All (λ (a : Atom). IsTrue (is_fluent task a.predicate)) []
+  none_more = λ k d below. absurd (omega (arith, below))
+
+  abbrev view : Line (List Bool) → Line State
+  view line = record { state = state_of_bits task atoms line.state; cost = line.cost; cut = line.cut }
+
+  abbrev made : Certificate
+  made = record { claim = claim; atoms = atoms; lines = map state_line (search.lines_of states nodes) }
+
+  abbrev entry : StateLine → Line State
+  entry l = record { state = state_of_line task made l; cost = l.cost; cut = l.cut }
+
+  listing : lines_of task made ≡ map view (search.lines_of states nodes)
+  listing = map-map entry state_line (search.lines_of states nodes) ∙ each (search.lines_of states nodes)
+    where
+      each : (lines : List (Line (List Bool))) → map (λ l. entry (state_line l)) lines ≡ map view lines
+      each [] = refl
+      each (l ∷ lines) = λ i. record { state = from_list (named_chosen atoms l.state i ++ static_atoms task); cost = l.cost; cut = l.cut } ∷ each lines i
+
+  module _ (found : AreFound (ground_system task atoms) claim most states nodes) where
+    pub found_width : (k : ℕ) (bits : List Bool) → slice_get states k ≡ Some bits → length bits ≡ length atoms
+    found_width k bits at =
+        let (node, there) = node_at nodes k (omega (arith, slice_get_within states k bits at, found.one_for_each)) in
+        let reached = found.reachable k bits node at there in
+        length-reachable task atoms bits (reached.0, reached.1)
+
+    pub shown_by : is_task task ≡ true → IsShownBy task claim (length states) made
+    shown_by well = record {
       claims = refl;
       closed = record {
-        atoms_are_fluent = all_fluent task well states reachable fluent are atoms same sorted;
-        atoms_are_distinct = apart task well states reachable fluent are atoms same sorted;
-        states_are_distinct = subst (AllPairs (λ (k l : Line State). k.state ≢ l.state)) (sym listing) (states_apart states all found.one_for_each found.distinct);
-        listing_is_closed = subst (IsClosed (system_of task) (value_of made) claim) (sym listing) found.closed;
+        atoms_are_fluent = λ k d below.
+            let a = get_or atoms k d in
+            let there = stands_in-got atoms k a (slice_get-get_or atoms k d below) in
+            and_from (is_atom task a) (is_fluent task a.predicate) (numbered_typed task a well there) (numbered-fluent task [] none_more a there);
+        atoms_are_distinct = pairs_apart atoms (numbered-distinct task []);
+        states_are_distinct = subst (AllPairs (λ (k l : Line State). k.state ≢ l.state)) (sym (listing ∙ lines_mapped (state_of_bits task atoms) states nodes))
+            (states_apart (map (state_of_bits task atoms) states) nodes (omega (arith, found.one_for_each, length-map states (state_of_bits task atoms))) (distinct_states task states found_width found.distinct));
+        listing_is_closed = subst (IsClosed (system_of task) (value_of made) claim) (sym listing)
+            (closed_forth (ground_system task atoms) (system_of task) (state_of_bits task atoms) (NamesKept task) (ground_task_is_bisimilar task [] none_more)
+            (λ _. 0) (λ _. 0) (λ s. omega arith) claim (search.lines_of states nodes) found.closed);
       };
-      within_limit = omega (arith, length-map lines line_of, each.one_for_each);
-    })
-  where
-    made : Certificate
-    made = record { claim = claim; atoms = atoms; lines = map line_of lines }
+      within_limit = omega (arith, length-map (search.lines_of states nodes) state_line, length-lines states nodes found.one_for_each);
+      atoms = refl;
+    }
 
-    reachable : AllReachable task states
-    reachable = reached task claim most states all found
+    pub keeps : is_claim claim ≡ true → length atoms ≤ 1048576 → most ≤ 16777216 → keeps_limits made ≡ true
+    keeps small few_atoms few =
+        and_from (is_claim claim && nat_le (length atoms) 1048576 && nat_le (length made.lines) 16777216) (list_all (is_state_line (length atoms)) made.lines)
+        (and_from (is_claim claim && nat_le (length atoms) 1048576) (nat_le (length made.lines) 16777216)
+        (and_from (is_claim claim) (nat_le (length atoms) 1048576) small (le-leb (length atoms) 1048576 few_atoms))
+        (le-leb (length made.lines) 16777216 (omega (arith, length-map (search.lines_of states nodes) state_line, length-lines states nodes found.one_for_each, found.within_limit, few))))
+        (all_pass states nodes found_width (λ k node at. omega (arith, found.cheap k node at, found.within_limit, few)))
+      where
+        small_cut : (b : Bool) → option_map_or is_number (if b then None else Some 0) true ≡ true
+        small_cut true = refl
+        small_cut false = refl
 
-    entry : StateLine → Line State
-    entry l = record { state = state_of_line task made l; cost = l.cost; cut = l.cut }
+        all_pass : (ss : List (List Bool)) (ns : List Node) → ((k : ℕ) (bits : List Bool) → slice_get ss k ≡ Some bits → length bits ≡ length atoms)
+            → ((k : ℕ) (node : Node) → slice_get ns k ≡ Some node → node.cost < 1152921504606846976)
+            → list_all (is_state_line (length atoms)) (map state_line (search.lines_of ss ns)) ≡ true
+        all_pass [] ns long cheap = refl
+        all_pass (s ∷ ss) [] long cheap = refl
+        all_pass (s ∷ ss) (n ∷ ns) long cheap =
+            and_from (is_state_line (length atoms) (state_line (search.line_of s n))) (list_all (is_state_line (length atoms)) (map state_line (search.lines_of ss ns)))
+            (and_from (is_number n.cost && option_map_or is_number (if n.is_expanded then None else Some 0) true) (rise (length atoms) 0 (numbers_in s))
+            (and_from (is_number n.cost) (option_map_or is_number (if n.is_expanded then None else Some 0) true) (lt-ltb n.cost 1152921504606846976 (cheap 0 n refl)) (small_cut n.is_expanded))
+            (ap (λ width. rise width 0 (numbers_in s)) (sym (long 0 s refl)) ∙ numbers_rise s))
+            (all_pass ss ns (λ k. long (suc k)) (λ k. cheap (suc k)))
 
-    listing : lines_of task made ≡ search.lines_of states all
-    listing =
-        map-map entry line_of lines
-        ∙ lines_same (λ l. entry (line_of l)) states all lines found.one_for_each each.one_for_each
-        (λ k s r l at_s at_r at_l.
-        let line = each.each k s r l at_s at_r at_l in
-        λ i. record {
-          state = listed_state task well states reachable fluent are atoms same sorted k s l.atoms.items at_s line.names i;
-          cost = line.cost i;
-          cut = line.cut i;
-        })
+-- ---- for a certificate of these parts
 
--- ---- limits
+module _ (task : Task) (claim : Claim) (most : ℕ) (states : List (List Bool)) (nodes : List Node) (known : List Atom) (numbered : known ≡ numbered_atoms task [])
+    (found : AreFound (ground_system task known) claim most states nodes) (certificate : Certificate)
+    (is : certificate ≡ record { claim = claim; atoms = known; lines = map state_line (search.lines_of states nodes) }) where
+  same_found : AreFound (ground_system task (numbered_atoms task [])) claim most states nodes
+  same_found = subst (λ (l : List Atom). AreFound (ground_system task l) claim most states nodes) numbered found
 
--- what was found within a limit was found within a greater one
-pub found_within : {S A : Type 0} {t : System S A} {claim : Claim} {count most : ℕ} {states : List S} {all : List Reached} → AreFound t claim count states all → count ≤ most → AreFound t claim most states all
-found_within found le = record {
-  one_for_each = found.one_for_each;
-  within_limit = omega (arith, found.within_limit);
-  distinct = found.distinct;
-  reachable = found.reachable;
-  cheap = found.cheap;
-  closed = found.closed;
-}
+  is_made : made task claim most states nodes ≡ certificate
+  is_made = sym (is ∙ (λ i. record { claim = claim; atoms = numbered i; lines = map state_line (search.lines_of states nodes) }))
+
+  pub shown : is_task task ≡ true → IsShownBy task claim (length states) certificate
+  shown well = subst (IsShownBy task claim (length states)) is_made (shown_by task claim most states nodes same_found well)
+
+  pub within_limits : is_claim claim ≡ true → length known ≤ 1048576 → most ≤ 16777216 → keeps_limits certificate ≡ true
+  within_limits small few_atoms few =
+      ap keeps_limits (sym is_made) ∙ keeps task claim most states nodes same_found small (subst (λ (l : List Atom). length l ≤ 1048576) numbered few_atoms) few
 
 -- what is shown with so many states is shown with more
 pub more_allowed : {task : Task} {claim : Claim} {count most : ℕ} {certificate : Certificate} → IsShownBy task claim count certificate → count ≤ most → IsShownBy task claim most certificate
-more_allowed shown le = record { claims = shown.claims; closed = shown.closed; within_limit = omega arith }
-
-pub more_allowed_atoms : {task : Task} {count most max_atoms : ℕ} → AreMoreAtoms task count max_atoms → count ≤ most → AreMoreAtoms task most max_atoms
-more_allowed_atoms more le = record {
-  states = more.states;
-  reachable = more.reachable;
-  within_limit = omega arith;
-  atoms = more.atoms;
-  distinct = more.distinct;
-  fluent = more.fluent;
-  true_in_one = more.true_in_one;
-  more = more.more;
-}
-
-pub within_limits : (claim : Claim) (atoms : List Atom) (lines : List code_line.StateLine) (states : List State) (all : List Reached) → is_claim claim ≡ true → length atoms ≤ 1048576 → length states ≤ 16777216
-    → length all ≡ length states → ((k : ℕ) (r : Reached) → slice_get all k ≡ Some r → r.cost ≤ length states * 4294967295) → AreLinesFor atoms states all lines
-    → keeps_limits (record { claim = claim; atoms = atoms; lines = map line_of lines }) ≡ true
-within_limits claim atoms lines states all small few_atoms few_states one cheap each =
-    and_from (is_claim claim && nat_le (length atoms) 1048576 && nat_le (length (map line_of lines)) 16777216) (list_all (is_state_line (length atoms)) (map line_of lines))
-    (and_from (is_claim claim && nat_le (length atoms) 1048576) (nat_le (length (map line_of lines)) 16777216)
-    (and_from (is_claim claim) (nat_le (length atoms) 1048576) small (le-leb (length atoms) 1048576 few_atoms))
-    (le-leb (length (map line_of lines)) 16777216 (omega (arith, length-map lines line_of, each.one_for_each))))
-    (all_pass lines (λ k l at. passes k l at))
-  where
-    all_pass : (ls : List code_line.StateLine) → ((k : ℕ) (l : code_line.StateLine) → slice_get ls k ≡ Some l → is_state_line (length atoms) (line_of l) ≡ true)
-        → list_all (is_state_line (length atoms)) (map line_of ls) ≡ true
-    all_pass [] every = refl
-    all_pass (l ∷ ls) every =
-        and_from (is_state_line (length atoms) (line_of l)) (list_all (is_state_line (length atoms)) (map line_of ls)) (every 0 l refl) (all_pass ls (λ k. every (suc k)))
-
-    small_cut : (b : Bool) (o : Option ℕ) → o ≡ (if b then None else Some 0) → option_map_or is_number o true ≡ true
-    small_cut true o is = ap (λ v. option_map_or is_number v true) is
-    small_cut false o is = ap (λ v. option_map_or is_number v true) is
-
-    passes : (k : ℕ) (l : code_line.StateLine) → slice_get lines k ≡ Some l → is_state_line (length atoms) (line_of l) ≡ true
-    passes k l at =
-        let below = slice_get_within lines k l at in
-        let (s, at_s) = get_exists states k (omega (arith, below, each.one_for_each)) in
-        let (r, at_r) = get_exists all k (omega (arith, below, each.one_for_each, one)) in
-        let line = each.each k s r l at_s at_r at in
-        let cost : l.cost < 1152921504606846976 = omega (arith, line.cost, cheap k r at_r, few_states) in
-        and_from (is_number l.cost && option_map_or is_number l.cut true) (rise (length atoms) 0 l.atoms.items)
-        (and_from (is_number l.cost) (option_map_or is_number l.cut true) (lt-ltb l.cost 1152921504606846976 cost) (small_cut r.is_expanded l.cut line.cut))
-        line.names.rising
+more_allowed given le = record { claims = given.claims; closed = given.closed; within_limit = omega (arith, given.within_limit, le); atoms = given.atoms }

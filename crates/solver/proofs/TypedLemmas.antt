@@ -1,20 +1,23 @@
--- The atoms that are true in a reachable state are well-typed.
-use Rattle.std.proofs.Common.{◌≡◌, ℕ, zero, suc, Bool, true, false, ◌&&◌, ◌||◌, not, List, [], ◌∷◌, ◌⊎◌, inl, inr, ◌++◌, length, map, cond, Option, None, Some, refl, sym, ap, ◌∙◌, subst}
-use Rattle.std.specs.Prelude.{nat_eq, nat_le, nat_lt, slice_get, slice_index, filter, if◌then◌else◌}
+-- The numbered atoms of a task are well-typed.
+use Rattle.std.proofs.Common.{◌≡◌, ℕ, zero, suc, Bool, true, false, ◌&&◌, ◌||◌, List, [], ◌∷◌, inl, inr, ◌++◌, length, map, cond, Option, None, Some, refl, sym, ap, ◌∙◌}
+use Rattle.std.specs.Prelude.{nat_eq, nat_le, nat_lt, slice_get, slice_index, filter}
 use Rattle.std.specs.Cmp.Lexicographic.{pointwise}
-use Rattle.std.specs.Option.{option_map_or, option_and_then}
+use Rattle.std.specs.Option.{option_map_or}
 use Rattle.std.specs.List.{list_all, list_any, flat_map, range_with_len}
 use Rattle.std.specs.Ordering.{eq_by_cmp}
-use Rattle.std.specs.FinSet.{contains, from_list, difference, contains-from_list, contains-union, contains-difference}
-use Rattle.std.proofs.lemmas.Bool.{and_parts, and_from, eqb-true, eq-eqb}
+use Rattle.std.proofs.lemmas.Bool.{or_cases, and_parts, and_from, eqb-true, eq-eqb}
 use Rattle.std.proofs.lemmas.List.Folds.{list_all-append}
-use Rattle.model.proofs.Tests.{passes_got}
 use Rattle.model.specs.Task.{ObjectType, Object, Union, Atom, LiftedAtom, Term, variable, object, Predicate, Formula, EffectLiteral, add, delete, Effect, Effects, literal, both, each, when, no_effect, more_effects, Schema, Task, Instance}
 use Rattle.model.specs.WellTyped.{is_term, is_lifted_atom, is_atom, is_formula, is_effect_literal, is_effect, are_effects, is_schema, is_whole_chain, is_task, max_arguments, max_variables}
-use Rattle.model.specs.Runs.{run, IsReachable}
-use Rattle.model.specs.Meaning.{State, atom_cmp, supertypes_of, is_below, is_of, object_of, ground_atom, GroundLiteral, adds, deletes, Change, ground_literal, change_under, literals_in, changes_of, changes_of_all, added_by, deleted_by, after_changes, step, holds, fits, system_of, initial_state}
-use Rattle.model.proofs.Atoms.{stands_in, atoms_total}
-use Rattle.model.proofs.StaticLemmas.{same_atom}
+use Rattle.model.specs.Meaning.{atom_cmp, supertypes_of, is_below, is_of, object_of, ground_atom, Change, ground_literal, change_under, changes_of, changes_of_all, fits, is_instance}
+use Rattle.model.specs.Fluents.{is_fluent}
+use Rattle.model.specs.ClosedOff.{kept_instances, counts}
+use Rattle.model.specs.NumberedAtoms.{stands_in, atom_of_literal, touched_by, initial_fluent_atoms, numbered_atoms}
+use Rattle.model.proofs.Tests.{passes_got}
+use Rattle.model.proofs.StaticLemmas.{same_atom, stands_in-filter}
+use Rattle.model.proofs.ClosedOffLemmas.{kept-Contains}
+use Rattle.model.proofs.NumberingLemmas.{flat_map-stands_in}
+use Rattle.model.proofs.GroundTaskLemmas.{stands_in-numbered}
 
 or_later : (a b : Bool) → b ≡ true → (a || b) ≡ true
 or_later true b is = refl
@@ -135,28 +138,11 @@ ground_typed task scope binding a whole fit typed =
       | Some p ↦ λ terms. named_objects task scope binding p.arguments a.terms whole fit terms
     ] typed
 
--- ---- what actions add
+-- ---- what instances add or delete
 
--- what the change adds is well-typed
-abbrev adds_typed : Task → Change → Bool
-adds_typed task c = list_all (is_atom task) (added_by (c.literal ∷ []))
-
-one_more_typed : (task : Task) (l : GroundLiteral) (ls : List GroundLiteral) → list_all (is_atom task) (added_by (l ∷ [])) ≡ true → list_all (is_atom task) (added_by ls) ≡ true
-    → list_all (is_atom task) (added_by (l ∷ ls)) ≡ true
-one_more_typed task (adds a) ls here later = and_from (is_atom task a) (list_all (is_atom task) (added_by ls)) (and_parts (is_atom task a) true here).0 later
-one_more_typed task (deletes a) ls here later = later
-
--- so is what those of some changes add whose condition holds
-some_typed : (task : Task) (held : Change → Bool) (changes : List Change) → list_all (adds_typed task) changes ≡ true
-    → list_all (is_atom task) (added_by (map (λ (c : Change). c.literal) (filter held changes))) ≡ true
-some_typed task held [] all = refl
-some_typed task held (c ∷ rest) all =
-    let parts = and_parts (adds_typed task c) (list_all (adds_typed task) rest) all in
-    let later = some_typed task held rest parts.1 in
-    elim (held c) as (λ v. list_all (is_atom task) (added_by (map (λ (d : Change). d.literal) (cond v (c ∷ filter held rest) (filter held rest)))) ≡ true) [
-      | true ↦ one_more_typed task c.literal (map (λ (d : Change). d.literal) (filter held rest)) parts.0 later
-      | false ↦ later
-    ]
+-- what the change adds or deletes is well-typed
+abbrev is_typed : Task → Change → Bool
+is_typed task c = is_atom task (atom_of_literal c.literal)
 
 -- each change for each number that passes
 each_typed : (p : Change → Bool) (q : ℕ → Bool) (f : ℕ → List Change) (ns : List ℕ) → ((n : ℕ) → q n ≡ true → list_all p (f n) ≡ true) → list_all p (flat_map f (filter q ns)) ≡ true
@@ -180,67 +166,40 @@ fits_one_more p (a ∷ xs) (b ∷ ys) x y all here =
 
 module _ (task : Task) (whole : chains task ≡ true) where
   literal_typed : (scope : List Union) (b : List ℕ) → pointwise (is_of task) scope b ≡ true → (l : EffectLiteral) → is_effect_literal task scope l ≡ true
-      → list_all (is_atom task) (added_by (ground_literal b l ∷ [])) ≡ true
-  literal_typed scope b fit (add a) typed = and_from (is_atom task (ground_atom b a)) true (ground_typed task scope b a whole fit typed) refl
-  literal_typed scope b fit (delete a) typed = refl
+      → is_atom task (atom_of_literal (ground_literal b l)) ≡ true
+  literal_typed scope b fit (add a) typed = ground_typed task scope b a whole fit typed
+  literal_typed scope b fit (delete a) typed = ground_typed task scope b a whole fit typed
 
   under_typed : (scope : List Union) (b : List ℕ) → pointwise (is_of task) scope b ≡ true → (condition : Formula) (ls : List EffectLiteral) → list_all (is_effect_literal task scope) ls ≡ true
-      → list_all (adds_typed task) (map (change_under condition b) ls) ≡ true
+      → list_all (is_typed task) (map (change_under condition b) ls) ≡ true
   under_typed scope b fit condition [] typed = refl
   under_typed scope b fit condition (l ∷ ls) typed =
       let parts = and_parts (is_effect_literal task scope l) (list_all (is_effect_literal task scope) ls) typed in
-      and_from (adds_typed task (change_under condition b l)) (list_all (adds_typed task) (map (change_under condition b) ls))
+      and_from (is_typed task (change_under condition b l)) (list_all (is_typed task) (map (change_under condition b) ls))
       (literal_typed scope b fit l parts.0) (under_typed scope b fit condition ls parts.1)
 
   abbrev mutual
-    changes_typed : (e : Effect) (scope : List Union) (b : List ℕ) → pointwise (is_of task) scope b ≡ true → is_effect task scope e ≡ true → list_all (adds_typed task) (changes_of task e b) ≡ true
-    changes_typed (literal l) scope b fit typed = and_from (list_all (is_atom task) (added_by (ground_literal b l ∷ []))) true (literal_typed scope b fit l typed) refl
+    changes_typed : (e : Effect) (scope : List Union) (b : List ℕ) → pointwise (is_of task) scope b ≡ true → is_effect task scope e ≡ true → list_all (is_typed task) (changes_of task e b) ≡ true
+    changes_typed (literal l) scope b fit typed = and_from (is_atom task (atom_of_literal (ground_literal b l))) true (literal_typed scope b fit l typed) refl
     changes_typed (both parts) scope b fit typed = all_changes_typed parts scope b fit typed
     changes_typed (each types part) scope b fit typed =
         let inner = (and_parts (nat_lt (length scope) max_variables) (is_effect task (scope ++ types ∷ []) part) typed).1 in
-        each_typed (adds_typed task) (is_of task types) (λ one. changes_of task part (b ++ one ∷ [])) (range_with_len 0 (length task.objects))
+        each_typed (is_typed task) (is_of task types) (λ one. changes_of task part (b ++ one ∷ [])) (range_with_len 0 (length task.objects))
         (λ one of. changes_typed part (scope ++ types ∷ []) (b ++ one ∷ []) (fits_one_more (is_of task) scope b types one fit of) inner)
     changes_typed (when condition literals) scope b fit typed =
         under_typed scope b fit condition literals (and_parts (is_formula task scope condition) (list_all (is_effect_literal task scope) literals) typed).1
 
-    all_changes_typed : (es : Effects) (scope : List Union) (b : List ℕ) → pointwise (is_of task) scope b ≡ true → are_effects task scope es ≡ true → list_all (adds_typed task) (changes_of_all task es b) ≡ true
+    all_changes_typed : (es : Effects) (scope : List Union) (b : List ℕ) → pointwise (is_of task) scope b ≡ true → are_effects task scope es ≡ true → list_all (is_typed task) (changes_of_all task es b) ≡ true
     all_changes_typed no_effect scope b fit typed = refl
     all_changes_typed (more_effects first rest) scope b fit typed =
         let parts = and_parts (is_effect task scope first) (are_effects task scope rest) typed in
-        list_all-append (adds_typed task) (changes_of task first b) (changes_of_all task rest b)
-        ∙ and_from (list_all (adds_typed task) (changes_of task first b)) (list_all (adds_typed task) (changes_of_all task rest b))
+        list_all-append (is_typed task) (changes_of task first b) (changes_of_all task rest b)
+        ∙ and_from (list_all (is_typed task) (changes_of task first b)) (list_all (is_typed task) (changes_of_all task rest b))
         (changes_typed first scope b fit parts.0) (all_changes_typed rest scope b fit parts.1)
 
--- ---- states
-
-abbrev AllTyped : Task → State → Type 0
-AllTyped task s = (q : Atom) → contains s q ≡ true → is_atom task q ≡ true
-
-kept_or_added : (x y z : Bool) → ((x && y) || z) ≡ true → (x ≡ true) ⊎ (z ≡ true)
-kept_or_added true y z is = inl refl
-kept_or_added false y z is = inr is
-
-after_typed : (task : Task) (s : State) (e : Effect) (b : List ℕ) → AllTyped task s → list_all (adds_typed task) (changes_of task e b) ≡ true → AllTyped task (after_changes task s (changes_of task e b))
-after_typed task s e b typed all q there =
-    let literals = literals_in task s (changes_of task e b) in
-    let added = some_typed task (λ (c : Change). holds task c.condition c.binding s) (changes_of task e b) all in
-    let gone : State = from_list (deleted_by literals) in
-    let new : State = from_list (added_by literals) in
-    let is : ((contains s q && not (contains gone q)) || contains new q) ≡ true =
-    sym (contains-union atoms_total (difference s gone) new q ∙ ap (λ v. v || contains new q) (contains-difference atoms_total s gone q)) ∙ there in
-    elim (kept_or_added (contains s q) (not (contains gone q)) (contains new q) is) [
-      | inl kept ↦ typed q kept
-      | inr here ↦ typed_there (is_atom task) (added_by literals) q (sym (contains-from_list atoms_total (added_by literals) q) ∙ here) added
-    ]
-
-given : {X : Type 0} (a b : Bool) (x y : X) → (if a && b then Some x else None) ≡ Some y → (a ≡ true) × (x ≡ y)
-given true true x y is = (refl, cc)
-given true false x y is = absurd (cc)
-given false b x y is = absurd (cc)
-
--- the effect of an instance of a schema adds well-typed atoms
+-- the effect of an instance of a schema adds and deletes well-typed atoms
 effect_typed : (task : Task) (schema : Schema) (objects : List ℕ) → chains task ≡ true → is_schema task schema ≡ true → fits task schema objects ≡ true
-    → list_all (adds_typed task) (changes_of task schema.effect objects) ≡ true
+    → list_all (is_typed task) (changes_of task schema.effect objects) ≡ true
 effect_typed task schema objects whole typed fit =
     let few = nat_le (length schema.parameters) max_variables in
     let condition = is_formula task schema.parameters schema.precondition in
@@ -259,30 +218,44 @@ parts_typed task typed =
     let before_init = and_parts (chains task && arities task) schemas before_goal.0 in
     ((and_parts (chains task) (arities task) before_init.0).0, before_init.1, before_goal.1)
 
-step_typed : (task : Task) (s next : State) (i : Instance) → is_task task ≡ true → AllTyped task s → step task s i ≡ Some next → AllTyped task next
-step_typed task s next i well typed leads =
+all_filtered : (p q : Change → Bool) (cs : List Change) → list_all p cs ≡ true → list_all p (filter q cs) ≡ true
+all_filtered p q [] all = refl
+all_filtered p q (c ∷ cs) all =
+    let parts = and_parts (p c) (list_all p cs) all in
+    elim (q c) as (λ v. list_all p (cond v (c ∷ filter q cs) (filter q cs)) ≡ true) [
+      | true ↦ and_from (p c) (list_all p (filter q cs)) parts.0 (all_filtered p q cs parts.1)
+      | false ↦ all_filtered p q cs parts.1
+    ]
+
+all_mapped : {X Y : Type 0} (f : X → Y) (p : Y → Bool) (xs : List X) → list_all (λ x. p (f x)) xs ≡ true → list_all p (map f xs) ≡ true
+all_mapped f p [] all = refl
+all_mapped f p (x ∷ xs) all =
+    let parts = and_parts (p (f x)) (list_all (λ y. p (f y)) xs) all in
+    and_from (p (f x)) (list_all p (map f xs)) parts.0 (all_mapped f p xs parts.1)
+
+-- those that a kept instance touches by a change that counts
+touched_typed : (task : Task) (i : Instance) → is_task task ≡ true → is_instance task i ≡ true → list_all (is_atom task) (touched_by task i) ≡ true
+touched_typed task i well is =
     let parts = parts_typed task well in
-    elim (slice_get task.schemas i.schema) as (λ o. slice_get task.schemas i.schema ≡ o → option_and_then next_by o ≡ Some next → AllTyped task next) [
+    elim (slice_get task.schemas i.schema) as (λ o. slice_get task.schemas i.schema ≡ o → option_map_or (λ (s : Schema). fits task s i.objects) o false ≡ true
+    → list_all (is_atom task) (map (λ (c : Change). atom_of_literal c.literal) (filter (counts task) (option_map_or (λ (s : Schema). changes_of task s.effect i.objects) o []))) ≡ true) [
       | None ↦ λ _ none. absurd (cc)
-      | Some schema ↦ λ at some.
-          let here = given (fits task schema i.objects) (holds task schema.precondition i.objects s) _ next some in
-          subst (λ (t : State). AllTyped task t) here.1
-          (after_typed task s schema.effect i.objects typed
-          (effect_typed task schema i.objects parts.0 (passes_got (is_schema task) task.schemas i.schema schema at parts.1) here.0))
-    ] refl leads
+      | Some schema ↦ λ at fit.
+          let all = effect_typed task schema i.objects parts.0 (passes_got (is_schema task) task.schemas i.schema schema at parts.1) fit in
+          all_mapped (λ (c : Change). atom_of_literal c.literal) (is_atom task) (filter (counts task) (changes_of task schema.effect i.objects))
+          (all_filtered (is_typed task) (counts task) (changes_of task schema.effect i.objects) all)
+    ] refl is
+
+pub numbered_typed : (task : Task) (q : Atom) → is_task task ≡ true → stands_in (numbered_atoms task []) q ≡ true → is_atom task q ≡ true
+numbered_typed task q well at =
+    elim (or_cases (stands_in (initial_fluent_atoms task) q) (stands_in touched q) (sym (stands_in-numbered task [] q) ∙ at)) [
+      | inl start ↦
+          let there : (is_fluent task q.predicate && stands_in task.init q) ≡ true = sym (stands_in-filter (λ (a : Atom). is_fluent task a.predicate) task.init q) ∙ start in
+          typed_there (is_atom task) task.init q (and_parts (is_fluent task q.predicate) (stands_in task.init q) there).1 (parts_typed task well).2
+      | inr there ↦
+          let (i, among, by) = flat_map-stands_in (touched_by task) (kept_instances task) q there in
+          typed_there (is_atom task) (touched_by task i) q by (touched_typed task i well (kept-Contains task i among).0)
+    ]
   where
-    next_by : Schema → Option State
-    next_by schema = if fits task schema i.objects && holds task schema.precondition i.objects s then Some (after_changes task s (changes_of task schema.effect i.objects)) else None
-
-run_typed : (task : Task) → is_task task ≡ true → (actions : List Instance) (s end : State) → AllTyped task s → run (system_of task) s actions ≡ Some end → AllTyped task end
-run_typed task well [] s end typed runs = let same : s ≡ end = cc in subst (λ (t : State). AllTyped task t) same typed
-run_typed task well (a ∷ actions) s end typed runs =
-    elim (step task s a) as (λ o. step task s a ≡ o → option_and_then (λ next. run (system_of task) next actions) o ≡ Some end → AllTyped task end) [
-      | None ↦ λ _ none. absurd (cc)
-      | Some next ↦ λ leads on. run_typed task well actions next end (step_typed task s next a well typed leads) on
-    ] refl runs
-
-pub reachable_typed : (task : Task) (s : State) (q : Atom) → is_task task ≡ true → IsReachable (system_of task) s → contains s q ≡ true → is_atom task q ≡ true
-reachable_typed task s q well reached there =
-    run_typed task well reached.0 (initial_state task) s
-    (λ a in_init. typed_there (is_atom task) task.init a (sym (contains-from_list atoms_total task.init a) ∙ in_init) (parts_typed task well).2) reached.1 q there
+    touched : List Atom
+    touched = flat_map (touched_by task) (kept_instances task)

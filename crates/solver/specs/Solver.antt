@@ -1,5 +1,5 @@
 -- What the answers to a task say.
-use Rattle.std.specs.Prelude.{◌≡◌, ℕ, ◌<◌, ◌≤◌, IsTrue, length}
+use Rattle.std.specs.Prelude.{◌≡◌, ℕ, IsTrue, [], None, Some}
 use Rattle.std.specs.List.{list_all}
 use Rattle.formulas.specs.State.{plan_of}
 use Rattle.certificate.specs.Certificate.{certificate_of}
@@ -7,25 +7,27 @@ use Rattle.search.specs.Outcome.{AreMoreReachable}
 use Rattle.solver.specs.declared.answer.Answer.{Answer}
 use Rattle.solver.specs.declared.answer.Answer.TheVariants.{Plan, Unsolvable, Unknown}
 use Rattle.solver.specs.declared.answer.Limit.TheVariants.{Instances, Atoms, States}
-use Rattle.solver.specs.Listing.{IsShownBy, AreMoreAtoms}
+use Rattle.solver.specs.Listing.{IsShownBy}
 use Rattle.model.specs.Task.{Task}
 use Rattle.model.specs.Runs.{cost_of_all, IsOptimal, IsUnsolvable}
 use Rattle.model.specs.Claims.{bound, none}
 use Rattle.model.specs.Meaning.{system_of, is_instance}
-use Rattle.model.specs.Instances.{all_instances}
+use Rattle.model.specs.Limits.{max_numbered_atoms}
+use Rattle.model.specs.Grounding.{of_instances, of_atoms, limit_told}
 
 -- The answer is true: the steps are instances of the task, solve it at this cost, and no list of whatever length that
--- solves costs less; or no list solves; and the certificate shows it, by at most `states` states. Or a limit is
--- exceeded: that of the atoms by the atoms of at most `states` reachable states, and that of the instances exactly where
--- the task has more than `instances`.
+-- solves costs less; or no list solves; and the certificate shows it, by at most `states` states. Or a limit is exceeded:
+-- that of the instances exactly where more than `instances` of the task's are kept, that of the atoms exactly where no
+-- more are kept and too many atoms have numbers, and else that of the states, where more than `states` are reachable and
+-- may have to be found.
 abbrev pub IsTrueAnswer : Task → ℕ → ℕ → Answer → Type 0
 IsTrueAnswer task states instances (Plan steps cost cert) =
     IsOptimal (system_of task) (plan_of steps) × (cost_of_all (system_of task) (plan_of steps) ≡ cost)
     × IsTrue (list_all (is_instance task) (plan_of steps))
     × IsShownBy task (bound cost) states (certificate_of cert)
-    × (length (all_instances task) ≤ instances)
+    × (limit_told instances max_numbered_atoms task [] ≡ None)
 IsTrueAnswer task states instances (Unsolvable cert) =
-    IsUnsolvable (system_of task) × IsShownBy task none states (certificate_of cert) × (length (all_instances task) ≤ instances)
-IsTrueAnswer task states instances (Unknown Instances) = instances < length (all_instances task)
-IsTrueAnswer task states instances (Unknown Atoms) = AreMoreAtoms task states 1048576 × (length (all_instances task) ≤ instances)
-IsTrueAnswer task states instances (Unknown States) = AreMoreReachable (system_of task) states × (length (all_instances task) ≤ instances)
+    IsUnsolvable (system_of task) × IsShownBy task none states (certificate_of cert) × (limit_told instances max_numbered_atoms task [] ≡ None)
+IsTrueAnswer task states instances (Unknown Instances) = limit_told instances max_numbered_atoms task [] ≡ Some of_instances
+IsTrueAnswer task states instances (Unknown Atoms) = limit_told instances max_numbered_atoms task [] ≡ Some of_atoms
+IsTrueAnswer task states instances (Unknown States) = AreMoreReachable (system_of task) states × (limit_told instances max_numbered_atoms task [] ≡ None)

@@ -1,16 +1,21 @@
 //! The answer to a task.
-ghost use Rattle.std.specs.Prelude.{IfOk};
+ghost use Rattle.std.specs.Prelude.{[], IfOk, IsTrue};
 ghost use Rattle.typing.specs.Task.{task_of};
+ghost use Rattle.grounding.specs.Ground.{task_in, IsGroundOf};
 ghost use Rattle.solver.specs.Solver.{IsTrueAnswer};
+ghost use Rattle.model.specs.WellTyped.{is_task};
 
 use crate::limits::Limits;
 use crate::listing::cert_of;
+use crate::steps::instances_of;
+use crate::system::GroundSystem;
 use certificate::{Cert, Claim};
-use faults::NoMemory;
+use faults::{NoMemory, Refused};
 use formulas::Plan;
+use grounding::{Ground, GroundLimit};
+use packed_state::PooledStore;
 use search::{Outcome, best_first};
 use std::alloc::Global;
-use task_system::{PlainStore, TaskSystem};
 use typing::Task;
 
 /// What is found out of a task.
@@ -37,9 +42,9 @@ pub enum Answer {
 /// A limit that a task exceeds.
 #[derive(Clone, Copy, Debug, PartialEq, Eq)]
 pub enum Limit {
-    /// That of the task's instances.
+    /// That of the kept instances. Those that the start closes off are not counted.
     Instances,
-    /// That of a certificate's atoms, 1,048,576.
+    /// That of the atoms that have numbers, 1,048,576.
     Atoms,
     /// That of the listed states.
     States,
@@ -56,39 +61,43 @@ pub enum Limit {
 /// }
 /// ```
 ///
-/// A certificate then lists at most 100,000 states. `Unknown(Limit::Instances)` comes before any search, exactly where
-/// the task has more than 10,000 instances.
+/// A certificate then lists at most 100,000 states. Two limits are told before any search: `Unknown(Limit::Instances)`
+/// exactly where the task has more than 10,000 kept instances, which are those that its start does not close off, and
+/// `Unknown(Limit::Atoms)` exactly where it has no more, and more than 1,048,576 atoms would have numbers.
 pub fn solve(alloc: Global, task: &Task, limits: Limits) -> Result<Answer, NoMemory>
     ensures { IfOk result (IsTrueAnswer (task_of task.now) limits.states limits.instances) }
 {
-    let system = TaskSystem::new(alloc, task)?;
-    solve_system(alloc, &system, limits)
+    match Ground::new(alloc, task, &[], limits.instances()) {
+        Ok(ground) => solve_ground(alloc, &ground, limits),
+        Err(Refused::At(GroundLimit::Instances)) => Ok(Answer::Unknown(Limit::Instances)),
+        Err(Refused::At(GroundLimit::Atoms)) => Ok(Answer::Unknown(Limit::Atoms)),
+        Err(Refused::NoMemory) => Err(NoMemory),
+    }
 }
 
-/// The same of the system that a task is.
-fn solve_system(alloc: Global, system: &TaskSystem<'_>, limits: Limits) -> Result<Answer, NoMemory>
-    ensures { IfOk result (IsTrueAnswer (task_of system.now.task.now) limits.states limits.instances) }
+/// The same of the ground task.
+fn solve_ground(alloc: Global, ground: &Ground<'_>, limits: Limits) -> Result<Answer, NoMemory>
+    requires typed { IsTrue (is_task (task_in ground.now)) }
+    requires ground { IsGroundOf (task_in ground.now) [] limits.instances ground.now }
+    ensures { IfOk result (IsTrueAnswer (task_in ground.now) limits.states limits.instances) }
 {
-    if system.instances_exceed(limits.instances()) {
-        return Ok(Answer::Unknown(Limit::Instances));
-    }
-    let task = system.task();
-    match best_first(alloc, system, PlainStore::new(alloc), limits.states())? {
+    let store = PooledStore::new(alloc, ground.width())?;
+    match best_first(alloc, &GroundSystem(ground), store, limits.states())? {
         Outcome::Found {
             steps,
             cost,
             states,
-        } => match cert_of(alloc, task, Claim::Bound(cost), &states)? {
-            Some(cert) => match Plan::new(steps) {
+        } => {
+            let cert = cert_of(alloc, ground, Claim::Bound(cost), &states)?;
+            match Plan::new(instances_of(alloc, ground, &steps)?) {
                 Some(steps) => Ok(Answer::Plan { steps, cost, cert }),
                 None => unreachable!(),
-            },
-            None => Ok(Answer::Unknown(Limit::Atoms)),
-        },
-        Outcome::Exhausted { states } => match cert_of(alloc, task, Claim::Unsolvable, &states)? {
-            Some(cert) => Ok(Answer::Unsolvable { cert }),
-            None => Ok(Answer::Unknown(Limit::Atoms)),
-        },
+            }
+        }
+        Outcome::Exhausted { states } => {
+            let cert = cert_of(alloc, ground, Claim::Unsolvable, &states)?;
+            Ok(Answer::Unsolvable { cert })
+        }
         Outcome::States => Ok(Answer::Unknown(Limit::States)),
     }
 }

@@ -4,6 +4,8 @@
 mod answer;
 mod limits;
 mod listing;
+mod steps;
+mod system;
 
 pub use answer::{Answer, Limit, solve};
 pub use limits::{Limits, MAX_LIMIT};

@@ -5,7 +5,8 @@ ghost use Rattle.solver.specs.Limit.{is_limit};
 /// The most that a limit may be.
 pub const MAX_LIMIT: u32 = 16_777_216;
 
-/// How many states a search may list, and how many instances a task may have; each from 1 to 16,777,216.
+/// How many states a search may list, and how many of a task's instances may be kept, which are those that its start does
+/// not close off; each from 1 to 16,777,216.
 #[derive(Clone, Copy, Debug, PartialEq, Eq)]
 pub struct Limits {
     states: u32,
@@ -44,7 +45,7 @@ impl Limits {
         self.states
     }
 
-    /// The most instances that the task may have.
+    /// The most instances that may be kept.
     pub fn instances(&self) -> u32
         ensures { result ≡ self.now.instances }
     {

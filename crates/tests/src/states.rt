@@ -1,5 +1,5 @@
 //! States, plans, instances and atoms in memory.
-use crate::helpers::{Term, Texts, atom, atoms, instance, is_of, on_task};
+use crate::helpers::{Term, atom, atoms, instance, is_of, on_task};
 use faults::NoMemory;
 use formulas::{
     Binding, Instance, Plan, State, apply, changes, holds, is_atom, is_fluent, is_instance,
@@ -8,6 +8,7 @@ use formulas::{
 use std::alloc::Global;
 use std::process::Abort;
 use std::test::Fail;
+use test_texts::Texts;
 use typing::{PredicateId, Task};
 
 /// Three places, and roads that lead from the first to itself and to the second, and from there to the third.

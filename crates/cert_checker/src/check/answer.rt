@@ -1,5 +1,5 @@
 //! What a closed certificate shows, with the plan that was handed in.
-ghost use Rattle.std.specs.Prelude.{ℕ, ◌≤◌, length, IsTrue, IfErr, IfOk};
+ghost use Rattle.std.specs.Prelude.{◌≡◌, ℕ, None, IsTrue, IfErr, IfOk};
 ghost use Rattle.std.specs.List.{list_all};
 ghost use Rattle.std.specs.Option.{ForSome, option_map};
 ghost use Rattle.typing.specs.Task.{task_of};
@@ -7,7 +7,8 @@ ghost use Rattle.formulas.specs.State.{plan_of};
 ghost use Rattle.certificate.specs.Certificate.{certificate_of};
 ghost use Rattle.cert_checker.specs.CertChecker.{Answers, IsFirstRefusal, IsShown, IsTrueRefusal};
 ghost use Rattle.model.specs.Meaning.{is_instance, system_of};
-ghost use Rattle.model.specs.Instances.{all_instances};
+ghost use Rattle.model.specs.Limits.{max_numbered_atoms};
+ghost use Rattle.model.specs.Grounding.{limit_told};
 ghost use Rattle.model.specs.Claims.{ClaimHolds};
 ghost use Rattle.model.specs.Certificates.{IsClosedFor};
 
@@ -32,7 +33,7 @@ pub(super) fn answer(
     ensures shown { IfOk result (IsShown (task_of task.now) (option_map (λ p. plan_of p.now) plan.entry)) }
     ensures answers { IfOk result (Answers (certificate_of cert.now).claim (option_map (λ p. plan_of p.now) plan.entry)) }
     ensures wrong { IfErr result (λ e. (most : ℕ) → IsTrueRefusal (task_of task.now) (certificate_of cert.now) (option_map (λ p. plan_of p.now) plan.entry) most e) }
-    ensures first { IfErr result (λ e. (most : ℕ) → IsClosedFor (task_of task.now) (certificate_of cert.now) → length (all_instances (task_of task.now)) ≤ most
+    ensures first { IfErr result (λ e. (most : ℕ) → IsClosedFor (task_of task.now) (certificate_of cert.now) → limit_told most max_numbered_atoms (task_of task.now) (certificate_of cert.now).atoms ≡ None
         → IsFirstRefusal (task_of task.now) (certificate_of cert.now) (option_map (λ p. plan_of p.now) plan.entry) most e) }
 {
     let Some(plan) = plan else {

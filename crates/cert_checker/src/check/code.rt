@@ -35,7 +35,7 @@ pub enum RefusalCode {
     /// The plan costs more than the claim.
     #[error("PlanDearer")]
     PlanDearer = 54,
-    /// The task has more instances than the limit.
+    /// The task keeps more instances than the limit once it is grounded, or would number more than 1,048,576 atoms.
     #[error("Limit")]
     Limit = 55,
 }

@@ -1,26 +1,27 @@
-//! The listing of a certificate: its atoms and its states, read in the order of their lines.
-ghost use Rattle.std.specs.Prelude.{◌≡◌, ◌↔◌, List, ◌++◌, not, slice_get, IfErr, IfOk, IsSome, IsTrue, OnOk, length};
-ghost use Rattle.std.specs.FinSet.{from_list};
-ghost use Rattle.std.specs.List.{filter_map, list_any};
+//! The lines of a certificate, read one after another: its atoms, and its states as sets of numbers.
+ghost use Rattle.std.specs.Prelude.{◌≡◌, ◌≢◌, ◌≤◌, ◌↔◌, ℕ, ◌<◌, AllPairs, Contains, not, IfErr, IfOk, IsSome, IsTrue, OnOk, length};
+ghost use Rattle.std.specs.List.{list_any};
 ghost use Rattle.indexmap.specs.IndexSet.{insert_key};
 ghost use Rattle.typing.specs.Task.{task_of};
-ghost use Rattle.formulas.specs.State.{state_of};
 ghost use Rattle.certificate.specs.CertificateParts.{line_of};
 ghost use Rattle.certificate.specs.Certificate.{certificate_of};
-ghost use Rattle.task_system.specs.PlainStore.{states_of};
-ghost use Rattle.cert_checker.specs.CheckedLines.{AreFluent, CutsAreAllowed, IsAdded, IsFirstAnyway, IsTrueAnyway, Lists};
+ghost use Rattle.packed_state.specs.PooledView.{pooled_width, pooled_states};
+ghost use Rattle.cert_checker.specs.FluentAtoms.{AreFluent};
+ghost use Rattle.cert_checker.specs.CheckedLines.{CutsAreAllowed, IsAdded, IsFirstAnyway, IsTrueAnyway};
+ghost use Rattle.cert_checker.specs.PackedLines.{HoldsLines, packed_line};
 ghost use Rattle.model.specs.Task as model_task;
+ghost use Rattle.model.specs.Meaning as meaning;
 ghost use Rattle.model.specs.Claims as claims;
-ghost use Rattle.model.specs.Certificates.{lines_of, static_atoms};
+ghost use Rattle.model.specs.Certificates.{lines_of};
 
 use crate::check::code::RefusalCode;
 use crate::check::{Refusal, atom_line, state_line};
 use certificate::{Cert, Claim, StateLine};
 use faults::NoMemory;
-use formulas::{State, is_fluent, is_fluent_atom};
+use formulas::is_fluent_atom;
 use indexmap::IndexSet;
+use packed_state::{Packed, PooledStore, StateStore};
 use std::alloc::Global;
-use task_system::PlainStore;
 use typing::{Atom, Task};
 
 /// Whether each atom is a well-typed atom of a fluent predicate, and none stood before.
@@ -49,17 +50,32 @@ fn see(seen: &mut IndexSet<Atom>, atom: &Atom) -> Result<bool, NoMemory>
     Ok(seen.insert(atom.clone()?)?)
 }
 
-/// The states that the lines list, in order. None stands twice, and none is cut where no cut is allowed.
-pub(super) fn listed_states(alloc: Global, task: &Task, cert: &Cert) -> Result<PlainStore, Refusal>
-    ensures right { IfOk result (λ states. Lists (task_of task.now) (certificate_of cert.now) (states_of states)) }
-    ensures wrong { IfErr result (IsTrueAnyway (task_of task.now) (certificate_of cert.now)) }
-    ensures allowed { OnOk result (CutsAreAllowed (task_of task.now) (certificate_of cert.now) (length (lines_of (task_of task.now) (certificate_of cert.now)))) }
-    ensures first { IfErr result (λ e. AreFluent (task_of task.now) (certificate_of cert.now).atoms → IsFirstAnyway (task_of task.now) (certificate_of cert.now) e) }
+/// Whether no state is listed twice, and none is cut where no cut is allowed.
+pub(super) fn check_states(alloc: Global, cert: &Cert) -> Result<(), Refusal>
+    ensures distinct { OnOk result ((task : model_task.Task) → AreFluent task (certificate_of cert.now).atoms
+        → AllPairs (λ (k l : claims.Line meaning.State). k.state ≢ l.state) (lines_of task (certificate_of cert.now))) }
+    ensures allowed { OnOk result ((task : model_task.Task) → CutsAreAllowed task (certificate_of cert.now) (length (lines_of task (certificate_of cert.now)))) }
+    ensures wrong { IfErr result (λ e. (task : model_task.Task) → IsTrueAnyway task (certificate_of cert.now) e) }
+    ensures first { IfErr result (λ e. (task : model_task.Task) → AreFluent task (certificate_of cert.now).atoms → IsFirstAnyway task (certificate_of cert.now) e) }
 {
-    let statics = static_state(alloc, task)?;
-    let mut states = PlainStore::new(alloc);
+    // What is wrong with a line is told before the limits of the ground task, whose width is not known yet: the sets are
+    // made once more where it is.
+    packed_lines(alloc, cert, cert.atoms().len() as u32)?;
+    Ok(())
+}
+
+/// The states that the lines list, in order, each as the set of its atoms' numbers. None stands twice, and none is cut
+/// where no cut is allowed.
+pub(super) fn packed_lines(alloc: Global, cert: &Cert, width: u32) -> Result<PooledStore, Refusal>
+    requires { length (certificate_of cert.now).atoms ≤ width }
+    ensures right { IfOk result (HoldsLines (certificate_of cert.now) width) }
+    ensures allowed { OnOk result ((task : model_task.Task) → CutsAreAllowed task (certificate_of cert.now) (length (lines_of task (certificate_of cert.now)))) }
+    ensures wrong { IfErr result (λ e. (task : model_task.Task) → IsTrueAnyway task (certificate_of cert.now) e) }
+    ensures first { IfErr result (λ e. (task : model_task.Task) → AreFluent task (certificate_of cert.now).atoms → IsFirstAnyway task (certificate_of cert.now) e) }
+{
+    let mut states = PooledStore::new(alloc, width)?;
     for (place, line) in cert.lines().iter().enumerate() {
-        if !add_listed(&mut states, &statics, cert, line)? {
+        if !add_line(alloc, &mut states, width, line)? {
             return Err(state_line(RefusalCode::Repeated, cert, place));
         }
         if is_cut_not_allowed(cert, line) {
@@ -69,18 +85,22 @@ pub(super) fn listed_states(alloc: Global, task: &Task, cert: &Cert) -> Result<P
     Ok(states)
 }
 
-/// Puts the state that a line lists at the end of the states, and answers `true`, if it is not among them.
-fn add_listed(
-    states: &mut PlainStore,
-    statics: &State,
-    cert: &Cert,
+/// Puts the set of a line's numbers at the end of the states, and answers `true`, if it is not among them.
+fn add_line(
+    alloc: Global,
+    states: &mut PooledStore,
+    width: u32,
     line: &StateLine,
 ) -> Result<bool, NoMemory>
-    ensures { IfOk result (λ is_new. (fixed : List model_task.Atom) → state_of statics.now ≡ from_list fixed
-        → IsAdded (states_of states.old) (states_of states.new) (from_list (filter_map (slice_get (certificate_of cert.now).atoms) (line_of line.now).atoms ++ fixed)) is_new) }
+    requires room { length (pooled_states states.old) < 16777216 }
+    requires width { pooled_width states.old ≡ width }
+    requires named { (number : ℕ) → Contains line.now.atoms.items number → number < width }
+    ensures width { pooled_width states.new ≡ width }
+    ensures added { IfOk result (IsAdded (pooled_states states.old) (pooled_states states.new) (packed_line width (line_of line.now))) }
 {
-    let state = listed_state(statics, cert, line)?;
-    Ok(states.insert_if_new(state)?)
+    let state = Packed::new(alloc, width, &line.atoms)?;
+    let (_, is_new) = states.insert_if_new(&state)?;
+    Ok(is_new)
 }
 
 /// Whether the line is a cut, and it is claimed that no plan solves the task.
@@ -91,35 +111,4 @@ fn is_cut_not_allowed(cert: &Cert, line: &StateLine) -> bool
         Claim::Bound(_) => false,
         Claim::Unsolvable => line.cut.is_some(),
     }
-}
-
-/// The state of the static atoms that are true at the start.
-fn static_state(alloc: Global, task: &Task) -> Result<State, NoMemory>
-    ensures { IfOk result (λ s. state_of s ≡ from_list (static_atoms (task_of task.now))) }
-{
-    let mut state = State::new(alloc);
-    for atom in task.init() {
-        if is_fluent(task, atom.predicate) {
-            continue;
-        }
-        state.insert(atom.clone()?)?;
-    }
-    Ok(state)
-}
-
-/// The state that a line lists: its atoms with the static ones.
-fn listed_state(statics: &State, cert: &Cert, line: &StateLine) -> Result<State, NoMemory>
-    ensures { IfOk result (λ s. (fixed : List model_task.Atom) → state_of statics.now ≡ from_list fixed
-        → state_of s ≡ from_list (filter_map (slice_get (certificate_of cert.now).atoms) (line_of line.now).atoms ++ fixed)) }
-{
-    let mut state = statics.try_clone()?;
-    let atoms = cert.atoms();
-    for number in &line.atoms {
-        let number = *number as usize;
-        if number >= atoms.len() {
-            continue;
-        }
-        state.insert(atoms[number].clone()?)?;
-    }
-    Ok(state)
 }

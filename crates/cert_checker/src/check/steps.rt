@@ -1,70 +1,84 @@
 //! Whether no action leads out of the listing at less than is claimed.
-ghost use Rattle.std.specs.Prelude.{◌≡◌, ℕ, ◌+◌, ◌<◌, ◌≤◌, ◌↔◌, List, length, slice_get, Option, None, Some, IsTrue, IfErr, MatchOption, OnOk};
+ghost use Rattle.std.specs.Prelude.{◌≡◌, ◌≢◌, ℕ, ◌+◌, ◌<◌, ◌↔◌, AllPairs, List, length, slice_get, Option, None, Some, IsTrue, IfErr, IfOk, OnOk};
 ghost use Rattle.typing.specs.Task.{task_of};
-ghost use Rattle.formulas.specs.State.{state_of};
+ghost use Rattle.packed_state.specs.Packed.{bits_of};
+ghost use Rattle.grounding.specs.Ground.{IsGroundOf};
 ghost use Rattle.certificate.specs.CertificateParts.{claim_of};
 ghost use Rattle.certificate.specs.Certificate.{certificate_of};
-ghost use Rattle.task_system.specs.PlainStore.{states_of};
 ghost use Rattle.cert_checker.specs.CertChecker.{IsFirstRefusal, IsTrueRefusal};
-ghost use Rattle.cert_checker.specs.CheckedLines.{AreFluent, CutsAreAllowed, HasCost, IsCutClosed, IsLineClosed, IsListedAt, IsOpenClosed, IsRightUpTo, IsTrueAnyway, Lists, Stands};
+ghost use Rattle.cert_checker.specs.FluentAtoms.{AreFluent};
+ghost use Rattle.cert_checker.specs.CheckedLines.{CutsAreAllowed, IsCutClosed, IsLineClosed, IsOpenClosed, IsRightUpTo, IsTrueAnyway, Stands};
+ghost use Rattle.cert_checker.specs.PackedListing.{task_at, atoms_at, certificate_at, state_at, IsPacked};
 ghost use Rattle.model.specs.Task as model_task;
 ghost use Rattle.model.specs.Meaning.{system_of};
 ghost use Rattle.model.specs.Meaning as meaning;
 ghost use Rattle.model.specs.Claims as claims;
 ghost use Rattle.model.specs.Claims.{Allows, IsListedWithin};
-ghost use Rattle.model.specs.Instances.{all_instances};
+ghost use Rattle.model.specs.Limits.{max_numbered_atoms};
+ghost use Rattle.model.specs.Grounding.{applicable_numbers, limit_told};
 ghost use Rattle.model.specs.Certificates.{lines_of, value_of};
-ghost use Rattle.model.specs.CertificateRefusals.{IsListed};
 
 use crate::check::code::RefusalCode;
+use crate::check::packed::PackedListing;
 use crate::check::{Refusal, state_line};
 use certificate::{Cert, Claim};
-use formulas::{State, meets_goal};
+use grounding::{Ground, GroundFault};
+use packed_state::Packed;
 use std::alloc::Global;
-use task_system::{PlainStore, TaskSystem};
 use typing::Task;
 
-/// Checks the count of the task's instances, and then the listing: whether the initial state is listed at cost 0, and
-/// the state lines in order.
+/// Grounds the task, and checks the listing: whether the initial state is listed at cost 0, and the state lines in
+/// order.
 pub(super) fn check_listing(
     alloc: Global,
     task: &Task,
     cert: &Cert,
-    states: &PlainStore,
     max_instances: u32,
 ) -> Result<(), Refusal>
-    requires lists { Lists (task_of task.now) (certificate_of cert.now) (states_of states.now) }
     requires atoms { AreFluent (task_of task.now) (certificate_of cert.now).atoms }
+    requires distinct { AllPairs (λ (k l : claims.Line meaning.State). k.state ≢ l.state) (lines_of (task_of task.now) (certificate_of cert.now)) }
     requires allowed { CutsAreAllowed (task_of task.now) (certificate_of cert.now) (length (lines_of (task_of task.now) (certificate_of cert.now))) }
     ensures right { OnOk result (IsRightUpTo (task_of task.now) (certificate_of cert.now) max_instances (length (lines_of (task_of task.now) (certificate_of cert.now)))) }
     ensures wrong { IfErr result (λ e. (plan : Option (List model_task.Instance)) → IsTrueRefusal (task_of task.now) (certificate_of cert.now) plan max_instances e) }
     ensures first { IfErr result (λ e. (plan : Option (List model_task.Instance)) → IsFirstRefusal (task_of task.now) (certificate_of cert.now) plan max_instances e) }
 {
-    let system = TaskSystem::new(alloc, task)?;
-    if system.instances_exceed(max_instances) {
-        return Err(Refusal::Plain(RefusalCode::Limit));
+    let grounded = ground_task(alloc, task, cert, max_instances)?;
+    let listing = PackedListing::new(alloc, &grounded, cert)?;
+    check_initial(alloc, &listing)?;
+    check_lines(alloc, &listing)
+}
+
+/// The ground task in which the certificate's atoms have the first numbers.
+fn ground_task<'t>(
+    alloc: Global,
+    task: &'t Task,
+    cert: &Cert,
+    max_instances: u32,
+) -> Result<Ground<'t>, Refusal>
+    requires atoms { AreFluent (task_of task.now) (certificate_of cert.now).atoms }
+    requires distinct { AllPairs (λ (k l : claims.Line meaning.State). k.state ≢ l.state) (lines_of (task_of task.now) (certificate_of cert.now)) }
+    requires allowed { CutsAreAllowed (task_of task.now) (certificate_of cert.now) (length (lines_of (task_of task.now) (certificate_of cert.now))) }
+    ensures right { IfOk result (IsGroundOf (task_of task.now) (certificate_of cert.now).atoms max_instances) }
+    ensures wrong { IfErr result (λ e. (plan : Option (List model_task.Instance)) → IsTrueRefusal (task_of task.now) (certificate_of cert.now) plan max_instances e) }
+    ensures first { IfErr result (λ e. (plan : Option (List model_task.Instance)) → IsFirstRefusal (task_of task.now) (certificate_of cert.now) plan max_instances e) }
+{
+    match Ground::new(alloc, task, cert.atoms(), max_instances) {
+        Ok(grounded) => Ok(grounded),
+        Err(GroundFault::At(_)) => Err(Refusal::Plain(RefusalCode::Limit)),
+        Err(GroundFault::NoMemory) => Err(Refusal::NoMemory),
     }
-    check_initial(alloc, task, cert, states)?;
-    check_lines(alloc, &system, cert, states)
 }
 
 /// Whether the initial state is listed at cost 0.
-fn check_initial(
-    alloc: Global,
-    task: &Task,
-    cert: &Cert,
-    states: &PlainStore,
-) -> Result<(), Refusal>
-    requires { Lists (task_of task.now) (certificate_of cert.now) (states_of states.now) }
-    ensures right { OnOk result (IsListedWithin (lines_of (task_of task.now) (certificate_of cert.now)) (system_of (task_of task.now)).initial 0) }
-    ensures wrong { IfErr result (IsTrueAnyway (task_of task.now) (certificate_of cert.now)) }
-    ensures first { IfErr result (λ e. AreFluent (task_of task.now) (certificate_of cert.now).atoms
-        → CutsAreAllowed (task_of task.now) (certificate_of cert.now) (length (lines_of (task_of task.now) (certificate_of cert.now)))
-        → (plan : Option (List model_task.Instance)) (most : ℕ) → length (all_instances (task_of task.now)) ≤ most
-        → IsFirstRefusal (task_of task.now) (certificate_of cert.now) plan most e) }
+fn check_initial(alloc: Global, listing: &PackedListing) -> Result<(), Refusal>
+    ensures right { OnOk result (IsListedWithin (lines_of (task_at listing.now) (certificate_at listing.now)) (system_of (task_at listing.now)).initial 0) }
+    ensures wrong { IfErr result (IsTrueAnyway (task_at listing.now) (certificate_at listing.now)) }
+    ensures first { IfErr result (λ e. CutsAreAllowed (task_at listing.now) (certificate_at listing.now) (length (lines_of (task_at listing.now) (certificate_at listing.now)))
+        → (plan : Option (List model_task.Instance)) (most : ℕ) → limit_told most max_numbered_atoms (task_at listing.now) (certificate_at listing.now).atoms ≡ None
+        → IsFirstRefusal (task_at listing.now) (certificate_at listing.now) plan most e) }
 {
-    let initial = State::initial(alloc, task)?;
-    if listed_cost(task, cert, states, &initial) == Some(0) {
+    let initial = listing.grounded.initial(alloc)?;
+    if listing.cost_of(&initial) == Some(0) {
         Ok(())
     } else {
         Err(Refusal::Plain(RefusalCode::NoInitial))
@@ -72,124 +86,159 @@ fn check_initial(
 }
 
 /// Checks the state lines in order: the successors and the costs of open states, and the bounds of cuts.
-fn check_lines(
-    alloc: Global,
-    system: &TaskSystem,
-    cert: &Cert,
-    states: &PlainStore,
-) -> Result<(), Refusal>
-    requires { Lists (task_of system.now.task.now) (certificate_of cert.now) (states_of states.now) }
-    ensures right { OnOk result ((place : ℕ) (line : claims.Line meaning.State) → slice_get (lines_of (task_of system.now.task.now) (certificate_of cert.now)) place ≡ Some line
-        → IsLineClosed (task_of system.now.task.now) (certificate_of cert.now) line) }
-    ensures wrong { IfErr result (IsTrueAnyway (task_of system.now.task.now) (certificate_of cert.now)) }
-    ensures first { IfErr result (λ e. (plan : Option (List model_task.Instance)) (most : ℕ) → IsRightUpTo (task_of system.now.task.now) (certificate_of cert.now) most 0
-        → IsFirstRefusal (task_of system.now.task.now) (certificate_of cert.now) plan most e) }
+fn check_lines(alloc: Global, listing: &PackedListing) -> Result<(), Refusal>
+    ensures right { OnOk result ((place : ℕ) (line : claims.Line meaning.State) → slice_get (lines_of (task_at listing.now) (certificate_at listing.now)) place ≡ Some line
+        → IsLineClosed (task_at listing.now) (certificate_at listing.now) line) }
+    ensures wrong { IfErr result (IsTrueAnyway (task_at listing.now) (certificate_at listing.now)) }
+    ensures first { IfErr result (λ e. (plan : Option (List model_task.Instance)) (most : ℕ) → IsRightUpTo (task_at listing.now) (certificate_at listing.now) most 0
+        → IsFirstRefusal (task_at listing.now) (certificate_at listing.now) plan most e) }
 {
-    for place in 0..cert.lines().len() {
-        check_line(alloc, system, cert, states, place)?;
+    let width = listing.grounded.width();
+    let mut state = Packed::empty(alloc, width)?;
+    let mut next = Packed::empty(alloc, width)?;
+    let mut numbers = Vec::new(alloc);
+    for place in 0..listing.cert.lines().len() {
+        check_line(listing, place, &mut state, &mut next, &mut numbers)?;
     }
     Ok(())
 }
 
-/// Checks the state line at this place.
+/// Checks the state line at this place. The state, the next one and the numbers are lent to work with.
 fn check_line(
-    alloc: Global,
-    system: &TaskSystem,
-    cert: &Cert,
-    states: &PlainStore,
+    listing: &PackedListing,
     place: usize,
+    state: &mut Packed,
+    next: &mut Packed,
+    numbers: &mut Vec<u32>,
 ) -> Result<(), Refusal>
-    requires lists { Lists (task_of system.now.task.now) (certificate_of cert.now) (states_of states.now) }
-    requires within { place < length (certificate_of cert.now).lines }
-    ensures right { OnOk result ((line : claims.Line meaning.State) → slice_get (lines_of (task_of system.now.task.now) (certificate_of cert.now)) place ≡ Some line
-        → IsLineClosed (task_of system.now.task.now) (certificate_of cert.now) line) }
-    ensures wrong { IfErr result (IsTrueAnyway (task_of system.now.task.now) (certificate_of cert.now)) }
-    ensures first { IfErr result (λ e. (plan : Option (List model_task.Instance)) (most : ℕ) → IsRightUpTo (task_of system.now.task.now) (certificate_of cert.now) most place
-        → IsFirstRefusal (task_of system.now.task.now) (certificate_of cert.now) plan most e) }
+    requires within { place < length (certificate_at listing.now).lines }
+    requires state { IsPacked listing.now state.old }
+    requires next { IsPacked listing.now next.old }
+    ensures state { IsPacked listing.now state.new }
+    ensures next { IsPacked listing.now next.new }
+    ensures right { OnOk result ((line : claims.Line meaning.State) → slice_get (lines_of (task_at listing.now) (certificate_at listing.now)) place ≡ Some line
+        → IsLineClosed (task_at listing.now) (certificate_at listing.now) line) }
+    ensures wrong { IfErr result (IsTrueAnyway (task_at listing.now) (certificate_at listing.now)) }
+    ensures first { IfErr result (λ e. (plan : Option (List model_task.Instance)) (most : ℕ) → IsRightUpTo (task_at listing.now) (certificate_at listing.now) most place
+        → IsFirstRefusal (task_at listing.now) (certificate_at listing.now) plan most e) }
 {
-    let line = &cert.lines()[place];
+    let line = &listing.cert.lines()[place];
+    listing.get(place, state);
     match line.cut {
-        None => check_open(alloc, system, cert, states, place, line.cost),
-        Some(rest) => check_cut(cert, place, states.get(place), line.cost, rest),
+        None => check_open(listing, place, line.cost, state, next, numbers),
+        Some(rest) => check_cut(listing, place, line.cost, rest, state),
     }
 }
 
-/// Checks the open state at this place, which is listed at this cost: its goal, and its successors in order.
+/// Checks this open state, which is listed at this place and this cost: its goal, and its successors in order.
 fn check_open(
-    alloc: Global,
-    system: &TaskSystem,
-    cert: &Cert,
-    states: &PlainStore,
+    listing: &PackedListing,
     place: usize,
     cost: u64,
+    state: &Packed,
+    next: &mut Packed,
+    numbers: &mut Vec<u32>,
 ) -> Result<(), Refusal>
-    requires lists { Lists (task_of system.now.task.now) (certificate_of cert.now) (states_of states.now) }
-    requires within { place < length (certificate_of cert.now).lines }
-    requires listed { HasCost (certificate_of cert.now) place cost None }
+    requires within { place < length (certificate_at listing.now).lines }
+    requires state { IsPacked listing.now state.now }
+    requires next { IsPacked listing.now next.old }
+    requires listed { Stands (task_at listing.now) (certificate_at listing.now) place (state_at listing.now state.now) cost None }
     requires small { cost < 1152921504606846976 }
-    ensures right { OnOk result ((state : meaning.State) → slice_get (states_of states.now) place ≡ Some state
-        → IsOpenClosed (task_of system.now.task.now) (certificate_of cert.now) state cost) }
-    ensures wrong { IfErr result (IsTrueAnyway (task_of system.now.task.now) (certificate_of cert.now)) }
-    ensures first { IfErr result (λ e. (plan : Option (List model_task.Instance)) (most : ℕ) → IsRightUpTo (task_of system.now.task.now) (certificate_of cert.now) most place
-        → IsFirstRefusal (task_of system.now.task.now) (certificate_of cert.now) plan most e) }
+    ensures next { IsPacked listing.now next.new }
+    ensures right { OnOk result (IsOpenClosed (task_at listing.now) (certificate_at listing.now) (state_at listing.now state.now) cost) }
+    ensures wrong { IfErr result (IsTrueAnyway (task_at listing.now) (certificate_at listing.now)) }
+    ensures first { IfErr result (λ e. (plan : Option (List model_task.Instance)) (most : ℕ) → IsRightUpTo (task_at listing.now) (certificate_at listing.now) most place
+        → IsFirstRefusal (task_at listing.now) (certificate_at listing.now) plan most e) }
 {
-    let task = system.task();
-    let state = states.get(place);
-    check_goal(task, cert, place, state, cost)?;
-    for successor in &system.successors(alloc, state)? {
-        let Some(listed) = listed_cost(task, cert, states, &successor.state) else {
-            return Err(state_line(RefusalCode::SuccessorMissing, cert, place));
+    check_goal(listing, place, cost, state)?;
+    listing.grounded.applicable(state, numbers)?;
+    check_successors(listing, place, cost, state, numbers, next)
+}
+
+/// Checks the goal in this open state, which is listed at this place and this cost.
+fn check_goal(
+    listing: &PackedListing,
+    place: usize,
+    cost: u64,
+    state: &Packed,
+) -> Result<(), Refusal>
+    requires within { place < length (certificate_at listing.now).lines }
+    requires state { IsPacked listing.now state.now }
+    requires listed { Stands (task_at listing.now) (certificate_at listing.now) place (state_at listing.now state.now) cost None }
+    ensures right { OnOk result (IsTrue (meaning.meets_goal (task_at listing.now) (state_at listing.now state.now)) → Allows (certificate_at listing.now).claim cost) }
+    ensures wrong { IfErr result (IsTrueAnyway (task_at listing.now) (certificate_at listing.now)) }
+    ensures first { IfErr result (λ e. (plan : Option (List model_task.Instance)) (most : ℕ) → IsRightUpTo (task_at listing.now) (certificate_at listing.now) most place
+        → IsFirstRefusal (task_at listing.now) (certificate_at listing.now) plan most e) }
+{
+    if listing.grounded.meets_goal(state) && !allows(listing.cert.claim(), cost) {
+        Err(state_line(RefusalCode::GoalOpen, listing.cert, place))
+    } else {
+        Ok(())
+    }
+}
+
+/// Checks the successors of this open state, which is listed at this place and this cost. The numbers are those of the
+/// instances that are applicable in it.
+fn check_successors(
+    listing: &PackedListing,
+    place: usize,
+    cost: u64,
+    state: &Packed,
+    numbers: &[u32],
+    next: &mut Packed,
+) -> Result<(), Refusal>
+    requires within { place < length (certificate_at listing.now).lines }
+    requires state { IsPacked listing.now state.now }
+    requires next { IsPacked listing.now next.old }
+    requires listed { Stands (task_at listing.now) (certificate_at listing.now) place (state_at listing.now state.now) cost None }
+    requires small { cost < 1152921504606846976 }
+    requires numbers { numbers.now ≡ applicable_numbers (task_at listing.now) (atoms_at listing.now) (bits_of state.now) }
+    requires goal { IsTrue (meaning.meets_goal (task_at listing.now) (state_at listing.now state.now)) → Allows (certificate_at listing.now).claim cost }
+    ensures next { IsPacked listing.now next.new }
+    ensures right { OnOk result (IsOpenClosed (task_at listing.now) (certificate_at listing.now) (state_at listing.now state.now) cost) }
+    ensures wrong { IfErr result (IsTrueAnyway (task_at listing.now) (certificate_at listing.now)) }
+    ensures first { IfErr result (λ e. (plan : Option (List model_task.Instance)) (most : ℕ) → IsRightUpTo (task_at listing.now) (certificate_at listing.now) most place
+        → IsFirstRefusal (task_at listing.now) (certificate_at listing.now) plan most e) }
+{
+    for &number in numbers {
+        listing.grounded.successor(number, state, next);
+        let Some(listed) = listing.cost_of(next) else {
+            return Err(state_line(RefusalCode::SuccessorMissing, listing.cert, place));
         };
-        if listed > cost + u64::from(formulas::cost(task, &successor.action)) {
-            return Err(state_line(RefusalCode::SuccessorDearer, cert, place));
+        if listed > cost + u64::from(listing.grounded.cost(number)) {
+            return Err(state_line(RefusalCode::SuccessorDearer, listing.cert, place));
         }
     }
     Ok(())
 }
 
-/// Checks the goal in the open state at this place, which is listed at this cost.
-fn check_goal(
-    task: &Task,
-    cert: &Cert,
-    place: usize,
-    state: &State,
-    cost: u64,
-) -> Result<(), Refusal>
-    requires within { place < length (certificate_of cert.now).lines }
-    requires listed { Stands (task_of task.now) (certificate_of cert.now) place (state_of state.now) cost None }
-    ensures right { OnOk result (IsTrue (meaning.meets_goal (task_of task.now) (state_of state.now)) → Allows (certificate_of cert.now).claim cost) }
-    ensures wrong { IfErr result (IsTrueAnyway (task_of task.now) (certificate_of cert.now)) }
-    ensures first { IfErr result (λ e. (plan : Option (List model_task.Instance)) (most : ℕ) → IsRightUpTo (task_of task.now) (certificate_of cert.now) most place
-        → IsFirstRefusal (task_of task.now) (certificate_of cert.now) plan most e) }
-{
-    if meets_goal(task, state) && !allows(cert.claim(), cost) {
-        Err(state_line(RefusalCode::GoalOpen, cert, place))
-    } else {
-        Ok(())
-    }
-}
-
-/// Checks the cut of this state at this place, which is listed at this cost and told to have at least `rest` still to
+/// Checks the cut of this state, which is listed at this place and this cost, and told to have at least `rest` still to
 /// pay.
-fn check_cut(cert: &Cert, place: usize, state: &State, cost: u64, rest: u64) -> Result<(), Refusal>
-    requires within { place < length (certificate_of cert.now).lines }
+fn check_cut(
+    listing: &PackedListing,
+    place: usize,
+    cost: u64,
+    rest: u64,
+    state: &Packed,
+) -> Result<(), Refusal>
+    requires within { place < length (certificate_at listing.now).lines }
+    requires listed { Stands (task_at listing.now) (certificate_at listing.now) place (state_at listing.now state.now) cost (Some rest) }
     requires small { (cost < 1152921504606846976) × (rest < 1152921504606846976) }
-    ensures right { OnOk result (IsCutClosed (certificate_of cert.now) (state_of state.now) cost rest) }
-    ensures wrong { IfErr result (λ e. (task : model_task.Task) → Stands task (certificate_of cert.now) place (state_of state.now) cost (Some rest)
-        → IsTrueAnyway task (certificate_of cert.now) e) }
-    ensures first { IfErr result (λ e. (task : model_task.Task) (plan : Option (List model_task.Instance)) (most : ℕ) → IsRightUpTo task (certificate_of cert.now) most place
-        → IsFirstRefusal task (certificate_of cert.now) plan most e) }
+    ensures right { OnOk result (IsCutClosed (certificate_at listing.now) (state_at listing.now state.now) cost rest) }
+    ensures wrong { IfErr result (IsTrueAnyway (task_at listing.now) (certificate_at listing.now)) }
+    ensures first { IfErr result (λ e. (plan : Option (List model_task.Instance)) (most : ℕ) → IsRightUpTo (task_at listing.now) (certificate_at listing.now) most place
+        → IsFirstRefusal (task_at listing.now) (certificate_at listing.now) plan most e) }
 {
-    if rest <= value(cert, state) && allows(cert.claim(), cost + rest) {
+    if rest <= value(listing, state) && allows(listing.cert.claim(), cost + rest) {
         Ok(())
     } else {
-        Err(state_line(RefusalCode::CutWeak, cert, place))
+        Err(state_line(RefusalCode::CutWeak, listing.cert, place))
     }
 }
 
 /// The value of a state, which what is still to pay from it on does not fall short of: 0 in every state.
-fn value(_cert: &Cert, _state: &State) -> u64
-    ensures { result ≡ value_of (certificate_of _cert.now) (state_of _state.now) }
+fn value(_listing: &PackedListing, _state: &Packed) -> u64
+    ensures { result ≡ value_of (certificate_at _listing.now) (state_at _listing.now _state.now) }
 {
     0
 }
@@ -201,18 +250,5 @@ fn allows(claim: Claim, cost: u64) -> bool
     match claim {
         Claim::Bound(least) => least <= cost,
         Claim::Unsolvable => false,
-    }
-}
-
-/// The cost at which the state is listed, if it is.
-fn listed_cost(task: &Task, cert: &Cert, states: &PlainStore, state: &State) -> Option<u64>
-    requires { Lists (task_of task.now) (certificate_of cert.now) (states_of states.now) }
-    ensures { MatchOption result
-        (¬ IsListed (lines_of (task_of task.now) (certificate_of cert.now)) (state_of state.now))
-        (IsListedAt (lines_of (task_of task.now) (certificate_of cert.now)) (state_of state.now)) }
-{
-    match states.find(state) {
-        Some(place) => Some(cert.lines()[place].cost),
-        None => None,
     }
 }

@@ -38,18 +38,18 @@ returns-in_err-check_atoms-clause-accepts c =
     passed_on IsNoFault c.from_residual.result c.in_err-check_atoms.field-0.0 c.from_residual.ensures.1
     (no_fault (task_of c.args.task.now) (certificate_of c.args.cert.now) plan c.args.max_instances closed within c.in_err-check_atoms.field-0.0 (c.in_err-check_atoms.ensures.wrong plan c.args.max_instances))
 
-pub returns-in_err-states-clause-refused : goal.returns-in_err-states-clause-refused
-returns-in_err-states-clause-refused c =
+pub returns-in_err-check_states-clause-refused : goal.returns-in_err-check_states-clause-refused
+returns-in_err-check_states-clause-refused c =
     let plan = option_map (λ p. plan_of p.now) c.args.plan in
-    passed_on (IsTrueRefusal (task_of c.args.task.now) (certificate_of c.args.cert.now) plan c.args.max_instances) c.from_residual-in_err-states.result c.in_err-states.field-0.0 c.from_residual-in_err-states.ensures.1
-    (c.in_err-states.ensures.wrong plan c.args.max_instances)
+    passed_on (IsTrueRefusal (task_of c.args.task.now) (certificate_of c.args.cert.now) plan c.args.max_instances) c.from_residual-in_err-check_states.result c.in_err-check_states.field-0.0
+    c.from_residual-in_err-check_states.ensures.1 (c.in_err-check_states.ensures.wrong (task_of c.args.task.now) plan c.args.max_instances)
 
-pub returns-in_err-states-clause-accepts : goal.returns-in_err-states-clause-accepts
-returns-in_err-states-clause-accepts c =
+pub returns-in_err-check_states-clause-accepts : goal.returns-in_err-check_states-clause-accepts
+returns-in_err-check_states-clause-accepts c =
     λ closed within.
     let plan = option_map (λ p. plan_of p.now) c.args.plan in
-    passed_on IsNoFault c.from_residual-in_err-states.result c.in_err-states.field-0.0 c.from_residual-in_err-states.ensures.1
-    (no_fault (task_of c.args.task.now) (certificate_of c.args.cert.now) plan c.args.max_instances closed within c.in_err-states.field-0.0 (c.in_err-states.ensures.wrong plan c.args.max_instances))
+    passed_on IsNoFault c.from_residual-in_err-check_states.result c.in_err-check_states.field-0.0 c.from_residual-in_err-check_states.ensures.1
+    (no_fault (task_of c.args.task.now) (certificate_of c.args.cert.now) plan c.args.max_instances closed within c.in_err-check_states.field-0.0 (c.in_err-check_states.ensures.wrong (task_of c.args.task.now) plan c.args.max_instances))
 
 pub returns-in_err-check_listing-clause-refused : goal.returns-in_err-check_listing-clause-refused
 returns-in_err-check_listing-clause-refused c =
@@ -73,11 +73,11 @@ returns-in_err-check_atoms-clause-first c =
     passed_on (IsFirstRefusal (task_of c.args.task.now) (certificate_of c.args.cert.now) plan c.args.max_instances) c.from_residual.result c.in_err-check_atoms.field-0.0 c.from_residual.ensures.1
     (c.in_err-check_atoms.ensures.first plan c.args.max_instances)
 
-pub returns-in_err-states-clause-first : goal.returns-in_err-states-clause-first
-returns-in_err-states-clause-first c =
+pub returns-in_err-check_states-clause-first : goal.returns-in_err-check_states-clause-first
+returns-in_err-check_states-clause-first c =
     let plan = option_map (λ p. plan_of p.now) c.args.plan in
-    passed_on (IsFirstRefusal (task_of c.args.task.now) (certificate_of c.args.cert.now) plan c.args.max_instances) c.from_residual-in_err-states.result c.in_err-states.field-0.0 c.from_residual-in_err-states.ensures.1
-    (c.in_err-states.ensures.first c.in_ok-check_atoms.ensures.right plan c.args.max_instances)
+    passed_on (IsFirstRefusal (task_of c.args.task.now) (certificate_of c.args.cert.now) plan c.args.max_instances) c.from_residual-in_err-check_states.result c.in_err-check_states.field-0.0 c.from_residual-in_err-check_states.ensures.1
+    (c.in_err-check_states.ensures.first (task_of c.args.task.now) c.in_ok-check_atoms.ensures.right plan c.args.max_instances)
 
 pub returns-in_err-check_listing-clause-first : goal.returns-in_err-check_listing-clause-first
 returns-in_err-check_listing-clause-first c =

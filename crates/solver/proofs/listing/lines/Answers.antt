@@ -1,30 +1,23 @@
-use Rattle.std.proofs.Common.{◌<◌, ◌+◌, Some, take, [], List, length, sym, ap, subst, map, ◌∙◌, arith}
-use Rattle.typing.specs.TaskParts.{atom_of}
-use Rattle.formulas.specs.State.{state_of}
-use Rattle.task_system.specs.PlainStore.{states_of}
-use Rattle.certificate.specs.declared.cert.StateLine.{StateLine}
-use Rattle.solver.specs.Listing.{AreLinesFor}
-use Rattle.task_system.proofs.StoreLemmas.{slice_get-or}
-use Rattle.solver.proofs.LoopLemmas.{no_lines, lines_more, lines_all}
+use Rattle.std.proofs.Common.{◌∙◌, ◌<◌, refl, ap, map, length, arith}
+use Rattle.std.proofs.lemmas.Option.{slice_get_read}
+use Rattle.std.proofs.lemmas.List.FromFn.{length-map-range_with_len}
+use Rattle.packed_state.specs.Packed.{bits_of}
+use Rattle.packed_state.specs.PooledView.{pooled_states}
+use Rattle.certificate.specs.CertificateParts.{line_of}
+use Rattle.solver.proofs.LoopLemmas.{lines_next}
 use Rattle.solver.proofs.listing.lines.Goals as goal
 
 pub loop-place-init : goal.loop-place-init
-loop-place-init c = subst (λ (ls : List StateLine). AreLinesFor (map atom_of c.args.atoms.now) [] [] ls) (sym c.new-lines.ensures.items) (no_lines (map atom_of c.args.atoms.now))
+loop-place-init c = (ap length c.in_ok-state.ensures ∙ length-map-range_with_len _ 0 c.width.result ∙ c.width.ensures, ap (map line_of) c.new-lines.ensures.items)
+
+pub overflow_cast-place : goal.overflow_cast-place
+overflow_cast-place c =
+    let below : c.loop-place.place < length (pooled_states c.args.found.now.store) = omega (arith, c.loop-place-test.true, c.len-place-end.ensures, c.requires.one_for_each) in
+    omega (arith, below, c.requires.few)
 
 pub loop-place-preserved : goal.loop-place-preserved
-loop-place-preserved c =
-    let atoms = map atom_of c.args.atoms.now in
-    let states = states_of c.args.found.now.store in
-    let all = c.args.found.now.reached.items in
-    let place = c.loop-place.place in
-    let reached = c.index.result.now in
-    let within : place < length all = omega (arith, c.loop-place-test.true, c.len-place-end.ensures, c.args.found.now.reached.ok.0) in
-    let at = slice_get-or all place reached within ∙ ap Some (sym c.index.ensures) in
-    subst (λ (ls : List StateLine). AreLinesFor atoms (take (place + 1) states) (take (place + 1) all) ls) (sym c.in_ok-push.ensures.items)
-    (lines_more atoms states all c.loop-place.lines.items place (state_of c.get.result.now) reached c.in_ok-line.line c.get.ensures at c.loop-place.invariant c.in_ok-line.ensures)
-
-pub returns : goal.returns
-returns c =
-    let all = c.args.found.now.reached.items in
-    lines_all (map atom_of c.args.atoms.now) (states_of c.args.found.now.store) all c.loop-place.lines.items c.loop-place.place c.requires.one_for_each
-    (omega (arith, c.loop-place-test.false)) c.loop-place.invariant
+loop-place-preserved c = (
+  c.get.ensures.width,
+  lines_next c.loop-place.lines.items c.push.new.self.items c.in_ok-line_of.field-0 (pooled_states c.args.found.now.store) c.args.found.now.nodes.items c.loop-place.place (bits_of c.get.new.into) c.index.result.now c.loop-place.invariant.1 c.in_ok-push.ensures.items
+      c.in_ok-line_of.ensures c.get.ensures.set (slice_get_read c.args.found.now.nodes.items _ c.loop-place.place c.index.result.now refl (omega (arith, c.loop-place-test.true, c.len-place-end.ensures)) c.index.ensures),
+)

@@ -1,9 +1,13 @@
-use Rattle.std.proofs.Common.{map, take}
-use Rattle.typing.specs.TaskParts.{atom_of}
-use Rattle.task_system.specs.PlainStore.{states_of}
-use Rattle.solver.specs.Listing.{AreLinesFor}
+use Rattle.std.proofs.Common.{◌≡◌, take, map, length}
+use Rattle.packed_state.specs.Packed.{bits_of}
+use Rattle.packed_state.specs.PooledView.{pooled_width, pooled_states}
+use Rattle.certificate.specs.CertificateParts as parts
+use Rattle.search.specs.Outcome as search
+use Rattle.solver.specs.Listing.{state_line}
 use Rattle.solver.proofs.listing.lines.Given as goal
 
--- there is a line for each of the states so far
+-- the lines of the states so far
 abbrev pub invariant-loop-place : goal.invariant-loop-place
-invariant-loop-place l = AreLinesFor (map atom_of l.atoms) (take l.place (states_of l.found.store)) (take l.place l.found.reached.items) l.lines.items
+invariant-loop-place l =
+    (length (bits_of l.state) ≡ pooled_width l.found.store)
+    × (map parts.line_of l.lines.items ≡ map state_line (search.lines_of (take l.place (pooled_states l.found.store)) (take l.place l.found.nodes.items)))

@@ -1,7 +1,7 @@
 use Rattle.std.proofs.Common.{◌≡◌, map, take}
 use Rattle.typing.specs.TaskParts.{atom_of}
 use Rattle.typing.specs.Task.{task_of}
-use Rattle.cert_checker.specs.CheckedLines.{AreFluent}
+use Rattle.cert_checker.specs.FluentAtoms.{AreFluent}
 use Rattle.cert_checker.proofs.check.listing.check_atoms.Given as goal
 
 -- the atoms so far are seen, fluent and distinct

@@ -1,7 +1,6 @@
 use Rattle.std.proofs.Common.{◌+◌, inl, inr, refl, arith}
-use Rattle.formulas.specs.State.{state_of}
-use Rattle.certificate.specs.Certificate.{certificate_of}
 use Rattle.certificate.specs.CertificateParts.{claim_of}
+use Rattle.cert_checker.specs.PackedListing.{task_at, certificate_at, state_at}
 use Rattle.cert_checker.specs.declared.check.code.RefusalCode.TheVariants.{CutWeak}
 use Rattle.model.specs.CertificateRefusals.{cut_weak, state_line}
 use Rattle.cert_checker.proofs.OrderLemmas.{first_in_line}
@@ -12,10 +11,10 @@ use Rattle.cert_checker.proofs.check.steps.check_cut.Goals.{else-rest-value-via-
 
 pub returns-else-rest-value-clause-wrong : goal.returns-else-rest-value-clause-wrong
 returns-else-rest-value-clause-wrong c =
-    λ task there.
-    let cert = certificate_of c.args.cert.now in
-    told task cert c.state_line.result CutWeak (state_line cert c.args.place) c.state_line.ensures
-    (wrong_cut task cert c.args.place (state_of c.args.state.now) c.args.cost c.args.rest there
+    let listing = c.args.listing.now in
+    let cert = certificate_at listing in
+    told (task_at listing) cert c.state_line.result CutWeak (state_line cert c.args.place) c.state_line.ensures
+    (wrong_cut (task_at listing) cert c.args.place (state_at listing c.args.state.now) c.args.cost c.args.rest c.requires.listed
     (elim c.else-rest-value.branch [
       | else-rest-value-via-then-rest-value+else-allows w ↦
           inr (not_allowed (claim_of w.claim.result) cert.claim (c.args.cost + c.args.rest) w.allows.result w.claim.ensures w.allows.ensures w.if-allows.false)
@@ -24,7 +23,8 @@ returns-else-rest-value-clause-wrong c =
 
 pub returns-else-rest-value-clause-first : goal.returns-else-rest-value-clause-first
 returns-else-rest-value-clause-first c =
-    λ task plan most right.
-    let cert = certificate_of c.args.cert.now in
-    told_first task cert plan most c.state_line.result CutWeak (state_line cert c.args.place) c.state_line.ensures
-    (first_in_line task cert plan most c.args.place cut_weak right refl (λ r stage rank wrong. omega arith)) tt
+    λ plan most right.
+    let listing = c.args.listing.now in
+    let cert = certificate_at listing in
+    told_first (task_at listing) cert plan most c.state_line.result CutWeak (state_line cert c.args.place) c.state_line.ensures
+    (first_in_line (task_at listing) cert plan most c.args.place cut_weak right refl (λ r stage rank wrong. omega arith)) tt

@@ -1,8 +1,6 @@
 use Rattle.std.proofs.Common.{sym, ◌∙◌, refl, arith}
-use Rattle.typing.specs.Task.{task_of}
-use Rattle.certificate.specs.Certificate.{certificate_of}
-use Rattle.formulas.specs.State.{state_of}
 use Rattle.certificate.specs.CertificateParts.{claim_of}
+use Rattle.cert_checker.specs.PackedListing.{task_at, certificate_at, state_at}
 use Rattle.cert_checker.specs.declared.check.code.RefusalCode.TheVariants.{GoalOpen}
 use Rattle.model.specs.CertificateRefusals.{goal_open, state_line}
 use Rattle.cert_checker.proofs.OrderLemmas.{first_in_line}
@@ -12,16 +10,16 @@ use Rattle.cert_checker.proofs.check.steps.check_goal.Goals as goal
 
 pub returns-then-not-allows-clause-wrong : goal.returns-then-not-allows-clause-wrong
 returns-then-not-allows-clause-wrong c =
-    let task = task_of c.args.task.now in
-    let cert = certificate_of c.args.cert.now in
-    told task cert c.state_line.result GoalOpen (state_line cert c.args.place) c.state_line.ensures
-    (wrong_goal task cert c.args.place (state_of c.args.state.now) c.args.cost c.requires.listed (sym c.meets_goal.ensures ∙ c.if-meets_goal.true)
+    let listing = c.args.listing.now in
+    let cert = certificate_at listing in
+    told (task_at listing) cert c.state_line.result GoalOpen (state_line cert c.args.place) c.state_line.ensures
+    (wrong_goal (task_at listing) cert c.args.place (state_at listing c.args.state.now) c.args.cost c.requires.listed (sym c.meets_goal.ensures ∙ c.if-meets_goal.true)
     (not_allowed (claim_of c.claim.result) cert.claim c.args.cost c.allows.result c.claim.ensures c.allows.ensures c.if-not-allows.true))
 
 pub returns-then-not-allows-clause-first : goal.returns-then-not-allows-clause-first
 returns-then-not-allows-clause-first c =
     λ plan most right.
-    let task = task_of c.args.task.now in
-    let cert = certificate_of c.args.cert.now in
-    told_first task cert plan most c.state_line.result GoalOpen (state_line cert c.args.place) c.state_line.ensures
-    (first_in_line task cert plan most c.args.place goal_open right refl (λ r stage rank wrong. omega arith)) tt
+    let listing = c.args.listing.now in
+    let cert = certificate_at listing in
+    told_first (task_at listing) cert plan most c.state_line.result GoalOpen (state_line cert c.args.place) c.state_line.ensures
+    (first_in_line (task_at listing) cert plan most c.args.place goal_open right refl (λ r stage rank wrong. omega arith)) tt

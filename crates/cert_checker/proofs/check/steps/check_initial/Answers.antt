@@ -1,30 +1,33 @@
-use Rattle.typing.specs.Task.{task_of}
-use Rattle.formulas.specs.State.{state_of}
-use Rattle.certificate.specs.Certificate.{certificate_of}
-use Rattle.task_system.specs.PlainStore.{states_of}
+use Rattle.packed_state.specs.Packed.{bits_of}
+use Rattle.cert_checker.specs.PackedListing.{task_at, atoms_at, certificate_at, state_at}
 use Rattle.model.specs.Meaning.{initial_state}
 use Rattle.model.specs.Certificates.{lines_of}
 use Rattle.cert_checker.proofs.CertCheckerLemmas.{listed_at_none}
 use Rattle.cert_checker.proofs.OrderLemmas.{atoms_right, states_right_all, first_initial}
-use Rattle.cert_checker.proofs.RefusalsLemmas.{lines_apart, not_listed_at_none}
+use Rattle.cert_checker.proofs.PackedListingLemmas.{initial_there, listed_apart}
+use Rattle.cert_checker.proofs.RefusalsLemmas.{not_listed_at_none}
 use Rattle.cert_checker.proofs.check.steps.check_initial.Goals as goal
 
 pub returns-then-eq-clause-right : goal.returns-then-eq-clause-right
 returns-then-eq-clause-right c =
-    let task = task_of c.args.task.now in
-    listed_at_none (lines_of task (certificate_of c.args.cert.now)) (state_of c.in_ok-initial.initial) (initial_state task) c.listed_cost.result c.listed_cost.ensures c.if-eq.ensures c.in_ok-initial.ensures
+    let listing = c.args.listing.now in
+    let task = task_at listing in
+    listed_at_none (lines_of task (certificate_at listing)) (state_at listing c.in_ok-initial.initial) (initial_state task) c.cost_of.result c.cost_of.ensures c.if-eq.ensures
+    (initial_there task (atoms_at listing) (certificate_at listing) listing.states listing.listed (bits_of c.in_ok-initial.initial) c.in_ok-initial.ensures)
 
 pub returns-clause-wrong : goal.returns-clause-wrong
 returns-clause-wrong c =
     λ plan most.
-    let task = task_of c.args.task.now in
-    let cert = certificate_of c.args.cert.now in
-    not_listed_at_none (lines_of task cert) (state_of c.in_ok-initial.initial) (initial_state task) c.listed_cost.result (lines_apart task cert (states_of c.args.states.now) c.requires) c.listed_cost.ensures
-    c.if-eq.ensures c.in_ok-initial.ensures
+    let listing = c.args.listing.now in
+    let task = task_at listing in
+    not_listed_at_none (lines_of task (certificate_at listing)) (state_at listing c.in_ok-initial.initial) (initial_state task) c.cost_of.result
+    (listed_apart task (atoms_at listing) (certificate_at listing) listing.states listing.listed) c.cost_of.ensures c.if-eq.ensures
+    (initial_there task (atoms_at listing) (certificate_at listing) listing.states listing.listed (bits_of c.in_ok-initial.initial) c.in_ok-initial.ensures)
 
 pub returns-clause-first : goal.returns-clause-first
 returns-clause-first c =
-    λ atoms allowed plan most within.
-    let task = task_of c.args.task.now in
-    let cert = certificate_of c.args.cert.now in
-    first_initial task cert plan most (atoms_right task cert atoms) (states_right_all task cert (lines_apart task cert (states_of c.args.states.now) c.requires) allowed) within
+    λ allowed plan most within.
+    let listing = c.args.listing.now in
+    let task = task_at listing in
+    let cert = certificate_at listing in
+    first_initial task cert plan most (atoms_right task cert listing.listed.fluent) (states_right_all task cert (listed_apart task (atoms_at listing) cert listing.states listing.listed) allowed) within

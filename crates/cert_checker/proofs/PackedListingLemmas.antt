@@ -1,0 +1,115 @@
+-- What a packed listing has to do with the certificate's states.
+use Rattle.std.proofs.Common.{◌≡◌, ◌≢◌, ◌∙◌, ℕ, ◌<◌, ◌≤◌, Bool, List, ◌++◌, length, map, get_or, Option, Some, refl, sym, ap, subst, arith}
+use Rattle.std.specs.Prelude.{Contains, slice_get}
+use Rattle.std.proofs.lemmas.List.{length-append, length-map}
+use Rattle.std.proofs.lemmas.Option.{slice_get_within, slice_get-get_or}
+use Rattle.packed_state.specs.declared.pooled.PooledStore.{PooledStore}
+use Rattle.packed_state.specs.PooledView.{pooled_states}
+use Rattle.certificate.specs.declared.cert.StateLine as code_line
+use Rattle.certificate.specs.CertificateParts.{line_of}
+use Rattle.cert_checker.specs.FluentAtoms.{AreFluent}
+use Rattle.cert_checker.specs.CheckedLines.{HasCost, Stands, IsListedAt}
+use Rattle.cert_checker.specs.PackedLines.{packed_line, HoldsLines, IsPackedListing}
+use Rattle.cert_checker.proofs.CertCheckerLemmas.{entry, got_mapped, slice_get-map}
+use Rattle.cert_checker.proofs.GroundSuccessors.{leads_by, leads_by-successors}
+use Rattle.cert_checker.proofs.RefusalsLemmas.{AreApart}
+use Rattle.cert_checker.proofs.PackedLinesLemmas.{all_fluent, length-set_of, one_set, state_packed}
+use Rattle.model.specs.Task.{Atom, Task}
+use Rattle.model.specs.Meaning.{State, initial_state}
+use Rattle.model.specs.Instances.{successors_of}
+use Rattle.model.specs.Claims.{Line}
+use Rattle.model.specs.Certificates.{Certificate, StateLine, state_of_line, lines_of}
+use Rattle.model.specs.CertificateRefusals.{IsListed}
+use Rattle.model.specs.NumberedAtoms.{numbered_atoms, HasNumberedFluents}
+use Rattle.model.specs.Grounding.{state_of_bits, bits_of_state, applicable_numbers, PacksStates}
+use Rattle.model.proofs.CertificateRefusalsLemmas.{apart}
+use Rattle.model.proofs.GroundTaskLemmas.{are_numbered, initial-numbered, packs_states}
+use Rattle.model.proofs.ListLemmas.{Contains-got, Contains-map, map-Contains}
+use Rattle.model.proofs.NumberingLemmas.{distinct-from_pairs}
+
+-- ---- the store
+
+module _ (c : Certificate) (width : ℕ) (store : PooledStore) (holds : HoldsLines c width store) where
+  pub set_there : (place : ℕ) (l : StateLine) → slice_get c.lines place ≡ Some l → slice_get (pooled_states store) place ≡ Some (packed_line width l)
+  set_there place l at = subst (λ sets. slice_get sets place ≡ Some (packed_line width l)) (sym holds.sets) (slice_get-map (packed_line width) c.lines place l at)
+
+  pub as_many : length (pooled_states store) ≡ length c.lines
+  as_many = ap length holds.sets ∙ length-map c.lines (packed_line width)
+
+  -- no state is listed twice
+  pub lines_apart : (task : Task) → AreFluent task c.atoms → AreApart task c
+  lines_apart task fluent i j d before within same =
+      let first = got_mapped (entry task c) c.lines i (get_or (lines_of task c) i d) (slice_get-get_or (lines_of task c) i d (omega arith)) in
+      let second = got_mapped (entry task c) c.lines j (get_or (lines_of task c) j d) (slice_get-get_or (lines_of task c) j d within) in
+      let state : Line State → State = λ l. l.state in
+      apart (λ (s t : List Bool). s ≢ t) (pooled_states store) i j (packed_line width first.0) (packed_line width second.0) holds.distinct before (set_there i first.0 first.1) (set_there j second.0 second.1)
+      (one_set task c fluent width first.0 second.0 (holds.named first.0 (Contains-got c.lines i first.0 first.1)) (holds.named second.0 (Contains-got c.lines j second.0 second.1))
+      (ap state first.2 ∙ same ∙ sym (ap state second.2)))
+
+-- ---- the states
+
+-- the certificate's atoms have the first numbers
+first_numbered : (task : Task) (atoms : List Atom) (c : Certificate) → AreFluent task c.atoms → atoms ≡ numbered_atoms task c.atoms → (others : List Atom) × (atoms ≡ c.atoms ++ others)
+first_numbered task atoms c fluent is =
+    let first = (are_numbered task c.atoms).more_first (distinct-from_pairs c.atoms fluent.distinct) in (first.0, is ∙ first.1)
+
+pub numbered_after : (task : Task) (atoms : List Atom) (c : Certificate) → AreFluent task c.atoms → atoms ≡ numbered_atoms task c.atoms → length c.atoms ≤ length atoms
+numbered_after task atoms c fluent is =
+    let first = first_numbered task atoms c fluent is in omega (arith, ap length first.1, length-append c.atoms first.0)
+
+module _ (task : Task) (atoms : List Atom) (c : Certificate) (store : PooledStore) (listed : IsPackedListing task atoms c store) where
+  packs : PacksStates task atoms
+  packs = subst (PacksStates task) (sym listed.numbered) (packs_states task c.atoms (all_fluent task c.atoms listed.fluent))
+
+  -- each set stands for the line's state
+  line_state : (l : StateLine) → Contains c.lines l → state_of_bits task atoms (packed_line (length atoms) l) ≡ state_of_line task c l
+  line_state l at =
+      let first = first_numbered task atoms c listed.fluent listed.numbered in
+      subst (λ those. state_of_bits task those (packed_line (length those) l) ≡ state_of_line task c l) (sym first.1) (state_packed task c first.0 l (listed.holds.named l at))
+
+  pub stands_there : (place : ℕ) (bits : List Bool) → slice_get (pooled_states store) place ≡ Some bits → (cost : ℕ) (cut : Option ℕ) → HasCost c place cost cut
+      → Stands task c place (state_of_bits task atoms bits) cost cut
+  stands_there place bits at cost cut (l, at_l, cost_is, cut_is) =
+      let there = set_there c (length atoms) store listed.holds place l at_l in
+      let set : packed_line (length atoms) l ≡ bits = cc in
+      let same : state_of_line task c l ≡ state_of_bits task atoms bits = sym (line_state l (Contains-got c.lines place l at_l)) ∙ ap (state_of_bits task atoms) set in
+      slice_get-map (entry task c) c.lines place l at_l ∙ (λ i. Some (record { state = same i; cost = cost_is i; cut = cut_is i }))
+
+  -- a state that is found is listed at the cost of its line
+  pub found_at : (place : ℕ) (bits : List Bool) (lines : List code_line.StateLine) (l : code_line.StateLine) → slice_get (pooled_states store) place ≡ Some bits → map line_of lines ≡ c.lines
+      → slice_get lines place ≡ Some l → IsListedAt (lines_of task c) (state_of_bits task atoms bits) l.cost
+  found_at place bits lines l at is at_l =
+      let here : slice_get c.lines place ≡ Some (line_of l) = subst (λ those. slice_get those place ≡ Some (line_of l)) is (slice_get-map line_of lines place l at_l) in
+      let stands = stands_there place bits at l.cost l.cut (line_of l, here, refl, refl) in
+      (record { state = state_of_bits task atoms bits; cost = l.cost; cut = l.cut }, Contains-got (lines_of task c) place _ stands, refl, refl)
+
+  -- and one that is not found is not listed
+  pub not_listed : (bits : List Bool) → length bits ≡ length atoms → ¬ Contains (pooled_states store) bits → ¬ IsListed (lines_of task c) (state_of_bits task atoms bits)
+  not_listed bits long missing (line, among, is) =
+      let from = map-Contains (entry task c) c.lines line among in
+      let state : Line State → State = λ l. l.state in
+      let same : state_of_bits task atoms (packed_line (length atoms) from.0) ≡ state_of_bits task atoms bits = line_state from.0 from.1 ∙ ap state from.2 ∙ is in
+      let set : packed_line (length atoms) from.0 ≡ bits =
+      sym (packs.one_packed (packed_line (length atoms) from.0) (length-set_of (length atoms) from.0.atoms)) ∙ ap (bits_of_state atoms) same ∙ packs.one_packed bits long in
+      missing (subst (λ sets. Contains sets bits) (sym listed.holds.sets) (subst (Contains (map (packed_line (length atoms)) c.lines)) set (Contains-map (packed_line (length atoms)) c.lines from.0 from.1)))
+
+  pub place_within : (place : ℕ) (bits : List Bool) (lines : List code_line.StateLine) → slice_get (pooled_states store) place ≡ Some bits → map line_of lines ≡ c.lines → place < length lines
+  place_within place bits lines at is =
+      omega (arith, slice_get_within (pooled_states store) place bits at, as_many c (length atoms) store listed.holds, ap length is, length-map lines line_of)
+
+  pub listed_apart : AreApart task c
+  listed_apart = lines_apart c (length atoms) store listed.holds task listed.fluent
+
+  -- ---- the ground task
+
+  pub initial_there : (bits : List Bool) → bits ≡ bits_of_state atoms (initial_state task) → state_of_bits task atoms bits ≡ initial_state task
+  initial_there bits is =
+      ap (state_of_bits task atoms) is
+      ∙ packs.packed (initial_state task) (λ q static. refl) (subst (λ those. HasNumberedFluents task those (initial_state task)) (sym listed.numbered) (initial-numbered task c.atoms))
+
+  -- the applicable numbers, as successors of the state
+  pub successors_there : (bits : List Bool) (numbers : List ℕ) → numbers ≡ applicable_numbers task atoms bits → map (leads_by task atoms bits) numbers ≡ successors_of task (state_of_bits task atoms bits)
+  successors_there bits numbers is =
+      ap (map (leads_by task atoms bits)) is
+      ∙ subst (λ those. map (leads_by task those bits) (applicable_numbers task those bits) ≡ successors_of task (state_of_bits task those bits)) (sym listed.numbered)
+      (leads_by-successors task c.atoms (all_fluent task c.atoms listed.fluent) bits)

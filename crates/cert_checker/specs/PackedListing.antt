@@ -1,0 +1,28 @@
+-- A packed listing, in the model's terms.
+use Rattle.std.specs.Prelude.{◌≡◌, List, length}
+use Rattle.packed_state.specs.declared.packed.Packed.{Packed}
+use Rattle.packed_state.specs.Packed.{bits_of}
+use Rattle.certificate.specs.Certificate.{certificate_of}
+use Rattle.grounding.specs.Ground.{task_in, atoms_in}
+use Rattle.cert_checker.specs.declared.check.packed.PackedListing.{PackedListing}
+use Rattle.model.specs.Task.{Atom, Task}
+use Rattle.model.specs.Meaning.{State}
+use Rattle.model.specs.Certificates.{Certificate}
+use Rattle.model.specs.Grounding.{state_of_bits}
+
+abbrev pub task_at : PackedListing → Task
+task_at listing = task_in listing.grounded.now
+
+abbrev pub atoms_at : PackedListing → List Atom
+atoms_at listing = atoms_in listing.grounded.now
+
+abbrev pub certificate_at : PackedListing → Certificate
+certificate_at listing = certificate_of listing.cert.now
+
+-- the packed state is of the ground task
+abbrev pub IsPacked : PackedListing → Packed → Type 0
+IsPacked listing packed = length (bits_of packed) ≡ length (atoms_at listing)
+
+-- the state that it stands for
+abbrev pub state_at : PackedListing → Packed → State
+state_at listing packed = state_of_bits (task_at listing) (atoms_at listing) (bits_of packed)

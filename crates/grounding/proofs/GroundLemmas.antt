@@ -1,0 +1,96 @@
+-- What is kept for an instance, found by its number.
+use Rattle.std.proofs.Common.{◌≡◌, ◌∙◌, ℕ, ◌<◌, ◌+◌, Bool, true, false, List, [], ◌∷◌, ◌++◌, map, length, take, drop, get_or, append_assoc, Option, None, Some, refl, sym, ap, true≢false}
+use Rattle.std.specs.Prelude.{IfOk, Result, Ok, Err, slice_get, is_none}
+use Rattle.std.specs.Global.{Box, Vec}
+use Rattle.std.specs.List.{cons_option}
+use Rattle.std.specs.Option.{option_map, option_map_or}
+use Rattle.std.proofs.lemmas.List.{map_push, take_more}
+use Rattle.std.proofs.lemmas.Option.{slice_get-get_or, slice_get_read, slice_get-map, slice_get_within, get_or_from_slice_get}
+use Rattle.grounding_conditions.specs.declared.condition.Condition.{Condition}
+use Rattle.grounding_conditions.specs.Conditions.{literals_in}
+use Rattle.model.specs.Task.{Atom, Schema, Task, Instance}
+use Rattle.model.specs.Meaning.{is_instance, fits, Change, changes_of_instance}
+use Rattle.model.specs.ClosedOff.{kept_instances}
+use Rattle.model.specs.NumberedLiterals.{NumberedLiteral, NumberedChange, numbered_literals, literals_of_instance, literals_of_number, counting_of_instance, counting_of_number}
+use Rattle.model.proofs.ListLemmas.{drop-here}
+use Rattle.grounding.specs.declared.changes.CountingChange.{CountingChange}
+use Rattle.grounding.specs.declared.changes.ChangeCondition.{ChangeCondition}
+use Rattle.grounding.specs.NumberedEffects.{NumberedEffect, counted_effect, counted_effects, change_of_effect}
+use Rattle.grounding.specs.Changes.{counting_of, guard_in, effect_in, AreCompiled, AreChangesOf}
+use Rattle.grounding.specs.Conditions.{IsPrecondition}
+use Rattle.grounding.proofs.EffectLemmas.{changes-of_effects}
+use Rattle.grounding.proofs.StepLemmas.{kept-is_instance}
+
+pub got : {X : Type 0} (xs : List X) (k : ℕ) (x : X) → k < length xs → x ≡ get_or xs k x → slice_get xs k ≡ Some x
+got xs k x below at = slice_get_read xs (length xs) k x refl below at
+
+pub got-mapped : {X Y : Type 0} (f : X → Y) (xs : List X) (k : ℕ) (x : X) → k < length xs → x ≡ get_or xs k x → slice_get (map f xs) k ≡ Some (f x)
+got-mapped f xs k x below at = slice_get-map f xs k ∙ ap (option_map f) (got xs k x below at)
+
+-- ---- instances
+
+-- each number below their count is that of an instance
+pub named : (t : Task) (number : ℕ) → number < length (kept_instances t) → (i : Instance) × (slice_get (kept_instances t) number ≡ Some i)
+named t number within = (get_or (kept_instances t) number anything, slice_get-get_or (kept_instances t) number anything within)
+  where
+    anything : Instance
+    anything = record { schema = 0; objects = [] }
+
+pub schema-of : (t : Task) (i : Instance) → is_instance t i ≡ true → (s : Schema) × (slice_get t.schemas i.schema ≡ Some s)
+schema-of t i instance =
+    elim (slice_get t.schemas i.schema) as (λ o. option_map_or (λ (schema : Schema). fits t schema i.objects) o false ≡ true → (s : Schema) × (o ≡ Some s)) [
+      | None ↦ λ none. absurd (true≢false (sym none))
+      | Some s ↦ λ _. (s, refl)
+    ] instance
+
+module _ (t : Task) (atoms : List Atom) (number : ℕ) (i : Instance) (at : slice_get (kept_instances t) number ≡ Some i) where
+  abbrev literals_by : Schema → List NumberedLiteral
+  literals_by s = numbered_literals t atoms s.precondition i.objects
+
+  pub literals-of : (c : Condition) → IsPrecondition t atoms i c → literals_in c ≡ literals_of_number t atoms number
+  literals-of c is =
+      let s = schema-of t i (kept-is_instance t number i at) in
+      (is s.0 s.1).literals ∙ sym (ap (λ o. option_map_or (literals_of_instance t atoms) o []) at ∙ ap (λ o. option_map_or literals_by o []) s.1)
+
+  counting-effect : (c : CountingChange) → counting_of c ≡ change_of_effect (effect_in c)
+  counting-effect c = ap (λ (b : Bool). changed b) (same c.condition)
+    where
+      changed : Bool → NumberedChange
+      changed b = record { atom = c.atom; value = c.value; is_unconditional = b }
+
+      same : (o : Option (Box ChangeCondition)) → is_none o ≡ is_none (guard_in o)
+      same None = refl
+      same (Some x) = refl
+
+  all-counting : (changes : List CountingChange) → map counting_of changes ≡ map change_of_effect (map effect_in changes)
+  all-counting [] = refl
+  all-counting (c ∷ changes) = (λ j. counting-effect c j ∷ all-counting changes j)
+
+  pub counting-of : (changes : Vec CountingChange) → AreChangesOf t atoms i changes → map counting_of changes.items ≡ counting_of_number t atoms number
+  counting-of changes are =
+      all-counting changes.items ∙ ap (map change_of_effect) are.effects ∙ changes-of_effects t atoms i
+      ∙ sym (ap (λ o. option_map_or (counting_of_instance t atoms) o []) at)
+
+-- ---- lists that are made item by item
+
+pub costs-more : {X : Type 0} (f : X → ℕ) (xs : List X) (k : ℕ) (x : X) → slice_get xs k ≡ Some x → map f (take k xs) ++ f x ∷ [] ≡ map f (take (k + 1) xs)
+costs-more f xs k x at =
+    sym (ap (map f) (take_more xs k x (slice_get_within xs k x at) ∙ ap (λ y. take k xs ++ y ∷ []) (get_or_from_slice_get xs k x x at)) ∙ map_push f (take k xs) x)
+
+pub effects-more : (t : Task) (atoms : List Atom) (xs : List Change) (k : ℕ) (x : Change) (now before whole : List NumberedEffect) → slice_get xs k ≡ Some x
+    → now ≡ before ++ counted_effects t atoms (x ∷ []) → before ++ counted_effects t atoms (drop k xs) ≡ whole → now ++ counted_effects t atoms (drop (k + 1) xs) ≡ whole
+effects-more t atoms xs k x now before whole at is all =
+    ap (λ l. l ++ counted_effects t atoms (drop (k + 1) xs)) is
+    ∙ append_assoc before (counted_effects t atoms (x ∷ [])) (counted_effects t atoms (drop (k + 1) xs))
+    ∙ ap (λ l. before ++ l) (joined (counted_effect t atoms x) (counted_effects t atoms (drop (k + 1) xs)) ∙ ap (counted_effects t atoms) (sym (drop-here xs k x at)))
+    ∙ all
+  where
+    joined : (o : Option NumberedEffect) (rest : List NumberedEffect) → cons_option o [] ++ rest ≡ cons_option o rest
+    joined None rest = refl
+    joined (Some e) rest = refl
+
+pub both-parts : {E : Type 0} (t : Task) (atoms : List Atom) (i : Instance) (changes : List Change) → changes ≡ changes_of_instance t i → (r : Result (Vec CountingChange) E)
+    → IfOk r (λ (found : Vec CountingChange). map effect_in found.items ≡ counted_effects t atoms changes) → IfOk r (λ (found : Vec CountingChange). AreCompiled t atoms found.items)
+    → IfOk r (AreChangesOf t atoms i)
+both-parts t atoms i changes is (Ok found) effects compiled = record { effects = effects ∙ ap (counted_effects t atoms) is; compiled = compiled }
+both-parts t atoms i changes is (Err e) effects compiled = tt

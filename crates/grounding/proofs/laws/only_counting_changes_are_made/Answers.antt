@@ -1,0 +1,5 @@
+use Rattle.model.proofs.ClosedOffLemmas.{only_counting_changes_are_made}
+use Rattle.grounding.proofs.laws.only_counting_changes_are_made.Goals as goal
+
+pub returns : goal.returns
+returns c = only_counting_changes_are_made

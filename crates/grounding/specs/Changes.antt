@@ -1,0 +1,40 @@
+-- Counting changes of the code, in the model's terms.
+use Rattle.std.specs.Prelude.{◌≡◌, ℕ, List, map, slice_get, Option, Some, is_none}
+use Rattle.std.specs.Global.{Box, Vec}
+use Rattle.std.specs.Option.{option_map}
+use Rattle.typing.specs.TaskParts.{object_of, formula_of}
+use Rattle.formulas.specs.State.{FitsFormula}
+use Rattle.grounding_conditions.specs.Conditions.{IsConditionOf}
+use Rattle.grounding.specs.declared.changes.CountingChange.{CountingChange}
+use Rattle.grounding.specs.declared.changes.ChangeCondition.{ChangeCondition}
+use Rattle.grounding.specs.NumberedEffects.{Guard, NumberedEffect, effects_of_instance}
+use Rattle.model.specs.Task.{Task, Atom, Instance}
+use Rattle.model.specs.NumberedLiterals as model
+
+abbrev pub counting_of : CountingChange → model.NumberedChange
+counting_of c = record { atom = c.atom; value = c.value; is_unconditional = is_none c.condition }
+
+abbrev pub guard_of_condition : Box ChangeCondition → Guard
+guard_of_condition c = record { formula = formula_of c.value.formula.now; binding = map object_of c.value.binding.items }
+
+abbrev pub guard_in : Option (Box ChangeCondition) → Option Guard
+guard_in o = option_map guard_of_condition o
+
+abbrev pub effect_in : CountingChange → NumberedEffect
+effect_in c = record { atom = c.atom; value = c.value; guard = guard_in c.condition }
+
+-- its objects may stand for the variables in its formula
+abbrev pub GuardFits : Task → Option Guard → Type 0
+GuardFits t o = (g : Guard) → o ≡ Some g → FitsFormula t g.formula g.binding
+
+-- what is kept of the condition, if there is one, is that of its formula and objects
+abbrev pub IsCompiled : Task → List Atom → Option (Box ChangeCondition) → Type 0
+IsCompiled t atoms o = (c : Box ChangeCondition) → o ≡ Some c → IsConditionOf t atoms (guard_of_condition c).formula (guard_of_condition c).binding c.value.condition
+
+abbrev pub AreCompiled : Task → List Atom → List CountingChange → Type 0
+AreCompiled t atoms changes = (k : ℕ) (c : CountingChange) → slice_get changes k ≡ Some c → IsCompiled t atoms c.condition
+
+-- the changes are those of the instance that count and whose atoms have numbers
+pub record AreChangesOf (t : Task) (atoms : List Atom) (i : Instance) (changes : Vec CountingChange) : Type 0 where
+  pub effects : map effect_in changes.items ≡ effects_of_instance t atoms i
+  pub compiled : AreCompiled t atoms changes.items

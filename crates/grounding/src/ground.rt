@@ -1,0 +1,159 @@
+//! Ground tasks.
+ghost use Rattle.std.specs.Prelude.{◌≡◌, ◌<◌, ◌^◌, [], length, map};
+ghost use Rattle.std.proofs.Props.{props};
+ghost use Rattle.grounding_kept.specs.Numbering as numbering_views;
+ghost use Rattle.grounding_conditions.specs.Conditions.{IsConditionOf};
+ghost use Rattle.grounding.specs.InPlace.{AreInPlace};
+ghost use Rattle.grounding.specs.FormulaSet.{formula-set};
+ghost use Rattle.grounding.specs.Changes.{AreChangesOf};
+ghost use Rattle.grounding.specs.Conditions.{IsPrecondition};
+ghost use Rattle.model.specs.Meaning.{cost_of};
+
+use crate::changes::CountingChange;
+use crate::parts::{changes_of_all, costs, goal_condition, preconditions};
+use faults::NoMemory;
+use formulas::Instance;
+use grounding_conditions::Condition;
+use grounding_kept::{GroundFault, NumberedLiteral, Numbering};
+use indexmap::IndexSet;
+use std::alloc::Global;
+use typing::{Atom, Task};
+
+/// A ground task: a task by the numbers of its kept instances and of its atoms. A state of it has a bit for each numbered
+/// atom.
+#[derive(Drop)]
+pub struct Ground<'t> {
+    pub(crate) numbering: Numbering<'t>,
+    /// That of each instance's precondition. They stand apart from the changes, since each is looked at in each state.
+    pub(crate) conditions: Vec<Condition>,
+    pub(crate) changes: Vec<Vec<CountingChange<'t>>>,
+    pub(crate) costs: Vec<u32>,
+    pub(crate) goal: Condition,
+    ghost few: { length (numbering_views.instances_in numbering) < 2 ^ 32 },
+    ghost preconditions: { AreInPlace (IsPrecondition (numbering_views.task_in numbering) (numbering_views.atoms_in numbering)) (numbering_views.instances_in numbering) conditions.items } by { Prim.hlevel props },
+    ghost changes_made: { AreInPlace (AreChangesOf (numbering_views.task_in numbering) (numbering_views.atoms_in numbering)) (numbering_views.instances_in numbering) changes.items } by { Prim.hlevel (props, formula-set) },
+    ghost each_cost: { costs.items ≡ map (cost_of (numbering_views.task_in numbering)) (numbering_views.instances_in numbering) } by { Prim.hlevel props },
+    ghost of_goal: { IsConditionOf (numbering_views.task_in numbering) (numbering_views.atoms_in numbering) (numbering_views.task_in numbering).goal [] goal } by { Prim.hlevel props },
+}
+
+impl<'t> Ground<'t> {
+    ghost use Rattle.std.specs.Prelude.{All, IfOk, IfErr, IsTrue};
+    ghost use Rattle.typing.specs.Task.{task_of};
+    ghost use Rattle.typing.specs.TaskParts.{atom_of};
+    ghost use Rattle.formulas.specs.State.{instance_of};
+    ghost use Rattle.model.specs.Fluents.{is_fluent_atom};
+    ghost use Rattle.model.specs.ClosedOff.{kept_instances};
+    ghost use Rattle.model.specs.NumberedAtoms as numbered;
+    ghost use Rattle.model.specs.NumberedLiterals.{literals_of_number, literals_of_goal, counting_of_number};
+    ghost use Rattle.model.specs.Grounding.{ground_system};
+    ghost use Rattle.grounding_kept.specs.Numbers.{numbered_of};
+    ghost use Rattle.grounding.specs.Changes.{counting_of};
+    ghost use Rattle.grounding.specs.Ground.{numbering_in, task_in, atoms_in, IsGroundOf, TellsLimit};
+
+    /// That of the task, in which `more` have the first numbers, if none of them stands there twice.
+    ///
+    /// # Errors
+    /// [`GroundLimit::Instances`](crate::GroundLimit::Instances) exactly where more than `max_instances` are kept;
+    /// [`GroundLimit::Atoms`](crate::GroundLimit::Atoms) exactly where no more are, and more than 1,048,576 atoms have
+    /// numbers; or memory was refused.
+    pub fn new(
+        alloc: Global,
+        task: &'t Task,
+        more: &[Atom],
+        max_instances: u32,
+    ) -> Result<Ground<'t>, GroundFault>
+        requires fluent { All (λ a. IsTrue (is_fluent_atom (task_of task.now) a)) (map atom_of more.now) }
+        ensures ground_task { IfOk result (IsGroundOf (task_of task.now) (map atom_of more.now) max_instances) }
+        ensures told { IfErr result (TellsLimit (task_of task.now) (map atom_of more.now) max_instances) }
+    {
+        let numbering = Numbering::new(alloc, task, more, max_instances)?;
+        let ground = Ground::of_numbering(alloc, numbering)?;
+        Ok(ground)
+    }
+
+    /// That of these numbers.
+    fn of_numbering(alloc: Global, numbering: Numbering<'t>) -> Result<Ground<'t>, NoMemory>
+        requires { length (numbering_views.instances_in numbering) < 2 ^ 32 }
+        ensures { IfOk result (λ g. numbering_in g ≡ numbering.entry) }
+    {
+        let conditions = preconditions(alloc, &numbering)?;
+        let changes = changes_of_all(alloc, &numbering)?;
+        let costs = costs(alloc, &numbering)?;
+        let goal = goal_condition(alloc, &numbering)?;
+        Ok(Ground {
+            numbering,
+            conditions,
+            changes,
+            costs,
+            goal,
+        })
+    }
+
+    /// The task.
+    pub fn task(&self) -> &'t Task
+        ensures { task_of result.now ≡ task_in self.now }
+    {
+        self.numbering.task()
+    }
+
+    /// How many atoms have numbers.
+    pub fn width(&self) -> u32
+        ensures { result ≡ length (atoms_in self.now) }
+    {
+        self.numbering.width()
+    }
+
+    /// The kept instances, each at the place, from 0, that is its number.
+    pub fn instances(&self) -> &[Instance]
+        ensures { map instance_of result.now ≡ kept_instances (task_in self.now) }
+    {
+        self.numbering.instances()
+    }
+
+    /// The numbered atoms, each at the place, from 0, that is its number.
+    pub fn atoms(&self) -> &IndexSet<Atom>
+        ensures { map atom_of result.now.keys ≡ atoms_in self.now }
+    {
+        self.numbering.atoms()
+    }
+
+    /// The number of the atom, if it has one.
+    pub fn number_of(&self, atom: &Atom) -> Option<u32>
+        ensures { result ≡ numbered.number_of (atoms_in self.now) (atom_of atom.now) }
+    {
+        self.numbering.number_of(atom)
+    }
+
+    /// What the instance of this number costs, and 0 where no instance has the number.
+    pub fn cost(&self, number: u32) -> u32
+        ensures { result ≡ (ground_system (task_in self.now) (atoms_in self.now)).cost number }
+    {
+        match self.costs.get(number as usize) {
+            Some(cost) => *cost,
+            None => 0,
+        }
+    }
+
+    /// The sure literals of the precondition of the instance of this number, those that are of numbered atoms, in order.
+    pub fn literals(&self, number: u32) -> &[NumberedLiteral]
+        requires { number < length (kept_instances (task_in self.now)) }
+        ensures { map numbered_of result.now ≡ literals_of_number (task_in self.now) (atoms_in self.now) number }
+    {
+        self.conditions[number as usize].literals()
+    }
+
+    /// The sure literals of the goal that are of numbered atoms, in order.
+    pub fn goal_literals(&self) -> &[NumberedLiteral]
+        ensures { map numbered_of result.now ≡ literals_of_goal (task_in self.now) (atoms_in self.now) }
+    {
+        self.goal.literals()
+    }
+
+    /// The changes of the instance of this number that count, in order.
+    pub fn counting(&self, number: u32) -> &[CountingChange<'t>]
+        requires { number < length (kept_instances (task_in self.now)) }
+        ensures { map counting_of result.now ≡ counting_of_number (task_in self.now) (atoms_in self.now) number }
+    {
+        self.changes[number as usize].as_slice()
+    }
+}

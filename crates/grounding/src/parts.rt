@@ -1,0 +1,83 @@
+//! What a ground task keeps for each instance, and for the goal.
+ghost use Rattle.std.specs.Prelude.{◌≡◌, [], map, IfOk, IsTrue};
+ghost use Rattle.formulas.specs.State.{instance_of};
+ghost use Rattle.model.specs.Meaning.{is_instance, cost_of};
+ghost use Rattle.grounding_kept.specs.Numbering.{task_in, atoms_in, instances_in};
+ghost use Rattle.grounding_conditions.specs.Conditions.{IsConditionOf};
+ghost use Rattle.grounding.specs.InPlace.{AreInPlace};
+ghost use Rattle.grounding.specs.Changes.{AreChangesOf};
+ghost use Rattle.grounding.specs.Conditions.{IsPrecondition};
+
+use crate::changes::{CountingChange, counting_changes};
+use faults::NoMemory;
+use formulas::{Binding, Instance, cost};
+use grounding_conditions::Condition;
+use grounding_kept::Numbering;
+use std::alloc::Global;
+
+/// The conditions of the instances' preconditions.
+pub(crate) fn preconditions(
+    alloc: Global,
+    numbering: &Numbering<'_>,
+) -> Result<Vec<Condition>, NoMemory>
+    ensures { IfOk result (λ found. AreInPlace (IsPrecondition (task_in numbering.now) (atoms_in numbering.now)) (instances_in numbering.now) found.items) }
+{
+    let instances = numbering.instances();
+    let mut found = Vec::new(alloc);
+    for instance in instances {
+        found.push(precondition(alloc, numbering, instance)?)?;
+    }
+    Ok(found)
+}
+
+/// The condition of the instance's precondition.
+fn precondition(
+    alloc: Global,
+    numbering: &Numbering<'_>,
+    instance: &Instance,
+) -> Result<Condition, NoMemory>
+    requires { IsTrue (is_instance (task_in numbering.now) (instance_of instance.now)) }
+    ensures { IfOk result (IsPrecondition (task_in numbering.now) (atoms_in numbering.now) (instance_of instance.now)) }
+{
+    match numbering.task().schema(instance.schema) {
+        Some(schema) => Condition::new(alloc, numbering, &schema.precondition, &instance.objects),
+        None => unreachable!(),
+    }
+}
+
+/// The changes of each instance that count.
+pub(crate) fn changes_of_all<'t>(
+    alloc: Global,
+    numbering: &Numbering<'t>,
+) -> Result<Vec<Vec<CountingChange<'t>>>, NoMemory>
+    ensures { IfOk result (λ found. AreInPlace (AreChangesOf (task_in numbering.now) (atoms_in numbering.now)) (instances_in numbering.now) found.items) }
+{
+    let instances = numbering.instances();
+    let mut found = Vec::new(alloc);
+    for instance in instances {
+        found.push(counting_changes(alloc, numbering, instance)?)?;
+    }
+    Ok(found)
+}
+
+/// What each instance costs.
+pub(crate) fn costs(alloc: Global, numbering: &Numbering<'_>) -> Result<Vec<u32>, NoMemory>
+    ensures { IfOk result (λ found. found.items ≡ map (cost_of (task_in numbering.now)) (instances_in numbering.now)) }
+{
+    let instances = numbering.instances();
+    let mut found = Vec::new(alloc);
+    for instance in instances {
+        found.push(cost(numbering.task(), instance))?;
+    }
+    Ok(found)
+}
+
+/// The condition of the goal.
+pub(crate) fn goal_condition(
+    alloc: Global,
+    numbering: &Numbering<'_>,
+) -> Result<Condition, NoMemory>
+    ensures { IfOk result (IsConditionOf (task_in numbering.now) (atoms_in numbering.now) (task_in numbering.now).goal []) }
+{
+    Condition::new(alloc, numbering, numbering.task().goal(), &Binding::new())
+}

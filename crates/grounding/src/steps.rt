@@ -1,0 +1,173 @@
+//! The steps of a ground task.
+ghost use Rattle.std.specs.Prelude.{◌≡◌, ◌<◌, ◌∷◌, [], length, slice_get, slice_set, is_some, IfOk, OnOk, IsTrue};
+ghost use Rattle.packed_state.specs.Packed.{bits_of};
+ghost use Rattle.model.specs.ClosedOff.{kept_instances};
+ghost use Rattle.model.specs.Grounding.{state_of_bits, ground_step, ground_system, applicable_numbers};
+ghost use Rattle.grounding.specs.ChangedBits.{with_bits};
+ghost use Rattle.grounding.specs.NumberedEffects.{is_met, numbers_made, numbers_set};
+ghost use Rattle.grounding.specs.Changes.{guard_in, effect_in, GuardFits, IsCompiled};
+ghost use Rattle.grounding.specs.Ground.{task_in, atoms_in};
+
+use crate::changes::CountingChange;
+use crate::ground::Ground;
+use faults::NoMemory;
+use formulas::Binding;
+use grounding_conditions::holds_in;
+use packed_state::Packed;
+use std::alloc::Global;
+
+impl Ground<'_> {
+    /// The initial state.
+    pub fn initial(&self, alloc: Global) -> Result<Packed, NoMemory>
+        ensures { IfOk result (λ p. bits_of p ≡ (ground_system (task_in self.now) (atoms_in self.now)).initial) }
+    {
+        let mut state = Packed::empty(alloc, self.width())?;
+        for number in 0..self.width() {
+            if self.is_initial(number) {
+                state.insert(number);
+            }
+        }
+        Ok(state)
+    }
+
+    /// Whether the atom of this number is true at the start.
+    fn is_initial(&self, number: u32) -> bool
+        requires { number < length (atoms_in self.now) }
+        ensures { Some result ≡ slice_get (ground_system (task_in self.now) (atoms_in self.now)).initial number }
+    {
+        match self.numbering.atoms().get_index(number as usize) {
+            Some(atom) => self.numbering.is_initial(atom),
+            None => unreachable!(),
+        }
+    }
+
+    /// Whether the goal holds in the state.
+    pub fn meets_goal(&self, state: &Packed) -> bool
+        requires { length (bits_of state.now) ≡ length (atoms_in self.now) }
+        ensures { result ≡ (ground_system (task_in self.now) (atoms_in self.now)).meets_goal (bits_of state.now) }
+    {
+        let goal = self.numbering.task().goal();
+        holds_in(&self.goal, &self.numbering, goal, &Binding::new(), state)
+    }
+
+    /// Puts the numbers of the instances that are applicable in the state, rising, in the place of what `into` has.
+    pub fn applicable(&self, state: &Packed, into: &mut Vec<u32>) -> Result<(), NoMemory>
+        requires { length (bits_of state.now) ≡ length (atoms_in self.now) }
+        ensures { OnOk result (into.new.items ≡ applicable_numbers (task_in self.now) (atoms_in self.now) (bits_of state.now)) }
+    {
+        into.clear();
+        for number in 0..self.conditions.len() as u32 {
+            if self.is_applicable(number, state) {
+                into.push(number)?;
+            }
+        }
+        Ok(())
+    }
+
+    /// Whether the instance of this number is applicable in the state.
+    fn is_applicable(&self, number: u32, state: &Packed) -> bool
+        requires within { number < length (kept_instances (task_in self.now)) }
+        requires width { length (bits_of state.now) ≡ length (atoms_in self.now) }
+        ensures { result ≡ is_some (ground_step (task_in self.now) (atoms_in self.now) (bits_of state.now) number) }
+    {
+        match self.conditions[number as usize].decides(state) {
+            Some(decided) => decided,
+            None => self.precondition_holds(number, state),
+        }
+    }
+
+    /// The same by a look at the precondition, where its condition does not decide.
+    fn precondition_holds(&self, number: u32, state: &Packed) -> bool
+        requires within { number < length (kept_instances (task_in self.now)) }
+        requires width { length (bits_of state.now) ≡ length (atoms_in self.now) }
+        ensures { result ≡ is_some (ground_step (task_in self.now) (atoms_in self.now) (bits_of state.now) number) }
+    {
+        let instance = &self.numbering.instances()[number as usize];
+        let condition = &self.conditions[number as usize];
+        match self.numbering.task().schema(instance.schema) {
+            Some(schema) => holds_in(
+                condition,
+                &self.numbering,
+                &schema.precondition,
+                &instance.objects,
+                state,
+            ),
+            None => unreachable!(),
+        }
+    }
+
+    /// Makes `into` the state that the instance of this number leads to: without the atoms that its changes delete, and
+    /// then with those that they add, where their conditions hold in the state before. No memory is taken.
+    pub fn successor(&self, number: u32, state: &Packed, into: &mut Packed)
+        requires width { length (bits_of state.now) ≡ length (atoms_in self.now) }
+        requires into_width { length (bits_of into.old) ≡ length (atoms_in self.now) }
+        requires applicable { IsTrue (is_some (ground_step (task_in self.now) (atoms_in self.now) (bits_of state.now) number)) }
+        ensures { ground_step (task_in self.now) (atoms_in self.now) (bits_of state.now) number ≡ Some (bits_of into.new) }
+    {
+        into.copy_from(state);
+        self.make(number, state, false, into);
+        self.make(number, state, true, into);
+    }
+
+    /// Makes the changes of the instance of this number that make an atom true, or else those that make one false, where
+    /// their conditions hold in the state before.
+    fn make(&self, number: u32, before: &Packed, value: bool, into: &mut Packed)
+        requires within { number < length (kept_instances (task_in self.now)) }
+        requires width { length (bits_of before.now) ≡ length (atoms_in self.now) }
+        requires into_width { length (bits_of into.old) ≡ length (atoms_in self.now) }
+        ensures { bits_of into.new ≡ with_bits value (bits_of into.old) (numbers_set (task_in self.now) (atoms_in self.now) (bits_of before.now) value number) }
+    {
+        let changes = self.changes[number as usize].as_slice();
+        for change in changes {
+            self.make_one(change, before, value, into);
+        }
+    }
+
+    /// The same of one change.
+    fn make_one(&self, change: &CountingChange<'_>, before: &Packed, value: bool, into: &mut Packed)
+        requires fits { GuardFits (task_in self.now) (guard_in change.now.condition) }
+        requires compiled { IsCompiled (task_in self.now) (atoms_in self.now) change.now.condition }
+        requires within { change.now.atom < length (bits_of into.old) }
+        requires width { length (bits_of before.now) ≡ length (atoms_in self.now) }
+        ensures { bits_of into.new ≡ with_bits value (bits_of into.old)
+            (numbers_made (task_in self.now) (state_of_bits (task_in self.now) (atoms_in self.now) (bits_of before.now)) value (effect_in change.now ∷ [])) }
+    {
+        if change.value != value {
+            return;
+        }
+        if self.is_met(change, before) {
+            set(into, change.atom, value);
+        }
+    }
+
+    /// Whether the condition of the change holds in the state.
+    fn is_met(&self, change: &CountingChange<'_>, state: &Packed) -> bool
+        requires fits { GuardFits (task_in self.now) (guard_in change.now.condition) }
+        requires compiled { IsCompiled (task_in self.now) (atoms_in self.now) change.now.condition }
+        requires width { length (bits_of state.now) ≡ length (atoms_in self.now) }
+        ensures { result ≡ is_met (task_in self.now) (state_of_bits (task_in self.now) (atoms_in self.now) (bits_of state.now)) (guard_in change.now.condition) }
+    {
+        match &change.condition {
+            Some(under) => holds_in(
+                &under.condition,
+                &self.numbering,
+                under.formula,
+                &under.binding,
+                state,
+            ),
+            None => true,
+        }
+    }
+}
+
+/// Puts the number into the set, or else takes it out.
+fn set(into: &mut Packed, number: u32, value: bool)
+    requires { number < length (bits_of into.old) }
+    ensures { bits_of into.new ≡ slice_set (bits_of into.old) number value }
+{
+    if value {
+        into.insert(number);
+    } else {
+        into.remove(number);
+    }
+}

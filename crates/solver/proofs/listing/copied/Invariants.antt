@@ -1,0 +1,7 @@
+use Rattle.std.proofs.Common.{◌≡◌, map, take}
+use Rattle.typing.specs.TaskParts.{atom_of}
+use Rattle.solver.proofs.listing.copied.Given as goal
+
+-- the atoms so far
+abbrev pub invariant-loop-atom : goal.invariant-loop-atom
+invariant-loop-atom l = map atom_of l.copy.items ≡ map atom_of (take l.atom-index l.atoms)

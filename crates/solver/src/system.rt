@@ -1,0 +1,44 @@
+//! The ground task, as search sees it.
+use faults::NoMemory;
+use grounding::Ground;
+use packed_state::Packed;
+use search::TransitionSystem;
+use std::alloc::Global;
+
+/// A ground task as a transition system: its packed states, and its kept instances by their numbers.
+#[derive(Clone, Copy)]
+pub(crate) struct GroundSystem<'a, 't>(pub(crate) &'a Ground<'t>);
+
+impl TransitionSystem for GroundSystem<'_, '_> {
+    ghost use Rattle.std.specs.Prelude.{length};
+    ghost use Rattle.grounding.specs.Ground.{task_in, atoms_in};
+    ghost use Rattle.model.specs.Grounding.{ground_system};
+
+    ghost width_of = { λ system. length (atoms_in system.0.now) };
+
+    ghost means = { λ system. ground_system (task_in system.0.now) (atoms_in system.0.now) };
+
+    fn width(&self) -> u32 {
+        self.0.width()
+    }
+
+    fn initial(&self, alloc: Global) -> Result<Packed, NoMemory> {
+        self.0.initial(alloc)
+    }
+
+    fn applicable(&self, state: &Packed, into: &mut Vec<u32>) -> Result<(), NoMemory> {
+        self.0.applicable(state, into)
+    }
+
+    fn successor(&self, action: u32, state: &Packed, into: &mut Packed) {
+        self.0.successor(action, state, into);
+    }
+
+    fn cost(&self, action: u32) -> u32 {
+        self.0.cost(action)
+    }
+
+    fn meets_goal(&self, state: &Packed) -> bool {
+        self.0.meets_goal(state)
+    }
+}

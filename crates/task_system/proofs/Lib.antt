@@ -1,2 +1,0 @@
-pub mod TaskSystemLemmas
-pub mod StoreLemmas
