@@ -45,10 +45,10 @@ const FOUR_BALLS: Texts = [
 ];
 
 /// What is found out of a task: what a plan costs, or that there is none, or the limit that is exceeded.
-type Found = Result<Option<u64>, Limit>;
+pub(crate) type Found = Result<Option<u64>, Limit>;
 
 /// Tasks with the most states and the most kept instances, and what is found out.
-static ANSWERS: [(Texts, u32, u32, Found); 14] = [
+pub(crate) static ANSWERS: [(Texts, u32, u32, Found); 14] = [
     (DONE, 1, 1, Ok(Some(0))),
     (GO, 1, 1, Err(Limit::States)),
     (GO, 2, 1, Ok(Some(1))),

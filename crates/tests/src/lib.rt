@@ -6,6 +6,10 @@ mod answers;
 #[cfg(test)]
 mod certificates;
 #[cfg(test)]
+mod ground_literals;
+#[cfg(test)]
+mod ground_searches;
+#[cfg(test)]
 mod ground_tasks;
 #[cfg(test)]
 mod helpers;
