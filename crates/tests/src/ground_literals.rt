@@ -11,7 +11,7 @@ use typing::Task;
 /// A door is shut. One of the changes is under a condition that the start closes off, one under `(and)`.
 const LATCH: Texts = [
     "(define (domain latch) (:predicates (open) (locked) (heard) (stuck) (broken))
- (:action shut :precondition (and (open) (not (locked)))
+ (:action shut :parameters () :precondition (and (open) (not (locked)))
   :effect (and (not (open)) (locked) (when (stuck) (broken)) (when (and) (heard)) (when (open) (heard)))))",
     "(define (problem l) (:domain latch) (:init (open)) (:goal (not (open))))",
 ];

@@ -15,6 +15,7 @@ use std::test::Fail;
 use typing::Task;
 
 /// A ground task, as search sees it.
+#[derive(Clone, Copy)]
 struct GroundSystem<'a, 't>(&'a Ground<'t>);
 
 impl TransitionSystem for GroundSystem<'_, '_> {
@@ -116,11 +117,7 @@ fn are_alike<A: StateStore, B: StateStore>(
 }
 
 /// What both searches find out, if they find the same.
-fn found_by_both(
-    alloc: Global,
-    ground: &Ground<'_>,
-    most: u32,
-) -> Result<Option<Found>, NoMemory> {
+fn found_by_both(alloc: Global, ground: &Ground<'_>, most: u32) -> Result<Option<Found>, NoMemory> {
     let (system, width) = (GroundSystem(ground), ground.width());
     let most = most.clamp(1, MAX_STATES);
     let plain = best_first(alloc, &system, PlainStore::new(alloc, width), most)?;

@@ -17,7 +17,7 @@ use typing::Task;
 /// A lamp, and a way from the first place to the second, which is seen where the lamp is lit.
 pub(crate) const LAMP: Texts = [
     "(define (domain lamp) (:requirements :conditional-effects) (:predicates (link ?x ?y) (at ?x) (lit) (seen ?x))
- (:action light :effect (lit))
+ (:action light :parameters () :effect (lit))
  (:action go :parameters (?x ?y) :precondition (and (link ?x ?y) (at ?x))
   :effect (and (at ?y) (not (at ?x)) (when (lit) (seen ?y)))))",
     "(define (problem p) (:domain lamp) (:objects a b) (:init (link a b) (at a)) (:goal (and (at b) (seen b))))",
