@@ -1,10 +1,11 @@
 //! Answers to tasks, and that the checker accepts their certificates.
-use crate::helpers::{DONE, GO, HOP, PAIRS, TIE, Texts, UNTIED, on_task};
+use crate::helpers::on_task;
 use cert_checker::{Accepted, check_cert};
 use solver::{Answer, Limit, Limits, solve};
 use std::alloc::Global;
 use std::process::Abort;
 use std::test::Fail;
+use test_texts::{DONE, GO, HOP, PAIRS, TIE, Texts, UNTIED};
 use typing::Task;
 
 /// Two towers of two blocks, of which `b` stands in the way of `c`: `b` is moved twice, `c` and `a` once.
@@ -44,22 +45,24 @@ const FOUR_BALLS: Texts = [
 ];
 
 /// What is found out of a task: what a plan costs, or that there is none, or the limit that is exceeded.
-type Found = Result<Option<u64>, Limit>;
+pub(crate) type Found = Result<Option<u64>, Limit>;
 
-/// Tasks with the most states and the most instances, and what is found out.
-static ANSWERS: [(Texts, u32, u32, Found); 12] = [
+/// Tasks with the most states and the most kept instances, and what is found out.
+pub(crate) static ANSWERS: [(Texts, u32, u32, Found); 14] = [
     (DONE, 1, 1, Ok(Some(0))),
     (GO, 1, 1, Err(Limit::States)),
     (GO, 2, 1, Ok(Some(1))),
     (TIE, 100, 1, Ok(Some(1))),
     (UNTIED, 1, 1, Ok(None)),
-    (HOP, 3, 18, Ok(Some(6))),
-    (HOP, 2, 18, Err(Limit::States)),
-    (PAIRS, 4, 9, Ok(None)),
+    (HOP, 3, 3, Ok(Some(6))),
+    (HOP, 2, 3, Err(Limit::States)),
+    (HOP, 3, 2, Err(Limit::Instances)),
+    (PAIRS, 4, 6, Ok(None)),
+    (PAIRS, 4, 5, Err(Limit::Instances)),
     (FOUR_BLOCKS, 1000, 40, Ok(Some(8))),
     (FOUR_BLOCKS, 1000, 39, Err(Limit::Instances)),
-    (FOUR_BALLS, 1000, 1088, Ok(Some(11))),
-    (FOUR_BALLS, 1000, 1087, Err(Limit::Instances)),
+    (FOUR_BALLS, 1000, 36, Ok(Some(11))),
+    (FOUR_BALLS, 1000, 35, Err(Limit::Instances)),
 ];
 
 /// What is found out of the task. A certificate is accepted with the plan and without.

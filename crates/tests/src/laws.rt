@@ -1,6 +1,11 @@
 //! The laws that are stated of all values, and proved: each is called once.
 use cert_checker::{closed_claim_holds, examples_are_judged, solving_list_stays_listed};
 use formulas::{formula_examples_are_judged, one_state, sure_literals_hold};
+use grounding::{
+    atoms_are_numbered, closed_off_is_not_applicable, ground_task_is_bisimilar,
+    ground_task_solves_alike, grounding_examples_are_judged, numbered_literals_hold,
+    only_counting_changes_are_made, packs_states,
+};
 use planner_main::one_task;
 use typing::examples_are_typed;
 use validator::{exactly_one_verdict_is_true, worked_examples_are_true};
@@ -22,6 +27,14 @@ fn laws_are_called() {
     one_state();
     sure_literals_hold();
     formula_examples_are_judged();
+    atoms_are_numbered();
+    closed_off_is_not_applicable();
+    only_counting_changes_are_made();
+    numbered_literals_hold();
+    packs_states();
+    ground_task_is_bisimilar();
+    ground_task_solves_alike();
+    grounding_examples_are_judged();
     exactly_one_verdict_is_true();
     worked_examples_are_true();
     closed_claim_holds();

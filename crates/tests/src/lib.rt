@@ -1,5 +1,4 @@
-//! Tests of what the whole program cannot show: values in memory, devices that fail, and systems and stores of a test's
-//! own. No crate that others stand on has a test.
+//! Tests of what the whole program cannot show of values in memory. No crate that others stand on has a test.
 #![tactic(auto)]
 
 #[cfg(test)]
@@ -7,9 +6,11 @@ mod answers;
 #[cfg(test)]
 mod certificates;
 #[cfg(test)]
-mod failing_files;
+mod ground_literals;
 #[cfg(test)]
-mod failing_runs;
+mod ground_searches;
+#[cfg(test)]
+mod ground_tasks;
 #[cfg(test)]
 mod helpers;
 #[cfg(test)]
@@ -17,17 +18,7 @@ mod laws;
 #[cfg(test)]
 mod listings;
 #[cfg(test)]
-mod packed_states;
-#[cfg(test)]
-mod plan_files;
-#[cfg(test)]
-mod searches;
-#[cfg(test)]
 mod states;
-#[cfg(test)]
-mod stores;
-#[cfg(test)]
-mod streams;
 #[cfg(test)]
 mod tasks;
 #[cfg(test)]

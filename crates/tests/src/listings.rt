@@ -1,5 +1,5 @@
 //! Listings of small tasks, and what the checker says of each: those that are closed, and those with one condition broken.
-use crate::helpers::{DONE, FORK, GO, HOP, PAIRS, PATH, TIE, Term, Texts, UNTIED};
+use crate::helpers::Term;
 use cert_checker::Accepted::{AtLeast, Optimal};
 use cert_checker::Refusal::{Line as At, Plain};
 use cert_checker::RefusalCode::{
@@ -8,6 +8,7 @@ use cert_checker::RefusalCode::{
 };
 use cert_checker::{Accepted, Refusal};
 use certificate::Claim;
+use test_texts::{DONE, FORK, GO, HOP, PAIRS, PATH, TIE, Texts, UNTIED};
 
 /// A state line: its cost, its bound if it is a cut, and its atoms.
 pub(crate) type Line = (u64, Option<u64>, &'static [u32]);
@@ -18,7 +19,7 @@ pub(crate) type Answer = Result<Accepted, Refusal>;
 /// A claim with its lines, the text of the plan that is handed in, if one is, and what the checker answers.
 pub(crate) type Row = (Claim, &'static [Line], Option<&'static str>, Answer);
 
-/// A task, the atoms of its certificates, the most instances that it may have, and rows.
+/// A task, the atoms of its certificates, the most instances that it may keep, and rows.
 pub(crate) struct Listings {
     pub(crate) texts: Texts,
     pub(crate) atoms: &'static [Term],
@@ -200,10 +201,10 @@ pub(crate) static PLANNED: [Listings; 5] = [
     ] },
 ];
 
-/// Few instances are allowed: `GO` has one, and `PATH` has nine, of which two are ever applicable. The limit comes before
-/// the initial state, and after the atoms and the states are read.
+/// Few instances are allowed: `GO` keeps one, `PATH` two of nine, those along its roads, and `UNTIED` none. The limit comes
+/// before the initial state, and after the atoms and the states are read.
 #[rattlefmt::skip]
-pub(crate) static LIMITED: [Listings; 5] = [
+pub(crate) static LIMITED: [Listings; 6] = [
     Listings { texts: GO, atoms: P_AND_Q, max_instances: 1, rows: &[
         (Claim::Bound(1), &[(0, None, &[0]), (1, Some(0), &[0, 1])], None, Ok(AtLeast { cost: 1 })),
     ] },
@@ -215,10 +216,13 @@ pub(crate) static LIMITED: [Listings; 5] = [
     Listings { texts: GO, atoms: &[(2, &[])], max_instances: 0, rows: &[
         (Claim::Bound(1), &[], None, Err(At { code: NotFluent, line: 4 })),
     ] },
-    Listings { texts: PATH, atoms: &[(0, &[0]), (0, &[1])], max_instances: 9, rows: &[
+    Listings { texts: PATH, atoms: &[(0, &[0]), (0, &[1])], max_instances: 2, rows: &[
         (Claim::Bound(1), &[(0, None, &[0]), (1, Some(0), &[1])], None, Ok(AtLeast { cost: 1 })),
     ] },
-    Listings { texts: PATH, atoms: &[(0, &[0]), (0, &[1])], max_instances: 8, rows: &[
+    Listings { texts: PATH, atoms: &[(0, &[0]), (0, &[1])], max_instances: 1, rows: &[
         (Claim::Bound(1), &[(0, None, &[0]), (1, Some(0), &[1])], None, Err(Plain(Limit))),
+    ] },
+    Listings { texts: UNTIED, atoms: TIED, max_instances: 0, rows: &[
+        (Claim::Unsolvable, &[(0, None, &[])], None, Ok(Accepted::Unsolvable)),
     ] },
 ];

@@ -1,14 +1,15 @@
 //! States, plans, instances and atoms in memory.
-use crate::helpers::{Term, Texts, atom, atoms, instance, is_of, on_task};
+use crate::helpers::{Term, atom, atoms, instance, is_of, on_task};
 use faults::NoMemory;
 use formulas::{
-    Binding, Instance, Plan, State, apply, changes, holds, is_atom, is_fluent, is_instance,
-    meets_goal, sure,
+    Binding, Instance, Plan, State, Valuation, apply, changes, copied, cost, holds, is_atom,
+    is_fluent, is_fluent_atom, is_instance, meets_goal, sure, with_object,
 };
 use std::alloc::Global;
 use std::process::Abort;
 use std::test::Fail;
-use typing::{PredicateId, Task};
+use test_texts::Texts;
+use typing::{ObjectId, PredicateId, Task};
 
 /// Three places, and roads that lead from the first to itself and to the second, and from there to the third.
 const WALK: Texts = [
@@ -37,7 +38,13 @@ fn walks(rt: &impl Abort, alloc: Global, task: &Task, start: &State) -> Result<(
     let next = apply(alloc, task, &step, start)?.ok_or("not applicable")?;
     assert!(rt; is_at(task, start, 0) && is_at(task, &next, 1));
     assert!(rt; apply(alloc, task, &step, &next)?.is_none());
+    assert!(rt; cost(task, &step) == 1 && is_valued(&next));
     Ok(())
+}
+
+/// Whether the walker is at the second place, as any valuation tells it.
+fn is_valued<V: Valuation>(state: &V) -> bool {
+    state.contains(&atom(0, &[1])) && !state.contains(&atom(0, &[0]))
 }
 
 /// Schemas and objects, and whether they are an instance.
@@ -65,6 +72,12 @@ fn knows_its_own(rt: &impl Abort, task: &Task) {
     let is_of_places = is_fluent(task, PredicateId(0));
     let is_of_roads = is_fluent(task, PredicateId(1)) || is_fluent(task, PredicateId(2));
     assert!(rt; is_of_places && !is_of_roads);
+    let are_fluent = [
+        is_fluent_atom(task, &atom(0, &[2])),
+        is_fluent_atom(task, &atom(0, &[3])),
+        is_fluent_atom(task, &atom(1, &[2, 2])),
+    ];
+    assert_eq!(rt; are_fluent, [true, false, false]);
 }
 
 fn is_a_walk(rt: &impl Abort, alloc: Global, task: &Task) -> Result<(), Fail> {
@@ -218,4 +231,13 @@ fn plans_keep_their_steps(rt: HostRuntime) -> Result<(), Fail> {
     let plan = Plan::new(steps).ok_or("too many steps")?;
     assert!(rt; are_steps(plan.steps()));
     Ok(())
+}
+
+#[test]
+fn bindings_are_copied_and_made_longer(rt: HostRuntime) {
+    let one = with_object(&Binding::new(), ObjectId(7));
+    let two = with_object(&one, ObjectId(3));
+    assert!(rt; copied(&one).as_slice() == [ObjectId(7)].as_slice());
+    assert!(rt; copied(&two).as_slice() == [ObjectId(7), ObjectId(3)].as_slice());
+    assert!(rt; one.as_slice() == [ObjectId(7)].as_slice());
 }

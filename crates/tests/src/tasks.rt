@@ -1,8 +1,9 @@
 //! Tasks in memory: what names and numbers lead to.
-use crate::helpers::{Texts, on_task};
+use crate::helpers::on_task;
 use std::alloc::{AllocError, Global};
 use std::process::Abort;
 use std::test::Fail;
+use test_texts::Texts;
 use typing::{ObjectId, PredicateId, SchemaId, Task, TypeId, TypeUnion};
 
 /// Names with letters of either case.

@@ -1,9 +1,8 @@
-use Rattle.std.proofs.Common.{ℕ, ◌≡◌, IfOk, length, ap, ◌∙◌, nat_eq}
+use Rattle.std.proofs.Common.{length, ap, ◌∙◌, nat_eq}
 use Rattle.std.specs.List.{list_any}
 use Rattle.std.proofs.lemmas.List.FromFn.{length-map-range_with_len}
 use Rattle.faults.proofs.Results.{if_ok}
-use Rattle.packed_state.specs.Packed.{mask_bits_of}
-use Rattle.tests.proofs.packed_states.Sample.mask.Goals as goal
+use Rattle.search_tests.proofs.packed_states.Sample.packed.Goals as goal
 
 pub returns : goal.returns
 returns c = if_ok c.new.result

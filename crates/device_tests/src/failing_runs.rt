@@ -1,6 +1,5 @@
 //! Runs over files and streams that fail, and over files that never end.
 use crate::failing_files::{EndlessFiles, Failing, FailingFiles, READ_PIECE};
-use crate::helpers::{DONE, GO, HOP, PATH, TIE, Texts};
 use devices::{FailsAt, InPieces, Memory};
 use faults::NoMemory;
 use planner_main::files::Table;
@@ -8,6 +7,7 @@ use planner_main::run;
 use std::alloc::Global;
 use std::process::Abort;
 use std::test::Fail;
+use test_texts::{DONE, GO, HOP, PATH, TIE, Texts};
 
 /// Two hops, as they are written.
 const TWO_HOPS: &[u8] = b"(hop a b)\n(hop b c)\n; cost = 6\n";

@@ -1,7 +1,6 @@
-use Rattle.std.specs.Prelude.{ℕ, ◌<◌}
+use Rattle.std.specs.Prelude.{◌<◌}
 use Rattle.std.specs.List.{All}
-use Rattle.std.proofs.lemmas.List.Elements.{All-append}
-use Rattle.tests.proofs.packed_states.Sample.numbers.Given as goal
+use Rattle.search_tests.proofs.packed_states.Sample.numbers.Given as goal
 
 -- the numbers so far are below the width
 abbrev pub invariant-loop-number : goal.invariant-loop-number

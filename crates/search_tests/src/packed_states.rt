@@ -144,6 +144,51 @@ fn changed(
     Ok(set)
 }
 
+/// The first set less the second, number by number.
+fn removed(alloc: Global, width: u32, [set, deletes]: [Sample; 2]) -> Result<Packed, NoMemory> {
+    let mut set = set.packed(alloc, width)?;
+    for number in 0..width {
+        if number < set.width() && deletes.has(width, number) {
+            set.remove(number);
+        }
+    }
+    Ok(set)
+}
+
+/// The second set, copied over the first.
+fn copied(alloc: Global, width: u32, [set, other]: [Sample; 2]) -> Result<Packed, NoMemory> {
+    let mut set = set.packed(alloc, width)?;
+    set.copy_from(&other.packed(alloc, width)?);
+    Ok(set)
+}
+
+/// Whether the set's numbers are listed, rising, also in the place of what a vector has.
+fn is_listed(alloc: Global, width: u32, set: Sample) -> Result<bool, NoMemory> {
+    let wanted = set.numbers(alloc, width)?;
+    let set = set.packed(alloc, width)?;
+    let mut lent = vec![in alloc; width, width]?;
+    set.list_numbers(&mut lent)?;
+    Ok(lent == wanted && set.numbers(alloc)? == wanted)
+}
+
+fn pair_is_changed(
+    rt: &impl Abort,
+    alloc: Global,
+    width: u32,
+    [set, other]: [Sample; 2],
+) -> Result<(), Fail> {
+    let less = Wanted::Changed(set, other, Sample::Empty);
+    assert!(rt; is_just(&removed(alloc, width, [set, other])?, width, less));
+    assert!(rt;
+        is_just(
+            &copied(alloc, width, [set, other])?,
+            width,
+            Wanted::Just(other)
+        )
+    );
+    Ok(())
+}
+
 fn pair_is_right(
     rt: &impl Abort,
     alloc: Global,
@@ -164,8 +209,10 @@ fn pair_is_right(
 fn sample_is_right(rt: &impl Abort, alloc: Global, width: u32, set: Sample) -> Result<(), Fail> {
     assert!(rt; is_just(&set.packed(alloc, width)?, width, Wanted::Just(set)));
     assert!(rt; is_just(&inserted(alloc, width, set)?, width, Wanted::Just(set)));
+    assert!(rt; is_listed(alloc, width, set)?);
     for &other in &SAMPLES {
         pair_is_right(rt, alloc, width, [set, other])?;
+        pair_is_changed(rt, alloc, width, [set, other])?;
     }
     Ok(())
 }
@@ -214,7 +261,7 @@ static TWIN: [u32; 37] = [
     112, 113, 114, 116, 117, 121, 122, 123, 124, 127,
 ];
 
-fn set_of(alloc: Global, width: u32, numbers: &[u32]) -> Result<Packed, NoMemory> {
+pub(crate) fn set_of(alloc: Global, width: u32, numbers: &[u32]) -> Result<Packed, NoMemory> {
     let mut set = Packed::empty(alloc, width)?;
     for &number in numbers {
         if number < set.width() {
@@ -246,7 +293,7 @@ fn put<S: StateStore>(store: &mut S, set: &Packed) -> Result<Option<(u32, bool)>
 }
 
 /// Whether the store has the set at this place.
-fn stands_at<S: StateStore>(
+pub(crate) fn stands_at<S: StateStore>(
     alloc: Global,
     store: &S,
     set: &Packed,

@@ -1,0 +1,13 @@
+//! Tests over devices in pieces and devices that fail, over files in memory, and over the machine's own.
+#![tactic(auto)]
+
+#[cfg(test)]
+mod failing_files;
+#[cfg(test)]
+mod failing_runs;
+#[cfg(test)]
+mod helpers;
+#[cfg(test)]
+mod plan_files;
+#[cfg(test)]
+mod streams;

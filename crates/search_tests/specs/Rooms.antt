@@ -1,0 +1,39 @@
+-- A small transition system, on which the tests run the search: rooms by number, and a state is the set of its one room.
+use Rattle.std.specs.Prelude.{ℕ, ◌==◌, nat_lt, Bool, true, false, List, [], ◌∷◌, length, slice_get, slice_set, if◌then◌else◌, Option, Some, None, option_map, option_and_then, find}
+use Rattle.std.specs.List.{range_with_len}
+use Rattle.model.specs.Runs.{System}
+use Rattle.packed_state.specs.Sets.{has, set_of}
+
+-- the room of a state: the least number in the set
+abbrev pub room_in : List Bool → Option ℕ
+room_in set = find (has set) (range_with_len 0 (length set))
+
+-- where the doors of a number lead, by the rooms that they are in
+abbrev pub doors : List ℕ → List ℕ → ℕ → List ℕ
+doors first second door = if door == 1 then first else if door == 2 then second else []
+
+-- the room behind a room's door, if there is one and its number is below the width
+abbrev pub behind : ℕ → List ℕ → ℕ → Option ℕ
+behind width leads room = option_and_then (λ next. if nat_lt next width then Some next else None) (slice_get leads room)
+
+-- from one room into the other
+abbrev pub moved : List Bool → ℕ → ℕ → List Bool
+moved set room next = slice_set (slice_set set room false) next true
+
+-- what going through a door of the state's room leads to
+abbrev pub through : ℕ → List ℕ → List Bool → Option (List Bool)
+through width leads set = option_and_then (λ room. option_map (moved set room) (behind width leads room)) (room_in set)
+
+-- the door's number, where there is such a door
+abbrev pub door_numbers : ℕ → Bool → List ℕ
+door_numbers door is_there = if is_there then door ∷ [] else []
+
+-- rooms below a width: where the first and the second door of each lead, what it costs to go through them, and a room to
+-- be reached from room 0
+abbrev pub rooms : ℕ → List ℕ → List ℕ → ℕ → ℕ → ℕ → System (List Bool) ℕ
+rooms width first second first_cost second_cost goal = record {
+  initial = slice_set (set_of width []) 0 true;
+  step = λ set door. through width (doors first second door) set;
+  cost = λ door. if door == 1 then first_cost else second_cost;
+  meets_goal = λ set. has set goal;
+}

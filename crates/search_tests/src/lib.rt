@@ -1,0 +1,9 @@
+//! Tests of packed states, of both stores of them, and of the search over a system that stands here alone.
+#![tactic(auto)]
+
+#[cfg(test)]
+mod packed_states;
+#[cfg(test)]
+mod rooms;
+#[cfg(test)]
+mod searches;

@@ -1,0 +1,126 @@
+//! A small transition system of the tests' own: rooms with doors, where a state is the set of its one room.
+ghost use Rattle.std.specs.Prelude.{◌≡◌, ◌<◌, ◌++◌, length, is_some, IfSome, OnOk};
+ghost use Rattle.packed_state.specs.Packed.{bits_of};
+ghost use Rattle.search_tests.specs.Rooms.{rooms, room_in, doors, behind, through, door_numbers};
+
+use faults::NoMemory;
+use packed_state::Packed;
+use search::TransitionSystem;
+use std::alloc::Global;
+
+/// Rooms by number, each with at most two doors: where the first and the second ones lead, what it costs to go through
+/// them, and the room that is to be reached from room 0. The rooms' numbers are below the width, and a door to another
+/// leads nowhere.
+#[derive(Clone, Copy)]
+pub(crate) struct Rooms {
+    pub(crate) width: u32,
+    pub(crate) first: &'static [u32],
+    pub(crate) second: &'static [u32],
+    pub(crate) first_cost: u32,
+    pub(crate) second_cost: u32,
+    pub(crate) goal: u32,
+}
+
+/// The room that the state is.
+fn room_in(state: &Packed) -> Option<u32>
+    ensures room { result ≡ room_in (bits_of state.now) }
+    ensures within { IfSome result (λ room. room < length (bits_of state.now)) }
+{
+    for room in 0..state.width() {
+        if state.has(room) {
+            return Some(room);
+        }
+    }
+    None
+}
+
+impl Rooms {
+    /// Where the doors of this number lead, by the rooms that they are in.
+    fn doors(&self, door: u32) -> &'static [u32]
+        ensures { result.now ≡ doors self.now.first.now self.now.second.now door }
+    {
+        match door {
+            1 => self.first,
+            2 => self.second,
+            _ => &[],
+        }
+    }
+
+    /// The room behind the room's door of this number.
+    fn behind(&self, door: u32, room: u32) -> Option<u32>
+        ensures behind { result ≡ behind self.now.width (doors self.now.first.now self.now.second.now door) room }
+        ensures within { IfSome result (λ next. next < self.now.width) }
+    {
+        let next = *self.doors(door).get(room as usize)?;
+        if next < self.width { Some(next) } else { None }
+    }
+
+    /// Whether the state's room has a door of this number.
+    fn has_door(&self, door: u32, state: &Packed) -> bool
+        requires { length (bits_of state.now) ≡ self.now.width }
+        ensures { result ≡ is_some (through self.now.width (doors self.now.first.now self.now.second.now door) (bits_of state.now)) }
+    {
+        match room_in(state) {
+            Some(room) => self.behind(door, room).is_some(),
+            None => false,
+        }
+    }
+
+    /// Adds the number, if the state's room has a door of this number.
+    fn add_door(&self, door: u32, state: &Packed, into: &mut Vec<u32>) -> Result<(), NoMemory>
+        requires { length (bits_of state.now) ≡ self.now.width }
+        ensures { OnOk result (into.new.items ≡ into.old.items ++ door_numbers door
+            (is_some (through self.now.width (doors self.now.first.now self.now.second.now door) (bits_of state.now)))) }
+    {
+        if self.has_door(door, state) {
+            into.push(door)?;
+        }
+        Ok(())
+    }
+}
+
+impl TransitionSystem for Rooms {
+    ghost width_of = { λ r. r.width };
+
+    ghost means = { λ r. rooms r.width r.first.now r.second.now r.first_cost r.second_cost r.goal };
+
+    fn width(&self) -> u32 {
+        self.width
+    }
+
+    fn initial(&self, alloc: Global) -> Result<Packed, NoMemory> {
+        let mut state = Packed::empty(alloc, self.width)?;
+        if self.width > 0 {
+            state.insert(0);
+        }
+        Ok(state)
+    }
+
+    fn applicable(&self, state: &Packed, into: &mut Vec<u32>) -> Result<(), NoMemory> {
+        into.clear();
+        self.add_door(1, state, into)?;
+        self.add_door(2, state, into)
+    }
+
+    fn successor(&self, door: u32, state: &Packed, into: &mut Packed) {
+        into.copy_from(state);
+        if let Some(room) = room_in(state) {
+            if let Some(next) = self.behind(door, room) {
+                into.remove(room);
+                into.insert(next);
+            }
+        }
+    }
+
+    fn cost(&self, door: u32) -> u32 {
+        if door == 1 {
+            self.first_cost
+        } else {
+            self.second_cost
+        }
+    }
+
+    fn meets_goal(&self, state: &Packed) -> bool {
+        self.goal < self.width && state.has(self.goal)
+    }
+}

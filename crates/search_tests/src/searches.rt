@@ -1,0 +1,134 @@
+//! The search over a system that stands here alone: what it finds, and in which order, in either store.
+ghost use Rattle.std.specs.Prelude.{◌≡◌, []};
+
+use crate::packed_states::{set_of, stands_at};
+use crate::rooms::Rooms;
+use faults::NoMemory;
+use packed_state::{PlainStore, PooledStore, StateStore};
+use search::{FoundStates, MAX_STATES, Node, Outcome, best_first};
+use std::alloc::Global;
+use std::test::Fail;
+
+/// Rooms, the most that may be found, the doors of the plan that is found and its cost, if there is one, and the rooms in
+/// the order in which they are found, with what it costs to reach each. There are no such rooms where the limit is told.
+struct Row {
+    rooms: Rooms,
+    most: u32,
+    plan: Option<(&'static [u32], u64)>,
+    found: &'static [u32],
+    costs: &'static [u64],
+}
+
+/// From each room a door leads to the next, at cost 1, and another to the one behind that, at cost 5.
+const CLIMB_FIRST: &[u32] = &[1, 2, 3, 4, 5, 6, 7, 8, 9];
+
+const CLIMB_SECOND: &[u32] = &[2, 3, 4, 5, 6, 7, 8, 9];
+
+#[rattlefmt::skip]
+static ROWS: [Row; 8] = [
+    // many cheap steps are cheaper than few dear ones
+    Row {
+        rooms: Rooms { width: 10, first: CLIMB_FIRST, second: CLIMB_SECOND, first_cost: 1, second_cost: 5, goal: 3 },
+        most: 100, plan: Some((&[1, 1, 1], 3)), found: &[0, 1, 2, 3, 4], costs: &[0, 1, 2, 3, 7],
+    },
+    // there are ten rooms, and no room 10
+    Row {
+        rooms: Rooms { width: 10, first: CLIMB_FIRST, second: CLIMB_SECOND, first_cost: 1, second_cost: 5, goal: 10 },
+        most: 10, plan: None, found: &[0, 1, 2, 3, 4, 5, 6, 7, 8, 9], costs: &[0, 1, 2, 3, 4, 5, 6, 7, 8, 9],
+    },
+    Row {
+        rooms: Rooms { width: 10, first: CLIMB_FIRST, second: CLIMB_SECOND, first_cost: 1, second_cost: 5, goal: 10 },
+        most: 9, plan: None, found: &[], costs: &[],
+    },
+    // the goal holds at the start
+    Row {
+        rooms: Rooms { width: 64, first: &[1], second: &[2], first_cost: 1, second_cost: 1, goal: 0 },
+        most: 100, plan: Some((&[], 0)), found: &[0], costs: &[0],
+    },
+    // Doors to N + 1 and to N + 2: room 3 is reached from 1 and from 2, which cost the same, and 1 was found first.
+    Row {
+        rooms: Rooms { width: 65, first: &[1, 2, 3, 4, 5, 6], second: &[2, 3, 4, 5, 6, 7], first_cost: 1, second_cost: 1, goal: 3 },
+        most: 100, plan: Some((&[1, 2], 2)), found: &[0, 1, 2, 3, 4], costs: &[0, 1, 1, 2, 2],
+    },
+    // The same doors in the other order: 2 is found first, then 1, and of 4 and 3, which cost the same, 4.
+    Row {
+        rooms: Rooms { width: 128, first: &[2, 3, 4, 5, 6, 7], second: &[1, 2, 3, 4, 5, 6], first_cost: 1, second_cost: 1, goal: 3 },
+        most: 100, plan: Some((&[1, 2], 2)), found: &[0, 2, 1, 4, 3, 6, 5], costs: &[0, 1, 1, 2, 2, 3, 3],
+    },
+    // Room 5 is found before 6. A cheaper way to 5 is found after 6, and then both cost the same: 5 comes first.
+    Row {
+        rooms: Rooms { width: 64, first: &[1, 5, 3, 3, 4, 5, 6], second: &[2, 6, 4, 3, 5, 7, 7], first_cost: 2, second_cost: 1, goal: 7 },
+        most: 100, plan: Some((&[2, 2, 2, 2], 4)), found: &[0, 1, 2, 3, 4, 5, 6, 7], costs: &[0, 2, 1, 3, 2, 3, 3, 4],
+    },
+    // second doors cost nothing, and lead in a circle
+    Row {
+        rooms: Rooms { width: 200, first: &[3, 2], second: &[1, 0], first_cost: 1, second_cost: 0, goal: 2 },
+        most: 100, plan: Some((&[2, 1], 1)), found: &[0, 3, 1, 2], costs: &[0, 1, 0, 1],
+    },
+];
+
+/// Whether the store has just the rooms, in this order.
+fn has_just<S: StateStore>(
+    alloc: Global,
+    store: &S,
+    width: u32,
+    rooms: &[u32],
+) -> Result<bool, NoMemory> {
+    for (&room, place) in rooms.iter().zip(0..u32::MAX) {
+        let state = set_of(alloc, width, &[room])?;
+        if !stands_at(alloc, store, &state, place)? {
+            return Ok(false);
+        }
+    }
+    Ok(store.len() == rooms.len())
+}
+
+/// Whether the rooms were reached at these costs.
+fn are_reached(nodes: &[Node], costs: &[u64]) -> bool {
+    for (node, cost) in nodes.iter().zip(costs) {
+        if node.cost != *cost {
+            return false;
+        }
+    }
+    nodes.len() == costs.len()
+}
+
+/// Whether the found rooms are those of the row, each at its cost.
+fn are_found<S: StateStore>(
+    alloc: Global,
+    states: &FoundStates<S>,
+    row: &Row,
+) -> Result<bool, NoMemory> {
+    let are_they = has_just(alloc, &states.store, row.rooms.width, row.found)?;
+    Ok(are_they && are_reached(&states.nodes, row.costs))
+}
+
+/// Whether the search finds what the row says.
+fn is_as_wanted<S: StateStore>(alloc: Global, row: &Row, store: S) -> Result<bool, NoMemory>
+    requires empty { S.states store ≡ [] }
+    requires width { S.width_of store ≡ row.now.rooms.width }
+{
+    let most = row.most.clamp(1, MAX_STATES);
+    match &best_first(alloc, &row.rooms, store, most)? {
+        Outcome::Found {
+            steps,
+            cost,
+            states,
+        } => Ok(row.plan == Some((steps.as_slice(), *cost)) && are_found(alloc, states, row)?),
+        Outcome::Exhausted { states } => Ok(row.plan.is_none() && are_found(alloc, states, row)?),
+        Outcome::States => Ok(row.plan.is_none() && row.found.is_empty()),
+    }
+}
+
+#[test]
+fn finds_cheapest_plans_in_their_order(rt: HostRuntime) -> Result<(), Fail> {
+    let alloc = rt.alloc();
+    for (number, row) in ROWS.iter().enumerate() {
+        let width = row.rooms.width;
+        let plain = PlainStore::new(alloc, width);
+        assert!(rt; is_as_wanted(alloc, row, plain)?, "row {number}");
+        let pooled = PooledStore::new(alloc, width)?;
+        assert!(rt; is_as_wanted(alloc, row, pooled)?, "row {number}, pooled");
+    }
+    Ok(())
+}

@@ -1,0 +1,150 @@
+//! The search over ground tasks, in either store: what it finds does not depend on how the states are kept.
+ghost use Rattle.std.specs.Prelude.{length};
+ghost use Rattle.grounding.specs.Ground.{task_in, atoms_in};
+ghost use Rattle.model.specs.Grounding.{ground_system};
+
+use crate::answers::{ANSWERS, Found};
+use crate::helpers::on_task;
+use faults::NoMemory;
+use grounding::{Ground, GroundFault};
+use packed_state::{Packed, PlainStore, PooledStore, StateStore};
+use search::{FoundStates, MAX_STATES, Outcome, TransitionSystem, best_first};
+use solver::Limit;
+use std::alloc::Global;
+use std::test::Fail;
+use typing::Task;
+
+/// A ground task, as search sees it.
+#[derive(Clone, Copy)]
+struct GroundSystem<'a, 't>(&'a Ground<'t>);
+
+impl TransitionSystem for GroundSystem<'_, '_> {
+    ghost width_of = { λ system. length (atoms_in system.0.now) };
+
+    ghost means = { λ system. ground_system (task_in system.0.now) (atoms_in system.0.now) };
+
+    fn width(&self) -> u32 {
+        self.0.width()
+    }
+
+    fn initial(&self, alloc: Global) -> Result<Packed, NoMemory> {
+        self.0.initial(alloc)
+    }
+
+    fn applicable(&self, state: &Packed, into: &mut Vec<u32>) -> Result<(), NoMemory> {
+        self.0.applicable(state, into)
+    }
+
+    fn successor(&self, action: u32, state: &Packed, into: &mut Packed) {
+        self.0.successor(action, state, into);
+    }
+
+    fn cost(&self, action: u32) -> u32 {
+        self.0.cost(action)
+    }
+
+    fn meets_goal(&self, state: &Packed) -> bool {
+        self.0.meets_goal(state)
+    }
+}
+
+/// What is found out, but for the states.
+fn told<S>(outcome: &Outcome<S>) -> Found {
+    match outcome {
+        Outcome::Found { cost, .. } => Ok(Some(*cost)),
+        Outcome::Exhausted { .. } => Ok(None),
+        Outcome::States => Err(Limit::States),
+    }
+}
+
+fn steps_of<S>(outcome: &Outcome<S>) -> &[u32] {
+    match outcome {
+        Outcome::Found { steps, .. } => steps.as_slice(),
+        _ => &[],
+    }
+}
+
+fn states_of<S>(outcome: &Outcome<S>) -> Option<&FoundStates<S>> {
+    match outcome {
+        Outcome::Found { states, .. } => Some(states),
+        Outcome::Exhausted { states } => Some(states),
+        Outcome::States => None,
+    }
+}
+
+/// Copies the state at this place, if there is one of this width.
+fn got<S: StateStore>(store: &S, place: u32, into: &mut Packed) -> bool {
+    if into.width() != store.width() || place as usize >= store.len() {
+        return false;
+    }
+    store.get(place, into);
+    true
+}
+
+/// Whether the stores have the same states of the width, in the same order.
+fn have_same<A: StateStore, B: StateStore>(
+    alloc: Global,
+    width: u32,
+    some: &A,
+    others: &B,
+) -> Result<bool, NoMemory> {
+    let mut state = Packed::empty(alloc, width)?;
+    let mut other = Packed::empty(alloc, width)?;
+    for (_, place) in (0..some.len()).zip(0..u32::MAX) {
+        let are_there = got(some, place, &mut state) && got(others, place, &mut other);
+        if !are_there || state != other {
+            return Ok(false);
+        }
+    }
+    Ok(some.len() == others.len())
+}
+
+/// Whether both found the same states, and reached them in the same way.
+fn are_alike<A: StateStore, B: StateStore>(
+    alloc: Global,
+    width: u32,
+    some: Option<&FoundStates<A>>,
+    others: Option<&FoundStates<B>>,
+) -> Result<bool, NoMemory> {
+    match (some, others) {
+        (Some(some), Some(others)) => {
+            let are_same = have_same(alloc, width, &some.store, &others.store)?;
+            Ok(are_same && some.nodes == others.nodes)
+        }
+        (None, None) => Ok(true),
+        _ => Ok(false),
+    }
+}
+
+/// What both searches find out, if they find the same.
+fn found_by_both(alloc: Global, ground: &Ground<'_>, most: u32) -> Result<Option<Found>, NoMemory> {
+    let (system, width) = (GroundSystem(ground), ground.width());
+    let most = most.clamp(1, MAX_STATES);
+    let plain = best_first(alloc, &system, PlainStore::new(alloc, width), most)?;
+    let pooled = best_first(alloc, &system, PooledStore::new(alloc, width)?, most)?;
+    let are_told = told(&plain) == told(&pooled) && steps_of(&plain) == steps_of(&pooled);
+    if are_told && are_alike(alloc, width, states_of(&plain), states_of(&pooled))? {
+        return Ok(Some(told(&plain)));
+    }
+    Ok(None)
+}
+
+/// The same of the task, where no more instances are kept.
+fn found(alloc: Global, task: &Task, most: u32, instances: u32) -> Result<Option<Found>, NoMemory> {
+    match &Ground::new(alloc, task, &[], instances) {
+        Ok(ground) => found_by_both(alloc, ground, most),
+        Err(GroundFault::At(_)) => Ok(Some(Err(Limit::Instances))),
+        Err(GroundFault::NoMemory) => Err(NoMemory),
+    }
+}
+
+#[test]
+fn stores_give_the_same_search(rt: HostRuntime) -> Result<(), Fail> {
+    for (texts, states, instances, wanted) in &ANSWERS {
+        on_task(&rt, rt.alloc(), texts, |rt, alloc, task| {
+            assert_eq!(rt; found(alloc, task, *states, *instances)?, Some(*wanted));
+            Ok(())
+        })?;
+    }
+    Ok(())
+}

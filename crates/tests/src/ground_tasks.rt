@@ -1,0 +1,280 @@
+//! Ground tasks: which instances are kept, which atoms have numbers, and what these numbers lead to.
+ghost use Rattle.std.specs.Prelude.{◌≡◌, length, IfOk};
+ghost use Rattle.packed_state.specs.Packed.{bits_of};
+ghost use Rattle.grounding.specs.Ground.{atoms_in};
+
+use crate::helpers::{Term, atom, is_of, on_task};
+use faults::NoMemory;
+use formulas::is_fluent_atom;
+use grounding::{Ground, GroundFault, GroundLimit};
+use packed_state::Packed;
+use std::alloc::Global;
+use std::process::Abort;
+use std::test::Fail;
+use test_texts::{GO, HOP, PAIRS, PATH, TIE, Texts, UNTIED};
+use typing::Task;
+
+/// A lamp, and a way from the first place to the second, which is seen where the lamp is lit.
+pub(crate) const LAMP: Texts = [
+    "(define (domain lamp) (:requirements :conditional-effects) (:predicates (link ?x ?y) (at ?x) (lit) (seen ?x))
+ (:action light :parameters () :effect (lit))
+ (:action go :parameters (?x ?y) :precondition (and (link ?x ?y) (at ?x))
+  :effect (and (at ?y) (not (at ?x)) (when (lit) (seen ?y)))))",
+    "(define (problem p) (:domain lamp) (:objects a b) (:init (link a b) (at a)) (:goal (and (at b) (seen b))))",
+];
+
+/// Two actions, the one that is declared first with the later name, and the same for the objects.
+const JOINS: Texts = [
+    "(define (domain joins) (:predicates (link ?x ?y) (done))
+ (:action touch :parameters (?x) :effect (done))
+ (:action join :parameters (?x ?y) :precondition (link ?x ?y) :effect (done)))",
+    "(define (problem p) (:domain joins) (:objects b a)
+ (:init (link a b) (link b a) (link b b)) (:goal (done)))",
+];
+
+/// Tasks, the instances that each keeps, and the atoms that have numbers, both by their numbers: instances by the actions'
+/// numbers, and then by those of the objects from the left; atoms of the start first.
+#[rattlefmt::skip]
+static NUMBERED: [(Texts, &[Term], &[Term]); 7] = [
+    (LAMP, &[(0, &[]), (1, &[0, 1])], &[(1, &[0]), (2, &[]), (1, &[1]), (3, &[1])]),
+    (JOINS, &[(0, &[0]), (0, &[1]), (1, &[0, 0]), (1, &[0, 1]), (1, &[1, 0])], &[(1, &[])]),
+    (GO, &[(0, &[])], &[(0, &[]), (1, &[])]),
+    (TIE, &[(0, &[0, 0])], &[(1, &[])]),
+    (UNTIED, &[], &[]),
+    (PATH, &[(0, &[0, 1]), (0, &[1, 2])], &[(0, &[0]), (0, &[1]), (0, &[2])]),
+    (PAIRS, &[(0, &[0, 1]), (0, &[0, 2]), (0, &[1, 0]), (0, &[1, 2]), (0, &[2, 0]), (0, &[2, 1])], &[(0, &[0]), (0, &[1]), (0, &[2])]),
+];
+
+/// Whether these instances are kept, in this order.
+fn keeps(ground: &Ground<'_>, wanted: &[Term]) -> bool {
+    for (instance, term) in ground.instances().iter().zip(wanted) {
+        if !is_of(instance, term) {
+            return false;
+        }
+    }
+    ground.instances().len() == wanted.len()
+}
+
+/// Whether these atoms have numbers, in this order.
+fn numbers(ground: &Ground<'_>, wanted: &[Term]) -> bool {
+    for (term, number) in wanted.iter().zip(0..u32::MAX) {
+        let atom = atom(term.0, term.1);
+        let is_there = ground.atoms().get_index_of(&atom) == Some(number as usize);
+        if !is_there || ground.number_of(&atom) != Some(number) {
+            return false;
+        }
+    }
+    ground.width() as usize == wanted.len()
+}
+
+#[test]
+fn instances_and_atoms_are_numbered(rt: HostRuntime) -> Result<(), Fail> {
+    for (texts, kept, atoms) in &NUMBERED {
+        on_task(&rt, rt.alloc(), texts, |rt, alloc, task| {
+            let ground = Ground::new(alloc, task, &[], 10)?;
+            assert!(rt; keeps(&ground, *kept) && numbers(&ground, *atoms));
+            assert_eq!(rt; ground.task().object_count(), task.object_count());
+            Ok(())
+        })?;
+    }
+    Ok(())
+}
+
+/// The atoms of `LAMP` where the last one is to have the first number.
+#[rattlefmt::skip]
+static SEEN_FIRST: [Term; 4] = [(3, &[1]), (1, &[0]), (2, &[]), (1, &[1])];
+
+/// Atoms of `LAMP` that have none: one that is static, and one of a fluent predicate that is never true.
+#[rattlefmt::skip]
+static UNNUMBERED: [Term; 2] = [(0, &[0, 1]), (3, &[0])];
+
+fn numbers_seen_first(rt: &impl Abort, alloc: Global, task: &Task) -> Result<(), Fail> {
+    let seen = [atom(3, &[1])];
+    if !is_fluent_atom(task, &seen[0]) {
+        return Err("not fluent".into());
+    }
+    let ground = Ground::new(alloc, task, &seen, 2)?;
+    assert!(rt; numbers(&ground, &SEEN_FIRST));
+    for term in &UNNUMBERED {
+        assert_eq!(rt; ground.number_of(&atom(term.0, term.1)), None);
+    }
+    Ok(())
+}
+
+#[test]
+fn some_atoms_come_first(rt: HostRuntime) -> Result<(), Fail> {
+    on_task(&rt, rt.alloc(), &LAMP, numbers_seen_first)
+}
+
+const WIDE_DOMAIN: &str = "(define (domain wide) (:predicates (p))
+ (:action go :parameters (?a ?b ?c ?d ?e ?f ?g ?h ?i ?j ?k ?l ?m ?n ?o ?p) :effect (p)))";
+
+/// Three objects for each of sixteen parameters: 43,046,721 instances, and none is closed off.
+#[rattlefmt::skip]
+const WIDE_3: Texts = [WIDE_DOMAIN, "(define (problem w) (:domain wide) (:objects a b c) (:init) (:goal (p)))"];
+
+/// No object for the parameters: no instance.
+#[rattlefmt::skip]
+const WIDE_0: Texts = [WIDE_DOMAIN, "(define (problem w) (:domain wide) (:init) (:goal (p)))"];
+
+/// A task, a number, and whether the task keeps more instances.
+#[rattlefmt::skip]
+static COUNTS: [(Texts, u32, bool); 14] = [
+    (GO, 0, true), (GO, 1, false),
+    (JOINS, 0, true), (JOINS, 4, true), (JOINS, 5, false),
+    (HOP, 2, true), (HOP, 3, false),
+    (PAIRS, 5, true), (PAIRS, 6, false),
+    (UNTIED, 0, false), (WIDE_0, 0, false),
+    (WIDE_3, 0, true), (WIDE_3, 1, true), (WIDE_3, 1000, true),
+];
+
+/// Whether the task keeps more instances.
+fn exceeds(alloc: Global, task: &Task, max: u32) -> Result<bool, NoMemory> {
+    match &Ground::new(alloc, task, &[], max) {
+        Ok(_) => Ok(false),
+        Err(GroundFault::At(limit)) => Ok(*limit == GroundLimit::Instances),
+        Err(GroundFault::NoMemory) => Err(NoMemory),
+    }
+}
+
+#[test]
+fn the_limit_is_told_exactly(rt: HostRuntime) -> Result<(), Fail> {
+    for (texts, max, is_more) in &COUNTS {
+        on_task(&rt, rt.alloc(), texts, |rt, alloc, task| {
+            assert_eq!(rt; exceeds(alloc, task, *max)?, *is_more, "{max}");
+            Ok(())
+        })?;
+    }
+    Ok(())
+}
+
+/// A state by the numbers of its atoms, whether the goal holds in it, and each applicable instance, by its number, with
+/// the state that it leads to.
+type Line = (&'static [u32], bool, &'static [(u32, &'static [u32])]);
+
+/// Tasks, what each instance costs, and states, of which the first is the initial one.
+#[rattlefmt::skip]
+static STATES: [(Texts, &[u32], &[Line]); 5] = [
+    (LAMP, &[1, 1], &[
+        (&[0], false, &[(0, &[0, 1]), (1, &[2])]),
+        (&[], false, &[(0, &[1])]),
+        (&[2], false, &[(0, &[1, 2])]),
+        (&[0, 1], false, &[(0, &[0, 1]), (1, &[1, 2, 3])]),
+        (&[0, 2, 3], true, &[(0, &[0, 1, 2, 3]), (1, &[2, 3])]),
+        (&[1, 2, 3], true, &[(0, &[1, 2, 3])]),
+    ]),
+    (JOINS, &[1, 1, 1, 1, 1], &[
+        (&[], false, &[(0, &[0]), (1, &[0]), (2, &[0]), (3, &[0]), (4, &[0])]),
+        (&[0], true, &[(0, &[0]), (1, &[0]), (2, &[0]), (3, &[0]), (4, &[0])]),
+    ]),
+    // an add wins over a delete
+    (GO, &[1], &[(&[0], false, &[(0, &[0, 1])]), (&[], false, &[(0, &[0, 1])]), (&[0, 1], true, &[(0, &[0, 1])])]),
+    (HOP, &[3, 3, 10], &[
+        (&[0], false, &[(0, &[1]), (2, &[2])]),
+        (&[1], false, &[(1, &[2])]),
+        (&[2], true, &[]),
+    ]),
+    (PAIRS, &[1, 1, 1, 1, 1, 1], &[
+        (&[], false, &[(0, &[0, 1]), (1, &[0, 2]), (2, &[0, 1]), (3, &[1, 2]), (4, &[0, 2]), (5, &[1, 2])]),
+        (&[0, 1], false, &[(0, &[]), (1, &[1, 2]), (2, &[]), (3, &[0, 2]), (4, &[1, 2]), (5, &[0, 2])]),
+        (&[2], true, &[(0, &[0, 1, 2]), (1, &[0]), (2, &[0, 1, 2]), (3, &[1]), (4, &[0]), (5, &[1])]),
+    ]),
+];
+
+/// The state of the atoms of these numbers.
+fn state(alloc: Global, ground: &Ground<'_>, numbers: &[u32]) -> Result<Packed, NoMemory>
+    ensures { IfOk result (λ set. length (bits_of set) ≡ length (atoms_in ground.now)) }
+{
+    let mut state = Packed::empty(alloc, ground.width())?;
+    for &number in numbers {
+        if number < state.width() {
+            state.insert(number);
+        }
+    }
+    Ok(state)
+}
+
+/// The numbers of the instances that are applicable in the state of these atoms.
+fn applicable(alloc: Global, ground: &Ground<'_>, numbers: &[u32]) -> Result<Vec<u32>, NoMemory> {
+    let state = state(alloc, ground, numbers)?;
+    let mut found = vec![in alloc; 7]?;
+    ground.applicable(&state, &mut found)?;
+    Ok(found)
+}
+
+/// The numbers of the atoms that are true where the instance of this number was applied, if it is applicable.
+fn next(
+    alloc: Global,
+    ground: &Ground<'_>,
+    numbers: &[u32],
+    instance: u32,
+) -> Result<Option<Vec<u32>>, NoMemory> {
+    let state = state(alloc, ground, numbers)?;
+    let mut next = Packed::empty(alloc, ground.width())?;
+    let mut found = Vec::new(alloc);
+    ground.applicable(&state, &mut found)?;
+    if !found.contains(&instance) {
+        return Ok(None);
+    }
+    ground.successor(instance, &state, &mut next);
+    Ok(Some(next.numbers(alloc)?))
+}
+
+/// Whether the instances that are applicable are these, and lead to these states.
+fn leads(alloc: Global, ground: &Ground<'_>, line: &Line) -> Result<bool, NoMemory> {
+    let found = applicable(alloc, ground, line.0)?;
+    for ((instance, after), number) in line.2.iter().zip(&found) {
+        let next = next(alloc, ground, line.0, *number)?;
+        if instance != number || next.as_deref() != Some(*after) {
+            return Ok(false);
+        }
+    }
+    Ok(found.len() == line.2.len())
+}
+
+/// Whether the goal holds in the state exactly where the line says so.
+fn is_goal_told(alloc: Global, ground: &Ground<'_>, line: &Line) -> Result<bool, NoMemory> {
+    let state = state(alloc, ground, line.0)?;
+    Ok(ground.meets_goal(&state) == line.1)
+}
+
+/// Whether the instances cost this, by their numbers, and others nothing.
+fn are_costs(ground: &Ground<'_>, costs: &[u32]) -> bool {
+    for (cost, number) in costs.iter().zip(0..u32::MAX) {
+        if ground.cost(number) != *cost {
+            return false;
+        }
+    }
+    ground.cost(costs.len() as u32) == 0 && ground.cost(u32::MAX) == 0
+}
+
+/// Whether the atoms that are true at the start are those of the first line.
+fn starts(alloc: Global, ground: &Ground<'_>, lines: &[Line]) -> Result<bool, NoMemory> {
+    let start = ground.initial(alloc)?.numbers(alloc)?;
+    Ok(lines.first().is_some_and(|line| line.0 == start.as_slice()))
+}
+
+fn are_states(
+    rt: &impl Abort,
+    alloc: Global,
+    ground: &Ground<'_>,
+    lines: &[Line],
+) -> Result<(), Fail> {
+    for (number, line) in lines.iter().enumerate() {
+        assert!(rt; leads(alloc, ground, line)?, "line {number}");
+        assert!(rt; is_goal_told(alloc, ground, line)?, "line {number}");
+    }
+    Ok(())
+}
+
+#[test]
+fn numbers_lead_from_state_to_state(rt: HostRuntime) -> Result<(), Fail> {
+    for (texts, costs, lines) in &STATES {
+        on_task(&rt, rt.alloc(), texts, |rt, alloc, task| {
+            let ground = Ground::new(alloc, task, &[], 10)?;
+            assert!(rt; are_costs(&ground, *costs) && starts(alloc, &ground, *lines)?);
+            are_states(rt, alloc, &ground, *lines)
+        })?;
+    }
+    Ok(())
+}
