@@ -34,11 +34,11 @@ const PIECE: usize = 65_536;
 /// error, and the status that it ends with.
 ///
 /// `solve DOMAIN PROBLEM [--plan FILE] [--states N] [--instances N]` tells a cheapest plan, or that there is none. At most
-/// so many states are listed, and so many instances may the task have; each N is 1,000,000 where it is not given. The
-/// options stand in any order. A plan's text is also written to the file of `--plan`, before the standard output; where
-/// there is no plan that file is not touched. `validate DOMAIN PROBLEM PLAN` says whether the plan solves the task. Of a
-/// file at most 16,777,217 bytes are read and taken for its whole text, and all files are read before any fault of their
-/// texts is told.
+/// so many states are listed, and so many instances kept, those that the start does not close off; each N is 1,000,000
+/// where it is not given. The options stand in any order. A plan's text is also written to the file of `--plan`, before the
+/// standard output; where there is no plan that file is not touched. `validate DOMAIN PROBLEM PLAN` says whether the plan
+/// solves the task. Of a file at most 16,777,217 bytes are read and taken for its whole text, and all files are read before
+/// any fault of their texts is told.
 ///
 /// | What comes | Standard output | Standard error | Status |
 /// |---|---|---|---|
