@@ -152,10 +152,10 @@ fn the_limit_is_told_exactly(rt: HostRuntime) -> Result<(), Fail> {
 /// the state that it leads to.
 type Line = (&'static [u32], bool, &'static [(u32, &'static [u32])]);
 
-/// Tasks, what each instance costs, and states, of which the first is the initial one.
+/// Tasks, what each instance costs, and the first number that is none's, and states, of which the first is the initial one.
 #[rattlefmt::skip]
 static STATES: [(Texts, &[u32], &[Line]); 5] = [
-    (LAMP, &[1, 1], &[
+    (LAMP, &[1, 1, 0], &[
         (&[0], false, &[(0, &[0, 1]), (1, &[2])]),
         (&[], false, &[(0, &[1])]),
         (&[2], false, &[(0, &[1, 2])]),
@@ -163,18 +163,18 @@ static STATES: [(Texts, &[u32], &[Line]); 5] = [
         (&[0, 2, 3], true, &[(0, &[0, 1, 2, 3]), (1, &[2, 3])]),
         (&[1, 2, 3], true, &[(0, &[1, 2, 3])]),
     ]),
-    (JOINS, &[1, 1, 1, 1, 1], &[
+    (JOINS, &[1, 1, 1, 1, 1, 0], &[
         (&[], false, &[(0, &[0]), (1, &[0]), (2, &[0]), (3, &[0]), (4, &[0])]),
         (&[0], true, &[(0, &[0]), (1, &[0]), (2, &[0]), (3, &[0]), (4, &[0])]),
     ]),
     // an add wins over a delete
-    (GO, &[1], &[(&[0], false, &[(0, &[0, 1])]), (&[], false, &[(0, &[0, 1])]), (&[0, 1], true, &[(0, &[0, 1])])]),
-    (HOP, &[3, 3, 10], &[
+    (GO, &[1, 0], &[(&[0], false, &[(0, &[0, 1])]), (&[], false, &[(0, &[0, 1])]), (&[0, 1], true, &[(0, &[0, 1])])]),
+    (HOP, &[3, 3, 10, 0], &[
         (&[0], false, &[(0, &[1]), (2, &[2])]),
         (&[1], false, &[(1, &[2])]),
         (&[2], true, &[]),
     ]),
-    (PAIRS, &[1, 1, 1, 1, 1, 1], &[
+    (PAIRS, &[1, 1, 1, 1, 1, 1, 0], &[
         (&[], false, &[(0, &[0, 1]), (1, &[0, 2]), (2, &[0, 1]), (3, &[1, 2]), (4, &[0, 2]), (5, &[1, 2])]),
         (&[0, 1], false, &[(0, &[]), (1, &[1, 2]), (2, &[]), (3, &[0, 2]), (4, &[1, 2]), (5, &[0, 2])]),
         (&[2], true, &[(0, &[0, 1, 2]), (1, &[0]), (2, &[0, 1, 2]), (3, &[1]), (4, &[0]), (5, &[1])]),
@@ -238,14 +238,14 @@ fn is_goal_told(alloc: Global, ground: &Ground<'_>, line: &Line) -> Result<bool,
     Ok(ground.meets_goal(&state) == line.1)
 }
 
-/// Whether the instances cost this, by their numbers, and others nothing.
+/// Whether this is what numbers cost, from 0 on, and the largest one nothing.
 fn are_costs(ground: &Ground<'_>, costs: &[u32]) -> bool {
     for (cost, number) in costs.iter().zip(0..u32::MAX) {
         if ground.cost(number) != *cost {
             return false;
         }
     }
-    ground.cost(costs.len() as u32) == 0 && ground.cost(u32::MAX) == 0
+    ground.cost(u32::MAX) == 0
 }
 
 /// Whether the atoms that are true at the start are those of the first line.
@@ -267,13 +267,23 @@ fn are_states(
     Ok(())
 }
 
+fn tells(
+    rt: &impl Abort,
+    alloc: Global,
+    task: &Task,
+    costs: &[u32],
+    lines: &[Line],
+) -> Result<(), Fail> {
+    let ground = Ground::new(alloc, task, &[], 10)?;
+    assert!(rt; are_costs(&ground, costs) && starts(alloc, &ground, lines)?);
+    are_states(rt, alloc, &ground, lines)
+}
+
 #[test]
 fn numbers_lead_from_state_to_state(rt: HostRuntime) -> Result<(), Fail> {
     for (texts, costs, lines) in &STATES {
         on_task(&rt, rt.alloc(), texts, |rt, alloc, task| {
-            let ground = Ground::new(alloc, task, &[], 10)?;
-            assert!(rt; are_costs(&ground, *costs) && starts(alloc, &ground, *lines)?);
-            are_states(rt, alloc, &ground, *lines)
+            tells(rt, alloc, task, *costs, *lines)
         })?;
     }
     Ok(())
