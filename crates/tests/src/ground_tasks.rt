@@ -152,33 +152,40 @@ fn the_limit_is_told_exactly(rt: HostRuntime) -> Result<(), Fail> {
 /// the state that it leads to.
 type Line = (&'static [u32], bool, &'static [(u32, &'static [u32])]);
 
-/// Tasks, what each instance costs, and the first number that is none's, and states, of which the first is the initial one.
+/// A task, what each instance costs, with 0 for the first number that is none's, and states, of which the first is the
+/// initial one.
+struct Row {
+    texts: Texts,
+    costs: &'static [u32],
+    lines: &'static [Line],
+}
+
 #[rattlefmt::skip]
-static STATES: [(Texts, &[u32], &[Line]); 5] = [
-    (LAMP, &[1, 1, 0], &[
+static STATES: [Row; 5] = [
+    Row { texts: LAMP, costs: &[1, 1, 0], lines: &[
         (&[0], false, &[(0, &[0, 1]), (1, &[2])]),
         (&[], false, &[(0, &[1])]),
         (&[2], false, &[(0, &[1, 2])]),
         (&[0, 1], false, &[(0, &[0, 1]), (1, &[1, 2, 3])]),
         (&[0, 2, 3], true, &[(0, &[0, 1, 2, 3]), (1, &[2, 3])]),
         (&[1, 2, 3], true, &[(0, &[1, 2, 3])]),
-    ]),
-    (JOINS, &[1, 1, 1, 1, 1, 0], &[
+    ] },
+    Row { texts: JOINS, costs: &[1, 1, 1, 1, 1, 0], lines: &[
         (&[], false, &[(0, &[0]), (1, &[0]), (2, &[0]), (3, &[0]), (4, &[0])]),
         (&[0], true, &[(0, &[0]), (1, &[0]), (2, &[0]), (3, &[0]), (4, &[0])]),
-    ]),
+    ] },
     // an add wins over a delete
-    (GO, &[1, 0], &[(&[0], false, &[(0, &[0, 1])]), (&[], false, &[(0, &[0, 1])]), (&[0, 1], true, &[(0, &[0, 1])])]),
-    (HOP, &[3, 3, 10, 0], &[
+    Row { texts: GO, costs: &[1, 0], lines: &[(&[0], false, &[(0, &[0, 1])]), (&[], false, &[(0, &[0, 1])]), (&[0, 1], true, &[(0, &[0, 1])])] },
+    Row { texts: HOP, costs: &[3, 3, 10, 0], lines: &[
         (&[0], false, &[(0, &[1]), (2, &[2])]),
         (&[1], false, &[(1, &[2])]),
         (&[2], true, &[]),
-    ]),
-    (PAIRS, &[1, 1, 1, 1, 1, 1, 0], &[
+    ] },
+    Row { texts: PAIRS, costs: &[1, 1, 1, 1, 1, 1, 0], lines: &[
         (&[], false, &[(0, &[0, 1]), (1, &[0, 2]), (2, &[0, 1]), (3, &[1, 2]), (4, &[0, 2]), (5, &[1, 2])]),
         (&[0, 1], false, &[(0, &[]), (1, &[1, 2]), (2, &[]), (3, &[0, 2]), (4, &[1, 2]), (5, &[0, 2])]),
         (&[2], true, &[(0, &[0, 1, 2]), (1, &[0]), (2, &[0, 1, 2]), (3, &[1]), (4, &[0]), (5, &[1])]),
-    ]),
+    ] },
 ];
 
 /// The state of the atoms of these numbers.
@@ -267,23 +274,17 @@ fn are_states(
     Ok(())
 }
 
-fn tells(
-    rt: &impl Abort,
-    alloc: Global,
-    task: &Task,
-    costs: &[u32],
-    lines: &[Line],
-) -> Result<(), Fail> {
+fn tells(rt: &impl Abort, alloc: Global, task: &Task, row: &Row) -> Result<(), Fail> {
     let ground = Ground::new(alloc, task, &[], 10)?;
-    assert!(rt; are_costs(&ground, costs) && starts(alloc, &ground, lines)?);
-    are_states(rt, alloc, &ground, lines)
+    assert!(rt; are_costs(&ground, row.costs) && starts(alloc, &ground, row.lines)?);
+    are_states(rt, alloc, &ground, row.lines)
 }
 
 #[test]
 fn numbers_lead_from_state_to_state(rt: HostRuntime) -> Result<(), Fail> {
-    for (texts, costs, lines) in &STATES {
-        on_task(&rt, rt.alloc(), texts, |rt, alloc, task| {
-            tells(rt, alloc, task, *costs, *lines)
+    for row in &STATES {
+        on_task(&rt, rt.alloc(), &row.texts, |rt, alloc, task| {
+            tells(rt, alloc, task, row)
         })?;
     }
     Ok(())
