@@ -1,4 +1,4 @@
-use Rattle.std.proofs.Common.{◌≡◌, ◌∙◌, ap, subst, ℕ, List, Bool, [], length, get_or, nat_eq, is_some}
+use Rattle.std.proofs.Common.{◌∙◌, ap, subst, ℕ, List, [], length, get_or, nat_eq, is_some}
 use Rattle.std.proofs.lemmas.Bool.{eqb-true}
 use Rattle.std.specs.Prelude.{Contains}
 use Rattle.std.specs.List.{list_any, range_with_len}
