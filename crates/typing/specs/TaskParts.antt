@@ -4,6 +4,7 @@ use Rattle.std.specs.Global.{Vec}
 use Rattle.std.specs.List.Sorted.{IsStrictlySortedBy}
 use Rattle.typing.specs.declared.atoms.TypeId.{TypeId}
 use Rattle.typing.specs.declared.atoms.ObjectId.{ObjectId}
+use Rattle.typing.specs.declared.atoms.PredicateId.{PredicateId}
 use Rattle.typing.specs.declared.atoms.SchemaId.{SchemaId}
 use Rattle.typing.specs.declared.atoms.Atom.{Atom}
 use Rattle.typing.specs.declared.atoms.Term.{Term}
@@ -23,6 +24,9 @@ use Rattle.model.specs.Meaning.{atom_cmp}
 
 abbrev pub object_of : ObjectId → ℕ
 object_of o = o.0
+
+abbrev pub predicate_id_of : PredicateId → ℕ
+predicate_id_of p = p.0
 
 abbrev pub schema_id_of : SchemaId → ℕ
 schema_id_of s = s.0

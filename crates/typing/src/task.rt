@@ -34,7 +34,7 @@ impl Task {
     ghost use Rattle.typing.specs.Task.{task_of, TellsFault, TellsLeastFault};
     ghost use Rattle.model.specs.TypingFaults as typing_faults;
     ghost use Rattle.syntax_tree.specs.Tree.{domain_of, problem_of};
-    ghost use Rattle.typing.specs.TaskParts.{atom_of, formula_of, object_of, schema_id_of, shape_of, shape_of_schema, type_of, union_of};
+    ghost use Rattle.typing.specs.TaskParts.{atom_of, formula_of, object_of, predicate_id_of, schema_id_of, shape_of, shape_of_schema, type_of, union_of};
     ghost use Rattle.model.specs.Meaning.{supertypes_of, is_of, is_below, objects_of};
     ghost use Rattle.model.specs.Typing.{is_same, task_of_trees, IsWellTyped};
 
@@ -205,11 +205,27 @@ impl Task {
         Some(SchemaId(number))
     }
 
+    /// The predicate of this name, which is given in lower case.
+    pub fn predicate_named(&self, folded: &[u8]) -> Option<PredicateId>
+        ensures { option_map predicate_id_of result ≡ position (is_same folded.now) (map (λ p. p.name) (task_of self.now).predicates) }
+    {
+        let number = self.predicates.get_index_of(folded)?;
+        Some(PredicateId(number))
+    }
+
     /// The object's name, in lower case, and `None` where the number is beyond the last.
     pub fn object_name(&self, id: ObjectId) -> Option<&[u8]>
         ensures { option_copied result ≡ option_map (λ o. o.name) (slice_get (task_of self.now).objects id.0) }
     {
         let (name, _) = self.objects.get_index(id.0 as usize)?;
+        Some(name.as_slice())
+    }
+
+    /// The predicate's name, in lower case, and `None` where the number is beyond the last.
+    pub fn predicate_name(&self, id: PredicateId) -> Option<&[u8]>
+        ensures { option_copied result ≡ option_map (λ p. p.name) (slice_get (task_of self.now).predicates id.0) }
+    {
+        let (name, _) = self.predicates.get_index(id.0)?;
         Some(name.as_slice())
     }
 
