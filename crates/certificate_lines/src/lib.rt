@@ -2,7 +2,9 @@
 #![tactic(auto)]
 
 mod line;
+mod reading;
 
 pub use line::{
     CertLine, Claim, LONGEST_LINE, MAX_ATOMS, MAX_STATE_LINES, NUMBER_LIMIT, NamedAtom, StateLine,
 };
+pub use reading::{LineFault, parse};
