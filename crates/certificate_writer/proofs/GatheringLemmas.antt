@@ -17,32 +17,41 @@ module _ (before : Option (List ℕ)) where
   module _ (now : Option (List ℕ)) (held held_now text : List ℕ) (passed : IsPassedOn before now held held_now text) where
     -- more is held
     pub passed_held : (held_after more : List ℕ) → held_after ≡ held_now ++ more → IsPassedOn before now held held_after (text ++ more)
-    passed_held held_after more is =
-        (passed.0, passed.1,
-        sym (append_assoc held text more) ∙ ap (λ xs. xs ++ more) passed.2 ∙ append_assoc passed.0 held_now more ∙ ap (λ xs. passed.0 ++ xs) (sym is))
+    passed_held held_after more is = (
+      passed.0,
+      passed.1,
+      sym (append_assoc held text more) ∙ ap (λ xs. xs ++ more) passed.2 ∙ append_assoc passed.0 held_now more ∙ ap (λ xs. passed.0 ++ xs) (sym is),
+    )
 
     -- more is passed on
     pub passed_then : (after : Option (List ℕ)) (held_after more : List ℕ) → IsPassedOn now after held_now held_after more → IsPassedOn before after held held_after (text ++ more)
-    passed_then after held_after more (written, taken, is) =
-        (passed.0 ++ written, Appends-trans before now after passed.0 written passed.1 taken,
-        sym (append_assoc held text more) ∙ ap (λ xs. xs ++ more) passed.2 ∙ append_assoc passed.0 held_now more
-        ∙ ap (λ xs. passed.0 ++ xs) is ∙ sym (append_assoc passed.0 written held_after))
+    passed_then after held_after more (written, taken, is) = (
+      passed.0 ++ written,
+      Appends-trans before now after passed.0 written passed.1 taken,
+      sym (append_assoc held text more) ∙ ap (λ xs. xs ++ more) passed.2 ∙ append_assoc passed.0 held_now more
+          ∙ ap (λ xs. passed.0 ++ xs) is ∙ sym (append_assoc passed.0 written held_after),
+    )
 
     -- what is written is a beginning, with whatever comes later
     pub passed_partly : (later : List ℕ) → AppendsBeginning before now (held ++ (text ++ later))
-    passed_partly later =
-        (passed.0, held_now ++ later,
-        sym (append_assoc held text later) ∙ ap (λ xs. xs ++ later) passed.2 ∙ append_assoc passed.0 held_now later, passed.1)
+    passed_partly later = (
+      passed.0,
+      held_now ++ later,
+      sym (append_assoc held text later) ∙ ap (λ xs. xs ++ later) passed.2 ∙ append_assoc passed.0 held_now later,
+      passed.1,
+    )
 
     -- a beginning of what comes next is written
     pub passed_beginning : (after : Option (List ℕ)) (next later : List ℕ) → AppendsBeginning now after (held_now ++ next)
         → AppendsBeginning before after (held ++ (text ++ (next ++ later)))
-    passed_beginning after next later (front, rest, is, taken) =
-        (passed.0 ++ front, rest ++ later,
-        sym (append_assoc held text (next ++ later)) ∙ ap (λ xs. xs ++ (next ++ later)) passed.2 ∙ append_assoc passed.0 held_now (next ++ later)
-        ∙ ap (λ xs. passed.0 ++ xs) (sym (append_assoc held_now next later) ∙ ap (λ xs. xs ++ later) is ∙ append_assoc front rest later)
-        ∙ sym (append_assoc passed.0 front (rest ++ later)),
-        Appends-trans before now after passed.0 front passed.1 taken)
+    passed_beginning after next later (front, rest, is, taken) = (
+      passed.0 ++ front,
+      rest ++ later,
+      sym (append_assoc held text (next ++ later)) ∙ ap (λ xs. xs ++ (next ++ later)) passed.2 ∙ append_assoc passed.0 held_now (next ++ later)
+          ∙ ap (λ xs. passed.0 ++ xs) (sym (append_assoc held_now next later) ∙ ap (λ xs. xs ++ later) is ∙ append_assoc front rest later)
+          ∙ sym (append_assoc passed.0 front (rest ++ later)),
+      Appends-trans before now after passed.0 front passed.1 taken,
+    )
 
     -- all that is held is written
     pub passed_all : (after : Option (List ℕ)) → Appends now after held_now → Appends before after (held ++ text)
