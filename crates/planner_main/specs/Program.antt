@@ -1,5 +1,5 @@
 -- What the program does: what its words ask for, which texts its files have, and what it tells of them with which status.
-use Rattle.std.specs.Prelude.{◌≡◌, ℕ, ◌⊎◌, Bool, List, [], ◌∷◌, codes, map, take, Option, None, Some, IfSome, IsTrue, Result, Ok, Err}
+use Rattle.std.specs.Prelude.{◌≡◌, ℕ, ◌⊎◌, Bool, List, [], ◌∷◌, ◌++◌, codes, map, take, Option, None, Some, IfSome, IsTrue, Result, Ok, Err}
 use Rattle.std.specs.Option.{option_map}
 use Rattle.std.specs.Borrow.{Bor}
 use Rattle.std.specs.Io.KnownBytes.{Appends}
@@ -21,8 +21,7 @@ use Rattle.planner_main.specs.Options.{Asked, NamedValue, value_of, IsOneOf, Are
 use Rattle.planner_main.specs.Report.{line_of}
 use Rattle.planner_main.specs.Report as verdict
 use Rattle.planner_main.specs.Written.{NamedText, AreWritten, AreWrittenPartly}
-use Rattle.planner_main.specs.Solution.{text_of, files_of}
-use Rattle.planner_main.specs.Solution as answer
+use Rattle.planner_main.specs.Solution.{TellsAnswer}
 use Rattle.model.specs.Runs.{Verdict}
 use Rattle.model.specs.Task.{Task}
 use Rattle.model.specs.Files.{FileFault, IsTaskOf, IsTaskFault, IsVerdictOf, IsFileFault}
@@ -81,7 +80,7 @@ IsVerdictLine domain problem plan text status =
 abbrev pub IsSolutionText : (domain problem : List ℕ) → Asked → (text : List ℕ) → (status : ℕ) → List NamedText → Type 0
 IsSolutionText domain problem asked text status files =
     (task : Task) × (a : Answer) × IsTaskOf domain problem task × IsTrueAnswer task asked.states asked.instances a
-    × (text ≡ text_of task a) × (status ≡ answer.status_of a) × (files ≡ files_of task a asked)
+    × TellsAnswer task a asked.cert asked.plan text status files
 
 -- This text, with this status and the files that are written before it, is an answer that is true of the texts of these files:
 -- a verdict, beside which none is written, or what was found out of a task.

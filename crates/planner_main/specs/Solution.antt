@@ -1,12 +1,11 @@
 -- What stands on the standard output once a task was solved, and the status beside it.
-use Rattle.std.specs.Prelude.{ℕ, List, [], ◌∷◌, ◌++◌, codes, Option, None, Some}
+use Rattle.std.specs.Prelude.{◌≡◌, ℕ, List, [], ◌∷◌, ◌++◌, codes, Option, None, Some}
 use Rattle.formulas.specs.State.{plan_of}
 use Rattle.solver.specs.declared.answer.Answer.{Answer}
 use Rattle.solver.specs.declared.answer.Answer.TheVariants.{Plan, Unsolvable, Unknown}
 use Rattle.solver.specs.declared.answer.Limit.TheVariants.{Instances, Atoms, States}
 use Rattle.certificate.specs.Certificate.{certificate_of}
 use Rattle.certificate_text.specs.CertificateNames.{certificate_text}
-use Rattle.planner_main.specs.Options.{Asked}
 use Rattle.planner_main.specs.Written.{NamedText}
 use Rattle.model.specs.Task.{Task}
 use Rattle.model.specs.PlanWriting.{plan_text}
@@ -42,6 +41,10 @@ plan_file task (Plan steps cost cert) name = in_file name (plan_text task (plan_
 plan_file task (Unsolvable cert) name = []
 plan_file task (Unknown limit) name = []
 
--- the files that are asked for, in the order in which they are written
-abbrev pub files_of : Task → Answer → Asked → List NamedText
-files_of task a asked = cert_file task a asked.cert ++ plan_file task a asked.plan
+-- the files that are written, in this order, where these are asked for
+abbrev pub files_of : Task → Answer → (cert plan : Option (List ℕ)) → List NamedText
+files_of task a cert plan = cert_file task a cert ++ plan_file task a plan
+
+-- This text, with this status and these files, tells the answer where these files are asked for.
+abbrev pub TellsAnswer : Task → Answer → (cert plan : Option (List ℕ)) → (text : List ℕ) → (status : ℕ) → List NamedText → Type 0
+TellsAnswer task a cert plan text status files = (text ≡ text_of task a) × (status ≡ status_of a) × (files ≡ files_of task a cert plan)

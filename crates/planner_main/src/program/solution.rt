@@ -2,12 +2,12 @@
 ghost use Rattle.std.specs.Prelude.{◌≡◌, ◌≢◌, ℕ, Err, IfErr, IfOk, IfSome, IsErr, IsTrue, List, [], ◌∷◌, ◌++◌, OnOk, Some};
 ghost use Rattle.planner_main.specs.Options.{IsOneOf};
 ghost use Rattle.planner_main.specs.Program.{AreKept, CountsEither, CountsFailure, HasNotFailed, IsAnswerText, IsTold, IsToldPartly, IsUnread, OnTwo, asked_of, device_failure, fault_in, of_device, text_in};
-ghost use Rattle.planner_main.specs.Solution.{cert_file, files_of, plan_file, status_of, text_of};
+ghost use Rattle.planner_main.specs.Solution.{TellsAnswer, cert_file, plan_file, text_of};
 ghost use Rattle.planner_main.specs.Written.{AreWritten, AreWrittenPartly, HoldsBeginning, NamedText};
 ghost use Rattle.devices.specs.Devices.{AppendsBeginning, CountsDevice};
 ghost use Rattle.typing.specs.Task.{task_of};
 ghost use Rattle.certificate.specs.Certificate.{certificate_of};
-ghost use Rattle.certificate_text.specs.CertificateNames.{are_atoms_of, certificate_text};
+ghost use Rattle.certificate_text.specs.CertificateNames.{certificate_text};
 ghost use Rattle.solver.specs.Solver.{IsTrueAnswer};
 ghost use Rattle.model.specs.Files.{IsTaskFault, IsTaskOf};
 
@@ -87,12 +87,9 @@ fn tell_answer<F: Files, O: Sink>(
     files: &mut F,
     out: &mut O,
 ) -> Result<u8, WriteFault>
-    requires { (states instances : ℕ) × IsTrueAnswer (task_of solved.now.task) states instances solved.now.answer }
-    ensures told { IfOk result (IsTold (λ text status written. (text ≡ text_of (task_of solved.now.task) solved.now.answer) × (status ≡ status_of solved.now.answer)
-        × (written ≡ cert_file (task_of solved.now.task) solved.now.answer (text_in wanted.entry.cert) ++ plan_file (task_of solved.now.task) solved.now.answer (text_in wanted.entry.plan)))
+    ensures told { IfOk result (IsTold (TellsAnswer (task_of solved.now.task) solved.now.answer (text_in wanted.entry.cert) (text_in wanted.entry.plan))
         F.is_known (F.contents files.old) (F.contents files.new) (O.taken out.old) (O.taken out.new)) }
-    ensures partly { IfErr result (λ _. IsToldPartly (λ text status written. (text ≡ text_of (task_of solved.now.task) solved.now.answer) × (status ≡ status_of solved.now.answer)
-        × (written ≡ cert_file (task_of solved.now.task) solved.now.answer (text_in wanted.entry.cert) ++ plan_file (task_of solved.now.task) solved.now.answer (text_in wanted.entry.plan)))
+    ensures partly { IfErr result (λ _. IsToldPartly (TellsAnswer (task_of solved.now.task) solved.now.answer (text_in wanted.entry.cert) (text_in wanted.entry.plan))
         F.is_known (F.contents files.old) (F.contents files.new) (O.taken out.old) (O.taken out.new)) }
     ensures unfailed { IfOk result (λ _. HasNotFailed (F.failures files.old) (F.failures files.new) (O.failures out.old) (O.failures out.new)) }
     ensures failures { IfErr result (λ fault. CountsEither (F.failures files.old) (F.failures files.new) (O.failures out.old) (O.failures out.new) (of_device fault)) }
@@ -111,7 +108,6 @@ fn save_cert<F: Files>(
     name: Option<&str>,
     files: &mut F,
 ) -> Result<(), WriteFault>
-    requires { (states instances : ℕ) × IsTrueAnswer (task_of solved.now.task) states instances solved.now.answer }
     ensures written { OnOk result (IsTrue F.is_known
         → AreWritten (F.contents files.old) (F.contents files.new) (cert_file (task_of solved.now.task) solved.now.answer (text_in name.entry))) }
     ensures partly { IsErr result → (next : NamedText) × (cert_file (task_of solved.now.task) solved.now.answer (text_in name.entry) ≡ next ∷ [])
@@ -155,7 +151,6 @@ fn write_cert_file<F: Files>(
     name: &str,
     files: &mut F,
 ) -> Result<(), WriteFault>
-    requires { IsTrue (are_atoms_of (task_of task.now) (certificate_of cert.now)) }
     ensures held { IsTrue F.is_known → OnOk result (F.contents files.new name.now ≡ Some (certificate_text (task_of task.now) (certificate_of cert.now))) }
     ensures partly { IsTrue F.is_known → HoldsBeginning (F.contents files.old name.now) (F.contents files.new name.now) (certificate_text (task_of task.now) (certificate_of cert.now)) }
     ensures kept { IsTrue F.is_known → (other : List ℕ) → other ≢ name.now → F.contents files.new other ≡ F.contents files.old other }

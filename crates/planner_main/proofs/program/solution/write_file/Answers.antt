@@ -2,7 +2,7 @@ use Rattle.std.proofs.Common.{◌≡◌, ◌∙◌, subst}
 use Rattle.std.specs.Prelude.{IfSome}
 use Rattle.planner_main.specs.Written.{HoldsBeginning}
 use Rattle.planner_main.proofs.PlanFiles.{written_partly, whole_if_written, others_kept}
-use Rattle.planner_main.proofs.program.write_file.Goals as goal
+use Rattle.planner_main.proofs.program.solution.write_file.Goals as goal
 
 -- what the file of this name holds is said of the file that is closed
 pub returns-in_err-close-clause-partly : goal.returns-in_err-close-clause-partly

@@ -1,9 +1,9 @@
 use Rattle.std.proofs.Common.{ℕ, refl, ◌∙◌}
 use Rattle.std.specs.Global.{Vec}
 use Rattle.std.proofs.lemmas.Result.{err_from_is_err_and}
-use Rattle.planner_main.specs.declared.program.Pair.{Pair}
+use Rattle.planner_main.specs.declared.program.inputs.Pair.{Pair}
 use Rattle.planner_main.proofs.ProgramWords.{text_kept, refused_on_three, device_counted}
-use Rattle.planner_main.proofs.program.answer_validate.Goals as goal
+use Rattle.planner_main.proofs.program.verdict.verdict_line.Goals as goal
 
 pub returns-in_err-task-clause-refused : goal.returns-in_err-task-clause-refused
 returns-in_err-task-clause-refused g c =

@@ -1,5 +1,5 @@
 use Rattle.std.proofs.Common.{sym, arith}
-use Rattle.planner_main.proofs.program.read_some.Goals as goal
+use Rattle.planner_main.proofs.program.inputs.read_some.Goals as goal
 
 pub returns-clause-ok : goal.returns-clause-ok
 returns-clause-ok g c =

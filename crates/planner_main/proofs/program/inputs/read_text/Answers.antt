@@ -1,7 +1,7 @@
 use Rattle.std.proofs.Common.{◌∙◌, take, sym, subst, arith, length, ◌≤◌, length-take}
 use Rattle.std.specs.Io.KnownBytes.{Consumes}
 use Rattle.std.proofs.KnownBytes.{Consumes-trans}
-use Rattle.planner_main.proofs.program.read_text.Goals as goal
+use Rattle.planner_main.proofs.program.inputs.read_text.Goals as goal
 
 pub reads-preserved : goal.reads-preserved
 reads-preserved g c =

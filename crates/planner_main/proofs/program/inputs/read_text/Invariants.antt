@@ -1,7 +1,7 @@
 -- What is in the text was read, and no call has failed.
 use Rattle.std.proofs.Common.{◌≡◌, ◌≤◌, ◌-◌, vec_len}
 use Rattle.std.specs.Io.KnownBytes.{Consumes}
-use Rattle.planner_main.proofs.program.read_text.Given as goal
+use Rattle.planner_main.proofs.program.inputs.read_text.Given as goal
 
 abbrev pub invariant-reads : goal.invariant-reads
 invariant-reads g l =
