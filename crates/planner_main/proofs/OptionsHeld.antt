@@ -3,6 +3,8 @@ use Rattle.std.proofs.Common.{◌≡◌, ◌≢◌, ℕ, ◌<◌, ◌≤◌, Lis
 use Rattle.std.proofs.lemmas.List.{length-map}
 use Rattle.std.specs.Prelude.{Option, None, Some, IsTrue, IfNone, is_some}
 use Rattle.std.specs.Borrow.{Bor}
+use Rattle.std.specs.Str.{bytes_eq}
+use Rattle.std.proofs.lemmas.Slice.Eq.{bytes_eq-Decides}
 use Rattle.planner_main.specs.declared.program.command.Command.{Command}
 use Rattle.planner_main.specs.declared.program.command.Options.{Options}
 use Rattle.planner_main.specs.Options.{Asked, NamedValue, named, words_of, value_of, AreDistinct, AreOptions, IsLimit}
@@ -18,11 +20,14 @@ given_before : (held : Option (Bor (List ℕ))) (is_new : Bool) → is_some held
 given_before None is_new tested old = absurd (cc (tested, old))
 given_before (Some word) is_new tested old = (word.now, refl)
 
+names_differ : (name other : List ℕ) → bytes_eq name other ≡ false → name ≢ other
+names_differ name other unlike = λ is. absurd (cc (sym unlike ∙ (bytes_eq-Decides name other).1 is))
+
 -- The value of another option stays.
-other_kept : (own value other : List ℕ) (options : List NamedValue) (before after : Option (Bor (List ℕ))) → own ≢ other → after ≡ before
+other_kept : (own value other : List ℕ) (options : List NamedValue) (before after : Option (Bor (List ℕ))) → bytes_eq own other ≡ false → after ≡ before
     → text_in before ≡ value_of other options → text_in after ≡ value_of other (options ++ named own value ∷ [])
 other_kept own value other options before after differs same held =
-    ap text_in same ∙ held ∙ sym (value_before own value other options differs)
+    ap text_in same ∙ held ∙ sym (value_before own value other options (names_differ own other differs))
 
 module _ (before after : Options) (value : List ℕ) (options : List NamedValue) (holds : Holds before options) where
   holds_plan : text_in before.plan ≡ None → text_in after.plan ≡ Some value → after.cert ≡ before.cert → after.states ≡ before.states → after.instances ≡ before.instances
@@ -32,9 +37,9 @@ module _ (before after : Options) (value : List ℕ) (options : List NamedValue)
       record {
         distinct = distinct_more (codes "--plan") value options holds.distinct (inl refl) not_before;
         plan = plan ∙ sym (value_last (codes "--plan") value options not_before);
-        cert = other_kept (codes "--plan") value (codes "--cert") options before.cert after.cert (λ same. absurd (cc same)) cert holds.cert;
-        states = other_kept (codes "--plan") value (codes "--states") options before.states after.states (λ same. absurd (cc same)) states holds.states;
-        instances = other_kept (codes "--plan") value (codes "--instances") options before.instances after.instances (λ same. absurd (cc same)) instances holds.instances;
+        cert = other_kept (codes "--plan") value (codes "--cert") options before.cert after.cert refl cert holds.cert;
+        states = other_kept (codes "--plan") value (codes "--states") options before.states after.states refl states holds.states;
+        instances = other_kept (codes "--plan") value (codes "--instances") options before.instances after.instances refl instances holds.instances;
       }
 
   holds_cert : text_in before.cert ≡ None → text_in after.cert ≡ Some value → after.plan ≡ before.plan → after.states ≡ before.states → after.instances ≡ before.instances
@@ -44,9 +49,9 @@ module _ (before after : Options) (value : List ℕ) (options : List NamedValue)
       record {
         distinct = distinct_more (codes "--cert") value options holds.distinct (inr (inl refl)) not_before;
         cert = cert ∙ sym (value_last (codes "--cert") value options not_before);
-        plan = other_kept (codes "--cert") value (codes "--plan") options before.plan after.plan (λ same. absurd (cc same)) plan holds.plan;
-        states = other_kept (codes "--cert") value (codes "--states") options before.states after.states (λ same. absurd (cc same)) states holds.states;
-        instances = other_kept (codes "--cert") value (codes "--instances") options before.instances after.instances (λ same. absurd (cc same)) instances holds.instances;
+        plan = other_kept (codes "--cert") value (codes "--plan") options before.plan after.plan refl plan holds.plan;
+        states = other_kept (codes "--cert") value (codes "--states") options before.states after.states refl states holds.states;
+        instances = other_kept (codes "--cert") value (codes "--instances") options before.instances after.instances refl instances holds.instances;
       }
 
   holds_states : text_in before.states ≡ None → text_in after.states ≡ Some value → after.plan ≡ before.plan → after.cert ≡ before.cert → after.instances ≡ before.instances
@@ -56,9 +61,9 @@ module _ (before after : Options) (value : List ℕ) (options : List NamedValue)
       record {
         distinct = distinct_more (codes "--states") value options holds.distinct (inr (inr (inl refl))) not_before;
         states = states ∙ sym (value_last (codes "--states") value options not_before);
-        plan = other_kept (codes "--states") value (codes "--plan") options before.plan after.plan (λ same. absurd (cc same)) plan holds.plan;
-        cert = other_kept (codes "--states") value (codes "--cert") options before.cert after.cert (λ same. absurd (cc same)) cert holds.cert;
-        instances = other_kept (codes "--states") value (codes "--instances") options before.instances after.instances (λ same. absurd (cc same)) instances holds.instances;
+        plan = other_kept (codes "--states") value (codes "--plan") options before.plan after.plan refl plan holds.plan;
+        cert = other_kept (codes "--states") value (codes "--cert") options before.cert after.cert refl cert holds.cert;
+        instances = other_kept (codes "--states") value (codes "--instances") options before.instances after.instances refl instances holds.instances;
       }
 
   holds_instances : text_in before.instances ≡ None → text_in after.instances ≡ Some value → after.plan ≡ before.plan → after.cert ≡ before.cert → after.states ≡ before.states
@@ -68,9 +73,9 @@ module _ (before after : Options) (value : List ℕ) (options : List NamedValue)
       record {
         distinct = distinct_more (codes "--instances") value options holds.distinct (inr (inr (inr (inl refl)))) not_before;
         instances = instances ∙ sym (value_last (codes "--instances") value options not_before);
-        plan = other_kept (codes "--instances") value (codes "--plan") options before.plan after.plan (λ same. absurd (cc same)) plan holds.plan;
-        cert = other_kept (codes "--instances") value (codes "--cert") options before.cert after.cert (λ same. absurd (cc same)) cert holds.cert;
-        states = other_kept (codes "--instances") value (codes "--states") options before.states after.states (λ same. absurd (cc same)) states holds.states;
+        plan = other_kept (codes "--instances") value (codes "--plan") options before.plan after.plan refl plan holds.plan;
+        cert = other_kept (codes "--instances") value (codes "--cert") options before.cert after.cert refl cert holds.cert;
+        states = other_kept (codes "--instances") value (codes "--states") options before.states after.states refl states holds.states;
       }
 
 module _ (before after : Options) (name : List ℕ) (value : Bor (List ℕ)) (given : Option (Bor (List ℕ))) (is_new : Bool) (tested : is_some given ≡ not is_new) where

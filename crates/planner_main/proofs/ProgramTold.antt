@@ -50,19 +50,19 @@ module _ (before now after : List ℕ → Option (List ℕ)) (kept : AreKept bef
   }
 
 -- What is told, in another way, where the files were the same before.
-module _ (P Q : List ℕ → ℕ → List NamedText → Type 0) (as : (text : List ℕ) (status : ℕ) (written : List NamedText) → P text status written → Q text status written)
+module _ (P Q : List ℕ → ℕ → List NamedText → Type 0) (means : (text : List ℕ) (status : ℕ) (written : List NamedText) → P text status written → Q text status written)
     (known : Bool) (before now after : List ℕ → Option (List ℕ)) (kept : AreKept before now) (out out_after : Option (List ℕ)) where
   pub told_as : (status : ℕ) → IsTold P known now after out out_after status → IsTold Q known before after out out_after status
   told_as status (text, written, is, appended, held) =
-      (text, written, as text status written is, appended, λ is_known. written_since before now after kept written (held is_known))
+      (text, written, means text status written is, appended, λ is_known. written_since before now after kept written (held is_known))
 
   pub partly_as : IsToldPartly P known now after out out_after → IsToldPartly Q known before after out out_after
   partly_as (nothing same still) = nothing same (λ name. still name ∙ kept name)
   partly_as (in_a_file text status done rest next is same held) =
-      in_a_file text status done rest next (as text status (done ++ next ∷ rest) is) same
+      in_a_file text status done rest next (means text status (done ++ next ∷ rest) is) same
       (λ is_known. partly_since before now after kept done next (held is_known))
   partly_as (on_the_output text status written is told held) =
-      on_the_output text status written (as text status written is) told (λ is_known. written_since before now after kept written (held is_known))
+      on_the_output text status written (means text status written is) told (λ is_known. written_since before now after kept written (held is_known))
 
 -- What tells an answer that is true of two texts tells what they are asked for.
 pub answer_told : (contents : List ℕ → Option (List ℕ)) (domain problem : List ℕ) (asked : Asked) (task : Task) (a : Answer)

@@ -198,6 +198,11 @@ pub device_counted : (T : Type 0) (before opened after : ℕ) (fault : WriteFaul
 device_counted T before opened after device.Device same counted = counted ∙ ap one_more same
 device_counted T before opened after device.NoMemory same counted = counted ∙ same
 
+-- the same, after a call of the files that counted none
+pub either_since : (before now after out out_after : ℕ) (f : Failure) → now ≡ before → CountsEither now after out out_after f
+    → CountsEither before after out out_after f
+either_since before now after out out_after f same counted = subst (λ files. CountsEither files after out out_after f) same counted
+
 module _ (files files_after out out_after : ℕ) where
   pub device_has_failed : (f : Failure) → f ≡ device_failure → CountsEither files files_after out out_after f → HasFailed files files_after out out_after
   device_has_failed f is counted = subst (CountsEither files files_after out out_after) is counted

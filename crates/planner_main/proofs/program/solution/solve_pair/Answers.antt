@@ -19,7 +19,7 @@ returns-in_err-solve_files-clause-refused g c =
 pub returns-clause-answer : goal.returns-clause-answer
 returns-clause-answer g c =
     let is_task = rw (c.deref.ensures.value, c.deref-2.ensures.value) at c.in_ok-solve_files.ensures.task in
-    (_, _, c.in_ok-pair.ensures.domain, c.in_ok-pair.ensures.problem, is_task, c.in_ok-solve_files.ensures.answer)
+    (_, _, c.in_ok-pair.ensures.domain, c.in_ok-pair.ensures.problem, (is_task, c.in_ok-solve_files.ensures.answer))
 
 pub returns-in_err-pair-clause-failures : goal.returns-in_err-pair-clause-failures
 returns-in_err-pair-clause-failures g c =
