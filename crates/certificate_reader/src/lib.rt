@@ -1,0 +1,8 @@
+//! Certificates, read from their texts.
+#![tactic(auto)]
+
+mod line;
+mod names;
+mod number;
+mod parts;
+mod word;
