@@ -3,3 +3,5 @@ pub mod NumberLemmas
 pub mod LineLemmas
 pub mod NumbersRead
 pub mod NamesRead
+pub mod LinesRead
+pub mod ParseLemmas

@@ -79,10 +79,10 @@ with_rest-cons : (byte : ℕ) (word : List ℕ) (rest : Option (List ℕ)) → w
 with_rest-cons byte word None = refl
 with_rest-cons byte word (Some rest) = refl
 
-same_head : (a b : ℕ) (xs ys : List ℕ) → a ∷ xs ≡ b ∷ ys → a ≡ b
+pub same_head : (a b : ℕ) (xs ys : List ℕ) → a ∷ xs ≡ b ∷ ys → a ≡ b
 same_head a b xs ys same = cc
 
-same_tail : (a b : ℕ) (xs ys : List ℕ) → a ∷ xs ≡ b ∷ ys → xs ≡ ys
+pub same_tail : (a b : ℕ) (xs ys : List ℕ) → a ∷ xs ≡ b ∷ ys → xs ≡ ys
 same_tail a b xs ys same = cc
 
 no_blank : (byte : ℕ) (word : List ℕ) → IsTrue (is_word (byte ∷ word)) → byte ≡ 32 → ⊥

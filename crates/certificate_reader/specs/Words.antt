@@ -1,12 +1,14 @@
 -- The words of a line, and a line by its first word and what stands behind it.
-use Rattle.std.specs.Prelude.{◌≡◌, ℕ, ◌==◌, Bool, not, List, [], ◌∷◌, ◌++◌, codes, Option, None, Some, IsTrue}
+use Rattle.std.specs.Prelude.{◌≡◌, ℕ, ◌==◌, Bool, not, List, [], ◌∷◌, ◌++◌, codes, map, Option, None, Some, IsTrue}
 use Rattle.std.specs.Borrow.{Bor}
 use Rattle.std.specs.Char.{is_ascii_uppercase}
 use Rattle.std.specs.Fmt.{decimal}
 use Rattle.std.specs.List.{flat_map, list_all}
 use Rattle.std.specs.Option.{option_map, option_map_or}
+use Rattle.model.specs.PlanWriting.{is_lower_name}
 use Rattle.model.specs.Claims.{Claim, bound, none}
-use Rattle.certificate_text.specs.CertificateText.{TextLine, version, claims, constant, atom, listed, last, after_blank, is_line}
+use Rattle.model.specs.Certificates.{is_number, rise}
+use Rattle.certificate_text.specs.CertificateText.{NamedAtom, TextLine, version, claims, constant, atom, listed, last, after_blank, is_line}
 
 -- the bytes of a word, where there is one
 abbrev pub text_in : Option (Bor (List ℕ)) → Option (List ℕ)
@@ -57,6 +59,16 @@ line_rest (last count) = decimal count
 abbrev pub then_words : List (List ℕ) → Option (List ℕ) → Option (List ℕ)
 then_words [] rest = rest
 then_words (word ∷ words) rest = Some (with_rest word (then_words words rest))
+
+-- The bytes are a number, and behind it numbers of atoms, rising.
+pub record IsNumbered (bytes : List ℕ) (atom_count number : ℕ) (atoms : List ℕ) : Type 0 where
+  pub is_number : IsTrue (is_number number)
+  pub rising : IsTrue (rise atom_count 0 atoms)
+  pub splits : bytes ≡ with_rest (decimal number) (then_words (map decimal atoms) None)
+
+-- the names of an atom are names in lower case
+abbrev pub are_lower : NamedAtom → Bool
+are_lower a = list_all is_lower_name (a.predicate ∷ a.objects)
 
 -- the byte is no capital letter
 abbrev pub is_no_capital : ℕ → Bool

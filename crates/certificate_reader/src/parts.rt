@@ -6,7 +6,7 @@ ghost use Rattle.model.specs.Claims as model;
 ghost use Rattle.model.specs.Certificates.{is_claim, is_number, rise};
 ghost use Rattle.certificate_text.specs.CertificateText.{most_atoms};
 ghost use Rattle.certificate_lines.specs.Lines.{claim_of};
-ghost use Rattle.certificate_reader.specs.Words.{claim_rest, text_in, then_words};
+ghost use Rattle.certificate_reader.specs.Words.{IsNumbered, claim_rest, text_in, then_words};
 
 use crate::number::number;
 use crate::word::{first_word, is};
@@ -31,8 +31,28 @@ pub(crate) fn claim(rest: &[u8]) -> Option<Claim>
     }
 }
 
+/// A number and, behind it, numbers of atoms, rising, and `None` where something else stands there.
+pub(crate) fn numbered(
+    alloc: Global,
+    bytes: &[u8],
+    atom_count: usize,
+) -> Result<Option<(u64, Vec<u32>)>, AllocError>
+    requires few { atom_count ≤ most_atoms }
+    ensures some { IfOk result (λ found. IfSome found (λ read. IsNumbered bytes.now atom_count read.0 read.1.items)) }
+    ensures none { IfOk result (λ found. IfNone found ((n : ℕ) (atoms : List ℕ) → IsNumbered bytes.now atom_count n atoms → ⊥)) }
+{
+    let (word, behind) = first_word(bytes);
+    let Some(number) = number(word) else {
+        return Ok(None);
+    };
+    match numbers(alloc, behind, atom_count)? {
+        Some(atoms) => Ok(Some((number, atoms))),
+        None => Ok(None),
+    }
+}
+
 /// The numbers of atoms that the bytes are, rising, and `None` where they are none.
-pub(crate) fn numbers(
+fn numbers(
     alloc: Global,
     rest: Option<&[u8]>,
     atom_count: usize,
