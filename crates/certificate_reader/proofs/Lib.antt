@@ -5,3 +5,4 @@ pub mod NumbersRead
 pub mod NamesRead
 pub mod LinesRead
 pub mod ParseLemmas
+pub mod OneLine

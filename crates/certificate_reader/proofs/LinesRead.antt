@@ -54,7 +54,7 @@ module _ (rest : List ℕ) (count : ℕ) where
     within = and_all (is_number cost) true (rise count 0 atoms) is.is_number refl is.rising;
   }
 
-  open_parts : (cost : ℕ) (cut : Option ℕ) (atoms : List ℕ) → IsReadAs (codes "open") rest count (listed (record { cost = cost; cut = cut; atoms = atoms }))
+  pub open_parts : (cost : ℕ) (cut : Option ℕ) (atoms : List ℕ) → IsReadAs (codes "open") rest count (listed (record { cost = cost; cut = cut; atoms = atoms }))
       → IsNumbered rest count cost atoms
   open_parts cost None atoms read =
       let parts = and_parts (is_number cost && true) (rise count 0 atoms) read.within in
@@ -99,18 +99,22 @@ module _ (rest : List ℕ) (count : ℕ) where
     within = and_all (is_number cost) (is_number least) (rise count 0 atoms) is.is_number is.numbered.is_number is.numbered.rising;
   }
 
-  cut_parts : (cost : ℕ) (cut : Option ℕ) (atoms : List ℕ) → IsReadAs (codes "cut") rest count (listed (record { cost = cost; cut = cut; atoms = atoms }))
-      → (least : ℕ) × IsCut rest count cost least atoms
-  cut_parts cost None atoms read = absurd (unlike (codes "open") (codes "cut") refl read.head)
-  cut_parts cost (Some least) atoms read =
+  pub cut_of : (cost least : ℕ) (atoms : List ℕ) → IsReadAs (codes "cut") rest count (listed (record { cost = cost; cut = Some least; atoms = atoms }))
+      → IsCut rest count cost least atoms
+  cut_of cost least atoms read =
       let parts = and_parts (is_number cost && is_number least) (rise count 0 atoms) read.within in
       let numbers = and_parts (is_number cost) (is_number least) parts.0 in
-      (least, record {
+      record {
         is_number = numbers.0;
         bytes = with_rest (decimal least) (then_words (map decimal atoms) None);
         numbered = record { is_number = numbers.1; rising = parts.1; splits = refl };
         splits = sym read.behind ∙ sym (cut_text cost least atoms);
-      })
+      }
+
+  cut_parts : (cost : ℕ) (cut : Option ℕ) (atoms : List ℕ) → IsReadAs (codes "cut") rest count (listed (record { cost = cost; cut = cut; atoms = atoms }))
+      → (least : ℕ) × IsCut rest count cost least atoms
+  cut_parts cost None atoms read = absurd (unlike (codes "open") (codes "cut") refl read.head)
+  cut_parts cost (Some least) atoms read = (least, cut_of cost least atoms read)
 
   pub no_cut : ((cost least : ℕ) (atoms : List ℕ) → IsCut rest count cost least atoms → ⊥) → (line : TextLine) → IsReadAs (codes "cut") rest count line → ⊥
   no_cut never version read = absurd (unlike (codes "pddl-cert") (codes "cut") refl read.head)
@@ -154,21 +158,19 @@ names_behind word (next ∷ words) =
     ap (λ rest. word ++ codes " " ++ rest) (names_behind next words) ∙ append_assoc word (codes " ") (next ++ flat_map after_blank words)
 
 -- an atom's line by what stands in its parentheses
-inner_of : NamedAtom → List ℕ
+abbrev pub inner_of : NamedAtom → List ℕ
 inner_of a = with_rest a.predicate (then_words a.objects None)
 
-atom_text : (a : NamedAtom) → line_rest (atom a) ≡ codes "0 (" ++ inner_of a ++ codes ")"
-unfolding inner_of
+pub atom_text : (a : NamedAtom) → line_rest (atom a) ≡ codes "0 (" ++ inner_of a ++ codes ")"
 atom_text a = ap (λ inner. inner ++ codes ")")
     (append_assoc (codes "0 (") a.predicate (flat_map after_blank a.objects) ∙ ap (λ inner. codes "0 (" ++ inner) (sym (names_behind a.predicate a.objects)))
 
-same_inner : (x y : List ℕ) → codes "0 (" ++ x ++ codes ")" ≡ codes "0 (" ++ y ++ codes ")" → x ≡ y
+pub same_inner : (x y : List ℕ) → codes "0 (" ++ x ++ codes ")" ≡ codes "0 (" ++ y ++ codes ")" → x ≡ y
 same_inner x y same = append_cancel_left (codes "0 (") x y (append_cancel_right (codes "0 (" ++ x) (codes "0 (" ++ y) (codes ")") same)
 
 module _ (rest inner : List ℕ) (stands : rest ≡ codes "0 (" ++ inner ++ codes ")") (predicate : List ℕ) (behind : Option (List ℕ))
     (first : IsFirstWord inner predicate behind) where
   atom_parts : (a : NamedAtom) → IsTrue (are_lower a) → line_rest (atom a) ≡ rest → (predicate ≡ a.predicate) × (behind ≡ then_words a.objects None)
-  unfolding inner_of
   atom_parts a lower same =
       let both : inner ≡ inner_of a = same_inner inner (inner_of a) (sym stands ∙ sym same ∙ atom_text a) in
       one_first predicate a.predicate behind (then_words a.objects None) first.is_word
@@ -187,7 +189,6 @@ module _ (rest inner : List ℕ) (stands : rest ≡ codes "0 (" ++ inner ++ code
   pub is_atom_line : is_lower_name predicate ≡ true → (name : List ℕ) (names : List (List ℕ)) → name ≡ predicate
       → IsTrue (list_all is_lower_name names) → then_words names None ≡ behind
       → IsTrue (is_lower_name name && list_all is_lower_name names) × (line_rest (atom (record { predicate = name; objects = names })) ≡ rest)
-  unfolding inner_of
   is_atom_line is name names same lower read = (
     (λ i. (ap is_lower_name same ∙ is) i && lower i),
     atom_text (record { predicate = name; objects = names })

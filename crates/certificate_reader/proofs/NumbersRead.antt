@@ -46,7 +46,7 @@ rise_parts count least n more all =
     let here = and_parts (nat_le least n) (nat_lt n count) parts.0 in
     (leb-true least n here.0, ltb-true n count here.1, parts.1)
 
-rising_are_numbers : (count least : ℕ) (numbers : List ℕ) → count ≤ most_atoms → rise count least numbers ≡ true → IsTrue (list_all is_number numbers)
+pub rising_are_numbers : (count least : ℕ) (numbers : List ℕ) → count ≤ most_atoms → rise count least numbers ≡ true → IsTrue (list_all is_number numbers)
 rising_are_numbers count least [] few all = refl
 rising_are_numbers count least (n ∷ numbers) few all =
     let (above, below, more) = rise_parts count least n numbers all in
