@@ -6,3 +6,4 @@ pub mod NamesRead
 pub mod LinesRead
 pub mod ParseLemmas
 pub mod OneLine
+pub mod OneText

@@ -40,7 +40,7 @@ same_number m n m_is n_is same =
 pub few_are_numbers : (count n : ℕ) → count ≤ most_atoms → n < count → IsTrue (is_number n)
 few_are_numbers count n few below = lt-ltb n 1152921504606846976 (omega (arith, few, below))
 
-rise_parts : (count least n : ℕ) (more : List ℕ) → rise count least (n ∷ more) ≡ true → (least ≤ n) × (n < count) × (rise count (n + 1) more ≡ true)
+pub rise_parts : (count least n : ℕ) (more : List ℕ) → rise count least (n ∷ more) ≡ true → (least ≤ n) × (n < count) × (rise count (n + 1) more ≡ true)
 rise_parts count least n more all =
     let parts = and_parts (nat_le least n && nat_lt n count) (rise count (n + 1) more) all in
     let here = and_parts (nat_le least n) (nat_lt n count) parts.0 in
