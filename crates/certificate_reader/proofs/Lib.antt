@@ -7,3 +7,4 @@ pub mod LinesRead
 pub mod ParseLemmas
 pub mod OneLine
 pub mod OneText
+pub mod PlaceRead

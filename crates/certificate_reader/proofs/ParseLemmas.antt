@@ -11,7 +11,7 @@ use Rattle.certificate_lines.specs.declared.line.CertLine.{CertLine}
 use Rattle.certificate_lines.specs.Lines.{text_line_of}
 use Rattle.certificate_text.specs.CertificateText.{TextLine, version, claims, constant, atom, listed, last, is_line}
 use Rattle.certificate_reader.specs.declared.line.LineFault.{LineFault}
-use Rattle.certificate_reader.specs.declared.line.LineFault.TheVariants.{OtherVersion, Malformed, NoMemory}
+use Rattle.certificate_reader.specs.declared.line.LineFault.TheVariants.{OtherVersion, Malformed, TooMany, NoMemory}
 use Rattle.certificate_reader.specs.Parsing.{IsParsed, IsParsedBehind}
 use Rattle.certificate_reader.specs.Words.{IsFirstWord, IsReadAs, line_head, line_rest, text_in, with_rest}
 use Rattle.certificate_reader.proofs.WordLemmas.{one_first}
@@ -20,13 +20,13 @@ use Rattle.certificate_reader.proofs.LinesRead.{unlike}
 
 -- ---- the first line
 
-one_is : decimal 1 ≡ codes "1"
+pub one_is : decimal 1 ≡ codes "1"
 one_is = decimal_digit 1 (omega arith)
 
 pub is_version : (rest : List ℕ) (number count : ℕ) → number ≡ 1 → decimal number ≡ rest → IsReadAs (codes "pddl-cert") rest count version
 is_version rest number count one same = record { head = refl; behind = sym one_is ∙ ap decimal (sym one) ∙ same; within = refl }
 
-listed_is_no_version : (cost : ℕ) (cut : Option ℕ) (atoms : List ℕ)
+pub listed_is_no_version : (cost : ℕ) (cut : Option ℕ) (atoms : List ℕ)
     → line_head (listed (record { cost = cost; cut = cut; atoms = atoms })) ≡ codes "pddl-cert" → ⊥
 listed_is_no_version cost None atoms = unlike (codes "open") (codes "pddl-cert") refl
 listed_is_no_version cost (Some least) atoms = unlike (codes "cut") (codes "pddl-cert") refl
@@ -64,6 +64,7 @@ whole bytes word rest count first (Err Malformed) (never, other) = (
       let both = one_first (codes "pddl-cert") word (Some (decimal n)) (Some rest) refl first.is_word (same ∙ first.splits) in
       other (sym both.0) n is (some_same (decimal n) rest both.1),
 )
+whole bytes word rest count first (Err TooMany) told = told
 whole bytes word rest count first (Err NoMemory) told = tt
 
 pub parsed_whole : (bytes word : List ℕ) (behind : Option (Bor (List ℕ))) (rest : Bor (List ℕ)) (count : ℕ) (r : Result CertLine LineFault)

@@ -6,7 +6,7 @@ use Rattle.certificate_lines.specs.declared.line.CertLine.{CertLine}
 use Rattle.certificate_lines.specs.Lines.{text_line_of}
 use Rattle.certificate_text.specs.CertificateText.{TextLine, is_line, line_text}
 use Rattle.certificate_reader.specs.declared.line.LineFault.{LineFault}
-use Rattle.certificate_reader.specs.declared.line.LineFault.TheVariants.{OtherVersion, Malformed, NoMemory}
+use Rattle.certificate_reader.specs.declared.line.LineFault.TheVariants.{OtherVersion, Malformed, TooMany, NoMemory}
 use Rattle.certificate_reader.specs.Words.{IsReadAs}
 
 -- the bytes are the line that is answered, where so many atoms are named; or the first line of another version; or neither
@@ -17,6 +17,7 @@ IsParsed bytes atom_count (Err OtherVersion) =
 IsParsed bytes atom_count (Err Malformed) =
     ((line : TextLine) → IsTrue (is_line atom_count line) → line_text line ≢ bytes)
     × ((number : ℕ) → IsTrue (is_number number) → codes "pddl-cert " ++ decimal number ≢ bytes)
+IsParsed bytes atom_count (Err TooMany) = ⊥
 IsParsed bytes atom_count (Err NoMemory) = Unit {0}
 
 -- the same of bytes that are this word and, behind a blank, these
@@ -27,4 +28,5 @@ IsParsedBehind word rest atom_count (Err OtherVersion) =
 IsParsedBehind word rest atom_count (Err Malformed) =
     ((line : TextLine) → IsReadAs word rest atom_count line → ⊥)
     × (word ≡ codes "pddl-cert" → (number : ℕ) → IsTrue (is_number number) → decimal number ≢ rest)
+IsParsedBehind word rest atom_count (Err TooMany) = ⊥
 IsParsedBehind word rest atom_count (Err NoMemory) = Unit {0}

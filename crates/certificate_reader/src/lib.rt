@@ -5,4 +5,5 @@ mod line;
 mod names;
 mod number;
 mod parts;
+mod stage;
 mod word;

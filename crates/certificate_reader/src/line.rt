@@ -20,8 +20,10 @@ use std::alloc::{AllocError, Global};
 pub(crate) enum LineFault {
     /// They are the first line of another version.
     OtherVersion,
-    /// They are no line.
+    /// They are no line that may stand there.
     Malformed,
+    /// They are one atom, or one state, more than there may be.
+    TooMany,
     /// Memory that was asked for was refused.
     NoMemory,
 }

@@ -36,14 +36,14 @@ StandsBefore ended lines = AreWhole lines
 
 -- ---- one line more
 
-only_where : (holds : Bool) (place next : Place) → only_if holds place ≡ Some next → (holds ≡ true) × (place ≡ next)
+pub only_where : (holds : Bool) (place next : Place) → only_if holds place ≡ Some next → (holds ≡ true) × (place ≡ next)
 only_where true place next same = (refl, cc same)
 only_where false place next same = absurd (cc same)
 
 place_same : (p q : Place) → ◌≡◌ {A = Option Place} (Some p) (Some q) → p ≡ q
 place_same p q same = cc
 
-never : {A : Type 0} (place : Place) → ◌≡◌ {A = Option Place} None (Some place) → A
+pub never : {A : Type 0} (place : Place) → ◌≡◌ {A = Option Place} None (Some place) → A
 never place same = absurd (cc same)
 
 all_more : {X : Type 0} (test : X → Bool) (xs : List X) (x : X) → list_all test xs ≡ true → test x ≡ true → list_all test (xs ++ x ∷ []) ≡ true
