@@ -8,3 +8,4 @@ pub mod ParseLemmas
 pub mod OneLine
 pub mod OneText
 pub mod PlaceRead
+pub mod FaultsRead

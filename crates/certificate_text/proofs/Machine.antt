@@ -40,7 +40,7 @@ pub only_where : (holds : Bool) (place next : Place) → only_if holds place ≡
 only_where true place next same = (refl, cc same)
 only_where false place next same = absurd (cc same)
 
-place_same : (p q : Place) → ◌≡◌ {A = Option Place} (Some p) (Some q) → p ≡ q
+pub place_same : (p q : Place) → ◌≡◌ {A = Option Place} (Some p) (Some q) → p ≡ q
 place_same p q same = cc
 
 pub never : {A : Type 0} (place : Place) → ◌≡◌ {A = Option Place} None (Some place) → A
