@@ -1,3 +1,4 @@
 pub mod Words
 pub mod Parsing
 pub mod Stages
+pub mod Waiting

@@ -6,4 +6,5 @@ mod names;
 mod number;
 mod parts;
 mod stage;
+mod waiting;
 mod word;
