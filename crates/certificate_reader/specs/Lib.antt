@@ -2,3 +2,4 @@ pub mod Words
 pub mod Parsing
 pub mod Stages
 pub mod Waiting
+pub mod Ready

@@ -5,6 +5,7 @@ mod line;
 mod names;
 mod number;
 mod parts;
+mod ready;
 mod stage;
 mod waiting;
 mod word;
