@@ -3,3 +3,4 @@ pub mod Parsing
 pub mod Stages
 pub mod Waiting
 pub mod Ready
+pub mod Next

@@ -3,6 +3,7 @@
 
 mod line;
 mod names;
+mod next;
 mod number;
 mod parts;
 mod ready;
