@@ -9,3 +9,4 @@ pub mod OneLine
 pub mod OneText
 pub mod PlaceRead
 pub mod FaultsRead
+pub mod NextLemmas

@@ -47,7 +47,10 @@ HasEnd bytes end = (position is_end bytes ≡ Some end) × (end ≤ longest_line
 -- The line that waits is handed out, or it is at fault.
 abbrev pub IsTaken : Place → (old new : List ℕ) → Result (CertLine × Stage) NextFault → Type 0
 IsTaken place old new (Ok (line, next)) = (old ≡ whole_line (text_line_of line) ++ new) × (next_place place (text_line_of line) ≡ Some (place_of next))
-IsTaken place old new (Err (Text fault)) = IsFaultAt place old fault
+IsTaken place old new (Err (Text Form)) = IsFaultAt place old Form
+IsTaken place old new (Err (Text Version)) = IsFaultAt place old Version
+IsTaken place old new (Err (Text Limit)) = IsFaultAt place old Limit
+IsTaken place old new (Err (Text Truncated)) = ⊥
 IsTaken place old new (Err Device) = ⊥
 IsTaken place old new (Err NoMemory) = Unit {0}
 
