@@ -8,8 +8,8 @@ use Rattle.std.proofs.lemmas.List.{take_all, take_more, map-append, length-map}
 use Rattle.std.proofs.lemmas.List.Elements.{Contains-append_cases}
 use Rattle.std.proofs.lemmas.Option.{slice_get_within}
 use Rattle.model.proofs.Tests.{passes_got}
-use Rattle.certificate.specs.declared.cert.StateLine as code_line
-use Rattle.certificate.specs.CertificateParts.{line_of}
+use Rattle.certificate_lines.specs.declared.line.StateLine as code_line
+use Rattle.certificate_lines.specs.Lines.{line_of}
 use Rattle.cert_checker.specs.CheckedLines.{IsListedAt, IsOpenClosed, IsCutClosed, IsLineClosed}
 use Rattle.model.specs.Task.{Task, Instance}
 use Rattle.model.specs.Meaning.{State, system_of}

@@ -9,8 +9,8 @@ use Rattle.typing.specs.TaskParts.{atom_of}
 use Rattle.cert_checker.specs.declared.check.Refusal.{Refusal}
 use Rattle.cert_checker.specs.declared.check.Refusal.TheVariants as refusal
 use Rattle.cert_checker.specs.declared.check.code.RefusalCode.{RefusalCode}
-use Rattle.certificate.specs.declared.cert.StateLine as code_line
-use Rattle.certificate.specs.CertificateParts.{line_of}
+use Rattle.certificate_lines.specs.declared.line.StateLine as code_line
+use Rattle.certificate_lines.specs.Lines.{line_of}
 use Rattle.cert_checker.specs.RefusalCode.{reason_of}
 use Rattle.cert_checker.specs.CertChecker.{IsFirstRefusal, IsFirstSuccessor, IsFirstToLeave}
 use Rattle.cert_checker.specs.FluentAtoms.{AreFluent}

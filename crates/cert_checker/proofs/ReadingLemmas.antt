@@ -15,8 +15,8 @@ use Rattle.packed_state.specs.Store.{IsPlaced}
 use Rattle.typing.specs.declared.atoms.Atom as code_atom
 use Rattle.typing.specs.TaskParts.{atom_of}
 use Rattle.formulas.proofs.Equality.{atom_eq, equal_atoms, same_atoms, one_atom}
-use Rattle.certificate.specs.declared.cert.StateLine as code_line
-use Rattle.certificate.specs.CertificateParts.{line_of}
+use Rattle.certificate_lines.specs.declared.line.StateLine as code_line
+use Rattle.certificate_lines.specs.Lines.{line_of}
 use Rattle.cert_checker.specs.FluentAtoms.{AreFluent}
 use Rattle.cert_checker.specs.CheckedLines.{IsAdded}
 use Rattle.cert_checker.specs.PackedLines.{packed_line, NamesAtoms}

@@ -2,38 +2,11 @@
 ghost use Rattle.std.specs.Prelude.{◌≡◌, IsTrue, length, map};
 ghost use Rattle.std.specs.List.{list_all};
 ghost use Rattle.model.specs.Certificates.{is_number, is_claim, rise, is_state_line, keeps_limits};
-ghost use Rattle.certificate.specs.CertificateParts.{claim_of, line_of, certificate_of_parts};
+ghost use Rattle.certificate_lines.specs.Lines.{claim_of, line_of};
+ghost use Rattle.certificate.specs.CertificateParts.{certificate_of_parts};
 
+use certificate_lines::{Claim, MAX_ATOMS, MAX_STATE_LINES, NUMBER_LIMIT, StateLine};
 use typing::Atom;
-
-/// The most atoms that a certificate may have.
-pub const MAX_ATOMS: usize = 1_048_576;
-
-/// The most state lines that a certificate may have.
-pub const MAX_STATE_LINES: usize = 16_777_216;
-
-/// Each cost and each bound in a certificate is below this number, 2 to the power 60.
-pub const NUMBER_LIMIT: u64 = 1_152_921_504_606_846_976;
-
-/// What a certificate claims of all plans.
-#[derive(Clone, Copy, Debug, PartialEq, Eq)]
-pub enum Claim {
-    /// Every plan that solves the task costs at least this.
-    Bound(u64),
-    /// No plan solves the task.
-    Unsolvable,
-}
-
-/// A state of the listing: open, so that all its successors are listed too, or cut.
-#[derive(Debug, Drop)]
-pub struct StateLine {
-    /// The cost at which the state is listed.
-    pub cost: u64,
-    /// Of a cut, a lower bound of what is still to pay from the state on; `None` for an open state.
-    pub cut: Option<u64>,
-    /// The state's fluent atoms, by their places, from 0, among the certificate's atoms.
-    pub atoms: Vec<u32>,
-}
 
 /// A claim with the listing of states that is to show it, within the limits of a certificate's text: at most
 /// 1,048,576 atoms and 16,777,216 state lines, each number below 2 to the power 60, and the atoms of each line
@@ -49,7 +22,7 @@ pub struct Cert {
 impl Cert {
     ghost use Rattle.std.specs.Prelude.{is_some, IfSome, ◌≤◌};
     ghost use Rattle.certificate.specs.Certificate.{certificate_of};
-    ghost use Rattle.certificate.specs.declared.cert.TheConstants.{MAX_ATOMS, MAX_STATE_LINES};
+    ghost use Rattle.certificate_lines.specs.declared.line.TheConstants.{MAX_ATOMS, MAX_STATE_LINES};
     ghost use Rattle.typing.specs.TaskParts.{atom_of};
 
     /// The certificate of these parts, and `None` where they exceed a limit of a certificate's text.

@@ -10,7 +10,7 @@ use std::alloc::{AllocError, Global};
 pub(crate) const READ_PIECE: usize = 64;
 
 /// How many bytes of a file are taken at a write.
-const WRITE_PIECE: usize = 7;
+pub(crate) const WRITE_PIECE: usize = 7;
 
 /// What fails of a file that is written.
 #[derive(Clone, Copy)]

@@ -10,10 +10,10 @@ use std::test::Fail;
 use test_texts::{DONE, GO, HOP, PATH, TIE, Texts};
 
 /// Two hops, as they are written.
-const TWO_HOPS: &[u8] = b"(hop a b)\n(hop b c)\n; cost = 6\n";
+pub(crate) const TWO_HOPS: &[u8] = b"(hop a b)\n(hop b c)\n; cost = 6\n";
 
 /// What the plan's file had before.
-const OLDER: &[u8] = b"(leap a c)\n; cost = 10\n; it is dearer\n";
+pub(crate) const OLDER: &[u8] = b"(leap a c)\n; cost = 10\n; it is dearer\n";
 
 /// What is taken of the two hops in pieces of seven bytes, where the first write fails, or the second, and so on.
 #[rattlefmt::skip]
@@ -25,7 +25,7 @@ static BEGINNINGS: [&[u8]; 5] = [
 const SOLVE: [&str; 5] = ["solve", "domain", "problem", "--plan", "out"];
 
 /// The files of the hops, and an older one in place of the plan's.
-fn table(alloc: Global) -> Result<Table, NoMemory> {
+pub(crate) fn table(alloc: Global) -> Result<Table, NoMemory> {
     let mut table = Table::new(alloc);
     table.put("domain", HOP[0].as_bytes())?;
     table.put("problem", HOP[1].as_bytes())?;

@@ -2,6 +2,8 @@
 #![tactic(auto)]
 
 #[cfg(test)]
+mod failing_certificates;
+#[cfg(test)]
 mod failing_files;
 #[cfg(test)]
 mod failing_runs;

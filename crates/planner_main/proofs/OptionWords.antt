@@ -1,12 +1,12 @@
 -- Options and their words.
-use Rattle.std.proofs.Common.{◌≡◌, ◌≢◌, ℕ, ◌<◌, zero, suc, List, [], ◌∷◌, ◌++◌, length, get_or, Bool, true, false, codes, refl, sym, ap, ◌∙◌, subst, inl, inr, arith, AllPairs, length-append, ◌⊎◌, ⊎_elim}
+use Rattle.std.proofs.Common.{◌≡◌, ◌≢◌, ℕ, ◌<◌, zero, suc, List, [], ◌∷◌, ◌++◌, length, get_or, Bool, true, false, refl, sym, ap, ◌∙◌, subst, inl, inr, arith, AllPairs, length-append, ◌⊎◌, ⊎_elim}
 use Rattle.std.specs.Prelude.{Option, None, Some, if◌then◌else◌}
 use Rattle.std.specs.Str.{bytes_eq}
 use Rattle.std.proofs.lemmas.Slice.Eq.{bytes_eq-Decides}
 use Rattle.std.proofs.lemmas.List.{get_or_at}
 use Rattle.std.proofs.lemmas.List.Elements.{All-push}
 use Rattle.std.proofs.lemmas.List.Quantifiers.{all_pairs_push}
-use Rattle.planner_main.specs.Options.{NamedValue, named, words_of, value_of, IsOneOf, option_names, AreDistinct, AreOptions}
+use Rattle.planner_main.specs.Options.{NamedValue, named, words_of, value_of, IsOneOf, option_names, AreDistinct}
 
 -- the lists of a first word and the rest are equal in both
 pub first_same : (x y : List ℕ) (xs ys : List (List ℕ)) → x ∷ xs ≡ y ∷ ys → x ≡ y
@@ -134,9 +134,3 @@ module _ (name value : List ℕ) where
 
   pub not_twice : (options rest : List NamedValue) (other : List ℕ) → value_of name options ≡ Some other → AreDistinct (options ++ named name value ∷ rest) → ⊥
   not_twice options rest other given distinct = twice options rest other given distinct.once
-
--- Words name one file.
-pub one_file : (words : List (List ℕ)) (states instances other_states other_instances : ℕ) (file other : Option (List ℕ))
-    → AreOptions words states instances file → AreOptions words other_states other_instances other → file ≡ other
-one_file words states instances other_states other_instances file other are others =
-    are.name_file ∙ ap (value_of (codes "--plan")) (one_list are.options others.options (sym are.in_order ∙ others.in_order)) ∙ sym others.name_file

@@ -1,11 +1,13 @@
 -- What the code holds of options, and the limits that they set.
-use Rattle.std.proofs.Common.{◌≡◌, ℕ, ◌<◌, ◌≤◌, List, [], ◌∷◌, ◌++◌, length, get_or, drop, Bool, false, not, codes, refl, sym, ap, ◌∙◌, subst, inl, inr, ⊎_elim, arith}
+use Rattle.std.proofs.Common.{◌≡◌, ◌≢◌, ℕ, ◌<◌, ◌≤◌, List, [], ◌∷◌, ◌++◌, length, get_or, drop, Bool, false, not, codes, refl, sym, ap, ◌∙◌, subst, inl, inr, ⊎_elim, arith}
 use Rattle.std.proofs.lemmas.List.{length-map}
 use Rattle.std.specs.Prelude.{Option, None, Some, IsTrue, IfNone, is_some}
 use Rattle.std.specs.Borrow.{Bor}
+use Rattle.std.specs.Str.{bytes_eq}
+use Rattle.std.proofs.lemmas.Slice.Eq.{bytes_eq-Decides}
 use Rattle.planner_main.specs.declared.program.command.Command.{Command}
 use Rattle.planner_main.specs.declared.program.command.Options.{Options}
-use Rattle.planner_main.specs.Options.{NamedValue, named, words_of, value_of, AreDistinct, AreOptions, IsLimit}
+use Rattle.planner_main.specs.Options.{Asked, NamedValue, named, words_of, value_of, AreDistinct, AreOptions, IsLimit}
 use Rattle.planner_main.specs.Program.{text_in, texts, Holds}
 use Rattle.planner_main.proofs.OptionWords.{one_list, no_odd_word, words_of_more, stops_at, value_last, value_before, distinct_more, is_known, not_twice}
 
@@ -18,55 +20,84 @@ given_before : (held : Option (Bor (List ℕ))) (is_new : Bool) → is_some held
 given_before None is_new tested old = absurd (cc (tested, old))
 given_before (Some word) is_new tested old = (word.now, refl)
 
+names_differ : (name other : List ℕ) → bytes_eq name other ≡ false → name ≢ other
+names_differ name other unlike = λ is. absurd (cc (sym unlike ∙ (bytes_eq-Decides name other).1 is))
+
+-- The value of another option stays.
+other_kept : (own value other : List ℕ) (options : List NamedValue) (before after : Option (Bor (List ℕ))) → bytes_eq own other ≡ false → after ≡ before
+    → text_in before ≡ value_of other options → text_in after ≡ value_of other (options ++ named own value ∷ [])
+other_kept own value other options before after differs same held =
+    ap text_in same ∙ held ∙ sym (value_before own value other options (names_differ own other differs))
+
 module _ (before after : Options) (value : List ℕ) (options : List NamedValue) (holds : Holds before options) where
-  holds_plan : text_in before.plan ≡ None → text_in after.plan ≡ Some value → after.states ≡ before.states → after.instances ≡ before.instances
+  holds_plan : text_in before.plan ≡ None → text_in after.plan ≡ Some value → after.cert ≡ before.cert → after.states ≡ before.states → after.instances ≡ before.instances
       → Holds after (options ++ named (codes "--plan") value ∷ [])
-  holds_plan none plan states instances =
+  holds_plan none plan cert states instances =
       let not_before : value_of (codes "--plan") options ≡ None = sym holds.plan ∙ none in
       record {
         distinct = distinct_more (codes "--plan") value options holds.distinct (inl refl) not_before;
         plan = plan ∙ sym (value_last (codes "--plan") value options not_before);
-        states = ap text_in states ∙ holds.states ∙ sym (value_before (codes "--plan") value (codes "--states") options (λ same. absurd (cc same)));
-        instances = ap text_in instances ∙ holds.instances ∙ sym (value_before (codes "--plan") value (codes "--instances") options (λ same. absurd (cc same)));
+        cert = other_kept (codes "--plan") value (codes "--cert") options before.cert after.cert refl cert holds.cert;
+        states = other_kept (codes "--plan") value (codes "--states") options before.states after.states refl states holds.states;
+        instances = other_kept (codes "--plan") value (codes "--instances") options before.instances after.instances refl instances holds.instances;
       }
 
-  holds_states : text_in before.states ≡ None → text_in after.states ≡ Some value → after.plan ≡ before.plan → after.instances ≡ before.instances
+  holds_cert : text_in before.cert ≡ None → text_in after.cert ≡ Some value → after.plan ≡ before.plan → after.states ≡ before.states → after.instances ≡ before.instances
+      → Holds after (options ++ named (codes "--cert") value ∷ [])
+  holds_cert none cert plan states instances =
+      let not_before : value_of (codes "--cert") options ≡ None = sym holds.cert ∙ none in
+      record {
+        distinct = distinct_more (codes "--cert") value options holds.distinct (inr (inl refl)) not_before;
+        cert = cert ∙ sym (value_last (codes "--cert") value options not_before);
+        plan = other_kept (codes "--cert") value (codes "--plan") options before.plan after.plan refl plan holds.plan;
+        states = other_kept (codes "--cert") value (codes "--states") options before.states after.states refl states holds.states;
+        instances = other_kept (codes "--cert") value (codes "--instances") options before.instances after.instances refl instances holds.instances;
+      }
+
+  holds_states : text_in before.states ≡ None → text_in after.states ≡ Some value → after.plan ≡ before.plan → after.cert ≡ before.cert → after.instances ≡ before.instances
       → Holds after (options ++ named (codes "--states") value ∷ [])
-  holds_states none states plan instances =
+  holds_states none states plan cert instances =
       let not_before : value_of (codes "--states") options ≡ None = sym holds.states ∙ none in
       record {
-        distinct = distinct_more (codes "--states") value options holds.distinct (inr (inl refl)) not_before;
+        distinct = distinct_more (codes "--states") value options holds.distinct (inr (inr (inl refl))) not_before;
         states = states ∙ sym (value_last (codes "--states") value options not_before);
-        plan = ap text_in plan ∙ holds.plan ∙ sym (value_before (codes "--states") value (codes "--plan") options (λ same. absurd (cc same)));
-        instances = ap text_in instances ∙ holds.instances ∙ sym (value_before (codes "--states") value (codes "--instances") options (λ same. absurd (cc same)));
+        plan = other_kept (codes "--states") value (codes "--plan") options before.plan after.plan refl plan holds.plan;
+        cert = other_kept (codes "--states") value (codes "--cert") options before.cert after.cert refl cert holds.cert;
+        instances = other_kept (codes "--states") value (codes "--instances") options before.instances after.instances refl instances holds.instances;
       }
 
-  holds_instances : text_in before.instances ≡ None → text_in after.instances ≡ Some value → after.plan ≡ before.plan → after.states ≡ before.states
+  holds_instances : text_in before.instances ≡ None → text_in after.instances ≡ Some value → after.plan ≡ before.plan → after.cert ≡ before.cert → after.states ≡ before.states
       → Holds after (options ++ named (codes "--instances") value ∷ [])
-  holds_instances none instances plan states =
+  holds_instances none instances plan cert states =
       let not_before : value_of (codes "--instances") options ≡ None = sym holds.instances ∙ none in
       record {
-        distinct = distinct_more (codes "--instances") value options holds.distinct (inr (inr (inl refl))) not_before;
+        distinct = distinct_more (codes "--instances") value options holds.distinct (inr (inr (inr (inl refl)))) not_before;
         instances = instances ∙ sym (value_last (codes "--instances") value options not_before);
-        plan = ap text_in plan ∙ holds.plan ∙ sym (value_before (codes "--instances") value (codes "--plan") options (λ same. absurd (cc same)));
-        states = ap text_in states ∙ holds.states ∙ sym (value_before (codes "--instances") value (codes "--states") options (λ same. absurd (cc same)));
+        plan = other_kept (codes "--instances") value (codes "--plan") options before.plan after.plan refl plan holds.plan;
+        cert = other_kept (codes "--instances") value (codes "--cert") options before.cert after.cert refl cert holds.cert;
+        states = other_kept (codes "--instances") value (codes "--states") options before.states after.states refl states holds.states;
       }
 
 module _ (before after : Options) (name : List ℕ) (value : Bor (List ℕ)) (given : Option (Bor (List ℕ))) (is_new : Bool) (tested : is_some given ≡ not is_new) where
-  pub takes_plan : name ≡ codes "--plan" → given ≡ before.plan → after.plan ≡ Some value → after.states ≡ before.states → after.instances ≡ before.instances
+  pub takes_plan : name ≡ codes "--plan" → given ≡ before.plan → after.plan ≡ Some value → after.cert ≡ before.cert → after.states ≡ before.states → after.instances ≡ before.instances
       → IsTrue is_new → (options : List NamedValue) → Holds before options → Holds after (options ++ named name value.now ∷ [])
-  takes_plan is was plan states instances new options holds = subst (λ name. Holds after (options ++ named name value.now ∷ [])) (sym is)
-      (holds_plan before after value.now options holds (sym (ap text_in was) ∙ not_given given is_new tested new) (ap text_in plan) states instances)
+  takes_plan is was plan cert states instances new options holds = subst (λ name. Holds after (options ++ named name value.now ∷ [])) (sym is)
+      (holds_plan before after value.now options holds (sym (ap text_in was) ∙ not_given given is_new tested new) (ap text_in plan) cert states instances)
 
-  pub takes_states : name ≡ codes "--states" → given ≡ before.states → after.states ≡ Some value → after.plan ≡ before.plan → after.instances ≡ before.instances
+  pub takes_cert : name ≡ codes "--cert" → given ≡ before.cert → after.cert ≡ Some value → after.plan ≡ before.plan → after.states ≡ before.states → after.instances ≡ before.instances
       → IsTrue is_new → (options : List NamedValue) → Holds before options → Holds after (options ++ named name value.now ∷ [])
-  takes_states is was states plan instances new options holds = subst (λ name. Holds after (options ++ named name value.now ∷ [])) (sym is)
-      (holds_states before after value.now options holds (sym (ap text_in was) ∙ not_given given is_new tested new) (ap text_in states) plan instances)
+  takes_cert is was cert plan states instances new options holds = subst (λ name. Holds after (options ++ named name value.now ∷ [])) (sym is)
+      (holds_cert before after value.now options holds (sym (ap text_in was) ∙ not_given given is_new tested new) (ap text_in cert) plan states instances)
 
-  pub takes_instances : name ≡ codes "--instances" → given ≡ before.instances → after.instances ≡ Some value → after.plan ≡ before.plan → after.states ≡ before.states
+  pub takes_states : name ≡ codes "--states" → given ≡ before.states → after.states ≡ Some value → after.plan ≡ before.plan → after.cert ≡ before.cert → after.instances ≡ before.instances
       → IsTrue is_new → (options : List NamedValue) → Holds before options → Holds after (options ++ named name value.now ∷ [])
-  takes_instances is was instances plan states new options holds = subst (λ name. Holds after (options ++ named name value.now ∷ [])) (sym is)
-      (holds_instances before after value.now options holds (sym (ap text_in was) ∙ not_given given is_new tested new) (ap text_in instances) plan states)
+  takes_states is was states plan cert instances new options holds = subst (λ name. Holds after (options ++ named name value.now ∷ [])) (sym is)
+      (holds_states before after value.now options holds (sym (ap text_in was) ∙ not_given given is_new tested new) (ap text_in states) plan cert instances)
+
+  pub takes_instances : name ≡ codes "--instances" → given ≡ before.instances → after.instances ≡ Some value → after.plan ≡ before.plan → after.cert ≡ before.cert → after.states ≡ before.states
+      → IsTrue is_new → (options : List NamedValue) → Holds before options → Holds after (options ++ named name value.now ∷ [])
+  takes_instances is was instances plan cert states new options holds = subst (λ name. Holds after (options ++ named name value.now ∷ [])) (sym is)
+      (holds_instances before after value.now options holds (sym (ap text_in was) ∙ not_given given is_new tested new) (ap text_in instances) plan cert states)
 
 -- No option is taken that has a value before, or that there is not.
 pub refuses_second : (name value own : List ℕ) (given held : Option (Bor (List ℕ))) (is_new : Bool) → is_some given ≡ not is_new → name ≡ own → given ≡ held
@@ -75,10 +106,10 @@ refuses_second name value own given held is_new tested is was old options rest h
     let (other, before) = given_before given is_new tested old in
     not_twice name value options rest other (ap (λ name. value_of name options) is ∙ sym holds ∙ sym (ap text_in was) ∙ before) distinct
 
-pub refuses_unknown : (name value : List ℕ) → (name ≡ codes "--plan" → ⊥) → (name ≡ codes "--states" → ⊥) → (name ≡ codes "--instances" → ⊥)
-    → (options rest : List NamedValue) → AreDistinct (options ++ named name value ∷ rest) → ⊥
-refuses_unknown name value no_plan no_states no_instances options rest distinct =
-    ⊎_elim no_plan (⊎_elim no_states (⊎_elim no_instances (λ none. none))) (is_known name value options rest distinct)
+pub refuses_unknown : (name value : List ℕ) → (name ≡ codes "--plan" → ⊥) → (name ≡ codes "--cert" → ⊥) → (name ≡ codes "--states" → ⊥)
+    → (name ≡ codes "--instances" → ⊥) → (options rest : List NamedValue) → AreDistinct (options ++ named name value ∷ rest) → ⊥
+refuses_unknown name value no_plan no_cert no_states no_instances options rest distinct =
+    ⊎_elim no_plan (⊎_elim no_cert (⊎_elim no_states (⊎_elim no_instances (λ none. none)))) (is_known name value options rest distinct)
 
 -- Words of which the first two are a name and its value, and these behind those of other options.
 pub two_words : (words rest : List (Bor (List ℕ))) (d : Bor (List ℕ)) → 2 ≤ length words → rest ≡ drop 2 words
@@ -105,26 +136,27 @@ odd_words front options words left are most least others =
 -- What the options that are held ask for.
 module _ (words : List (List ℕ)) (held : Options) (options : List NamedValue) (are : words ≡ words_of options) (holds : Holds held options) where
   pub options_held : (states instances : ℕ) → IsLimit (text_in held.states) states → IsLimit (text_in held.instances) instances
-      → AreOptions words states instances (text_in held.plan)
+      → AreOptions words (record { states = states; instances = instances; plan = text_in held.plan; cert = text_in held.cert })
   options_held states instances allow_states allow_instances = record {
     options = options;
     in_order = are;
     distinct = holds.distinct;
     allow_states = subst (λ text. IsLimit text states) holds.states allow_states;
     allow_instances = subst (λ text. IsLimit text instances) holds.instances allow_instances;
-    name_file = holds.plan;
+    name_plan = holds.plan;
+    name_cert = holds.cert;
   }
 
   no_options_held : ((states instances : ℕ) → IsLimit (text_in held.states) states → IsLimit (text_in held.instances) instances → ⊥)
-      → (states instances : ℕ) (file : Option (List ℕ)) → AreOptions words states instances file → ⊥
-  no_options_held none states instances file others =
+      → (asked : Asked) → AreOptions words asked → ⊥
+  no_options_held none asked others =
       let same : others.options ≡ options = one_list others.options options (sym others.in_order ∙ are) in
-      none states instances
-      (subst (λ text. IsLimit text states) (ap (value_of (codes "--states")) same ∙ sym holds.states) others.allow_states)
-      (subst (λ text. IsLimit text instances) (ap (value_of (codes "--instances")) same ∙ sym holds.instances) others.allow_instances)
+      none asked.states asked.instances
+      (subst (λ text. IsLimit text asked.states) (ap (value_of (codes "--states")) same ∙ sym holds.states) others.allow_states)
+      (subst (λ text. IsLimit text asked.instances) (ap (value_of (codes "--instances")) same ∙ sym holds.instances) others.allow_instances)
 
   pub none_asked : (command : Option Command)
       → ((states instances : ℕ) → IsLimit (text_in held.states) states → IsLimit (text_in held.instances) instances → ⊥)
-      → IfNone command ((states instances : ℕ) (file : Option (List ℕ)) → AreOptions words states instances file → ⊥)
+      → IfNone command ((asked : Asked) → AreOptions words asked → ⊥)
   none_asked None none = no_options_held none
   none_asked (Some command) none = tt

@@ -1,10 +1,22 @@
 -- What a file holds once it was made, written and closed.
-use Rattle.std.proofs.Common.{◌≡◌, ◌≢◌, ℕ, inl, inr, List, [], ◌++◌, ◌∙◌, sym, subst}
+use Rattle.std.proofs.Common.{◌≡◌, ◌≢◌, ℕ, inl, inr, List, [], ◌∷◌, ◌++◌, ◌∙◌, refl, sym, ap, subst, Bool, true, false}
 use Rattle.std.proofs.lemmas.List.{append_assoc}
-use Rattle.std.specs.Prelude.{Option, None, Some, IfSome, Result, Ok, Err, OnOk}
+use Rattle.std.specs.Prelude.{Option, None, Some, IfSome, IsTrue, Result, Ok, Err, OnOk, if◌then◌else◌}
+use Rattle.std.specs.Str.{bytes_eq}
+use Rattle.std.proofs.lemmas.Slice.Eq.{bytes_eq-Decides}
 use Rattle.std.specs.Io.KnownBytes.{Appends}
 use Rattle.devices.specs.Devices.{AppendsBeginning}
-use Rattle.planner_main.specs.Written.{HoldsBeginning}
+use Rattle.std.specs.Borrow.{Bor}
+use Rattle.formulas.specs.declared.plan.Plan.{Plan}
+use Rattle.certificate.specs.declared.cert.Cert.{Cert}
+use Rattle.certificate.specs.Certificate.{certificate_of}
+use Rattle.certificate_text.specs.CertificateNames.{certificate_text}
+use Rattle.solver.specs.declared.answer.Answer.{Answer}
+use Rattle.solver.specs.declared.answer.Answer.TheVariants as answer
+use Rattle.model.specs.Task.{Task}
+use Rattle.planner_main.specs.Program.{text_in}
+use Rattle.planner_main.specs.Solution.{cert_file, plan_file, text_of}
+use Rattle.planner_main.specs.Written.{HoldsBeginning, NamedText, AreWritten, AreWrittenPartly}
 
 -- A beginning of what was made and then of what was written is one of what was written.
 still_beginning : (before made after : Option (List ℕ)) (front rest : List ℕ) → HoldsBeginning before made [] → HoldsBeginning made after front
@@ -41,3 +53,49 @@ pub others_kept : (before made after : List ℕ → Option (List ℕ)) (closed n
     → (other : List ℕ) → other ≢ name → after other ≡ before other
 others_kept before made after closed name same at_making at_closing other differs =
     at_closing other (λ is. differs (is ∙ same)) ∙ at_making other differs
+
+-- One file is written, whole or in part, and each other file is as it was.
+module _ (before after : List ℕ → Option (List ℕ)) (file : NamedText) where
+  one_file : after file.name ≡ Some file.text → ((other : List ℕ) → other ≢ file.name → after other ≡ before other)
+      → (is_it : Bool) (other : List ℕ) → (is_it ≡ true → other ≡ file.name) → (is_it ≡ false → other ≢ file.name)
+      → after other ≡ (if is_it then Some file.text else before other)
+  one_file held kept true other same differs = ap after (same refl) ∙ held
+  one_file held kept false other same differs = kept other (differs refl)
+
+  one_written : after file.name ≡ Some file.text → ((other : List ℕ) → other ≢ file.name → after other ≡ before other)
+      → AreWritten before after (file ∷ [])
+  one_written held kept = λ other.
+      let decides = bytes_eq-Decides other file.name in
+      one_file held kept (bytes_eq other file.name) other decides.0 (λ unlike is. absurd (cc (sym unlike ∙ decides.1 is)))
+
+  module _ (known : Bool) (kept : IsTrue known → (other : List ℕ) → other ≢ file.name → after other ≡ before other) where
+    pub written_alone : {E : Type 0} (files : List NamedText) (r : Result (Unit {0}) E) → files ≡ file ∷ []
+        → (IsTrue known → OnOk r (after file.name ≡ Some file.text)) → OnOk r (IsTrue known → AreWritten before after files)
+    written_alone files (Ok done) is held = λ is_known. subst (AreWritten before after) (sym is) (one_written (held is_known) (kept is_known))
+    written_alone files (Err fault) is held = tt
+
+    pub partly_alone : (files : List NamedText) → files ≡ file ∷ []
+        → (IsTrue known → HoldsBeginning (before file.name) (after file.name) file.text)
+        → (next : NamedText) × (files ≡ next ∷ []) × (IsTrue known → AreWrittenPartly before after [] next)
+    partly_alone files is held = (file, is, λ is_known. record { beginning = held is_known; others = kept is_known })
+
+-- What is wanted to be written of an answer that is a plan, or that there is none.
+module _ (task : Task) (a : Answer) (name : Option (Bor (List ℕ))) (word : Bor (List ℕ)) (named : name ≡ Some word) where
+  pub cert_of_plan : (steps : Plan) (cost : ℕ) (cert : Cert) → a ≡ answer.Plan steps cost cert
+      → cert_file task a (text_in name) ≡ record { name = word.now; text = certificate_text task (certificate_of cert) } ∷ []
+  cert_of_plan steps cost cert is =
+      subst (λ a. cert_file task a (text_in name) ≡ record { name = word.now; text = certificate_text task (certificate_of cert) } ∷ []) (sym is)
+      (ap (λ name. cert_file task (answer.Plan steps cost cert) (text_in name)) named)
+
+  pub cert_of_none : (cert : Cert) → a ≡ answer.Unsolvable cert
+      → cert_file task a (text_in name) ≡ record { name = word.now; text = certificate_text task (certificate_of cert) } ∷ []
+  cert_of_none cert is =
+      subst (λ a. cert_file task a (text_in name) ≡ record { name = word.now; text = certificate_text task (certificate_of cert) } ∷ []) (sym is)
+      (ap (λ name. cert_file task (answer.Unsolvable cert) (text_in name)) named)
+
+  pub plan_of_text : (text : List ℕ) → text ≡ text_of task a → (steps : Plan) (cost : ℕ) (cert : Cert) → a ≡ answer.Plan steps cost cert
+      → plan_file task a (text_in name) ≡ record { name = word.now; text = text } ∷ []
+  plan_of_text text told steps cost cert is =
+      subst (λ text. plan_file task a (text_in name) ≡ record { name = word.now; text = text } ∷ []) (sym told)
+      (subst (λ a. plan_file task a (text_in name) ≡ record { name = word.now; text = text_of task a } ∷ []) (sym is)
+      (ap (λ name. plan_file task (answer.Plan steps cost cert) (text_in name)) named))

@@ -1,77 +1,112 @@
--- What the program tells, and what it writes to the file of a plan, of a command and of the words that ask for it.
-use Rattle.std.proofs.Common.{◌≡◌, ℕ, List, ◌∙◌, refl, subst}
-use Rattle.std.specs.Prelude.{Option, Bool, false, IsTrue}
+-- What the program tells, and which files are written, of an answer, of a command and of the words that ask for it.
+use Rattle.std.proofs.Common.{◌≡◌, ℕ, List, [], ◌∷◌, ◌++◌, ◌∙◌, sym, refl, ap, subst}
+use Rattle.std.specs.Prelude.{Option, Some, Bool, false, IsTrue, if◌then◌else◌}
+use Rattle.std.specs.Str.{bytes_eq}
 use Rattle.std.specs.Io.KnownBytes.{Appends}
 use Rattle.devices.specs.Devices.{AppendsBeginning}
+use Rattle.solver.specs.declared.answer.Answer.{Answer}
+use Rattle.solver.specs.Solver.{IsTrueAnswer}
 use Rattle.planner_main.specs.declared.program.command.Command.{Command}
-use Rattle.planner_main.specs.Written.{HoldsBeginning}
+use Rattle.planner_main.specs.Options.{Asked}
+use Rattle.planner_main.specs.Written.{NamedText, HoldsBeginning, with_file, with_files, AreWritten, AreWrittenPartly}
 use Rattle.planner_main.specs.Report.{is_failure}
-use Rattle.planner_main.specs.Program.{HoldsPlan, HoldsPlanPartly, AreKept, nothing, in_the_file, on_the_output, IsAnswerFor, IsFileOf, NamesPlanFile, Tells, TellsPartly, TellsFor, TellsPartlyFor, Asks}
-use Rattle.planner_main.proofs.ProgramWords.{answer_of_words, answered_status, file_named, names_file}
+use Rattle.planner_main.specs.Solution.{TellsAnswer, cert_file, plan_file, text_of, status_of}
+use Rattle.planner_main.specs.Program.{AreKept, IsTold, IsToldPartly, nothing, in_a_file, on_the_output, IsAnswer, IsAnswerFor, IsAnswerText, OnTwo, Tells, TellsPartly, TellsFor, TellsPartlyFor, Asks}
+use Rattle.planner_main.proofs.ProgramWords.{answer_of_words, answered_status}
+use Rattle.model.specs.Task.{Task}
+use Rattle.model.specs.Files.{IsTaskOf}
 
--- What the file of a plan holds, where the files were the same before.
-module _ (before now after : List ℕ → Option (List ℕ)) (P : List ℕ → Type 0) (text : List ℕ) where
-  pub holds_since : (status : ℕ) → AreKept before now → HoldsPlan now after P text status → HoldsPlan before after P text status
-  holds_since status kept h = record { holds = h.holds; others = λ other none. h.others other none ∙ kept other }
+-- What is written over the same files is the same.
+with_files_same : (before now : List ℕ → Option (List ℕ)) (files : List NamedText) → AreKept before now → AreKept (with_files before files) (with_files now files)
+with_files_same before now [] kept = kept
+with_files_same before now (file ∷ rest) kept = with_files_same (with_file before file) (with_file now file) rest
+    (λ name. ap (λ (held : Option (List ℕ)). if bytes_eq name file.name then Some file.text else held) (kept name))
 
-  pub partly_since : AreKept before now → HoldsPlanPartly now after P text → HoldsPlanPartly before after P text
-  partly_since kept h = record {
-    beginning = λ name named. subst (λ held. HoldsBeginning held (after name) text) (kept name) (h.beginning name named);
-    others = λ other none. h.others other none ∙ kept other;
+with_files_more : (contents : List ℕ → Option (List ℕ)) (files more : List NamedText) (name : List ℕ)
+    → with_files contents (files ++ more) name ≡ with_files (with_files contents files) more name
+with_files_more contents [] more name = refl
+with_files_more contents (file ∷ rest) more name = with_files_more (with_file contents file) rest more name
+
+-- Files are written after others, or where the files were the same before.
+module _ (before now after : List ℕ → Option (List ℕ)) (done : List NamedText) (written : AreWritten before now done) where
+  pub written_after : (files : List NamedText) → AreWritten now after files → AreWritten before after (done ++ files)
+  written_after files more = λ name.
+      more name ∙ with_files_same (with_files before done) now files written name ∙ sym (with_files_more before done files name)
+
+  pub partly_after : (next : NamedText) → AreWrittenPartly now after [] next → AreWrittenPartly before after done next
+  partly_after next partly = record {
+    beginning = subst (λ held. HoldsBeginning held (after next.name) next.text) (written next.name) partly.beginning;
+    others = λ other differs. partly.others other differs ∙ written other;
   }
 
--- What the file of a plan holds, where its name is told in another way.
-module _ (before after : List ℕ → Option (List ℕ)) (P Q : List ℕ → Type 0) (text : List ℕ) where
-  holds_as : (status : ℕ) → ((name : List ℕ) → Q name → P name) → ((name : List ℕ) → P name → Q name) → HoldsPlan before after P text status
-      → HoldsPlan before after Q text status
-  holds_as status back forth h = record {
-    holds = λ name named zero. h.holds name (back name named) zero;
-    others = λ other none. h.others other (λ named zero. none (forth other named) zero);
+module _ (before now after : List ℕ → Option (List ℕ)) (kept : AreKept before now) (files : List NamedText) where
+  written_since : AreWritten now after files → AreWritten before after files
+  written_since held = λ name. held name ∙ with_files_same before now files kept name
+
+  partly_since : (next : NamedText) → AreWrittenPartly now after files next → AreWrittenPartly before after files next
+  partly_since next partly = record {
+    beginning = subst (λ held. HoldsBeginning held (after next.name) next.text) (with_files_same before now files kept next.name) partly.beginning;
+    others = λ other differs. partly.others other differs ∙ with_files_same before now files kept other;
   }
 
-  partly_as : ((name : List ℕ) → Q name → P name) → ((name : List ℕ) → P name → Q name) → HoldsPlanPartly before after P text
-      → HoldsPlanPartly before after Q text
-  partly_as back forth h = record {
-    beginning = λ name named. h.beginning name (back name named);
-    others = λ other none. h.others other (λ named. none (forth other named));
-  }
+-- What is told, in another way, where the files were the same before.
+module _ (P Q : List ℕ → ℕ → List NamedText → Type 0) (means : (text : List ℕ) (status : ℕ) (written : List NamedText) → P text status written → Q text status written)
+    (known : Bool) (before now after : List ℕ → Option (List ℕ)) (kept : AreKept before now) (out out_after : Option (List ℕ)) where
+  pub told_as : (status : ℕ) → IsTold P known now after out out_after status → IsTold Q known before after out out_after status
+  told_as status (text, written, is, appended, held) =
+      (text, written, means text status written is, appended, λ is_known. written_since before now after kept written (held is_known))
 
--- What is told of a command once its answer is there: the file of a plan is written, and then the standard output.
-module _ (command : Command) (known : Bool) (files now after : List ℕ → Option (List ℕ)) (out out_after : Option (List ℕ)) (text : List ℕ) (status : ℕ)
-    (is : IsAnswerFor files command text status) (kept : AreKept files now) where
-  pub saved_partly : status ≡ 0 → (IsTrue known → HoldsPlanPartly now after (IsFileOf command) text) → TellsPartlyFor command known files after out out
-  saved_partly zero held =
-      in_the_file text (subst (IsAnswerFor files command text) zero is) refl (λ is_known. partly_since files now after (IsFileOf command) text kept (held is_known))
+  pub partly_as : IsToldPartly P known now after out out_after → IsToldPartly Q known before after out out_after
+  partly_as (nothing same still) = nothing same (λ name. still name ∙ kept name)
+  partly_as (in_a_file text status done rest next is same held) =
+      in_a_file text status done rest next (means text status (done ++ next ∷ rest) is) same
+      (λ is_known. partly_since before now after kept done next (held is_known))
+  partly_as (on_the_output text status written is told held) =
+      on_the_output text status written (means text status written is) told (λ is_known. written_since before now after kept written (held is_known))
 
-  held_since : (IsTrue known → HoldsPlan now after (IsFileOf command) text status) → IsTrue known → HoldsPlan files after (IsFileOf command) text status
-  held_since held is_known = holds_since files now after (IsFileOf command) text status kept (held is_known)
+-- What tells an answer that is true of two texts tells what they are asked for.
+pub answer_told : (contents : List ℕ → Option (List ℕ)) (domain problem : List ℕ) (asked : Asked) (task : Task) (a : Answer)
+    → OnTwo contents domain problem (λ d p. IsTaskOf d p task × IsTrueAnswer task asked.states asked.instances a)
+    → (text : List ℕ) (status : ℕ) (written : List NamedText) → TellsAnswer task a asked.cert asked.plan text status written
+    → IsAnswerText contents domain problem asked text status written
+answer_told contents domain problem asked task a (d, p, d_is, p_is, (is_task, is_true)) text status written tells =
+    (d, p, d_is, p_is, (task, a, is_task, is_true, tells))
 
-  pub output_partly : (IsTrue known → HoldsPlan now after (IsFileOf command) text status) → AppendsBeginning out out_after text
-      → TellsPartlyFor command known files after out out_after
-  output_partly held told = on_the_output text status is told (held_since held)
+-- An answer is told, whole or in part, by its files and then the standard output.
+module _ (task : Task) (a : Answer) (cert plan : Option (List ℕ)) (known : Bool) (before : List ℕ → Option (List ℕ)) where
+  pub partly_in_cert : (after : List ℕ → Option (List ℕ)) (out : Option (List ℕ))
+      → (next : NamedText) × (cert_file task a cert ≡ next ∷ []) × (IsTrue known → AreWrittenPartly before after [] next)
+      → IsToldPartly (TellsAnswer task a cert plan) known before after out out
+  partly_in_cert after out (next, is, held) =
+      in_a_file (text_of task a) (status_of a) [] (plan_file task a plan) next (refl, refl, sym (ap (λ files. files ++ plan_file task a plan) is)) refl held
 
-  pub output_told : (IsTrue known → HoldsPlan now after (IsFileOf command) text status) → Appends out out_after text
-      → TellsFor command known files after out out_after status
-  output_told held told = (text, is, told, held_since held)
+  module _ (now after : List ℕ → Option (List ℕ)) (written : IsTrue known → AreWritten before now (cert_file task a cert)) where
+    pub partly_in_plan : (out : Option (List ℕ))
+        → (next : NamedText) × (plan_file task a plan ≡ next ∷ []) × (IsTrue known → AreWrittenPartly now after [] next)
+        → IsToldPartly (TellsAnswer task a cert plan) known before after out out
+    partly_in_plan out (next, is, held) =
+        in_a_file (text_of task a) (status_of a) (cert_file task a cert) [] next (refl, refl, sym (ap (λ files. cert_file task a cert ++ files) is)) refl
+        (λ is_known. partly_after before now after (cert_file task a cert) (written is_known) next (held is_known))
+
+    both_written : (IsTrue known → AreWritten now after (plan_file task a plan)) → IsTrue known → AreWritten before after (cert_file task a cert ++ plan_file task a plan)
+    both_written saved is_known = written_after before now after (cert_file task a cert) (written is_known) (plan_file task a plan) (saved is_known)
+
+    module _ (saved : IsTrue known → AreWritten now after (plan_file task a plan)) (out out_after : Option (List ℕ)) (text : List ℕ) (is : text ≡ text_of task a) where
+      pub partly_on_output : AppendsBeginning out out_after text → IsToldPartly (TellsAnswer task a cert plan) known before after out out_after
+      partly_on_output told = on_the_output text (status_of a) (cert_file task a cert ++ plan_file task a plan) (is, refl, refl) told (both_written saved)
+
+      pub told_on_output : (status : ℕ) → status ≡ status_of a → Appends out out_after text → IsTold (TellsAnswer task a cert plan) known before after out out_after status
+      told_on_output status has told = (text, cert_file task a cert ++ plan_file task a plan, (is, has, refl), told, both_written saved)
 
 -- What a command tells is told of the words that ask for it.
 module _ (words : List (List ℕ)) (command : Command) (asks : Asks words command) (known : Bool) (files after : List ℕ → Option (List ℕ)) (out out_after : Option (List ℕ)) where
-  held_of_words : (text : List ℕ) (status : ℕ) → (IsTrue known → HoldsPlan files after (IsFileOf command) text status)
-      → IsTrue known → HoldsPlan files after (NamesPlanFile words) text status
-  held_of_words text status held is_known =
-      holds_as files after (IsFileOf command) (NamesPlanFile words) text status (file_named words command asks) (names_file words command asks) (held is_known)
-
   pub told_of_words : (status : ℕ) → TellsFor command known files after out out_after status → Tells words known files after out out_after status
-  told_of_words status (text, is, appended, held) =
-      (text, answer_of_words files words command text status asks is, appended, held_of_words text status held)
+  told_of_words status told =
+      told_as (IsAnswerFor files command) (IsAnswer files words) (answer_of_words files words command asks) known files files after (λ name. refl) out out_after status told
 
   pub partly_of_words : TellsPartlyFor command known files after out out_after → TellsPartly words known files after out out_after
-  partly_of_words (nothing same kept) = nothing same kept
-  partly_of_words (in_the_file text is same held) =
-      in_the_file text (answer_of_words files words command text 0 asks is) same
-      (λ is_known. partly_as files after (IsFileOf command) (NamesPlanFile words) text (file_named words command asks) (names_file words command asks) (held is_known))
-  partly_of_words (on_the_output text status is told held) =
-      on_the_output text status (answer_of_words files words command text status asks is) told (held_of_words text status held)
+  partly_of_words told =
+      partly_as (IsAnswerFor files command) (IsAnswer files words) (answer_of_words files words command asks) known files files after (λ name. refl) out out_after told
 
   pub told_status : (status : ℕ) → TellsFor command known files after out out_after status → is_failure status ≡ false
-  told_status status (text, is, appended, held) = answered_status files command text status is
+  told_status status (text, written, is, appended, held) = answered_status files command text status written is

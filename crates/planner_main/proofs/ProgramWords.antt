@@ -11,9 +11,10 @@ use Rattle.planner_main.specs.declared.report.Failure.{Failure}
 use Rattle.planner_main.specs.declared.report.Failure.TheVariants as failure
 use Rattle.planner_main.specs.declared.task_file.FileFault.TheVariants as refusal
 use Rattle.devices.specs.declared.device.WriteFault.TheVariants as device
-use Rattle.planner_main.specs.Options.{IsOneOf, AreOptions}
-use Rattle.planner_main.proofs.OptionWords.{first_same, rest_same, one_file}
-use Rattle.planner_main.specs.Program.{texts, text_in, AsksForVerdict, AsksForPlan, IsCommand, is_validate, is_solve, IsText, OnTwo, OnThree, IsAnswerFor, IsAnswer, a_verdict, an_answer, Refuses, IsRefusedFor, a_verdict_refused, an_answer_refused, Asks, fault_in, IsFaultFor, IsToldOn, AreKept, NamesDomain, in_validate, in_solve, NamesInput, of_validate, of_solve, NamesPlanFile, IsFileOf, HasFailed, HasNotFailed, CountsFailure, CountsEither, device_failure, domain_of, inputs_of}
+use Rattle.planner_main.specs.Options.{Asked, IsOneOf, AreOptions}
+use Rattle.planner_main.specs.Written.{NamedText}
+use Rattle.planner_main.proofs.OptionWords.{first_same, rest_same}
+use Rattle.planner_main.specs.Program.{texts, AsksForVerdict, AsksForPlan, IsCommand, is_validate, is_solve, IsText, OnTwo, OnThree, IsAnswerFor, IsAnswer, a_verdict, an_answer, Refuses, IsRefusedFor, a_verdict_refused, an_answer_refused, Asks, fault_in, IsFaultFor, IsToldOn, AreKept, NamesDomain, in_validate, in_solve, NamesInput, of_validate, of_solve, asked_of, HasFailed, HasNotFailed, CountsFailure, CountsEither, device_failure, domain_of, inputs_of}
 use Rattle.planner_main.specs.declared.task_file.File.{File}
 use Rattle.planner_main.specs.declared.task_file.FileFault as file
 use Rattle.faults.specs.declared.code.Code.{Code}
@@ -57,38 +58,38 @@ validate_is_not_solve : codes "solve" ≡ codes "validate" → ⊥
 validate_is_not_solve same = absurd (cc)
 
 -- No words ask for both a verdict and a plan.
-not_both : (words : List (List ℕ)) (d p l domain problem : List ℕ) (states instances : ℕ) (file : Option (List ℕ)) → AsksForVerdict words d p l
-    → AsksForPlan words domain problem states instances file → ⊥
-not_both words d p l domain problem states instances file verdict plan = validate_is_not_solve (first_same _ _ _ _ (sym plan.in_order ∙ verdict))
+not_both : (words : List (List ℕ)) (d p l domain problem : List ℕ) (asked : Asked) → AsksForVerdict words d p l
+    → AsksForPlan words domain problem asked → ⊥
+not_both words d p l domain problem asked verdict plan = validate_is_not_solve (first_same _ _ _ _ (sym plan.in_order ∙ verdict))
 
 -- Words that begin as those that ask for a plan, with words behind that are no options, are no command.
 not_command : (words : List (List ℕ)) (first second : List ℕ) (options : List (List ℕ)) → words ≡ codes "solve" ∷ first ∷ second ∷ options
-    → ((states instances : ℕ) (file : Option (List ℕ)) → AreOptions options states instances file → ⊥) → IsCommand words → ⊥
+    → ((asked : Asked) → AreOptions options asked → ⊥) → IsCommand words → ⊥
 not_command words first second options is none (is_validate domain problem plan asks) =
     validate_is_not_solve (first_same _ _ _ _ (sym is ∙ asks))
-not_command words first second options is none (is_solve domain problem states instances file asks) =
+not_command words first second options is none (is_solve domain problem asked asks) =
     let after : asks.options ≡ options = rest_same _ _ _ _ (rest_same _ _ _ _ (rest_same _ _ _ _ (sym asks.in_order ∙ is))) in
-    none states instances file (subst (λ words. AreOptions words states instances file) after asks.are)
+    none asked (subst (λ words. AreOptions words asked) after asks.are)
 
 pub no_command : (command : Option Command) (words : List (List ℕ)) (first second : List ℕ) (options : List (List ℕ))
     → words ≡ codes "solve" ∷ first ∷ second ∷ options
-    → IfNone command ((states instances : ℕ) (file : Option (List ℕ)) → AreOptions options states instances file → ⊥)
+    → IfNone command ((asked : Asked) → AreOptions options asked → ⊥)
     → IfNone command (IsCommand words → ⊥)
 no_command None words first second options is none = not_command words first second options is none
 no_command (Some command) words first second options is none = tt
 
 -- What answers a command answers the words that ask for it, and so with what is refused.
 module _ (contents : List ℕ → Option (List ℕ)) (words : List (List ℕ)) where
-  pub answer_of_words : (command : Command) (text : List ℕ) (status : ℕ) → Asks words command → IsAnswerFor contents command text status
-      → IsAnswer contents words text status
-  answer_of_words (Validate domain problem plan) text status asks is = a_verdict domain.now problem.now plan.now asks is
-  answer_of_words (Solve domain problem limits file) text status asks is =
-      an_answer domain.now problem.now limits.states limits.instances (text_in file) asks is
+  pub answer_of_words : (command : Command) → Asks words command → (text : List ℕ) (status : ℕ) (written : List NamedText)
+      → IsAnswerFor contents command text status written → IsAnswer contents words text status written
+  answer_of_words (Validate domain problem plan) asks text status written is = a_verdict domain.now problem.now plan.now asks is
+  answer_of_words (Solve domain problem limits plan cert) asks text status written is =
+      an_answer domain.now problem.now (asked_of limits plan cert) asks is
 
   refused_of_words : (command : Command) (fault : FileFault) → Asks words command → IsFaultFor contents command fault → IsRefusedFor contents words fault
   refused_of_words (Validate domain problem plan) fault asks is = a_verdict_refused domain.now problem.now plan.now asks is
-  refused_of_words (Solve domain problem limits file) fault asks is =
-      an_answer_refused domain.now problem.now limits.states limits.instances (text_in file) asks is
+  refused_of_words (Solve domain problem limits plan cert) fault asks is =
+      an_answer_refused domain.now problem.now (asked_of limits plan cert) asks is
 
   -- The status of a text is told with the line of the fault that the failure is.
   pub refuses_of_words : (after : List ℕ → Option (List ℕ)) (out out_after : Option (List ℕ)) (Says : List ℕ → Type 0) (command : Command) (f : Failure) (status : ℕ)
@@ -106,48 +107,30 @@ module _ (contents : List ℕ → Option (List ℕ)) (words : List (List ℕ)) w
 module _ (words : List (List ℕ)) where
   pub domain_named : (command : Command) (name : List ℕ) → Asks words command → NamesDomain words name → name ≡ domain_of command
   domain_named (Validate domain problem plan) name asks (in_validate p l named) = first_same _ _ _ _ (rest_same _ _ _ _ (sym named ∙ asks))
-  domain_named (Validate domain problem plan) name asks (in_solve p states instances file named) = absurd (not_both _ _ _ _ _ _ _ _ _ asks named)
-  domain_named (Solve domain problem limits file) name asks (in_validate p l named) = absurd (not_both _ _ _ _ _ _ _ _ _ named asks)
-  domain_named (Solve domain problem limits file) name asks (in_solve p states instances other named) =
+  domain_named (Validate domain problem plan) name asks (in_solve p asked named) = absurd (not_both _ _ _ _ _ _ _ asks named)
+  domain_named (Solve domain problem limits plan cert) name asks (in_validate p l named) = absurd (not_both _ _ _ _ _ _ _ named asks)
+  domain_named (Solve domain problem limits plan cert) name asks (in_solve p asked named) =
       first_same _ _ _ _ (rest_same _ _ _ _ (sym named.in_order ∙ asks.in_order))
 
   pub names_command : (name : List ℕ) → NamesDomain words name → IsCommand words
   names_command name (in_validate p l named) = is_validate name p l named
-  names_command name (in_solve p states instances file named) = is_solve name p states instances file named
+  names_command name (in_solve p asked named) = is_solve name p asked named
 
   pub inputs_named : (command : Command) (name : List ℕ) → Asks words command → NamesInput words name → IsOneOf (inputs_of command) name
   inputs_named (Validate domain problem plan) name asks (of_validate d p l named is) =
       subst (λ names. IsOneOf names name) (rest_same _ _ _ _ (sym named ∙ asks)) is
-  inputs_named (Validate domain problem plan) name asks (of_solve d p states instances file named is) = absurd (not_both _ _ _ _ _ _ _ _ _ asks named)
-  inputs_named (Solve domain problem limits file) name asks (of_validate d p l named is) = absurd (not_both _ _ _ _ _ _ _ _ _ named asks)
-  inputs_named (Solve domain problem limits file) name asks (of_solve d p states instances other named is) =
+  inputs_named (Validate domain problem plan) name asks (of_solve d p asked named is) = absurd (not_both _ _ _ _ _ _ _ asks named)
+  inputs_named (Solve domain problem limits plan cert) name asks (of_validate d p l named is) = absurd (not_both _ _ _ _ _ _ _ named asks)
+  inputs_named (Solve domain problem limits plan cert) name asks (of_solve d p asked named is) =
       subst (λ names. IsOneOf names name) (ap (take 2) (rest_same _ _ _ _ (sym named.in_order ∙ asks.in_order))) is
 
   pub reads_command : (name : List ℕ) → NamesInput words name → IsCommand words
   reads_command name (of_validate d p l named is) = is_validate d p l named
-  reads_command name (of_solve d p states instances file named is) = is_solve d p states instances file named
-
-  pub file_named : (command : Command) → Asks words command → (name : List ℕ) → NamesPlanFile words name → IsFileOf command name
-  file_named (Validate domain problem plan) asks name named = absurd (not_both _ _ _ _ _ _ _ _ _ asks named.asks)
-  file_named (Solve domain problem limits file) asks name named =
-      let same : asks.options ≡ named.asks.options =
-      rest_same _ _ _ _ (rest_same _ _ _ _ (rest_same _ _ _ _ (sym asks.in_order ∙ named.asks.in_order))) in
-      let are = subst (λ words. AreOptions words limits.states limits.instances (text_in file)) same asks.are in
-      one_file named.asks.options _ _ _ _ _ _ are named.asks.are
-
-  pub names_file : (command : Command) → Asks words command → (name : List ℕ) → IsFileOf command name → NamesPlanFile words name
-  names_file (Validate domain problem plan) asks name is = absurd (cc)
-  names_file (Solve domain problem limits file) asks name is = record {
-    domain = domain.now;
-    problem = problem.now;
-    states = limits.states;
-    instances = limits.instances;
-    asks = subst (AsksForPlan words domain.now problem.now limits.states limits.instances) is asks;
-  }
+  reads_command name (of_solve d p asked named is) = is_solve d p asked named
 
 pub asked_is_command : (words : List (List ℕ)) (command : Command) → Asks words command → IsCommand words
 asked_is_command words (Validate domain problem plan) asks = is_validate domain.now problem.now plan.now asks
-asked_is_command words (Solve domain problem limits file) asks = is_solve domain.now problem.now limits.states limits.instances (text_in file) asks
+asked_is_command words (Solve domain problem limits plan cert) asks = is_solve domain.now problem.now (asked_of limits plan cert) asks
 
 -- The statuses of verdicts and answers are none of a failure.
 verdict_status : (v : Verdict) → is_failure (verdict.status_of v) ≡ false
@@ -160,11 +143,11 @@ answer_status (Plan steps cost cert) = refl
 answer_status (Unsolvable cert) = refl
 answer_status (Unknown limit) = refl
 
-pub answered_status : (contents : List ℕ → Option (List ℕ)) (command : Command) (text : List ℕ) (status : ℕ)
-    → IsAnswerFor contents command text status → is_failure status ≡ false
-answered_status contents (Validate domain problem plan) text status (d, p, l, d_is, p_is, l_is, (v, is_true, is_line, is_status)) =
+pub answered_status : (contents : List ℕ → Option (List ℕ)) (command : Command) (text : List ℕ) (status : ℕ) (written : List NamedText)
+    → IsAnswerFor contents command text status written → is_failure status ≡ false
+answered_status contents (Validate domain problem plan) text status written ((d, p, l, d_is, p_is, l_is, (v, is_true, is_line, is_status)), none) =
     ap is_failure is_status ∙ verdict_status v
-answered_status contents (Solve domain problem limits file) text status (d, p, d_is, p_is, (task, a, is_task, is_true, is_text, is_status)) =
+answered_status contents (Solve domain problem limits plan cert) text status written (d, p, d_is, p_is, (task, a, is_task, is_true, (is_text, is_status, files))) =
     ap is_failure is_status ∙ answer_status a
 
 pub no_failure : (n status : ℕ) → is_failure status ≡ false → is_failure n ≡ true → status ≡ n → ⊥
@@ -214,6 +197,11 @@ pub device_counted : (T : Type 0) (before opened after : ℕ) (fault : WriteFaul
     → CountsFailure before after (failure.Device fault)
 device_counted T before opened after device.Device same counted = counted ∙ ap one_more same
 device_counted T before opened after device.NoMemory same counted = counted ∙ same
+
+-- the same, after a call of the files that counted none
+pub either_since : (before now after out out_after : ℕ) (f : Failure) → now ≡ before → CountsEither now after out out_after f
+    → CountsEither before after out out_after f
+either_since before now after out out_after f same counted = subst (λ files. CountsEither files after out out_after f) same counted
 
 module _ (files files_after out out_after : ℕ) where
   pub device_has_failed : (f : Failure) → f ≡ device_failure → CountsEither files files_after out out_after f → HasFailed files files_after out out_after

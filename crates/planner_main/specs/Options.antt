@@ -28,7 +28,7 @@ IsOneOf (first ∷ rest) name = (name ≡ first) ⊎ IsOneOf rest name
 
 -- the names of the options that there are
 abbrev pub option_names : List (List ℕ)
-option_names = codes "--plan" ∷ codes "--states" ∷ codes "--instances" ∷ []
+option_names = codes "--plan" ∷ codes "--cert" ∷ codes "--states" ∷ codes "--instances" ∷ []
 
 -- Each name is that of an option, and none stands twice.
 pub record AreDistinct (options : List NamedValue) : Type 0 where
@@ -48,12 +48,20 @@ IsNumberOf (Some text) number = IsNumber text number
 abbrev pub IsLimit : Option (List ℕ) → ℕ → Type 0
 IsLimit text number = IsNumberOf text number × (1 ≤ number) × (number ≤ 16777216)
 
--- The words are options, in any order, that allow so many states and instances and name the file that a plan is to be
--- written to, or none.
-pub record AreOptions (words : List (List ℕ)) (states instances : ℕ) (file : Option (List ℕ)) : Type 0 where
+-- what the options ask for: how many states and instances are allowed, and the files that the plan and the certificate are
+-- to be written to, if any
+pub record Asked : Type 0 where
+  pub states : ℕ
+  pub instances : ℕ
+  pub plan : Option (List ℕ)
+  pub cert : Option (List ℕ)
+
+-- The words are options, in any order, that ask for this.
+pub record AreOptions (words : List (List ℕ)) (asked : Asked) : Type 0 where
   pub options : List NamedValue
   pub in_order : words ≡ words_of options
   pub distinct : AreDistinct options
-  pub allow_states : IsLimit (value_of (codes "--states") options) states
-  pub allow_instances : IsLimit (value_of (codes "--instances") options) instances
-  pub name_file : file ≡ value_of (codes "--plan") options
+  pub allow_states : IsLimit (value_of (codes "--states") options) asked.states
+  pub allow_instances : IsLimit (value_of (codes "--instances") options) asked.instances
+  pub name_plan : asked.plan ≡ value_of (codes "--plan") options
+  pub name_cert : asked.cert ≡ value_of (codes "--cert") options

@@ -1,9 +1,10 @@
 -- What the program does: what its words ask for, which texts its files have, and what it tells of them with which status.
-use Rattle.std.specs.Prelude.{◌≡◌, ℕ, ◌⊎◌, Bool, List, [], ◌∷◌, codes, map, take, Option, None, Some, IfSome, IsTrue, Result, Ok, Err}
+use Rattle.std.specs.Prelude.{◌≡◌, ℕ, ◌⊎◌, Bool, List, [], ◌∷◌, ◌++◌, codes, map, take, Option, None, Some, IfSome, IsTrue, Result, Ok, Err}
 use Rattle.std.specs.Option.{option_map}
 use Rattle.std.specs.Borrow.{Bor}
 use Rattle.std.specs.Io.KnownBytes.{Appends}
 use Rattle.solver.specs.declared.answer.Answer.{Answer}
+use Rattle.solver.specs.declared.limits.Limits.{Limits}
 use Rattle.solver.specs.Solver.{IsTrueAnswer}
 use Rattle.planner_main.specs.declared.program.command.Command.{Command}
 use Rattle.planner_main.specs.declared.program.command.Options.{Options}
@@ -11,16 +12,16 @@ use Rattle.planner_main.specs.declared.program.command.Command.TheVariants.{Vali
 use Rattle.planner_main.specs.declared.report.Failure.{Failure}
 use Rattle.planner_main.specs.declared.report.Failure.TheVariants as failure
 use Rattle.planner_main.specs.declared.task_file.FileFault.TheVariants as refusal
+use Rattle.devices.specs.declared.device.WriteFault as device_fault
 use Rattle.devices.specs.declared.device.WriteFault.TheVariants as device
 use Rattle.devices.specs.Devices.{AppendsBeginning, one_more}
 use Rattle.planner_main.specs.Failures.{line_of_fault, device_line, no_memory_line}
 use Rattle.planner_main.specs.Files.{fault_at, told_in}
-use Rattle.planner_main.specs.Options.{NamedValue, value_of, IsOneOf, AreDistinct, AreOptions}
+use Rattle.planner_main.specs.Options.{Asked, NamedValue, value_of, IsOneOf, AreDistinct, AreOptions}
 use Rattle.planner_main.specs.Report.{line_of}
 use Rattle.planner_main.specs.Report as verdict
-use Rattle.planner_main.specs.Written.{HoldsBeginning}
-use Rattle.planner_main.specs.Solution.{text_of}
-use Rattle.planner_main.specs.Solution as answer
+use Rattle.planner_main.specs.Written.{NamedText, AreWritten, AreWrittenPartly}
+use Rattle.planner_main.specs.Solution.{TellsAnswer}
 use Rattle.model.specs.Runs.{Verdict}
 use Rattle.model.specs.Task.{Task}
 use Rattle.model.specs.Files.{FileFault, IsTaskOf, IsTaskFault, IsVerdictOf, IsFileFault}
@@ -29,40 +30,31 @@ use Rattle.model.specs.Files.{FileFault, IsTaskOf, IsTaskFault, IsVerdictOf, IsF
 abbrev pub texts : List (Bor (List ℕ)) → List (List ℕ)
 texts words = map (λ word. word.now) words
 
--- The words ask for the verdict on a plan file, or for a cheapest plan within so many states and instances, with the file to
--- write it to.
+-- The words ask for the verdict on a plan file, or for a cheapest plan, with what their options ask for.
 abbrev pub AsksForVerdict : List (List ℕ) → (domain problem plan : List ℕ) → Type 0
 AsksForVerdict words domain problem plan = words ≡ codes "validate" ∷ domain ∷ problem ∷ plan ∷ []
 
-pub record AsksForPlan (words : List (List ℕ)) (domain problem : List ℕ) (states instances : ℕ) (file : Option (List ℕ)) : Type 0 where
+pub record AsksForPlan (words : List (List ℕ)) (domain problem : List ℕ) (asked : Asked) : Type 0 where
   pub options : List (List ℕ)
   pub in_order : words ≡ codes "solve" ∷ domain ∷ problem ∷ options
-  pub are : AreOptions options states instances file
+  pub are : AreOptions options asked
 
 -- the words are a command
 pub data IsCommand (words : List (List ℕ)) : Type 0 where
   is_validate : (domain problem plan : List ℕ) → AsksForVerdict words domain problem plan → IsCommand words
-  is_solve : (domain problem : List ℕ) (states instances : ℕ) (file : Option (List ℕ)) → AsksForPlan words domain problem states instances file → IsCommand words
+  is_solve : (domain problem : List ℕ) (asked : Asked) → AsksForPlan words domain problem asked → IsCommand words
 
 -- The words are a command whose domain file has this name.
 pub data NamesDomain (words : List (List ℕ)) (domain : List ℕ) : Type 0 where
   in_validate : (problem plan : List ℕ) → AsksForVerdict words domain problem plan → NamesDomain words domain
-  in_solve : (problem : List ℕ) (states instances : ℕ) (file : Option (List ℕ)) → AsksForPlan words domain problem states instances file → NamesDomain words domain
+  in_solve : (problem : List ℕ) (asked : Asked) → AsksForPlan words domain problem asked → NamesDomain words domain
 
 -- The words are a command that reads the file of this name.
 pub data NamesInput (words : List (List ℕ)) (name : List ℕ) : Type 0 where
   of_validate : (domain problem plan : List ℕ) → AsksForVerdict words domain problem plan → IsOneOf (domain ∷ problem ∷ plan ∷ []) name
       → NamesInput words name
-  of_solve : (domain problem : List ℕ) (states instances : ℕ) (file : Option (List ℕ)) → AsksForPlan words domain problem states instances file
+  of_solve : (domain problem : List ℕ) (asked : Asked) → AsksForPlan words domain problem asked
       → IsOneOf (domain ∷ problem ∷ []) name → NamesInput words name
-
--- The words ask for a plan, and for its text in the file of this name.
-pub record NamesPlanFile (words : List (List ℕ)) (name : List ℕ) : Type 0 where
-  pub domain : List ℕ
-  pub problem : List ℕ
-  pub states : ℕ
-  pub instances : ℕ
-  pub asks : AsksForPlan words domain problem states instances (Some name)
 
 -- the text of the file of this name: where its contents are known, their first 16,777,217 bytes, or all where they are fewer
 abbrev pub IsText : (List ℕ → Option (List ℕ)) → List ℕ → List ℕ → Type 0
@@ -83,73 +75,64 @@ abbrev pub IsVerdictLine : (domain problem plan text : List ℕ) → (status : �
 IsVerdictLine domain problem plan text status =
     (v : Verdict) × IsVerdictOf domain problem plan v × (text ≡ line_of v) × (status ≡ verdict.status_of v)
 
--- This text is that of an answer to the task of two texts that is true within these limits, and the status is the answer's.
-abbrev pub IsSolutionText : (domain problem : List ℕ) → (states instances : ℕ) → (text : List ℕ) → (status : ℕ) → Type 0
-IsSolutionText domain problem states instances text status =
-    (task : Task) × (a : Answer) × IsTaskOf domain problem task × IsTrueAnswer task states instances a
-    × (text ≡ text_of task a) × (status ≡ answer.status_of a)
+-- This text is that of an answer to the task of two texts that is true within the asked limits, the status is the answer's,
+-- and these files are written.
+abbrev pub IsSolutionText : (domain problem : List ℕ) → Asked → (text : List ℕ) → (status : ℕ) → List NamedText → Type 0
+IsSolutionText domain problem asked text status files =
+    (task : Task) × (a : Answer) × IsTaskOf domain problem task × IsTrueAnswer task asked.states asked.instances a
+    × TellsAnswer task a asked.cert asked.plan text status files
 
--- the same of the texts of these files
-abbrev pub IsVerdictText : (List ℕ → Option (List ℕ)) → (domain problem plan text : List ℕ) → (status : ℕ) → Type 0
-IsVerdictText contents domain problem plan text status =
-    OnThree contents domain problem plan (λ d p l. IsVerdictLine d p l text status)
+-- This text, with this status and the files that are written before it, is an answer that is true of the texts of these files:
+-- a verdict, beside which none is written, or what was found out of a task.
+abbrev pub IsVerdictText : (List ℕ → Option (List ℕ)) → (domain problem plan text : List ℕ) → (status : ℕ) → List NamedText → Type 0
+IsVerdictText contents domain problem plan text status written =
+    OnThree contents domain problem plan (λ d p l. IsVerdictLine d p l text status) × (written ≡ [])
 
-abbrev pub IsAnswerText : (List ℕ → Option (List ℕ)) → (domain problem : List ℕ) → (states instances : ℕ) → (text : List ℕ) → (status : ℕ) → Type 0
-IsAnswerText contents domain problem states instances text status =
-    OnTwo contents domain problem (λ d p. IsSolutionText d p states instances text status)
+abbrev pub IsAnswerText : (List ℕ → Option (List ℕ)) → (domain problem : List ℕ) → Asked → (text : List ℕ) → (status : ℕ) → List NamedText → Type 0
+IsAnswerText contents domain problem asked text status written =
+    OnTwo contents domain problem (λ d p. IsSolutionText d p asked text status written)
 
--- This text, with this status, is a true answer to what the words ask for.
-pub data IsAnswer (contents : List ℕ → Option (List ℕ)) (words : List (List ℕ)) (text : List ℕ) (status : ℕ) : Type 0 where
+-- They are a true answer to what the words ask for.
+pub data IsAnswer (contents : List ℕ → Option (List ℕ)) (words : List (List ℕ)) (text : List ℕ) (status : ℕ) (written : List NamedText) : Type 0 where
   a_verdict : (domain problem plan : List ℕ) → AsksForVerdict words domain problem plan
-      → IsVerdictText contents domain problem plan text status → IsAnswer contents words text status
-  an_answer : (domain problem : List ℕ) (states instances : ℕ) (file : Option (List ℕ)) → AsksForPlan words domain problem states instances file
-      → IsAnswerText contents domain problem states instances text status → IsAnswer contents words text status
-
--- The file to which a plan is to be written, which `Named` tells, holds this text where it is a plan's, that is with the
--- status 0; each other file is as it was.
-pub record HoldsPlan (before after : List ℕ → Option (List ℕ)) (Named : List ℕ → Type 0) (text : List ℕ) (status : ℕ) : Type 0 where
-  pub holds : (name : List ℕ) → Named name → status ≡ 0 → after name ≡ Some text
-  pub others : (other : List ℕ) → (Named other → status ≡ 0 → ⊥) → after other ≡ before other
-
--- That file is as it was, or holds a beginning of this text; each other file is as it was.
-pub record HoldsPlanPartly (before after : List ℕ → Option (List ℕ)) (Named : List ℕ → Type 0) (text : List ℕ) : Type 0 where
-  pub beginning : (name : List ℕ) → Named name → HoldsBeginning (before name) (after name) text
-  pub others : (other : List ℕ) → (Named other → ⊥) → after other ≡ before other
+      → IsVerdictText contents domain problem plan text status written → IsAnswer contents words text status written
+  an_answer : (domain problem : List ℕ) (asked : Asked) → AsksForPlan words domain problem asked
+      → IsAnswerText contents domain problem asked text status written → IsAnswer contents words text status written
 
 -- each file is as it was
 abbrev pub AreKept : (before after : List ℕ → Option (List ℕ)) → Type 0
 AreKept before after = (name : List ℕ) → after name ≡ before name
 
--- A true answer is told: the standard output grew by its text, and the file of a plan holds it, where files are known.
-abbrev pub IsTold : (IsTrueText : List ℕ → ℕ → Type 0) → (Named : List ℕ → Type 0) → (known : Bool)
+-- A true answer is told: its files hold their texts, where files are known, and the standard output grew by its text.
+abbrev pub IsTold : (IsTrueText : List ℕ → ℕ → List NamedText → Type 0) → (known : Bool)
     → (files files_after : List ℕ → Option (List ℕ)) → (out out_after : Option (List ℕ)) → ℕ → Type 0
-IsTold IsTrueText Named known files files_after out out_after status =
-    (text : List ℕ) × IsTrueText text status × Appends out out_after text
-    × (IsTrue known → HoldsPlan files files_after Named text status)
+IsTold IsTrueText known files files_after out out_after status =
+    (text : List ℕ) × (written : List NamedText) × IsTrueText text status written × Appends out out_after text
+    × (IsTrue known → AreWritten files files_after written)
 
--- A true answer is told in part. Nothing was written; or the file of a plan is being written, and nothing of the standard
--- output; or that file is written, and the standard output took a beginning of the text.
-pub data IsToldPartly (IsTrueText : List ℕ → ℕ → Type 0) (Named : List ℕ → Type 0) (known : Bool)
+-- A true answer is told in part. Nothing was written; or some of its files are, the next one is being written, and nothing of
+-- the standard output; or its files are written, and the standard output took a beginning of the text.
+pub data IsToldPartly (IsTrueText : List ℕ → ℕ → List NamedText → Type 0) (known : Bool)
     (files files_after : List ℕ → Option (List ℕ)) (out out_after : Option (List ℕ)) : Type 0 where
-  nothing : out_after ≡ out → AreKept files files_after → IsToldPartly IsTrueText Named known files files_after out out_after
-  in_the_file : (text : List ℕ) → IsTrueText text 0 → out_after ≡ out → (IsTrue known → HoldsPlanPartly files files_after Named text)
-      → IsToldPartly IsTrueText Named known files files_after out out_after
-  on_the_output : (text : List ℕ) (status : ℕ) → IsTrueText text status → AppendsBeginning out out_after text
-      → (IsTrue known → HoldsPlan files files_after Named text status)
-      → IsToldPartly IsTrueText Named known files files_after out out_after
+  nothing : out_after ≡ out → AreKept files files_after → IsToldPartly IsTrueText known files files_after out out_after
+  in_a_file : (text : List ℕ) (status : ℕ) (done rest : List NamedText) (next : NamedText) → IsTrueText text status (done ++ next ∷ rest)
+      → out_after ≡ out → (IsTrue known → AreWrittenPartly files files_after done next)
+      → IsToldPartly IsTrueText known files files_after out out_after
+  on_the_output : (text : List ℕ) (status : ℕ) (written : List NamedText) → IsTrueText text status written → AppendsBeginning out out_after text
+      → (IsTrue known → AreWritten files files_after written) → IsToldPartly IsTrueText known files files_after out out_after
 
 -- what the words ask for is told, whole or in part
 abbrev pub Tells : List (List ℕ) → (known : Bool) → (files files_after : List ℕ → Option (List ℕ)) → (out out_after : Option (List ℕ)) → ℕ → Type 0
-Tells words known files files_after = IsTold (IsAnswer files words) (NamesPlanFile words) known files files_after
+Tells words known files files_after = IsTold (IsAnswer files words) known files files_after
 
 abbrev pub TellsPartly : List (List ℕ) → (known : Bool) → (files files_after : List ℕ → Option (List ℕ)) → (out out_after : Option (List ℕ)) → Type 0
-TellsPartly words known files files_after = IsToldPartly (IsAnswer files words) (NamesPlanFile words) known files files_after
+TellsPartly words known files files_after = IsToldPartly (IsAnswer files words) known files files_after
 
 -- The texts of the files that the words name are refused, and this fault is the first.
 pub data IsRefusedFor (contents : List ℕ → Option (List ℕ)) (words : List (List ℕ)) (fault : FileFault) : Type 0 where
   a_verdict_refused : (domain problem plan : List ℕ) → AsksForVerdict words domain problem plan
       → OnThree contents domain problem plan (λ d p l. IsFileFault d p l fault) → IsRefusedFor contents words fault
-  an_answer_refused : (domain problem : List ℕ) (states instances : ℕ) (file : Option (List ℕ)) → AsksForPlan words domain problem states instances file
+  an_answer_refused : (domain problem : List ℕ) (asked : Asked) → AsksForPlan words domain problem asked
       → OnTwo contents domain problem (λ d p. IsTaskFault d p fault) → IsRefusedFor contents words fault
 
 -- The texts are refused: the standard output and the files are as they were, and the standard error says the line of the fault.
@@ -165,13 +148,6 @@ HasFailed files files_after out out_after = (files_after ≡ one_more files) ⊎
 abbrev pub HasNotFailed : (files files_after out out_after : ℕ) → Type 0
 HasNotFailed files files_after out out_after = (files_after ≡ files) × (out_after ≡ out)
 
--- the same of what a command asks for, in the code's terms
-abbrev pub IsAnswerFor : (List ℕ → Option (List ℕ)) → Command → (text : List ℕ) → ℕ → Type 0
-IsAnswerFor contents (Validate domain problem plan) text status =
-    IsVerdictText contents domain.now problem.now plan.now text status
-IsAnswerFor contents (Solve domain problem limits file) text status =
-    IsAnswerText contents domain.now problem.now limits.states limits.instances text status
-
 -- the bytes of a word, where there is one
 abbrev pub text_in : Option (Bor (List ℕ)) → Option (List ℕ)
 text_in = option_map (λ (word : Bor (List ℕ)). word.now)
@@ -180,28 +156,31 @@ text_in = option_map (λ (word : Bor (List ℕ)). word.now)
 pub record Holds (held : Options) (options : List NamedValue) : Type 0 where
   pub distinct : AreDistinct options
   pub plan : text_in held.plan ≡ value_of (codes "--plan") options
+  pub cert : text_in held.cert ≡ value_of (codes "--cert") options
   pub states : text_in held.states ≡ value_of (codes "--states") options
   pub instances : text_in held.instances ≡ value_of (codes "--instances") options
 
--- the file that a plan is to be written to
-abbrev pub file_of : Command → Option (List ℕ)
-file_of (Validate domain problem plan) = None
-file_of (Solve domain problem limits file) = text_in file
+-- what a command asks for beyond the files that it reads
+abbrev pub asked_of : Limits → (plan cert : Option (Bor (List ℕ))) → Asked
+asked_of limits plan cert = record { states = limits.states; instances = limits.instances; plan = text_in plan; cert = text_in cert }
 
-abbrev pub IsFileOf : Command → List ℕ → Type 0
-IsFileOf command name = file_of command ≡ Some name
+-- the same of what a command asks for, in the code's terms
+abbrev pub IsAnswerFor : (List ℕ → Option (List ℕ)) → Command → (text : List ℕ) → ℕ → List NamedText → Type 0
+IsAnswerFor contents (Validate domain problem plan) text status written =
+    IsVerdictText contents domain.now problem.now plan.now text status written
+IsAnswerFor contents (Solve domain problem limits plan cert) text status written =
+    IsAnswerText contents domain.now problem.now (asked_of limits plan cert) text status written
 
 abbrev pub TellsFor : Command → (known : Bool) → (files files_after : List ℕ → Option (List ℕ)) → (out out_after : Option (List ℕ)) → ℕ → Type 0
-TellsFor command known files files_after = IsTold (IsAnswerFor files command) (IsFileOf command) known files files_after
+TellsFor command known files files_after = IsTold (IsAnswerFor files command) known files files_after
 
 abbrev pub TellsPartlyFor : Command → (known : Bool) → (files files_after : List ℕ → Option (List ℕ)) → (out out_after : Option (List ℕ)) → Type 0
-TellsPartlyFor command known files files_after = IsToldPartly (IsAnswerFor files command) (IsFileOf command) known files files_after
+TellsPartlyFor command known files files_after = IsToldPartly (IsAnswerFor files command) known files files_after
 
 -- the words are this command
 abbrev pub Asks : List (List ℕ) → Command → Type 0
 Asks words (Validate domain problem plan) = AsksForVerdict words domain.now problem.now plan.now
-Asks words (Solve domain problem limits file) =
-    AsksForPlan words domain.now problem.now limits.states limits.instances (text_in file)
+Asks words (Solve domain problem limits plan cert) = AsksForPlan words domain.now problem.now (asked_of limits plan cert)
 
 -- the fault of a text that the failure is, and None of a device or of memory
 abbrev pub fault_in : Failure → Option FileFault
@@ -212,11 +191,15 @@ fault_in (failure.Device fault) = None
 abbrev pub IsFaultFor : (List ℕ → Option (List ℕ)) → Command → FileFault → Type 0
 IsFaultFor contents (Validate domain problem plan) fault =
     OnThree contents domain.now problem.now plan.now (λ d p l. IsFileFault d p l fault)
-IsFaultFor contents (Solve domain problem limits file) fault = OnTwo contents domain.now problem.now (λ d p. IsTaskFault d p fault)
+IsFaultFor contents (Solve domain problem limits plan cert) fault = OnTwo contents domain.now problem.now (λ d p. IsTaskFault d p fault)
+
+-- the failure of a write
+abbrev pub of_device : device_fault.WriteFault → Failure
+of_device fault = failure.Device fault
 
 -- the failure of a device
 abbrev pub device_failure : Failure
-device_failure = failure.Device device.Device
+device_failure = of_device device.Device
 
 -- A failure of a device counts one failure, another none: of the files, and of the files or the standard output.
 abbrev pub CountsFailure : (before after : ℕ) → Failure → Type 0
@@ -241,12 +224,12 @@ IsToldOn (failure.Device device.NoMemory) Says status = (status ≡ 22) × Says 
 -- the name of the file that is opened first
 abbrev pub domain_of : Command → List ℕ
 domain_of (Validate domain problem plan) = domain.now
-domain_of (Solve domain problem limits file) = domain.now
+domain_of (Solve domain problem limits plan cert) = domain.now
 
 -- the names of the files that are read
 abbrev pub inputs_of : Command → List (List ℕ)
 inputs_of (Validate domain problem plan) = domain.now ∷ problem.now ∷ plan.now ∷ []
-inputs_of (Solve domain problem limits file) = domain.now ∷ problem.now ∷ []
+inputs_of (Solve domain problem limits plan cert) = domain.now ∷ problem.now ∷ []
 
 -- there is no answer, and no fault of a text is told
 abbrev pub IsUnread : {T : Type 0} → Result T Failure → Type 0

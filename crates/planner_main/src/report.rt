@@ -33,7 +33,7 @@ pub(crate) const DEVICE: u8 = 21;
 pub(crate) const NO_MEMORY: u8 = 22;
 
 const USAGE: &str =
-    "usage: optplan solve DOMAIN PROBLEM [--plan FILE] [--states N] [--instances N]\n       optplan validate DOMAIN PROBLEM PLAN\n";
+    "usage: optplan solve DOMAIN PROBLEM [--plan FILE] [--cert FILE] [--states N] [--instances N]\n       optplan validate DOMAIN PROBLEM PLAN\n";
 
 /// Why the program has no answer.
 #[derive(Clone, Copy)]

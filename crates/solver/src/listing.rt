@@ -9,10 +9,10 @@ ghost use Rattle.std.specs.Prelude.{◌≡◌, ◌≤◌, if◌then◌else◌, [
 ghost use Rattle.typing.specs.TaskParts.{atom_of};
 ghost use Rattle.packed_state.specs.Packed.{bits_of};
 ghost use Rattle.packed_state.specs.PooledView.{pooled_states};
-ghost use Rattle.certificate.specs.CertificateParts as parts;
-ghost use Rattle.certificate.specs.CertificateParts.{claim_of};
+ghost use Rattle.certificate_lines.specs.Lines as parts;
+ghost use Rattle.certificate_lines.specs.Lines.{claim_of};
 ghost use Rattle.certificate.specs.Certificate.{certificate_of};
-ghost use Rattle.certificate.specs.declared.cert.TheConstants.{MAX_ATOMS, MAX_STATE_LINES};
+ghost use Rattle.certificate_lines.specs.declared.line.TheConstants.{MAX_ATOMS, MAX_STATE_LINES};
 ghost use Rattle.search.specs.Outcome as search;
 ghost use Rattle.search.specs.Outcome.{AreFound};
 ghost use Rattle.grounding.specs.Ground.{task_in, atoms_in};

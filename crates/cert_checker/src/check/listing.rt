@@ -3,7 +3,7 @@ ghost use Rattle.std.specs.Prelude.{◌≡◌, ◌≢◌, ◌≤◌, ◌↔◌, 
 ghost use Rattle.std.specs.List.{list_any};
 ghost use Rattle.indexmap.specs.IndexSet.{insert_key};
 ghost use Rattle.typing.specs.Task.{task_of};
-ghost use Rattle.certificate.specs.CertificateParts.{line_of};
+ghost use Rattle.certificate_lines.specs.Lines.{line_of};
 ghost use Rattle.certificate.specs.Certificate.{certificate_of};
 ghost use Rattle.packed_state.specs.PooledView.{pooled_width, pooled_states};
 ghost use Rattle.cert_checker.specs.FluentAtoms.{AreFluent};

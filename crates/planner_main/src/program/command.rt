@@ -1,7 +1,7 @@
 //! What the words of the program ask for.
 ghost use Rattle.std.specs.Prelude.{◌≡◌, ℕ, IfNone, IfSome, IsTrue, List, [], ◌∷◌, ◌++◌, Option, codes, false};
-ghost use Rattle.planner_main.specs.Options.{AreDistinct, AreOptions, IsLimit, IsNumberOf, NamedValue, named, words_of};
-ghost use Rattle.planner_main.specs.Program.{Asks, Holds, IsCommand, file_of, text_in, texts};
+ghost use Rattle.planner_main.specs.Options.{AreDistinct, AreOptions, Asked, IsLimit, IsNumberOf, NamedValue, named, words_of};
+ghost use Rattle.planner_main.specs.Program.{Asks, Holds, IsCommand, text_in, texts};
 
 use solver::Limits;
 
@@ -30,25 +30,16 @@ pub(super) enum Command<'a> {
         limits: Limits,
         /// The name of the file that the plan is written to, if any.
         plan: Option<&'a str>,
+        /// The name of the file that the certificate is written to, if any.
+        cert: Option<&'a str>,
     },
-}
-
-impl<'a> Command<'a> {
-    /// The name of the file that a plan is written to, if any.
-    pub(super) fn plan_file(self) -> Option<&'a str>
-        ensures { text_in result ≡ file_of self.entry }
-    {
-        match self {
-            Command::Validate { .. } => None,
-            Command::Solve { plan, .. } => plan,
-        }
-    }
 }
 
 /// The options of `solve` that are given, as they are written.
 #[derive(Clone, Copy)]
 struct Options<'a> {
     plan: Option<&'a str>,
+    cert: Option<&'a str>,
     states: Option<&'a str>,
     instances: Option<&'a str>,
 }
@@ -63,6 +54,7 @@ impl<'a> Options<'a> {
     {
         match name {
             "--plan" => self.plan.replace(value).is_none(),
+            "--cert" => self.cert.replace(value).is_none(),
             "--states" => self.states.replace(value).is_none(),
             "--instances" => self.instances.replace(value).is_none(),
             _ => false,
@@ -114,7 +106,7 @@ pub(super) fn read_command<'a>(words: &[&'a str]) -> Option<Command<'a>>
 /// The command `solve` with these files and options, and `None` where the words are no options.
 fn read_solve<'a>(domain: &'a str, problem: &'a str, words: &[&'a str]) -> Option<Command<'a>>
     ensures asks { IfSome result (Asks (codes "solve" ∷ domain.now ∷ problem.now ∷ texts words.now)) }
-    ensures none { IfNone result ((states instances : ℕ) (file : Option (List ℕ)) → AreOptions (texts words.now) states instances file → ⊥) }
+    ensures none { IfNone result ((asked : Asked) → AreOptions (texts words.now) asked → ⊥) }
 {
     let options = read_options(words)?;
     let limits = options.limits()?;
@@ -123,6 +115,7 @@ fn read_solve<'a>(domain: &'a str, problem: &'a str, words: &[&'a str]) -> Optio
         problem,
         limits,
         plan: options.plan,
+        cert: options.cert,
     })
 }
 
@@ -133,6 +126,7 @@ fn read_options<'a>(words: &[&'a str]) -> Option<Options<'a>>
 {
     let mut options = Options {
         plan: None,
+        cert: None,
         states: None,
         instances: None,
     };

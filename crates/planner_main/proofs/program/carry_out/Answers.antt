@@ -1,20 +1,19 @@
-use Rattle.std.proofs.Common.{refl}
-use Rattle.std.proofs.lemmas.Result.{err_from_is_err_and}
-use Rattle.planner_main.proofs.ProgramTold.{saved_partly, output_partly}
+use Rattle.std.proofs.Common.{sym, subst}
+use Rattle.std.specs.Prelude.{IfErr, IfOk}
+use Rattle.planner_main.specs.Program.{TellsFor, TellsPartlyFor}
 use Rattle.planner_main.proofs.program.carry_out.Goals as goal
 
-pub returns-in_err-save_plan-clause-partly : goal.returns-in_err-save_plan-clause-partly
-returns-in_err-save_plan-clause-partly g c =
-    let p = err_from_is_err_and c.from_residual-in_err-save_plan.result c.from_residual-in_err-save_plan.ensures.1 in
-    let saved = rw (c.deref.ensures.value) at (c.in_err-save_plan.ensures.partly refl) in
-    rw (p.1)
-    (saved_partly c.args.command g.F.Files.is_known (g.F.Files.contents c.args.files.now) (g.F.Files.contents c.answer_command.new.files) _ _ (g.O.Sink.taken c.args.out.now) _ _ c.in_ok-text.ensures.answer c.in_ok-text.ensures.kept saved.0 saved.1)
+pub returns-in-Validate-clause-partly : goal.returns-in-Validate-clause-partly
+returns-in-Validate-clause-partly g c = subst
+    (λ command. IfErr c.tell_verdict.result (λ failure. TellsPartlyFor command g.F.Files.is_known (g.F.Files.contents c.args.files.now) (g.F.Files.contents c.tell_verdict.new.files) (g.O.Sink.taken c.args.out.now) (g.O.Sink.taken c.tell_verdict.new.out)))
+    (sym c.in-Validate.is) c.tell_verdict.ensures.partly
 
-pub returns-in_err-write_all-clause-partly : goal.returns-in_err-write_all-clause-partly
-returns-in_err-write_all-clause-partly g c =
-    let p = err_from_is_err_and c.from_residual-in_err-write_all.result c.from_residual-in_err-write_all.ensures.1 in
-    let held = rw (c.deref.ensures.value) at c.in_ok-save_plan.ensures.held in
-    let told = rw (c.deref-2.ensures.value) at c.write_all.ensures.beginning in
-    rw (p.1)
-    (output_partly c.args.command g.F.Files.is_known (g.F.Files.contents c.args.files.now) (g.F.Files.contents c.answer_command.new.files) _ _ _ _ _ c.in_ok-text.ensures.answer c.in_ok-text.ensures.kept
-    held told)
+pub returns-in-Solve-clause-told : goal.returns-in-Solve-clause-told
+returns-in-Solve-clause-told g c = subst
+    (λ command. IfOk c.tell_solution.result (TellsFor command g.F.Files.is_known (g.F.Files.contents c.args.files.now) (g.F.Files.contents c.tell_solution.new.files) (g.O.Sink.taken c.args.out.now) (g.O.Sink.taken c.tell_solution.new.out)))
+    (sym c.in-Solve.is) c.tell_solution.ensures.told
+
+pub returns-in-Solve-clause-partly : goal.returns-in-Solve-clause-partly
+returns-in-Solve-clause-partly g c = subst
+    (λ command. IfErr c.tell_solution.result (λ failure. TellsPartlyFor command g.F.Files.is_known (g.F.Files.contents c.args.files.now) (g.F.Files.contents c.tell_solution.new.files) (g.O.Sink.taken c.args.out.now) (g.O.Sink.taken c.tell_solution.new.out)))
+    (sym c.in-Solve.is) c.tell_solution.ensures.partly

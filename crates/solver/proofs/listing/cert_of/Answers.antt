@@ -2,7 +2,8 @@ use Rattle.std.proofs.Common.{◌∙◌, ap, map, arith}
 use Rattle.std.proofs.lemmas.Bool.{false≢true}
 use Rattle.typing.specs.TaskParts.{atom_of}
 use Rattle.packed_state.specs.PooledView.{pooled_states}
-use Rattle.certificate.specs.CertificateParts.{claim_of, certificate_of_parts}
+use Rattle.certificate_lines.specs.Lines.{claim_of}
+use Rattle.certificate.specs.CertificateParts.{certificate_of_parts}
 use Rattle.certificate.specs.Certificate.{certificate_of}
 use Rattle.grounding.specs.Ground.{task_in, atoms_in}
 use Rattle.solver.proofs.ListingLemmas.{shown, within_limits}

@@ -3,7 +3,7 @@ use Rattle.std.specs.Prelude.{All}
 use Rattle.packed_state.specs.Packed.{bits_of}
 use Rattle.packed_state.specs.Sets.{set_of}
 use Rattle.packed_state.specs.PooledView.{pooled_states}
-use Rattle.certificate.specs.CertificateParts.{line_of}
+use Rattle.certificate_lines.specs.Lines.{line_of}
 use Rattle.cert_checker.specs.PackedLines.{packed_line}
 use Rattle.cert_checker.proofs.PackedLinesLemmas.{length-set_of}
 use Rattle.cert_checker.proofs.ReadingLemmas.{all_from, placed}

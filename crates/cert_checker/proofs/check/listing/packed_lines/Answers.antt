@@ -1,7 +1,7 @@
 use Rattle.std.proofs.Common.{◌≢◌, Bool, List, sym, subst, arith}
 use Rattle.std.specs.Prelude.{AllPairs}
 use Rattle.certificate.specs.Certificate.{certificate_of}
-use Rattle.certificate.specs.CertificateParts.{line_of}
+use Rattle.certificate_lines.specs.Lines.{line_of}
 use Rattle.packed_state.specs.PooledView.{pooled_states}
 use Rattle.cert_checker.specs.CheckedLines.{IsAdded}
 use Rattle.cert_checker.specs.PackedLines.{packed_line}

@@ -1,7 +1,7 @@
 use Rattle.std.proofs.Common.{◌≡◌, ◌≢◌, Bool, List, map, take}
 use Rattle.std.specs.Prelude.{AllPairs}
 use Rattle.packed_state.specs.PooledView.{pooled_width, pooled_states}
-use Rattle.certificate.specs.CertificateParts.{line_of}
+use Rattle.certificate_lines.specs.Lines.{line_of}
 use Rattle.certificate.specs.Certificate.{certificate_of}
 use Rattle.model.specs.Task.{Task}
 use Rattle.cert_checker.specs.CheckedLines.{CutsAreAllowed}

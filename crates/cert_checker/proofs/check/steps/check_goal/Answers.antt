@@ -1,5 +1,5 @@
 use Rattle.std.proofs.Common.{sym, ◌∙◌, refl, arith}
-use Rattle.certificate.specs.CertificateParts.{claim_of}
+use Rattle.certificate_lines.specs.Lines.{claim_of}
 use Rattle.cert_checker.specs.PackedListing.{task_at, certificate_at, state_at}
 use Rattle.cert_checker.specs.declared.check.code.RefusalCode.TheVariants.{GoalOpen}
 use Rattle.model.specs.CertificateRefusals.{goal_open, state_line}

@@ -1,7 +1,7 @@
 use Rattle.std.proofs.Common.{◌<◌, None, Some, length, ap, arith}
 use Rattle.std.proofs.lemmas.List.{length-map}
 use Rattle.std.proofs.lemmas.Result.{on_ok_weaker}
-use Rattle.certificate.specs.CertificateParts.{line_of}
+use Rattle.certificate_lines.specs.Lines.{line_of}
 use Rattle.cert_checker.specs.PackedListing.{task_at, certificate_at, state_at}
 use Rattle.cert_checker.proofs.CertCheckerLemmas.{got, small_cost, small_cut, line_open, line_cut, line_if_ok}
 use Rattle.cert_checker.proofs.RefusalsLemmas.{has_cost}

@@ -1,0 +1,3 @@
+-- docs/definitions.md names each definition, in the order in which a reader needs them.
+pub mod CertificateText
+pub mod CertificateNames

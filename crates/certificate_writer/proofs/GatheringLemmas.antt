@@ -1,0 +1,80 @@
+-- A text that goes to a sink in large pieces.
+use Rattle.std.proofs.Common.{◌≡◌, ℕ, ◌+◌, ◌<◌, ◌≤◌, List, [], ◌∷◌, ◌++◌, length, map, take, drop, get_or, Option, sym, ap, ◌∙◌, subst, append_assoc, append-nil, take-append-drop}
+use Rattle.std.specs.Io.KnownBytes.{Appends}
+use Rattle.std.specs.List.{flat_map}
+use Rattle.std.proofs.KnownBytes.{Appends-nil, Appends-trans}
+use Rattle.std.proofs.lemmas.Grind.{flat_map-append}
+use Rattle.std.proofs.lemmas.List.{take_all, take_more}
+use Rattle.std.proofs.lemmas.List.Folds.{flat_map-map}
+use Rattle.devices.specs.Devices.{AppendsBeginning}
+use Rattle.certificate_writer.specs.Gathering.{IsPassedOn}
+
+module _ (before : Option (List ℕ)) where
+  -- nothing yet
+  pub passed_nothing : (held : List ℕ) → IsPassedOn before before held held []
+  passed_nothing held = ([], Appends-nil before, append-nil held)
+
+  module _ (now : Option (List ℕ)) (held held_now text : List ℕ) (passed : IsPassedOn before now held held_now text) where
+    -- more is held
+    pub passed_held : (held_after more : List ℕ) → held_after ≡ held_now ++ more → IsPassedOn before now held held_after (text ++ more)
+    passed_held held_after more is = (
+      passed.0,
+      passed.1,
+      sym (append_assoc held text more) ∙ ap (λ xs. xs ++ more) passed.2 ∙ append_assoc passed.0 held_now more ∙ ap (λ xs. passed.0 ++ xs) (sym is),
+    )
+
+    -- more is passed on
+    pub passed_then : (after : Option (List ℕ)) (held_after more : List ℕ) → IsPassedOn now after held_now held_after more → IsPassedOn before after held held_after (text ++ more)
+    passed_then after held_after more (written, taken, is) = (
+      passed.0 ++ written,
+      Appends-trans before now after passed.0 written passed.1 taken,
+      sym (append_assoc held text more) ∙ ap (λ xs. xs ++ more) passed.2 ∙ append_assoc passed.0 held_now more
+          ∙ ap (λ xs. passed.0 ++ xs) is ∙ sym (append_assoc passed.0 written held_after),
+    )
+
+    -- what is written is a beginning, with whatever comes later
+    pub passed_partly : (later : List ℕ) → AppendsBeginning before now (held ++ (text ++ later))
+    passed_partly later = (
+      passed.0,
+      held_now ++ later,
+      sym (append_assoc held text later) ∙ ap (λ xs. xs ++ later) passed.2 ∙ append_assoc passed.0 held_now later,
+      passed.1,
+    )
+
+    -- a beginning of what comes next is written
+    pub passed_beginning : (after : Option (List ℕ)) (next later : List ℕ) → AppendsBeginning now after (held_now ++ next)
+        → AppendsBeginning before after (held ++ (text ++ (next ++ later)))
+    passed_beginning after next later (front, rest, is, taken) = (
+      passed.0 ++ front,
+      rest ++ later,
+      sym (append_assoc held text (next ++ later)) ∙ ap (λ xs. xs ++ (next ++ later)) passed.2 ∙ append_assoc passed.0 held_now (next ++ later)
+          ∙ ap (λ xs. passed.0 ++ xs) (sym (append_assoc held_now next later) ∙ ap (λ xs. xs ++ later) is ∙ append_assoc front rest later)
+          ∙ sym (append_assoc passed.0 front (rest ++ later)),
+      Appends-trans before now after passed.0 front passed.1 taken,
+    )
+
+    -- all that is held is written
+    pub passed_all : (after : Option (List ℕ)) → Appends now after held_now → Appends before after (held ++ text)
+    passed_all after taken = subst (Appends before after) (sym passed.2) (Appends-trans before now after passed.0 held_now passed.1 taken)
+
+-- the pieces of a list, up to one place and from there on
+module _ {X Y : Type 0} (f : Y → List ℕ) (v : X → Y) (xs : List X) (i : ℕ) where
+  pub pieces_split : flat_map f (map v xs) ≡ flat_map f (map v (take i xs)) ++ flat_map f (map v (drop i xs))
+  pieces_split =
+      flat_map-map f v xs
+      ∙ ap (flat_map (λ y. f (v y))) (sym (take-append-drop i xs))
+      ∙ flat_map-append (λ y. f (v y)) (take i xs) (drop i xs)
+      ∙ ap (λ bs. bs ++ flat_map (λ y. f (v y)) (drop i xs)) (sym (flat_map-map f v (take i xs)))
+      ∙ ap (λ bs. flat_map f (map v (take i xs)) ++ bs) (sym (flat_map-map f v (drop i xs)))
+
+  pub pieces_more : (x : X) → i < length xs → x ≡ get_or xs i x → flat_map f (map v (take (i + 1) xs)) ≡ flat_map f (map v (take i xs)) ++ f (v x)
+  pieces_more x within is =
+      ap (λ ys. flat_map f (map v ys)) (take_more xs i x within)
+      ∙ flat_map-map f v (take i xs ++ get_or xs i x ∷ [])
+      ∙ flat_map-append (λ y. f (v y)) (take i xs) (get_or xs i x ∷ [])
+      ∙ ap (λ bs. bs ++ (f (v (get_or xs i x)) ++ [])) (sym (flat_map-map f v (take i xs)))
+      ∙ ap (λ y. flat_map f (map v (take i xs)) ++ (f (v y) ++ [])) (sym is)
+      ∙ ap (λ bs. flat_map f (map v (take i xs)) ++ bs) (append-nil (f (v x)))
+
+  pub pieces_all : length xs ≤ i → flat_map f (map v (take i xs)) ≡ flat_map f (map v xs)
+  pieces_all past = ap (λ zs. flat_map f (map v zs)) (take_all i xs past)

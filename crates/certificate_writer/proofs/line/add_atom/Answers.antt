@@ -1,0 +1,21 @@
+use Rattle.std.proofs.Common.{◌∙◌, ◌++◌, ap, codes, map}
+use Rattle.std.specs.List.{flat_map}
+use Rattle.typing.specs.Task.{task_of}
+use Rattle.typing.specs.TaskParts.{atom_of, object_of}
+use Rattle.model.specs.PlanWriting.{object_text}
+use Rattle.certificate_text.specs.CertificateNames.{predicate_name}
+use Rattle.certificate_writer.proofs.LineLemmas.{where_added, atom_text}
+use Rattle.certificate_writer.proofs.line.add_atom.Goals as goal
+
+pub returns : goal.returns
+returns c =
+    let task = task_of c.args.task.now in
+    let names = flat_map (object_text task) (map object_of c.args.atom.now.objects.items) in
+    let name = predicate_name task c.args.atom.now.predicate.0 in
+    let objects = ap (λ os. flat_map (object_text task) (map object_of os)) c.as_slice.ensures.value in
+    where_added c.extend_from_slice-3.result _ _ (codes ")\n") _ c.extend_from_slice-3.ensures.items
+    (ap (λ xs. xs ++ codes ")\n")
+    (c.in_ok-add_names.ensures ∙ ap (λ xs. c.extend_from_slice-2.new.self.items ++ xs) objects
+    ∙ ap (λ xs. xs ++ names) (c.in_ok-extend_from_slice-2.ensures.items ∙ ap (λ xs. c.extend_from_slice.new.self.items ++ xs) c.predicate_name.ensures
+    ∙ ap (λ xs. xs ++ name) c.in_ok-extend_from_slice.ensures.items))
+    ∙ atom_text task (atom_of c.args.atom.now) c.args.text.now.items)

@@ -1,0 +1,11 @@
+use Rattle.std.proofs.Common.{◌∙◌, ◌++◌, ap, codes}
+use Rattle.certificate_lines.specs.Lines.{claim_of}
+use Rattle.certificate_text.specs.CertificateText.{claims, line_text}
+use Rattle.certificate_writer.proofs.LineLemmas.{where_added, head_text}
+use Rattle.certificate_writer.proofs.line.add_head.Goals as goal
+
+pub returns : goal.returns
+returns c =
+    where_added c.extend_from_slice-2.result _ _ (codes "\nconstant 0\n") _ c.extend_from_slice-2.ensures.items
+    (ap (λ xs. xs ++ codes "\nconstant 0\n") (c.in_ok-add_claim.ensures ∙ ap (λ xs. xs ++ line_text (claims (claim_of c.args.claim))) c.in_ok-extend_from_slice.ensures.items)
+    ∙ head_text c.args.text.now.items (claim_of c.args.claim))

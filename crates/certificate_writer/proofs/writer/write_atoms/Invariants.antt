@@ -1,0 +1,16 @@
+use Rattle.std.proofs.Common.{◌≡◌, map, take}
+use Rattle.std.specs.List.{flat_map}
+use Rattle.typing.specs.Task.{task_of}
+use Rattle.typing.specs.TaskParts.{atom_of}
+use Rattle.certificate_writer.specs.Gathering.{IsPassedOn, atom_line}
+use Rattle.certificate_writer.proofs.writer.write_atoms.Given as goal
+
+-- the lines so far are passed on, and no call has failed
+abbrev pub invariant-loop-atom : goal.invariant-loop-atom
+invariant-loop-atom g l =
+    record {
+      passed : IsPassedOn (g.W.Sink.taken l.initial.out) (g.W.Sink.taken l.out) l.initial.held.items l.held.items
+          (flat_map (atom_line (task_of l.task)) (map atom_of (take l.atom-index l.atoms)));
+      failures : g.W.Sink.failures l.out ≡ g.W.Sink.failures l.initial.out;
+      name : g.W.Sink.name l.out ≡ g.W.Sink.name l.initial.out;
+    }

@@ -1,0 +1,178 @@
+//! `solve`: a cheapest plan, from files to the standard output, and to files.
+ghost use Rattle.std.specs.Prelude.{◌≡◌, ◌≢◌, ℕ, Err, IfErr, IfOk, IfSome, IsErr, IsTrue, List, [], ◌∷◌, OnOk, Some};
+ghost use Rattle.planner_main.specs.Options.{IsOneOf};
+ghost use Rattle.planner_main.specs.Program.{AreKept, CountsEither, CountsFailure, HasNotFailed, IsAnswerText, IsTold, IsToldPartly, IsUnread, OnTwo, asked_of, device_failure, fault_in, of_device, text_in};
+ghost use Rattle.planner_main.specs.Solution.{TellsAnswer, cert_file, plan_file, text_of};
+ghost use Rattle.planner_main.specs.Written.{AreWritten, AreWrittenPartly, HoldsBeginning, NamedText};
+ghost use Rattle.devices.specs.Devices.{CountsDevice};
+ghost use Rattle.typing.specs.Task.{task_of};
+ghost use Rattle.certificate.specs.Certificate.{certificate_of};
+ghost use Rattle.certificate_text.specs.CertificateNames.{certificate_text};
+ghost use Rattle.solver.specs.Solver.{IsTrueAnswer};
+ghost use Rattle.model.specs.Files.{IsTaskFault, IsTaskOf};
+
+use crate::files::Files;
+use crate::program::inputs::read_pair;
+use crate::report::Failure;
+use crate::solve::{Solved, answer_text, solve_files};
+use certificate::Cert;
+use certificate_writer::write_cert;
+use devices::{Sink, WriteFault, write_all};
+use solver::{Answer, Limits};
+use std::alloc::Global;
+use typing::Task;
+
+/// Where the text of an answer goes, beside the standard output.
+#[derive(Clone, Copy)]
+pub(super) struct Wanted<'a> {
+    /// The file that the plan is written to, if any.
+    pub(super) plan: Option<&'a str>,
+    /// The file that the certificate is written to, if any.
+    pub(super) cert: Option<&'a str>,
+}
+
+/// Tells a cheapest plan for the task of two files, or that there is none: the status.
+pub(super) fn tell_solution<F: Files, O: Sink>(
+    alloc: Global,
+    domain: &str,
+    problem: &str,
+    limits: Limits,
+    wanted: Wanted<'_>,
+    files: &mut F,
+    out: &mut O,
+) -> Result<u8, Failure>
+    ensures told { IfOk result (IsTold (IsAnswerText (F.contents files.old) domain.now problem.now (asked_of limits wanted.entry.plan wanted.entry.cert))
+        F.is_known (F.contents files.old) (F.contents files.new) (O.taken out.old) (O.taken out.new)) }
+    ensures refused { IfErr result (λ failure. IfSome (fault_in failure) (λ fault.
+        OnTwo (F.contents files.old) domain.now problem.now (λ d p. IsTaskFault d p fault)
+        × (O.taken out.new ≡ O.taken out.old) × AreKept (F.contents files.old) (F.contents files.new))) }
+    ensures partly { IfErr result (λ failure. IsToldPartly (IsAnswerText (F.contents files.old) domain.now problem.now (asked_of limits wanted.entry.plan wanted.entry.cert))
+        F.is_known (F.contents files.old) (F.contents files.new) (O.taken out.old) (O.taken out.new)) }
+    ensures unfailed { IfOk result (λ _. HasNotFailed (F.failures files.old) (F.failures files.new) (O.failures out.old) (O.failures out.new)) }
+    ensures failures { IfErr result (CountsEither (F.failures files.old) (F.failures files.new) (O.failures out.old) (O.failures out.new)) }
+    ensures missing { IsTrue (F.is_missing files.old domain.now) → result ≡ Err device_failure }
+    ensures unread { (name : List ℕ) → IsOneOf (domain.now ∷ problem.now ∷ []) name → IsTrue (F.is_missing files.old name) → IsUnread result }
+{
+    let solved = solve_pair(alloc, domain, problem, limits, files)?;
+    Ok(tell_answer(alloc, &solved, wanted, files, out)?)
+}
+
+/// What is found out of the task of two files.
+fn solve_pair<F: Files>(
+    alloc: Global,
+    domain: &str,
+    problem: &str,
+    limits: Limits,
+    files: &mut F,
+) -> Result<Solved, Failure>
+    ensures answer { IfOk result (λ solved. OnTwo (F.contents files.old) domain.now problem.now (λ d p.
+        IsTaskOf d p (task_of solved.task) × IsTrueAnswer (task_of solved.task) limits.states limits.instances solved.answer)) }
+    ensures refused { IfErr result (λ failure. IfSome (fault_in failure) (λ fault.
+        OnTwo (F.contents files.old) domain.now problem.now (λ d p. IsTaskFault d p fault))) }
+    ensures kept { AreKept (F.contents files.old) (F.contents files.new) }
+    ensures unfailed { IfOk result (λ _. F.failures files.new ≡ F.failures files.old) }
+    ensures failures { IfErr result (CountsFailure (F.failures files.old) (F.failures files.new)) }
+    ensures missing { IsTrue (F.is_missing files.old domain.now) → result ≡ Err device_failure }
+    ensures unread { (name : List ℕ) → IsOneOf (domain.now ∷ problem.now ∷ []) name → IsTrue (F.is_missing files.old name) → IsUnread result }
+{
+    let pair = read_pair(alloc, files, domain, problem)?;
+    Ok(solve_files(alloc, &pair.domain, &pair.problem, limits)?)
+}
+
+/// Writes the files that are wanted of an answer, and then its text on the standard output: the status.
+fn tell_answer<F: Files, O: Sink>(
+    alloc: Global,
+    solved: &Solved,
+    wanted: Wanted<'_>,
+    files: &mut F,
+    out: &mut O,
+) -> Result<u8, WriteFault>
+    ensures told { IfOk result (IsTold (TellsAnswer (task_of solved.now.task) solved.now.answer (text_in wanted.entry.cert) (text_in wanted.entry.plan))
+        F.is_known (F.contents files.old) (F.contents files.new) (O.taken out.old) (O.taken out.new)) }
+    ensures partly { IfErr result (λ _. IsToldPartly (TellsAnswer (task_of solved.now.task) solved.now.answer (text_in wanted.entry.cert) (text_in wanted.entry.plan))
+        F.is_known (F.contents files.old) (F.contents files.new) (O.taken out.old) (O.taken out.new)) }
+    ensures unfailed { IfOk result (λ _. HasNotFailed (F.failures files.old) (F.failures files.new) (O.failures out.old) (O.failures out.new)) }
+    ensures failures { IfErr result (λ fault. CountsEither (F.failures files.old) (F.failures files.new) (O.failures out.old) (O.failures out.new) (of_device fault)) }
+{
+    let (text, status) = answer_text(alloc, &solved.task, &solved.answer)?;
+    save_cert(alloc, solved, wanted.cert, files)?;
+    save_plan(solved, &text, wanted.plan, files)?;
+    write_all(out, &text)?;
+    Ok(status)
+}
+
+/// Writes the certificate of the answer to the file that is wanted for it, if any.
+fn save_cert<F: Files>(
+    alloc: Global,
+    solved: &Solved,
+    name: Option<&str>,
+    files: &mut F,
+) -> Result<(), WriteFault>
+    ensures written { OnOk result (IsTrue F.is_known
+        → AreWritten (F.contents files.old) (F.contents files.new) (cert_file (task_of solved.now.task) solved.now.answer (text_in name.entry))) }
+    ensures partly { IsErr result → (next : NamedText) × (cert_file (task_of solved.now.task) solved.now.answer (text_in name.entry) ≡ next ∷ [])
+        × (IsTrue F.is_known → AreWrittenPartly (F.contents files.old) (F.contents files.new) [] next) }
+    ensures failures { CountsDevice (F.failures files.old) (F.failures files.new) result }
+{
+    let Some(name) = name else { return Ok(()) };
+    match &solved.answer {
+        Answer::Plan { cert, .. } => write_cert_file(alloc, &solved.task, cert, name, files),
+        Answer::Unsolvable { cert } => write_cert_file(alloc, &solved.task, cert, name, files),
+        Answer::Unknown(_) => Ok(()),
+    }
+}
+
+/// Writes the plan's text to the file that is wanted for it, if the answer is a plan.
+fn save_plan<F: Files>(
+    solved: &Solved,
+    text: &[u8],
+    name: Option<&str>,
+    files: &mut F,
+) -> Result<(), WriteFault>
+    requires { text.now ≡ text_of (task_of solved.now.task) solved.now.answer }
+    ensures written { OnOk result (IsTrue F.is_known
+        → AreWritten (F.contents files.old) (F.contents files.new) (plan_file (task_of solved.now.task) solved.now.answer (text_in name.entry))) }
+    ensures partly { IsErr result → (next : NamedText) × (plan_file (task_of solved.now.task) solved.now.answer (text_in name.entry) ≡ next ∷ [])
+        × (IsTrue F.is_known → AreWrittenPartly (F.contents files.old) (F.contents files.new) [] next) }
+    ensures failures { CountsDevice (F.failures files.old) (F.failures files.new) result }
+{
+    let Some(name) = name else { return Ok(()) };
+    match &solved.answer {
+        Answer::Plan { .. } => write_file(files, name, text),
+        Answer::Unsolvable { .. } | Answer::Unknown(_) => Ok(()),
+    }
+}
+
+/// Writes the text of a certificate to the file of this name, in place of what it had.
+fn write_cert_file<F: Files>(
+    alloc: Global,
+    task: &Task,
+    cert: &Cert,
+    name: &str,
+    files: &mut F,
+) -> Result<(), WriteFault>
+    ensures held { IsTrue F.is_known → OnOk result (F.contents files.new name.now ≡ Some (certificate_text (task_of task.now) (certificate_of cert.now))) }
+    ensures partly { IsTrue F.is_known → HoldsBeginning (F.contents files.old name.now) (F.contents files.new name.now) (certificate_text (task_of task.now) (certificate_of cert.now)) }
+    ensures kept { IsTrue F.is_known → (other : List ℕ) → other ≢ name.now → F.contents files.new other ≡ F.contents files.old other }
+    ensures failures { CountsDevice (F.failures files.old) (F.failures files.new) result }
+{
+    let mut output = files.create(name)?;
+    let written = write_cert(alloc, task, cert, &mut output);
+    // It is closed first, since a closing counts a write that failed.
+    files.close(output)?;
+    written
+}
+
+/// Writes these bytes to the file of this name, in place of what it had.
+fn write_file<F: Files>(files: &mut F, name: &str, bytes: &[u8]) -> Result<(), WriteFault>
+    ensures held { IsTrue F.is_known → OnOk result (F.contents files.new name.now ≡ Some bytes.now) }
+    ensures partly { IsTrue F.is_known → HoldsBeginning (F.contents files.old name.now) (F.contents files.new name.now) bytes.now }
+    ensures kept { IsTrue F.is_known → (other : List ℕ) → other ≢ name.now → F.contents files.new other ≡ F.contents files.old other }
+    ensures failures { CountsDevice (F.failures files.old) (F.failures files.new) result }
+{
+    let mut output = files.create(name)?;
+    let written = write_all(&mut output, bytes);
+    // It is closed first, since a closing counts a write that failed.
+    files.close(output)?;
+    written
+}
