@@ -1,5 +1,5 @@
 //! The bytes of a text that came from a source and were not handed out yet.
-ghost use Rattle.std.specs.Prelude.{◌≡◌, ◌+◌, ℕ, ◌≤◌, ◌<◌, drop, IfOk, IfNone, IfSome, IsTrue, length, OnErr, position, Some, [], List};
+ghost use Rattle.std.specs.Prelude.{◌≡◌, ◌≤◌, drop, IfOk, length, OnOk, position, []};
 ghost use Rattle.devices.specs.Devices.{CountsDevice, ReadsSome};
 
 use devices::{Source, WriteFault};
@@ -11,25 +11,26 @@ const PIECE: usize = 65_536;
 /// The bytes that came and were not handed out yet.
 #[derive(Drop)]
 pub(crate) struct Waiting {
+    alloc: Global,
     held: Vec<u8>,
     start: usize,
     room: Vec<u8>,
     ghost starts_within: { start ≤ length held.items },
-    ghost has_room: { length room.items ≡ 65536 },
 }
 
 impl Waiting {
     ghost use Rattle.certificate_reader.specs.Waiting.{is_end, waiting_of};
 
     /// None yet.
-    pub(crate) fn new(alloc: Global) -> Result<Waiting, AllocError>
-        ensures { IfOk result (λ waiting. waiting_of waiting ≡ []) }
+    pub(crate) fn new(alloc: Global) -> Waiting
+        ensures { waiting_of result ≡ [] }
     {
-        Ok(Waiting {
+        Waiting {
+            alloc,
             held: Vec::new(alloc),
             start: 0,
-            room: vec![in alloc; 0u8; PIECE]?,
-        })
+            room: Vec::new(alloc),
+        }
     }
 
     /// The bytes.
@@ -60,9 +61,22 @@ impl Waiting {
         ensures failures { CountsDevice (S.failures source.old) (S.failures source.new) result }
     {
         self.forget();
+        self.make_room()?;
         let count = source.read(self.room.as_mut_slice())?;
         self.held.extend_from_slice(&self.room[..count])?;
         Ok(count)
+    }
+
+    /// Makes the room that is lent to the source, once.
+    fn make_room(&mut self) -> Result<(), AllocError>
+        ensures room { OnOk result (length self.new.room.items ≡ 65536) }
+        ensures kept { waiting_of self.new ≡ waiting_of self.old }
+    {
+        if self.room.len() == PIECE {
+            return Ok(());
+        }
+        self.room = vec![in self.alloc; 0u8; PIECE]?;
+        Ok(())
     }
 
     /// Forgets the bytes that were handed out.
