@@ -10,3 +10,4 @@ pub mod OneText
 pub mod PlaceRead
 pub mod FaultsRead
 pub mod NextLemmas
+pub mod ReaderLemmas

@@ -1,8 +1,8 @@
 -- A line that is read at a place, and what is told of one that cannot stand there.
 use Rattle.std.proofs.Common.{◌≡◌, ◌≢◌, ℕ, ◌+◌, ◌<◌, ◌≤◌, Bool, true, false, List, [], ◌∷◌, ◌++◌, codes, Option, None, Some, refl, sym, ap, ◌∙◌, subst, arith}
-use Rattle.std.specs.Prelude.{◌&&◌, ◌==◌, IsTrue, nat_lt}
+use Rattle.std.specs.Prelude.{◌&&◌, ◌==◌, IsTrue, nat_le, nat_lt}
 use Rattle.std.specs.Fmt.{decimal}
-use Rattle.std.proofs.lemmas.Bool.{and_parts, eqb-true, lt-ltb}
+use Rattle.std.proofs.lemmas.Bool.{and_parts, eqb-true, leb-true, lt-ltb}
 use Rattle.model.specs.Claims.{Claim}
 use Rattle.model.specs.Certificates.{StateLine, is_number}
 use Rattle.certificate_text.specs.CertificateText.{NamedAtom, TextLine, version, claims, constant, atom, listed, last, is_line, line_text, most_atoms, most_states}
@@ -21,7 +21,7 @@ few_atoms : (place : Place) → IsWithin place → atoms_at place ≤ most_atoms
 few_atoms at_version within = omega arith
 few_atoms at_claim within = omega arith
 few_atoms at_constant within = omega arith
-few_atoms (in_body n m) within = within.0
+few_atoms (in_body n m) within = leb-true n most_atoms (and_parts (nat_le n most_atoms) (nat_le m most_states) within).0
 few_atoms ended within = omega arith
 
 -- a line that leads on keeps the limits there
@@ -50,7 +50,7 @@ leads_line (in_body n m) within constant next leads = never next leads
 leads_line (in_body n m) within (atom a) next leads = (and_parts ((m == 0) && nat_lt n most_atoms) (is_line n (atom a)) (only_where ((m == 0) && nat_lt n most_atoms && is_line n (atom a)) (in_body (n + 1) m) next leads).0).1
 leads_line (in_body n m) within (listed l) next leads = (and_parts (nat_lt m most_states) (is_line n (listed l)) (only_where (nat_lt m most_states && is_line n (listed l)) (in_body n (m + 1)) next leads).0).1
 leads_line (in_body n m) within (last count) next leads =
-    lt-ltb count 1152921504606846976 (omega (arith, eqb-true count m (only_where (count == m) ended next leads).0, within.1))
+    lt-ltb count 1152921504606846976 (omega (arith, eqb-true count m (only_where (count == m) ended next leads).0, leb-true m most_states (and_parts (nat_le n most_atoms) (nat_le m most_states) within).1))
 leads_line ended within version next leads = never next leads
 leads_line ended within (claims claim) next leads = never next leads
 leads_line ended within constant next leads = never next leads

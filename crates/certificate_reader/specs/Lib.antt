@@ -4,3 +4,4 @@ pub mod Stages
 pub mod Waiting
 pub mod Ready
 pub mod Next
+pub mod Reader

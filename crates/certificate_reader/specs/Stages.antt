@@ -1,5 +1,5 @@
 -- Where the code's reader stands, and what comes of a line there.
-use Rattle.std.specs.Prelude.{◌≡◌, ◌≢◌, ℕ, ◌≤◌, List, ◌++◌, codes, None, Some, Result, Ok, Err, IsTrue}
+use Rattle.std.specs.Prelude.{◌≡◌, ◌≢◌, ℕ, Bool, true, ◌&&◌, nat_le, List, ◌++◌, codes, None, Some, Result, Ok, Err, IsTrue}
 use Rattle.std.specs.Fmt.{decimal}
 use Rattle.model.specs.Certificates.{is_number}
 use Rattle.certificate_lines.specs.declared.line.CertLine.{CertLine}
@@ -29,12 +29,15 @@ atoms_at (in_body atoms states) = atoms
 atoms_at ended = 0
 
 -- the place is behind no more atoms and states than there may be
+abbrev pub is_within : Place → Bool
+is_within at_version = true
+is_within at_claim = true
+is_within at_constant = true
+is_within (in_body atoms states) = nat_le atoms most_atoms && nat_le states most_states
+is_within ended = true
+
 abbrev pub IsWithin : Place → Type 0
-IsWithin at_version = Unit {0}
-IsWithin at_claim = Unit {0}
-IsWithin at_constant = Unit {0}
-IsWithin (in_body atoms states) = (atoms ≤ most_atoms) × (states ≤ most_states)
-IsWithin ended = Unit {0}
+IsWithin place = IsTrue (is_within place)
 
 -- the line could stand there but for a limit
 abbrev pub IsOver : Place → TextLine → Type 0

@@ -6,7 +6,12 @@ mod names;
 mod next;
 mod number;
 mod parts;
+mod position;
+mod reader;
 mod ready;
 mod stage;
 mod waiting;
 mod word;
+
+pub use next::TextFault;
+pub use reader::{CertFault, CertReader};
