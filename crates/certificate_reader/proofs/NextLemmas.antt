@@ -111,7 +111,7 @@ module _ (place : Place) (old waiting : List ℕ) (before after : Option (List �
   next_of_line new (Err (Text Version)) told = (grown.bytes, grown.consumed, subst (λ bytes. IsFaultAt place bytes Version) grown.appended told)
   next_of_line new (Err (Text Limit)) told = (grown.bytes, grown.consumed, subst (λ bytes. IsFaultAt place bytes Limit) grown.appended told)
   next_of_line new (Err (Text Truncated)) told = absurd told
-  next_of_line new (Err Device) told = tt
+  next_of_line new (Err Device) told = absurd told
   next_of_line new (Err NoMemory) told = tt
 
   pub too_long_told : longest_line < position_or_len is_end waiting → IsNext place old waiting before after (Err (Text Form))

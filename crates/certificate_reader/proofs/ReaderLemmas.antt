@@ -12,8 +12,11 @@ use Rattle.certificate_reader.specs.declared.next.NextFault.{NextFault}
 use Rattle.certificate_reader.specs.declared.next.NextFault.TheVariants as next
 use Rattle.certificate_reader.specs.declared.next.TextFault.{TextFault}
 use Rattle.certificate_reader.specs.declared.next.TextFault.TheVariants.{Form, Version, Truncated, Limit}
-use Rattle.certificate_reader.specs.Stages.{IsWithin}
-use Rattle.certificate_reader.specs.Reader.{IsAdvance, IsAnswer, IsToldOf, fault_at, source_of, waits_in}
+use Rattle.certificate_reader.specs.declared.stage.Stage.{Stage}
+use Rattle.certificate_reader.specs.declared.stage.Stage.TheVariants as stage
+use Rattle.certificate_reader.specs.Stages.{IsWithin, place_of}
+use Rattle.certificate_reader.specs.Ready.{is_ready}
+use Rattle.certificate_reader.specs.Reader.{IsAdvance, IsAnswer, IsToldOf, come_at, fault_at, source_of, waits_in}
 
 -- one line more leads to a place within the limits
 pub leads_within : (place : Place) → IsWithin place → (line : TextLine) (next : Place) → next_place place line ≡ Some next → IsWithin next
@@ -82,18 +85,30 @@ pub trailing_told : (before : List TextLine) → AreWhole before → (old bytes 
 trailing_told before whole old bytes new grown some more =
     trailing whole (something (old ++ bytes) more (λ empty. some (grown ∙ empty)))
 
+-- ---- what has come
+
+pub come_unless_ended : (at : Stage) (bytes : List ℕ) → at ≢ stage.Ended → come_at (place_of at) bytes ≡ is_ready bytes
+come_unless_ended stage.Version bytes goes_on = refl
+come_unless_ended stage.Claim bytes goes_on = refl
+come_unless_ended stage.Constant bytes goes_on = refl
+come_unless_ended (stage.Body n m) bytes goes_on = refl
+come_unless_ended stage.Ended bytes goes_on = absurd (goes_on refl)
+
 -- ---- what is told of a line
 
-module _ {R : Type 0} (remaining : R → Option (List ℕ)) (old between new : CertReader R) (same : source_of new ≡ source_of between) (before : List TextLine) where
-  told_still : (fault : TextFault) → IsToldOf remaining old between before fault → IsToldOf remaining old new before fault
-  told_still Truncated (bytes, consumed, at_end, told) =
-      (bytes, subst (λ source. Consumes (remaining (source_of old)) (remaining source) bytes) (sym same) consumed, subst (λ source. IsAtEnd (remaining source)) (sym same) at_end, told)
-  told_still Form (bytes, consumed, told) = (bytes, subst (λ source. Consumes (remaining (source_of old)) (remaining source) bytes) (sym same) consumed, told)
-  told_still Version (bytes, consumed, told) = (bytes, subst (λ source. Consumes (remaining (source_of old)) (remaining source) bytes) (sym same) consumed, told)
-  told_still Limit (bytes, consumed, told) = (bytes, subst (λ source. Consumes (remaining (source_of old)) (remaining source) bytes) (sym same) consumed, told)
+module _ {R : Type 0} (remaining : R → Option (List ℕ)) (old between : CertReader R) (before : List TextLine) where
+  -- the reader, once it has told a fault
+  abbrev pub failed : CertReader R
+  failed = record { alloc = between.alloc; source = between.source; waiting = between.waiting; position = between.position; failed = true }
+
+  told_still : (fault : TextFault) → IsToldOf remaining old between before fault → IsToldOf remaining old failed before fault
+  told_still Truncated told = told
+  told_still Form told = told
+  told_still Version told = told
+  told_still Limit told = told
 
   pub told_answer : (fault : NextFault) (line : ℕ) → line ≡ length before + 1 → IsAdvance remaining old between before (Err fault)
-      → IsAnswer remaining old new before (Err (fault_at fault line))
+      → IsAnswer remaining old failed before (Err (fault_at fault line))
   told_answer (next.Text fault) line is told = (is, told_still fault told)
-  told_answer next.Device line is told = tt
+  told_answer next.Device line is told = record { bytes = told.bytes; consumed = told.consumed; waits = told.waits; nothing = told.nothing }
   told_answer next.NoMemory line is told = tt

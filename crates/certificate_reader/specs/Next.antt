@@ -1,7 +1,7 @@
 -- What is told of the next line of a text, at a place in it.
 use Rattle.std.specs.Prelude.{◌≡◌, ◌≢◌, ℕ, ◌≤◌, Bool, true, false, List, [], ◌++◌, Option, Some, Result, Ok, Err}
 use Rattle.std.specs.List.{position}
-use Rattle.std.specs.Io.KnownBytes.{Consumes, IsAtEnd}
+use Rattle.std.specs.Io.KnownBytes.{Consumes, IsAtEnd, Keeps}
 use Rattle.devices.specs.Devices.{one_more}
 use Rattle.devices.specs.declared.device.WriteFault.{WriteFault}
 use Rattle.devices.specs.declared.device.WriteFault.TheVariants as device
@@ -16,6 +16,7 @@ use Rattle.certificate_reader.specs.declared.next.TextFault.{TextFault}
 use Rattle.certificate_reader.specs.declared.next.TextFault.TheVariants.{Form, Version, Truncated, Limit}
 use Rattle.certificate_reader.specs.Stages.{place_of}
 use Rattle.certificate_reader.specs.Waiting.{is_end}
+use Rattle.certificate_reader.specs.Ready.{IsUnready}
 
 -- the number of a fault
 abbrev pub number_of : TextFault → ℕ
@@ -65,11 +66,12 @@ IsNext place old new before after (Err (Text Truncated)) =
 IsNext place old new before after (Err (Text Form)) = (bytes : List ℕ) × Consumes before after bytes × IsFaultAt place (old ++ bytes) Form
 IsNext place old new before after (Err (Text Version)) = (bytes : List ℕ) × Consumes before after bytes × IsFaultAt place (old ++ bytes) Version
 IsNext place old new before after (Err (Text Limit)) = (bytes : List ℕ) × Consumes before after bytes × IsFaultAt place (old ++ bytes) Limit
-IsNext place old new before after (Err Device) = Unit {0}
+IsNext place old new before after (Err Device) = IsUnready before after old new
 IsNext place old new before after (Err NoMemory) = Unit {0}
 
 -- Nothing waits, and the end has come; or some byte waits.
 abbrev pub IsEnd : (old new : List ℕ) → (before after : Option (List ℕ)) → Result Bool WriteFault → Type 0
 IsEnd old new before after (Ok true) = (old ≡ []) × (new ≡ []) × IsAtEnd after
 IsEnd old new before after (Ok false) = (bytes : List ℕ) × Consumes before after bytes × (new ≡ old ++ bytes) × (new ≢ [])
-IsEnd old new before after (Err fault) = Unit {0}
+IsEnd old new before after (Err device.Device) = (old ≡ []) × (new ≡ []) × Keeps before after
+IsEnd old new before after (Err device.NoMemory) = Unit {0}

@@ -1,11 +1,11 @@
 -- What a reader of a certificate's text has handed out, and what it tells.
-use Rattle.std.specs.Prelude.{◌≡◌, ◌≢◌, ℕ, ◌+◌, ◌-◌, ◌^◌, min, Bool, List, [], ◌∷◌, ◌++◌, length, Option, Some, None, Result, Ok, Err}
+use Rattle.std.specs.Prelude.{◌≡◌, ◌≢◌, ℕ, ◌+◌, ◌-◌, ◌^◌, min, Bool, true, false, List, [], ◌∷◌, ◌++◌, length, Option, Some, None, Result, Ok, Err}
 use Rattle.std.specs.Io.KnownBytes.{Consumes, IsAtEnd}
 use Rattle.devices.specs.Devices.{one_more}
 use Rattle.certificate_lines.specs.declared.line.CertLine.{CertLine}
 use Rattle.certificate_lines.specs.Lines.{text_line_of}
 use Rattle.certificate_text.specs.CertificateText.{TextLine, AreWhole, IsFaultAfter, whole_line}
-use Rattle.certificate_text.specs.CertificateMachine.{Place, place_after}
+use Rattle.certificate_text.specs.CertificateMachine.{Place, at_version, at_claim, at_constant, in_body, ended, place_after}
 use Rattle.certificate_reader.specs.declared.reader.CertReader.{CertReader}
 use Rattle.certificate_reader.specs.declared.reader.CertFault.{CertFault}
 use Rattle.certificate_reader.specs.declared.reader.CertFault.TheVariants as cert
@@ -14,6 +14,7 @@ use Rattle.certificate_reader.specs.declared.next.NextFault.TheVariants as next
 use Rattle.certificate_reader.specs.declared.next.TextFault.{TextFault}
 use Rattle.certificate_reader.specs.declared.next.TextFault.TheVariants.{Form, Version, Truncated, Limit}
 use Rattle.certificate_reader.specs.Next.{number_of}
+use Rattle.certificate_reader.specs.Ready.{is_ready}
 use Rattle.certificate_reader.specs.Stages.{place_of}
 use Rattle.certificate_reader.specs.Waiting.{waiting_of}
 
@@ -26,6 +27,18 @@ waits_in reader = waiting_of reader.waiting
 
 abbrev pub has_failed : {R : Type 0} → CertReader R → Bool
 has_failed reader = reader.failed
+
+-- what is to be told next is in these bytes: a line, or too long a one, and behind the last line any byte
+abbrev pub come_at : Place → List ℕ → Bool
+come_at at_version bytes = is_ready bytes
+come_at at_claim bytes = is_ready bytes
+come_at at_constant bytes = is_ready bytes
+come_at (in_body atoms states) bytes = is_ready bytes
+come_at ended [] = false
+come_at ended (byte ∷ bytes) = true
+
+abbrev pub has_come : {R : Type 0} → CertReader R → Bool
+has_come reader = come_at (place_of reader.position.stage) (waits_in reader)
 
 -- These lines were handed out.
 pub record HasRead {R : Type 0} (reader : CertReader R) (lines : List TextLine) : Type 0 where
@@ -60,6 +73,13 @@ pub record IsOver {R : Type 0} (remaining : R → Option (List ℕ)) (old new : 
   pub still : waits_in new ≡ []
   pub read : HasRead new before
 
+-- Nothing that was to be told had come when the device failed, and what came waits.
+pub record IsCutOff {R : Type 0} (remaining : R → Option (List ℕ)) (old new : CertReader R) : Type 0 where
+  pub bytes : List ℕ
+  pub consumed : Consumes (remaining (source_of old)) (remaining (source_of new)) bytes
+  pub waits : waits_in new ≡ waits_in old ++ bytes
+  pub nothing : has_come new ≡ false
+
 -- Of what waited and came this is the fault: of a text that ends too early where it has ended, and else whatever follows.
 abbrev pub IsToldOf : {R : Type 0} → (remaining : R → Option (List ℕ)) → (old new : CertReader R) → List TextLine → TextFault → Type 0
 IsToldOf remaining old new before Truncated =
@@ -77,13 +97,13 @@ abbrev pub IsAdvance : {R : Type 0} → (remaining : R → Option (List ℕ)) �
 IsAdvance remaining old new before (Ok (Some line)) = IsHandedOut remaining old new before (text_line_of line)
 IsAdvance remaining old new before (Ok None) = IsOver remaining old new before
 IsAdvance remaining old new before (Err (next.Text fault)) = IsToldOf remaining old new before fault
-IsAdvance remaining old new before (Err next.Device) = Unit {0}
+IsAdvance remaining old new before (Err next.Device) = IsCutOff remaining old new
 IsAdvance remaining old new before (Err next.NoMemory) = Unit {0}
 
 abbrev pub IsAnswer : {R : Type 0} → (remaining : R → Option (List ℕ)) → (old new : CertReader R) → List TextLine → Result (Option CertLine) CertFault → Type 0
 IsAnswer remaining old new before (Ok (Some line)) = IsHandedOut remaining old new before (text_line_of line)
 IsAnswer remaining old new before (Ok None) = IsOver remaining old new before
 IsAnswer remaining old new before (Err (cert.Line fault line)) = (line ≡ length before + 1) × IsToldOf remaining old new before fault
-IsAnswer remaining old new before (Err cert.Device) = Unit {0}
+IsAnswer remaining old new before (Err cert.Device) = IsCutOff remaining old new
 IsAnswer remaining old new before (Err cert.NoMemory) = Unit {0}
 IsAnswer remaining old new before (Err cert.Failed) = ⊥

@@ -1,5 +1,5 @@
 -- What waits in a reader: a line, too long a one, or neither.
-use Rattle.std.specs.Prelude.{◌≡◌, ℕ, ◌<◌, ◌≤◌, Bool, ◌||◌, nat_lt, List, ◌++◌, length, is_some, Option, None, Some}
+use Rattle.std.specs.Prelude.{◌≡◌, ℕ, ◌<◌, ◌≤◌, Bool, false, ◌||◌, nat_lt, List, ◌++◌, length, is_some, Option, None, Some}
 use Rattle.std.specs.List.{position, position_or_len}
 use Rattle.std.specs.Io.KnownBytes.{Consumes, IsAtEnd}
 use Rattle.certificate_text.specs.CertificateText.{longest_line}
@@ -24,8 +24,13 @@ IsLineIn bytes (Some TooLong) = longest_line < position_or_len is_end bytes
 IsLineIn bytes (Some End) = ⊥
 IsLineIn bytes None = (position is_end bytes ≡ None) × (length bytes ≤ longest_line)
 
--- bytes came from a source and wait behind those that did
+-- bytes came from a source and wait behind those that waited
 pub record IsGrown (before after : Option (List ℕ)) (old new : List ℕ) : Type 0 where
   pub bytes : List ℕ
   pub appended : new ≡ old ++ bytes
   pub consumed : Consumes before after bytes
+
+-- The device failed while no line had come.
+pub record IsUnready (before after : Option (List ℕ)) (old new : List ℕ) : Type 0 where
+  pub grown : IsGrown before after old new
+  pub unready : is_ready new ≡ false

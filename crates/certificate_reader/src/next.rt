@@ -1,6 +1,7 @@
 //! The next line of a text, at its place.
-ghost use Rattle.std.specs.Prelude.{◌≡◌};
+ghost use Rattle.std.specs.Prelude.{◌≡◌, ◌≢◌, IsTrue, []};
 ghost use Rattle.certificate_reader.specs.Waiting.{waiting_of};
+ghost use Rattle.certificate_reader.specs.Ready.{is_ready};
 ghost use Rattle.certificate_reader.specs.Stages.{IsWithin, place_of};
 ghost use Rattle.certificate_reader.specs.Next.{CountsFault, HasEnd, IsEnd, IsNext, IsTaken};
 ghost use Rattle.devices.specs.Devices.{CountsDevice};
@@ -60,6 +61,7 @@ pub(crate) fn next_line<S: Source>(
 ) -> Result<(CertLine, Stage), NextFault>
     requires within { IsWithin (place_of stage) }
     ensures next { IsNext (place_of stage) (waiting_of waiting.old) (waiting_of waiting.new) (S.remaining source.old) (S.remaining source.new) result }
+    ensures lazy { IsTrue (is_ready (waiting_of waiting.old)) → source.new ≡ source.old }
     ensures failures { CountsFault (S.failures source.old) (S.failures source.new) result }
 {
     match await_line(waiting, source)? {
@@ -99,6 +101,7 @@ pub(crate) fn is_at_end<S: Source>(
     source: &mut S,
 ) -> Result<bool, WriteFault>
     ensures end { IsEnd (waiting_of waiting.old) (waiting_of waiting.new) (S.remaining source.old) (S.remaining source.new) result }
+    ensures lazy { waiting_of waiting.old ≢ [] → source.new ≡ source.old }
     ensures failures { CountsDevice (S.failures source.old) (S.failures source.new) result }
 {
     if !waiting.bytes().is_empty() {

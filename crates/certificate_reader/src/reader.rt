@@ -3,7 +3,7 @@ ghost use Rattle.std.specs.Prelude.{◌≡◌, ◌+◌, ℕ, ◌++◌, [], ◌�
 ghost use Rattle.certificate_lines.specs.Lines.{text_line_of};
 ghost use Rattle.certificate_text.specs.CertificateText.{TextLine, AreWhole};
 ghost use Rattle.certificate_reader.specs.declared.reader.CertFault.TheVariants.{Failed};
-ghost use Rattle.certificate_reader.specs.Reader.{CountsCert, HasRead, IsAdvance, IsAnswer, fault_at, has_failed, source_of, waits_in};
+ghost use Rattle.certificate_reader.specs.Reader.{CountsCert, HasRead, IsAdvance, IsAnswer, fault_at, has_come, has_failed, source_of, waits_in};
 
 ghost use Rattle.certificate_reader.specs.Next.{CountsFault};
 
@@ -75,6 +75,8 @@ impl<R: Source> CertReader<R> {
             → IsAnswer R.remaining self.old self.new before result }
         ensures failed { IsErr result → has_failed self.new ≡ true }
         ensures still { has_failed self.old ≡ true → (result ≡ Err Failed) × (self.new ≡ self.old) }
+        // The source is left alone where what is to be told has come.
+        ensures lazy { IsTrue (has_come self.old) → source_of self.new ≡ source_of self.old }
         ensures failures { CountsCert (R.failures (source_of self.old)) (R.failures (source_of self.new)) result }
     {
         if self.failed {
@@ -94,6 +96,7 @@ impl<R: Source> CertReader<R> {
     fn advance(&mut self) -> Result<Option<CertLine>, NextFault>
         ensures told { (before : List TextLine) → HasRead self.old before → IsAdvance R.remaining self.old self.new before result }
         ensures failed { has_failed self.new ≡ has_failed self.old }
+        ensures lazy { IsTrue (has_come self.old) → source_of self.new ≡ source_of self.old }
         ensures failures { CountsFault (R.failures (source_of self.old)) (R.failures (source_of self.new)) result }
     {
         if let Stage::Ended = self.position.stage {

@@ -1,8 +1,9 @@
 //! Waits until a line of a text has come.
-ghost use Rattle.std.specs.Prelude.{◌≡◌, IfOk, IsTrue};
+ghost use Rattle.std.specs.Prelude.{◌≡◌, Err, IfOk, IsTrue};
 ghost use Rattle.devices.specs.Devices.{CountsDevice};
+ghost use Rattle.devices.specs.declared.device.WriteFault.TheVariants.{Device as device_failed};
 ghost use Rattle.certificate_reader.specs.Waiting.{waiting_of};
-ghost use Rattle.certificate_reader.specs.Ready.{IsGrown, IsLineIn, IsReady, is_ready};
+ghost use Rattle.certificate_reader.specs.Ready.{IsGrown, IsLineIn, IsReady, IsUnready, is_ready};
 
 use crate::waiting::Waiting;
 use certificate_lines::LONGEST_LINE;
@@ -27,6 +28,7 @@ pub(crate) fn await_line<S: Source>(
     ensures grown { IfOk result (λ _. IsGrown (S.remaining source.old) (S.remaining source.new) (waiting_of waiting.old) (waiting_of waiting.new)) }
     ensures ready { IfOk result (IsReady (waiting_of waiting.new) (S.remaining source.new)) }
     ensures lazy { IsTrue (is_ready (waiting_of waiting.old)) → source.new ≡ source.old }
+    ensures device { result ≡ Err device_failed → IsUnready (S.remaining source.old) (S.remaining source.new) (waiting_of waiting.old) (waiting_of waiting.new) }
     ensures failures { CountsDevice (S.failures source.old) (S.failures source.new) result }
 {
     'reads: loop {

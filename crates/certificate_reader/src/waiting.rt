@@ -1,6 +1,7 @@
 //! The bytes of a text that came from a source and were not handed out yet.
-ghost use Rattle.std.specs.Prelude.{◌≡◌, ◌≤◌, drop, IfOk, length, OnOk, position, []};
+ghost use Rattle.std.specs.Prelude.{◌≡◌, ◌≤◌, drop, Err, IfOk, length, OnOk, position, []};
 ghost use Rattle.devices.specs.Devices.{CountsDevice, ReadsSome};
+ghost use Rattle.devices.specs.declared.device.WriteFault.TheVariants.{Device as device_failed};
 
 use devices::{Source, WriteFault};
 use std::alloc::{AllocError, Global};
@@ -19,7 +20,7 @@ pub(crate) struct Waiting {
 }
 
 impl Waiting {
-    ghost use Rattle.certificate_reader.specs.Waiting.{is_end, waiting_of};
+    ghost use Rattle.certificate_reader.specs.Waiting.{IsKept, is_end, waiting_of};
 
     /// None yet.
     pub(crate) fn new(alloc: Global) -> Waiting
@@ -58,6 +59,7 @@ impl Waiting {
     /// Reads once, to the end of the bytes, and tells how many bytes came.
     pub(crate) fn fill<S: Source>(&mut self, source: &mut S) -> Result<usize, WriteFault>
         ensures ok { IfOk result (λ count. ReadsSome 65536 count (S.remaining source.old) (S.remaining source.new) (waiting_of self.old) (waiting_of self.new)) }
+        ensures device { result ≡ Err device_failed → IsKept (S.remaining source.old) (S.remaining source.new) (waiting_of self.old) (waiting_of self.new) }
         ensures failures { CountsDevice (S.failures source.old) (S.failures source.new) result }
     {
         self.forget();

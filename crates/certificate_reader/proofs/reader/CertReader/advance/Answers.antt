@@ -2,8 +2,9 @@ use Rattle.std.proofs.Common.{◌≡◌, ℕ, ◌∷◌, ◌++◌, [], length, S
 use Rattle.certificate_lines.specs.Lines.{text_line_of}
 use Rattle.certificate_text.proofs.Machine.{ends, stands}
 use Rattle.certificate_reader.specs.Stages.{place_of}
+use Rattle.certificate_reader.specs.Reader.{waits_in}
 use Rattle.certificate_reader.proofs.FaultsRead.{one_line_behind}
-use Rattle.certificate_reader.proofs.ReaderLemmas.{few_lines, leads_within, trailing_told}
+use Rattle.certificate_reader.proofs.ReaderLemmas.{come_unless_ended, few_lines, leads_within, trailing_told}
 use Rattle.certificate_reader.proofs.reader.CertReader.advance.Goals as goal
 
 pub returns-then-branch-clause-told : goal.returns-then-branch-clause-told
@@ -41,5 +42,6 @@ returns g c = record {
         };
       };
   failed = refl;
+  lazy = λ come. c.in_ok-line.ensures.lazy (sym (come_unless_ended c.args.self.now.position.stage (waits_in c.args.self.now) c.in_default.not-Ended) ∙ come);
   failures = c.in_ok-line.ensures.failures;
 }

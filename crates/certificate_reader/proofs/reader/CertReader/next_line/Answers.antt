@@ -3,7 +3,7 @@ use Rattle.certificate_text.proofs.Machine.{stands}
 use Rattle.certificate_reader.specs.declared.reader.CertReader.{CertReader}
 use Rattle.certificate_reader.specs.Stages.{place_of}
 use Rattle.certificate_reader.specs.Reader.{IsAnswer}
-use Rattle.certificate_reader.proofs.ReaderLemmas.{few_lines, told_answer}
+use Rattle.certificate_reader.proofs.ReaderLemmas.{failed, few_lines, told_answer}
 use Rattle.certificate_reader.proofs.reader.CertReader.next_line.Goals as goal
 
 pub returns-in-Err-clause-told : goal.returns-in-Err-clause-told
@@ -12,6 +12,5 @@ returns-in-Err-clause-told g c = λ before read fresh.
     let counted : c.saturating_add-line.result ≡ length before + 1 =
     omega (arith, c.saturating_add-line.ensures, read.count, few_lines before place (stands before place read.place)) in
     let told = c.advance.new.self in
-    let failed : CertReader g.row.R.Denot = record { alloc = told.alloc; source = told.source; waiting = told.waiting; position = told.position; failed = true } in
-    subst (λ fault. IsAnswer g.R.Source.remaining c.args.self.now failed before (Err fault)) (sym c.told_at.ensures)
-    (told_answer g.R.Source.remaining c.args.self.now told failed refl before c.in-Err.fault c.saturating_add-line.result counted (c.in-Err.ensures.told before read))
+    subst (λ fault. IsAnswer g.R.Source.remaining c.args.self.now (failed g.R.Source.remaining c.args.self.now told before) before (Err fault)) (sym c.told_at.ensures)
+    (told_answer g.R.Source.remaining c.args.self.now told before c.in-Err.fault c.saturating_add-line.result counted (c.in-Err.ensures.told before read))
