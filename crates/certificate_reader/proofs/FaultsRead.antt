@@ -1,10 +1,10 @@
 -- What is told of a whole line at a place is the fault of the text there.
-use Rattle.std.proofs.Common.{◌≡◌, ◌≢◌, ℕ, ◌≤◌, ◌⊎◌, inl, inr, List, [], ◌∷◌, ◌++◌, codes, length, Option, None, Some, refl, sym, ap, ◌∙◌, subst}
+use Rattle.std.proofs.Common.{◌≡◌, ◌≢◌, ℕ, inl, inr, List, [], ◌∷◌, ◌++◌, codes, Option, None, Some, sym, ap, ◌∙◌, subst}
 use Rattle.std.specs.Prelude.{IsTrue}
 use Rattle.std.specs.Option.{option_and_then}
 use Rattle.std.specs.Fmt.{decimal}
-use Rattle.model.specs.Certificates.{StateLine, is_number}
-use Rattle.certificate_text.specs.CertificateText.{NamedAtom, TextLine, version, claims, constant, atom, listed, last, is_line, line_text, BeginCertificate, MayFollow, IsOtherVersion, IsOneTooMany, HasLine, IsFaultAfter, other_version, malformed, too_many}
+use Rattle.model.specs.Certificates.{is_number}
+use Rattle.certificate_text.specs.CertificateText.{TextLine, version, claims, constant, atom, listed, last, is_line, line_text, MayFollow, IsOtherVersion, IsOneTooMany, HasLine, IsFaultAfter, other_version, malformed, too_many}
 use Rattle.certificate_text.specs.CertificateMachine.{Place, at_version, at_claim, at_constant, in_body, ended, next_place, place_from, place_after}
 use Rattle.certificate_text.proofs.Machine.{StandsBefore, stands, followed, place_same}
 use Rattle.certificate_text.proofs.TooMany.{IsTooManyAt, too_many_at, too_many_of}

@@ -9,5 +9,6 @@ pub mod OneLine
 pub mod OneText
 pub mod PlaceRead
 pub mod FaultsRead
+pub mod FirstPlaces
 pub mod NextLemmas
 pub mod ReaderLemmas

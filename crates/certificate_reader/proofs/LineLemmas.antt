@@ -1,20 +1,19 @@
 -- Lines by their words.
-use Rattle.std.proofs.Common.{◌≡◌, ℕ, suc, ◌+◌, ◌<◌, ◌≤◌, ◌^◌, Bool, true, false, not, List, [], ◌∷◌, ◌++◌, codes, map, Option, None, Some, refl, sym, ap, ◌∙◌, subst, append_assoc, append-nil, arith}
+use Rattle.std.proofs.Common.{◌≡◌, ℕ, Bool, true, false, not, List, [], ◌∷◌, ◌++◌, codes, map, Option, None, Some, refl, sym, ap, ◌∙◌, append_assoc, append-nil, arith}
 use Rattle.std.specs.Prelude.{◌&&◌, IsTrue}
 use Rattle.std.specs.Char.{is_ascii_alphabetic}
 use Rattle.std.specs.Fmt.{decimal}
 use Rattle.std.specs.List.{flat_map, list_all}
-use Rattle.std.specs.Option.{option_map_or}
 use Rattle.std.specs.Str.Parse.{AllDigits}
-use Rattle.std.proofs.lemmas.Bool.{and_parts, ne_eqb, eqb-true, leb-true, ltb-true}
-use Rattle.std.proofs.lemmas.Fmt.{decimal_is_IsNumeral, decimal_injective}
+use Rattle.std.proofs.lemmas.Bool.{and_parts, ne_eqb, eqb-true}
+use Rattle.std.proofs.lemmas.Fmt.{decimal_is_IsNumeral}
 use Rattle.std.proofs.lemmas.Str.Parse.{tells_digits}
 use Rattle.model.specs.Words.{is_name, is_name_byte}
 use Rattle.model.specs.PlanWriting.{is_lower_name}
-use Rattle.model.specs.Claims.{Claim, bound, none}
-use Rattle.model.specs.Certificates.{StateLine, is_number, rise}
-use Rattle.certificate_text.specs.CertificateText.{NamedAtom, TextLine, version, claims, constant, atom, listed, last, after_blank, is_line, line_text}
-use Rattle.certificate_reader.specs.Words.{IsReadAs, is_blank, is_word, line_head, line_rest, then_words, with_rest}
+use Rattle.model.specs.Claims.{bound, none}
+use Rattle.model.specs.Certificates.{is_number}
+use Rattle.certificate_text.specs.CertificateText.{TextLine, version, claims, constant, atom, listed, last, after_blank, line_text}
+use Rattle.certificate_reader.specs.Words.{is_blank, is_word, line_head, line_rest, then_words, with_rest}
 use Rattle.certificate_reader.proofs.NumberLemmas.{is_below}
 use Rattle.certificate_reader.proofs.WordLemmas.{one_first}
 

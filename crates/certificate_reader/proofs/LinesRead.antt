@@ -1,5 +1,5 @@
 -- The lines of states and atoms, by what stands behind their first word.
-use Rattle.std.proofs.Common.{◌≡◌, ◌≢◌, ℕ, Bool, true, false, List, [], ◌∷◌, ◌++◌, codes, map, Option, None, Some, refl, sym, ap, ◌∙◌, subst, append_assoc, append-nil}
+use Rattle.std.proofs.Common.{◌≡◌, ℕ, Bool, true, false, List, [], ◌∷◌, ◌++◌, codes, map, Option, None, Some, refl, sym, ap, ◌∙◌, subst, append_assoc, append-nil}
 use Rattle.std.specs.Prelude.{◌&&◌, IsTrue}
 use Rattle.std.specs.Fmt.{decimal}
 use Rattle.std.specs.List.{flat_map, list_all}
@@ -7,11 +7,10 @@ use Rattle.std.specs.Str.{bytes_eq}
 use Rattle.std.proofs.lemmas.Slice.Eq.{bytes_eq-Decides}
 use Rattle.std.proofs.lemmas.Bool.{and_parts}
 use Rattle.std.proofs.lemmas.List.{append_cancel_left, append_cancel_right}
-use Rattle.model.specs.Claims.{Claim, bound, none}
 use Rattle.model.specs.PlanWriting.{is_lower_name}
-use Rattle.model.specs.Certificates.{StateLine, is_number, rise}
-use Rattle.certificate_text.specs.CertificateText.{NamedAtom, TextLine, version, claims, constant, atom, listed, last, after_blank, is_line}
-use Rattle.certificate_reader.specs.Words.{IsFirstWord, IsNumbered, IsReadAs, are_lower, is_word, line_head, line_rest, then_words, with_rest}
+use Rattle.model.specs.Certificates.{is_number, rise}
+use Rattle.certificate_text.specs.CertificateText.{NamedAtom, TextLine, version, claims, constant, atom, listed, last, after_blank}
+use Rattle.certificate_reader.specs.Words.{IsFirstWord, IsNumbered, IsReadAs, are_lower, line_rest, then_words, with_rest}
 use Rattle.certificate_reader.proofs.WordLemmas.{one_first}
 use Rattle.certificate_reader.proofs.LineLemmas.{lower_name_is_word, number_is_word, words_behind}
 
@@ -192,6 +191,6 @@ module _ (rest inner : List ℕ) (stands : rest ≡ codes "0 (" ++ inner ++ code
   is_atom_line is name names same lower read = (
     (λ i. (ap is_lower_name same ∙ is) i && lower i),
     atom_text (record { predicate = name; objects = names })
-    ∙ ap (λ inner. codes "0 (" ++ inner ++ codes ")") ((λ i. with_rest (same i) (read i)) ∙ sym first.splits)
-    ∙ sym stands,
+        ∙ ap (λ inner. codes "0 (" ++ inner ++ codes ")") ((λ i. with_rest (same i) (read i)) ∙ sym first.splits)
+        ∙ sym stands,
   )

@@ -1,17 +1,16 @@
 -- Names, word by word.
-use Rattle.std.proofs.Common.{◌≡◌, ℕ, ◌<◌, ◌≤◌, Bool, true, false, not, List, [], ◌∷◌, ◌++◌, map, length, Option, None, Some, refl, sym, ap, ◌∙◌, subst, arith}
+use Rattle.std.proofs.Common.{◌≡◌, ℕ, Bool, true, false, List, [], ◌∷◌, ◌++◌, map, length, Option, None, Some, refl, sym, ap, ◌∙◌, subst, arith}
 use Rattle.std.specs.Prelude.{◌&&◌, ◌==◌, IsTrue, nat_le}
-use Rattle.std.specs.Char.{is_ascii_uppercase, to_ascii_lowercase}
+use Rattle.std.specs.Char.{to_ascii_lowercase}
 use Rattle.std.specs.List.{list_all}
-use Rattle.std.proofs.lemmas.Bool.{and_parts, le-leb, lt-leb}
+use Rattle.std.proofs.lemmas.Bool.{and_parts}
 use Rattle.std.proofs.lemmas.Bool.Decides.{nat_tests}
-use Rattle.std.proofs.lemmas.List.Folds.{list_all-append}
 use Rattle.model.specs.Words.{is_name}
 use Rattle.model.specs.Resolution.{is_same}
 use Rattle.model.specs.PlanWriting.{is_lower_name}
-use Rattle.certificate_reader.specs.Words.{IsFirstWord, is_no_capital, is_word, then_words, with_rest}
+use Rattle.certificate_reader.specs.Words.{IsFirstWord, is_no_capital, is_word, then_words}
 use Rattle.certificate_reader.proofs.WordLemmas.{one_first}
-use Rattle.certificate_reader.proofs.LineLemmas.{IsNext, lower_name_is_word, next_word, then_words_more}
+use Rattle.certificate_reader.proofs.LineLemmas.{lower_name_is_word, next_word, then_words_more}
 
 -- ---- what is a name in lower case
 

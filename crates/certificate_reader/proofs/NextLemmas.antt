@@ -1,15 +1,14 @@
 -- Lines in the bytes that wait, and what is told of them.
-use Rattle.std.proofs.Common.{◌≡◌, ◌≢◌, ℕ, suc, ◌+◌, ◌<◌, ◌≤◌, Bool, true, false, not, cond, List, [], ◌∷◌, ◌++◌, codes, take, drop, length, get_or, Option, None, Some, refl, sym, ap, ◌∙◌, subst, append_assoc, append-nil, arith}
+use Rattle.std.proofs.Common.{◌≡◌, ◌≢◌, ℕ, ◌+◌, ◌<◌, ◌≤◌, Bool, true, false, not, cond, List, [], ◌∷◌, ◌++◌, codes, take, drop, length, get_or, Option, None, Some, refl, sym, ap, ◌∙◌, subst, append_assoc, arith}
 use Rattle.std.specs.Prelude.{IsTrue, nat_lt, Contains, Result, Ok, Err}
-use Rattle.std.specs.Io.KnownBytes.{Consumes, IsAtEnd}
+use Rattle.std.specs.Io.KnownBytes.{IsAtEnd}
 use Rattle.std.specs.Fmt.{decimal}
 use Rattle.std.specs.List.{position, position_or_len}
 use Rattle.std.proofs.lemmas.Bool.{eqb-true, ltb-true, ltb-false}
-use Rattle.std.proofs.lemmas.List.{get_or-take, length-take, length-take-le, take-append-drop, take_all}
+use Rattle.std.proofs.lemmas.List.{get_or-take, length-take, take-append-drop, take_all}
 use Rattle.std.proofs.lemmas.List.Sums.{split_at_first, fails_before_first, passes_at_first}
 use Rattle.model.specs.Certificates.{is_number}
 use Rattle.certificate_lines.specs.declared.line.CertLine.{CertLine}
-use Rattle.certificate_lines.specs.Lines.{text_line_of}
 use Rattle.certificate_text.specs.CertificateText.{TextLine, is_line, line_text, longest_line, whole_line, HasLine, IsFaultAfter, too_long, cut_short}
 use Rattle.certificate_text.specs.CertificateMachine.{Place, at_version, ended, next_place, place_after}
 use Rattle.certificate_text.proofs.Machine.{not_whole}
@@ -17,21 +16,14 @@ use Rattle.certificate_reader.specs.declared.stage.Stage.{Stage}
 use Rattle.certificate_reader.specs.declared.next.NextFault.{NextFault}
 use Rattle.certificate_reader.specs.declared.next.NextFault.TheVariants.{Text, Device, NoMemory}
 use Rattle.certificate_reader.specs.declared.next.TextFault.TheVariants.{Form, Version, Truncated, Limit}
-use Rattle.certificate_reader.specs.Stages.{IsOver, atoms_at, place_of}
-use Rattle.certificate_reader.specs.Waiting.{is_end}
+use Rattle.certificate_reader.specs.Stages.{IsOver, atoms_at}
+use Rattle.certificate_reader.specs.Ends.{is_end}
 use Rattle.certificate_reader.specs.Ready.{IsGrown}
-use Rattle.certificate_reader.specs.Next.{HasEnd, IsFaultAt, IsNext, IsTaken, number_of}
+use Rattle.certificate_reader.proofs.FirstPlaces.{first_at, first_within, passes_nowhere}
+use Rattle.certificate_reader.specs.Next.{HasEnd, IsFaultAt, IsNext, IsTaken}
 use Rattle.certificate_reader.proofs.FaultsRead.{told_other_version, told_too_many, told_malformed}
 
 -- ---- where lines end
-
-first_within : (test : ℕ → Bool) (bytes : List ℕ) → position_or_len test bytes ≤ length bytes
-first_within test [] = omega arith
-first_within test (byte ∷ bytes) = by_test (first_within test bytes) (test byte) refl
-  where
-    by_test : position_or_len test bytes ≤ length bytes → (b : Bool) → test byte ≡ b → cond (not b) (1 + position_or_len test bytes) 0 ≤ length (byte ∷ bytes)
-    by_test more true is = omega arith
-    by_test more false is = omega (arith, more)
 
 -- before the first LF none stands
 no_end_before : (bytes : List ℕ) (n : ℕ) → n ≤ position_or_len is_end bytes → Contains (take n bytes) 10 → ⊥
@@ -40,29 +32,9 @@ no_end_before bytes n before (k, within, same) =
     let here : get_or bytes k 10 ≡ 10 = sym (get_or-take n bytes k 10 below) ∙ same in
     absurd (cc (sym (fails_before_first is_end bytes k 10 (omega (arith, below, before))) ∙ ap is_end here))
 
-record EndsAt (bytes : List ℕ) (end : ℕ) : Type 0 where
-  is_first : position_or_len is_end bytes ≡ end
-  within : end < length bytes
-
-ends_at : (bytes : List ℕ) (end : ℕ) → position is_end bytes ≡ Some end → EndsAt bytes end
-ends_at bytes end at = by_test (nat_lt (position_or_len is_end bytes) (length bytes)) refl at
-  where
-    by_test : (b : Bool) → nat_lt (position_or_len is_end bytes) (length bytes) ≡ b → cond b (Some (position_or_len is_end bytes)) None ≡ Some end → EndsAt bytes end
-    by_test true below at =
-        let same : position_or_len is_end bytes ≡ end = cc in
-        record { is_first = same; within = subst (λ n. n < length bytes) same (ltb-true (position_or_len is_end bytes) (length bytes) below) }
-    by_test false past at = absurd (cc at)
-
-ends_nowhere : (bytes : List ℕ) → position is_end bytes ≡ None → length bytes ≤ position_or_len is_end bytes
-ends_nowhere bytes at = by_test (nat_lt (position_or_len is_end bytes) (length bytes)) refl at
-  where
-    by_test : (b : Bool) → nat_lt (position_or_len is_end bytes) (length bytes) ≡ b → cond b (Some (position_or_len is_end bytes)) None ≡ None → length bytes ≤ position_or_len is_end bytes
-    by_test true below at = absurd (cc at)
-    by_test false past at = ltb-false (position_or_len is_end bytes) (length bytes) past
-
 pub line_splits_off : (bytes : List ℕ) (end : ℕ) → position is_end bytes ≡ Some end → bytes ≡ take end bytes ++ 10 ∷ drop (end + 1) bytes
 line_splits_off bytes end at =
-    let ends = ends_at bytes end at in
+    let ends = first_at is_end bytes end at in
     let first : ℕ = position_or_len is_end bytes in
     let below : first < length bytes = subst (λ n. n < length bytes) (sym ends.is_first) ends.within in
     split_at_first is_end bytes 10 below
@@ -70,13 +42,14 @@ line_splits_off bytes end at =
 
 has_line : (bytes : List ℕ) (end : ℕ) → HasEnd bytes end → (more : List ℕ) → HasLine (bytes ++ more) (take end bytes)
 has_line bytes end (at, short) more =
-    let ends = ends_at bytes end at in
-    (drop (end + 1) bytes ++ more,
-     ap (λ bytes. bytes ++ more) (line_splits_off bytes end at)
-     ∙ append_assoc (take end bytes) (10 ∷ drop (end + 1) bytes) more
-     ∙ sym (append_assoc (take end bytes) (10 ∷ []) (drop (end + 1) bytes ++ more)),
-     no_end_before bytes end (omega (arith, ends.is_first)),
-     omega (arith, short, length-take end bytes))
+    let ends = first_at is_end bytes end at in (
+      drop (end + 1) bytes ++ more,
+      ap (λ bytes. bytes ++ more) (line_splits_off bytes end at)
+          ∙ append_assoc (take end bytes) (10 ∷ drop (end + 1) bytes) more
+          ∙ sym (append_assoc (take end bytes) (10 ∷ []) (drop (end + 1) bytes ++ more)),
+      no_end_before bytes end (omega (arith, ends.is_first)),
+      omega (arith, short, length-take end bytes),
+    )
 
 -- ---- a line that waits
 
@@ -130,5 +103,5 @@ module _ (place : Place) (old waiting : List ℕ) (before after : Option (List �
       told lines leads goes_on =
           subst (λ bytes. IsFaultAfter lines bytes 42) grown.appended
           (cut_short (not_whole lines place leads goes_on)
-          (subst (λ bytes. Contains bytes 10 → ⊥) (take_all (position_or_len is_end waiting) waiting (ends_nowhere waiting nowhere)) (no_end_before waiting (position_or_len is_end waiting) (omega arith)))
+          (subst (λ bytes. Contains bytes 10 → ⊥) (take_all (position_or_len is_end waiting) waiting (passes_nowhere is_end waiting nowhere)) (no_end_before waiting (position_or_len is_end waiting) (omega arith)))
           short)

@@ -1,5 +1,5 @@
 -- A line of a text is one line.
-use Rattle.std.proofs.Common.{◌≡◌, ℕ, Bool, true, false, List, [], ◌∷◌, ◌++◌, codes, map, Option, None, Some, refl, sym, ap, ◌∙◌, subst}
+use Rattle.std.proofs.Common.{◌≡◌, ℕ, List, [], ◌∷◌, codes, map, Option, None, Some, refl, sym, ap, ◌∙◌, subst}
 use Rattle.std.specs.Prelude.{◌&&◌, IsTrue, nat_le}
 use Rattle.std.specs.Fmt.{decimal}
 use Rattle.std.specs.List.{list_all}
@@ -7,9 +7,9 @@ use Rattle.std.proofs.lemmas.Bool.{and_parts}
 use Rattle.std.proofs.lemmas.List.{append_cancel_left}
 use Rattle.model.specs.Claims.{Claim, bound, none}
 use Rattle.model.specs.PlanWriting.{is_lower_name}
-use Rattle.model.specs.Certificates.{StateLine, is_claim, is_number, rise}
+use Rattle.model.specs.Certificates.{is_claim, is_number}
 use Rattle.certificate_text.specs.CertificateText.{NamedAtom, TextLine, version, claims, constant, atom, listed, last, is_line, line_text, longest_line}
-use Rattle.certificate_reader.specs.Words.{IsNumbered, IsReadAs, are_lower, claim_rest, is_word, line_head, line_rest, then_words, with_rest}
+use Rattle.certificate_reader.specs.Words.{IsNumbered, IsReadAs, are_lower, claim_rest, is_word, line_head, line_rest, then_words}
 use Rattle.certificate_reader.proofs.WordLemmas.{one_first}
 use Rattle.certificate_reader.proofs.LineLemmas.{all_words, head_is_word, line_splits, lower_name_is_word, number_is_word}
 use Rattle.certificate_reader.proofs.NumbersRead.{same_number, rising_are_numbers}
@@ -59,9 +59,10 @@ one_numbered : (bytes : List ℕ) (count : ℕ) → count ≤ most_atoms → (m 
 one_numbered bytes count few m n a b h g =
     let both = one_first (decimal m) (decimal n) (then_words (map decimal a) None) (then_words (map decimal b) None) (number_is_word m h.is_number) (number_is_word n g.is_number) (sym h.splits ∙ g.splits) in
     let a_are = rising_are_numbers count 0 a few h.rising in
-    let b_are = rising_are_numbers count 0 b few g.rising in
-    (same_number m n h.is_number g.is_number both.0,
-     same_numbers a b a_are b_are (all_words (map decimal a) (map decimal b) (numbers_are_words a a_are) (numbers_are_words b b_are) both.1))
+    let b_are = rising_are_numbers count 0 b few g.rising in (
+      same_number m n h.is_number g.is_number both.0,
+      same_numbers a b a_are b_are (all_words (map decimal a) (map decimal b) (numbers_are_words a a_are) (numbers_are_words b b_are) both.1),
+    )
 
 -- ---- states and atoms
 
@@ -75,9 +76,10 @@ cut_same c d k l a b costs (leasts, lists) = λ i. listed (record { cost = costs
 one_cut : (rest : List ℕ) (count : ℕ) → count ≤ most_atoms → (c d k l : ℕ) (a b : List ℕ) → IsCut rest count c k a → IsCut rest count d l b → (c ≡ d) × ((k ≡ l) × (a ≡ b))
 one_cut rest count few c d k l a b h g =
     let both = one_first (decimal c) (decimal d) (Some h.bytes) (Some g.bytes) (number_is_word c h.is_number) (number_is_word d g.is_number) (sym h.splits ∙ g.splits) in
-    let bytes : h.bytes ≡ g.bytes = some_same h.bytes g.bytes both.1 in
-    (same_number c d h.is_number g.is_number both.0,
-     one_numbered g.bytes count few k l a b (subst (λ bytes. IsNumbered bytes count k a) bytes h.numbered) g.numbered)
+    let bytes : h.bytes ≡ g.bytes = some_same h.bytes g.bytes both.1 in (
+      same_number c d h.is_number g.is_number both.0,
+      one_numbered g.bytes count few k l a b (subst (λ bytes. IsNumbered bytes count k a) bytes h.numbered) g.numbered,
+    )
 
 module _ (count : ℕ) (few : count ≤ most_atoms) (rest : List ℕ) where
   one_open : (c d : ℕ) (a b : List ℕ) → IsReadAs (codes "open") rest count (listed (record { cost = c; cut = None; atoms = a }))

@@ -1,21 +1,20 @@
 -- A text is at most one certificate.
-use Rattle.std.proofs.Common.{◌≡◌, ℕ, suc, ◌+◌, ◌<◌, ◌≤◌, Bool, true, false, not, List, [], ◌∷◌, ◌++◌, codes, map, length, Option, None, Some, refl, sym, ap, ◌∙◌, subst, append_assoc, arith}
-use Rattle.std.specs.Prelude.{◌&&◌, ◌==◌, IsTrue, nat_le, nat_lt}
+use Rattle.std.proofs.Common.{◌≡◌, ℕ, ◌+◌, ◌≤◌, Bool, true, false, not, List, [], ◌∷◌, ◌++◌, codes, map, length, Option, None, Some, refl, sym, ap, ◌∙◌, append_assoc, arith}
+use Rattle.std.specs.Prelude.{◌&&◌, ◌==◌, IsTrue, nat_le}
 use Rattle.std.specs.Char.{is_ascii_alphabetic}
 use Rattle.std.specs.Fmt.{decimal}
 use Rattle.std.specs.List.{flat_map, list_all}
 use Rattle.std.specs.Option.{option_map_or}
 use Rattle.std.specs.Str.Parse.{AllDigits}
-use Rattle.std.proofs.lemmas.Bool.{and_parts, eqb-true, leb-true, le-leb, lt-ltb, ltb-true, ne_eqb}
+use Rattle.std.proofs.lemmas.Bool.{and_parts, eqb-true, leb-true, le-leb, lt-ltb, ne_eqb}
 use Rattle.std.proofs.lemmas.Fmt.{decimal_is_IsNumeral}
-use Rattle.std.proofs.lemmas.List.{append_cancel_right}
 use Rattle.std.proofs.lemmas.List.Folds.{list_all-append}
 use Rattle.std.proofs.lemmas.Str.Parse.{tells_digits}
 use Rattle.model.specs.Words.{is_name, is_name_byte}
 use Rattle.model.specs.PlanWriting.{is_lower_name}
 use Rattle.model.specs.Claims.{Claim, bound, none}
-use Rattle.model.specs.Certificates.{StateLine, is_claim, is_number, rise}
-use Rattle.certificate_text.specs.CertificateText.{NamedAtom, NamedCertificate, TextLine, version, claims, constant, atom, listed, last, after_blank, is_line, line_text, whole_line, text_of, text_lines, keeps_text_limits, IsCertificateText, longest_line, most_atoms, most_states}
+use Rattle.model.specs.Certificates.{StateLine, is_number, rise}
+use Rattle.certificate_text.specs.CertificateText.{NamedAtom, NamedCertificate, TextLine, version, claims, constant, atom, listed, last, after_blank, is_line, line_text, text_of, text_lines, keeps_text_limits, IsCertificateText, longest_line, most_atoms, most_states}
 use Rattle.certificate_reader.specs.Words.{are_lower}
 use Rattle.certificate_reader.proofs.NumberLemmas.{is_below}
 use Rattle.certificate_reader.proofs.NumbersRead.{few_are_numbers, rise_parts}

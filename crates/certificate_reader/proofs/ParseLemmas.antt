@@ -1,5 +1,5 @@
 -- A line is read by its first word and what stands behind it.
-use Rattle.std.proofs.Common.{◌≡◌, ℕ, Bool, true, false, List, [], ◌∷◌, ◌++◌, codes, Option, None, Some, refl, sym, ap, ◌∙◌, subst, arith}
+use Rattle.std.proofs.Common.{◌≡◌, ℕ, true, List, codes, Option, None, Some, refl, sym, ap, ◌∙◌, subst, arith}
 use Rattle.std.specs.Prelude.{Result, Ok, Err, IsTrue}
 use Rattle.std.specs.Borrow.{Bor}
 use Rattle.std.specs.Fmt.{decimal}
@@ -9,7 +9,7 @@ use Rattle.std.proofs.lemmas.Slice.Eq.{bytes_eq-Decides}
 use Rattle.model.specs.Certificates.{is_number}
 use Rattle.certificate_lines.specs.declared.line.CertLine.{CertLine}
 use Rattle.certificate_lines.specs.Lines.{text_line_of}
-use Rattle.certificate_text.specs.CertificateText.{TextLine, version, claims, constant, atom, listed, last, is_line}
+use Rattle.certificate_text.specs.CertificateText.{TextLine, version, claims, constant, atom, listed, last}
 use Rattle.certificate_reader.specs.declared.line.LineFault.{LineFault}
 use Rattle.certificate_reader.specs.declared.line.LineFault.TheVariants.{OtherVersion, Malformed, TooMany, NoMemory}
 use Rattle.certificate_reader.specs.Parsing.{IsParsed, IsParsedBehind}

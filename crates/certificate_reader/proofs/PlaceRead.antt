@@ -1,12 +1,11 @@
 -- A line that is read at a place, and what is told of one that cannot stand there.
-use Rattle.std.proofs.Common.{◌≡◌, ◌≢◌, ℕ, ◌+◌, ◌<◌, ◌≤◌, Bool, true, false, List, [], ◌∷◌, ◌++◌, codes, Option, None, Some, refl, sym, ap, ◌∙◌, subst, arith}
+use Rattle.std.proofs.Common.{◌≡◌, ◌≢◌, ℕ, ◌+◌, ◌≤◌, List, ◌++◌, codes, Option, None, Some, refl, sym, ap, ◌∙◌, subst, arith}
 use Rattle.std.specs.Prelude.{◌&&◌, ◌==◌, IsTrue, nat_le, nat_lt}
 use Rattle.std.specs.Fmt.{decimal}
 use Rattle.std.proofs.lemmas.Bool.{and_parts, eqb-true, leb-true, lt-ltb}
-use Rattle.model.specs.Claims.{Claim}
-use Rattle.model.specs.Certificates.{StateLine, is_number}
-use Rattle.certificate_text.specs.CertificateText.{NamedAtom, TextLine, version, claims, constant, atom, listed, last, is_line, line_text, most_atoms, most_states}
-use Rattle.certificate_text.specs.CertificateMachine.{Place, at_version, at_claim, at_constant, in_body, ended, next_place, only_if}
+use Rattle.model.specs.Certificates.{is_number}
+use Rattle.certificate_text.specs.CertificateText.{TextLine, version, claims, constant, atom, listed, last, is_line, line_text, most_atoms, most_states}
+use Rattle.certificate_text.specs.CertificateMachine.{Place, at_version, at_claim, at_constant, in_body, ended, next_place}
 use Rattle.certificate_text.proofs.Machine.{never, only_where}
 use Rattle.certificate_reader.specs.Stages.{IsOver, IsWithin, atoms_at}
 use Rattle.certificate_reader.specs.Words.{line_head, line_rest}

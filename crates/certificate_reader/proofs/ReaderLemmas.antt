@@ -1,12 +1,11 @@
 -- What a reader hands out and tells, where some lines were handed out before.
-use Rattle.std.proofs.Common.{◌≡◌, ◌≢◌, ℕ, suc, ◌+◌, ◌<◌, ◌≤◌, Bool, true, false, List, [], ◌∷◌, ◌++◌, map, length, Option, None, Some, refl, sym, ap, ◌∙◌, subst, length-append, arith}
-use Rattle.std.specs.Prelude.{◌&&◌, ◌==◌, IsTrue, nat_le, nat_lt, Result, Ok, Err}
-use Rattle.std.specs.Io.KnownBytes.{Consumes, IsAtEnd}
+use Rattle.std.proofs.Common.{◌≡◌, ◌≢◌, ℕ, ◌+◌, ◌<◌, true, List, [], ◌∷◌, ◌++◌, map, length, Option, Some, refl, ap, ◌∙◌, subst, length-append, arith}
+use Rattle.std.specs.Prelude.{◌&&◌, ◌==◌, nat_le, nat_lt, Err}
 use Rattle.std.proofs.lemmas.Bool.{and_parts, le-leb, leb-true, ltb-true}
 use Rattle.std.proofs.lemmas.List.{length-map}
-use Rattle.certificate_text.specs.CertificateText.{TextLine, version, claims, constant, atom, listed, last, is_line, most_atoms, most_states, head_lines, AreWhole, IsFaultAfter, trailing}
-use Rattle.certificate_text.specs.CertificateMachine.{Place, at_version, at_claim, at_constant, in_body, ended, next_place, place_after}
-use Rattle.certificate_text.proofs.Machine.{StandsBefore, never, only_where, place_same, stands}
+use Rattle.certificate_text.specs.CertificateText.{TextLine, version, claims, constant, atom, listed, last, is_line, most_atoms, most_states, AreWhole, IsFaultAfter, trailing}
+use Rattle.certificate_text.specs.CertificateMachine.{Place, at_version, at_claim, at_constant, in_body, ended, next_place}
+use Rattle.certificate_text.proofs.Machine.{StandsBefore, never, only_where, place_same}
 use Rattle.certificate_reader.specs.declared.reader.CertReader.{CertReader}
 use Rattle.certificate_reader.specs.declared.next.NextFault.{NextFault}
 use Rattle.certificate_reader.specs.declared.next.NextFault.TheVariants as next
@@ -16,7 +15,7 @@ use Rattle.certificate_reader.specs.declared.stage.Stage.{Stage}
 use Rattle.certificate_reader.specs.declared.stage.Stage.TheVariants as stage
 use Rattle.certificate_reader.specs.Stages.{IsWithin, place_of}
 use Rattle.certificate_reader.specs.Ready.{is_ready}
-use Rattle.certificate_reader.specs.Reader.{IsAdvance, IsAnswer, IsToldOf, come_at, fault_at, source_of, waits_in}
+use Rattle.certificate_reader.specs.Reader.{IsAdvance, IsAnswer, IsToldOf, come_at, fault_at}
 
 -- one line more leads to a place within the limits
 pub leads_within : (place : Place) → IsWithin place → (line : TextLine) (next : Place) → next_place place line ≡ Some next → IsWithin next
@@ -71,9 +70,14 @@ few_lines lines (in_body n m) body =
 few_lines lines ended (c, keeps, are) =
     let (counts, each) = and_parts (nat_le (length c.atoms) most_atoms && nat_le (length c.lines) most_states) _ keeps in
     let (atoms, states) = and_parts (nat_le (length c.atoms) most_atoms) (nat_le (length c.lines) most_states) counts in
-    omega (arith, ap length are, body_length (λ a. atom a) (λ l. listed l) c.atoms c.lines,
-    length-append (map (λ a. atom a) c.atoms ++ map (λ l. listed l) c.lines) (last (length c.lines) ∷ []),
-    leb-true (length c.atoms) most_atoms atoms, leb-true (length c.lines) most_states states)
+    omega (
+      arith,
+      ap length are,
+      body_length (λ a. atom a) (λ l. listed l) c.atoms c.lines,
+      length-append (map (λ a. atom a) c.atoms ++ map (λ l. listed l) c.lines) (last (length c.lines) ∷ []),
+      leb-true (length c.atoms) most_atoms atoms,
+      leb-true (length c.lines) most_states states,
+    )
 
 -- ---- behind the last line
 

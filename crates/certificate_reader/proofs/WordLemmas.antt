@@ -1,5 +1,5 @@
 -- The first word of some bytes.
-use Rattle.std.proofs.Common.{◌≡◌, ◌≢◌, ℕ, suc, ◌+◌, ◌-◌, ◌<◌, ◌≤◌, nat_lt, Bool, true, false, not, cond, List, [], ◌∷◌, ◌++◌, codes, take, drop, length, Option, None, Some, refl, sym, ap, ◌∙◌, subst, append_assoc, arith}
+use Rattle.std.proofs.Common.{◌≡◌, ℕ, suc, ◌+◌, ◌-◌, ◌<◌, ◌≤◌, nat_lt, Bool, true, false, not, cond, List, [], ◌∷◌, ◌++◌, take, drop, length, Option, None, Some, refl, sym, ap, ◌∙◌, subst, append_assoc, arith}
 use Rattle.std.specs.Prelude.{◌&&◌, IsTrue}
 use Rattle.std.specs.List.{position, position_or_len}
 use Rattle.std.proofs.lemmas.List.{take_all, length-drop}
@@ -58,7 +58,7 @@ word_then_rest bytes end at = by_test (nat_lt place (length bytes)) refl at
         record {
           is_word = cut.is_word;
           splits = cut.splits before ∙ sym (append_assoc (take end bytes) (32 ∷ []) (drop (suc end) bytes))
-          ∙ ap (λ rest. (take end bytes ++ 32 ∷ []) ++ rest) (sym rest_is);
+              ∙ ap (λ rest. (take end bytes ++ 32 ∷ []) ++ rest) (sym rest_is);
         }
     by_test false past at = absurd (cc at)
 

@@ -15,7 +15,7 @@ use Rattle.certificate_reader.specs.declared.next.NextFault.TheVariants.{Text, D
 use Rattle.certificate_reader.specs.declared.next.TextFault.{TextFault}
 use Rattle.certificate_reader.specs.declared.next.TextFault.TheVariants.{Form, Version, Truncated, Limit}
 use Rattle.certificate_reader.specs.Stages.{place_of}
-use Rattle.certificate_reader.specs.Waiting.{is_end}
+use Rattle.certificate_reader.specs.Ends.{is_end}
 use Rattle.certificate_reader.specs.Ready.{IsUnready}
 
 -- the number of a fault

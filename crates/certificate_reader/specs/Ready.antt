@@ -5,7 +5,7 @@ use Rattle.std.specs.Io.KnownBytes.{Consumes, IsAtEnd}
 use Rattle.certificate_text.specs.CertificateText.{longest_line}
 use Rattle.certificate_reader.specs.declared.ready.Ready.{Ready}
 use Rattle.certificate_reader.specs.declared.ready.Ready.TheVariants.{Line, TooLong, End}
-use Rattle.certificate_reader.specs.Waiting.{is_end}
+use Rattle.certificate_reader.specs.Ends.{is_end}
 
 -- a line waits, or more bytes than one may have
 abbrev pub is_ready : List ℕ → Bool

@@ -1,6 +1,7 @@
 //! Certificates, read from their texts.
 #![tactic(auto)]
 
+mod laws;
 mod line;
 mod names;
 mod next;
@@ -13,5 +14,6 @@ mod stage;
 mod waiting;
 mod word;
 
+pub use laws::texts_are_certificates_one_for_one;
 pub use next::TextFault;
 pub use reader::{CertFault, CertReader};

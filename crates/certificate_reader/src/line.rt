@@ -44,11 +44,7 @@ impl From<AllocError> for LineFault {
 /// # Errors
 /// [`LineFault::OtherVersion`] for `pddl-cert N` where N is not 1; [`LineFault::Malformed`] for all else that is no line;
 /// [`LineFault::NoMemory`] where memory is refused.
-pub(crate) fn parse(
-    alloc: Global,
-    bytes: &[u8],
-    atom_count: usize,
-) -> Result<CertLine, LineFault>
+pub(crate) fn parse(alloc: Global, bytes: &[u8], atom_count: usize) -> Result<CertLine, LineFault>
     requires few { atom_count ≤ most_atoms }
     requires short { length bytes.now ≤ longest_line }
     ensures { IsParsed bytes.now atom_count result }

@@ -13,10 +13,7 @@ use tokens::is_name;
 const LONGEST_NAME: usize = 255;
 
 /// The names that stand there, and `None` where there are none, or something else stands there.
-pub(crate) fn names(
-    alloc: Global,
-    rest: Option<&[u8]>,
-) -> Result<Option<Vec<Vec<u8>>>, AllocError>
+pub(crate) fn names(alloc: Global, rest: Option<&[u8]>) -> Result<Option<Vec<Vec<u8>>>, AllocError>
     ensures some { IfOk result (λ found. IfSome found (λ names. IsTrue (list_all writing.is_lower_name (map name_of names.items))
         × (then_words (map name_of names.items) None ≡ text_in rest.entry))) }
     ensures none { IfOk result (λ found. IfNone found ((names : List (List ℕ)) → IsTrue (list_all writing.is_lower_name names)

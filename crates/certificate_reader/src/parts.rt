@@ -20,7 +20,11 @@ pub(crate) fn claim(rest: &[u8]) -> Option<Claim>
 {
     let (word, behind) = first_word(rest);
     let Some(least) = behind else {
-        return if is(word, b"none") { Some(Claim::Unsolvable) } else { None };
+        return if is(word, b"none") {
+            Some(Claim::Unsolvable)
+        } else {
+            None
+        };
     };
     if !is(word, b"bound") {
         return None;

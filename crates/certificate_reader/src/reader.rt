@@ -4,7 +4,6 @@ ghost use Rattle.certificate_lines.specs.Lines.{text_line_of};
 ghost use Rattle.certificate_text.specs.CertificateText.{TextLine, AreWhole};
 ghost use Rattle.certificate_reader.specs.declared.reader.CertFault.TheVariants.{Failed};
 ghost use Rattle.certificate_reader.specs.Reader.{CountsCert, HasRead, IsAdvance, IsAnswer, fault_at, has_come, has_failed, source_of, waits_in};
-
 ghost use Rattle.certificate_reader.specs.Next.{CountsFault};
 
 use crate::next::{NextFault, TextFault, is_at_end, next_line};

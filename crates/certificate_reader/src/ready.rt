@@ -42,8 +42,9 @@ pub(crate) fn await_line<S: Source>(
 }
 
 /// The line that waits, or too long a one, and `None` where neither does.
-fn line_in(waiting: &Waiting) -> Option<Ready>
-    ensures { IsLineIn (waiting_of waiting.now) result }
+fn line_in(waiting: &mut Waiting) -> Option<Ready>
+    ensures line { IsLineIn (waiting_of waiting.old) result }
+    ensures kept { waiting_of waiting.new ≡ waiting_of waiting.old }
 {
     match waiting.line_end() {
         Some(end) if end <= LONGEST_LINE => Some(Ready::Line(end)),

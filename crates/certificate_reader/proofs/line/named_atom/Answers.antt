@@ -1,5 +1,4 @@
 use Rattle.std.proofs.Common.{sym, ◌∙◌}
-use Rattle.certificate_lines.specs.Lines.{name_of}
 use Rattle.certificate_reader.proofs.LinesRead.{no_lower_predicate, no_names_behind, is_atom_line}
 use Rattle.certificate_reader.proofs.line.named_atom.Goals as goal
 

@@ -1,4 +1,4 @@
-use Rattle.std.proofs.Common.{◌≡◌, ◌++◌, ◌∷◌, [], List, ℕ, map, sym, ap, ◌∙◌, subst}
+use Rattle.std.proofs.Common.{◌≡◌, ◌++◌, ◌∷◌, [], map, sym, ap, ◌∙◌, subst}
 use Rattle.std.specs.Prelude.{IsTrue}
 use Rattle.std.specs.List.{list_all}
 use Rattle.std.proofs.lemmas.List.{map-append}
@@ -23,7 +23,7 @@ words-preserved c =
     ap (map name_of) c.in_ok-push.ensures.items ∙ map-append name_of c.words.names.items (c.in_ok-copy.field-0 ∷ []) ∙ ap (λ name. done ++ name ∷ []) c.in_ok-copy.ensures in
     record {
       read = ap (λ names. then_words names (text_in c.first_word.result.1)) items
-      ∙ one_name_more _ done c.in-Some.bytes.now word _ c.first_word.ensures read;
+          ∙ one_name_more _ done c.in-Some.bytes.now word _ c.first_word.ensures read;
       lower = subst (λ names. IsTrue (list_all is_lower_name names)) (sym items)
-      (more_lower done word c.words.invariant.lower (sym c.is_lower_name.ensures ∙ c.if-not-is_lower_name.false));
+          (more_lower done word c.words.invariant.lower (sym c.is_lower_name.ensures ∙ c.if-not-is_lower_name.false));
     }

@@ -1,5 +1,5 @@
 -- What stood there is the names so far and then what is left.
-use Rattle.std.proofs.Common.{◌≡◌, ℕ, List, map}
+use Rattle.std.proofs.Common.{◌≡◌, map}
 use Rattle.std.specs.Prelude.{IsTrue}
 use Rattle.std.specs.List.{list_all}
 use Rattle.model.specs.PlanWriting.{is_lower_name}

@@ -1,6 +1,4 @@
-use Rattle.std.proofs.Common.{ℕ, IsTrue, ◌≡◌, sym, ◌∙◌, arith}
-use Rattle.std.specs.Fmt.{decimal}
-use Rattle.model.specs.Certificates.{is_number}
+use Rattle.std.proofs.Common.{◌≡◌, sym, ◌∙◌, arith}
 use Rattle.certificate_reader.proofs.NumberLemmas.{number_is_text, number_is_read, is_spelled_so, is_below}
 use Rattle.certificate_reader.proofs.number.number.Goals as goal
 use Rattle.certificate_reader.proofs.number.number.Goals.{else-number-lt-NUMBER_LIMIT-via-then-number-lt-NUMBER_LIMIT+else-is_spelled, else-number-lt-NUMBER_LIMIT-via-else-number-lt-NUMBER_LIMIT}

@@ -1,4 +1,4 @@
-use Rattle.std.proofs.Common.{◌≡◌, ◌<◌, ◌++◌, List, ℕ, map, sym, ap, ◌∙◌, subst}
+use Rattle.std.proofs.Common.{◌<◌, ◌++◌, map, sym, ap, ◌∙◌, subst}
 use Rattle.std.specs.Fmt.{decimal}
 use Rattle.model.specs.Certificates.{rise}
 use Rattle.certificate_reader.specs.Words.{text_in, then_words}
@@ -22,11 +22,11 @@ words-preserved c =
     let next = c.in-Some-next_number.ensures.some in
     record {
       read = ap (λ items. then_words (map decimal items) (text_in c.first_word.result.1)) c.in_ok-push.ensures.items
-      ∙ one_more_read c.args.atom_count c.requires.few _ done c.words.least c.words.invariant.rises c.in-Some.bytes.now _ _ c.first_word.ensures read
-      c.in-Some-next_number.next next.0 next.1 next.2;
+          ∙ one_more_read c.args.atom_count c.requires.few _ done c.words.least c.words.invariant.rises c.in-Some.bytes.now _ _ c.first_word.ensures read
+          c.in-Some-next_number.next next.0 next.1 next.2;
       rises = λ more. ap (λ items. rise c.args.atom_count 0 (items ++ more)) c.in_ok-push.ensures.items
-      ∙ one_more_rises c.args.atom_count c.requires.few _ done c.words.least c.words.invariant.rises c.in-Some.bytes.now _ _ c.first_word.ensures read
-      c.in-Some-next_number.next next.0 next.1 next.2 more;
+          ∙ one_more_rises c.args.atom_count c.requires.few _ done c.words.least c.words.invariant.rises c.in-Some.bytes.now _ _ c.first_word.ensures read
+          c.in-Some-next_number.next next.0 next.1 next.2 more;
     }
 
 pub returns-clause-some : goal.returns-clause-some

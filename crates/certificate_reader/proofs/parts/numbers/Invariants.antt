@@ -1,5 +1,5 @@
 -- What stood there is the numbers so far and then what is left, and a list that goes on from them rises where all of it does.
-use Rattle.std.proofs.Common.{◌≡◌, ℕ, List, ◌++◌, ◌+◌, map, length}
+use Rattle.std.proofs.Common.{◌≡◌, ℕ, List, ◌++◌, map}
 use Rattle.std.specs.Fmt.{decimal}
 use Rattle.model.specs.Certificates.{rise}
 use Rattle.certificate_reader.specs.Words.{text_in, then_words}

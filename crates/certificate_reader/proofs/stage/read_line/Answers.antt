@@ -1,4 +1,4 @@
-use Rattle.std.proofs.Common.{ap, subst, IsTrue}
+use Rattle.std.proofs.Common.{subst, IsTrue}
 use Rattle.certificate_lines.specs.Lines.{text_line_of}
 use Rattle.certificate_text.specs.CertificateText.{is_line}
 use Rattle.certificate_reader.specs.Stages.{place_of}

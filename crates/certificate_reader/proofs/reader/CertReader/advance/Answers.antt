@@ -1,4 +1,4 @@
-use Rattle.std.proofs.Common.{◌≡◌, ℕ, ◌∷◌, ◌++◌, [], length, Some, refl, sym, ap, ◌∙◌, length-append, arith}
+use Rattle.std.proofs.Common.{◌∷◌, [], Some, refl, sym, ap, ◌∙◌, length-append, arith}
 use Rattle.certificate_lines.specs.Lines.{text_line_of}
 use Rattle.certificate_text.proofs.Machine.{ends, stands}
 use Rattle.certificate_reader.specs.Stages.{place_of}
@@ -37,8 +37,13 @@ returns g c = record {
         splits = next.2;
         read = record {
           place = one_line_behind before (place_of c.args.self.now.position.stage) (place_of c.in_ok-line.stage) (text_line_of c.in_ok-line.line) read.place next.3;
-          count = omega (arith, c.saturating_add.ensures, read.count, few_lines before (place_of c.args.self.now.position.stage) (stands before (place_of c.args.self.now.position.stage) read.place),
-          length-append before (text_line_of c.in_ok-line.line ∷ []));
+          count = omega (
+            arith,
+            c.saturating_add.ensures,
+            read.count,
+            few_lines before (place_of c.args.self.now.position.stage) (stands before (place_of c.args.self.now.position.stage) read.place),
+            length-append before (text_line_of c.in_ok-line.line ∷ []),
+          );
         };
       };
   failed = refl;

@@ -1,6 +1,5 @@
-use Rattle.std.proofs.Common.{◌≡◌, ℕ, ◌+◌, length, refl, sym, subst, arith, Err, true}
+use Rattle.std.proofs.Common.{◌≡◌, ◌+◌, length, sym, subst, arith, Err}
 use Rattle.certificate_text.proofs.Machine.{stands}
-use Rattle.certificate_reader.specs.declared.reader.CertReader.{CertReader}
 use Rattle.certificate_reader.specs.Stages.{place_of}
 use Rattle.certificate_reader.specs.Reader.{IsAnswer}
 use Rattle.certificate_reader.proofs.ReaderLemmas.{failed, few_lines, told_answer}
