@@ -1,5 +1,5 @@
 -- The first place of a list at which a test passes, and where it is looked for behind places at which it does not.
-use Rattle.std.proofs.Common.{◌≡◌, ℕ, suc, zero, ◌+◌, ◌<◌, ◌≤◌, Bool, true, false, not, cond, List, [], ◌∷◌, ◌++◌, drop, length, Option, None, Some, refl, sym, ap, ◌∙◌, subst, length-append, arith}
+use Rattle.std.proofs.Common.{◌≡◌, ℕ, suc, zero, ◌+◌, ◌<◌, ◌≤◌, Bool, true, false, not, cond, List, [], ◌∷◌, ◌++◌, drop, length, None, Some, refl, sym, ap, ◌∙◌, subst, length-append, arith}
 use Rattle.std.specs.Prelude.{if◌then◌else◌, nat_lt}
 use Rattle.std.specs.List.{position, position_or_len}
 use Rattle.std.proofs.lemmas.Bool.{le-ltb, lt-ltb, ltb-false, ltb-true}
@@ -72,9 +72,10 @@ module _ (test : ℕ → Bool) where
   -- what was known of a list from a place on stays so where something may have come to its end
   pub known_still : (start n : ℕ) (xs more ys : List ℕ) (came : Bool) → start ≤ length xs → n ≤ position_or_len test (drop start xs)
       → ys ≡ if came then xs ++ more else xs → (start ≤ length ys) × (n ≤ position_or_len test (drop start ys))
-  known_still start n xs more ys true within known grown =
-      (subst (λ ys. start ≤ length ys) (sym grown) (omega (arith, within, length-append xs more)),
-       subst (λ ys. n ≤ position_or_len test (drop start ys)) (sym grown)
-       (subst (λ rest. n ≤ position_or_len test rest) (sym (drop-append-le start xs more within)) (let grows = first_grows (drop start xs) more in omega (arith, known, grows))))
+  known_still start n xs more ys true within known grown = (
+    subst (λ ys. start ≤ length ys) (sym grown) (omega (arith, within, length-append xs more)),
+    subst (λ ys. n ≤ position_or_len test (drop start ys)) (sym grown)
+        (subst (λ rest. n ≤ position_or_len test rest) (sym (drop-append-le start xs more within)) (let grows = first_grows (drop start xs) more in omega (arith, known, grows))),
+  )
   known_still start n xs more ys false within known grown =
       (subst (λ ys. start ≤ length ys) (sym grown) within, subst (λ ys. n ≤ position_or_len test (drop start ys)) (sym grown) known)

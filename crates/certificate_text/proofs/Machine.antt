@@ -122,10 +122,11 @@ whole_body n m lines body =
     ∙ both_true _ _ all_body (both_true (is_number (length body.states)) true number refl) in
     let each : list_all (keeps n) (text_lines c) ≡ true = both_true (is_claim body.claim) _ body.claim_is behind in
     let few : nat_le (length body.atoms) most_atoms ≡ true = le-leb (length body.atoms) most_atoms (omega (arith, body.atom_count_is, body.few_atoms)) in
-    let few_states : nat_le (length body.states) most_states ≡ true = le-leb (length body.states) most_states (omega (arith, body.state_count_is, body.few_states)) in
-    (c,
-     both_true (nat_le (length body.atoms) most_atoms && nat_le (length body.states) most_states) _ (both_true _ _ few few_states) (ap (λ (k : TextLine → Bool). list_all k (text_lines c)) (sym count_is) ∙ each),
-     ap (λ count. head_lines body.claim body.atoms body.states ++ last count ∷ []) body.state_count_is ∙ ap (λ lines. lines ++ last m ∷ []) (sym body.lines_are))
+    let few_states : nat_le (length body.states) most_states ≡ true = le-leb (length body.states) most_states (omega (arith, body.state_count_is, body.few_states)) in (
+      c,
+      both_true (nat_le (length body.atoms) most_atoms && nat_le (length body.states) most_states) _ (both_true _ _ few few_states) (ap (λ (k : TextLine → Bool). list_all k (text_lines c)) (sym count_is) ∙ each),
+      ap (λ count. head_lines body.claim body.atoms body.states ++ last count ∷ []) body.state_count_is ∙ ap (λ lines. lines ++ last m ∷ []) (sym body.lines_are),
+    )
 
 -- one line more leads to the next place
 step : (place : Place) (line : TextLine) (next : Place) (lines : List TextLine) → StandsBefore place lines → next_place place line ≡ Some next

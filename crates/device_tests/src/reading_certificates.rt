@@ -6,7 +6,8 @@ use std::alloc::{AllocError, Global};
 use std::test::Fail;
 
 /// A certificate of ten lines.
-const HOP: &[u8] = b"pddl-cert 1\nclaim bound 6\nconstant 0\natom 0 (at a)\natom 0 (at b)\natom 0 (at c)\nopen 0 0\nopen 3 1\ncut 6 0 2\nend 3\n";
+const HOP: &[u8] =
+    b"pddl-cert 1\nclaim bound 6\nconstant 0\natom 0 (at a)\natom 0 (at b)\natom 0 (at c)\nopen 0 0\nopen 3 1\ncut 6 0 2\nend 3\n";
 
 /// What is told at a line.
 const fn at_line(fault: TextFault, line: u64) -> CertFault {
@@ -91,7 +92,10 @@ fn a_text_that_is_cut_is_told_at_the_line_that_is(rt: HostRuntime) -> Result<(),
 /// What is told of a device that gives these bytes, and then fails.
 fn before_failure(alloc: Global, bytes: &[u8]) -> Result<Option<(u64, Option<CertFault>)>, Fail> {
     let reads_before = Some(bytes.len() as u64);
-    Ok(reads(alloc, FailsAt::source(one_by_one(alloc, bytes)?, reads_before)))
+    Ok(reads(
+        alloc,
+        FailsAt::source(one_by_one(alloc, bytes)?, reads_before),
+    ))
 }
 
 #[test]
@@ -114,7 +118,7 @@ fn endless(
     text: &[u8],
     again: u8,
 ) -> Result<Option<(u64, Option<CertFault>)>, Fail> {
-    let again = vec![in alloc; again]?;
+    let again = vec![in alloc; again; 65_536]?;
     Ok(reads(alloc, Endless::new(text.to_vec(alloc)?, again)))
 }
 
@@ -132,7 +136,7 @@ fn a_text_without_an_end_has_a_fault(rt: HostRuntime) -> Result<(), Fail> {
 fn one_atom_more_than_there_may_be_is_told(rt: HostRuntime) -> Result<(), Fail> {
     let alloc = rt.alloc();
     let head = b"pddl-cert 1\nclaim none\nconstant 0\n".to_vec(alloc)?;
-    let again = b"atom 0 (lit)\n".to_vec(alloc)?;
+    let again = b"atom 0 (lit)\n".repeat(alloc, 5_000)?;
     let limit = Some((1_048_579, Some(at_line(TextFault::Limit, 1_048_580))));
     assert!(rt; reads(alloc, Endless::new(head, again)) == limit);
     Ok(())

@@ -1,4 +1,4 @@
-use Rattle.std.proofs.Common.{drop, ap, sym, ◌∙◌}
+use Rattle.std.proofs.Common.{ap, sym, ◌∙◌}
 use Rattle.std.specs.List.{position}
 use Rattle.certificate_reader.specs.Ends.{is_end}
 use Rattle.certificate_reader.proofs.FirstPlaces.{found_behind, nowhere_behind}
