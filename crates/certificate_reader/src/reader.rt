@@ -1,5 +1,5 @@
 //! The reader of a certificate's text, line by line.
-ghost use Rattle.std.specs.Prelude.{◌≡◌, ◌+◌, ℕ, ◌++◌, [], ◌∷◌, Err, IfErr, IfOk, IfNone, IfSome, IsErr, IsTrue, List, false, length, true};
+ghost use Rattle.std.specs.Prelude.{◌≡◌, ◌+◌, ℕ, ◌++◌, [], ◌∷◌, Err, IfErr, IfOk, IfNone, IfSome, is_err, IsTrue, List, false, length, true};
 ghost use Rattle.certificate_lines.specs.Lines.{text_line_of};
 ghost use Rattle.certificate_text.specs.CertificateText.{TextLine, AreWhole};
 ghost use Rattle.certificate_reader.specs.declared.reader.CertFault.TheVariants.{Failed};
@@ -72,7 +72,7 @@ impl<R: Source> CertReader<R> {
         // What is handed out of the text, or told of it, where these lines were handed out before.
         ensures told { (before : List TextLine) → HasRead self.old before → has_failed self.old ≡ false
             → IsAnswer R.remaining self.old self.new before result }
-        ensures failed { IsErr result → has_failed self.new ≡ true }
+        ensures failed { has_failed self.new ≡ is_err result }
         ensures still { has_failed self.old ≡ true → (result ≡ Err Failed) × (self.new ≡ self.old) }
         // The source is left alone where what is to be told has come.
         ensures lazy { IsTrue (has_come self.old) → source_of self.new ≡ source_of self.old }
