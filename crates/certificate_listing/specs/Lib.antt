@@ -1,0 +1,4 @@
+pub mod RefusalCode
+pub mod CertFaults
+pub mod Told
+pub mod Reading

@@ -1,0 +1,7 @@
+//! Certificates of a task, read from their texts.
+#![tactic(auto)]
+
+mod names;
+mod refusal;
+
+pub use refusal::{Refusal, RefusalCode};
