@@ -1,2 +1,4 @@
 pub mod NamesLemmas
 pub mod ToldLemmas
+pub mod AtomsLemmas
+pub mod ReadingLemmas

@@ -1,14 +1,14 @@
 -- What one line more tells.
 use Rattle.std.proofs.Common.{◌≡◌, ◌≢◌, ℕ, zero, suc, ◌+◌, ◌<◌, ◌≤◌, ◌⊎◌, inl, inr, ⊎_elim, Bool, true, false, List, [], ◌∷◌, ◌++◌, map, length, get_or, Option, None, Some, refl, sym, ap, ◌∙◌, subst, append_assoc, append-nil, true≢false, arith}
 use Rattle.std.specs.Prelude.{IsTrue, IsSome, ◌&&◌, All, AllPairs, Contains}
-use Rattle.std.proofs.lemmas.List.Elements.{All-push, Contains-push, Contains-push_cases, Contains-append_left, Contains-get_or}
+use Rattle.std.proofs.lemmas.List.Elements.{All-nil, All-push, Contains-push, Contains-push_cases, Contains-append_left, Contains-get_or}
 use Rattle.std.proofs.lemmas.List.Elements.{filter_map-append}
 use Rattle.std.proofs.lemmas.List.Quantifiers.{all_pairs_push}
 use Rattle.model.proofs.ListLemmas.{Contains-cases, Contains-here, Contains-there, Contains-none, Contains-filter_map, filter_map-Contains}
 use Rattle.model.specs.Task.{Atom, Task}
 use Rattle.model.specs.WellTyped.{is_atom}
 use Rattle.model.specs.Fluents.{is_fluent}
-use Rattle.model.specs.Claims.{Claim, none}
+use Rattle.model.specs.Claims.{Claim, bound, none}
 use Rattle.model.specs.Certificates.{StateLine}
 use Rattle.certificate_text.specs.CertificateText.{NamedAtom, TextLine, version, claims, constant, atom, listed, last, BeginCertificate, AreWhole}
 use Rattle.certificate_text.specs.CertificateNames.{AllName, Names}
@@ -37,7 +37,7 @@ told_atom lines a told = let (line, there, is) = filter_map-Contains atom_in lin
 
 -- ---- where a line stands
 
-begin_front : (before : List TextLine) (line : TextLine) → BeginCertificate (before ++ line ∷ []) → BeginCertificate before
+pub begin_front : (before : List TextLine) (line : TextLine) → BeginCertificate (before ++ line ∷ []) → BeginCertificate before
 begin_front before line (rest, whole) = (line ∷ rest, subst AreWhole (append_assoc before (line ∷ []) rest) whole)
 
 pub record IsPlaced (before : List TextLine) (line : TextLine) : Type 0 where
@@ -131,6 +131,17 @@ name_of_atom task (n ∷ names) (b ∷ atoms) a (here, are) there =
     ⊎_elim (λ same. (n, Contains-here n names, subst (Names task n) same here))
     (λ later. let (name, stands, is) = name_of_atom task names atoms a are later in (name, Contains-there n names name stands, is)) (Contains-cases b atoms a there)
 
+-- no lines tell nothing
+pub told_nothing : (task : Task) → HaveTold task [] (bound 0) []
+told_nothing task = record {
+  one_claim = λ c there. absurd (Contains-none (claims c) there);
+  none_stands = λ same. absurd (cc same);
+  named = tt;
+  fluent = All-nil (λ (a : Atom). IsTrue (is_atom task a && is_fluent task a.predicate));
+  distinct = λ i j d below within. absurd (omega (arith, within));
+  right = λ front rest line number splits wrong. nothing_before front line rest splits;
+}
+
 module _ (task : Task) (before : List TextLine) (claim : Claim) (atoms : List Atom) (told : HaveTold task before claim atoms) where
   no_atom_more : (line : TextLine) → atom_in line ≡ None → atoms_told (before ++ line ∷ []) ≡ atoms_told before
   no_atom_more line none_in = filter_map-append atom_in before (line ∷ []) ∙ ap (λ more. atoms_told before ++ more) (none_more line none_in) ∙ append-nil (atoms_told before)
@@ -203,3 +214,15 @@ module _ (task : Task) (before : List TextLine) (claim : Claim) (atoms : List At
     wrong_again stands =
         let (other, there, is) = name_of_atom task (atoms_told before) atoms a told.named stands in
         repeated_atom name (a, names, typed, changes) (told_atom before name (subst (Contains (atoms_told before)) (same_names task other name a is names) there))
+
+-- a line that lists no state lists none
+pub no_state_more : (lines : List TextLine) (line : TextLine) → state_in line ≡ None → states_told lines ≡ [] → states_told (lines ++ line ∷ []) ≡ []
+no_state_more lines line is none_before = filter_map-append state_in lines (line ∷ []) ∙ ap (λ states. states ++ states_told (line ∷ [])) none_before ∙ alone line is
+  where
+    alone : (line : TextLine) → state_in line ≡ None → states_told (line ∷ []) ≡ []
+    alone version is = refl
+    alone (claims claim) is = refl
+    alone constant is = refl
+    alone (atom a) is = refl
+    alone (listed l) is = absurd (cc is)
+    alone (last count) is = refl

@@ -59,3 +59,12 @@ IsBegun remaining task first now claim atoms (Some line) =
     × (states_told before ≡ []) × (is_body (text_line_of line) ≡ true)
 IsBegun remaining task first now claim atoms None =
     (lines : List TextLine) × IsAtLast remaining first now lines × HaveTold task lines claim atoms × (states_told lines ≡ [])
+
+-- the failure of a device counts one failure, another answer none
+abbrev pub CountsRefusal : {T : Type 0} → (before after : ℕ) → Result T Refusal → Type 0
+CountsRefusal before after (Ok read) = after ≡ before
+CountsRefusal before after (Err (refusal.Line code line)) = after ≡ before
+CountsRefusal before after (Err (refusal.Plain code)) = after ≡ before
+CountsRefusal before after (Err refusal.NoMemory) = after ≡ before
+CountsRefusal before after (Err refusal.Device) = after ≡ one_more before
+CountsRefusal before after (Err refusal.Failed) = after ≡ before

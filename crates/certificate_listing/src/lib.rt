@@ -1,6 +1,7 @@
 //! Certificates of a task, read from their texts.
 #![tactic(auto)]
 
+mod beginning;
 mod names;
 mod refusal;
 

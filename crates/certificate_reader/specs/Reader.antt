@@ -21,6 +21,10 @@ use Rattle.certificate_reader.specs.Waiting.{waiting_of}
 abbrev pub source_of : {R : Type 0} → CertReader R → R
 source_of reader = reader.source
 
+-- how many lines were handed out
+abbrev pub lines_read : {R : Type 0} → CertReader R → ℕ
+lines_read reader = reader.position.lines
+
 abbrev pub waits_in : {R : Type 0} → CertReader R → List ℕ
 waits_in reader = waiting_of reader.waiting
 
@@ -68,6 +72,7 @@ pub record IsHandedOut {R : Type 0} (remaining : R → Option (List ℕ)) (old n
 pub record IsOver {R : Type 0} (remaining : R → Option (List ℕ)) (old new : CertReader R) (before : List TextLine) : Type 0 where
   pub whole : AreWhole before
   pub nothing : waits_in old ≡ []
+  pub consumed : Consumes (remaining (source_of old)) (remaining (source_of new)) []
   pub at_end : IsAtEnd (remaining (source_of new))
   pub still : waits_in new ≡ []
   pub read : HasRead new before
