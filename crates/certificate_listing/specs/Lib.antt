@@ -1,5 +1,7 @@
 pub mod RefusalCode
 pub mod CertFaults
+pub mod Sets
 pub mod Told
+pub mod Listed
 pub mod Taking
 pub mod Reading

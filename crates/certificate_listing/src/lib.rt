@@ -4,5 +4,7 @@
 mod beginning;
 mod names;
 mod refusal;
+mod states;
 
 pub use refusal::{Refusal, RefusalCode};
+pub use states::Mark;
