@@ -1,10 +1,10 @@
 -- States that are taken, and states that stood before.
 use Rattle.std.proofs.Common.{◌≡◌, ◌≢◌, ℕ, ◌+◌, ◌<◌, ◌≤◌, ◌↔◌, ⊎_elim, Bool, true, false, List, [], ◌∷◌, ◌++◌, map, length, Option, None, Some, refl, sym, ap, ◌∙◌, subst}
-use Rattle.std.specs.Prelude.{IsTrue, IsSome, ◌&&◌, Contains}
+use Rattle.std.specs.Prelude.{IsTrue, IsSome, ◌&&◌, All, Contains}
 use Rattle.std.specs.List.{list_all}
 use Rattle.std.proofs.lemmas.Bool.{false≢true}
 use Rattle.std.proofs.lemmas.List.{map-append}
-use Rattle.std.proofs.lemmas.List.Elements.{filter_map-append}
+use Rattle.std.proofs.lemmas.List.Elements.{All-push, filter_map-append}
 use Rattle.std.proofs.lemmas.List.Folds.{list_all-append}
 use Rattle.packed_state.specs.Store.{IsPlaced}
 use Rattle.packed_state.specs.Sets.{set_of}
@@ -26,6 +26,10 @@ pub added_there : {X : Type 0} (old new : List X) (x y : X) (place : ℕ) (is_ne
 added_there old new x y place true same (absent, pushed, at) = (λ among. absent (subst (Contains old) (sym same) among), pushed ∙ ap (λ z. old ++ z ∷ []) same)
 added_there old new x y place false same (there, kept) = (subst (Contains old) same (Contains-got old place x there), kept)
 
+no_cut : (cut : Option ℕ) → (IsSome cut → ⊥) → cut ≡ None
+no_cut None none_is = refl
+no_cut (Some rest) none_is = absurd (none_is refl)
+
 -- a state that is told stands in the lines, and one that stands there is told
 told_state : (lines : List TextLine) (l : StateLine) → Contains (states_told lines) l → Contains lines (listed l)
 told_state lines l told = let (line, there, is) = filter_map-Contains state_in lines l told in subst (Contains lines) (line_is line is) there
@@ -41,7 +45,7 @@ told_state lines l told = let (line, there, is) = filter_map-Contains state_in l
 state_told : (lines : List TextLine) (l : StateLine) → Contains lines (listed l) → Contains (states_told lines) l
 state_told lines l there = Contains-filter_map state_in lines (listed l) l there refl
 
-module _ (before : List TextLine) (width : ℕ) (marks : List Marked) (sets : List (List Bool)) (have : HaveListed before width marks sets) (l : StateLine)
+module _ (before : List TextLine) (claim : Claim) (width : ℕ) (marks : List Marked) (sets : List (List Bool)) (have : HaveListed before claim width marks sets) (l : StateLine)
     (rising : rise width 0 l.atoms ≡ true) where
   rises_there : (m : StateLine) → Contains (states_told before) m → rise width 0 m.atoms ≡ true
   rises_there m stands =
@@ -60,19 +64,20 @@ module _ (before : List TextLine) (width : ℕ) (marks : List Marked) (sets : Li
       (Contains-map (λ (l : StateLine). set_of width l.atoms) (states_told before) m (state_told before m stands)))
 
   -- one more
-  pub listed_more : (more_marks : List Marked) (more_sets : List (List Bool)) → more_marks ≡ marks ++ marked l ∷ [] → more_sets ≡ sets ++ set_of width l.atoms ∷ []
-      → HaveListed (before ++ listed l ∷ []) width more_marks more_sets
-  listed_more more_marks more_sets marks_more sets_more =
+  pub listed_more : ((claim ≡ none) × IsSome l.cut → ⊥) → (more_marks : List Marked) (more_sets : List (List Bool)) → more_marks ≡ marks ++ marked l ∷ [] → more_sets ≡ sets ++ set_of width l.atoms ∷ []
+      → HaveListed (before ++ listed l ∷ []) claim width more_marks more_sets
+  listed_more allowed more_marks more_sets marks_more sets_more =
       let states : states_told (before ++ listed l ∷ []) ≡ states_told before ++ l ∷ [] = filter_map-append state_in before (listed l ∷ []) in
       record {
         rising = ap (list_all (λ (l : StateLine). rise width 0 l.atoms)) states
             ∙ list_all-append (λ (l : StateLine). rise width 0 l.atoms) (states_told before) (l ∷ []) ∙ (λ i. have.rising i && (rising i && true));
         marks_are = marks_more ∙ ap (λ marks. marks ++ marked l ∷ []) have.marks_are ∙ sym (map-append marked (states_told before) (l ∷ [])) ∙ ap (map marked) (sym states);
+        allowed = λ is_none. subst (All (λ (l : StateLine). l.cut ≡ None)) (sym states) (All-push (λ (l : StateLine). l.cut ≡ None) (states_told before) l (have.allowed is_none) (no_cut l.cut (λ cut. allowed (is_none, cut))));
         sets_are = sets_more ∙ ap (λ sets. sets ++ set_of width l.atoms ∷ []) have.sets_are ∙ sym (map-append (λ (l : StateLine). set_of width l.atoms) (states_told before) (l ∷ []))
             ∙ ap (map (λ (l : StateLine). set_of width l.atoms)) (sym states);
       }
 
-  module _ (task : Task) (claim : Claim) (atoms : List Atom) (told : HaveTold task before claim atoms) where
+  module _ (task : Task) (atoms : List Atom) (told : HaveTold task before claim atoms) where
     -- the line is not wrong where its set is new, and it is no cut that is not allowed
     right_state : (Contains sets (set_of width l.atoms) → ⊥) → ((claim ≡ none) × IsSome l.cut → ⊥) → (line : TextLine) (number : ℕ) → IsWrongAfter task before line number → line ≡ listed l → ⊥
     right_state new allowed line number (not_fluent b none_is) same = absurd (cc same)

@@ -1,6 +1,7 @@
 -- Rising numbers, and the sets of them.
 use Rattle.std.proofs.Common.{◌≡◌, ◌≢◌, ℕ, zero, suc, ◌+◌, ◌<◌, ◌≤◌, ◌⊎◌, inl, inr, Bool, true, false, cond, List, [], ◌∷◌, ◌++◌, map, length, Option, None, Some, refl, sym, ap, ◌∙◌, subst, arith}
-use Rattle.std.specs.Prelude.{IsTrue, ◌&&◌, ◌||◌, ◌==◌, nat_le, nat_lt, Contains}
+use Rattle.std.specs.Prelude.{IsTrue, ◌&&◌, ◌||◌, ◌==◌, nat_le, nat_lt, All, Contains}
+use Rattle.std.proofs.lemmas.List.Elements.{All-cons, All-nil}
 use Rattle.std.specs.List.{filter, list_any, range_with_len}
 use Rattle.std.proofs.lemmas.Bool.{and_parts, cases_eq, eq-eqb, le-leb, lt-ltb, leb-true, ltb-true, ne_eqb}
 use Rattle.packed_state.specs.Sets.{has, set_of}
@@ -76,3 +77,10 @@ numbers_back width numbers is =
 -- rising numbers of one set are one list
 pub one_set : (width : ℕ) (a b : List ℕ) → rise width 0 a ≡ true → rise width 0 b ≡ true → set_of width a ≡ set_of width b → a ≡ b
 one_set width a b a_rise b_rise same = sym (numbers_back width a a_rise) ∙ ap numbers_of same ∙ numbers_back width b b_rise
+
+-- rising numbers are below the count
+pub rise_below : (count least : ℕ) (numbers : List ℕ) → rise count least numbers ≡ true → All (λ n. n < count) numbers
+rise_below count least [] is = All-nil (λ n. n < count)
+rise_below count least (n ∷ numbers) is =
+    let parts = rises count least n numbers is in
+    All-cons (λ n. n < count) n numbers parts.below (rise_below count (n + 1) numbers parts.more)

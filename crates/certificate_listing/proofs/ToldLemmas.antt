@@ -42,6 +42,7 @@ begin_front before line (rest, whole) = (line ∷ rest, subst AreWhole (append_a
 
 pub record IsPlaced (before : List TextLine) (line : TextLine) : Type 0 where
   pub place : Place
+  pub at : place_after before ≡ Some place
   pub stands : StandsBefore place before
   pub next : Place
   pub leads : next_place place line ≡ Some next
@@ -50,7 +51,7 @@ pub placed : (before : List TextLine) (line : TextLine) → BeginCertificate (be
 placed before line begun =
     let (place, leads) = place_of_beginning before (begin_front before line begun) in
     let (next, is) = followed before place leads line begun in
-    record { place = place; stands = stands before place leads; next = next; leads = is }
+    record { place = place; at = leads; stands = stands before place leads; next = next; leads = is }
 
 -- before the claim none stands
 only_claim : (before : List TextLine) (c d : Claim) → BeginCertificate (before ++ claims c ∷ []) → Contains before (claims d) → ⊥
@@ -215,9 +216,9 @@ module _ (task : Task) (before : List TextLine) (claim : Claim) (atoms : List At
         let (other, there, is) = name_of_atom task (atoms_told before) atoms a told.named stands in
         repeated_atom name (a, names, typed, changes) (told_atom before name (subst (Contains (atoms_told before)) (same_names task other name a is names) there))
 
--- a line that lists no state lists none
-pub no_state_more : (lines : List TextLine) (line : TextLine) → state_in line ≡ None → states_told lines ≡ [] → states_told (lines ++ line ∷ []) ≡ []
-no_state_more lines line is none_before = filter_map-append state_in lines (line ∷ []) ∙ ap (λ states. states ++ states_told (line ∷ [])) none_before ∙ alone line is
+-- a line that lists no state adds none
+pub states_same : (lines : List TextLine) (line : TextLine) → state_in line ≡ None → states_told (lines ++ line ∷ []) ≡ states_told lines
+states_same lines line is = filter_map-append state_in lines (line ∷ []) ∙ ap (λ more. states_told lines ++ more) (alone line is) ∙ append-nil (states_told lines)
   where
     alone : (line : TextLine) → state_in line ≡ None → states_told (line ∷ []) ≡ []
     alone version is = refl
@@ -226,3 +227,7 @@ no_state_more lines line is none_before = filter_map-append state_in lines (line
     alone (atom a) is = refl
     alone (listed l) is = absurd (cc is)
     alone (last count) is = refl
+
+-- a line that lists no state lists none
+pub no_state_more : (lines : List TextLine) (line : TextLine) → state_in line ≡ None → states_told lines ≡ [] → states_told (lines ++ line ∷ []) ≡ []
+no_state_more lines line is none_before = states_same lines line is ∙ none_before

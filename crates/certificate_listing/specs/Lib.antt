@@ -5,3 +5,4 @@ pub mod Told
 pub mod Listed
 pub mod Taking
 pub mod Reading
+pub mod Listing

@@ -1,13 +1,17 @@
 -- How far a text has been read, and what is told of it.
-use Rattle.std.specs.Prelude.{◌≡◌, ℕ, Bool, true, false, List, [], ◌∷◌, ◌++◌, length, Option, Some, None, Result, Ok, Err, ◌+◌}
+use Rattle.std.specs.Prelude.{◌≡◌, ◌≢◌, ◌&&◌, IsTrue, All, AllPairs, ℕ, Bool, true, false, List, [], ◌∷◌, ◌++◌, length, Option, Some, None, Result, Ok, Err, ◌+◌}
 use Rattle.std.specs.Io.KnownBytes.{Consumes, IsAtEnd}
 use Rattle.devices.specs.Devices.{one_more}
 use Rattle.model.specs.Task.{Atom, Task}
-use Rattle.model.specs.Claims.{Claim}
+use Rattle.model.specs.WellTyped.{is_atom}
+use Rattle.model.specs.Fluents.{is_fluent}
+use Rattle.model.specs.Claims.{Claim, none}
+use Rattle.model.specs.Certificates.{Certificate, StateLine}
+use Rattle.certificate_text.specs.CertificateNames.{IsTextOf}
 use Rattle.certificate_lines.specs.declared.line.CertLine.{CertLine}
 use Rattle.certificate_lines.specs.Lines.{text_line_of}
 use Rattle.certificate_text.specs.CertificateText.{TextLine, AreWhole, text_of}
-use Rattle.certificate_text.specs.CertificateChecking.{IsLineFault}
+use Rattle.certificate_text.specs.CertificateChecking.{AreRight, IsLineFault}
 use Rattle.certificate_reader.specs.declared.reader.CertReader.{CertReader}
 use Rattle.certificate_reader.specs.Reader.{HasRead, has_failed, source_of, waits_in}
 use Rattle.certificate_listing.specs.declared.refusal.RefusalCode.{RefusalCode}
@@ -16,6 +20,8 @@ use Rattle.certificate_listing.specs.declared.refusal.Refusal.{Refusal}
 use Rattle.certificate_listing.specs.declared.refusal.Refusal.TheVariants as refusal
 use Rattle.certificate_listing.specs.RefusalCode.{number_of}
 use Rattle.certificate_listing.specs.Told.{HaveTold, is_body, states_told}
+use Rattle.certificate_listing.specs.Sets.{Marked}
+use Rattle.certificate_listing.specs.Listed.{HaveListed}
 
 -- a reader that has handed out nothing, and holds nothing
 pub record IsFresh {R : Type 0} (reader : CertReader R) : Type 0 where
@@ -68,3 +74,24 @@ CountsRefusal before after (Err (refusal.Plain code)) = after ≡ before
 CountsRefusal before after (Err refusal.NoMemory) = after ≡ before
 CountsRefusal before after (Err refusal.Device) = after ≡ one_more before
 CountsRefusal before after (Err refusal.Failed) = after ≡ before
+
+-- The lines up to the next one have told and listed this; the next one lists a state, or is the last, or the text has ended.
+abbrev pub IsListedSoFar : {R : Type 0} → (remaining : R → Option (List ℕ)) → Task → (first now : CertReader R) → Claim → List Atom → (width : ℕ) → List Marked → List (List Bool) → Option CertLine → Type 0
+IsListedSoFar remaining task first now claim atoms width marks sets (Some line) =
+    (before : List TextLine) × IsAt remaining first now (before ++ text_line_of line ∷ []) × HaveTold task before claim atoms × HaveListed before claim width marks sets
+    × (is_body (text_line_of line) ≡ true)
+IsListedSoFar remaining task first now claim atoms width marks sets None =
+    (lines : List TextLine) × IsAtLast remaining first now lines × HaveTold task lines claim atoms × HaveListed lines claim width marks sets
+
+-- What came to the end is the text of this certificate of the task, and nothing is wrong with any of its lines.
+pub record IsRead {R : Type 0} (remaining : R → Option (List ℕ)) (task : Task) (first now : CertReader R) (c : Certificate) : Type 0 where
+  pub text : List ℕ
+  pub consumed : Consumes (remaining (source_of first)) (remaining (source_of now)) text
+  pub at_end : IsAtEnd (remaining (source_of now))
+  pub is_text : IsTextOf task text c
+  pub lines : List TextLine
+  pub text_is : text ≡ text_of lines
+  pub right : AreRight task lines
+  pub fluent : All (λ (a : Atom). IsTrue (is_atom task a && is_fluent task a.predicate)) c.atoms
+  pub distinct : AllPairs (λ (a b : Atom). a ≢ b) c.atoms
+  pub allowed : c.claim ≡ none → All (λ (l : StateLine). l.cut ≡ None) c.lines

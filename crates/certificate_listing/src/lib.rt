@@ -2,9 +2,11 @@
 #![tactic(auto)]
 
 mod beginning;
+mod listing;
 mod names;
 mod refusal;
 mod states;
 
+pub use listing::{Listing, read_listing};
 pub use refusal::{Refusal, RefusalCode};
 pub use states::Mark;

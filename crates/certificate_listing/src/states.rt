@@ -5,14 +5,14 @@ ghost use Rattle.packed_state.specs.Sets.{set_of};
 ghost use Rattle.model.specs.Task as model;
 ghost use Rattle.model.specs.Claims as claims;
 ghost use Rattle.model.specs.Certificates.{rise};
-ghost use Rattle.certificate_lines.specs.Lines.{claim_of, line_of};
+ghost use Rattle.certificate_lines.specs.Lines.{claim_of, line_of, text_line_of};
 ghost use Rattle.certificate_text.specs.CertificateText.{TextLine, listed};
-ghost use Rattle.certificate_listing.specs.Told.{HaveTold};
+ghost use Rattle.certificate_listing.specs.Told.{HaveTold, is_body};
 ghost use Rattle.certificate_listing.specs.Taking.{IsWrongNow};
-ghost use Rattle.certificate_listing.specs.Listed.{HaveListed, IsAdded, mark_of};
+ghost use Rattle.certificate_listing.specs.Listed.{HaveListed, IsAdded, IsFit, mark_of};
 
 use crate::refusal::{Refusal, RefusalCode};
-use certificate_lines::{Claim, StateLine};
+use certificate_lines::{CertLine, Claim, StateLine};
 use faults::NoMemory;
 use packed_state::{Packed, PooledStore, StateStore};
 use std::alloc::Global;
@@ -60,14 +60,14 @@ impl States {
         requires room { length (pooled_states self.old.sets) < 16777216 }
         ensures width { pooled_width self.new.sets ≡ pooled_width self.old.sets }
         ensures told { OnOk result ((task : model.Task) (before : List TextLine) (atoms : List model.Atom) → HaveTold task before (claim_of claim) atoms
-            → HaveListed before (pooled_width self.old.sets) (map mark_of self.old.marks.items) (pooled_states self.old.sets)
+            → HaveListed before (claim_of claim) (pooled_width self.old.sets) (map mark_of self.old.marks.items) (pooled_states self.old.sets)
             → HaveTold task (before ++ listed (line_of line.now) ∷ []) (claim_of claim) atoms) }
         ensures listed { OnOk result ((before : List TextLine)
-            → HaveListed before (pooled_width self.old.sets) (map mark_of self.old.marks.items) (pooled_states self.old.sets)
-            → HaveListed (before ++ listed (line_of line.now) ∷ []) (pooled_width self.old.sets) (map mark_of self.new.marks.items) (pooled_states self.new.sets)) }
+            → HaveListed before (claim_of claim) (pooled_width self.old.sets) (map mark_of self.old.marks.items) (pooled_states self.old.sets)
+            → HaveListed (before ++ listed (line_of line.now) ∷ []) (claim_of claim) (pooled_width self.old.sets) (map mark_of self.new.marks.items) (pooled_states self.new.sets)) }
         ensures wrong { IfErr result (λ refusal. (task : model.Task) (before : List TextLine) (atoms : List model.Atom) → number ≡ length before + 1
             → HaveTold task before (claim_of claim) atoms
-            → HaveListed before (pooled_width self.old.sets) (map mark_of self.old.marks.items) (pooled_states self.old.sets)
+            → HaveListed before (claim_of claim) (pooled_width self.old.sets) (map mark_of self.old.marks.items) (pooled_states self.old.sets)
             → IsWrongNow task before (listed (line_of line.now)) refusal) }
     {
         if !add_set(alloc, &mut self.sets, &line.atoms)? {
@@ -87,6 +87,32 @@ impl States {
             cut: line.cut,
         })?;
         Ok(())
+    }
+
+    /// Takes the line of this number, from 1, under this claim, where it lists a state.
+    pub(crate) fn take_line(
+        &mut self,
+        alloc: Global,
+        claim: Claim,
+        line: CertLine,
+        number: u64,
+    ) -> Result<(), Refusal>
+        requires fit { IsFit (pooled_width self.old.sets) (pooled_states self.old.sets) (text_line_of line) }
+        ensures width { pooled_width self.new.sets ≡ pooled_width self.old.sets }
+        ensures taken { OnOk result ((task : model.Task) (before : List TextLine) (atoms : List model.Atom) → IsTrue (is_body (text_line_of line))
+            → HaveTold task before (claim_of claim) atoms
+            → HaveListed before (claim_of claim) (pooled_width self.old.sets) (map mark_of self.old.marks.items) (pooled_states self.old.sets)
+            → HaveTold task (before ++ text_line_of line ∷ []) (claim_of claim) atoms
+            × HaveListed (before ++ text_line_of line ∷ []) (claim_of claim) (pooled_width self.old.sets) (map mark_of self.new.marks.items) (pooled_states self.new.sets)) }
+        ensures wrong { IfErr result (λ refusal. (task : model.Task) (before : List TextLine) (atoms : List model.Atom) → number ≡ length before + 1
+            → HaveTold task before (claim_of claim) atoms
+            → HaveListed before (claim_of claim) (pooled_width self.old.sets) (map mark_of self.old.marks.items) (pooled_states self.old.sets)
+            → IsWrongNow task before (text_line_of line) refusal) }
+    {
+        match line {
+            CertLine::Listed(line) => self.take(alloc, claim, &line, number),
+            _ => Ok(()),
+        }
     }
 }
 
