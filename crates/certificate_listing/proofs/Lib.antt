@@ -6,3 +6,4 @@ pub mod PlacedLemmas
 pub mod AtomsLemmas
 pub mod ReadingLemmas
 pub mod ListingLemmas
+pub mod WideningLemmas

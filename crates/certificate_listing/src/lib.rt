@@ -6,6 +6,7 @@ mod listing;
 mod names;
 mod refusal;
 mod states;
+mod widening;
 
 pub use listing::{Listing, read_listing};
 pub use refusal::{Refusal, RefusalCode};

@@ -1,0 +1,32 @@
+use Rattle.std.proofs.Common.{◌≡◌, ◌<◌, ◌≤◌, length, map, refl, sym, ap, ◌∙◌, subst, arith}
+use Rattle.std.proofs.lemmas.List.{length-map}
+use Rattle.packed_state.specs.Packed.{bits_of}
+use Rattle.packed_state.specs.Sets.{at_width, set_of}
+use Rattle.packed_state.specs.Store.{IsPlaced}
+use Rattle.packed_state.specs.PooledView.{pooled_states, pooled_width}
+use Rattle.packed_state.proofs.PackedLemmas.{length-set_of}
+use Rattle.certificate_listing.proofs.WideningLemmas.{few_sets, is_below_at, length-at_width, lengths_more, one_more_wide}
+use Rattle.certificate_listing.proofs.widening.widened.Goals as goal
+
+pub loop-place-init : goal.loop-place-init
+loop-place-init c = record {
+  wide = c.in_ok-wide.ensures.width;
+  sets = c.in_ok-wide.ensures.states;
+  set = ap length c.in_ok-set.ensures ∙ length-set_of c.width.result _ ∙ c.width.ensures;
+  lengths = λ k d within. absurd (omega (arith, within));
+}
+
+pub overflow_cast-place : goal.overflow_cast-place
+overflow_cast-place c = omega (arith, c.loop-place-test.true, few_sets c.args.sets.now, c.len-place-end.ensures)
+
+pub with_width-requires : goal.with_width-requires
+with_width-requires c = ?
+
+pub insert_if_new-requires-clause-width : goal.insert_if_new-requires-clause-width
+insert_if_new-requires-clause-width c = ap length c.in_ok-with_width.ensures ∙ length-at_width c.args.width (bits_of c.get.new.into) ∙ sym c.loop-place.invariant.wide
+
+pub insert_if_new-requires-clause-room : goal.insert_if_new-requires-clause-room
+insert_if_new-requires-clause-room c = ?
+
+pub loop-place-preserved : goal.loop-place-preserved
+loop-place-preserved c = ?
