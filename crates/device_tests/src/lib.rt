@@ -12,4 +12,6 @@ mod helpers;
 #[cfg(test)]
 mod plan_files;
 #[cfg(test)]
+mod reading_certificates;
+#[cfg(test)]
 mod streams;

@@ -1,0 +1,14 @@
+pub mod WordLemmas
+pub mod NumberLemmas
+pub mod LineLemmas
+pub mod NumbersRead
+pub mod NamesRead
+pub mod LinesRead
+pub mod ParseLemmas
+pub mod OneLine
+pub mod OneText
+pub mod PlaceRead
+pub mod FaultsRead
+pub mod FirstPlaces
+pub mod NextLemmas
+pub mod ReaderLemmas

@@ -1,0 +1,138 @@
+-- Lines by their words.
+use Rattle.std.proofs.Common.{◌≡◌, ℕ, Bool, true, false, not, List, [], ◌∷◌, ◌++◌, codes, map, Option, None, Some, refl, sym, ap, ◌∙◌, append_assoc, append-nil, arith}
+use Rattle.std.specs.Prelude.{◌&&◌, IsTrue}
+use Rattle.std.specs.Char.{is_ascii_alphabetic}
+use Rattle.std.specs.Fmt.{decimal}
+use Rattle.std.specs.List.{flat_map, list_all}
+use Rattle.std.specs.Str.Parse.{AllDigits}
+use Rattle.std.proofs.lemmas.Bool.{and_parts, ne_eqb, eqb-true}
+use Rattle.std.proofs.lemmas.Fmt.{decimal_is_IsNumeral}
+use Rattle.std.proofs.lemmas.Str.Parse.{tells_digits}
+use Rattle.model.specs.Words.{is_name, is_name_byte}
+use Rattle.model.specs.PlanWriting.{is_lower_name}
+use Rattle.model.specs.Claims.{bound, none}
+use Rattle.model.specs.Certificates.{is_number}
+use Rattle.certificate_text.specs.CertificateText.{TextLine, version, claims, constant, atom, listed, last, after_blank, line_text}
+use Rattle.certificate_reader.specs.Words.{is_blank, is_word, line_head, line_rest, then_words, with_rest}
+use Rattle.certificate_reader.proofs.NumberLemmas.{is_below}
+use Rattle.certificate_reader.proofs.WordLemmas.{one_first}
+
+-- ---- what is a word
+
+digits_are_word : (digits : List ℕ) → AllDigits 10 digits → IsTrue (is_word digits)
+digits_are_word [] all = refl
+digits_are_word (digit ∷ digits) all =
+    let (here, more) = tells_digits.parts digit digits all in
+    ap (λ b. not b && is_word digits) (ne_eqb digit 32 (λ same. omega (arith, same, here.0))) ∙ digits_are_word digits more
+
+pub number_is_word : (n : ℕ) → IsTrue (is_number n) → IsTrue (is_word (decimal n))
+number_is_word n is = digits_are_word (decimal n) ((decimal_is_IsNumeral n (let below = is_below n is in omega (arith, below))).0.1)
+
+-- a byte that passes a test that a blank does not pass is none
+no_blank_byte : (test : ℕ → Bool) → test 32 ≡ false → (byte : ℕ) → test byte ≡ true → not (is_blank byte) ≡ true
+no_blank_byte test fails byte passes = by_test (is_blank byte) refl
+  where
+    by_test : (b : Bool) → is_blank byte ≡ b → not b ≡ true
+    by_test false other = refl
+    by_test true is = absurd (cc (sym fails ∙ ap test (sym (eqb-true byte 32 is)) ∙ passes))
+
+bytes_are_word : (bytes : List ℕ) → IsTrue (list_all is_name_byte bytes) → IsTrue (is_word bytes)
+bytes_are_word [] all = refl
+bytes_are_word (byte ∷ bytes) all =
+    let (here, more) = and_parts (is_name_byte byte) (list_all is_name_byte bytes) all in
+    ap (λ b. b && is_word bytes) (no_blank_byte is_name_byte refl byte here) ∙ bytes_are_word bytes more
+
+name_is_word : (name : List ℕ) → IsTrue (is_name name) → IsTrue (is_word name)
+name_is_word [] is = refl
+name_is_word (byte ∷ bytes) is =
+    let (here, more) = and_parts (is_ascii_alphabetic byte) (list_all is_name_byte bytes) is in
+    ap (λ b. b && is_word bytes) (no_blank_byte is_ascii_alphabetic refl byte here) ∙ bytes_are_word bytes more
+
+pub lower_name_is_word : (name : List ℕ) → IsTrue (is_lower_name name) → IsTrue (is_word name)
+lower_name_is_word name is = name_is_word name (and_parts _ _ (and_parts _ _ is).0).0
+
+-- ---- a line by its first word and the rest
+
+listed_splits : (cost : ℕ) (cut : Option ℕ) (atoms : List ℕ)
+    → line_text (listed (record { cost = cost; cut = cut; atoms = atoms }))
+    ≡ with_rest (line_head (listed (record { cost = cost; cut = cut; atoms = atoms }))) (Some (line_rest (listed (record { cost = cost; cut = cut; atoms = atoms }))))
+listed_splits cost None atoms = refl
+listed_splits cost (Some rest) atoms = refl
+
+pub line_splits : (line : TextLine) → line_text line ≡ with_rest (line_head line) (Some (line_rest line))
+line_splits version = refl
+line_splits (claims (bound least)) = refl
+line_splits (claims none) = refl
+line_splits constant = refl
+line_splits (atom a) = refl
+line_splits (listed l) = listed_splits l.cost l.cut l.atoms
+line_splits (last count) = refl
+
+listed_head : (cost : ℕ) (cut : Option ℕ) (atoms : List ℕ) → IsTrue (is_word (line_head (listed (record { cost = cost; cut = cut; atoms = atoms }))))
+listed_head cost None atoms = refl
+listed_head cost (Some rest) atoms = refl
+
+pub head_is_word : (line : TextLine) → IsTrue (is_word (line_head line))
+head_is_word version = refl
+head_is_word (claims claim) = refl
+head_is_word constant = refl
+head_is_word (atom a) = refl
+head_is_word (listed l) = listed_head l.cost l.cut l.atoms
+head_is_word (last count) = refl
+
+-- ---- several words
+
+pub then_words_more : (words : List (List ℕ)) (word : List ℕ) (rest : Option (List ℕ))
+    → then_words words (Some (with_rest word rest)) ≡ then_words (words ++ word ∷ []) rest
+then_words_more [] word rest = refl
+then_words_more (first ∷ words) word rest = ap (λ r. Some (with_rest first r)) (then_words_more words word rest)
+
+-- the bytes behind the words that were read are words too, where all of them are
+pub record IsNext (words done : List (List ℕ)) (bytes : List ℕ) : Type 0 where
+  pub word : List ℕ
+  pub more : List (List ℕ)
+  pub are : words ≡ done ++ word ∷ more
+  pub splits : bytes ≡ with_rest word (then_words more None)
+
+some_same : (a b : List ℕ) → ◌≡◌ {A = Option (List ℕ)} (Some a) (Some b) → a ≡ b
+some_same a b same = cc
+
+pub next_word : (done words : List (List ℕ)) (bytes : List ℕ) → IsTrue (list_all is_word done) → IsTrue (list_all is_word words)
+    → then_words done (Some bytes) ≡ then_words words None → IsNext words done bytes
+next_word [] [] bytes d w same = absurd (cc same)
+next_word [] (word ∷ more) bytes d w same = record { word = word; more = more; are = refl; splits = some_same bytes (with_rest word (then_words more None)) same }
+next_word (first ∷ done) [] bytes d w same = absurd (cc same)
+next_word (first ∷ done) (word ∷ words) bytes d w same =
+    let (d_here, d_more) = and_parts (is_word first) (list_all is_word done) d in
+    let (w_here, w_more) = and_parts (is_word word) (list_all is_word words) w in
+    let both = one_first first word (then_words done (Some bytes)) (then_words words None) d_here w_here
+    (some_same (with_rest first (then_words done (Some bytes))) (with_rest word (then_words words None)) same) in
+    let next = next_word done words bytes d_more w_more both.1 in
+    record {
+      word = next.word;
+      more = next.more;
+      are = (λ i. sym both.0 i ∷ next.are i);
+      splits = next.splits;
+    }
+
+-- words that all were read are all of them
+pub all_words : (done words : List (List ℕ)) → IsTrue (list_all is_word done) → IsTrue (list_all is_word words)
+    → then_words done None ≡ then_words words None → done ≡ words
+all_words [] [] d w same = refl
+all_words [] (word ∷ words) d w same = absurd (cc same)
+all_words (first ∷ done) [] d w same = absurd (cc same)
+all_words (first ∷ done) (word ∷ words) d w same =
+    let (d_here, d_more) = and_parts (is_word first) (list_all is_word done) d in
+    let (w_here, w_more) = and_parts (is_word word) (list_all is_word words) w in
+    let both = one_first first word (then_words done None) (then_words words None) d_here w_here
+    (some_same (with_rest first (then_words done None)) (with_rest word (then_words words None)) same) in
+    let more = all_words done words d_more w_more both.1 in
+    λ i. both.0 i ∷ more i
+
+-- words behind a first one, in the bytes of a line
+pub words_behind : {X : Type 0} (text : X → List ℕ) (word : List ℕ) (parts : List X)
+    → with_rest word (then_words (map text parts) None) ≡ word ++ flat_map (λ (part : X). after_blank (text part)) parts
+words_behind text word [] = sym (append-nil word)
+words_behind text word (part ∷ parts) =
+    ap (λ rest. word ++ codes " " ++ rest) (words_behind text (text part) parts)
+    ∙ append_assoc word (32 ∷ []) (text part ++ flat_map (λ part. after_blank (text part)) parts)

@@ -1,0 +1,107 @@
+-- Lines in the bytes that wait, and what is told of them.
+use Rattle.std.proofs.Common.{◌≡◌, ◌≢◌, ℕ, ◌+◌, ◌<◌, ◌≤◌, List, [], ◌∷◌, ◌++◌, codes, take, drop, length, get_or, Option, None, Some, sym, ap, ◌∙◌, subst, append_assoc, arith}
+use Rattle.std.specs.Prelude.{IsTrue, Contains, Result, Ok, Err}
+use Rattle.std.specs.Io.KnownBytes.{IsAtEnd}
+use Rattle.std.specs.Fmt.{decimal}
+use Rattle.std.specs.List.{position, position_or_len}
+use Rattle.std.proofs.lemmas.Bool.{eqb-true}
+use Rattle.std.proofs.lemmas.List.{get_or-take, length-take, take-append-drop, take_all}
+use Rattle.std.proofs.lemmas.List.Sums.{split_at_first, fails_before_first, passes_at_first}
+use Rattle.model.specs.Certificates.{is_number}
+use Rattle.certificate_lines.specs.declared.line.CertLine.{CertLine}
+use Rattle.certificate_text.specs.CertificateText.{TextLine, is_line, line_text, longest_line, whole_line, HasLine, IsFaultAfter, too_long, cut_short}
+use Rattle.certificate_text.specs.CertificateMachine.{Place, at_version, ended, next_place, place_after}
+use Rattle.certificate_text.proofs.Machine.{not_whole}
+use Rattle.certificate_reader.specs.declared.stage.Stage.{Stage}
+use Rattle.certificate_reader.specs.declared.next.NextFault.{NextFault}
+use Rattle.certificate_reader.specs.declared.next.NextFault.TheVariants.{Text, Device, NoMemory}
+use Rattle.certificate_reader.specs.declared.next.TextFault.TheVariants.{Form, Version, Truncated, Limit}
+use Rattle.certificate_reader.specs.Stages.{IsOver, atoms_at}
+use Rattle.certificate_reader.specs.Ends.{is_end}
+use Rattle.certificate_reader.specs.Ready.{IsGrown}
+use Rattle.certificate_reader.proofs.FirstPlaces.{first_at, first_within, passes_nowhere}
+use Rattle.certificate_reader.specs.Next.{HasEnd, IsFaultAt, IsNext, IsTaken}
+use Rattle.certificate_reader.proofs.FaultsRead.{told_other_version, told_too_many, told_malformed}
+
+-- ---- where lines end
+
+-- before the first LF none stands
+no_end_before : (bytes : List ℕ) (n : ℕ) → n ≤ position_or_len is_end bytes → Contains (take n bytes) 10 → ⊥
+no_end_before bytes n before (k, within, same) =
+    let below : k < n = omega (arith, within, length-take n bytes) in
+    let here : get_or bytes k 10 ≡ 10 = sym (get_or-take n bytes k 10 below) ∙ same in
+    absurd (cc (sym (fails_before_first is_end bytes k 10 (omega (arith, below, before))) ∙ ap is_end here))
+
+pub line_splits_off : (bytes : List ℕ) (end : ℕ) → position is_end bytes ≡ Some end → bytes ≡ take end bytes ++ 10 ∷ drop (end + 1) bytes
+line_splits_off bytes end at =
+    let ends = first_at is_end bytes end at in
+    let first : ℕ = position_or_len is_end bytes in
+    let below : first < length bytes = subst (λ n. n < length bytes) (sym ends.is_first) ends.within in
+    split_at_first is_end bytes 10 below
+    ∙ (λ i. take (ends.is_first i) bytes ++ eqb-true (get_or bytes first 10) 10 (passes_at_first is_end bytes 10 below) i ∷ drop (ends.is_first i + 1) bytes)
+
+has_line : (bytes : List ℕ) (end : ℕ) → HasEnd bytes end → (more : List ℕ) → HasLine (bytes ++ more) (take end bytes)
+has_line bytes end (at, short) more =
+    let ends = first_at is_end bytes end at in (
+      drop (end + 1) bytes ++ more,
+      ap (λ bytes. bytes ++ more) (line_splits_off bytes end at)
+          ∙ append_assoc (take end bytes) (10 ∷ drop (end + 1) bytes) more
+          ∙ sym (append_assoc (take end bytes) (10 ∷ []) (drop (end + 1) bytes ++ more)),
+      no_end_before bytes end (omega (arith, ends.is_first)),
+      omega (arith, short, length-take end bytes),
+    )
+
+-- ---- a line that waits
+
+module _ (place : Place) (bytes : List ℕ) (end : ℕ) (has : HasEnd bytes end) where
+  pub taken : (line : TextLine) → line_text line ≡ take end bytes → (new : List ℕ) → new ≡ drop (end + 1) bytes → bytes ≡ whole_line line ++ new
+  taken line text new left =
+      line_splits_off bytes end has.0
+      ∙ sym (append_assoc (take end bytes) (10 ∷ []) (drop (end + 1) bytes))
+      ∙ (λ i. sym text i ++ codes "\n" ++ sym left i)
+
+  pub other_version_told : (place ≡ at_version) × ((number : ℕ) × IsTrue (is_number number) × (number ≢ 1) × (codes "pddl-cert " ++ decimal number ≡ take end bytes))
+      → IsFaultAt place bytes Version
+  other_version_told (at, is) before leads more = told_other_version before place leads (bytes ++ more) (take end bytes) (has_line bytes end has more) at is
+
+  pub malformed_told : ((other : TextLine) (next : Place) → next_place place other ≡ Some next → line_text other ≢ take end bytes)
+      × ((other : TextLine) → IsTrue (is_line (atoms_at place) other) → IsOver place other → line_text other ≢ take end bytes)
+      × (place ≡ at_version → (number : ℕ) → IsTrue (is_number number) → number ≢ 1 → codes "pddl-cert " ++ decimal number ≢ take end bytes)
+      → IsFaultAt place bytes Form
+  malformed_told (nowhere, limits, other) before leads more =
+      told_malformed before place leads (bytes ++ more) (take end bytes) (has_line bytes end has more) nowhere limits other
+
+  pub too_many_told : (over : TextLine) × IsTrue (is_line (atoms_at place) over) × IsOver place over × (line_text over ≡ take end bytes) → IsFaultAt place bytes Limit
+  too_many_told (over, is, limit, same) before leads more =
+      told_too_many before place leads (bytes ++ more) (take end bytes) (has_line bytes end has more) over is limit same
+
+-- ---- what came and what is told
+
+module _ (place : Place) (old waiting : List ℕ) (before after : Option (List ℕ)) (grown : IsGrown before after old waiting) where
+  pub next_of_line : (new : List ℕ) (r : Result (CertLine × Stage) NextFault) → IsTaken place waiting new r → IsNext place old new before after r
+  next_of_line new (Ok (line, next)) (splits, leads) = (grown.bytes, grown.consumed, sym grown.appended ∙ splits, leads)
+  next_of_line new (Err (Text Form)) told = (grown.bytes, grown.consumed, subst (λ bytes. IsFaultAt place bytes Form) grown.appended told)
+  next_of_line new (Err (Text Version)) told = (grown.bytes, grown.consumed, subst (λ bytes. IsFaultAt place bytes Version) grown.appended told)
+  next_of_line new (Err (Text Limit)) told = (grown.bytes, grown.consumed, subst (λ bytes. IsFaultAt place bytes Limit) grown.appended told)
+  next_of_line new (Err (Text Truncated)) told = absurd told
+  next_of_line new (Err Device) told = absurd told
+  next_of_line new (Err NoMemory) told = tt
+
+  pub too_long_told : longest_line < position_or_len is_end waiting → IsNext place old waiting before after (Err (Text Form))
+  too_long_told long = (grown.bytes, grown.consumed, subst (λ bytes. IsFaultAt place bytes Form) grown.appended told)
+    where
+      told : IsFaultAt place waiting Form
+      told lines leads more =
+          too_long (take (longest_line + 1) waiting) (drop (longest_line + 1) waiting ++ more)
+          (ap (λ bytes. bytes ++ more) (sym (take-append-drop (longest_line + 1) waiting)) ∙ append_assoc (take (longest_line + 1) waiting) (drop (longest_line + 1) waiting) more)
+          (omega (arith, length-take (longest_line + 1) waiting, long, first_within is_end waiting)) (no_end_before waiting (longest_line + 1) (omega (arith, long)))
+
+  pub cut_short_told : position is_end waiting ≡ None → length waiting ≤ longest_line → IsAtEnd after → IsNext place old waiting before after (Err (Text Truncated))
+  cut_short_told nowhere short at_end = (grown.bytes, grown.consumed, at_end, told)
+    where
+      told : (lines : List TextLine) → place_after lines ≡ Some place → place ≢ ended → IsFaultAfter lines (old ++ grown.bytes) 42
+      told lines leads goes_on =
+          subst (λ bytes. IsFaultAfter lines bytes 42) grown.appended
+          (cut_short (not_whole lines place leads goes_on)
+          (subst (λ bytes. Contains bytes 10 → ⊥) (take_all (position_or_len is_end waiting) waiting (passes_nowhere is_end waiting nowhere)) (no_end_before waiting (position_or_len is_end waiting) (omega arith)))
+          short)

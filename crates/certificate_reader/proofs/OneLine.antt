@@ -1,0 +1,163 @@
+-- A line of a text is one line.
+use Rattle.std.proofs.Common.{◌≡◌, ℕ, List, [], ◌∷◌, codes, map, Option, None, Some, refl, sym, ap, ◌∙◌, subst}
+use Rattle.std.specs.Prelude.{◌&&◌, IsTrue, nat_le}
+use Rattle.std.specs.Fmt.{decimal}
+use Rattle.std.specs.List.{list_all}
+use Rattle.std.proofs.lemmas.Bool.{and_parts}
+use Rattle.std.proofs.lemmas.List.{append_cancel_left}
+use Rattle.model.specs.Claims.{Claim, bound, none}
+use Rattle.model.specs.PlanWriting.{is_lower_name}
+use Rattle.model.specs.Certificates.{is_claim, is_number}
+use Rattle.certificate_text.specs.CertificateText.{NamedAtom, TextLine, version, claims, constant, atom, listed, last, is_line, line_text, longest_line}
+use Rattle.certificate_reader.specs.Words.{IsNumbered, IsReadAs, are_lower, claim_rest, is_word, line_head, line_rest, then_words}
+use Rattle.certificate_reader.proofs.WordLemmas.{one_first}
+use Rattle.certificate_reader.proofs.LineLemmas.{all_words, head_is_word, line_splits, lower_name_is_word, number_is_word}
+use Rattle.certificate_reader.proofs.NumbersRead.{same_number, rising_are_numbers}
+use Rattle.certificate_reader.proofs.NamesRead.{names_are_words}
+use Rattle.certificate_reader.proofs.LinesRead.{IsCut, cut_of, open_parts, atom_text, inner_of, same_inner, unlike}
+use Rattle.certificate_text.specs.CertificateText.{most_atoms}
+use Rattle.std.proofs.Common.{◌≤◌}
+
+-- ---- claims
+
+one_claim : (c d : Claim) → IsTrue (is_claim c) → IsTrue (is_claim d) → claim_rest c ≡ claim_rest d → c ≡ d
+one_claim (bound a) (bound b) c_is d_is same = ap (λ n. bound n) (same_number a b c_is d_is (append_cancel_left (codes "bound ") (decimal a) (decimal b) same))
+one_claim (bound a) none c_is d_is same = absurd (unlike (codes "bound") (codes "none") refl (one_first (codes "bound") (codes "none") (Some (decimal a)) None refl refl same).0)
+one_claim none (bound b) c_is d_is same = absurd (unlike (codes "none") (codes "bound") refl (one_first (codes "none") (codes "bound") None (Some (decimal b)) refl refl same).0)
+one_claim none none c_is d_is same = refl
+
+-- ---- numbers
+
+some_same : (a b : List ℕ) → ◌≡◌ {A = Option (List ℕ)} (Some a) (Some b) → a ≡ b
+some_same a b same = cc
+
+numbers_are_words : (numbers : List ℕ) → IsTrue (list_all is_number numbers) → IsTrue (list_all is_word (map decimal numbers))
+numbers_are_words [] all = refl
+numbers_are_words (n ∷ numbers) all =
+    let (here, more) = and_parts (is_number n) (list_all is_number numbers) all in
+    ap (λ b. b && list_all is_word (map decimal numbers)) (number_is_word n here) ∙ numbers_are_words numbers more
+
+first_same : (a b : List ℕ) (xs ys : List (List ℕ)) → a ∷ xs ≡ b ∷ ys → a ≡ b
+first_same a b xs ys same = cc
+
+more_same : (a b : List ℕ) (xs ys : List (List ℕ)) → a ∷ xs ≡ b ∷ ys → xs ≡ ys
+more_same a b xs ys same = cc
+
+same_numbers : (a b : List ℕ) → IsTrue (list_all is_number a) → IsTrue (list_all is_number b) → map decimal a ≡ map decimal b → a ≡ b
+same_numbers [] [] a_are b_are same = refl
+same_numbers [] (n ∷ b) a_are b_are same = absurd (cc same)
+same_numbers (m ∷ a) [] a_are b_are same = absurd (cc same)
+same_numbers (m ∷ a) (n ∷ b) a_are b_are same =
+    let (m_is, a_more) = and_parts (is_number m) (list_all is_number a) a_are in
+    let (n_is, b_more) = and_parts (is_number n) (list_all is_number b) b_are in
+    let here : m ≡ n = same_number m n m_is n_is (first_same (decimal m) (decimal n) (map decimal a) (map decimal b) same) in
+    let rest : a ≡ b = same_numbers a b a_more b_more (more_same (decimal m) (decimal n) (map decimal a) (map decimal b) same) in
+    λ i. here i ∷ rest i
+
+-- bytes are one number with one list of numbers behind it
+one_numbered : (bytes : List ℕ) (count : ℕ) → count ≤ most_atoms → (m n : ℕ) (a b : List ℕ) → IsNumbered bytes count m a → IsNumbered bytes count n b → (m ≡ n) × (a ≡ b)
+one_numbered bytes count few m n a b h g =
+    let both = one_first (decimal m) (decimal n) (then_words (map decimal a) None) (then_words (map decimal b) None) (number_is_word m h.is_number) (number_is_word n g.is_number) (sym h.splits ∙ g.splits) in
+    let a_are = rising_are_numbers count 0 a few h.rising in
+    let b_are = rising_are_numbers count 0 b few g.rising in (
+      same_number m n h.is_number g.is_number both.0,
+      same_numbers a b a_are b_are (all_words (map decimal a) (map decimal b) (numbers_are_words a a_are) (numbers_are_words b b_are) both.1),
+    )
+
+-- ---- states and atoms
+
+open_same : (c d : ℕ) (a b : List ℕ) → (c ≡ d) × (a ≡ b) → ◌≡◌ {A = TextLine} (listed (record { cost = c; cut = None; atoms = a })) (listed (record { cost = d; cut = None; atoms = b }))
+open_same c d a b (costs, lists) = λ i. listed (record { cost = costs i; cut = None; atoms = lists i })
+
+cut_same : (c d k l : ℕ) (a b : List ℕ) → c ≡ d → (k ≡ l) × (a ≡ b)
+    → ◌≡◌ {A = TextLine} (listed (record { cost = c; cut = Some k; atoms = a })) (listed (record { cost = d; cut = Some l; atoms = b }))
+cut_same c d k l a b costs (leasts, lists) = λ i. listed (record { cost = costs i; cut = Some (leasts i); atoms = lists i })
+
+one_cut : (rest : List ℕ) (count : ℕ) → count ≤ most_atoms → (c d k l : ℕ) (a b : List ℕ) → IsCut rest count c k a → IsCut rest count d l b → (c ≡ d) × ((k ≡ l) × (a ≡ b))
+one_cut rest count few c d k l a b h g =
+    let both = one_first (decimal c) (decimal d) (Some h.bytes) (Some g.bytes) (number_is_word c h.is_number) (number_is_word d g.is_number) (sym h.splits ∙ g.splits) in
+    let bytes : h.bytes ≡ g.bytes = some_same h.bytes g.bytes both.1 in (
+      same_number c d h.is_number g.is_number both.0,
+      one_numbered g.bytes count few k l a b (subst (λ bytes. IsNumbered bytes count k a) bytes h.numbered) g.numbered,
+    )
+
+module _ (count : ℕ) (few : count ≤ most_atoms) (rest : List ℕ) where
+  one_open : (c d : ℕ) (a b : List ℕ) → IsReadAs (codes "open") rest count (listed (record { cost = c; cut = None; atoms = a }))
+      → IsReadAs (codes "open") rest count (listed (record { cost = d; cut = None; atoms = b }))
+      → ◌≡◌ {A = TextLine} (listed (record { cost = c; cut = None; atoms = a })) (listed (record { cost = d; cut = None; atoms = b }))
+  one_open c d a b h g = open_same c d a b (one_numbered rest count few c d a b (open_parts rest count c None a h) (open_parts rest count d None b g))
+
+  one_state : (c d : ℕ) (k l : Option ℕ) (a b : List ℕ) (head : List ℕ) → IsReadAs head rest count (listed (record { cost = c; cut = k; atoms = a }))
+      → IsReadAs head rest count (listed (record { cost = d; cut = l; atoms = b }))
+      → ◌≡◌ {A = TextLine} (listed (record { cost = c; cut = k; atoms = a })) (listed (record { cost = d; cut = l; atoms = b }))
+  one_state c d None None a b head h g =
+      one_open c d a b (subst (λ head. IsReadAs head rest count (listed (record { cost = c; cut = None; atoms = a }))) (sym h.head) h)
+      (subst (λ head. IsReadAs head rest count (listed (record { cost = d; cut = None; atoms = b }))) (sym g.head) g)
+  one_state c d None (Some l) a b head h g = absurd (unlike (codes "open") (codes "cut") refl (h.head ∙ sym g.head))
+  one_state c d (Some k) None a b head h g = absurd (unlike (codes "cut") (codes "open") refl (h.head ∙ sym g.head))
+  one_state c d (Some k) (Some l) a b head h g =
+      let first = cut_of rest count c k a (subst (λ head. IsReadAs head rest count (listed (record { cost = c; cut = Some k; atoms = a }))) (sym h.head) h) in
+      let second = cut_of rest count d l b (subst (λ head. IsReadAs head rest count (listed (record { cost = d; cut = Some l; atoms = b }))) (sym g.head) g) in
+      let (costs, others) = one_cut rest count few c d k l a b first second in
+      cut_same c d k l a b costs others
+
+one_atom : (a b : NamedAtom) → IsTrue (are_lower a) → IsTrue (are_lower b) → line_rest (atom a) ≡ line_rest (atom b) → atom a ≡ atom b
+one_atom a b a_are b_are same =
+    let (a_predicate, a_objects) = and_parts (is_lower_name a.predicate) (list_all is_lower_name a.objects) a_are in
+    let (b_predicate, b_objects) = and_parts (is_lower_name b.predicate) (list_all is_lower_name b.objects) b_are in
+    let inner : inner_of a ≡ inner_of b = same_inner (inner_of a) (inner_of b) (sym (atom_text a) ∙ same ∙ atom_text b) in
+    let both = one_first a.predicate b.predicate (then_words a.objects None) (then_words b.objects None) (lower_name_is_word a.predicate a_predicate) (lower_name_is_word b.predicate b_predicate) inner in
+    let objects : a.objects ≡ b.objects = all_words a.objects b.objects (names_are_words a.objects a_objects) (names_are_words b.objects b_objects) both.1 in
+    λ i. atom (record { predicate = both.0 i; objects = objects i })
+
+-- ---- any line
+
+listed_unlike : (cost : ℕ) (cut : Option ℕ) (atoms : List ℕ) (head : List ℕ) → (codes "open" ≡ head → ⊥) → (codes "cut" ≡ head → ⊥)
+    → line_head (listed (record { cost = cost; cut = cut; atoms = atoms })) ≡ head → ⊥
+listed_unlike cost None atoms head open_differs cut_differs = open_differs
+listed_unlike cost (Some least) atoms head open_differs cut_differs = cut_differs
+
+module _ (count : ℕ) (few : count ≤ most_atoms) where
+  by_parts : (l m : TextLine) → IsTrue (is_line count l) → IsTrue (is_line count m) → line_head l ≡ line_head m → line_rest l ≡ line_rest m → l ≡ m
+  by_parts version version h g heads rests = refl
+  by_parts version (claims d) h g heads rests = absurd (unlike (codes "pddl-cert") (codes "claim") refl heads)
+  by_parts version constant h g heads rests = absurd (unlike (codes "pddl-cert") (codes "constant") refl heads)
+  by_parts version (atom b) h g heads rests = absurd (unlike (codes "pddl-cert") (codes "atom") refl heads)
+  by_parts version (listed s) h g heads rests = absurd (listed_unlike s.cost s.cut s.atoms (codes "pddl-cert") (unlike (codes "open") (codes "pddl-cert") refl) (unlike (codes "cut") (codes "pddl-cert") refl) (sym heads))
+  by_parts version (last n) h g heads rests = absurd (unlike (codes "pddl-cert") (codes "end") refl heads)
+  by_parts (claims c) version h g heads rests = absurd (unlike (codes "claim") (codes "pddl-cert") refl heads)
+  by_parts (claims c) (claims d) h g heads rests = ap (λ claim. claims claim) (one_claim c d h g rests)
+  by_parts (claims c) constant h g heads rests = absurd (unlike (codes "claim") (codes "constant") refl heads)
+  by_parts (claims c) (atom b) h g heads rests = absurd (unlike (codes "claim") (codes "atom") refl heads)
+  by_parts (claims c) (listed s) h g heads rests = absurd (listed_unlike s.cost s.cut s.atoms (codes "claim") (unlike (codes "open") (codes "claim") refl) (unlike (codes "cut") (codes "claim") refl) (sym heads))
+  by_parts (claims c) (last n) h g heads rests = absurd (unlike (codes "claim") (codes "end") refl heads)
+  by_parts constant version h g heads rests = absurd (unlike (codes "constant") (codes "pddl-cert") refl heads)
+  by_parts constant (claims d) h g heads rests = absurd (unlike (codes "constant") (codes "claim") refl heads)
+  by_parts constant constant h g heads rests = refl
+  by_parts constant (atom b) h g heads rests = absurd (unlike (codes "constant") (codes "atom") refl heads)
+  by_parts constant (listed s) h g heads rests = absurd (listed_unlike s.cost s.cut s.atoms (codes "constant") (unlike (codes "open") (codes "constant") refl) (unlike (codes "cut") (codes "constant") refl) (sym heads))
+  by_parts constant (last n) h g heads rests = absurd (unlike (codes "constant") (codes "end") refl heads)
+  by_parts (atom a) version h g heads rests = absurd (unlike (codes "atom") (codes "pddl-cert") refl heads)
+  by_parts (atom a) (claims d) h g heads rests = absurd (unlike (codes "atom") (codes "claim") refl heads)
+  by_parts (atom a) constant h g heads rests = absurd (unlike (codes "atom") (codes "constant") refl heads)
+  by_parts (atom a) (atom b) h g heads rests = one_atom a b (and_parts (are_lower a) (nat_le _ longest_line) h).0 (and_parts (are_lower b) (nat_le _ longest_line) g).0 rests
+  by_parts (atom a) (listed s) h g heads rests = absurd (listed_unlike s.cost s.cut s.atoms (codes "atom") (unlike (codes "open") (codes "atom") refl) (unlike (codes "cut") (codes "atom") refl) (sym heads))
+  by_parts (atom a) (last n) h g heads rests = absurd (unlike (codes "atom") (codes "end") refl heads)
+  by_parts (listed r) version h g heads rests = absurd (listed_unlike r.cost r.cut r.atoms (codes "pddl-cert") (unlike (codes "open") (codes "pddl-cert") refl) (unlike (codes "cut") (codes "pddl-cert") refl) heads)
+  by_parts (listed r) (claims d) h g heads rests = absurd (listed_unlike r.cost r.cut r.atoms (codes "claim") (unlike (codes "open") (codes "claim") refl) (unlike (codes "cut") (codes "claim") refl) heads)
+  by_parts (listed r) constant h g heads rests = absurd (listed_unlike r.cost r.cut r.atoms (codes "constant") (unlike (codes "open") (codes "constant") refl) (unlike (codes "cut") (codes "constant") refl) heads)
+  by_parts (listed r) (atom b) h g heads rests = absurd (listed_unlike r.cost r.cut r.atoms (codes "atom") (unlike (codes "open") (codes "atom") refl) (unlike (codes "cut") (codes "atom") refl) heads)
+  by_parts (listed r) (listed s) h g heads rests = one_state count few (line_rest (listed s)) r.cost s.cost r.cut s.cut r.atoms s.atoms (line_head (listed s))
+      (record { head = heads; behind = rests; within = h }) (record { head = refl; behind = refl; within = g })
+  by_parts (listed r) (last n) h g heads rests = absurd (listed_unlike r.cost r.cut r.atoms (codes "end") (unlike (codes "open") (codes "end") refl) (unlike (codes "cut") (codes "end") refl) heads)
+  by_parts (last m) version h g heads rests = absurd (unlike (codes "end") (codes "pddl-cert") refl heads)
+  by_parts (last m) (claims d) h g heads rests = absurd (unlike (codes "end") (codes "claim") refl heads)
+  by_parts (last m) constant h g heads rests = absurd (unlike (codes "end") (codes "constant") refl heads)
+  by_parts (last m) (atom b) h g heads rests = absurd (unlike (codes "end") (codes "atom") refl heads)
+  by_parts (last m) (listed s) h g heads rests = absurd (listed_unlike s.cost s.cut s.atoms (codes "end") (unlike (codes "open") (codes "end") refl) (unlike (codes "cut") (codes "end") refl) (sym heads))
+  by_parts (last m) (last n) h g heads rests = ap (λ n. last n) (same_number m n h g rests)
+
+  pub one_line : (l m : TextLine) → IsTrue (is_line count l) → IsTrue (is_line count m) → line_text l ≡ line_text m → l ≡ m
+  one_line l m h g same =
+      let both = one_first (line_head l) (line_head m) (Some (line_rest l)) (Some (line_rest m)) (head_is_word l) (head_is_word m) (sym (line_splits l) ∙ same ∙ line_splits m) in
+      by_parts l m h g both.0 (some_same (line_rest l) (line_rest m) both.1)

@@ -1,0 +1,118 @@
+-- What a reader hands out and tells, where some lines were handed out before.
+use Rattle.std.proofs.Common.{◌≡◌, ◌≢◌, ℕ, ◌+◌, ◌<◌, true, List, [], ◌∷◌, ◌++◌, map, length, Option, Some, refl, ap, ◌∙◌, subst, length-append, arith}
+use Rattle.std.specs.Prelude.{◌&&◌, ◌==◌, nat_le, nat_lt, Err}
+use Rattle.std.proofs.lemmas.Bool.{and_parts, le-leb, leb-true, ltb-true}
+use Rattle.std.proofs.lemmas.List.{length-map}
+use Rattle.certificate_text.specs.CertificateText.{TextLine, version, claims, constant, atom, listed, last, is_line, most_atoms, most_states, AreWhole, IsFaultAfter, trailing}
+use Rattle.certificate_text.specs.CertificateMachine.{Place, at_version, at_claim, at_constant, in_body, ended, next_place}
+use Rattle.certificate_text.proofs.Machine.{StandsBefore, never, only_where, place_same}
+use Rattle.certificate_reader.specs.declared.reader.CertReader.{CertReader}
+use Rattle.certificate_reader.specs.declared.next.NextFault.{NextFault}
+use Rattle.certificate_reader.specs.declared.next.NextFault.TheVariants as next
+use Rattle.certificate_reader.specs.declared.next.TextFault.{TextFault}
+use Rattle.certificate_reader.specs.declared.next.TextFault.TheVariants.{Form, Version, Truncated, Limit}
+use Rattle.certificate_reader.specs.declared.stage.Stage.{Stage}
+use Rattle.certificate_reader.specs.declared.stage.Stage.TheVariants as stage
+use Rattle.certificate_reader.specs.Stages.{IsWithin, place_of}
+use Rattle.certificate_reader.specs.Ready.{is_ready}
+use Rattle.certificate_reader.specs.Reader.{IsAdvance, IsAnswer, IsToldOf, come_at, fault_at}
+
+-- one line more leads to a place within the limits
+pub leads_within : (place : Place) → IsWithin place → (line : TextLine) (next : Place) → next_place place line ≡ Some next → IsWithin next
+leads_within at_version within version next leads = subst IsWithin (place_same at_claim next leads) refl
+leads_within at_version within (claims claim) next leads = never next leads
+leads_within at_version within constant next leads = never next leads
+leads_within at_version within (atom a) next leads = never next leads
+leads_within at_version within (listed l) next leads = never next leads
+leads_within at_version within (last count) next leads = never next leads
+leads_within at_claim within version next leads = never next leads
+leads_within at_claim within (claims claim) next leads = subst IsWithin (only_where (is_line 0 (claims claim)) at_constant next leads).1 refl
+leads_within at_claim within constant next leads = never next leads
+leads_within at_claim within (atom a) next leads = never next leads
+leads_within at_claim within (listed l) next leads = never next leads
+leads_within at_claim within (last count) next leads = never next leads
+leads_within at_constant within version next leads = never next leads
+leads_within at_constant within (claims claim) next leads = never next leads
+leads_within at_constant within constant next leads = subst IsWithin (place_same (in_body 0 0) next leads) refl
+leads_within at_constant within (atom a) next leads = never next leads
+leads_within at_constant within (listed l) next leads = never next leads
+leads_within at_constant within (last count) next leads = never next leads
+leads_within (in_body n m) within version next leads = never next leads
+leads_within (in_body n m) within (claims claim) next leads = never next leads
+leads_within (in_body n m) within constant next leads = never next leads
+leads_within (in_body n m) within (atom a) next leads =
+    let (holds, same) = only_where ((m == 0) && nat_lt n most_atoms && is_line n (atom a)) (in_body (n + 1) m) next leads in
+    let below : n < most_atoms = ltb-true n most_atoms (and_parts (m == 0) (nat_lt n most_atoms) (and_parts ((m == 0) && nat_lt n most_atoms) (is_line n (atom a)) holds).0).1 in
+    subst IsWithin same (λ i. le-leb (n + 1) most_atoms (omega (arith, below)) i && (and_parts (nat_le n most_atoms) (nat_le m most_states) within).1 i)
+leads_within (in_body n m) within (listed l) next leads =
+    let (holds, same) = only_where (nat_lt m most_states && is_line n (listed l)) (in_body n (m + 1)) next leads in
+    let below : m < most_states = ltb-true m most_states (and_parts (nat_lt m most_states) (is_line n (listed l)) holds).0 in
+    subst IsWithin same (λ i. (and_parts (nat_le n most_atoms) (nat_le m most_states) within).0 i && le-leb (m + 1) most_states (omega (arith, below)) i)
+leads_within (in_body n m) within (last count) next leads = subst IsWithin (only_where (count == m) ended next leads).1 refl
+leads_within ended within version next leads = never next leads
+leads_within ended within (claims claim) next leads = never next leads
+leads_within ended within constant next leads = never next leads
+leads_within ended within (atom a) next leads = never next leads
+leads_within ended within (listed l) next leads = never next leads
+leads_within ended within (last count) next leads = never next leads
+
+-- ---- how many lines there are
+
+body_length : {X Y : Type 0} (f : X → TextLine) (g : Y → TextLine) (xs : List X) (ys : List Y) → length (map f xs ++ map g ys) ≡ length xs + length ys
+body_length f g xs ys = omega (arith, length-append (map f xs) (map g ys), length-map xs f, length-map ys g)
+
+pub few_lines : (lines : List TextLine) (place : Place) → StandsBefore place lines → length lines < 20000000
+few_lines lines at_version are = omega (arith, ap length are)
+few_lines lines at_claim are = omega (arith, ap length are)
+few_lines lines at_constant (claim, is, are) = omega (arith, ap length are)
+few_lines lines (in_body n m) body =
+    omega (arith, ap length body.lines_are, body_length (λ a. atom a) (λ l. listed l) body.atoms body.states, body.atom_count_is, body.state_count_is, body.few_atoms, body.few_states)
+few_lines lines ended (c, keeps, are) =
+    let (counts, each) = and_parts (nat_le (length c.atoms) most_atoms && nat_le (length c.lines) most_states) _ keeps in
+    let (atoms, states) = and_parts (nat_le (length c.atoms) most_atoms) (nat_le (length c.lines) most_states) counts in
+    omega (
+      arith,
+      ap length are,
+      body_length (λ a. atom a) (λ l. listed l) c.atoms c.lines,
+      length-append (map (λ a. atom a) c.atoms ++ map (λ l. listed l) c.lines) (last (length c.lines) ∷ []),
+      leb-true (length c.atoms) most_atoms atoms,
+      leb-true (length c.lines) most_states states,
+    )
+
+-- ---- behind the last line
+
+something : (bytes more : List ℕ) → bytes ≢ [] → bytes ++ more ≢ []
+something [] more some = λ same. some refl
+something (byte ∷ bytes) more some = λ same. absurd (cc same)
+
+pub trailing_told : (before : List TextLine) → AreWhole before → (old bytes new : List ℕ) → new ≡ old ++ bytes → new ≢ [] → (more : List ℕ) → IsFaultAfter before (old ++ bytes ++ more) 40
+trailing_told before whole old bytes new grown some more =
+    trailing whole (something (old ++ bytes) more (λ empty. some (grown ∙ empty)))
+
+-- ---- what has come
+
+pub come_unless_ended : (at : Stage) (bytes : List ℕ) → at ≢ stage.Ended → come_at (place_of at) bytes ≡ is_ready bytes
+come_unless_ended stage.Version bytes goes_on = refl
+come_unless_ended stage.Claim bytes goes_on = refl
+come_unless_ended stage.Constant bytes goes_on = refl
+come_unless_ended (stage.Body n m) bytes goes_on = refl
+come_unless_ended stage.Ended bytes goes_on = absurd (goes_on refl)
+
+-- ---- what is told of a line
+
+module _ {R : Type 0} (remaining : R → Option (List ℕ)) (old between : CertReader R) (before : List TextLine) where
+  -- the reader, once it has told a fault
+  abbrev pub failed : CertReader R
+  failed = record { alloc = between.alloc; source = between.source; waiting = between.waiting; position = between.position; failed = true }
+
+  told_still : (fault : TextFault) → IsToldOf remaining old between before fault → IsToldOf remaining old failed before fault
+  told_still Truncated told = told
+  told_still Form told = told
+  told_still Version told = told
+  told_still Limit told = told
+
+  pub told_answer : (fault : NextFault) (line : ℕ) → line ≡ length before + 1 → IsAdvance remaining old between before (Err fault)
+      → IsAnswer remaining old failed before (Err (fault_at fault line))
+  told_answer (next.Text fault) line is told = (is, told_still fault told)
+  told_answer next.Device line is told = record { bytes = told.bytes; consumed = told.consumed; waits = told.waits; nothing = told.nothing }
+  told_answer next.NoMemory line is told = tt

@@ -1,0 +1,53 @@
+use Rattle.std.proofs.Common.{◌∷◌, [], Some, refl, sym, ap, ◌∙◌, length-append, arith}
+use Rattle.certificate_lines.specs.Lines.{text_line_of}
+use Rattle.certificate_text.proofs.Machine.{ends, stands}
+use Rattle.certificate_reader.specs.Stages.{place_of}
+use Rattle.certificate_reader.specs.Reader.{waits_in}
+use Rattle.certificate_reader.proofs.FaultsRead.{one_line_behind}
+use Rattle.certificate_reader.proofs.ReaderLemmas.{come_unless_ended, few_lines, leads_within, trailing_told}
+use Rattle.certificate_reader.proofs.reader.CertReader.advance.Goals as goal
+
+pub returns-then-branch-clause-told : goal.returns-then-branch-clause-told
+returns-then-branch-clause-told g c = λ before read.
+    let over = rw c.if-branch.true at c.in_ok-is_at_end.ensures.end in
+    record {
+      whole = ends before (read.place ∙ ap (λ stage. Some (place_of stage)) c.in-Ended.is);
+      nothing = over.0;
+      consumed = over.2;
+      at_end = over.3;
+      still = over.1;
+      read = record { place = read.place; count = read.count };
+    }
+
+pub returns-in-Ended-clause-told : goal.returns-in-Ended-clause-told
+returns-in-Ended-clause-told g c = λ before read.
+    let more = rw c.if-branch.false at c.in_ok-is_at_end.ensures.end in
+    (more.0, more.1, trailing_told before (ends before (read.place ∙ ap (λ stage. Some (place_of stage)) c.in-Ended.is)) _ more.0 _ more.2 more.3)
+
+pub invariant_of-self : goal.invariant_of-self
+invariant_of-self g c =
+    record { within = leads_within (place_of c.args.self.now.position.stage) c.args.self.now.position.within (text_line_of c.in_ok-line.line) (place_of c.in_ok-line.stage) c.in_ok-line.ensures.next.3 }
+
+pub returns : goal.returns
+returns g c = record {
+  told = λ before read.
+      let next = c.in_ok-line.ensures.next in
+      record {
+        bytes = next.0;
+        consumed = next.1;
+        splits = next.2;
+        read = record {
+          place = one_line_behind before (place_of c.args.self.now.position.stage) (place_of c.in_ok-line.stage) (text_line_of c.in_ok-line.line) read.place next.3;
+          count = omega (
+            arith,
+            c.saturating_add.ensures,
+            read.count,
+            few_lines before (place_of c.args.self.now.position.stage) (stands before (place_of c.args.self.now.position.stage) read.place),
+            length-append before (text_line_of c.in_ok-line.line ∷ []),
+          );
+        };
+      };
+  failed = refl;
+  lazy = λ come. c.in_ok-line.ensures.lazy (sym (come_unless_ended c.args.self.now.position.stage (waits_in c.args.self.now) c.in_default.not-Ended) ∙ come);
+  failures = c.in_ok-line.ensures.failures;
+}

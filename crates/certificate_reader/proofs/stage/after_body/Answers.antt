@@ -1,0 +1,12 @@
+use Rattle.std.proofs.Common.{ap, sym, subst, IsTrue}
+use Rattle.certificate_lines.specs.Lines.{named_atom_of, text_line_of}
+use Rattle.certificate_text.specs.CertificateText.{is_line}
+use Rattle.certificate_text.specs.CertificateMachine.{in_body}
+use Rattle.certificate_reader.specs.Stages.{IsStep}
+use Rattle.certificate_reader.proofs.stage.after_body.Goals as goal
+
+pub returns-in-Weight : goal.returns-in-Weight
+returns-in-Weight c =
+    let is = ap text_line_of c.in-Weight.is in
+    subst (λ line. IsStep (in_body c.args.atoms c.args.states) line c.after_atom.result) (sym is)
+    (c.after_atom.ensures (named_atom_of c.in-Weight.field-0) (subst (λ line. IsTrue (is_line c.args.atoms line)) is c.requires.line))

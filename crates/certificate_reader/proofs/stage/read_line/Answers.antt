@@ -1,0 +1,12 @@
+use Rattle.std.proofs.Common.{subst, IsTrue}
+use Rattle.certificate_lines.specs.Lines.{text_line_of}
+use Rattle.certificate_text.specs.CertificateText.{is_line}
+use Rattle.certificate_reader.specs.Stages.{place_of}
+use Rattle.certificate_reader.proofs.PlaceRead.{misplaced}
+use Rattle.certificate_reader.proofs.stage.read_line.Goals as goal
+
+pub returns-in-Misplaced : goal.returns-in-Misplaced
+returns-in-Misplaced c =
+    let step = rw c.in-Misplaced.is at c.after.ensures in
+    misplaced (place_of c.args.stage) c.requires.within (text_line_of c.in-Ok.line)
+    (subst (λ n. IsTrue (is_line n (text_line_of c.in-Ok.line))) c.atoms.ensures c.in-Ok.ensures.1) c.args.bytes.now c.in-Ok.ensures.0 step

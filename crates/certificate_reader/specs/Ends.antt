@@ -1,0 +1,6 @@
+-- Where a line ends.
+use Rattle.std.specs.Prelude.{ℕ, ◌==◌, Bool}
+
+-- the byte is LF
+abbrev pub is_end : ℕ → Bool
+is_end byte = byte == 10

@@ -1,0 +1,77 @@
+-- What is told of the next line of a text, at a place in it.
+use Rattle.std.specs.Prelude.{◌≡◌, ◌≢◌, ℕ, ◌≤◌, Bool, true, false, List, [], ◌++◌, Option, Some, Result, Ok, Err}
+use Rattle.std.specs.List.{position}
+use Rattle.std.specs.Io.KnownBytes.{Consumes, IsAtEnd, Keeps}
+use Rattle.devices.specs.Devices.{one_more}
+use Rattle.devices.specs.declared.device.WriteFault.{WriteFault}
+use Rattle.devices.specs.declared.device.WriteFault.TheVariants as device
+use Rattle.certificate_lines.specs.declared.line.CertLine.{CertLine}
+use Rattle.certificate_lines.specs.Lines.{text_line_of}
+use Rattle.certificate_text.specs.CertificateText.{TextLine, IsFaultAfter, longest_line, whole_line}
+use Rattle.certificate_text.specs.CertificateMachine.{Place, ended, next_place, place_after}
+use Rattle.certificate_reader.specs.declared.stage.Stage.{Stage}
+use Rattle.certificate_reader.specs.declared.next.NextFault.{NextFault}
+use Rattle.certificate_reader.specs.declared.next.NextFault.TheVariants.{Text, Device, NoMemory}
+use Rattle.certificate_reader.specs.declared.next.TextFault.{TextFault}
+use Rattle.certificate_reader.specs.declared.next.TextFault.TheVariants.{Form, Version, Truncated, Limit}
+use Rattle.certificate_reader.specs.Stages.{place_of}
+use Rattle.certificate_reader.specs.Ends.{is_end}
+use Rattle.certificate_reader.specs.Ready.{IsUnready}
+
+-- the number of a fault
+abbrev pub number_of : TextFault → ℕ
+number_of Form = 40
+number_of Version = 41
+number_of Truncated = 42
+number_of Limit = 55
+
+abbrev pub of_device : WriteFault → NextFault
+of_device device.Device = Device
+of_device device.NoMemory = NoMemory
+
+-- the failure of a device counts one failure, another fault none
+abbrev pub CountsFault : {T : Type 0} → (before after : ℕ) → Result T NextFault → Type 0
+CountsFault before after (Ok read) = after ≡ before
+CountsFault before after (Err (Text fault)) = after ≡ before
+CountsFault before after (Err Device) = after ≡ one_more before
+CountsFault before after (Err NoMemory) = after ≡ before
+
+-- The bytes are at fault at this place, whatever comes behind them.
+abbrev pub IsFaultAt : Place → List ℕ → TextFault → Type 0
+IsFaultAt place bytes fault =
+    (before : List TextLine) → place_after before ≡ Some place → (more : List ℕ) → IsFaultAfter before (bytes ++ more) (number_of fault)
+
+-- A line of so many bytes waits.
+abbrev pub HasEnd : List ℕ → ℕ → Type 0
+HasEnd bytes end = (position is_end bytes ≡ Some end) × (end ≤ longest_line)
+
+-- The line that waits is handed out, or it is at fault.
+abbrev pub IsTaken : Place → (old new : List ℕ) → Result (CertLine × Stage) NextFault → Type 0
+IsTaken place old new (Ok (line, next)) = (old ≡ whole_line (text_line_of line) ++ new) × (next_place place (text_line_of line) ≡ Some (place_of next))
+IsTaken place old new (Err (Text Form)) = IsFaultAt place old Form
+IsTaken place old new (Err (Text Version)) = IsFaultAt place old Version
+IsTaken place old new (Err (Text Limit)) = IsFaultAt place old Limit
+IsTaken place old new (Err (Text Truncated)) = ⊥
+IsTaken place old new (Err Device) = ⊥
+IsTaken place old new (Err NoMemory) = Unit {0}
+
+-- Of the bytes that waited and those that came the next line is handed out; or they are at fault, or end too early.
+abbrev pub IsNext : Place → (old new : List ℕ) → (before after : Option (List ℕ)) → Result (CertLine × Stage) NextFault → Type 0
+IsNext place old new before after (Ok (line, next)) =
+    (bytes : List ℕ) × Consumes before after bytes × (old ++ bytes ≡ whole_line (text_line_of line) ++ new)
+    × (next_place place (text_line_of line) ≡ Some (place_of next))
+IsNext place old new before after (Err (Text Truncated)) =
+    (bytes : List ℕ) × Consumes before after bytes × IsAtEnd after
+    × ((lines : List TextLine) → place_after lines ≡ Some place → place ≢ ended → IsFaultAfter lines (old ++ bytes) 42)
+IsNext place old new before after (Err (Text Form)) = (bytes : List ℕ) × Consumes before after bytes × IsFaultAt place (old ++ bytes) Form
+IsNext place old new before after (Err (Text Version)) = (bytes : List ℕ) × Consumes before after bytes × IsFaultAt place (old ++ bytes) Version
+IsNext place old new before after (Err (Text Limit)) = (bytes : List ℕ) × Consumes before after bytes × IsFaultAt place (old ++ bytes) Limit
+IsNext place old new before after (Err Device) = IsUnready before after old new
+IsNext place old new before after (Err NoMemory) = Unit {0}
+
+-- Nothing waits, and the end has come; or some byte waits.
+abbrev pub IsEnd : (old new : List ℕ) → (before after : Option (List ℕ)) → Result Bool WriteFault → Type 0
+IsEnd old new before after (Ok true) = (old ≡ []) × (new ≡ []) × Consumes before after [] × IsAtEnd after
+IsEnd old new before after (Ok false) = (bytes : List ℕ) × Consumes before after bytes × (new ≡ old ++ bytes) × (new ≢ [])
+IsEnd old new before after (Err device.Device) = (old ≡ []) × (new ≡ []) × Keeps before after
+IsEnd old new before after (Err device.NoMemory) = Unit {0}

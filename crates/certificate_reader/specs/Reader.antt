@@ -1,0 +1,109 @@
+-- What a reader of a certificate's text has handed out, and what it tells.
+use Rattle.std.specs.Prelude.{◌≡◌, ℕ, ◌+◌, Bool, true, false, List, [], ◌∷◌, ◌++◌, length, Option, Some, None, Result, Ok, Err}
+use Rattle.std.specs.Io.KnownBytes.{Consumes, IsAtEnd}
+use Rattle.devices.specs.Devices.{one_more}
+use Rattle.certificate_lines.specs.declared.line.CertLine.{CertLine}
+use Rattle.certificate_lines.specs.Lines.{text_line_of}
+use Rattle.certificate_text.specs.CertificateText.{TextLine, AreWhole, IsFaultAfter, whole_line}
+use Rattle.certificate_text.specs.CertificateMachine.{Place, at_version, at_claim, at_constant, in_body, ended, place_after}
+use Rattle.certificate_reader.specs.declared.reader.CertReader.{CertReader}
+use Rattle.certificate_reader.specs.declared.reader.CertFault.{CertFault}
+use Rattle.certificate_reader.specs.declared.reader.CertFault.TheVariants as cert
+use Rattle.certificate_reader.specs.declared.next.NextFault.{NextFault}
+use Rattle.certificate_reader.specs.declared.next.NextFault.TheVariants as next
+use Rattle.certificate_reader.specs.declared.next.TextFault.{TextFault}
+use Rattle.certificate_reader.specs.declared.next.TextFault.TheVariants.{Form, Version, Truncated, Limit}
+use Rattle.certificate_reader.specs.Ready.{is_ready}
+use Rattle.certificate_reader.specs.Stages.{place_of}
+use Rattle.certificate_reader.specs.Waiting.{waiting_of}
+
+-- the source that it reads, the bytes that came and were not handed out, and whether a fault was told
+abbrev pub source_of : {R : Type 0} → CertReader R → R
+source_of reader = reader.source
+
+abbrev pub waits_in : {R : Type 0} → CertReader R → List ℕ
+waits_in reader = waiting_of reader.waiting
+
+abbrev pub has_failed : {R : Type 0} → CertReader R → Bool
+has_failed reader = reader.failed
+
+-- what is to be told next is in these bytes: a line, or too long a one, and behind the last line any byte
+abbrev pub come_at : Place → List ℕ → Bool
+come_at at_version bytes = is_ready bytes
+come_at at_claim bytes = is_ready bytes
+come_at at_constant bytes = is_ready bytes
+come_at (in_body atoms states) bytes = is_ready bytes
+come_at ended [] = false
+come_at ended (byte ∷ bytes) = true
+
+abbrev pub has_come : {R : Type 0} → CertReader R → Bool
+has_come reader = come_at (place_of reader.position.stage) (waits_in reader)
+
+-- These lines were handed out.
+pub record HasRead {R : Type 0} (reader : CertReader R) (lines : List TextLine) : Type 0 where
+  pub place : place_after lines ≡ Some (place_of reader.position.stage)
+  pub count : reader.position.lines ≡ length lines
+
+abbrev pub fault_at : NextFault → ℕ → CertFault
+fault_at (next.Text fault) line = cert.Line fault line
+fault_at next.Device line = cert.Device
+fault_at next.NoMemory line = cert.NoMemory
+
+-- the failure of a device counts one failure, another answer none
+abbrev pub CountsCert : {T : Type 0} → (before after : ℕ) → Result T CertFault → Type 0
+CountsCert before after (Ok read) = after ≡ before
+CountsCert before after (Err (cert.Line fault line)) = after ≡ before
+CountsCert before after (Err cert.Device) = after ≡ one_more before
+CountsCert before after (Err cert.NoMemory) = after ≡ before
+CountsCert before after (Err cert.Failed) = after ≡ before
+
+-- The bytes that waited and that came are this line, with its LF, and those that wait now.
+pub record IsHandedOut {R : Type 0} (remaining : R → Option (List ℕ)) (old new : CertReader R) (before : List TextLine) (line : TextLine) : Type 0 where
+  pub bytes : List ℕ
+  pub consumed : Consumes (remaining (source_of old)) (remaining (source_of new)) bytes
+  pub splits : waits_in old ++ bytes ≡ whole_line line ++ waits_in new
+  pub read : HasRead new (before ++ line ∷ [])
+
+-- The lines that were handed out are all of a certificate, and nothing stands behind them.
+pub record IsOver {R : Type 0} (remaining : R → Option (List ℕ)) (old new : CertReader R) (before : List TextLine) : Type 0 where
+  pub whole : AreWhole before
+  pub nothing : waits_in old ≡ []
+  pub consumed : Consumes (remaining (source_of old)) (remaining (source_of new)) []
+  pub at_end : IsAtEnd (remaining (source_of new))
+  pub still : waits_in new ≡ []
+  pub read : HasRead new before
+
+-- Nothing that was to be told had come when the device failed, and what came waits.
+pub record IsCutOff {R : Type 0} (remaining : R → Option (List ℕ)) (old new : CertReader R) : Type 0 where
+  pub bytes : List ℕ
+  pub consumed : Consumes (remaining (source_of old)) (remaining (source_of new)) bytes
+  pub waits : waits_in new ≡ waits_in old ++ bytes
+  pub nothing : has_come new ≡ false
+
+-- Of what waited and came this is the fault: of a text that ends too early where it has ended, and else whatever follows.
+abbrev pub IsToldOf : {R : Type 0} → (remaining : R → Option (List ℕ)) → (old new : CertReader R) → List TextLine → TextFault → Type 0
+IsToldOf remaining old new before Truncated =
+    (bytes : List ℕ) × Consumes (remaining (source_of old)) (remaining (source_of new)) bytes × IsAtEnd (remaining (source_of new))
+    × IsFaultAfter before (waits_in old ++ bytes) 42
+IsToldOf remaining old new before Form =
+    (bytes : List ℕ) × Consumes (remaining (source_of old)) (remaining (source_of new)) bytes × ((more : List ℕ) → IsFaultAfter before (waits_in old ++ bytes ++ more) 40)
+IsToldOf remaining old new before Version =
+    (bytes : List ℕ) × Consumes (remaining (source_of old)) (remaining (source_of new)) bytes × ((more : List ℕ) → IsFaultAfter before (waits_in old ++ bytes ++ more) 41)
+IsToldOf remaining old new before Limit =
+    (bytes : List ℕ) × Consumes (remaining (source_of old)) (remaining (source_of new)) bytes × ((more : List ℕ) → IsFaultAfter before (waits_in old ++ bytes ++ more) 55)
+
+-- what is handed out or told, where these lines were handed out before
+abbrev pub IsAdvance : {R : Type 0} → (remaining : R → Option (List ℕ)) → (old new : CertReader R) → List TextLine → Result (Option CertLine) NextFault → Type 0
+IsAdvance remaining old new before (Ok (Some line)) = IsHandedOut remaining old new before (text_line_of line)
+IsAdvance remaining old new before (Ok None) = IsOver remaining old new before
+IsAdvance remaining old new before (Err (next.Text fault)) = IsToldOf remaining old new before fault
+IsAdvance remaining old new before (Err next.Device) = IsCutOff remaining old new
+IsAdvance remaining old new before (Err next.NoMemory) = Unit {0}
+
+abbrev pub IsAnswer : {R : Type 0} → (remaining : R → Option (List ℕ)) → (old new : CertReader R) → List TextLine → Result (Option CertLine) CertFault → Type 0
+IsAnswer remaining old new before (Ok (Some line)) = IsHandedOut remaining old new before (text_line_of line)
+IsAnswer remaining old new before (Ok None) = IsOver remaining old new before
+IsAnswer remaining old new before (Err (cert.Line fault line)) = (line ≡ length before + 1) × IsToldOf remaining old new before fault
+IsAnswer remaining old new before (Err cert.Device) = IsCutOff remaining old new
+IsAnswer remaining old new before (Err cert.NoMemory) = Unit {0}
+IsAnswer remaining old new before (Err cert.Failed) = ⊥

@@ -1,0 +1,63 @@
+-- Where the code's reader stands, and what comes of a line there.
+use Rattle.std.specs.Prelude.{◌≡◌, ◌≢◌, ℕ, Bool, true, ◌&&◌, nat_le, List, ◌++◌, codes, None, Some, Result, Ok, Err, IsTrue}
+use Rattle.std.specs.Fmt.{decimal}
+use Rattle.model.specs.Certificates.{is_number}
+use Rattle.certificate_lines.specs.declared.line.CertLine.{CertLine}
+use Rattle.certificate_lines.specs.Lines.{text_line_of}
+use Rattle.certificate_text.specs.CertificateText.{TextLine, atom, listed, is_line, line_text, most_atoms, most_states}
+use Rattle.certificate_text.specs.CertificateMachine.{Place, at_version, at_claim, at_constant, in_body, ended, next_place}
+use Rattle.certificate_reader.specs.declared.stage.Stage.{Stage}
+use Rattle.certificate_reader.specs.declared.stage.Stage.TheVariants as stage
+use Rattle.certificate_reader.specs.declared.stage.Step.{Step}
+use Rattle.certificate_reader.specs.declared.stage.Step.TheVariants as step
+use Rattle.certificate_reader.specs.declared.line.LineFault.{LineFault}
+use Rattle.certificate_reader.specs.declared.line.LineFault.TheVariants.{OtherVersion, Malformed, TooMany, NoMemory}
+
+abbrev pub place_of : Stage → Place
+place_of stage.Version = at_version
+place_of stage.Claim = at_claim
+place_of stage.Constant = at_constant
+place_of (stage.Body atoms states) = in_body atoms states
+place_of stage.Ended = ended
+
+-- how many atoms stand before the place
+abbrev pub atoms_at : Place → ℕ
+atoms_at at_version = 0
+atoms_at at_claim = 0
+atoms_at at_constant = 0
+atoms_at (in_body atoms states) = atoms
+atoms_at ended = 0
+
+-- the place is behind no more atoms and states than there may be
+abbrev pub is_within : Place → Bool
+is_within at_version = true
+is_within at_claim = true
+is_within at_constant = true
+is_within (in_body atoms states) = nat_le atoms most_atoms && nat_le states most_states
+is_within ended = true
+
+abbrev pub IsWithin : Place → Type 0
+IsWithin place = IsTrue (is_within place)
+
+-- the line could stand there but for a limit
+abbrev pub IsOver : Place → TextLine → Type 0
+IsOver (in_body atoms states) (atom a) = (states ≡ 0) × (atoms ≡ most_atoms)
+IsOver (in_body atoms states) (listed l) = states ≡ most_states
+IsOver _ _ = ⊥
+
+abbrev pub IsStep : Place → TextLine → Step → Type 0
+IsStep place line (step.Next next) = next_place place line ≡ Some (place_of next)
+IsStep place line step.TooMany = IsOver place line
+IsStep place line step.Misplaced = (next_place place line ≡ None) × (IsOver place line → ⊥)
+
+-- The bytes are the line that is answered, and lead to this stage; or what is told of them is so.
+abbrev pub IsReadAt : Place → List ℕ → Result (CertLine × Stage) LineFault → Type 0
+IsReadAt place bytes (Ok (line, next)) = (line_text (text_line_of line) ≡ bytes) × (next_place place (text_line_of line) ≡ Some (place_of next))
+IsReadAt place bytes (Err OtherVersion) =
+    (place ≡ at_version) × ((number : ℕ) × IsTrue (is_number number) × (number ≢ 1) × (codes "pddl-cert " ++ decimal number ≡ bytes))
+IsReadAt place bytes (Err TooMany) = (line : TextLine) × IsTrue (is_line (atoms_at place) line) × IsOver place line × (line_text line ≡ bytes)
+IsReadAt place bytes (Err Malformed) =
+    ((line : TextLine) (next : Place) → next_place place line ≡ Some next → line_text line ≢ bytes)
+    × ((line : TextLine) → IsTrue (is_line (atoms_at place) line) → IsOver place line → line_text line ≢ bytes)
+    × (place ≡ at_version → (number : ℕ) → IsTrue (is_number number) → number ≢ 1 → codes "pddl-cert " ++ decimal number ≢ bytes)
+IsReadAt place bytes (Err NoMemory) = Unit {0}

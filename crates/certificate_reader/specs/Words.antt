@@ -1,0 +1,81 @@
+-- The words of a line, and a line by its first word and what stands behind it.
+use Rattle.std.specs.Prelude.{◌≡◌, ℕ, ◌==◌, Bool, not, List, [], ◌∷◌, ◌++◌, codes, map, Option, None, Some, IsTrue}
+use Rattle.std.specs.Borrow.{Bor}
+use Rattle.std.specs.Char.{is_ascii_uppercase}
+use Rattle.std.specs.Fmt.{decimal}
+use Rattle.std.specs.List.{flat_map, list_all}
+use Rattle.std.specs.Option.{option_map, option_map_or}
+use Rattle.model.specs.PlanWriting.{is_lower_name}
+use Rattle.model.specs.Claims.{Claim, bound, none}
+use Rattle.model.specs.Certificates.{is_number, rise}
+use Rattle.certificate_text.specs.CertificateText.{NamedAtom, TextLine, version, claims, constant, atom, listed, last, after_blank, is_line}
+
+-- the bytes of a word, where there is one
+abbrev pub text_in : Option (Bor (List ℕ)) → Option (List ℕ)
+text_in = option_map (λ (word : Bor (List ℕ)). word.now)
+
+abbrev pub is_blank : ℕ → Bool
+is_blank byte = byte == 32
+
+-- none of these bytes is a blank
+abbrev pub is_word : List ℕ → Bool
+is_word = list_all (λ byte. not (is_blank byte))
+
+-- a word, and what stands behind the blank after it, if there is one
+abbrev pub with_rest : List ℕ → Option (List ℕ) → List ℕ
+with_rest word None = word
+with_rest word (Some rest) = word ++ codes " " ++ rest
+
+-- The bytes begin with this word, and behind a blank stands the rest, if any.
+pub record IsFirstWord (bytes word : List ℕ) (rest : Option (List ℕ)) : Type 0 where
+  pub is_word : IsTrue (is_word word)
+  pub splits : bytes ≡ with_rest word rest
+
+-- the first word of a line
+abbrev pub line_head : TextLine → List ℕ
+line_head version = codes "pddl-cert"
+line_head (claims claim) = codes "claim"
+line_head constant = codes "constant"
+line_head (atom a) = codes "atom"
+line_head (listed l) = option_map_or (λ (rest : ℕ). codes "cut") l.cut (codes "open")
+line_head (last count) = codes "end"
+
+-- what stands behind it
+abbrev pub claim_rest : Claim → List ℕ
+claim_rest (bound least) = codes "bound " ++ decimal least
+claim_rest none = codes "none"
+
+abbrev pub line_rest : TextLine → List ℕ
+line_rest version = codes "1"
+line_rest (claims claim) = claim_rest claim
+line_rest constant = codes "0"
+line_rest (atom a) = codes "0 (" ++ a.predicate ++ flat_map after_blank a.objects ++ codes ")"
+line_rest (listed l) =
+    option_map_or (λ (rest : ℕ). decimal l.cost ++ after_blank (decimal rest)) l.cut (decimal l.cost)
+    ++ flat_map (λ (number : ℕ). after_blank (decimal number)) l.atoms
+line_rest (last count) = decimal count
+
+-- these words, each behind a blank, and then the rest, if any: all but the first blank
+abbrev pub then_words : List (List ℕ) → Option (List ℕ) → Option (List ℕ)
+then_words [] rest = rest
+then_words (word ∷ words) rest = Some (with_rest word (then_words words rest))
+
+-- The bytes are a number, and behind it numbers of atoms, rising.
+pub record IsNumbered (bytes : List ℕ) (atom_count number : ℕ) (atoms : List ℕ) : Type 0 where
+  pub is_number : IsTrue (is_number number)
+  pub rising : IsTrue (rise atom_count 0 atoms)
+  pub splits : bytes ≡ with_rest (decimal number) (then_words (map decimal atoms) None)
+
+-- the names of an atom are names in lower case
+abbrev pub are_lower : NamedAtom → Bool
+are_lower a = list_all is_lower_name (a.predicate ∷ a.objects)
+
+-- the byte is no capital letter
+abbrev pub is_no_capital : ℕ → Bool
+is_no_capital byte = not (is_ascii_uppercase byte)
+
+-- the line begins with this word, behind which these bytes stand, and keeps the limits
+pub record IsReadAs (word rest : List ℕ) (atom_count : ℕ) (line : TextLine) : Type 0 where
+  pub head : line_head line ≡ word
+  pub behind : line_rest line ≡ rest
+  pub within : IsTrue (is_line atom_count line)

@@ -1,0 +1,9 @@
+//! Laws of certificates' texts. They are proved; the calls do nothing.
+ghost use Rattle.std.specs.Prelude.{◌≡◌, ℕ, List};
+ghost use Rattle.certificate_text.specs.CertificateText.{NamedCertificate, IsCertificateText};
+
+/// A certificate has at most one text, and a text is at most one certificate.
+pub fn texts_are_certificates_one_for_one()
+    ensures one_text { (text other : List ℕ) (c : NamedCertificate) → IsCertificateText text c → IsCertificateText other c → text ≡ other }
+    ensures one_certificate { (text : List ℕ) (c d : NamedCertificate) → IsCertificateText text c → IsCertificateText text d → c ≡ d }
+{}

@@ -1,0 +1,99 @@
+//! What stands behind the first word of a line.
+ghost use Rattle.std.specs.Prelude.{◌≡◌, ◌≢◌, ℕ, ◌≤◌, ◌<◌, Err, IfNone, IfOk, IfSome, IsTrue, List, None, OnOk, codes, map};
+ghost use Rattle.std.specs.Fmt.{decimal};
+ghost use Rattle.std.specs.List.{list_all};
+ghost use Rattle.model.specs.Claims as model;
+ghost use Rattle.model.specs.Certificates.{is_claim, is_number, rise};
+ghost use Rattle.certificate_text.specs.CertificateText.{most_atoms};
+ghost use Rattle.certificate_lines.specs.Lines.{claim_of};
+ghost use Rattle.certificate_reader.specs.Words.{IsNumbered, claim_rest, text_in, then_words};
+
+use crate::number::number;
+use crate::word::{first_word, is};
+use certificate_lines::Claim;
+use std::alloc::{AllocError, Global};
+
+/// The claim that the bytes are, and `None` where they are none.
+pub(crate) fn claim(rest: &[u8]) -> Option<Claim>
+    ensures some { IfSome result (λ claim. IsTrue (is_claim (claim_of claim)) × (claim_rest (claim_of claim) ≡ rest.now)) }
+    ensures none { IfNone result ((claim : model.Claim) → IsTrue (is_claim claim) → claim_rest claim ≢ rest.now) }
+{
+    let (word, behind) = first_word(rest);
+    let Some(least) = behind else {
+        return if is(word, b"none") {
+            Some(Claim::Unsolvable)
+        } else {
+            None
+        };
+    };
+    if !is(word, b"bound") {
+        return None;
+    }
+    match number(least) {
+        Some(least) => Some(Claim::Bound(least)),
+        None => None,
+    }
+}
+
+/// A number and, behind it, numbers of atoms, rising, and `None` where something else stands there.
+pub(crate) fn numbered(
+    alloc: Global,
+    bytes: &[u8],
+    atom_count: usize,
+) -> Result<Option<(u64, Vec<u32>)>, AllocError>
+    requires few { atom_count ≤ most_atoms }
+    ensures some { IfOk result (λ found. IfSome found (λ read. IsNumbered bytes.now atom_count read.0 read.1.items)) }
+    ensures none { IfOk result (λ found. IfNone found ((n : ℕ) (atoms : List ℕ) → IsNumbered bytes.now atom_count n atoms → ⊥)) }
+{
+    let (word, behind) = first_word(bytes);
+    let Some(number) = number(word) else {
+        return Ok(None);
+    };
+    match numbers(alloc, behind, atom_count)? {
+        Some(atoms) => Ok(Some((number, atoms))),
+        None => Ok(None),
+    }
+}
+
+/// The numbers of atoms that the bytes are, rising, and `None` where they are none.
+fn numbers(
+    alloc: Global,
+    rest: Option<&[u8]>,
+    atom_count: usize,
+) -> Result<Option<Vec<u32>>, AllocError>
+    requires few { atom_count ≤ most_atoms }
+    ensures some { IfOk result (λ found. IfSome found (λ numbers. IsTrue (rise atom_count 0 numbers.items)
+        × (then_words (map decimal numbers.items) None ≡ text_in rest.entry))) }
+    ensures none { IfOk result (λ found. IfNone found ((numbers : List ℕ) → IsTrue (rise atom_count 0 numbers)
+        → then_words (map decimal numbers) None ≢ text_in rest.entry)) }
+{
+    let mut numbers = Vec::new(alloc);
+    let mut least = 0;
+    let mut left = rest;
+    'words: while let Some(bytes) = left {
+        let (word, behind) = first_word(bytes);
+        let Some(next) = next_number(word, least, atom_count) else {
+            return Ok(None);
+        };
+        numbers.push(next)?;
+        least = next + 1;
+        left = behind;
+    }
+    Ok(Some(numbers))
+}
+
+/// The number of an atom that a word is, from the least one that is allowed, and `None` where it is none.
+fn next_number(word: &[u8], least: u32, atom_count: usize) -> Option<u32>
+    requires few { atom_count ≤ most_atoms }
+    ensures some { IfSome result (λ n. (decimal n ≡ word.now) × (least ≤ n) × (n < atom_count)) }
+    ensures none { IfNone result ((n : ℕ) → least ≤ n → n < atom_count → decimal n ≢ word.now) }
+{
+    let Some(next) = number(word) else {
+        return None;
+    };
+    if u64::from(least) <= next && next < atom_count as u64 {
+        Some(next as u32)
+    } else {
+        None
+    }
+}

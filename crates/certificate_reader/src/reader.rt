@@ -1,0 +1,130 @@
+//! The reader of a certificate's text, line by line.
+ghost use Rattle.std.specs.Prelude.{◌≡◌, ◌+◌, ℕ, ◌++◌, [], ◌∷◌, Err, IfErr, IfOk, IfNone, IfSome, is_err, IsTrue, List, false, length, true};
+ghost use Rattle.certificate_lines.specs.Lines.{text_line_of};
+ghost use Rattle.certificate_text.specs.CertificateText.{TextLine, AreWhole};
+ghost use Rattle.certificate_reader.specs.declared.reader.CertFault.TheVariants.{Failed};
+ghost use Rattle.certificate_reader.specs.Reader.{CountsCert, HasRead, IsAdvance, IsAnswer, fault_at, has_come, has_failed, source_of, waits_in};
+ghost use Rattle.certificate_reader.specs.Next.{CountsFault};
+
+use crate::next::{NextFault, TextFault, is_at_end, next_line};
+use crate::position::Position;
+use crate::stage::Stage;
+use crate::waiting::Waiting;
+use certificate_lines::CertLine;
+use devices::Source;
+use std::alloc::Global;
+
+/// Why no line is handed out.
+#[derive(Clone, Copy, Debug, PartialEq, Eq)]
+pub enum CertFault {
+    /// The text is at fault: what, and at which line, counted from 1. It is the first line at fault.
+    Line {
+        /// What is at fault.
+        fault: TextFault,
+        /// The line's number, from 1.
+        line: u64,
+    },
+    /// The device failed.
+    Device,
+    /// Memory was refused.
+    NoMemory,
+    /// A fault was told before.
+    Failed,
+}
+
+/// Reads the text of a certificate from a source, line by line.
+#[derive(Drop)]
+pub struct CertReader<R> {
+    alloc: Global,
+    source: R,
+    waiting: Waiting,
+    position: Position,
+    failed: bool,
+}
+
+impl<R: Source> CertReader<R> {
+    /// A reader of the text that the source gives from here on.
+    pub fn new(alloc: Global, source: R) -> CertReader<R>
+        ensures source { source_of result ≡ source }
+        ensures read { HasRead result [] }
+        ensures waits { waits_in result ≡ [] }
+        ensures failed { has_failed result ≡ false }
+    {
+        CertReader {
+            alloc,
+            source,
+            waiting: Waiting::new(alloc),
+            position: Position {
+                lines: 0,
+                stage: Stage::Version,
+            },
+            failed: false,
+        }
+    }
+
+    /// The next line; behind the last one `None`, where nothing follows it. The source is read only while no whole line
+    /// has come, or, behind the last line, until a byte or the end has.
+    ///
+    /// # Errors
+    /// [`CertFault::Line`] where the text is at fault; [`CertFault::Device`] where the device failed;
+    /// [`CertFault::NoMemory`] where memory is refused; from then on [`CertFault::Failed`].
+    pub fn next_line(&mut self) -> Result<Option<CertLine>, CertFault>
+        // What is handed out of the text, or told of it, where these lines were handed out before.
+        ensures told { (before : List TextLine) → HasRead self.old before → has_failed self.old ≡ false
+            → IsAnswer R.remaining self.old self.new before result }
+        ensures failed { has_failed self.new ≡ is_err result }
+        ensures still { has_failed self.old ≡ true → (result ≡ Err Failed) × (self.new ≡ self.old) }
+        // The source is left alone where what is to be told has come.
+        ensures lazy { IsTrue (has_come self.old) → source_of self.new ≡ source_of self.old }
+        ensures failures { CountsCert (R.failures (source_of self.old)) (R.failures (source_of self.new)) result }
+    {
+        if self.failed {
+            return Err(CertFault::Failed);
+        }
+        let line = self.position.lines.saturating_add(1);
+        match self.advance() {
+            Ok(read) => Ok(read),
+            Err(fault) => {
+                self.failed = true;
+                Err(told_at(fault, line))
+            }
+        }
+    }
+
+    /// The next line, and the place behind it.
+    fn advance(&mut self) -> Result<Option<CertLine>, NextFault>
+        ensures told { (before : List TextLine) → HasRead self.old before → IsAdvance R.remaining self.old self.new before result }
+        ensures failed { has_failed self.new ≡ has_failed self.old }
+        ensures lazy { IsTrue (has_come self.old) → source_of self.new ≡ source_of self.old }
+        ensures failures { CountsFault (R.failures (source_of self.old)) (R.failures (source_of self.new)) result }
+    {
+        if let Stage::Ended = self.position.stage {
+            if is_at_end(&mut self.waiting, &mut self.source)? {
+                return Ok(None);
+            }
+            return Err(NextFault::Text(TextFault::Form));
+        }
+        let (line, stage) = next_line(
+            self.alloc,
+            self.position.stage,
+            &mut self.waiting,
+            &mut self.source,
+        )?;
+        self.position = Position {
+            lines: self.position.lines.saturating_add(1),
+            stage,
+        };
+        Ok(Some(line))
+    }
+}
+
+/// The fault that is told of this line.
+fn told_at(fault: NextFault, line: u64) -> CertFault
+    ensures { result ≡ fault_at fault line }
+{
+    match fault {
+        NextFault::Text(fault) => CertFault::Line { fault, line },
+        NextFault::Device => CertFault::Device,
+        NextFault::NoMemory => CertFault::NoMemory,
+    }
+}

@@ -1,0 +1,149 @@
+//! Where a reader stands in a certificate, and which line may come next.
+ghost use Rattle.std.specs.Prelude.{◌≡◌, ℕ, ◌≤◌, IsTrue, length};
+ghost use Rattle.certificate_text.specs.CertificateText.{NamedAtom, atom, is_line, longest_line};
+ghost use Rattle.certificate_text.specs.CertificateMachine.{in_body};
+ghost use Rattle.certificate_lines.specs.Lines.{text_line_of};
+ghost use Rattle.certificate_reader.specs.Stages.{IsReadAt, IsStep, IsWithin, atoms_at, place_of};
+
+use crate::line::{LineFault, parse};
+use certificate_lines::{CertLine, MAX_ATOMS, MAX_STATE_LINES};
+use std::alloc::Global;
+
+/// What may come next.
+#[derive(Clone, Copy, Debug, PartialEq, Eq)]
+pub(crate) enum Stage {
+    /// The version.
+    Version,
+    /// The claim.
+    Claim,
+    /// The constant.
+    Constant,
+    /// An atom, where there was no state yet, or a state, or the last line.
+    Body {
+        /// How many atoms there were.
+        atoms: usize,
+        /// How many states there were.
+        states: usize,
+    },
+    /// Nothing.
+    Ended,
+}
+
+/// What comes of a line at a stage.
+#[derive(Clone, Copy, Debug, PartialEq, Eq)]
+pub(crate) enum Step {
+    /// It may stand there, and this is the stage behind it.
+    Next(Stage),
+    /// But for the limit of atoms, or that of states, it could.
+    TooMany,
+    /// It cannot stand there.
+    Misplaced,
+}
+
+impl Stage {
+    /// How many atoms there were.
+    pub(crate) fn atoms(self) -> usize
+        ensures { result ≡ atoms_at (place_of self) }
+    {
+        match self {
+            Stage::Body { atoms, .. } => atoms,
+            _ => 0,
+        }
+    }
+
+    /// What comes of this line.
+    pub(crate) fn after(self, line: &CertLine) -> Step
+        requires within { IsWithin (place_of self) }
+        requires line { IsTrue (is_line (atoms_at (place_of self)) (text_line_of line.now)) }
+        ensures { IsStep (place_of self) (text_line_of line.now) result }
+    {
+        match self {
+            Stage::Version => match line {
+                CertLine::Head => Step::Next(Stage::Claim),
+                _ => Step::Misplaced,
+            },
+            Stage::Claim => match line {
+                CertLine::Claim(_) => Step::Next(Stage::Constant),
+                _ => Step::Misplaced,
+            },
+            Stage::Constant => match line {
+                CertLine::Constant => Step::Next(Stage::Body {
+                    atoms: 0,
+                    states: 0,
+                }),
+                _ => Step::Misplaced,
+            },
+            Stage::Body { atoms, states } => after_body(atoms, states, line),
+            Stage::Ended => Step::Misplaced,
+        }
+    }
+}
+
+/// What comes of this line behind so many atoms and states.
+fn after_body(atoms: usize, states: usize, line: &CertLine) -> Step
+    requires within { IsWithin (in_body atoms states) }
+    requires line { IsTrue (is_line atoms (text_line_of line.now)) }
+    ensures { IsStep (in_body atoms states) (text_line_of line.now) result }
+{
+    match line {
+        CertLine::Weight(_) => after_atom(atoms, states),
+        CertLine::Listed(_) => {
+            if states >= MAX_STATE_LINES {
+                return Step::TooMany;
+            }
+            Step::Next(Stage::Body {
+                atoms,
+                states: states + 1,
+            })
+        }
+        CertLine::Last { count } => {
+            if *count == states as u64 {
+                Step::Next(Stage::Ended)
+            } else {
+                Step::Misplaced
+            }
+        }
+        _ => Step::Misplaced,
+    }
+}
+
+/// What comes of an atom behind so many atoms and states.
+fn after_atom(atoms: usize, states: usize) -> Step
+    requires within { IsWithin (in_body atoms states) }
+    ensures { (a : NamedAtom) → IsTrue (is_line atoms (atom a)) → IsStep (in_body atoms states) (atom a) result }
+{
+    if states > 0 {
+        return Step::Misplaced;
+    }
+    if atoms >= MAX_ATOMS {
+        return Step::TooMany;
+    }
+    Step::Next(Stage::Body {
+        atoms: atoms + 1,
+        states,
+    })
+}
+
+/// The line that these bytes are at a stage, and the stage behind it.
+pub(crate) fn read_line(
+    alloc: Global,
+    stage: Stage,
+    bytes: &[u8],
+) -> Result<(CertLine, Stage), LineFault>
+    requires within { IsWithin (place_of stage) }
+    requires short { length bytes.now ≤ longest_line }
+    ensures { IsReadAt (place_of stage) bytes.now result }
+{
+    match parse(alloc, bytes, stage.atoms()) {
+        Ok(line) => match stage.after(&line) {
+            Step::Next(next) => Ok((line, next)),
+            Step::TooMany => Err(LineFault::TooMany),
+            Step::Misplaced => Err(LineFault::Malformed),
+        },
+        Err(LineFault::OtherVersion) => match stage {
+            Stage::Version => Err(LineFault::OtherVersion),
+            _ => Err(LineFault::Malformed),
+        },
+        Err(fault) => Err(fault),
+    }
+}
