@@ -9,7 +9,9 @@ use Rattle.std.proofs.lemmas.List.FromFn.{length-map-range_with_len, get_or-map-
 use Rattle.std.proofs.lemmas.Option.{slice_get-get_or, get_or_from_slice_get, slice_get_within}
 use Rattle.packed_state.specs.Sets.{at_width, has}
 use Rattle.packed_state.specs.declared.pooled.PooledStore.{PooledStore}
+use Rattle.packed_state.specs.PooledStore.{rows_of}
 use Rattle.packed_state.specs.PooledView.{pooled_states}
+use Rattle.packed_state.proofs.StoreLemmas.{length-sets}
 use Rattle.packed_state.specs.Store.{AreDistinct, IsPlaced}
 use Rattle.model.proofs.ListLemmas.{Contains-got, map-Contains}
 
@@ -71,7 +73,7 @@ module _ (width wide : ℕ) (sets : List (List Bool)) (distinct : AreDistinct se
   lengths_more = subst (All (λ (set : List Bool). length set ≡ width)) (sym taken) (All-push (λ (set : List Bool). length set ≡ width) (take k sets) set lengths long)
 
 pub few_sets : (store : PooledStore) → length (pooled_states store) ≤ 16777216
-few_sets store = ?
+few_sets store = omega (arith, length-sets store.width (rows_of store.pool), store.pooled.stored.few)
 
 pub is_below_at : (wide : ℕ) (sets : List (List Bool)) → All (IsBelow wide) sets → (k : ℕ) (set : List Bool) → slice_get sets k ≡ Some set → IsBelow wide set
 is_below_at wide sets below k set at = All-contains (IsBelow wide) sets set below (Contains-got sets k set at)

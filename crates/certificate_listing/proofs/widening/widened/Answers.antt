@@ -1,5 +1,5 @@
-use Rattle.std.proofs.Common.{◌≡◌, ◌<◌, ◌≤◌, length, map, refl, sym, ap, ◌∙◌, subst, arith}
-use Rattle.std.proofs.lemmas.List.{length-map}
+use Rattle.std.proofs.Common.{◌≡◌, ◌<◌, ◌≤◌, [], length, take, map, refl, sym, ap, ◌∙◌, subst, arith}
+use Rattle.std.proofs.lemmas.List.{length-map, length-take-le}
 use Rattle.packed_state.specs.Packed.{bits_of}
 use Rattle.packed_state.specs.Sets.{at_width, set_of}
 use Rattle.packed_state.specs.Store.{IsPlaced}
@@ -12,7 +12,7 @@ pub loop-place-init : goal.loop-place-init
 loop-place-init c = record {
   wide = c.in_ok-wide.ensures.width;
   sets = c.in_ok-wide.ensures.states;
-  set = ap length c.in_ok-set.ensures ∙ length-set_of c.width.result _ ∙ c.width.ensures;
+  set = ap length c.in_ok-set.ensures ∙ length-set_of c.width.result [] ∙ c.width.ensures;
   lengths = λ k d within. absurd (omega (arith, within));
 }
 
@@ -20,13 +20,17 @@ pub overflow_cast-place : goal.overflow_cast-place
 overflow_cast-place c = omega (arith, c.loop-place-test.true, few_sets c.args.sets.now, c.len-place-end.ensures)
 
 pub with_width-requires : goal.with_width-requires
-with_width-requires c = ?
+with_width-requires c = is_below_at c.args.width (pooled_states c.args.sets.now) c.requires.within c.loop-place.place (bits_of c.get.new.into) c.get.ensures.set
 
 pub insert_if_new-requires-clause-width : goal.insert_if_new-requires-clause-width
 insert_if_new-requires-clause-width c = ap length c.in_ok-with_width.ensures ∙ length-at_width c.args.width (bits_of c.get.new.into) ∙ sym c.loop-place.invariant.wide
 
 pub insert_if_new-requires-clause-room : goal.insert_if_new-requires-clause-room
-insert_if_new-requires-clause-room c = ?
+insert_if_new-requires-clause-room c =
+    let sets = pooled_states c.args.sets.now in
+    let few = few_sets c.args.sets.now in
+    omega (arith, ap length c.loop-place.invariant.sets ∙ length-map (take c.loop-place.place sets) (at_width c.args.width), length-take-le c.loop-place.place sets (omega (arith, c.loop-place-test.true, c.len-place-end.ensures)),
+    c.loop-place-test.true, c.len-place-end.ensures, few)
 
 pub loop-place-preserved : goal.loop-place-preserved
 loop-place-preserved c = ?
