@@ -71,7 +71,7 @@ IsNext place old new before after (Err NoMemory) = Unit {0}
 
 -- Nothing waits, and the end has come; or some byte waits.
 abbrev pub IsEnd : (old new : List ℕ) → (before after : Option (List ℕ)) → Result Bool WriteFault → Type 0
-IsEnd old new before after (Ok true) = (old ≡ []) × (new ≡ []) × IsAtEnd after
+IsEnd old new before after (Ok true) = (old ≡ []) × (new ≡ []) × Consumes before after [] × IsAtEnd after
 IsEnd old new before after (Ok false) = (bytes : List ℕ) × Consumes before after bytes × (new ≡ old ++ bytes) × (new ≢ [])
 IsEnd old new before after (Err device.Device) = (old ≡ []) × (new ≡ []) × Keeps before after
 IsEnd old new before after (Err device.NoMemory) = Unit {0}

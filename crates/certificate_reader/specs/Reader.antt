@@ -68,6 +68,7 @@ pub record IsHandedOut {R : Type 0} (remaining : R → Option (List ℕ)) (old n
 pub record IsOver {R : Type 0} (remaining : R → Option (List ℕ)) (old new : CertReader R) (before : List TextLine) : Type 0 where
   pub whole : AreWhole before
   pub nothing : waits_in old ≡ []
+  pub consumed : Consumes (remaining (source_of old)) (remaining (source_of new)) []
   pub at_end : IsAtEnd (remaining (source_of new))
   pub still : waits_in new ≡ []
   pub read : HasRead new before

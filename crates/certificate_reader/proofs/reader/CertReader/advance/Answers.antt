@@ -13,7 +13,8 @@ returns-then-branch-clause-told g c = λ before read.
     record {
       whole = ends before (read.place ∙ ap (λ stage. Some (place_of stage)) c.in-Ended.is);
       nothing = over.0;
-      at_end = over.2;
+      consumed = over.2;
+      at_end = over.3;
       still = over.1;
       read = record { place = read.place; count = read.count };
     }
