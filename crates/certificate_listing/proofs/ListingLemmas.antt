@@ -1,14 +1,14 @@
 -- The lines of a text, taken one after another, to its end.
-use Rattle.std.proofs.Common.{◌≡◌, ◌≢◌, ℕ, ◌+◌, ◌-◌, ◌<◌, ◌≤◌, Bool, true, false, List, [], ◌∷◌, ◌++◌, map, length, Option, None, Some, refl, sym, ap, ◌∙◌, subst, append-nil, length-append, arith}
-use Rattle.std.specs.Prelude.{Result, Ok, Err, IsTrue, ◌&&◌, All, Contains}
+use Rattle.std.proofs.Common.{◌≡◌, ℕ, ◌+◌, ◌-◌, ◌<◌, ◌≤◌, Bool, true, false, List, [], ◌∷◌, ◌++◌, map, length, Option, None, Some, refl, sym, ap, ◌∙◌, subst, append-nil, length-append, arith}
+use Rattle.std.specs.Prelude.{Ok, All, Contains}
 use Rattle.std.specs.List.{list_all}
 use Rattle.std.specs.Option.{option_map_or}
 use Rattle.std.proofs.lemmas.Bool.{and_parts}
 use Rattle.std.proofs.lemmas.List.{length-map}
 use Rattle.packed_state.specs.Sets.{set_of}
 use Rattle.model.specs.Task.{Atom, Task}
-use Rattle.model.specs.Claims.{Claim, none}
-use Rattle.model.specs.Certificates.{Certificate, StateLine, rise}
+use Rattle.model.specs.Claims.{Claim}
+use Rattle.model.specs.Certificates.{StateLine, rise}
 use Rattle.certificate_lines.specs.declared.line.CertLine.{CertLine}
 use Rattle.certificate_lines.specs.Lines.{text_line_of}
 use Rattle.certificate_text.specs.CertificateText.{NamedCertificate, TextLine, AreWhole, BeginCertificate, atom, claims, constant, last, listed, most_atoms, text_lines, text_of, version}
@@ -19,7 +19,7 @@ use Rattle.model.proofs.ListLemmas.{Contains-here, Contains-there}
 use Rattle.certificate_listing.specs.Sets.{Marked, line_with, lines_with, marked}
 use Rattle.certificate_listing.specs.Told.{HaveTold, atoms_told, is_body, states_told}
 use Rattle.certificate_listing.specs.Listed.{HaveListed, IsFit}
-use Rattle.certificate_listing.specs.Reading.{IsAt, IsAtLast, IsBegun, IsListedSoFar, IsRead}
+use Rattle.certificate_listing.specs.Reading.{IsAt, IsBegun, IsListedSoFar, IsRead}
 use Rattle.certificate_listing.proofs.SetsLemmas.{numbers_back}
 use Rattle.certificate_listing.proofs.ToldLemmas.{begin_front}
 use Rattle.certificate_listing.proofs.PlacedLemmas.{atoms_of_text, body_follows, few_atoms_told, fit_there, named_length, states_of_text}
@@ -117,9 +117,13 @@ module _ {R : Type 0} (remaining : R → Option (List ℕ)) (task : Task) (first
         (have : HaveListed (before ++ line ∷ []) claim width marks sets) (body : is_body line ≡ true) (next : CertReader R) (going : has_failed next ≡ false) where
       pub so_far_next : (answer : Option CertLine) → IsAnswer remaining now next (before ++ line ∷ []) (Ok answer) → IsListedSoFar remaining task first next claim atoms width marks sets answer
       so_far_next (Some other) handed =
-          let there = at_next remaining first now (before ++ line ∷ []) at next (text_line_of other) handed going in
-          (before ++ line ∷ [], there, told, have,
-           body_follows before line (text_line_of other) (have_begun remaining first next ((before ++ line ∷ []) ++ text_line_of other ∷ []) there) body)
+          let there = at_next remaining first now (before ++ line ∷ []) at next (text_line_of other) handed going in (
+            before ++ line ∷ [],
+            there,
+            told,
+            have,
+            body_follows before line (text_line_of other) (have_begun remaining first next ((before ++ line ∷ []) ++ text_line_of other ∷ []) there) body,
+          )
       so_far_next None over = (before ++ line ∷ [], at_last remaining first now (before ++ line ∷ []) at next over, told, have)
 
       pub fewer_left : (answer : Option CertLine) → IsAnswer remaining now next (before ++ line ∷ []) (Ok answer)

@@ -1,8 +1,8 @@
 -- Names and what they name.
-use Rattle.std.proofs.Common.{◌≡◌, ℕ, zero, suc, ◌+◌, ◌<◌, ◌≤◌, Bool, true, false, List, [], ◌∷◌, ◌++◌, map, length, get_or, cond, Option, None, Some, refl, sym, ap, ◌∙◌, subst, true≢false, arith}
-use Rattle.std.specs.Prelude.{IsTrue, ◌&&◌, ◌==◌, slice_get, nat_le, nat_lt}
+use Rattle.std.proofs.Common.{◌≡◌, ℕ, zero, suc, ◌<◌, ◌≤◌, Bool, true, false, List, [], ◌∷◌, map, length, get_or, cond, Option, None, Some, refl, sym, ap, ◌∙◌, subst, true≢false, arith}
+use Rattle.std.specs.Prelude.{IsTrue, ◌==◌, slice_get, nat_le, nat_lt}
 use Rattle.std.specs.Cmp.{first_so, second_so}
-use Rattle.std.specs.List.{list_all, position, position_or_len}
+use Rattle.std.specs.List.{position, position_or_len}
 use Rattle.std.specs.Option.{option_map_or}
 use Rattle.std.specs.Cmp.Lexicographic.{pointwise, as_long}
 use Rattle.std.proofs.lemmas.Bool.{eqb-true, leb-true, ltb-true}
@@ -65,7 +65,7 @@ few_objects task a well typed =
       | None ↦ λ at none. absurd (true≢false (sym none))
       | Some p ↦ λ at fit.
           let few = passes_got (λ (p : Predicate). nat_le (length p.arguments) max_arguments) task.predicates a.predicate p at
-              (second_so _ _ (first_so _ _ (first_so _ _ (first_so _ _ well)))) in
+          (second_so _ _ (first_so _ _ (first_so _ _ (first_so _ _ well)))) in
           subst (λ n. n ≤ 8) (as_long (is_of task) p.arguments a.objects fit) (leb-true (length p.arguments) max_arguments few)
     ] refl typed
 

@@ -1,14 +1,14 @@
 -- What stands before a line of a certificate.
-use Rattle.std.proofs.Common.{◌≡◌, ◌≢◌, ℕ, zero, suc, ◌+◌, ◌<◌, ◌≤◌, Bool, true, false, List, [], ◌∷◌, ◌++◌, map, length, Option, None, Some, refl, sym, ap, ◌∙◌, subst, append_assoc, append-nil, true≢false, arith}
-use Rattle.std.specs.Prelude.{IsTrue, All, ◌&&◌, ◌==◌, nat_le, nat_lt}
+use Rattle.std.proofs.Common.{◌≡◌, ℕ, suc, ◌+◌, ◌≤◌, Bool, true, List, [], ◌∷◌, ◌++◌, map, length, None, Some, refl, sym, ap, ◌∙◌, subst, append-nil, true≢false, arith}
+use Rattle.std.specs.Prelude.{All, ◌&&◌, ◌==◌, nat_le, nat_lt}
 use Rattle.std.specs.List.{list_all}
 use Rattle.std.proofs.lemmas.Bool.{and_parts, eqb-true, leb-true, ltb-true}
-use Rattle.std.proofs.lemmas.List.Elements.{All-cons, All-nil, All-weaker, filter_map-append}
+use Rattle.std.proofs.lemmas.List.Elements.{filter_map-append}
 use Rattle.model.specs.Task.{Atom, Task}
 use Rattle.model.specs.Claims.{Claim}
-use Rattle.model.specs.Certificates.{StateLine, is_number, is_state_line, rise}
+use Rattle.model.specs.Certificates.{StateLine, is_number, rise}
 use Rattle.std.specs.Option.{option_map_or}
-use Rattle.certificate_text.specs.CertificateText.{NamedAtom, NamedCertificate, TextLine, version, claims, constant, atom, listed, last, is_line, most_atoms, most_states, head_lines, text_lines, keeps_text_limits, AreWhole, BeginCertificate}
+use Rattle.certificate_text.specs.CertificateText.{NamedAtom, NamedCertificate, TextLine, version, claims, constant, atom, listed, last, is_line, most_atoms, most_states, text_lines, AreWhole, BeginCertificate}
 use Rattle.certificate_text.specs.CertificateNames.{AllName}
 use Rattle.certificate_text.specs.CertificateMachine.{Place, at_version, at_claim, at_constant, in_body, ended, next_place}
 use Rattle.certificate_text.proofs.Machine.{StandsBefore, never, only_where, place_of_beginning, place_same, stands}
@@ -21,8 +21,7 @@ use Rattle.certificate_lines.specs.Lines.{text_line_of}
 use Rattle.packed_state.specs.Sets.{set_of}
 use Rattle.certificate_listing.specs.Sets.{Marked, marked}
 use Rattle.certificate_listing.specs.Listed.{HaveListed, IsFit}
-use Rattle.certificate_listing.proofs.SetsLemmas.{rise_below}
-use Rattle.certificate_listing.proofs.ToldLemmas.{IsPlaced, begin_front, placed, states_same, told_last}
+use Rattle.certificate_listing.proofs.ToldLemmas.{begin_front, placed, states_same, told_last}
 
 -- ---- what whole lists tell
 
@@ -140,13 +139,15 @@ last_tells task before claim atoms width marks sets code.Constant other body tol
 last_tells task before claim atoms width marks sets (code.Weight a) other body told have = absurd (true≢false (sym body))
 last_tells task before claim atoms width marks sets (code.Listed l) other body told have = absurd (other l refl)
 last_tells task before claim atoms width marks sets (code.Last n) other body told have =
-    let same : states_told (before ++ last n ∷ []) ≡ states_told before = states_same before (last n) refl in
-    (told_last task before claim atoms told n, record {
-      rising = subst (λ states. list_all (λ (l : StateLine). rise width 0 l.atoms) states ≡ true) (sym same) have.rising;
-      marks_are = have.marks_are ∙ ap (map marked) (sym same);
-      allowed = λ is_none. subst (All (λ (l : StateLine). l.cut ≡ None)) (sym same) (have.allowed is_none);
-      sets_are = have.sets_are ∙ ap (map (λ (l : StateLine). set_of width l.atoms)) (sym same);
-    })
+    let same : states_told (before ++ last n ∷ []) ≡ states_told before = states_same before (last n) refl in (
+      told_last task before claim atoms told n,
+      record {
+        rising = subst (λ states. list_all (λ (l : StateLine). rise width 0 l.atoms) states ≡ true) (sym same) have.rising;
+        marks_are = have.marks_are ∙ ap (map marked) (sym same);
+        allowed = λ is_none. subst (All (λ (l : StateLine). l.cut ≡ None)) (sym same) (have.allowed is_none);
+        sets_are = have.sets_are ∙ ap (map (λ (l : StateLine). set_of width l.atoms)) (sym same);
+      },
+    )
 
 -- there are few atoms
 pub few_atoms_told : (lines : List TextLine) → BeginCertificate lines → length (atoms_told lines) ≤ most_atoms

@@ -1,23 +1,18 @@
 -- How far a text has been read, line by line.
-use Rattle.std.proofs.Common.{◌≡◌, ◌≢◌, ℕ, ◌+◌, ◌<◌, ◌≤◌, inl, inr, Bool, true, false, List, [], ◌∷◌, ◌++◌, length, Option, None, Some, refl, sym, ap, ◌∙◌, subst, append_assoc, append-nil, length-append, arith}
-use Rattle.std.specs.Prelude.{Result, Ok, Err}
+use Rattle.std.proofs.Common.{◌≡◌, ℕ, ◌+◌, ◌<◌, inl, inr, false, List, [], ◌∷◌, ◌++◌, length, Option, None, Some, refl, sym, ap, ◌∙◌, subst, append_assoc, append-nil, length-append, arith}
+use Rattle.std.specs.Prelude.{Result, Err}
 use Rattle.std.specs.Result.{IsErrAnd}
 use Rattle.std.proofs.lemmas.Result.{err_from_is_err_and}
-use Rattle.std.specs.List.{flat_map}
-use Rattle.std.specs.Io.KnownBytes.{Consumes, IsAtEnd}
-use Rattle.model.specs.Task.{Atom, Task}
-use Rattle.model.specs.Claims.{Claim}
-use Rattle.certificate_lines.specs.declared.line.CertLine.{CertLine}
-use Rattle.certificate_lines.specs.Lines.{text_line_of}
-use Rattle.certificate_text.specs.CertificateText.{TextLine, AreWhole, BeginCertificate, IsFaultAfter, text_of, whole_line}
+use Rattle.std.specs.Io.KnownBytes.{Consumes}
+use Rattle.model.specs.Task.{Task}
+use Rattle.certificate_text.specs.CertificateText.{TextLine, BeginCertificate, IsFaultAfter, text_of, whole_line}
 use Rattle.certificate_text.specs.CertificateChecking.{AreRight, IsLineFault, IsWrongAfter, not_fluent, repeated_atom, repeated_state, cut_not_allowed}
 use Rattle.certificate_text.proofs.Machine.{begins, stands}
 use Rattle.certificate_reader.specs.declared.reader.CertReader.{CertReader}
 use Rattle.certificate_reader.specs.declared.reader.CertFault.{CertFault}
 use Rattle.certificate_reader.specs.declared.reader.CertFault.TheVariants as cert
-use Rattle.certificate_reader.specs.declared.next.TextFault.{TextFault}
 use Rattle.certificate_reader.specs.declared.next.TextFault.TheVariants.{Form, Version, Truncated, Limit}
-use Rattle.certificate_reader.specs.Reader.{HasRead, IsAnswer, IsHandedOut, IsOver, IsToldOf, has_failed, lines_read, source_of, waits_in}
+use Rattle.certificate_reader.specs.Reader.{HasRead, IsAnswer, IsHandedOut, IsOver, has_failed, lines_read, source_of, waits_in}
 use Rattle.certificate_reader.specs.Stages.{place_of}
 use Rattle.certificate_reader.proofs.ReaderLemmas.{few_lines}
 use Rattle.certificate_listing.specs.declared.refusal.Refusal.{Refusal}
@@ -108,15 +103,20 @@ module _ {R : Type 0} (remaining : R → Option (List ℕ)) (first : CertReader 
       fault_told (cert.Line Limit line) (line_is, (bytes, consumed, told)) =
           subst (IsToldAt remaining task first next Exceeded) (sym line_is) (at.bytes ++ bytes, came bytes consumed, λ more. line_fault bytes more 55 (told more))
       fault_told (cert.Line Truncated line) (line_is, (bytes, consumed, at_end, told)) =
-          subst (IsToldAt remaining task first next CutShort) (sym line_is) (at.bytes ++ bytes, came bytes consumed, at_end, record {
-            before = lines;
-            bytes = waits_in now ++ bytes;
-            splits = ap (λ came. came ++ bytes) at.splits ∙ append_assoc (text_of lines) (waits_in now) bytes;
-            begins = have_begun;
-            right = right;
-            line_is = refl;
-            at_fault = inl told;
-          })
+          subst (IsToldAt remaining task first next CutShort) (sym line_is) (
+            at.bytes ++ bytes,
+            came bytes consumed,
+            at_end,
+            record {
+              before = lines;
+              bytes = waits_in now ++ bytes;
+              splits = ap (λ came. came ++ bytes) at.splits ∙ append_assoc (text_of lines) (waits_in now) bytes;
+              begins = have_begun;
+              right = right;
+              line_is = refl;
+              at_fault = inl told;
+            },
+          )
       fault_told cert.Device told = tt
       fault_told cert.NoMemory told = tt
       fault_told cert.Failed told = absurd told

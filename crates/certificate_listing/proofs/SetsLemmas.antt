@@ -1,14 +1,13 @@
 -- Rising numbers, and the sets of them.
-use Rattle.std.proofs.Common.{◌≡◌, ◌≢◌, ℕ, zero, suc, ◌+◌, ◌<◌, ◌≤◌, ◌⊎◌, inl, inr, Bool, true, false, cond, List, [], ◌∷◌, ◌++◌, map, length, Option, None, Some, refl, sym, ap, ◌∙◌, subst, arith}
-use Rattle.std.specs.Prelude.{IsTrue, ◌&&◌, ◌||◌, ◌==◌, nat_le, nat_lt, All, Contains}
+use Rattle.std.proofs.Common.{◌≡◌, ◌≢◌, ℕ, zero, suc, ◌+◌, ◌<◌, ◌≤◌, ◌⊎◌, inl, inr, Bool, true, false, cond, List, [], ◌∷◌, refl, sym, ap, ◌∙◌, subst, arith}
+use Rattle.std.specs.Prelude.{◌&&◌, ◌||◌, ◌==◌, nat_le, nat_lt, All}
 use Rattle.std.proofs.lemmas.List.Elements.{All-cons, All-nil}
 use Rattle.std.specs.List.{filter, list_any, range_with_len}
 use Rattle.std.proofs.lemmas.Bool.{and_parts, cases_eq, eq-eqb, le-leb, lt-ltb, leb-true, ltb-true, ne_eqb}
 use Rattle.packed_state.specs.Sets.{has, set_of}
 use Rattle.packed_state.proofs.PackedLemmas.{has-set_of, length-set_of}
-use Rattle.model.specs.Certificates.{StateLine, rise}
-use Rattle.model.proofs.ListLemmas.{map-Contains}
-use Rattle.certificate_listing.specs.Sets.{line_with, lines_with, marked, numbers_of}
+use Rattle.model.specs.Certificates.{rise}
+use Rattle.certificate_listing.specs.Sets.{numbers_of}
 
 -- whether the number is among these
 abbrev is_among : List ℕ → ℕ → Bool
@@ -56,8 +55,8 @@ left_of_range (suc len) from count (n ∷ numbers) all is =
         → (n ≡ from) ⊎ (n ≢ from) → filter (is_among (n ∷ numbers)) (range_with_len from (suc len)) ≡ n ∷ numbers
     by_place more parts (inl is_from) =
         let rest : filter (is_among (n ∷ numbers)) (range_with_len (from + 1) len) ≡ numbers =
-            filter_within (is_among (n ∷ numbers)) (is_among numbers) len (from + 1) (λ k above below i. ne_eqb n k (λ same. omega (arith, same, is_from, above)) i || is_among numbers k)
-            ∙ more numbers (subst (λ n. rise count (n + 1) numbers ≡ true) is_from parts.more) in
+        filter_within (is_among (n ∷ numbers)) (is_among numbers) len (from + 1) (λ k above below i. ne_eqb n k (λ same. omega (arith, same, is_from, above)) i || is_among numbers k)
+        ∙ more numbers (subst (λ n. rise count (n + 1) numbers ≡ true) is_from parts.more) in
         let here : (n == from) ≡ true = eq-eqb n from is_from in
         (λ i. cond (here i || is_among numbers from) (from ∷ filter (is_among (n ∷ numbers)) (range_with_len (from + 1) len)) (filter (is_among (n ∷ numbers)) (range_with_len (from + 1) len)))
         ∙ (λ i. sym is_from i ∷ rest i)

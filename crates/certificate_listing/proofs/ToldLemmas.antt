@@ -1,6 +1,6 @@
 -- What one line more tells.
-use Rattle.std.proofs.Common.{◌≡◌, ◌≢◌, ℕ, zero, suc, ◌+◌, ◌<◌, ◌≤◌, ◌⊎◌, inl, inr, ⊎_elim, Bool, true, false, List, [], ◌∷◌, ◌++◌, map, length, get_or, Option, None, Some, refl, sym, ap, ◌∙◌, subst, append_assoc, append-nil, true≢false, arith}
-use Rattle.std.specs.Prelude.{IsTrue, IsSome, ◌&&◌, All, AllPairs, Contains}
+use Rattle.std.proofs.Common.{◌≡◌, ◌≢◌, ℕ, ◌⊎◌, inl, inr, ⊎_elim, Bool, true, false, List, [], ◌∷◌, ◌++◌, None, Some, refl, sym, ap, ◌∙◌, subst, append_assoc, append-nil, true≢false, arith}
+use Rattle.std.specs.Prelude.{IsTrue, ◌&&◌, Contains}
 use Rattle.std.proofs.lemmas.List.Elements.{All-nil, All-push, Contains-push, Contains-push_cases, Contains-append_left, Contains-get_or}
 use Rattle.std.proofs.lemmas.List.Elements.{filter_map-append}
 use Rattle.std.proofs.lemmas.List.Quantifiers.{all_pairs_push}
@@ -9,11 +9,10 @@ use Rattle.model.specs.Task.{Atom, Task}
 use Rattle.model.specs.WellTyped.{is_atom}
 use Rattle.model.specs.Fluents.{is_fluent}
 use Rattle.model.specs.Claims.{Claim, bound, none}
-use Rattle.model.specs.Certificates.{StateLine}
 use Rattle.certificate_text.specs.CertificateText.{NamedAtom, TextLine, version, claims, constant, atom, listed, last, BeginCertificate, AreWhole}
 use Rattle.certificate_text.specs.CertificateNames.{AllName, Names}
 use Rattle.certificate_text.specs.CertificateMachine.{Place, at_version, at_claim, at_constant, in_body, ended, next_place, place_after}
-use Rattle.certificate_text.specs.CertificateChecking.{AreRight, IsWrongAfter, NamesFluent, ListsAtoms, not_fluent, repeated_atom, repeated_state, cut_not_allowed}
+use Rattle.certificate_text.specs.CertificateChecking.{AreRight, IsWrongAfter, not_fluent, repeated_atom, repeated_state, cut_not_allowed}
 use Rattle.certificate_text.proofs.Machine.{StandsBefore, never, stands, followed, place_of_beginning}
 use Rattle.certificate_listing.specs.Told.{HaveTold, atom_in, atoms_told, state_in, states_told}
 use Rattle.certificate_listing.proofs.NamesLemmas.{one_named, same_names}

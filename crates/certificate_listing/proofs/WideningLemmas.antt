@@ -1,9 +1,8 @@
 -- Sets under a greater width are those that they were, and as many.
-use Rattle.std.proofs.Common.{◌≡◌, ◌≢◌, ℕ, ◌+◌, ◌<◌, ◌≤◌, ◌⊎◌, inl, inr, Bool, true, false, List, [], ◌∷◌, ◌++◌, map, take, length, get_or, Option, None, Some, refl, sym, ap, ◌∙◌, subst, true≢false, arith}
+use Rattle.std.proofs.Common.{◌≡◌, ℕ, ◌+◌, ◌<◌, ◌≤◌, ◌⊎◌, inl, inr, Bool, true, false, List, [], ◌∷◌, ◌++◌, map, take, length, Some, refl, sym, ap, ◌∙◌, subst, arith}
 use Rattle.std.specs.Prelude.{IsTrue, All, Contains, slice_get}
-use Rattle.std.specs.List.{range_with_len}
 use Rattle.std.proofs.lemmas.Bool.{cases_lt}
-use Rattle.std.proofs.lemmas.List.{ext_get_or, get_or-take, length-take-le, map-append, take_more, length-map}
+use Rattle.std.proofs.lemmas.List.{ext_get_or, get_or-take, length-take-le, map-append, take_more}
 use Rattle.std.proofs.lemmas.List.Elements.{All-contains, All-push, All-take}
 use Rattle.std.proofs.lemmas.List.FromFn.{length-map-range_with_len, get_or-map-range_with_len}
 use Rattle.std.proofs.lemmas.Option.{slice_get-get_or, get_or_from_slice_get, slice_get_within}
@@ -60,7 +59,7 @@ module _ (width wide : ℕ) (sets : List (List Bool)) (distinct : AreDistinct se
   one_more_wide new place false (there, kept) =
       let (other, stands, same) = map-Contains (at_width wide) (take k sets) (at_width wide set) (Contains-got (map (at_width wide) (take k sets)) place (at_width wide set) there) in
       let is : other ≡ set = one_wide width wide other set (All-contains (λ (set : List Bool). length set ≡ width) (take k sets) other lengths stands) long
-          (below_there other stands) (below_at (Contains-got sets k set at)) same in
+      (below_there other stands) (below_at (Contains-got sets k set at)) same in
       absurd (not_before (subst (Contains (take k sets)) is stands))
     where
       below_at : {set : List Bool} → Contains sets set → IsBelow wide set

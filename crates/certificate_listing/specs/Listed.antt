@@ -1,5 +1,5 @@
 -- What lines of a certificate's text have listed.
-use Rattle.std.specs.Prelude.{◌≡◌, ◌≢◌, ℕ, ◌<◌, Bool, length, IsTrue, MatchBool, List, [], ◌∷◌, ◌++◌, map, All, Contains, None}
+use Rattle.std.specs.Prelude.{◌≡◌, ℕ, ◌<◌, Bool, length, IsTrue, MatchBool, List, [], ◌∷◌, ◌++◌, map, All, Contains, None}
 use Rattle.std.specs.List.{list_all}
 use Rattle.packed_state.specs.Sets.{set_of}
 use Rattle.model.specs.Claims.{Claim, none}

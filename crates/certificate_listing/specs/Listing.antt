@@ -1,5 +1,5 @@
 -- A listing as a certificate of its task.
-use Rattle.std.specs.Prelude.{ℕ, Bool, List, map}
+use Rattle.std.specs.Prelude.{List, map}
 use Rattle.typing.specs.declared.atoms.Atom.{Atom}
 use Rattle.typing.specs.TaskParts.{atom_of}
 use Rattle.packed_state.specs.declared.pooled.PooledStore.{PooledStore}

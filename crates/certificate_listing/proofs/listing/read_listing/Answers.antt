@@ -1,4 +1,4 @@
-use Rattle.std.proofs.Common.{◌≡◌, ◌+◌, ◌<◌, ◌-◌, List, ◌∷◌, ◌++◌, [], map, length, Some, None, refl, sym, ap, ◌∙◌, subst, arith}
+use Rattle.std.proofs.Common.{◌+◌, ◌<◌, ◌-◌, ◌∷◌, ◌++◌, [], map, sym, ◌∙◌, subst, arith}
 use Rattle.std.proofs.lemmas.List.{length-map}
 use Rattle.faults.proofs.Results.{passed_on}
 use Rattle.typing.specs.Task.{task_of}
@@ -18,7 +18,7 @@ use Rattle.certificate_listing.proofs.listing.read_listing.Goals as goal
 pub overflow_cast-len : goal.overflow_cast-len
 overflow_cast-len g c =
     let few = few_begun g.R.Source.remaining (task_of c.args.task.now) c.args.reader.now c.read_beginning.new.reader (claim_of c.in_ok-beginning.beginning.claim)
-        (map atom_of c.in_ok-beginning.beginning.atoms.keys) c.in_ok-beginning.next c.in_ok-beginning.ensures.begun in
+    (map atom_of c.in_ok-beginning.beginning.atoms.keys) c.in_ok-beginning.next c.in_ok-beginning.ensures.begun in
     omega (arith, few, c.len.ensures.len, length-map c.in_ok-beginning.beginning.atoms.keys atom_of)
 
 pub take_line-requires : goal.take_line-requires

@@ -1,4 +1,4 @@
-use Rattle.std.proofs.Common.{length, sym, ap, ◌∙◌}
+use Rattle.std.proofs.Common.{length, ap, ◌∙◌}
 use Rattle.packed_state.specs.Packed.{bits_of}
 use Rattle.packed_state.specs.Sets.{set_of}
 use Rattle.packed_state.specs.PooledView.{pooled_states, pooled_width}

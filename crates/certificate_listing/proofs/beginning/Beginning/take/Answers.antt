@@ -1,4 +1,4 @@
-use Rattle.std.proofs.Common.{◌≡◌, ◌+◌, List, [], ◌∷◌, ◌++◌, map, length, Option, None, Some, refl, sym, subst, ⊎_elim}
+use Rattle.std.proofs.Common.{◌≡◌, ◌+◌, List, [], ◌∷◌, ◌++◌, map, length, None, refl, sym, subst, ⊎_elim}
 use Rattle.faults.proofs.Results.{passed_on}
 use Rattle.typing.specs.Task.{task_of}
 use Rattle.typing.specs.TaskParts.{atom_of}
@@ -16,7 +16,7 @@ returns-in-Head-clause-taken c =
     let claim = claim_of c.args.self.now.claim in
     let atoms = map atom_of c.args.self.now.atoms.keys in
     let Takes : CertLine → Type 0 = λ line. (before : List TextLine) → BeginCertificate (before ++ text_line_of line ∷ []) → HaveTold task before claim atoms
-        → HaveTold task (before ++ text_line_of line ∷ []) claim atoms × (state_in (text_line_of line) ≡ None) in
+    → HaveTold task (before ++ text_line_of line ∷ []) claim atoms × (state_in (text_line_of line) ≡ None) in
     ⊎_elim (λ is. subst Takes (sym is) (λ before begun told. (told_version task before claim atoms told, refl)))
     (λ is. subst Takes (sym is) (λ before begun told. (told_constant task before claim atoms told, refl))) c.in-Head.is
 
