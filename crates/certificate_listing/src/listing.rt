@@ -21,9 +21,25 @@ use typing::{Atom, Task};
 /// A certificate of a task: its claim, its atoms, and the states that it lists, as sets of the numbers of its atoms.
 #[derive(Drop)]
 pub struct Listing {
-    pub(crate) claim: Claim,
-    pub(crate) atoms: IndexSet<Atom>,
-    pub(crate) states: States,
+    claim: Claim,
+    atoms: IndexSet<Atom>,
+    states: States,
+}
+
+impl Listing {
+    /// What it claims of all plans.
+    pub fn claim(&self) -> Claim
+        ensures { claim_of result ≡ (certificate_in self.now).claim }
+    {
+        self.claim
+    }
+
+    /// Its atoms, which its states name by their places here, from 0.
+    pub fn atoms(&self) -> &[Atom]
+        ensures { map atom_of result.now ≡ (certificate_in self.now).atoms }
+    {
+        self.atoms.as_slice()
+    }
 }
 
 /// Reads a certificate, and keeps of each line what it says of the task.
