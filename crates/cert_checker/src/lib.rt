@@ -5,5 +5,6 @@
 mod check;
 mod laws;
 
-pub use check::{Accepted, Refusal, RefusalCode, check_cert};
+pub use certificate_listing::{Refusal, RefusalCode};
+pub use check::{Accepted, check};
 pub use laws::{closed_claim_holds, examples_are_judged, solving_list_stays_listed};
