@@ -1,6 +1,6 @@
 //! The checker of certificates: it accepts exactly where the text is that of a certificate that is closed for the task,
 //! and then its claim is true of every plan.
-ghost use Rattle.std.specs.Prelude.{◌≡◌, ℕ, List, Some, IsTrue, IfErr, IfOk};
+ghost use Rattle.std.specs.Prelude.{◌≡◌, ℕ, List, Some, None, IsTrue, IfErr, IfOk, OnOk, length};
 ghost use Rattle.std.specs.List.{list_all};
 ghost use Rattle.std.specs.Option.{ForSome, option_map};
 ghost use Rattle.typing.specs.Task.{task_of};
@@ -9,14 +9,20 @@ ghost use Rattle.model.specs.Meaning.{is_instance};
 ghost use Rattle.certificate_text.specs.CertificateChecking.{IsAccepted};
 ghost use Rattle.certificate_reader.specs.Reader.{source_of};
 ghost use Rattle.certificate_listing.specs.Reading.{CountsRefusal, IsFresh};
-ghost use Rattle.cert_checker.specs.CertChecker.{IsNoFault, IsShown};
+ghost use Rattle.certificate_listing.specs.Listing.{certificate_in};
+ghost use Rattle.model.specs.Limits.{max_numbered_atoms};
+ghost use Rattle.model.specs.Grounding.{limit_told};
+ghost use Rattle.model.specs.Certificates.{IsClosedFor, lines_of};
+ghost use Rattle.cert_checker.specs.FluentAtoms.{AreFluent};
+ghost use Rattle.cert_checker.specs.CheckedLines.{CutsAreAllowed};
+ghost use Rattle.cert_checker.specs.CertChecker.{Answers, IsFirstRefusal, IsNoFault, IsShown, IsTrueRefusal};
 ghost use Rattle.cert_checker.specs.Checking.{Accepts, Refuses};
 
 mod answer;
 mod packed;
 mod steps;
 
-use certificate_listing::{Refusal, read_listing};
+use certificate_listing::{Listing, Refusal, read_listing};
 use certificate_reader::CertReader;
 use devices::Source;
 use formulas::Plan;
@@ -74,6 +80,28 @@ pub fn check<R: Source>(
     ensures failures { CountsRefusal (R.failures (source_of reader.old)) (R.failures (source_of reader.new)) result }
 {
     let listing = read_listing(alloc, task, reader)?;
+    judge(alloc, task, listing, plan, max_instances)
+}
+
+/// Decides whether a certificate none of whose lines is at fault is closed for the task, and whether the plan, if one is
+/// handed in, solves the task at a cost of at most the claim's.
+fn judge(
+    alloc: Global,
+    task: &Task,
+    listing: Listing,
+    plan: Option<&Plan>,
+    max_instances: u32,
+) -> Result<Accepted, Refusal>
+    requires instances { ForSome plan (λ p. IsTrue (list_all (is_instance (task_of task.now)) (plan_of p.now))) }
+    requires fluent { AreFluent (task_of task.now) (certificate_in listing).atoms }
+    requires allowed { CutsAreAllowed (task_of task.now) (certificate_in listing) (length (lines_of (task_of task.now) (certificate_in listing))) }
+    ensures shown { IfOk result (IsShown (task_of task.now) (option_map (λ p. plan_of p.now) plan.entry)) }
+    ensures closed { OnOk result (IsClosedFor (task_of task.now) (certificate_in listing)) }
+    ensures answers { IfOk result (Answers (certificate_in listing).claim (option_map (λ p. plan_of p.now) plan.entry)) }
+    ensures within { OnOk result (limit_told max_instances max_numbered_atoms (task_of task.now) (certificate_in listing).atoms ≡ None) }
+    ensures refused { IfErr result (IsTrueRefusal (task_of task.now) (certificate_in listing) (option_map (λ p. plan_of p.now) plan.entry) max_instances) }
+    ensures first { IfErr result (IsFirstRefusal (task_of task.now) (certificate_in listing) (option_map (λ p. plan_of p.now) plan.entry) max_instances) }
+{
     let claim = listing.claim();
     steps::check_listing(alloc, task, listing, max_instances)?;
     answer::answer(alloc, task, claim, plan)

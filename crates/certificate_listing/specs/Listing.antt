@@ -18,3 +18,7 @@ certificate_with claim atoms marks sets = record { claim = claim_of claim; atoms
 
 abbrev pub certificate_in : Listing → Certificate
 certificate_in listing = certificate_with listing.claim listing.atoms.keys listing.states.marks.items listing.states.sets
+
+-- the sets that its states are, and what they are of
+abbrev pub store_in : Listing → PooledStore
+store_in listing = listing.states.sets

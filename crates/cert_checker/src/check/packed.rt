@@ -1,53 +1,40 @@
 //! A certificate's listing in the ground task.
 ghost use Rattle.std.proofs.Props.{props};
 ghost use Rattle.grounding.specs.Ground.{task_in, atoms_in};
-ghost use Rattle.certificate.specs.Certificate.{certificate_of};
+ghost use Rattle.certificate_listing.specs.Listing.{certificate_in, store_in};
 ghost use Rattle.cert_checker.specs.PackedLines.{IsPackedListing};
 
-use crate::check::Refusal;
-use crate::check::listing::packed_lines;
-use certificate::Cert;
+use certificate_listing::Listing;
 use grounding::Ground;
-use packed_state::{Packed, PooledStore, StateStore};
-use std::alloc::Global;
+use packed_state::{Packed, StateStore};
 
-/// A certificate with the states that its lines list, packed, of a ground task in which the certificate's atoms have
-/// the first numbers.
+/// A certificate of a ground task in which the certificate's atoms have the first numbers, with its states packed as the
+/// ground task's are.
 #[derive(Drop)]
 pub(super) struct PackedListing<'a, 't> {
     pub(super) grounded: &'a Ground<'t>,
-    pub(super) cert: &'a Cert,
-    states: PooledStore,
-    ghost listed: { IsPackedListing (task_in grounded.now) (atoms_in grounded.now) (certificate_of cert.now) states } by { Prim.hlevel props },
+    pub(super) listing: &'a Listing,
+    ghost listed: { IsPackedListing (task_in grounded.now) (atoms_in grounded.now) (certificate_in listing.now) (store_in listing.now) } by { Prim.hlevel props },
 }
 
 impl<'a, 't> PackedListing<'a, 't> {
-    ghost use Rattle.std.specs.Prelude.{◌≡◌, ℕ, ◌<◌, IfErr, IfOk, MatchOption, Option, length};
+    ghost use Rattle.std.specs.Prelude.{◌≡◌, ℕ, ◌<◌, MatchOption, Option, length};
+    ghost use Rattle.packed_state.specs.PooledView.{pooled_width};
     ghost use Rattle.cert_checker.specs.FluentAtoms.{AreFluent};
-    ghost use Rattle.cert_checker.specs.CheckedLines.{HasCost, IsFirstAnyway, IsListedAt, IsTrueAnyway, Stands};
+    ghost use Rattle.cert_checker.specs.CheckedLines.{HasCost, IsListedAt, Stands};
     ghost use Rattle.cert_checker.specs.PackedListing.{task_at, certificate_at, state_at, IsPacked};
     ghost use Rattle.model.specs.NumberedAtoms.{numbered_atoms};
     ghost use Rattle.model.specs.Certificates.{lines_of};
     ghost use Rattle.model.specs.CertificateRefusals.{IsListed};
 
     /// That of the certificate.
-    pub(super) fn new(
-        alloc: Global,
-        grounded: &'a Ground<'t>,
-        cert: &'a Cert,
-    ) -> Result<PackedListing<'a, 't>, Refusal>
-        requires fluent { AreFluent (task_in grounded.now) (certificate_of cert.now).atoms }
-        requires numbered { atoms_in grounded.now ≡ numbered_atoms (task_in grounded.now) (certificate_of cert.now).atoms }
-        ensures same { IfOk result (λ listing. (task_at listing ≡ task_in grounded.now) × (certificate_at listing ≡ certificate_of cert.now)) }
-        ensures wrong { IfErr result (IsTrueAnyway (task_in grounded.now) (certificate_of cert.now)) }
-        ensures first { IfErr result (IsFirstAnyway (task_in grounded.now) (certificate_of cert.now)) }
+    pub(super) fn new(grounded: &'a Ground<'t>, listing: &'a Listing) -> PackedListing<'a, 't>
+        requires fluent { AreFluent (task_in grounded.now) (certificate_in listing.now).atoms }
+        requires numbered { atoms_in grounded.now ≡ numbered_atoms (task_in grounded.now) (certificate_in listing.now).atoms }
+        requires width { pooled_width (store_in listing.now) ≡ length (atoms_in grounded.now) }
+        ensures same { (task_at result ≡ task_in grounded.now) × (certificate_at result ≡ certificate_in listing.now) }
     {
-        let states = packed_lines(alloc, cert, grounded.width())?;
-        Ok(PackedListing {
-            grounded,
-            cert,
-            states,
-        })
+        PackedListing { grounded, listing }
     }
 
     /// Copies the state that the line at this place lists.
@@ -58,7 +45,7 @@ impl<'a, 't> PackedListing<'a, 't> {
         ensures state { (cost : ℕ) (cut : Option ℕ) → HasCost (certificate_at self.now) place cost cut
             → Stands (task_at self.now) (certificate_at self.now) place (state_at self.now into.new) cost cut }
     {
-        self.states.get(place as u32, into);
+        self.listing.sets().get(place as u32, into);
     }
 
     /// The cost at which the state is listed, if it is.
@@ -68,8 +55,8 @@ impl<'a, 't> PackedListing<'a, 't> {
             (¬ IsListed (lines_of (task_at self.now) (certificate_at self.now)) (state_at self.now state.now))
             (IsListedAt (lines_of (task_at self.now) (certificate_at self.now)) (state_at self.now state.now)) }
     {
-        match self.states.find(state) {
-            Some(place) => Some(self.cert.lines()[place as usize].cost),
+        match self.listing.sets().find(state) {
+            Some(place) => Some(self.listing.marks()[place as usize].cost),
             None => None,
         }
     }

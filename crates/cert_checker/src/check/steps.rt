@@ -4,7 +4,7 @@ ghost use Rattle.typing.specs.Task.{task_of};
 ghost use Rattle.packed_state.specs.Packed.{bits_of};
 ghost use Rattle.grounding.specs.Ground.{IsGroundOf};
 ghost use Rattle.certificate_lines.specs.Lines.{claim_of};
-ghost use Rattle.certificate.specs.Certificate.{certificate_of};
+ghost use Rattle.certificate_listing.specs.Listing.{certificate_in};
 ghost use Rattle.cert_checker.specs.CertChecker.{IsFirstRefusal, IsTrueRefusal};
 ghost use Rattle.cert_checker.specs.FluentAtoms.{AreFluent};
 ghost use Rattle.cert_checker.specs.CheckedLines.{CutsAreAllowed, IsCutClosed, IsLineClosed, IsOpenClosed, IsRightUpTo, IsTrueAnyway, Stands};
@@ -17,11 +17,12 @@ ghost use Rattle.model.specs.Claims.{Allows, IsListedWithin};
 ghost use Rattle.model.specs.Limits.{max_numbered_atoms};
 ghost use Rattle.model.specs.Grounding.{applicable_numbers, limit_told};
 ghost use Rattle.model.specs.Certificates.{lines_of, value_of};
+ghost use Rattle.model.specs.CertificateRefusals.{state_line};
+ghost use Rattle.certificate_listing.specs.declared.refusal.Refusal.TheVariants as Refusal;
 
-use crate::check::code::RefusalCode;
 use crate::check::packed::PackedListing;
-use crate::check::{Refusal, state_line};
-use certificate::{Cert, Claim};
+use certificate_lines::Claim;
+use certificate_listing::{Listing, Refusal, RefusalCode};
 use grounding::{Ground, GroundFault};
 use packed_state::Packed;
 use std::alloc::Global;
@@ -32,18 +33,19 @@ use typing::Task;
 pub(super) fn check_listing(
     alloc: Global,
     task: &Task,
-    cert: &Cert,
+    listing: Listing,
     max_instances: u32,
 ) -> Result<(), Refusal>
-    requires atoms { AreFluent (task_of task.now) (certificate_of cert.now).atoms }
-    requires distinct { AllPairs (λ (k l : claims.Line meaning.State). k.state ≢ l.state) (lines_of (task_of task.now) (certificate_of cert.now)) }
-    requires allowed { CutsAreAllowed (task_of task.now) (certificate_of cert.now) (length (lines_of (task_of task.now) (certificate_of cert.now))) }
-    ensures right { OnOk result (IsRightUpTo (task_of task.now) (certificate_of cert.now) max_instances (length (lines_of (task_of task.now) (certificate_of cert.now)))) }
-    ensures wrong { IfErr result (λ e. (plan : Option (List model_task.Instance)) → IsTrueRefusal (task_of task.now) (certificate_of cert.now) plan max_instances e) }
-    ensures first { IfErr result (λ e. (plan : Option (List model_task.Instance)) → IsFirstRefusal (task_of task.now) (certificate_of cert.now) plan max_instances e) }
+    requires atoms { AreFluent (task_of task.now) (certificate_in listing).atoms }
+    requires distinct { AllPairs (λ (k l : claims.Line meaning.State). k.state ≢ l.state) (lines_of (task_of task.now) (certificate_in listing)) }
+    requires allowed { CutsAreAllowed (task_of task.now) (certificate_in listing) (length (lines_of (task_of task.now) (certificate_in listing))) }
+    ensures right { OnOk result (IsRightUpTo (task_of task.now) (certificate_in listing) max_instances (length (lines_of (task_of task.now) (certificate_in listing)))) }
+    ensures wrong { IfErr result (λ e. (plan : Option (List model_task.Instance)) → IsTrueRefusal (task_of task.now) (certificate_in listing) plan max_instances e) }
+    ensures first { IfErr result (λ e. (plan : Option (List model_task.Instance)) → IsFirstRefusal (task_of task.now) (certificate_in listing) plan max_instances e) }
 {
-    let grounded = ground_task(alloc, task, cert, max_instances)?;
-    let listing = PackedListing::new(alloc, &grounded, cert)?;
+    let grounded = ground_task(alloc, task, &listing, max_instances)?;
+    let listing = listing.at_width(alloc, grounded.width())?;
+    let listing = PackedListing::new(&grounded, &listing);
     check_initial(alloc, &listing)?;
     check_lines(alloc, &listing)
 }
@@ -52,17 +54,17 @@ pub(super) fn check_listing(
 fn ground_task<'t>(
     alloc: Global,
     task: &'t Task,
-    cert: &Cert,
+    listing: &Listing,
     max_instances: u32,
 ) -> Result<Ground<'t>, Refusal>
-    requires atoms { AreFluent (task_of task.now) (certificate_of cert.now).atoms }
-    requires distinct { AllPairs (λ (k l : claims.Line meaning.State). k.state ≢ l.state) (lines_of (task_of task.now) (certificate_of cert.now)) }
-    requires allowed { CutsAreAllowed (task_of task.now) (certificate_of cert.now) (length (lines_of (task_of task.now) (certificate_of cert.now))) }
-    ensures right { IfOk result (IsGroundOf (task_of task.now) (certificate_of cert.now).atoms max_instances) }
-    ensures wrong { IfErr result (λ e. (plan : Option (List model_task.Instance)) → IsTrueRefusal (task_of task.now) (certificate_of cert.now) plan max_instances e) }
-    ensures first { IfErr result (λ e. (plan : Option (List model_task.Instance)) → IsFirstRefusal (task_of task.now) (certificate_of cert.now) plan max_instances e) }
+    requires atoms { AreFluent (task_of task.now) (certificate_in listing.now).atoms }
+    requires distinct { AllPairs (λ (k l : claims.Line meaning.State). k.state ≢ l.state) (lines_of (task_of task.now) (certificate_in listing.now)) }
+    requires allowed { CutsAreAllowed (task_of task.now) (certificate_in listing.now) (length (lines_of (task_of task.now) (certificate_in listing.now))) }
+    ensures right { IfOk result (IsGroundOf (task_of task.now) (certificate_in listing.now).atoms max_instances) }
+    ensures wrong { IfErr result (λ e. (plan : Option (List model_task.Instance)) → IsTrueRefusal (task_of task.now) (certificate_in listing.now) plan max_instances e) }
+    ensures first { IfErr result (λ e. (plan : Option (List model_task.Instance)) → IsFirstRefusal (task_of task.now) (certificate_in listing.now) plan max_instances e) }
 {
-    match Ground::new(alloc, task, cert.atoms(), max_instances) {
+    match Ground::new(alloc, task, listing.atoms(), max_instances) {
         Ok(grounded) => Ok(grounded),
         Err(GroundFault::At(_)) => Err(Refusal::Plain(RefusalCode::Limit)),
         Err(GroundFault::NoMemory) => Err(Refusal::NoMemory),
@@ -97,7 +99,7 @@ fn check_lines(alloc: Global, listing: &PackedListing) -> Result<(), Refusal>
     let mut state = Packed::empty(alloc, width)?;
     let mut next = Packed::empty(alloc, width)?;
     let mut numbers = Vec::new(alloc);
-    for place in 0..listing.cert.lines().len() {
+    for place in 0..listing.listing.marks().len() {
         check_line(listing, place, &mut state, &mut next, &mut numbers)?;
     }
     Ok(())
@@ -122,11 +124,11 @@ fn check_line(
     ensures first { IfErr result (λ e. (plan : Option (List model_task.Instance)) (most : ℕ) → IsRightUpTo (task_at listing.now) (certificate_at listing.now) most place
         → IsFirstRefusal (task_at listing.now) (certificate_at listing.now) plan most e) }
 {
-    let line = &listing.cert.lines()[place];
+    let mark = listing.listing.marks()[place];
     listing.get(place, state);
-    match line.cut {
-        None => check_open(listing, place, line.cost, state, next, numbers),
-        Some(rest) => check_cut(listing, place, line.cost, rest, state),
+    match mark.cut {
+        None => check_open(listing, place, mark.cost, state, next, numbers),
+        Some(rest) => check_cut(listing, place, mark.cost, rest, state),
     }
 }
 
@@ -170,8 +172,8 @@ fn check_goal(
     ensures first { IfErr result (λ e. (plan : Option (List model_task.Instance)) (most : ℕ) → IsRightUpTo (task_at listing.now) (certificate_at listing.now) most place
         → IsFirstRefusal (task_at listing.now) (certificate_at listing.now) plan most e) }
 {
-    if listing.grounded.meets_goal(state) && !allows(listing.cert.claim(), cost) {
-        Err(state_line(RefusalCode::GoalOpen, listing.cert, place))
+    if listing.grounded.meets_goal(state) && !allows(listing.listing.claim(), cost) {
+        Err(state_line(RefusalCode::GoalOpen, listing.listing, place))
     } else {
         Ok(())
     }
@@ -203,10 +205,10 @@ fn check_successors(
     for &number in numbers {
         listing.grounded.successor(number, state, next);
         let Some(listed) = listing.cost_of(next) else {
-            return Err(state_line(RefusalCode::SuccessorMissing, listing.cert, place));
+            return Err(state_line(RefusalCode::SuccessorMissing, listing.listing, place));
         };
         if listed > cost + u64::from(listing.grounded.cost(number)) {
-            return Err(state_line(RefusalCode::SuccessorDearer, listing.cert, place));
+            return Err(state_line(RefusalCode::SuccessorDearer, listing.listing, place));
         }
     }
     Ok(())
@@ -229,10 +231,10 @@ fn check_cut(
     ensures first { IfErr result (λ e. (plan : Option (List model_task.Instance)) (most : ℕ) → IsRightUpTo (task_at listing.now) (certificate_at listing.now) most place
         → IsFirstRefusal (task_at listing.now) (certificate_at listing.now) plan most e) }
 {
-    if rest <= value(listing, state) && allows(listing.cert.claim(), cost + rest) {
+    if rest <= value(listing, state) && allows(listing.listing.claim(), cost + rest) {
         Ok(())
     } else {
-        Err(state_line(RefusalCode::CutWeak, listing.cert, place))
+        Err(state_line(RefusalCode::CutWeak, listing.listing, place))
     }
 }
 
@@ -250,5 +252,16 @@ fn allows(claim: Claim, cost: u64) -> bool
     match claim {
         Claim::Bound(least) => least <= cost,
         Claim::Unsolvable => false,
+    }
+}
+
+/// The refusal of the state line at this place, from 0, by its line.
+fn state_line(code: RefusalCode, listing: &Listing, place: usize) -> Refusal
+    requires { place < length (certificate_in listing.now).lines }
+    ensures { result ≡ Refusal.Line code (state_line (certificate_in listing.now) place) }
+{
+    Refusal::Line {
+        code,
+        line: 4 + listing.atoms().len() as u64 + place as u64,
     }
 }

@@ -9,7 +9,7 @@ use Rattle.model.specs.CertificateRefusals.{plan_dearer, IsFirst}
 use Rattle.model.specs.Meaning.{system_of}
 use Rattle.model.specs.Claims.{bound, ClaimHolds}
 use Rattle.cert_checker.proofs.AnswerLemmas.{claimed_cost, optimal, unsolved}
-use Rattle.certificate.specs.Certificate.{certificate_of}
+use Rattle.certificate_lines.specs.Lines.{claim_of}
 use Rattle.cert_checker.proofs.OrderLemmas.{first_invalid, first_dearer}
 use Rattle.cert_checker.proofs.check.answer.answer.Goals as goal
 

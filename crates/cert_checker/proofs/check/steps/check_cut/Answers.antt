@@ -1,7 +1,7 @@
 use Rattle.std.proofs.Common.{◌+◌, inl, inr, refl, arith}
 use Rattle.certificate_lines.specs.Lines.{claim_of}
 use Rattle.cert_checker.specs.PackedListing.{task_at, certificate_at, state_at}
-use Rattle.cert_checker.specs.declared.check.code.RefusalCode.TheVariants.{CutWeak}
+use Rattle.certificate_listing.specs.declared.refusal.RefusalCode.TheVariants.{CutWeak}
 use Rattle.model.specs.CertificateRefusals.{cut_weak, state_line}
 use Rattle.cert_checker.proofs.OrderLemmas.{first_in_line}
 use Rattle.cert_checker.proofs.FirstLemmas.{told_first}

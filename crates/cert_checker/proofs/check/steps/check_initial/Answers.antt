@@ -13,7 +13,7 @@ returns-then-eq-clause-right c =
     let listing = c.args.listing.now in
     let task = task_at listing in
     listed_at_none (lines_of task (certificate_at listing)) (state_at listing c.in_ok-initial.initial) (initial_state task) c.cost_of.result c.cost_of.ensures c.if-eq.ensures
-    (initial_there task (atoms_at listing) (certificate_at listing) listing.states listing.listed (bits_of c.in_ok-initial.initial) c.in_ok-initial.ensures)
+    (initial_there task (atoms_at listing) (certificate_at listing) (store_in listing.listing.now) listing.listed (bits_of c.in_ok-initial.initial) c.in_ok-initial.ensures)
 
 pub returns-clause-wrong : goal.returns-clause-wrong
 returns-clause-wrong c =
@@ -21,8 +21,8 @@ returns-clause-wrong c =
     let listing = c.args.listing.now in
     let task = task_at listing in
     not_listed_at_none (lines_of task (certificate_at listing)) (state_at listing c.in_ok-initial.initial) (initial_state task) c.cost_of.result
-    (listed_apart task (atoms_at listing) (certificate_at listing) listing.states listing.listed) c.cost_of.ensures c.if-eq.ensures
-    (initial_there task (atoms_at listing) (certificate_at listing) listing.states listing.listed (bits_of c.in_ok-initial.initial) c.in_ok-initial.ensures)
+    (listed_apart task (atoms_at listing) (certificate_at listing) (store_in listing.listing.now) listing.listed) c.cost_of.ensures c.if-eq.ensures
+    (initial_there task (atoms_at listing) (certificate_at listing) (store_in listing.listing.now) listing.listed (bits_of c.in_ok-initial.initial) c.in_ok-initial.ensures)
 
 pub returns-clause-first : goal.returns-clause-first
 returns-clause-first c =
@@ -30,4 +30,4 @@ returns-clause-first c =
     let listing = c.args.listing.now in
     let task = task_at listing in
     let cert = certificate_at listing in
-    first_initial task cert plan most (atoms_right task cert listing.listed.fluent) (states_right_all task cert (listed_apart task (atoms_at listing) cert listing.states listing.listed) allowed) within
+    first_initial task cert plan most (atoms_right task cert listing.listed.fluent) (states_right_all task cert (listed_apart task (atoms_at listing) cert (store_in listing.listing.now) listing.listed) allowed) within

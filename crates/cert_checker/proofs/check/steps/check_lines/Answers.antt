@@ -10,6 +10,7 @@ use Rattle.faults.proofs.Results.{passed_on}
 use Rattle.cert_checker.proofs.FirstLemmas.{right_to_line}
 use Rattle.cert_checker.proofs.CertCheckerLemmas.{lines_within}
 use Rattle.cert_checker.proofs.PackedLinesLemmas.{length-set_of}
+use Rattle.cert_checker.proofs.RefusalsLemmas.{as_many_marks}
 use Rattle.cert_checker.proofs.check.steps.check_lines.Goals as goal
 
 pub loop-place-init : goal.loop-place-init
@@ -32,7 +33,8 @@ loop-place-preserved c = record {
 
 pub returns-clause-right : goal.returns-clause-right
 returns-clause-right c = λ k line at.
-    c.loop-place.invariant.closed k line (omega (arith, lines_within (task_at c.args.listing.now) (certificate_at c.args.listing.now) c.lines-place-end.result.now k line c.lines-place-end.ensures.lines at)) at
+    let cert = certificate_at c.args.listing.now in
+    c.loop-place.invariant.closed k line (omega (arith, c.loop-place-test.false, lines_within (task_at c.args.listing.now) cert k line at, as_many_marks cert c.marks-place-end.result.now c.marks-place-end.ensures)) at
 
 pub returns-in_err-check_line-clause-first : goal.returns-in_err-check_line-clause-first
 returns-in_err-check_line-clause-first c =

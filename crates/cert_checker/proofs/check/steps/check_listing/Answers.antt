@@ -2,7 +2,7 @@ use Rattle.std.proofs.Common.{◌≡◌, ◌∙◌, ℕ, List, Option, None, Som
 use Rattle.std.specs.Prelude.{slice_get, IfErr, OnOk}
 use Rattle.std.proofs.lemmas.Result.{IfErr-weaker, on_ok_weaker}
 use Rattle.typing.specs.Task.{task_of}
-use Rattle.certificate.specs.Certificate.{certificate_of}
+use Rattle.certificate_listing.specs.Listing.{certificate_in}
 use Rattle.faults.proofs.Results.{passed_on}
 use Rattle.model.specs.Task.{Task, Instance}
 use Rattle.model.specs.Meaning.{State, system_of}
@@ -24,7 +24,7 @@ along P t u k c same_task same_cert p = subst (P u) same_cert (subst (λ s. P s 
 pub returns-in_err-listing-clause-wrong : goal.returns-in_err-listing-clause-wrong
 returns-in_err-listing-clause-wrong c =
     let task = task_of c.args.task.now in
-    let cert = certificate_of c.args.cert.now in
+    let cert = certificate_in c.args.listing in
     let most = c.args.max_instances in
     let e = c.in_err-listing.field-0.0 in
     passed_on (λ e. (plan : Option (List Instance)) → IsTrueRefusal task cert plan most e) c.from_residual-in_err-listing.result e c.from_residual-in_err-listing.ensures.1
@@ -33,7 +33,7 @@ returns-in_err-listing-clause-wrong c =
 pub returns-in_err-listing-clause-first : goal.returns-in_err-listing-clause-first
 returns-in_err-listing-clause-first c =
     let task = task_of c.args.task.now in
-    let cert = certificate_of c.args.cert.now in
+    let cert = certificate_in c.args.listing in
     let most = c.args.max_instances in
     let e = c.in_err-listing.field-0.0 in
     passed_on (λ e. (plan : Option (List Instance)) → IsFirstRefusal task cert plan most e) c.from_residual-in_err-listing.result e c.from_residual-in_err-listing.ensures.1
@@ -42,7 +42,7 @@ returns-in_err-listing-clause-first c =
 pub returns-in_err-check_initial-clause-wrong : goal.returns-in_err-check_initial-clause-wrong
 returns-in_err-check_initial-clause-wrong c =
     let task = task_of c.args.task.now in
-    let cert = certificate_of c.args.cert.now in
+    let cert = certificate_in c.args.listing in
     let listing = c.in_ok-listing.listing in
     let most = c.args.max_instances in
     let e = c.in_err-check_initial.field-0.0 in
@@ -53,7 +53,7 @@ returns-in_err-check_initial-clause-wrong c =
 pub returns-in_err-check_initial-clause-first : goal.returns-in_err-check_initial-clause-first
 returns-in_err-check_initial-clause-first c =
     let task = task_of c.args.task.now in
-    let cert = certificate_of c.args.cert.now in
+    let cert = certificate_in c.args.listing in
     let listing = c.in_ok-listing.listing in
     let most = c.args.max_instances in
     let e = c.in_err-check_initial.field-0.0 in
@@ -64,10 +64,10 @@ returns-in_err-check_initial-clause-first c =
     c.in_err-check_initial.ensures.first c.requires.allowed plan most c.in_ok-grounded.ensures.right.within)
 
 -- all is right up to the first state line
-begun : (c : In_ok-check_initial) → IsRightUpTo (task_of c.args.task.now) (certificate_of c.args.cert.now) c.args.max_instances 0
+begun : (c : In_ok-check_initial) → IsRightUpTo (task_of c.args.task.now) (certificate_in c.args.listing) c.args.max_instances 0
 begun c =
     let task = task_of c.args.task.now in
-    let cert = certificate_of c.args.cert.now in
+    let cert = certificate_in c.args.listing in
     let listing = c.in_ok-listing.listing in
     right_from task cert c.args.max_instances c.requires.distinct c.requires.atoms c.requires.allowed c.in_ok-grounded.ensures.right.within
     (along (λ t k. IsListedWithin (lines_of t k) (system_of t).initial 0) (task_at listing) task (certificate_at listing) cert (c.in_ok-listing.ensures.same.0 ∙ c.in_ok-grounded.ensures.right.task)
@@ -76,7 +76,7 @@ begun c =
 pub returns-clause-right : goal.returns-clause-right
 returns-clause-right c =
     let task = task_of c.args.task.now in
-    let cert = certificate_of c.args.cert.now in
+    let cert = certificate_in c.args.listing in
     let listing = c.in_ok-listing.listing in
     on_ok_weaker c.check_lines.result
     (λ closed. right_to_line task cert c.args.max_instances (length (lines_of task cert)) (begun (goal.at.returns-clause-right c).In_ok-check_initial) (λ place line lt at. closed place line at))
@@ -86,7 +86,7 @@ returns-clause-right c =
 pub returns-clause-first : goal.returns-clause-first
 returns-clause-first c =
     let task = task_of c.args.task.now in
-    let cert = certificate_of c.args.cert.now in
+    let cert = certificate_in c.args.listing in
     let listing = c.in_ok-listing.listing in
     let most = c.args.max_instances in
     IfErr-weaker c.check_lines.result (λ e. (plan : Option (List Instance)) (m : ℕ) → IsRightUpTo task cert m 0 → IsFirstRefusal task cert plan m e)

@@ -1,7 +1,7 @@
 use Rattle.std.proofs.Common.{◌≡◌, ◌∙◌, ◌+◌, None, get_or, refl, subst, sym, arith}
 use Rattle.std.proofs.lemmas.List.{get_or_default}
 use Rattle.packed_state.specs.Packed.{bits_of}
-use Rattle.cert_checker.specs.declared.check.code.RefusalCode.TheVariants.{SuccessorMissing, SuccessorDearer}
+use Rattle.certificate_listing.specs.declared.refusal.RefusalCode.TheVariants.{SuccessorMissing, SuccessorDearer}
 use Rattle.cert_checker.specs.CheckedLines.{IsListedAt}
 use Rattle.cert_checker.specs.PackedListing.{task_at, atoms_at, certificate_at, state_at}
 use Rattle.model.specs.Meaning.{State, system_of}
@@ -60,7 +60,7 @@ returns-clause-right c =
     let bits = bits_of c.args.state.now in
     let numbers = c.args.numbers.now in
     open_closed task (certificate_at listing) (state_at listing c.args.state.now) c.args.cost (leads_by task (atoms_at listing) bits) numbers c.loop-number.number-index c.loop-number-test.false
-    (successors_there task (atoms_at listing) (certificate_at listing) listing.states listing.listed bits numbers c.requires.numbers) c.loop-number.invariant.listed c.requires.goal
+    (successors_there task (atoms_at listing) (certificate_at listing) (store_in listing.listing.now) listing.listed bits numbers c.requires.numbers) c.loop-number.invariant.listed c.requires.goal
 
 pub returns-in_default-clause-next : goal.returns-in_default-clause-next
 returns-in_default-clause-next c =
@@ -82,7 +82,7 @@ returns-in_default-clause-wrong c =
     told task cert c.state_line.result SuccessorMissing (state_line cert c.args.place) c.state_line.ensures
     (wrong_missing task cert c.args.place state c.args.cost (view number).0 (view number).1 c.requires.listed
     (leads_there task state view numbers c.loop-number.number-index number c.loop-number-test.true (get_or_default numbers c.loop-number.number-index 0 number c.loop-number-test.true)
-    (successors_there task (atoms_at listing) cert listing.states listing.listed bits numbers c.requires.numbers))
+    (successors_there task (atoms_at listing) cert (store_in listing.listing.now) listing.listed bits numbers c.requires.numbers))
     (subst (λ s. ¬ IsListed (lines_of task cert) s) (sym (next_by task (atoms_at listing) bits number next c.successor.ensures)) c.in_default.ensures))
 
 pub returns-then-listed-cost-clause-wrong : goal.returns-then-listed-cost-clause-wrong
@@ -99,9 +99,9 @@ returns-then-listed-cost-clause-wrong c =
     let listed = subst (λ s. IsListedAt (lines_of task cert) s c.in-Some.listed) (sym (next_by task (atoms_at listing) bits number next c.successor.ensures)) c.in-Some.ensures in
     let step : c.from.result ≡ (system_of task).cost (view number).0 = c.from.ensures ∙ c.cost.ensures ∙ cost_by task (atoms_at listing) bits number next c.successor.ensures in
     told task cert c.state_line-then-listed-cost.result SuccessorDearer (state_line cert c.args.place) c.state_line-then-listed-cost.ensures
-    (wrong_dearer task cert c.args.place state c.args.cost (view number).0 (view number).1 c.in-Some.listed (listed_apart task (atoms_at listing) cert listing.states listing.listed) c.requires.listed
+    (wrong_dearer task cert c.args.place state c.args.cost (view number).0 (view number).1 c.in-Some.listed (listed_apart task (atoms_at listing) cert (store_in listing.listing.now) listing.listed) c.requires.listed
     (leads_there task state view numbers c.loop-number.number-index number c.loop-number-test.true (get_or_default numbers c.loop-number.number-index 0 number c.loop-number-test.true)
-    (successors_there task (atoms_at listing) cert listing.states listing.listed bits numbers c.requires.numbers))
+    (successors_there task (atoms_at listing) cert (store_in listing.listing.now) listing.listed bits numbers c.requires.numbers))
     listed (omega (arith, step, c.if-listed-cost.true)))
 
 pub returns-then-listed-cost-clause-next : goal.returns-then-listed-cost-clause-next
@@ -130,7 +130,7 @@ returns-in_default-clause-first c =
       (view number).1,
       first_to_leave task cert c.args.place state c.args.cost view numbers c.loop-number.number-index number c.requires.listed c.loop-number-test.true
           (get_or_default numbers c.loop-number.number-index 0 number c.loop-number-test.true)
-          (successors_there task (atoms_at listing) cert listing.states listing.listed bits numbers c.requires.numbers) c.loop-number.invariant.listed,
+          (successors_there task (atoms_at listing) cert (store_in listing.listing.now) listing.listed bits numbers c.requires.numbers) c.loop-number.invariant.listed,
       subst (λ s. ¬ IsListed (lines_of task cert) s) (sym (next_by task (atoms_at listing) bits number next c.successor.ensures)) c.in_default.ensures,
     )
 
@@ -157,7 +157,7 @@ returns-then-listed-cost-clause-first c =
       (view number).1,
       first_to_leave task cert c.args.place state c.args.cost view numbers c.loop-number.number-index number c.requires.listed c.loop-number-test.true
           (get_or_default numbers c.loop-number.number-index 0 number c.loop-number-test.true)
-          (successors_there task (atoms_at listing) cert listing.states listing.listed bits numbers c.requires.numbers) c.loop-number.invariant.listed,
+          (successors_there task (atoms_at listing) cert (store_in listing.listing.now) listing.listed bits numbers c.requires.numbers) c.loop-number.invariant.listed,
       listed_somewhere (lines_of task cert) (view number).1 c.in-Some.listed listed,
-      not_within task cert (view number).1 c.in-Some.listed most_allowed (listed_apart task (atoms_at listing) cert listing.states listing.listed) listed (omega (arith, step, c.if-listed-cost.true)),
+      not_within task cert (view number).1 c.in-Some.listed most_allowed (listed_apart task (atoms_at listing) cert (store_in listing.listing.now) listing.listed) listed (omega (arith, step, c.if-listed-cost.true)),
     )

@@ -6,4 +6,4 @@ use Rattle.cert_checker.proofs.check.packed.PackedListing.get.Goals as goal
 pub returns-clause-state : goal.returns-clause-state
 returns-clause-state c =
     let listing = c.args.self.now in
-    stands_there (task_at listing) (atoms_at listing) (certificate_at listing) listing.states listing.listed c.args.place (bits_of c.get.new.into) c.get.ensures.set
+    stands_there (task_at listing) (atoms_at listing) (certificate_at listing) (store_in listing.listing.now) listing.listed c.args.place (bits_of c.get.new.into) c.get.ensures.set
