@@ -7,3 +7,4 @@ pub mod AtomsLemmas
 pub mod ReadingLemmas
 pub mod ListingLemmas
 pub mod WideningLemmas
+pub mod AcceptedLemmas
