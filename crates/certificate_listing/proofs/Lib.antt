@@ -8,3 +8,5 @@ pub mod ReadingLemmas
 pub mod ListingLemmas
 pub mod WideningLemmas
 pub mod NumbersLemmas
+pub mod SplitLemmas
+pub mod AcceptedLemmas
