@@ -7,4 +7,5 @@ pub mod AtomsLemmas
 pub mod ReadingLemmas
 pub mod ListingLemmas
 pub mod WideningLemmas
+pub mod SplitLemmas
 pub mod AcceptedLemmas
