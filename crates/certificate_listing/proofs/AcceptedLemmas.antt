@@ -1,6 +1,6 @@
 -- What is so of a text that is accepted: its certificate keeps the limits and is the only one, and no line of it is at fault.
-use Rattle.std.proofs.Common.{◌≡◌, ◌≢◌, ℕ, zero, suc, ◌+◌, ◌<◌, ◌⊎◌, inl, inr, ⊎_elim, Bool, true, List, [], ◌∷◌, ◌++◌, codes, map, length, length-append, Option, None, Some, refl, sym, ap, ◌∙◌, subst, append_assoc, append-nil, true≢false, arith}
-use Rattle.std.specs.Prelude.{◌&&◌, ◌==◌, nat_lt, IsTrue, IsSome, All, AllPairs, Contains, nat_le, slice_get}
+use Rattle.std.proofs.Common.{◌≡◌, ◌≢◌, ℕ, suc, ◌+◌, inl, inr, ⊎_elim, true, List, [], ◌∷◌, ◌++◌, codes, map, length, length-append, Option, None, Some, refl, sym, ap, ◌∙◌, subst, append_assoc, append-nil, true≢false, arith}
+use Rattle.std.specs.Prelude.{◌&&◌, ◌==◌, nat_lt, IsTrue, IsSome, All, AllPairs, Contains, nat_le}
 use Rattle.std.specs.Fmt.{decimal}
 use Rattle.std.specs.List.{list_all}
 use Rattle.std.proofs.lemmas.Bool.{and_parts, ltb-true}
@@ -13,15 +13,14 @@ use Rattle.model.specs.WellTyped.{is_atom}
 use Rattle.model.specs.Fluents.{is_fluent}
 use Rattle.model.specs.Meaning.{State}
 use Rattle.model.specs.Claims.{Claim, Allows, Line, none}
-use Rattle.model.specs.Certificates.{Certificate, IsClosedFor, StateLine, is_claim, keeps_limits, lines_of, state_of_line}
+use Rattle.model.specs.Certificates.{Certificate, IsClosedFor, StateLine, is_claim, keeps_limits, state_of_line}
 use Rattle.model.proofs.ListLemmas.{Contains-cases, Contains-filter_map, Contains-here, Contains-map, Contains-none, Contains-there, map-Contains}
 use Rattle.certificate_text.specs.CertificateText.{NamedAtom, NamedCertificate, TextLine, version, claims, constant, atom, listed, last, AreWhole, BeginCertificate, HasLine, IsFaultAfter, IsOneTooMany, IsOtherVersion, other_version, malformed, too_long, trailing, cut_short, too_many, is_line, keeps_text_limits, line_text, most_atoms, most_states, text_lines, text_of, whole_line}
 use Rattle.certificate_text.specs.CertificateNames.{AllName, IsTextOf, Names}
-use Rattle.certificate_text.specs.CertificateChecking.{AreRight, IsAccepted, IsLineFault, IsWrongAfter, IsWrongHere, NamesFluent, not_fluent, repeated_atom, repeated_state, cut_not_allowed}
-use Rattle.certificate_text.specs.CertificateMachine.{Place, at_version, at_claim, at_constant, in_body, ended, next_place, place_after}
+use Rattle.certificate_text.specs.CertificateChecking.{IsAccepted, IsLineFault, IsWrongAfter, IsWrongHere, not_fluent, repeated_atom, repeated_state, cut_not_allowed}
+use Rattle.certificate_text.specs.CertificateMachine.{Place, at_version, at_claim, at_constant, in_body, ended, next_place}
 use Rattle.certificate_text.proofs.Machine.{StandsBefore, end_of_whole, followed, never, only_where, place_of_beginning, stands}
 use Rattle.certificate_text.proofs.TooMany.{IsTooManyAt, too_many_at}
-
 use Rattle.certificate_reader.proofs.OneText as one_text
 use Rattle.certificate_listing.specs.Told.{atom_in, atoms_told, state_in, states_told}
 use Rattle.certificate_listing.proofs.NamesLemmas.{one_named}

@@ -1,6 +1,6 @@
 -- A certificate's text behind some of its lines: what is left are the lines behind them, each no longer than a line may be.
-use Rattle.std.proofs.Common.{◌≡◌, ℕ, suc, ◌+◌, ◌*◌, ◌<◌, ◌≤◌, Bool, true, false, not, List, [], ◌∷◌, ◌++◌, codes, length, length-append, Option, None, Some, refl, sym, ap, ◌∙◌, subst, append_assoc, append-nil, arith}
-use Rattle.std.specs.Prelude.{◌&&◌, ◌==◌, Contains, IsTrue, nat_le}
+use Rattle.std.proofs.Common.{◌≡◌, ℕ, ◌+◌, ◌*◌, ◌<◌, ◌≤◌, true, not, List, [], ◌∷◌, ◌++◌, codes, length, length-append, Option, None, Some, refl, sym, ap, ◌∙◌, subst, append_assoc, append-nil, arith}
+use Rattle.std.specs.Prelude.{◌&&◌, Contains, IsTrue, nat_le}
 use Rattle.std.specs.Fmt.{decimal}
 use Rattle.std.specs.List.{flat_map, list_all}
 use Rattle.std.specs.Option.{option_map_or}
@@ -56,7 +56,7 @@ begun_kept lines (rest, (c, keeps, are)) =
 
 -- ---- how long a line is
 
-pub number_short : (n : ℕ) → IsTrue (is_number n) → length (decimal n) ≤ 19
+number_short : (n : ℕ) → IsTrue (is_number n) → length (decimal n) ≤ 19
 number_short n is = let below = is_below n is in length-decimal-le 19 n (omega arith) (omega (arith, below)) (omega (arith, below))
 
 numbers_short : (count least : ℕ) (numbers : List ℕ) → count ≤ most_atoms → least ≤ count → rise count least numbers ≡ true
@@ -85,8 +85,9 @@ state_short count few cost (Some least) numbers is =
     let more = numbers_short count 0 numbers few (omega arith) rising in
     let word : length (codes "cut " ++ decimal cost) ≡ 4 + length (decimal cost) = omega arith in
     let second : length (after_blank (decimal least)) ≡ 1 + length (decimal least) = omega arith in
-    omega (arith, few, digits, others, more, word, second, length-append (codes "cut " ++ decimal cost) (after_blank (decimal least)),
-    length-append ((codes "cut " ++ decimal cost) ++ after_blank (decimal least)) (flat_map (λ (number : ℕ). after_blank (decimal number)) numbers))
+    let words = length-append (codes "cut " ++ decimal cost) (after_blank (decimal least)) in
+    let whole = length-append ((codes "cut " ++ decimal cost) ++ after_blank (decimal least)) (flat_map (λ (number : ℕ). after_blank (decimal number)) numbers) in
+    omega (arith, few, digits, others, more, word, second, words, whole)
 
 -- a line that keeps the limits is not too long
 pub line_short : (line : TextLine) → IsTrue (is_line most_atoms line) → length (line_text line) ≤ longest_line
