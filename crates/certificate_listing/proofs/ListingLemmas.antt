@@ -18,7 +18,8 @@ use Rattle.certificate_reader.specs.Reader.{IsAnswer, has_failed, lines_read}
 use Rattle.model.proofs.ListLemmas.{Contains-here, Contains-there}
 use Rattle.certificate_listing.specs.Sets.{Marked, line_with, lines_with, marked}
 use Rattle.certificate_listing.specs.Told.{HaveTold, atoms_told, is_body, states_told}
-use Rattle.certificate_listing.specs.Listed.{HaveListed, IsFit}
+use Rattle.certificate_listing.specs.declared.states.Mark.{Mark}
+use Rattle.certificate_listing.specs.Listed.{HaveListed, IsFit, mark_of}
 use Rattle.certificate_listing.specs.Reading.{IsAt, IsBegun, IsListedSoFar, IsRead}
 use Rattle.certificate_listing.proofs.SetsLemmas.{numbers_back}
 use Rattle.certificate_listing.proofs.ToldLemmas.{begin_front}
@@ -131,3 +132,10 @@ module _ {R : Type 0} (remaining : R → Option (List ℕ)) (task : Task) (first
       fewer_left (Some other) handed =
           omega (arith, at.read.count, handed.read.count, length-append (before ++ line ∷ []) (text_line_of other ∷ []), few_read remaining first now (before ++ line ∷ []) at)
       fewer_left None over = omega (arith, at.read.count, over.read.count, few_read remaining first now (before ++ line ∷ []) at)
+
+-- there is a mark for each set
+pub as_many_listed : {R : Type 0} (remaining : R → Option (List ℕ)) (task : Task) (first now : CertReader R) (claim : Claim) (atoms : List Atom) (width : ℕ) (marks : List Mark)
+    (sets : List (List Bool)) → IsListedSoFar remaining task first now claim atoms width (map mark_of marks) sets None → length marks ≡ length sets
+as_many_listed remaining task first now claim atoms width marks sets (lines, over, told, have) =
+    sym (length-map marks mark_of) ∙ ap length have.marks_are ∙ length-map (states_told lines) marked
+    ∙ sym (length-map (states_told lines) (λ (l : StateLine). set_of width l.atoms)) ∙ sym (ap length have.sets_are)

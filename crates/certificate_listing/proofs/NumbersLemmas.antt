@@ -1,5 +1,5 @@
 -- The numbers of sets, and what they say of a listing.
-use Rattle.std.proofs.Common.{◌≡◌, ℕ, zero, suc, ◌+◌, ◌<◌, ◌≤◌, Bool, true, false, List, [], ◌∷◌, get_or, map, length, refl, sym, ap, ◌∙◌, subst, arith}
+use Rattle.std.proofs.Common.{◌≡◌, ℕ, zero, suc, ◌+◌, ◌<◌, ◌≤◌, Bool, true, false, List, [], ◌∷◌, get_or, inl, inr, map, length, refl, sym, ap, ◌∙◌, subst, arith}
 use Rattle.std.specs.Prelude.{◌&&◌, ◌==◌, IsTrue, All, Contains, nat_le, nat_lt}
 use Rattle.std.specs.List.{list_all, list_any, range_with_len}
 use Rattle.std.specs.Cmp.{both_ways}
@@ -19,7 +19,8 @@ use Rattle.model.proofs.ListLemmas.{Contains-cases, Contains-filter, Contains-he
 use Rattle.certificate_listing.specs.Sets.{Marked, line_with, lines_with, marked, numbers_of}
 use Rattle.certificate_listing.specs.declared.listing.Listing.{Listing}
 use Rattle.certificate_listing.specs.Listed.{mark_of}
-use Rattle.certificate_listing.specs.Listing.{certificate_in, certificate_with, store_in}
+use Rattle.certificate_listing.specs.Parts.{certificate_with}
+use Rattle.certificate_listing.specs.Listing.{certificate_in, store_in}
 use Rattle.certificate_listing.proofs.SetsLemmas.{numbers_back, rise_below}
 use Rattle.certificate_listing.proofs.WideningLemmas.{IsBelow, has-at_width, length-at_width}
 
@@ -129,13 +130,13 @@ unfolding sets_in
 set_lengths store = All-map (λ (set : List Bool). length set ≡ store.width) (bits_in store.width) (rows_of store.pool) (λ k d within. length-bits store.width (get_or (rows_of store.pool) k d))
 
 module _ (listing : Listing) where
-  marks : List Marked
+  abbrev marks : List Marked
   marks = map mark_of listing.states.marks.items
 
-  sets : List (List Bool)
+  abbrev sets : List (List Bool)
   sets = pooled_states (store_in listing)
 
-  count : ℕ
+  abbrev count : ℕ
   count = length (certificate_in listing).atoms
 
   as_many : length marks ≡ length sets

@@ -20,7 +20,7 @@ IsBelow width set = (number : ℕ) → IsTrue (has set number) → number < widt
 pub length-at_width : (width : ℕ) (set : List Bool) → length (at_width width set) ≡ width
 length-at_width width set = length-map-range_with_len (has set) 0 width
 
-has-at_width : (width : ℕ) (set : List Bool) (k : ℕ) → k < width → has (at_width width set) k ≡ has set k
+pub has-at_width : (width : ℕ) (set : List Bool) (k : ℕ) → k < width → has (at_width width set) k ≡ has set k
 has-at_width width set k within = get_or-map-range_with_len (has set) 0 width k k false within (omega arith)
 
 one_wide : (width wide : ℕ) (a b : List Bool) → length a ≡ width → length b ≡ width → IsBelow wide a → IsBelow wide b → at_width wide a ≡ at_width wide b → a ≡ b

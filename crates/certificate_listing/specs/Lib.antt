@@ -5,4 +5,5 @@ pub mod Told
 pub mod Listed
 pub mod Taking
 pub mod Reading
+pub mod Parts
 pub mod Listing

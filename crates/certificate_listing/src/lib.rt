@@ -4,10 +4,12 @@
 mod beginning;
 mod listing;
 mod names;
+mod reading;
 mod refusal;
 mod states;
 mod widening;
 
-pub use listing::{Listing, read_listing};
+pub use listing::Listing;
+pub use reading::read_listing;
 pub use refusal::{Refusal, RefusalCode};
 pub use states::Mark;

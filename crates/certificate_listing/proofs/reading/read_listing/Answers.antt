@@ -10,10 +10,12 @@ use Rattle.certificate_reader.specs.Reader.{lines_read, source_of}
 use Rattle.std.specs.Option.{option_map_or}
 use Rattle.certificate_listing.specs.Listed.{mark_of}
 use Rattle.certificate_listing.specs.CertFaults.{refusal_of}
-use Rattle.certificate_listing.specs.Reading.{IsLineRefusal, IsListedSoFar}
+use Rattle.certificate_listing.specs.Reading.{IsLineRefusal, IsListedSoFar, IsRead}
 use Rattle.certificate_listing.proofs.ReadingLemmas.{fault_told, one_read, wrong_counts, wrong_told}
-use Rattle.certificate_listing.proofs.ListingLemmas.{few_begun, fewer_left, fit_next, read_whole, so_far_next}
-use Rattle.certificate_listing.proofs.listing.read_listing.Goals as goal
+use Rattle.certificate_listing.proofs.ListingLemmas.{as_many_listed, few_begun, fewer_left, fit_next, read_whole, so_far_next}
+use Rattle.certificate_listing.specs.Parts.{certificate_with}
+use Rattle.certificate_listing.proofs.AcceptedLemmas.{limits_kept}
+use Rattle.certificate_listing.proofs.reading.read_listing.Goals as goal
 
 pub overflow_cast-len : goal.overflow_cast-len
 overflow_cast-len g c =
@@ -92,9 +94,24 @@ states-preserved g c =
       failures = c.in_ok-next.ensures.failures ∙ c.states.invariant.failures;
     }
 
+pub new-requires-2-clause-limits : goal.new-requires-2-clause-limits
+new-requires-2-clause-limits g c =
+    let states = c.states.states in
+    let certificate = certificate_with c.in_ok-beginning.beginning.claim c.in_ok-beginning.beginning.atoms.keys states.marks.items states.sets in
+    let read = read_whole g.R.Source.remaining (task_of c.args.task.now) c.args.reader.now c.states.reader (claim_of c.in_ok-beginning.beginning.claim) (map atom_of c.in_ok-beginning.beginning.atoms.keys)
+    (pooled_width states.sets) (map mark_of states.marks.items) (pooled_states states.sets) (rw c.in_default.is at c.states.invariant.so_far) in
+    limits_kept (task_of c.args.task.now) read.text certificate read.is_text
+
+pub new-requires-2-clause-marked : goal.new-requires-2-clause-marked
+new-requires-2-clause-marked g c =
+    let states = c.states.states in
+    as_many_listed g.R.Source.remaining (task_of c.args.task.now) c.args.reader.now c.states.reader (claim_of c.in_ok-beginning.beginning.claim) (map atom_of c.in_ok-beginning.beginning.atoms.keys)
+    (pooled_width states.sets) states.marks.items (pooled_states states.sets) (rw c.in_default.is at c.states.invariant.so_far)
+
 pub returns-clause-read : goal.returns-clause-read
 returns-clause-read g c =
+    let task = task_of c.args.task.now in
     let states = c.states.states in
-    let so_far = rw c.in_default.is at c.states.invariant.so_far in
-    read_whole g.R.Source.remaining (task_of c.args.task.now) c.args.reader.now c.states.reader (claim_of c.in_ok-beginning.beginning.claim) (map atom_of c.in_ok-beginning.beginning.atoms.keys)
-    (pooled_width states.sets) (map mark_of states.marks.items) (pooled_states states.sets) so_far
+    subst (IsRead g.R.Source.remaining task c.args.reader.now c.states.reader) (sym c.new-2.ensures.certificate)
+    (read_whole g.R.Source.remaining task c.args.reader.now c.states.reader (claim_of c.in_ok-beginning.beginning.claim) (map atom_of c.in_ok-beginning.beginning.atoms.keys)
+    (pooled_width states.sets) (map mark_of states.marks.items) (pooled_states states.sets) (rw c.in_default.is at c.states.invariant.so_far))

@@ -8,7 +8,7 @@ use Rattle.certificate_lines.specs.Lines.{claim_of}
 use Rattle.certificate_reader.specs.Reader.{lines_read, source_of}
 use Rattle.certificate_listing.specs.Listed.{mark_of}
 use Rattle.certificate_listing.specs.Reading.{IsListedSoFar}
-use Rattle.certificate_listing.proofs.listing.read_listing.Given as goal
+use Rattle.certificate_listing.proofs.reading.read_listing.Given as goal
 
 abbrev pub invariant-states : goal.invariant-states
 invariant-states g l = record {
