@@ -22,8 +22,8 @@ use Rattle.model.specs.Limits.{max_numbered_atoms}
 use Rattle.model.specs.Grounding.{limit_told}
 use Rattle.model.specs.Certificates.{Certificate, IsClosedFor}
 use Rattle.model.specs.CertificateRefusals.{IsPlanWithin}
-use Rattle.cert_checker.specs.declared.check.Accepted.{Accepted}
-use Rattle.cert_checker.specs.declared.check.Accepted.TheVariants.{Optimal, AtLeast, Unsolvable}
+use Rattle.cert_checker.specs.declared.checker.Accepted.{Accepted}
+use Rattle.cert_checker.specs.declared.checker.Accepted.TheVariants.{Optimal, AtLeast, Unsolvable}
 use Rattle.cert_checker.specs.CertChecker.{Answers, IsFirstRefusal, IsNoFault, IsShown, IsTrueRefusal}
 use Rattle.cert_checker.specs.Checking.{Accepts, Refuses}
 use Rattle.cert_checker.proofs.AnswerLemmas.{no_fault}

@@ -1,6 +1,6 @@
 -- Why a certificate that the checker goes through without a refusal is closed.
 use Rattle.std.proofs.Common.{◌≡◌, ℕ, zero, suc, ◌+◌, ◌<◌, ◌≤◌, true, ◌&&◌, List, [], ◌∷◌, ◌++◌, length, map, take, get_or, Option, None, Some, inl, inr, refl, sym, ap, ◌∙◌, subst, arith}
-use Rattle.std.specs.Prelude.{IsTrue, MatchOption, OnOk, Result, Ok, Err, nat_eq, Contains, slice_get}
+use Rattle.std.specs.Prelude.{IsTrue, MatchOption, OnOk, Result, Ok, Err, nat_eq, nat_le, Contains, slice_get}
 use Rattle.std.specs.Option.{option_eq, option_map_or}
 use Rattle.std.proofs.lemmas.Bool.{eqb-true, ltb-true, and_parts}
 use Rattle.std.specs.List.{list_all}
@@ -8,14 +8,12 @@ use Rattle.std.proofs.lemmas.List.{take_all, take_more, map-append, length-map}
 use Rattle.std.proofs.lemmas.List.Elements.{Contains-append_cases}
 use Rattle.std.proofs.lemmas.Option.{slice_get_within}
 use Rattle.model.proofs.Tests.{passes_got}
-use Rattle.certificate_lines.specs.declared.line.StateLine as code_line
-use Rattle.certificate_lines.specs.Lines.{line_of}
-use Rattle.cert_checker.specs.CheckedLines.{IsListedAt, IsOpenClosed, IsCutClosed, IsLineClosed}
+use Rattle.cert_checker.specs.CheckedLines.{HasCost, IsListedAt, IsOpenClosed, IsCutClosed, IsLineClosed}
 use Rattle.model.specs.Task.{Task, Instance}
 use Rattle.model.specs.Meaning.{State, system_of}
 use Rattle.model.specs.Instances.{successors_of}
 use Rattle.model.specs.Claims.{Allows, Line, IsListedWithin}
-use Rattle.model.specs.Certificates.{Certificate, StateLine, state_of_line, lines_of, is_number, is_state_line, rise}
+use Rattle.model.specs.Certificates.{Certificate, StateLine, is_claim, is_number, is_state_line, keeps_limits, lines_of, rise, state_of_line}
 use Rattle.model.specs.CertificateRefusals.{IsListed}
 use Rattle.model.proofs.ListLemmas.{Contains-cases, Contains-none}
 use Rattle.model.proofs.InstancesLemmas.{Contains-successors}

@@ -9,15 +9,13 @@ use Rattle.typing.specs.TaskParts.{atom_of}
 use Rattle.certificate_listing.specs.declared.refusal.Refusal.{Refusal}
 use Rattle.certificate_listing.specs.declared.refusal.Refusal.TheVariants as refusal
 use Rattle.certificate_listing.specs.declared.refusal.RefusalCode.{RefusalCode}
-use Rattle.certificate_lines.specs.declared.line.StateLine as code_line
-use Rattle.certificate_lines.specs.Lines.{line_of}
 use Rattle.cert_checker.specs.Reasons.{reason_of}
 use Rattle.cert_checker.specs.CertChecker.{IsFirstRefusal, IsFirstSuccessor, IsFirstToLeave}
 use Rattle.cert_checker.specs.FluentAtoms.{AreFluent}
 use Rattle.cert_checker.specs.PackedLines.{packed_line, NamesAtoms}
 use Rattle.cert_checker.specs.CheckedLines.{CutsAreAllowed, IsLineClosed, IsRightUpTo}
 use Rattle.model.proofs.ListLemmas.{Contains-got}
-use Rattle.cert_checker.proofs.CertCheckerLemmas.{AllListed, entry, listed_there, slice_get-map, got_mapped, in_two}
+use Rattle.cert_checker.proofs.CertCheckerLemmas.{AllListed, entry, slice_get-map, got_mapped}
 use Rattle.cert_checker.proofs.RefusalsLemmas.{AreApart}
 use Rattle.cert_checker.proofs.PackedLinesLemmas.{one_set}
 use Rattle.cert_checker.proofs.OrderLemmas.{AtomsAreRight, StatesAreRight}
@@ -70,7 +68,7 @@ first_to_leave {X} task c place s cost view xs k x there lt at is before = recor
 pub cuts_allowed : (task : Task) (c : Certificate) → (c.claim ≡ none → All (λ (l : StateLine). l.cut ≡ None) c.lines) → CutsAreAllowed task c (length (lines_of task c))
 cuts_allowed task c all place l rest below at cut claim =
     let (line, there, is) = got_mapped (entry task c) c.lines place l at in
-    let open : line.cut ≡ None = All-contains (λ (l : StateLine). l.cut ≡ None) c.lines line (all claim) (Contains-got c.lines place line there) in
+    let uncut : line.cut ≡ None = All-contains (λ (l : StateLine). l.cut ≡ None) c.lines line (all claim) (Contains-got c.lines place line there) in
     let same : line.cut ≡ l.cut = ap (λ (l : Line State). l.cut) is in
     absurd (cc)
 

@@ -1,7 +1,7 @@
 -- What the answers of the checker of certificates say.
 use Rattle.std.specs.Prelude.{◌≡◌, ℕ, ◌+◌, ◌<◌, List, slice_get, MatchOption, Option, None, Some, IsSome}
-use Rattle.cert_checker.specs.declared.check.Accepted.{Accepted}
-use Rattle.cert_checker.specs.declared.check.Accepted.TheVariants.{Optimal, AtLeast, Unsolvable}
+use Rattle.cert_checker.specs.declared.checker.Accepted.{Accepted}
+use Rattle.cert_checker.specs.declared.checker.Accepted.TheVariants.{Optimal, AtLeast, Unsolvable}
 use Rattle.certificate_listing.specs.declared.refusal.Refusal.{Refusal}
 use Rattle.certificate_listing.specs.declared.refusal.Refusal.TheVariants as refusal
 use Rattle.cert_checker.specs.Reasons.{reason_of}

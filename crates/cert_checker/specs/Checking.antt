@@ -10,7 +10,7 @@ use Rattle.certificate_reader.specs.declared.reader.CertReader.{CertReader}
 use Rattle.certificate_reader.specs.Reader.{source_of}
 use Rattle.certificate_listing.specs.declared.refusal.Refusal.{Refusal}
 use Rattle.certificate_listing.specs.Reading.{IsLineRefusal, IsRead}
-use Rattle.cert_checker.specs.declared.check.Accepted.{Accepted}
+use Rattle.cert_checker.specs.declared.checker.Accepted.{Accepted}
 use Rattle.cert_checker.specs.CertChecker.{Answers, IsFirstRefusal, IsTrueRefusal}
 
 -- What came to the end is a text that is accepted, the ground task keeps its limits, and the answer is the one to the claim.

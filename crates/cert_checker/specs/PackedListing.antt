@@ -4,7 +4,7 @@ use Rattle.packed_state.specs.declared.packed.Packed.{Packed}
 use Rattle.packed_state.specs.Packed.{bits_of}
 use Rattle.certificate_listing.specs.Listing.{certificate_in}
 use Rattle.grounding.specs.Ground.{task_in, atoms_in}
-use Rattle.cert_checker.specs.declared.check.packed.PackedListing.{PackedListing}
+use Rattle.cert_checker.specs.declared.checker.packed.PackedListing.{PackedListing}
 use Rattle.model.specs.Task.{Atom, Task}
 use Rattle.model.specs.Meaning.{State}
 use Rattle.model.specs.Certificates.{Certificate}
