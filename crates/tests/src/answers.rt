@@ -1,6 +1,6 @@
-//! Answers to tasks, and that the checker accepts their certificates.
-use crate::helpers::on_task;
-use cert_checker::{Accepted, check_cert};
+//! Answers to tasks, and that the checker accepts the texts of their certificates.
+use crate::helpers::{check_cert, on_task};
+use cert_checker::Accepted;
 use solver::{Answer, Limit, Limits, solve};
 use std::alloc::Global;
 use std::process::Abort;
@@ -65,18 +65,18 @@ pub(crate) static ANSWERS: [(Texts, u32, u32, Found); 14] = [
     (FOUR_BALLS, 1000, 35, Err(Limit::Instances)),
 ];
 
-/// What is found out of the task. A certificate is accepted with the plan and without.
+/// What is found out of the task. A certificate is accepted, from its text, with the plan and without.
 fn found(rt: &impl Abort, alloc: Global, task: &Task, limits: Limits) -> Result<Found, Fail> {
     match solve(alloc, task, limits)? {
         Answer::Plan { steps, cost, cert } => {
-            let with_plan = check_cert(alloc, task, &cert, Some(&steps), 1_000_000);
-            let without = check_cert(alloc, task, &cert, None, 1_000_000);
+            let with_plan = check_cert(alloc, task, &cert, Some(&steps), 1_000_000)?;
+            let without = check_cert(alloc, task, &cert, None, 1_000_000)?;
             let wanted = (Accepted::Optimal { cost }, Accepted::AtLeast { cost });
             assert_eq!(rt; (with_plan, without), (Ok(wanted.0), Ok(wanted.1)));
             Ok(Ok(Some(cost)))
         }
         Answer::Unsolvable { cert } => {
-            let shown = check_cert(alloc, task, &cert, None, 1_000_000);
+            let shown = check_cert(alloc, task, &cert, None, 1_000_000)?;
             assert_eq!(rt; shown, Ok(Accepted::Unsolvable));
             Ok(Ok(None))
         }

@@ -1,9 +1,8 @@
 //! The checker on small tasks: certificates that are accepted, and certificates with one condition broken.
-use crate::helpers::{Term, atom, atoms, on_task};
+use crate::helpers::{Answer, Term, atom, atoms, check_cert, check_text, on_task};
 use crate::listings::{
-    ACCEPTED, Answer, LIMITED, Line, Listings, PLANNED, Row, WRONG_ATOMS, WRONG_LINES,
+    ACCEPTED, FEW_ATOMS, LIMITED, Line, Listings, PLANNED, Row, TEXTS, WRONG_ATOMS, WRONG_LINES,
 };
-use cert_checker::check_cert;
 use certificate::{Cert, Claim, StateLine};
 use faults::NoMemory;
 use plan_file::read_plan;
@@ -42,10 +41,10 @@ fn cert_of(
 fn answer(alloc: Global, task: &Task, listings: &Listings, row: &Row) -> Result<Answer, Fail> {
     let cert = cert_of(alloc, row.0, listings.atoms, row.1)?.ok_or("beyond the limits")?;
     match row.2 {
-        None => Ok(check_cert(alloc, task, &cert, None, listings.max_instances)),
+        None => Ok(check_cert(alloc, task, &cert, None, listings.max_instances)?),
         Some(text) => {
             let plan = read_plan(alloc, task, text.as_bytes())?;
-            Ok(check_cert(alloc, task, &cert, Some(&plan), listings.max_instances))
+            Ok(check_cert(alloc, task, &cert, Some(&plan), listings.max_instances)?)
         }
     }
 }
@@ -80,6 +79,11 @@ fn closed_listings_are_accepted(rt: HostRuntime) -> Result<(), Fail> {
 }
 
 #[test]
+fn atoms_that_are_not_listed_are_false(rt: HostRuntime) -> Result<(), Fail> {
+    is_answered(&rt, rt.alloc(), &FEW_ATOMS)
+}
+
+#[test]
 fn wrong_atoms_are_told(rt: HostRuntime) -> Result<(), Fail> {
     is_answered(&rt, rt.alloc(), &WRONG_ATOMS)
 }
@@ -97,6 +101,19 @@ fn plans_are_held_against_the_claim(rt: HostRuntime) -> Result<(), Fail> {
 #[test]
 fn instances_are_limited(rt: HostRuntime) -> Result<(), Fail> {
     is_answered(&rt, rt.alloc(), &LIMITED)
+}
+
+#[test]
+fn what_no_certificate_says_is_told(rt: HostRuntime) -> Result<(), Fail> {
+    for (number, (texts, max_instances, text, wanted)) in TEXTS.iter().enumerate() {
+        on_task(&rt, rt.alloc(), texts, |rt, alloc, task| {
+            let text = text.as_bytes().to_vec(alloc)?;
+            let answer = check_text(alloc, task, text, *max_instances);
+            assert_eq!(rt; answer, *wanted, "row {number}");
+            Ok(())
+        })?;
+    }
+    Ok(())
 }
 
 /// The largest number that may stand in a certificate.

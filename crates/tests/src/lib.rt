@@ -6,6 +6,8 @@ mod answers;
 #[cfg(test)]
 mod certificates;
 #[cfg(test)]
+mod changed_texts;
+#[cfg(test)]
 mod ground_literals;
 #[cfg(test)]
 mod ground_searches;
@@ -19,6 +21,8 @@ mod laws;
 mod listings;
 #[cfg(test)]
 mod states;
+#[cfg(test)]
+mod streams;
 #[cfg(test)]
 mod tasks;
 #[cfg(test)]

@@ -1,20 +1,17 @@
 //! Listings of small tasks, and what the checker says of each: those that are closed, and those with one condition broken.
-use crate::helpers::Term;
+use crate::helpers::{Answer, Term};
+use cert_checker::Accepted;
 use cert_checker::Accepted::{AtLeast, Optimal};
 use cert_checker::Refusal::{Line as At, Plain};
 use cert_checker::RefusalCode::{
-    CutNotAllowed, CutWeak, GoalOpen, Limit, NoInitial, NotFluent, PlanDearer, PlanInvalid,
-    Repeated, SuccessorDearer, SuccessorMissing,
+    CertForm, CertVersion, CutNotAllowed, CutWeak, GoalOpen, Limit, NoInitial, NotFluent,
+    PlanDearer, PlanInvalid, Repeated, SuccessorDearer, SuccessorMissing, Truncated,
 };
-use cert_checker::{Accepted, Refusal};
 use certificate::Claim;
 use test_texts::{DONE, FORK, GO, HOP, PAIRS, PATH, TIE, Texts, UNTIED};
 
 /// A state line: its cost, its bound if it is a cut, and its atoms.
 pub(crate) type Line = (u64, Option<u64>, &'static [u32]);
-
-/// What the checker answers.
-pub(crate) type Answer = Result<Accepted, Refusal>;
 
 /// A claim with its lines, the text of the plan that is handed in, if one is, and what the checker answers.
 pub(crate) type Row = (Claim, &'static [Line], Option<&'static str>, Answer);
@@ -87,16 +84,59 @@ pub(crate) static ACCEPTED: [Listings; 8] = [
     ] },
 ];
 
+/// Nothing is lit, so that nothing is put anywhere: once it is grounded the task has the atoms of all 81 places.
+const SHELF: Texts = [
+    "(define (domain shelf) (:predicates (lit) (at ?x ?y))
+ (:action light :parameters () :precondition (lit) :effect (lit))
+ (:action put :parameters (?x ?y) :effect (when (lit) (at ?x ?y))))",
+    "(define (problem s) (:domain shelf) (:objects a b c d e f g h i) (:init) (:goal (lit)))",
+];
+
+/// Few of the atoms are listed that the ground task has: the others are false in each listed state.
+#[rattlefmt::skip]
+pub(crate) static FEW_ATOMS: [Listings; 7] = [
+    Listings { texts: SHELF, atoms: &[], max_instances: 100, rows: &[
+        (Claim::Unsolvable, &[(0, None, &[])], None, Ok(Accepted::Unsolvable)),
+        (Claim::Bound(7), &[(0, None, &[])], None, Ok(AtLeast { cost: 7 })),
+    ] },
+    Listings { texts: SHELF, atoms: &[(1, &[8, 8]), (0, &[])], max_instances: 100, rows: &[
+        (Claim::Unsolvable, &[(9, None, &[0]), (0, None, &[])], None, Ok(Accepted::Unsolvable)),
+        (Claim::Bound(7), &[(0, None, &[]), (7, Some(0), &[1])], None, Ok(AtLeast { cost: 7 })),
+        // once something is lit, the first place is taken by the first that is put
+        (Claim::Bound(7), &[(0, None, &[]), (7, None, &[1]), (8, None, &[0, 1])], None, Err(At { code: SuccessorMissing, line: 7 })),
+        (Claim::Unsolvable, &[(0, None, &[]), (7, None, &[1])], None, Err(At { code: GoalOpen, line: 7 })),
+    ] },
+    Listings { texts: PATH, atoms: &[(0, &[1]), (0, &[0])], max_instances: 100, rows: &[
+        (Claim::Bound(1), &[(0, None, &[1]), (1, Some(0), &[0])], None, Ok(AtLeast { cost: 1 })),
+        (Claim::Bound(1), &[(0, None, &[1]), (1, None, &[0])], None, Err(At { code: SuccessorMissing, line: 7 })),
+        (Claim::Bound(2), &[(0, None, &[1]), (2, Some(0), &[0])], None, Err(At { code: SuccessorDearer, line: 6 })),
+    ] },
+    // the atom of the start is not listed, and so no state is the initial one
+    Listings { texts: PATH, atoms: &[(0, &[1])], max_instances: 100, rows: &[
+        (Claim::Bound(0), &[(0, None, &[0])], None, Err(Plain(NoInitial))),
+        (Claim::Bound(0), &[(0, Some(0), &[]), (0, Some(0), &[0])], None, Err(Plain(NoInitial))),
+    ] },
+    Listings { texts: PATH, atoms: &[], max_instances: 100, rows: &[
+        (Claim::Bound(0), &[(0, Some(0), &[])], None, Err(Plain(NoInitial))),
+        (Claim::Bound(0), &[], None, Err(Plain(NoInitial))),
+    ] },
+    // the goal's atom is listed, and that of the first successor is not
+    Listings { texts: FORK, atoms: &[(0, &[0]), (0, &[2])], max_instances: 100, rows: &[
+        (Claim::Bound(1), &[(0, None, &[0]), (1, Some(0), &[1])], None, Err(At { code: SuccessorMissing, line: 6 })),
+    ] },
+    Listings { texts: HOP, atoms: &[(0, &[0]), (0, &[1])], max_instances: 100, rows: &[
+        (Claim::Bound(3), &[(0, None, &[0]), (3, Some(0), &[1])], None, Err(At { code: SuccessorMissing, line: 6 })),
+    ] },
+];
+
 /// Atoms are well-typed, fluent and distinct.
 #[rattlefmt::skip]
-pub(crate) static WRONG_ATOMS: [Listings; 8] = [
+pub(crate) static WRONG_ATOMS: [Listings; 6] = [
     Listings { texts: PATH, atoms: &[(0, &[0])], max_instances: 100, rows: START_IS_CUT },
-    // a static atom, an unknown predicate, a count of objects that is not the predicate's, an unknown object
+    // a static atom, and a count of objects that is not the predicate's
     Listings { texts: PATH, atoms: &[(0, &[0]), (1, &[0, 1])], max_instances: 100, rows: SECOND_IS_REFUSED },
-    Listings { texts: PATH, atoms: &[(2, &[0])], max_instances: 100, rows: FIRST_IS_REFUSED },
     Listings { texts: PATH, atoms: &[(0, &[])], max_instances: 100, rows: FIRST_IS_REFUSED },
     Listings { texts: PATH, atoms: &[(0, &[0, 1])], max_instances: 100, rows: FIRST_IS_REFUSED },
-    Listings { texts: PATH, atoms: &[(0, &[0]), (0, &[3])], max_instances: 100, rows: SECOND_IS_REFUSED },
     // an atom twice, and a static atom twice
     Listings { texts: PATH, atoms: &[(0, &[0]), (0, &[1]), (0, &[0]), (1, &[0, 1])], max_instances: 100, rows: &[
         (Claim::Bound(0), &[(0, Some(0), &[0])], None, Err(At { code: Repeated, line: 6 })),
@@ -213,7 +253,7 @@ pub(crate) static LIMITED: [Listings; 6] = [
         (Claim::Bound(1), &[], None, Err(Plain(Limit))),
         (Claim::Bound(1), &[(0, None, &[0]), (1, None, &[0])], None, Err(At { code: Repeated, line: 7 })),
     ] },
-    Listings { texts: GO, atoms: &[(2, &[])], max_instances: 0, rows: &[
+    Listings { texts: PATH, atoms: &[(1, &[0, 1])], max_instances: 0, rows: &[
         (Claim::Bound(1), &[], None, Err(At { code: NotFluent, line: 4 })),
     ] },
     Listings { texts: PATH, atoms: &[(0, &[0]), (0, &[1])], max_instances: 2, rows: &[
@@ -225,4 +265,32 @@ pub(crate) static LIMITED: [Listings; 6] = [
     Listings { texts: UNTIED, atoms: TIED, max_instances: 0, rows: &[
         (Claim::Unsolvable, &[(0, None, &[])], None, Ok(Accepted::Unsolvable)),
     ] },
+];
+
+/// Nine objects are more than an atom can have.
+const NINE: &str = "pddl-cert 1\nclaim bound 0\nconstant 0\natom 0 (at a a a a a a a a a)\nend 0\n";
+
+/// A task, the most instances that it may keep, a text that is that of no certificate in memory, and what the checker
+/// answers.
+#[rattlefmt::skip]
+pub(crate) static TEXTS: [(Texts, u32, &str, Answer); 15] = [
+    // an unknown predicate, an unknown object, and more objects than an atom has
+    (PATH, 100, "pddl-cert 1\nclaim bound 0\nconstant 0\natom 0 (by a)\ncut 0 0 0\nend 1\n", Err(At { code: NotFluent, line: 4 })),
+    (PATH, 100, "pddl-cert 1\nclaim bound 0\nconstant 0\natom 0 (at a)\natom 0 (at d)\ncut 0 0 0\nend 1\n", Err(At { code: NotFluent, line: 5 })),
+    (PATH, 100, NINE, Err(At { code: NotFluent, line: 4 })),
+    // that comes before the limit of instances
+    (GO, 0, "pddl-cert 1\nclaim bound 1\nconstant 0\natom 0 (r)\nend 0\n", Err(At { code: NotFluent, line: 4 })),
+    // the first line at fault is told: by the text's own rules, or for what it says of the task
+    (PATH, 100, "pddl-cert 2\nclaim bound 0\nconstant 0\natom 0 (by a)\nend 0\n", Err(At { code: CertVersion, line: 1 })),
+    (PATH, 100, "pddl-cert 1\nclaim bound 00\nconstant 0\natom 0 (by a)\nend 0\n", Err(At { code: CertForm, line: 2 })),
+    (PATH, 100, "pddl-cert 1\nclaim bound 0\nconstant 0\natom 0 (by a)\nopen 00\nend 1\n", Err(At { code: NotFluent, line: 4 })),
+    (PATH, 100, "pddl-cert 1\nclaim bound 0\nconstant 0\natom 0 (at a)\natom 0 (at a)\nopen 0 1", Err(At { code: Repeated, line: 5 })),
+    (PATH, 100, "pddl-cert 1\nclaim none\nconstant 0\natom 0 (at a)\ncut 0 0 0\nopen 0 1\nend 2\n", Err(At { code: CutNotAllowed, line: 5 })),
+    (PATH, 100, "pddl-cert 1\nclaim none\nconstant 0\natom 0 (at a)\nopen 0 0\nopen 9 0\nend 3\n", Err(At { code: Repeated, line: 6 })),
+    (PATH, 100, "pddl-cert 1\nclaim bound 0\nconstant 0\natom 0 (at a)\ncut 0 0 0\natom 0 (by a)\nend 1\n", Err(At { code: CertForm, line: 6 })),
+    // a listing that is not closed is told of a whole text alone
+    (PATH, 100, "pddl-cert 1\nclaim bound 1\nconstant 0\natom 0 (at a)\ncut 0 0 0\nend 2\n", Err(At { code: CertForm, line: 6 })),
+    (PATH, 100, "pddl-cert 1\nclaim bound 1\nconstant 0\natom 0 (at a)\ncut 0 0 0\nend 1", Err(At { code: Truncated, line: 6 })),
+    (PATH, 100, "pddl-cert 1\nclaim bound 1\nconstant 0\natom 0 (at a)\ncut 0 0 0\nend 1\n ", Err(At { code: CertForm, line: 7 })),
+    (PATH, 100, "pddl-cert 1\nclaim bound 1\nconstant 0\natom 0 (at a)\ncut 0 0 0\nend 1\n", Err(At { code: CutWeak, line: 5 })),
 ];
