@@ -1,4 +1,4 @@
-use Rattle.std.proofs.Common.{length, map, sym, ap, ◌∙◌, subst}
+use Rattle.std.proofs.Common.{length, sym, ap, ◌∙◌, subst}
 use Rattle.std.specs.Prelude.{IsTrue}
 use Rattle.std.proofs.lemmas.List.{length-map}
 use Rattle.model.specs.Certificates.{keeps_limits}
@@ -8,7 +8,7 @@ use Rattle.certificate_listing.proofs.NumbersLemmas.{all_below, same_certificate
 use Rattle.certificate_listing.proofs.listing.Listing.at_width.Goals as goal
 
 pub widened-requires : goal.widened-requires
-widened-requires c = record { within = all_below c.args.self c.args.width c.requires; }
+widened-requires c = record { within = all_below c.args.self c.args.width c.requires }
 
 pub new-requires-clause-limits : goal.new-requires-clause-limits
 new-requires-clause-limits c =
