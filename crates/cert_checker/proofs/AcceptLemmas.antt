@@ -1,8 +1,7 @@
 -- What is told of a text, by what is told of the certificate that was read from it.
-use Rattle.std.proofs.Common.{◌≡◌, ℕ, List, ◌++◌, Option, None, Some, inl, inr, refl, sym, ap, ◌∙◌, subst, append-nil, arith}
+use Rattle.std.proofs.Common.{◌≡◌, ℕ, List, ◌++◌, Option, None, Some, inr, sym, ap, ◌∙◌, subst, append-nil, arith}
 use Rattle.std.specs.Prelude.{IfErr, IfOk, OnOk, Ok, Err, Result}
 use Rattle.std.specs.Io.KnownBytes.{Consumes, IsAtEnd}
-use Rattle.devices.specs.Devices.{one_more}
 use Rattle.certificate_text.specs.CertificateNames.{IsTextOf}
 use Rattle.certificate_text.specs.CertificateChecking.{IsAccepted, IsLineFault}
 use Rattle.certificate_reader.specs.declared.reader.CertReader.{CertReader}
@@ -15,9 +14,7 @@ use Rattle.certificate_listing.specs.RefusalCode.{number_of}
 use Rattle.certificate_listing.specs.Reading.{CountsRefusal, IsLineRefusal, IsRead, IsToldAt}
 use Rattle.certificate_listing.proofs.AcceptedLemmas.{accepted_has_no_fault, one_certificate}
 use Rattle.model.specs.Task.{Task, Instance}
-use Rattle.model.specs.Runs.{cost_of_all}
-use Rattle.model.specs.Meaning.{system_of}
-use Rattle.model.specs.Claims.{Claim, bound, none}
+use Rattle.model.specs.Claims.{Claim}
 use Rattle.model.specs.Limits.{max_numbered_atoms}
 use Rattle.model.specs.Grounding.{limit_told}
 use Rattle.model.specs.Certificates.{Certificate, IsClosedFor}

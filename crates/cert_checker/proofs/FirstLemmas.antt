@@ -1,32 +1,26 @@
 -- Why a refusal of the checker is the first: what the reading of the lines has found out so far.
-use Rattle.std.proofs.Common.{◌≡◌, ◌≢◌, ℕ, ◌+◌, ◌<◌, ◌≤◌, ◌&&◌, Bool, true, false, List, length, map, take, get_or, Option, None, Some, inl, inr, refl, sym, ap, ◌∙◌, subst, arith}
-use Rattle.std.specs.Prelude.{All, MatchOption, ◌↔◌, Result, Ok, Err, IfErr, AllPairs, Contains, IsSome, IsTrue, is_some, slice_get}
+use Rattle.std.proofs.Common.{◌≡◌, ℕ, ◌<◌, List, length, map, take, get_or, Option, None, Some, refl, sym, ap, ◌∙◌, subst, arith}
+use Rattle.std.specs.Prelude.{All, MatchOption, Result, Ok, Err, IfErr, slice_get}
 use Rattle.std.proofs.lemmas.List.Elements.{All-contains}
-use Rattle.std.proofs.lemmas.List.{length-map, length-take, get_or-take, take-map}
+use Rattle.std.proofs.lemmas.List.{length-take, get_or-take, take-map}
 use Rattle.std.proofs.lemmas.Option.{slice_get_within, slice_get-get_or, get_or_from_slice_get}
-use Rattle.typing.specs.declared.atoms.Atom as code_atom
-use Rattle.typing.specs.TaskParts.{atom_of}
 use Rattle.certificate_listing.specs.declared.refusal.Refusal.{Refusal}
 use Rattle.certificate_listing.specs.declared.refusal.Refusal.TheVariants as refusal
 use Rattle.certificate_listing.specs.declared.refusal.RefusalCode.{RefusalCode}
 use Rattle.cert_checker.specs.Reasons.{reason_of}
 use Rattle.cert_checker.specs.CertChecker.{IsFirstRefusal, IsFirstSuccessor, IsFirstToLeave}
 use Rattle.cert_checker.specs.FluentAtoms.{AreFluent}
-use Rattle.cert_checker.specs.PackedLines.{packed_line, NamesAtoms}
 use Rattle.cert_checker.specs.CheckedLines.{CutsAreAllowed, IsLineClosed, IsRightUpTo}
 use Rattle.model.proofs.ListLemmas.{Contains-got}
 use Rattle.cert_checker.proofs.CertCheckerLemmas.{AllListed, entry, slice_get-map, got_mapped}
 use Rattle.cert_checker.proofs.RefusalsLemmas.{AreApart}
-use Rattle.cert_checker.proofs.PackedLinesLemmas.{one_set}
-use Rattle.cert_checker.proofs.OrderLemmas.{AtomsAreRight, StatesAreRight}
-use Rattle.model.specs.Task.{Task, Atom, Instance}
-use Rattle.model.specs.WellTyped.{is_atom}
+use Rattle.model.specs.Task.{Task, Instance}
 use Rattle.model.specs.Meaning.{State, system_of}
 use Rattle.model.specs.Instances.{successors_of}
 use Rattle.model.specs.Limits.{max_numbered_atoms}
 use Rattle.model.specs.Grounding.{limit_told}
 use Rattle.model.specs.Claims.{none, Line, IsListedWithin}
-use Rattle.model.specs.Certificates.{Certificate, StateLine, is_fluent, lines_of, IsClosedFor}
+use Rattle.model.specs.Certificates.{Certificate, StateLine, lines_of, IsClosedFor}
 use Rattle.model.specs.CertificateRefusals.{Reason, state_line, IsFirst}
 use Rattle.model.proofs.CertificateRefusalsLemmas.{apart}
 

@@ -1,4 +1,4 @@
-use Rattle.std.proofs.Common.{ℕ, List, Some, ◌≡◌, inl}
+use Rattle.std.proofs.Common.{inl}
 use Rattle.std.specs.Option.{option_map}
 use Rattle.faults.proofs.Results.{passed_on}
 use Rattle.typing.specs.Task.{task_of}

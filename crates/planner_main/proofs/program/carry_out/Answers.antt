@@ -17,3 +17,13 @@ pub returns-in-Solve-clause-partly : goal.returns-in-Solve-clause-partly
 returns-in-Solve-clause-partly g c = subst
     (λ command. IfErr c.tell_solution.result (λ failure. TellsPartlyFor command g.F.Files.is_known (g.F.Files.contents c.args.files.now) (g.F.Files.contents c.tell_solution.new.files) (g.O.Sink.taken c.args.out.now) (g.O.Sink.taken c.tell_solution.new.out)))
     (sym c.in-Solve.is) c.tell_solution.ensures.partly
+
+pub returns-in-Check-clause-told : goal.returns-in-Check-clause-told
+returns-in-Check-clause-told g c = subst
+    (λ command. IfOk c.tell_check.result (TellsFor command g.F.Files.is_known (g.F.Files.contents c.args.files.now) (g.F.Files.contents c.tell_check.new.files) (g.O.Sink.taken c.args.out.now) (g.O.Sink.taken c.tell_check.new.out)))
+    (sym c.in-Check.is) c.tell_check.ensures.told
+
+pub returns-in-Check-clause-partly : goal.returns-in-Check-clause-partly
+returns-in-Check-clause-partly g c = subst
+    (λ command. IfErr c.tell_check.result (λ failure. TellsPartlyFor command g.F.Files.is_known (g.F.Files.contents c.args.files.now) (g.F.Files.contents c.tell_check.new.files) (g.O.Sink.taken c.args.out.now) (g.O.Sink.taken c.tell_check.new.out)))
+    (sym c.in-Check.is) c.tell_check.ensures.partly

@@ -11,7 +11,7 @@ use Rattle.model.specs.Grounding.{limit_told}
 use Rattle.model.specs.Claims.{Line, IsListedWithin}
 use Rattle.model.specs.Certificates.{Certificate, lines_of}
 use Rattle.cert_checker.specs.CertChecker.{IsFirstRefusal, IsTrueRefusal}
-use Rattle.cert_checker.specs.CheckedLines.{CutsAreAllowed, IsFirstAnyway, IsLineClosed, IsRightUpTo, IsTrueAnyway}
+use Rattle.cert_checker.specs.CheckedLines.{CutsAreAllowed, IsLineClosed, IsRightUpTo, IsTrueAnyway}
 use Rattle.cert_checker.specs.PackedListing.{task_at, certificate_at}
 use Rattle.grounding.specs.Ground.{atoms_in}
 use Rattle.cert_checker.proofs.PackedListingLemmas.{numbered_after}

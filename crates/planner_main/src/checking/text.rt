@@ -1,0 +1,87 @@
+//! What the checker's answer is told as: a line, and the status.
+ghost use Rattle.std.specs.Prelude.{◌≡◌, ℕ, IfOk};
+ghost use Rattle.std.specs.String.{string_bytes};
+ghost use Rattle.certificate_listing.specs.Reading.{CountsRefusal};
+ghost use Rattle.devices.specs.Devices.{CountsDevice};
+ghost use Rattle.planner_main.specs.Checked.{IsLineOf, accepted_line, line_refused, name_of, plain_refused};
+
+use crate::report::{NO, YES};
+use cert_checker::{Accepted, Refusal, RefusalCode};
+use devices::WriteFault;
+use std::alloc::{AllocError, Global};
+
+/// The number of a limit, which is told without a line.
+const LIMIT: u8 = 55;
+
+/// The line of the answer, and its status.
+pub(crate) fn checked_text(
+    alloc: Global,
+    answer: &Result<Accepted, Refusal>,
+) -> Result<(Vec<u8>, u8), WriteFault>
+    ensures line { IfOk result (λ told. IsLineOf answer.now told.0.items told.1) }
+    ensures failures { (before after : ℕ) → CountsRefusal before after answer.now → CountsDevice before after result }
+{
+    let (line, status) = match answer {
+        Ok(accepted) => (accepted_line(alloc, *accepted), YES),
+        Err(Refusal::Line { code, line }) => (line_refused(alloc, *code, *line), NO),
+        Err(Refusal::Plain(code)) => (plain_refused(alloc, *code), NO),
+        Err(Refusal::Device) => return Err(WriteFault::Device),
+        // The reader is a new one, which has told no fault.
+        Err(Refusal::NoMemory | Refusal::Failed) => return Err(WriteFault::NoMemory),
+    };
+    Ok((line?.into_bytes(), status))
+}
+
+/// The line of what a certificate shows.
+fn accepted_line(alloc: Global, accepted: Accepted) -> Result<String, AllocError>
+    ensures { IfOk result (λ line. string_bytes line ≡ accepted_line accepted) }
+{
+    match accepted {
+        Accepted::Optimal { cost } => format!(in alloc; "optimal cost {cost}\n"),
+        Accepted::AtLeast { cost } => format!(in alloc; "at least {cost}\n"),
+        Accepted::Unsolvable => String::from_str(alloc, "unsolvable\n"),
+    }
+}
+
+/// The line of a refusal of a line.
+fn line_refused(alloc: Global, code: RefusalCode, line: u64) -> Result<String, AllocError>
+    ensures { IfOk result (λ told. string_bytes told ≡ line_refused code line) }
+{
+    let number = code.number();
+    if number == LIMIT {
+        return plain_refused(alloc, code);
+    }
+    let name = name_of(code);
+    format!(in alloc; "not accepted {number} {name} line {line}\n")
+}
+
+/// The line of a refusal that is not one of a line.
+fn plain_refused(alloc: Global, code: RefusalCode) -> Result<String, AllocError>
+    ensures { IfOk result (λ told. string_bytes told ≡ plain_refused code) }
+{
+    let number = code.number();
+    let name = name_of(code);
+    format!(in alloc; "not accepted {number} {name}\n")
+}
+
+/// The name of a refusal.
+fn name_of(code: RefusalCode) -> &'static str
+    ensures { result.now ≡ name_of code }
+{
+    match code {
+        RefusalCode::CertForm => "CertForm",
+        RefusalCode::CertVersion => "CertVersion",
+        RefusalCode::Truncated => "Truncated",
+        RefusalCode::NotFluent => "NotFluent",
+        RefusalCode::Repeated => "Repeated",
+        RefusalCode::NoInitial => "NoInitial",
+        RefusalCode::GoalOpen => "GoalOpen",
+        RefusalCode::SuccessorMissing => "SuccessorMissing",
+        RefusalCode::SuccessorDearer => "SuccessorDearer",
+        RefusalCode::CutWeak => "CutWeak",
+        RefusalCode::CutNotAllowed => "CutNotAllowed",
+        RefusalCode::PlanInvalid => "PlanInvalid",
+        RefusalCode::PlanDearer => "PlanDearer",
+        RefusalCode::Limit => "Limit",
+    }
+}
