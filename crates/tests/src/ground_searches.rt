@@ -4,7 +4,6 @@ ghost use Rattle.grounding.specs.Ground.{task_in, atoms_in};
 ghost use Rattle.model.specs.Grounding.{ground_system};
 
 use crate::answers::{ANSWERS, Found};
-use crate::helpers::on_task;
 use faults::NoMemory;
 use grounding::{Ground, GroundFault};
 use packed_state::{Packed, PlainStore, PooledStore, StateStore};
@@ -13,6 +12,7 @@ use solver::Limit;
 use std::alloc::Global;
 use std::test::Fail;
 use typing::Task;
+use test_texts::on_task;
 
 /// A ground task, as search sees it.
 #[derive(Clone, Copy)]

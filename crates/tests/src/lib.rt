@@ -2,27 +2,15 @@
 #![tactic(auto)]
 
 #[cfg(test)]
-mod answers;
-#[cfg(test)]
-mod certificates;
-#[cfg(test)]
-mod changed_texts;
-#[cfg(test)]
 mod ground_literals;
 #[cfg(test)]
 mod ground_searches;
 #[cfg(test)]
 mod ground_tasks;
 #[cfg(test)]
-mod helpers;
-#[cfg(test)]
 mod laws;
 #[cfg(test)]
-mod listings;
-#[cfg(test)]
 mod states;
-#[cfg(test)]
-mod streams;
 #[cfg(test)]
 mod tasks;
 #[cfg(test)]

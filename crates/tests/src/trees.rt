@@ -1,5 +1,4 @@
 //! Trees of domains and problems in memory, and what is told of words that stop too early.
-use crate::helpers::{read_domain, read_problem};
 use faults::{Code, Fault, Refusal, Span};
 use pddl_tree::{
     Action, Domain, Effect, EffectLiteral, Fact, Formula, Group, Name, Problem, Term, domain,
@@ -7,6 +6,7 @@ use pddl_tree::{
 };
 use std::test::Fail;
 use tokens::scan;
+use test_texts::{read_domain, read_problem};
 
 const GO: &[u8] =
     b"(define (domain go) (:predicates (p) (q ?x)) (:functions (total-cost) - number) (:action go :parameters (?a)

@@ -27,7 +27,7 @@ returns-in_err-listing-clause-accepts g c =
 pub judge-requires-clause-fluent : goal.judge-requires-clause-fluent
 judge-requires-clause-fluent g c =
     let read = c.in_ok-listing.ensures.read in
-    record { fluent = read.fluent; distinct = read.distinct; }
+    record { fluent = read.fluent; distinct = read.distinct }
 
 pub judge-requires-clause-allowed : goal.judge-requires-clause-allowed
 judge-requires-clause-allowed g c = cuts_allowed (task_of c.args.task.now) (certificate_in c.in_ok-listing.listing) c.in_ok-listing.ensures.read.allowed

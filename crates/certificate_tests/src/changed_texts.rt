@@ -1,10 +1,10 @@
 //! Texts of certificates that are changed in one byte, or cut. What is accepted of them is true.
-use crate::helpers::{Answer, check_text, on_task};
+use crate::helpers::{Answer, check_text};
 use cert_checker::{Accepted, Refusal, RefusalCode};
 use std::alloc::{AllocError, Global};
 use std::process::Abort;
 use std::test::Fail;
-use test_texts::{HOP, PATH, Texts};
+use test_texts::{HOP, PATH, Texts, on_task};
 use typing::Task;
 
 /// A task, what its cheapest plan costs, a text, and how many texts that differ from it in one byte are accepted.

@@ -1,5 +1,5 @@
 //! Listings of small tasks, and what the checker says of each: those that are closed, and those with one condition broken.
-use crate::helpers::{Answer, Term};
+use crate::helpers::Answer;
 use cert_checker::Accepted;
 use cert_checker::Accepted::{AtLeast, Optimal};
 use cert_checker::Refusal::{Line as At, Plain};
@@ -8,7 +8,7 @@ use cert_checker::RefusalCode::{
     PlanDearer, PlanInvalid, Repeated, SuccessorDearer, SuccessorMissing, Truncated,
 };
 use certificate::Claim;
-use test_texts::{DONE, FORK, GO, HOP, PAIRS, PATH, TIE, Texts, UNTIED};
+use test_texts::{DONE, FORK, GO, HOP, PAIRS, PATH, TIE, Term, Texts, UNTIED};
 
 /// A state line: its cost, its bound if it is a cut, and its atoms.
 pub(crate) type Line = (u64, Option<u64>, &'static [u32]);

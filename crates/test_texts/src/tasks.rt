@@ -1,25 +1,25 @@
-//! What the tests of plans share: the task of two texts, and instances by numbers.
+//! Tasks of texts, and their atoms and instances by numbers.
 use arrayvec::ArrayVec;
-use faults::Fault;
-use formulas::Instance;
+use faults::{Fault, NoMemory};
+use formulas::{Atom, Instance};
 use pddl_tree::{Domain, Problem, domain, problem};
 use std::alloc::Global;
 use std::process::Abort;
 use std::test::Fail;
 use tokens::scan;
-use typing::{ObjectId, SchemaId, Task};
+use typing::{ObjectId, PredicateId, SchemaId, Task};
 
-/// An action and its objects, by their numbers.
-pub(crate) type Term = (usize, &'static [u32]);
+/// A predicate or an action, and its objects, by their numbers.
+pub type Term = (usize, &'static [u32]);
 
 /// The tree of a domain's text.
-fn read_domain(alloc: Global, text: &[u8]) -> Result<Domain<'_>, Fault> {
+pub fn read_domain(alloc: Global, text: &[u8]) -> Result<Domain<'_>, Fault> {
     let words = scan(alloc, text)?;
     domain(alloc, words.as_slice())
 }
 
 /// The tree of a problem's text.
-fn read_problem(alloc: Global, text: &[u8]) -> Result<Problem<'_>, Fault> {
+pub fn read_problem(alloc: Global, text: &[u8]) -> Result<Problem<'_>, Fault> {
     let words = scan(alloc, text)?;
     problem(alloc, words.as_slice())
 }
@@ -32,7 +32,7 @@ fn read_task(alloc: Global, texts: &[&str; 2]) -> Result<Task, Fail> {
 }
 
 /// Does this with the task of the texts.
-pub(crate) fn on_task<R: Abort, F: FnOnce(&R, Global, &Task) -> Result<(), Fail> + Drop>(
+pub fn on_task<R: Abort, F: FnOnce(&R, Global, &Task) -> Result<(), Fail> + Drop>(
     rt: &R,
     alloc: Global,
     texts: &[&str; 2],
@@ -53,8 +53,25 @@ fn objects<const N: usize>(numbers: &[u32]) -> ArrayVec<ObjectId, N> {
     objects
 }
 
+/// The atom of a predicate and objects.
+pub fn atom(predicate: usize, numbers: &[u32]) -> Atom {
+    Atom {
+        predicate: PredicateId(predicate),
+        objects: objects(numbers),
+    }
+}
+
+/// The atoms of these predicates and objects.
+pub fn atoms(alloc: Global, rows: &[Term]) -> Result<Vec<Atom>, NoMemory> {
+    let mut atoms = Vec::new(alloc);
+    for row in rows {
+        atoms.push(atom(row.0, row.1))?;
+    }
+    Ok(atoms)
+}
+
 /// The instance of a schema with objects.
-pub(crate) fn instance(schema: usize, numbers: &[u32]) -> Instance {
+pub fn instance(schema: usize, numbers: &[u32]) -> Instance {
     Instance {
         schema: SchemaId(schema),
         objects: objects(numbers),
@@ -62,7 +79,7 @@ pub(crate) fn instance(schema: usize, numbers: &[u32]) -> Instance {
 }
 
 /// Whether the instance is of this schema and these objects.
-pub(crate) fn is_of(found: &Instance, wanted: &Term) -> bool {
+pub fn is_of(found: &Instance, wanted: &Term) -> bool {
     let objects = objects(wanted.1);
     found.schema == SchemaId(wanted.0) && found.objects == objects
 }

@@ -1,7 +1,7 @@
 //! The checker over sources that give bytes in pieces, that fail, and that never end.
 ghost use Rattle.std.specs.Prelude.{◌<◌, vec_len};
 
-use crate::helpers::{Answer, check_source, on_task};
+use crate::helpers::{Answer, check_source};
 use cert_checker::Accepted;
 use cert_checker::Refusal::{Device, Line as At};
 use cert_checker::RefusalCode::{CertForm, Repeated};
@@ -9,7 +9,7 @@ use devices::{Endless, FailsAt, InPieces, Memory};
 use std::alloc::{AllocError, Global};
 use std::process::Abort;
 use std::test::Fail;
-use test_texts::PAIRS;
+use test_texts::{PAIRS, on_task};
 use typing::Task;
 
 /// There is no plan.

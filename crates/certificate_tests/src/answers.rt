@@ -1,11 +1,11 @@
 //! Answers to tasks, and that the checker accepts the texts of their certificates.
-use crate::helpers::{check_cert, on_task};
+use crate::helpers::check_cert;
 use cert_checker::Accepted;
 use solver::{Answer, Limit, Limits, solve};
 use std::alloc::Global;
 use std::process::Abort;
 use std::test::Fail;
-use test_texts::{DONE, GO, HOP, PAIRS, TIE, Texts, UNTIED};
+use test_texts::{DONE, GO, HOP, PAIRS, TIE, Texts, UNTIED, on_task};
 use typing::Task;
 
 /// Two towers of two blocks, of which `b` stands in the way of `c`: `b` is moved twice, `c` and `a` once.

@@ -1,5 +1,5 @@
 //! The checker on small tasks: certificates that are accepted, and certificates with one condition broken.
-use crate::helpers::{Answer, Term, atom, atoms, check_cert, check_text, on_task};
+use crate::helpers::{Answer, check_cert, check_text};
 use crate::listings::{
     ACCEPTED, FEW_ATOMS, LIMITED, Line, Listings, PLANNED, Row, TEXTS, WRONG_ATOMS, WRONG_LINES,
 };
@@ -10,6 +10,7 @@ use std::alloc::Global;
 use std::process::Abort;
 use std::test::Fail;
 use typing::Task;
+use test_texts::{Term, atom, atoms, on_task};
 
 /// The state lines of these costs, cuts and atoms.
 fn state_lines(alloc: Global, rows: &[Line]) -> Result<Vec<StateLine>, NoMemory> {
