@@ -69,6 +69,13 @@ impl<R: Source> CertReader<R> {
         self.position.lines
     }
 
+    /// The source, as far as it was read.
+    pub fn into_source(self) -> R
+        ensures { result ≡ source_of self }
+    {
+        self.source
+    }
+
     /// The next line; behind the last one `None`, where nothing follows it. The source is read only while no whole line
     /// has come, or, behind the last line, until a byte or the end has.
     ///
