@@ -10,3 +10,4 @@ pub mod WideningLemmas
 pub mod NumbersLemmas
 pub mod SplitLemmas
 pub mod AcceptedLemmas
+pub mod WrittenLemmas

@@ -2,6 +2,7 @@
 #![tactic(auto)]
 
 mod beginning;
+mod laws;
 mod listing;
 mod names;
 mod reading;
@@ -9,6 +10,7 @@ mod refusal;
 mod states;
 mod widening;
 
+pub use laws::{closed_certificates_are_accepted, written_certificates_read_back};
 pub use listing::Listing;
 pub use reading::read_listing;
 pub use refusal::{Refusal, RefusalCode};
