@@ -21,7 +21,7 @@ given_before : (held : Option (Bor (List ℕ))) (is_new : Bool) → is_some held
 given_before None is_new tested old = absurd (cc (tested, old))
 given_before (Some word) is_new tested old = (word.now, refl)
 
-names_differ : (name other : List ℕ) → bytes_eq name other ≡ false → name ≢ other
+pub names_differ : (name other : List ℕ) → bytes_eq name other ≡ false → name ≢ other
 names_differ name other unlike = λ is. absurd (cc (sym unlike ∙ (bytes_eq-Decides name other).1 is))
 
 -- The value of another option stays.
@@ -194,3 +194,8 @@ module _ (words : List (List ℕ)) (held : Options) (options : List NamedValue) 
 -- where no number is given there is a limit
 pub allowed_alone : (text : Option (List ℕ)) → text ≡ None → IsLimit text 1000000
 allowed_alone text is = subst (λ text. IsLimit text 1000000) (sym is) (refl, omega arith, omega arith)
+
+-- what is so is so where there is nothing
+pub where_none : {T : Type 0} {P : Type 0} (r : Option T) → P → IfNone r P
+where_none None h = h
+where_none (Some value) h = tt

@@ -1,6 +1,6 @@
 -- What the words of the program are, and what it tells of them.
 use Rattle.std.proofs.Common.{◌≡◌, ℕ, ◌<◌, ◌≤◌, ◌⊎◌, inl, inr, List, [], ◌∷◌, ◌++◌, length, codes, get_or, take, drop, refl, sym, ap, ◌∙◌, subst, arith}
-use Rattle.std.specs.Prelude.{Result, Ok, Err, Option, None, Some, IfErr, IfNone, IfOk, IfSome, OnOk, IsTrue, Bool, true, false}
+use Rattle.std.specs.Prelude.{Result, Ok, Err, Option, None, Some, IfNone, IfOk, IfSome, OnOk, IsTrue, Bool, true, false}
 use Rattle.std.specs.Io.KnownBytes.{Appends}
 use Rattle.std.specs.Borrow.{Bor}
 use Rattle.solver.specs.declared.answer.Answer.{Answer}
@@ -14,6 +14,7 @@ use Rattle.devices.specs.declared.device.WriteFault.TheVariants as device
 use Rattle.planner_main.specs.Options.{Asked, AskedOfCheck, IsOneOf, AreOptions, AreCheckOptions, value_of}
 use Rattle.planner_main.specs.Written.{NamedText}
 use Rattle.planner_main.proofs.OptionWords.{first_same, one_list, rest_same}
+use Rattle.planner_main.proofs.OptionsHeld.{names_differ}
 use Rattle.planner_main.specs.Checked.{IsInputFault, IsLineOf}
 use Rattle.certificate_listing.specs.declared.refusal.Refusal.{Refusal}
 use Rattle.certificate_listing.specs.declared.refusal.Refusal.TheVariants as refused
@@ -80,10 +81,10 @@ validate_is_not_solve : codes "solve" ≡ codes "validate" → ⊥
 validate_is_not_solve same = absurd (cc)
 
 check_is_not_validate : codes "validate" ≡ codes "check" → ⊥
-check_is_not_validate same = absurd (cc)
+check_is_not_validate = names_differ (codes "validate") (codes "check") refl
 
 check_is_not_solve : codes "solve" ≡ codes "check" → ⊥
-check_is_not_solve same = absurd (cc)
+check_is_not_solve = names_differ (codes "solve") (codes "check") refl
 
 -- No words ask for both a verdict and a plan.
 not_both : (words : List (List ℕ)) (d p l domain problem : List ℕ) (asked : Asked) → AsksForVerdict words d p l
@@ -244,7 +245,6 @@ answered_status contents (Validate domain problem plan) text status written ((d,
     ap is_failure is_status ∙ verdict_status v
 answered_status contents (Solve domain problem limits plan cert) text status written (d, p, d_is, p_is, (task, a, is_task, is_true, (is_text, is_status, files))) =
     ap is_failure is_status ∙ answer_status a
-
 answered_status contents (Check domain problem cert plan instances) text status written ((d, p, l, d_is, p_is, l_is, (c, c_is, (task, steps, answer, is_task, handed, is_true, line))), none) =
     checked_status answer text status line
 
@@ -325,22 +325,6 @@ reading_counted before opened after input input_after (Err device.Device) same f
     failed (omega (arith, counted, fresh)) ∙ ap one_more same
 reading_counted before opened after input input_after (Err device.NoMemory) same fresh counted unfailed failed = unfailed (counted ∙ fresh) ∙ same
 
--- So where the input that was read is given back at the end, and the call answers for another reason.
-module _ (before opened after input input_after back : ℕ) (same : opened ≡ before) (fresh : input ≡ 0) (given : back ≡ input_after)
-    (unfailed : back ≡ 0 → after ≡ opened) (failed : 0 < back → after ≡ one_more opened) where
-  pub finished_unfailed : {T : Type 0} (r : Result T Failure) → IfOk r (λ _. input_after ≡ input) → IfOk r (λ _. after ≡ before)
-  finished_unfailed (Ok told) none = unfailed (given ∙ none ∙ fresh) ∙ same
-  finished_unfailed (Err f) none = tt
-
-  finished_failure : (f : Failure) → CountsFailure input input_after f → CountsFailure before after f
-  finished_failure (failure.Text fault) counted = unfailed (given ∙ counted ∙ fresh) ∙ same
-  finished_failure (failure.Device device.Device) counted = failed (omega (arith, given, counted, fresh)) ∙ ap one_more same
-  finished_failure (failure.Device device.NoMemory) counted = unfailed (given ∙ counted ∙ fresh) ∙ same
-
-  pub finished_failures : {T : Type 0} (r : Result T Failure) → IfErr r (CountsFailure input input_after) → IfErr r (CountsFailure before after)
-  finished_failures (Ok told) counted = tt
-  finished_failures (Err f) counted = finished_failure f counted
-
 -- What is refused of the texts of files.
 module _ (contents : List ℕ → Option (List ℕ)) where
   pub refused_on_two : (domain problem d p : List ℕ) → IsText contents domain d → IsText contents problem p
@@ -361,13 +345,7 @@ module _ (contents : List ℕ → Option (List ℕ)) where
   refused_on_inputs domain problem plan d p l d_is p_is l_is None h = tt
   refused_on_inputs domain problem plan d p l d_is p_is l_is (Some fault) h = (d, p, l, d_is, p_is, l_is, h)
 
-  -- the same of what a call answered, and of what it told
-  pub refused_on_inputs_in : {T : Type 0} (domain problem : List ℕ) (plan : Option (List ℕ)) (d p : List ℕ) (l : Option (List ℕ)) → IsText contents domain d → IsText contents problem p
-      → IsTextIfNamed contents plan l → (r : Result T Failure) → IfErr r (λ f. IfSome (fault_in f) (IsInputFault d p l))
-      → IfErr r (λ f. IfSome (fault_in f) (λ fault. OnInputs contents domain problem plan (λ d p l. IsInputFault d p l fault)))
-  refused_on_inputs_in domain problem plan d p l d_is p_is l_is (Ok told) h = tt
-  refused_on_inputs_in domain problem plan d p l d_is p_is l_is (Err f) h = refused_on_inputs domain problem plan d p l d_is p_is l_is (fault_in f) h
-
+  -- the same of what a call told
   pub told_on_inputs : {T : Type 0} (domain problem : List ℕ) (plan : Option (List ℕ)) (d p : List ℕ) (l : Option (List ℕ)) → IsText contents domain d → IsText contents problem p
       → IsTextIfNamed contents plan l → (Holds : T → List ℕ → List ℕ → Option (List ℕ) → Type 0) → (r : Result T Failure) → IfOk r (λ told. Holds told d p l)
       → IfOk r (λ told. OnInputs contents domain problem plan (Holds told))

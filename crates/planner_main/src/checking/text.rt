@@ -1,11 +1,11 @@
 //! What the checker's answer is told as: a line, and the status.
-ghost use Rattle.std.specs.Prelude.{◌≡◌, ℕ, IfOk};
+ghost use Rattle.std.specs.Prelude.{◌≡◌, ℕ, IfErr, IfOk, None};
 ghost use Rattle.std.specs.String.{string_bytes};
 ghost use Rattle.certificate_listing.specs.Reading.{CountsRefusal};
-ghost use Rattle.devices.specs.Devices.{CountsDevice};
 ghost use Rattle.planner_main.specs.Checked.{IsLineOf, accepted_line, line_refused, name_of, plain_refused};
+ghost use Rattle.planner_main.specs.Program.{CountsFailure, fault_in};
 
-use crate::report::{NO, YES};
+use crate::report::{Failure, NO, YES};
 use cert_checker::{Accepted, Refusal, RefusalCode};
 use devices::WriteFault;
 use std::alloc::{AllocError, Global};
@@ -17,19 +17,26 @@ const LIMIT: u8 = 55;
 pub(crate) fn checked_text(
     alloc: Global,
     answer: &Result<Accepted, Refusal>,
-) -> Result<(Vec<u8>, u8), WriteFault>
+) -> Result<(Vec<u8>, u8), Failure>
     ensures line { IfOk result (λ told. IsLineOf answer.now told.0.items told.1) }
-    ensures failures { (before after : ℕ) → CountsRefusal before after answer.now → CountsDevice before after result }
+    ensures refused { IfErr result (λ failure. fault_in failure ≡ None) }
+    ensures unfailed { IfOk result (λ _. (before after : ℕ) → CountsRefusal before after answer.now → after ≡ before) }
+    ensures failures { IfErr result (λ failure. (before after : ℕ) → CountsRefusal before after answer.now → CountsFailure before after failure) }
 {
     let (line, status) = match answer {
         Ok(accepted) => (accepted_line(alloc, *accepted), YES),
         Err(Refusal::Line { code, line }) => (line_refused(alloc, *code, *line), NO),
         Err(Refusal::Plain(code)) => (plain_refused(alloc, *code), NO),
-        Err(Refusal::Device) => return Err(WriteFault::Device),
+        Err(Refusal::Device) => return Err(Failure::Device(WriteFault::Device)),
         // The reader is a new one, which has told no fault.
-        Err(Refusal::NoMemory | Refusal::Failed) => return Err(WriteFault::NoMemory),
+        Err(Refusal::NoMemory | Refusal::Failed) => {
+            return Err(Failure::Device(WriteFault::NoMemory));
+        }
     };
-    Ok((line?.into_bytes(), status))
+    match line {
+        Ok(line) => Ok((line.into_bytes(), status)),
+        Err(AllocError) => Err(Failure::Device(WriteFault::NoMemory)),
+    }
 }
 
 /// The line of what a certificate shows.
