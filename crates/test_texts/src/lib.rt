@@ -5,4 +5,4 @@ mod tasks;
 mod texts;
 
 pub use tasks::{Term, atom, atoms, instance, is_of, on_task, read_domain, read_problem};
-pub use texts::{Texts, GO, DONE, TIE, UNTIED, PATH, FORK, HOP, PAIRS};
+pub use texts::{DONE, FORK, FOUR_BALLS, FOUR_BLOCKS, GO, HOP, PAIRS, PATH, TIE, Texts, UNTIED};

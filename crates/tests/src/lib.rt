@@ -2,6 +2,8 @@
 #![tactic(auto)]
 
 #[cfg(test)]
+mod answers;
+#[cfg(test)]
 mod ground_literals;
 #[cfg(test)]
 mod ground_searches;
