@@ -4,7 +4,6 @@ use faults::{Fault, NoMemory};
 use formulas::{Atom, Instance};
 use pddl_tree::{Domain, Problem, domain, problem};
 use std::alloc::Global;
-use std::process::Abort;
 use std::test::Fail;
 use tokens::scan;
 use typing::{ObjectId, PredicateId, SchemaId, Task};
@@ -32,7 +31,7 @@ fn read_task(alloc: Global, texts: &[&str; 2]) -> Result<Task, Fail> {
 }
 
 /// Does this with the task of the texts.
-pub fn on_task<R: Abort, F: FnOnce(&R, Global, &Task) -> Result<(), Fail> + Drop>(
+pub fn on_task<R, F: FnOnce(&R, Global, &Task) -> Result<(), Fail> + Drop>(
     rt: &R,
     alloc: Global,
     texts: &[&str; 2],
