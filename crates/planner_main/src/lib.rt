@@ -4,6 +4,7 @@
 
 mod checking;
 pub mod files;
+mod laws;
 mod program;
 mod report;
 mod solve;
@@ -12,6 +13,7 @@ mod verdict;
 
 pub use checking::{Checked, check_files};
 pub use files::Files;
+pub use laws::solved_certificates_are_accepted;
 pub use program::run;
 pub use solve::{Solved, solve_files};
 pub use task_file::{File, FileFault, one_task};

@@ -7,7 +7,7 @@ use grounding::{
     ground_task_solves_alike, grounding_examples_are_judged, numbered_literals_hold,
     only_counting_changes_are_made, packs_states,
 };
-use planner_main::one_task;
+use planner_main::{one_task, solved_certificates_are_accepted};
 use typing::examples_are_typed;
 use validator::{exactly_one_verdict_is_true, worked_examples_are_true};
 
@@ -41,6 +41,7 @@ fn laws_are_called() {
     certificate_reader::texts_are_certificates_one_for_one();
     written_certificates_read_back();
     closed_certificates_are_accepted();
+    solved_certificates_are_accepted();
     closed_claim_holds();
     solving_list_stays_listed();
     examples_are_judged();
