@@ -4,9 +4,7 @@ use cert_checker::Accepted;
 use solver::{Answer, Limits, solve};
 use std::alloc::Global;
 use std::test::Fail;
-use test_texts::{
-    DONE, FOUR_BALLS, FOUR_BLOCKS, GO, HOP, PAIRS, TIE, Texts, UNTIED, on_task,
-};
+use test_texts::{DONE, FOUR_BALLS, FOUR_BLOCKS, GO, HOP, PAIRS, TIE, Texts, UNTIED, on_task};
 use typing::Task;
 
 /// Tasks, with the most states and the most kept instances: enough for an answer.
@@ -27,8 +25,10 @@ fn is_shown(alloc: Global, task: &Task, limits: Limits) -> Result<bool, Fail> {
         Answer::Plan { steps, cost, cert } => {
             let with_plan = check_cert(alloc, task, &cert, Some(&steps), 1_000_000)?;
             let without = check_cert(alloc, task, &cert, None, 1_000_000)?;
-            Ok(with_plan == Ok(Accepted::Optimal { cost })
-                && without == Ok(Accepted::AtLeast { cost }))
+            Ok(
+                with_plan == Ok(Accepted::Optimal { cost })
+                    && without == Ok(Accepted::AtLeast { cost }),
+            )
         }
         Answer::Unsolvable { cert } => {
             Ok(check_cert(alloc, task, &cert, None, 1_000_000)? == Ok(Accepted::Unsolvable))

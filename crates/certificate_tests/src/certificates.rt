@@ -9,8 +9,8 @@ use plan_file::read_plan;
 use std::alloc::Global;
 use std::process::Abort;
 use std::test::Fail;
-use typing::Task;
 use test_texts::{Term, atom, atoms, on_task};
+use typing::Task;
 
 /// The state lines of these costs, cuts and atoms.
 fn state_lines(alloc: Global, rows: &[Line]) -> Result<Vec<StateLine>, NoMemory> {

@@ -1,9 +1,7 @@
 //! Answers to tasks.
 use solver::{Answer, Limit, Limits, solve};
 use std::test::Fail;
-use test_texts::{
-    DONE, FOUR_BALLS, FOUR_BLOCKS, GO, HOP, PAIRS, TIE, Texts, UNTIED, on_task,
-};
+use test_texts::{DONE, FOUR_BALLS, FOUR_BLOCKS, GO, HOP, PAIRS, TIE, Texts, UNTIED, on_task};
 
 /// What is found out of a task: what a plan costs, or that there is none, or the limit that is exceeded.
 pub(crate) type Found = Result<Option<u64>, Limit>;

@@ -11,8 +11,8 @@ use search::{FoundStates, MAX_STATES, Outcome, TransitionSystem, best_first};
 use solver::Limit;
 use std::alloc::Global;
 use std::test::Fail;
-use typing::Task;
 use test_texts::on_task;
+use typing::Task;
 
 /// A ground task, as search sees it.
 #[derive(Clone, Copy)]

@@ -5,8 +5,8 @@ use pddl_tree::{
     problem,
 };
 use std::test::Fail;
-use tokens::scan;
 use test_texts::{read_domain, read_problem};
+use tokens::scan;
 
 const GO: &[u8] =
     b"(define (domain go) (:predicates (p) (q ?x)) (:functions (total-cost) - number) (:action go :parameters (?a)
