@@ -8,10 +8,9 @@ use Rattle.certificate_text.specs.CertificateChecking.{AreRight, IsAccepted, IsL
 use Rattle.certificate_reader.specs.declared.reader.CertReader.{CertReader}
 use Rattle.certificate_reader.specs.Reader.{source_of}
 use Rattle.certificate_listing.specs.declared.refusal.RefusalCode.{RefusalCode}
-use Rattle.certificate_listing.specs.declared.refusal.RefusalCode.TheVariants.{CertForm, CertVersion, Truncated, NotFluent, Repeated, NoInitial, GoalOpen, SuccessorMissing, SuccessorDearer, CutWeak, CutNotAllowed, PlanInvalid, PlanDearer, Limit}
 use Rattle.certificate_listing.specs.declared.refusal.Refusal.{Refusal}
 use Rattle.certificate_listing.specs.declared.refusal.Refusal.TheVariants as refusal
-use Rattle.certificate_listing.specs.RefusalCode.{number_of}
+use Rattle.certificate_listing.specs.RefusalCode.{name_of, number_of}
 use Rattle.cert_checker.specs.declared.checker.Accepted.{Accepted}
 use Rattle.cert_checker.specs.declared.checker.Accepted.TheVariants.{Optimal, AtLeast, Unsolvable}
 use Rattle.cert_checker.specs.CertChecker.{Answers, IsFirstRefusal, IsNoFault, IsShown, IsTrueRefusal}
@@ -83,23 +82,6 @@ abbrev pub accepted_line : Accepted → List ℕ
 accepted_line (Optimal cost) = codes "optimal cost " ++ (decimal cost ++ codes "\n")
 accepted_line (AtLeast cost) = codes "at least " ++ (decimal cost ++ codes "\n")
 accepted_line Unsolvable = codes "unsolvable\n"
-
--- the name of a refusal
-abbrev pub name_of : RefusalCode → List ℕ
-name_of CertForm = codes "CertForm"
-name_of CertVersion = codes "CertVersion"
-name_of Truncated = codes "Truncated"
-name_of NotFluent = codes "NotFluent"
-name_of Repeated = codes "Repeated"
-name_of NoInitial = codes "NoInitial"
-name_of GoalOpen = codes "GoalOpen"
-name_of SuccessorMissing = codes "SuccessorMissing"
-name_of SuccessorDearer = codes "SuccessorDearer"
-name_of CutWeak = codes "CutWeak"
-name_of CutNotAllowed = codes "CutNotAllowed"
-name_of PlanInvalid = codes "PlanInvalid"
-name_of PlanDearer = codes "PlanDearer"
-name_of Limit = codes "Limit"
 
 -- the lines of refusals: `not accepted CODE Name`, and `not accepted CODE Name line L` of a line, but for 55, of which none is told
 abbrev pub plain_refused : RefusalCode → List ℕ
