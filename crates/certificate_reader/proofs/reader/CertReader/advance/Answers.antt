@@ -22,8 +22,7 @@ returns-then-branch-clause-told g c = λ before read.
 
 pub returns-in-Ended-clause-told : goal.returns-in-Ended-clause-told
 returns-in-Ended-clause-told g c = λ before read.
-    let more = rw c.if-branch.false at c.in_ok-is_at_end.ensures.end in
-    (
+    let more = rw c.if-branch.false at c.in_ok-is_at_end.ensures.end in (
       more.0,
       more.1,
       trailing_told before (ends before (read.place ∙ ap (λ stage. Some (place_of stage)) c.in-Ended.is)) _ more.0 _ more.2 more.3,
