@@ -1,10 +1,10 @@
 -- What the checker's answers say, of a certificate that was gone through and of a closed one.
-use Rattle.std.proofs.Common.{◌≡◌, ℕ, ◌≤◌, arith, List, length, Option, sym, ◌∙◌, refl}
-use Rattle.std.specs.Prelude.{Contains, IfErr, OnOk, Result, Ok, Err}
+use Rattle.std.proofs.Common.{◌≡◌, ℕ, ◌≤◌, arith, List, length, Option, sym, ap, ◌∙◌, refl}
+use Rattle.std.specs.Prelude.{Contains, IfErr, MatchOption, OnOk, Result, Ok, Err, None, Some}
 use Rattle.std.proofs.lemmas.Option.{slice_get_within}
-use Rattle.cert_checker.specs.declared.check.Refusal.{Refusal}
-use Rattle.cert_checker.specs.declared.check.Refusal.TheVariants as refusal
-use Rattle.cert_checker.specs.RefusalCode.{reason_of}
+use Rattle.certificate_listing.specs.declared.refusal.Refusal.{Refusal}
+use Rattle.certificate_listing.specs.declared.refusal.Refusal.TheVariants as refusal
+use Rattle.cert_checker.specs.Reasons.{reason_of}
 use Rattle.cert_checker.specs.CertChecker.{IsTrueRefusal, IsNoFault}
 use Rattle.cert_checker.specs.CheckedLines.{IsLineClosed, IsRightUpTo}
 use Rattle.validator.specs.declared.verdict.Verdict as code_verdict
@@ -16,7 +16,7 @@ use Rattle.model.specs.Runs.{System, cost_of_all, Solves, CostsAtLeast, IsOptima
 use Rattle.model.specs.Meaning.{State}
 use Rattle.model.specs.Claims.{Line}
 use Rattle.model.specs.Certificates.{Certificate, lines_of, IsClosedFor}
-use Rattle.model.specs.CertificateRefusals.{IsPlanWithin}
+use Rattle.model.specs.CertificateRefusals.{Reason, limit, IsPlanWithin, IsWrong, IsWrongLine}
 use Rattle.model.proofs.ListLemmas.{Contains-place}
 use Rattle.model.proofs.CertificateRefusalsLemmas.{right, right_line}
 
@@ -43,11 +43,23 @@ closed_for task c most right = record {
         let at = Contains-place (lines_of task c) line listed in
         right.lines at.0 line (slice_get_within (lines_of task c) at.0 line at.1) at.1
 
+-- nothing is wrong with a line of a closed certificate, and what else is wrong is a limit of its ground task
+no_line : (task : Task) (c : Certificate) → IsClosedFor task c → (line : ℕ) (o : Option Reason) → MatchOption o ⊥ (λ reason. IsWrongLine task c reason line) → ⊥
+no_line task c closed line (Some reason) wrong = right_line task c closed reason line wrong
+no_line task c closed line None wrong = wrong
+
+only_limit : (task : Task) (c : Certificate) (plan : Option (List Instance)) (most : ℕ) → IsClosedFor task c → IsPlanWithin task c.claim plan → (o : Option Reason)
+    → MatchOption o ⊥ (λ reason. IsWrong task c plan most reason) → o ≡ Some limit
+only_limit task c plan most closed within (Some reason) wrong = ap Some (right task c closed plan most reason within wrong)
+only_limit task c plan most closed within None wrong = absurd wrong
+
 -- a true refusal of a closed certificate, with a plan that costs no more than is claimed, is of no fault of theirs
 pub no_fault : (task : Task) (c : Certificate) (plan : Option (List Instance)) (most : ℕ) → IsClosedFor task c → IsPlanWithin task c.claim plan → (e : Refusal) → IsTrueRefusal task c plan most e → IsNoFault e
-no_fault task c plan most closed within (refusal.Line code line) wrong = right_line task c closed (reason_of code) line wrong
-no_fault task c plan most closed within (refusal.Plain code) wrong = right task c closed plan most (reason_of code) within wrong
+no_fault task c plan most closed within (refusal.Line code line) wrong = no_line task c closed line (reason_of code) wrong
+no_fault task c plan most closed within (refusal.Plain code) wrong = only_limit task c plan most closed within (reason_of code) wrong
 no_fault task c plan most closed within refusal.NoMemory wrong = tt
+no_fault task c plan most closed within refusal.Device wrong = tt
+no_fault task c plan most closed within refusal.Failed wrong = wrong
 
 pub no_fault_of : {T : Type 0} (task : Task) (c : Certificate) (plan : Option (List Instance)) (most : ℕ) → IsClosedFor task c → IsPlanWithin task c.claim plan → (r : Result T Refusal)
     → IfErr r (λ e. (m : ℕ) → IsTrueRefusal task c plan m e) → IfErr r IsNoFault

@@ -1,6 +1,6 @@
 -- Why a certificate that the checker goes through without a refusal is closed.
 use Rattle.std.proofs.Common.{◌≡◌, ℕ, zero, suc, ◌+◌, ◌<◌, ◌≤◌, true, ◌&&◌, List, [], ◌∷◌, ◌++◌, length, map, take, get_or, Option, None, Some, inl, inr, refl, sym, ap, ◌∙◌, subst, arith}
-use Rattle.std.specs.Prelude.{IsTrue, MatchOption, OnOk, Result, Ok, Err, nat_eq, Contains, slice_get}
+use Rattle.std.specs.Prelude.{IsTrue, MatchOption, OnOk, Result, Ok, Err, nat_eq, nat_le, Contains, slice_get}
 use Rattle.std.specs.Option.{option_eq, option_map_or}
 use Rattle.std.proofs.lemmas.Bool.{eqb-true, ltb-true, and_parts}
 use Rattle.std.specs.List.{list_all}
@@ -8,14 +8,12 @@ use Rattle.std.proofs.lemmas.List.{take_all, take_more, map-append, length-map}
 use Rattle.std.proofs.lemmas.List.Elements.{Contains-append_cases}
 use Rattle.std.proofs.lemmas.Option.{slice_get_within}
 use Rattle.model.proofs.Tests.{passes_got}
-use Rattle.certificate_lines.specs.declared.line.StateLine as code_line
-use Rattle.certificate_lines.specs.Lines.{line_of}
-use Rattle.cert_checker.specs.CheckedLines.{IsListedAt, IsOpenClosed, IsCutClosed, IsLineClosed}
+use Rattle.cert_checker.specs.CheckedLines.{HasCost, IsListedAt, IsOpenClosed, IsCutClosed, IsLineClosed}
 use Rattle.model.specs.Task.{Task, Instance}
 use Rattle.model.specs.Meaning.{State, system_of}
 use Rattle.model.specs.Instances.{successors_of}
 use Rattle.model.specs.Claims.{Allows, Line, IsListedWithin}
-use Rattle.model.specs.Certificates.{Certificate, StateLine, state_of_line, lines_of, is_number, is_state_line, rise}
+use Rattle.model.specs.Certificates.{Certificate, StateLine, is_claim, is_number, is_state_line, keeps_limits, lines_of, rise, state_of_line}
 use Rattle.model.specs.CertificateRefusals.{IsListed}
 use Rattle.model.proofs.ListLemmas.{Contains-cases, Contains-none}
 use Rattle.model.proofs.InstancesLemmas.{Contains-successors}
@@ -44,12 +42,6 @@ same_place xs i x y at_x at_y = cc
 
 abbrev pub entry : Task → Certificate → StateLine → Line State
 entry task cert l = record { state = state_of_line task cert l; cost = l.cost; cut = l.cut }
-
--- what the listing has at the place of a line of the code's certificate
-pub listed_there : (task : Task) (cert : Certificate) (lines : List code_line.StateLine) (place : ℕ) (l : code_line.StateLine)
-    → map line_of lines ≡ cert.lines → slice_get lines place ≡ Some l → slice_get (lines_of task cert) place ≡ Some (entry task cert (line_of l))
-listed_there task cert lines place l is at =
-    slice_get-map (entry task cert) cert.lines place (line_of l) (subst (λ ls. slice_get ls place ≡ Some (line_of l)) is (slice_get-map line_of lines place l at))
 
 pub listed_within : {S : Type 0} (lines : List (Line S)) (s : S) (listed cost : ℕ) → IsListedAt lines s listed → listed ≤ cost → IsListedWithin lines s cost
 listed_within lines s listed cost at le = (at.0, at.1, at.2, omega (arith, at.3))
@@ -116,39 +108,22 @@ pub line_if_ok : {T E : Type 0} (task : Task) (cert : Certificate) (place : ℕ)
 line_if_ok task cert place line (Ok v) here closed = λ other there. subst (IsLineClosed task cert) (same_place (lines_of task cert) place line other here there) closed
 line_if_ok task cert place line (Err e) here closed = tt
 
-pub lines_within : (task : Task) (cert : Certificate) (lines : List code_line.StateLine) (k : ℕ) (line : Line State) → map line_of lines ≡ cert.lines → slice_get (lines_of task cert) k ≡ Some line
-    → k < length lines
-lines_within task cert lines k line is at =
-    omega (arith, slice_get_within (lines_of task cert) k line at, length-map cert.lines (entry task cert), ap length is, length-map lines line_of)
+pub lines_within : (task : Task) (cert : Certificate) (k : ℕ) (line : Line State) → slice_get (lines_of task cert) k ≡ Some line → k < length cert.lines
+lines_within task cert k line at = omega (arith, slice_get_within (lines_of task cert) k line at, length-map cert.lines (entry task cert))
 
 -- ---- limits
 
-pub small_cost : (atom_count : ℕ) (lines : List code_line.StateLine) (place : ℕ) (l : code_line.StateLine) → slice_get lines place ≡ Some l
-    → list_all (is_state_line atom_count) (map line_of lines) ≡ true → l.cost < 1152921504606846976
-small_cost atom_count lines place l at all =
-    let one = passes_got (is_state_line atom_count) (map line_of lines) place (line_of l) (slice_get-map line_of lines place l at) all in
-    let cut = option_map_or is_number l.cut true in
-    ltb-true l.cost 1152921504606846976 (and_parts (is_number l.cost) cut (and_parts (is_number l.cost && cut) (rise atom_count 0 l.atoms.items) one).0).0
+small_line : (c : Certificate) (place : ℕ) (l : StateLine) → keeps_limits c ≡ true → slice_get c.lines place ≡ Some l → (is_number l.cost && option_map_or is_number l.cut true) ≡ true
+small_line c place l keeps at =
+    let all = (and_parts (is_claim c.claim && nat_le (length c.atoms) 1048576 && nat_le (length c.lines) 16777216) (list_all (is_state_line (length c.atoms)) c.lines) keeps).1 in
+    (and_parts (is_number l.cost && option_map_or is_number l.cut true) (rise (length c.atoms) 0 l.atoms) (passes_got (is_state_line (length c.atoms)) c.lines place l at all)).0
 
-pub small_cut : (atom_count : ℕ) (lines : List code_line.StateLine) (place : ℕ) (l : code_line.StateLine) (rest : ℕ) → slice_get lines place ≡ Some l
-    → list_all (is_state_line atom_count) (map line_of lines) ≡ true → l.cut ≡ Some rest → rest < 1152921504606846976
-small_cut atom_count lines place l rest at all is_cut =
-    let one = passes_got (is_state_line atom_count) (map line_of lines) place (line_of l) (slice_get-map line_of lines place l at) all in
-    let cut = option_map_or is_number l.cut true in
-    let small = (and_parts (is_number l.cost) cut (and_parts (is_number l.cost && cut) (rise atom_count 0 l.atoms.items) one).0).1 in
-    ltb-true rest 1152921504606846976 (subst (λ o. option_map_or is_number o true ≡ true) is_cut small)
+pub small_cost : (c : Certificate) (place cost : ℕ) (o : Option ℕ) → keeps_limits c ≡ true → HasCost c place cost o → cost < 1152921504606846976
+small_cost c place cost o keeps (l, at, cost_is, cut_is) =
+    let small = ltb-true l.cost 1152921504606846976 (and_parts (is_number l.cost) (option_map_or is_number l.cut true) (small_line c place l keeps at)).0 in
+    omega (arith, small, cost_is)
 
--- ---- the lines, one after another
-
-pub sets_more : {X Y : Type 0} (view : X → Y) (xs : List X) (k : ℕ) (x : X) (before after : List Y) → k < length xs → x ≡ get_or xs k x → before ≡ map view (take k xs)
-    → after ≡ before ++ view x ∷ [] → after ≡ map view (take (k + 1) xs)
-sets_more view xs k x before after lt at so here =
-    here ∙ ap (λ l. l ++ view x ∷ []) so ∙ sym (ap (map view) (take_more xs k x lt ∙ ap (λ y. take k xs ++ y ∷ []) (sym at)) ∙ map-append view (take k xs) (x ∷ []))
-
-pub in_two : {X Y Z : Type 0} (f : Y → Z) (g : X → Y) (xs : List X) → map (λ x. f (g x)) xs ≡ map f (map g xs)
-in_two f g [] = refl
-in_two f g (x ∷ xs) = ap (λ rest. f (g x) ∷ rest) (in_two f g xs)
-
--- a code type's view of the whole list
-pub sets_whole : {X Y Z : Type 0} (f : Y → Z) (g : X → Y) (xs : List X) (ys : List Y) (k : ℕ) (now : List Z) → length xs ≤ k → map g xs ≡ ys → now ≡ map (λ x. f (g x)) (take k xs) → now ≡ map f ys
-sets_whole f g xs ys k now past is so = so ∙ ap (map (λ x. f (g x))) (take_all k xs past) ∙ in_two f g xs ∙ ap (map f) is
+pub small_cut : (c : Certificate) (place cost rest : ℕ) → keeps_limits c ≡ true → HasCost c place cost (Some rest) → rest < 1152921504606846976
+small_cut c place cost rest keeps (l, at, cost_is, cut_is) =
+    let small = (and_parts (is_number l.cost) (option_map_or is_number l.cut true) (small_line c place l keeps at)).1 in
+    ltb-true rest 1152921504606846976 (subst (λ o. option_map_or is_number o true ≡ true) cut_is small)

@@ -1,6 +1,5 @@
 pub mod CertCheckerLemmas
 pub mod RefusalsLemmas
-pub mod ReadingLemmas
 pub mod AnswerLemmas
 pub mod OrderLemmas
 pub mod FirstLemmas
@@ -8,3 +7,4 @@ pub mod StaysLemmas
 pub mod GroundSuccessors
 pub mod PackedLinesLemmas
 pub mod PackedListingLemmas
+pub mod AcceptLemmas

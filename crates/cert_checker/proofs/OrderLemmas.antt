@@ -1,5 +1,5 @@
 -- What is told of a certificate is the first thing that is wrong: nothing before it is.
-use Rattle.std.proofs.Common.{◌≡◌, ◌≢◌, ℕ, ◌<◌, ◌≤◌, ◌⊎◌, ◌&&◌, true, List, length, Option, None, Some, inl, inr, refl, sym, ap, ◌∙◌, subst, arith}
+use Rattle.std.proofs.Common.{◌≡◌, ◌≢◌, ℕ, ◌<◌, ◌⊎◌, ◌&&◌, true, List, length, Option, None, Some, inl, inr, refl, sym, ap, ◌∙◌, subst, arith}
 use Rattle.std.specs.Prelude.{IsSome, IsTrue, AllPairs, slice_get}
 use Rattle.std.proofs.lemmas.Bool.{cases_eq}
 use Rattle.std.proofs.lemmas.Option.{slice_get_within, get_or_from_slice_get}
@@ -11,7 +11,7 @@ use Rattle.model.specs.Limits.{max_numbered_atoms}
 use Rattle.model.specs.Grounding.{limit_told}
 use Rattle.model.specs.Claims.{none, Allows, Line, IsListedWithin}
 use Rattle.model.specs.Certificates.{Certificate, is_fluent, lines_of, IsClosedFor}
-use Rattle.model.specs.CertificateRefusals.{Reason, not_fluent, repeated, no_initial, goal_open, successor_missing, successor_dearer, cut_weak, cut_not_allowed, plan_invalid, plan_dearer, limit, IsWrongLine, IsWrong, IsFirst, stage_of, rank_of, atom_line, state_line}
+use Rattle.model.specs.CertificateRefusals.{Reason, not_fluent, repeated, no_initial, goal_open, successor_missing, successor_dearer, cut_weak, cut_not_allowed, plan_invalid, plan_dearer, limit, IsWrongLine, IsWrong, IsFirst, stage_of, rank_of, state_line}
 use Rattle.cert_checker.specs.FluentAtoms.{AreFluent}
 use Rattle.cert_checker.specs.CheckedLines.{CutsAreAllowed, IsLineClosed, IsRightUpTo}
 use Rattle.model.proofs.CertificateRefusalsLemmas.{apart, right_line}
@@ -54,25 +54,7 @@ module _ (task : Task) (c : Certificate) where
 
   -- ---- reading
 
-  -- nothing is wrong with the lines of the first atoms
-  pub atoms_before : (count line : ℕ) (r : Reason) → count ≤ length c.atoms → AtomsAreRight task c count → line < atom_line count → stage_of r ≡ 0 → IsWrongLine task c r line → ⊥
-  atoms_before count line not_fluent le right lt stage (a, (place, told, at), wrong) =
-      let fluent = right.fluent place a (omega arith) at in
-      absurd (cc)
-  atoms_before count line repeated le right lt stage (inl (a, before, earlier, (j, told_j, at_j), (k, told_k, at_k))) =
-      right.distinct j k a (omega arith) (omega arith) at_j at_k
-  atoms_before count line repeated le right lt stage (inr (other, l, before, earlier, there, (k, told_k, at_k), same)) = absurd (omega arith)
-  atoms_before count line cut_not_allowed le right lt stage (l, rest, (k, told, at), cut, claim) = absurd (omega arith)
-  atoms_before count line no_initial le right lt stage wrong = wrong
-  atoms_before count line goal_open le right lt stage wrong = absurd (omega arith)
-  atoms_before count line successor_missing le right lt stage wrong = absurd (omega arith)
-  atoms_before count line successor_dearer le right lt stage wrong = absurd (omega arith)
-  atoms_before count line cut_weak le right lt stage wrong = absurd (omega arith)
-  atoms_before count line plan_invalid le right lt stage wrong = wrong
-  atoms_before count line plan_dearer le right lt stage wrong = wrong
-  atoms_before count line limit le right lt stage wrong = wrong
-
-  -- nor with those of the first states
+  -- nothing is wrong with the lines of the first states
   states_right : (count line : ℕ) (r : Reason) → AtomsAreRight task c (length c.atoms) → StatesAreRight task c count
       → ((k : ℕ) → line ≡ state_line c k → k < length (lines_of task c) → k < count) → stage_of r ≡ 0 → IsWrongLine task c r line → ⊥
   states_right count line not_fluent atoms right reach stage (a, (place, told, at), wrong) =
@@ -106,90 +88,6 @@ module _ (task : Task) (c : Certificate) where
   of_line plan most plan_invalid stage wrong = absurd (omega arith)
   of_line plan most plan_dearer stage wrong = absurd (omega arith)
   of_line plan most limit stage wrong = absurd (omega arith)
-
-  first_in_reading : (plan : Option (List Instance)) (most : ℕ) (reason : Reason) (line : ℕ) → stage_of reason ≡ 0
-      → ((r : Reason) (l : ℕ) → l < line → stage_of r ≡ 0 → IsWrongLine task c r l → ⊥)
-      → ((r : Reason) → stage_of r ≡ 0 → rank_of r < rank_of reason → IsWrongLine task c r line → ⊥)
-      → IsFirst task c plan most reason line
-  first_in_reading plan most reason line stage lines here r l (inl before) wrong = omega arith
-  first_in_reading plan most reason line stage lines here r l (inr (same, inl before)) (inl wrong) = lines r l before (same ∙ stage) wrong
-  first_in_reading plan most reason line stage lines here r l (inr (same, inl before)) (inr wrong) = of_line plan most r (same ∙ stage) wrong
-  first_in_reading plan most reason line stage lines here r l (inr (same, inr (there, rank))) (inl wrong) =
-      here r (same ∙ stage) rank (subst (IsWrongLine task c r) there wrong)
-  first_in_reading plan most reason line stage lines here r l (inr (same, inr (there, rank))) (inr wrong) = of_line plan most r (same ∙ stage) wrong
-
-  pub first_atom : (plan : Option (List Instance)) (most k : ℕ) → k ≤ length c.atoms → AtomsAreRight task c k → IsFirst task c plan most not_fluent (atom_line k)
-  first_atom plan most k le right =
-      first_in_reading plan most not_fluent (atom_line k) refl (λ r l lt stage wrong. atoms_before k l r le right lt stage wrong) (λ r stage rank wrong. omega arith)
-
-  fluent_here : (k : ℕ) (r : Reason) → ((a : Atom) → slice_get c.atoms k ≡ Some a → (is_atom task a && is_fluent task a.predicate) ≡ true) → stage_of r ≡ 0 → rank_of r < 1
-      → IsWrongLine task c r (atom_line k) → ⊥
-  fluent_here k not_fluent fluent stage rank (a, (place, told, at), wrong) =
-      let same : place ≡ k = omega arith in
-      let holds = fluent a (subst (λ j. slice_get c.atoms j ≡ Some a) same at) in
-      absurd (cc)
-  fluent_here k repeated fluent stage rank wrong = omega arith
-  fluent_here k cut_not_allowed fluent stage rank wrong = omega arith
-  fluent_here k no_initial fluent stage rank wrong = omega arith
-  fluent_here k goal_open fluent stage rank wrong = absurd (omega arith)
-  fluent_here k successor_missing fluent stage rank wrong = omega arith
-  fluent_here k successor_dearer fluent stage rank wrong = omega arith
-  fluent_here k cut_weak fluent stage rank wrong = absurd (omega arith)
-  fluent_here k plan_invalid fluent stage rank wrong = wrong
-  fluent_here k plan_dearer fluent stage rank wrong = wrong
-  fluent_here k limit fluent stage rank wrong = wrong
-
-  pub first_repeated_atom : (plan : Option (List Instance)) (most k : ℕ) → k ≤ length c.atoms → AtomsAreRight task c k
-      → ((a : Atom) → slice_get c.atoms k ≡ Some a → (is_atom task a && is_fluent task a.predicate) ≡ true) → IsFirst task c plan most repeated (atom_line k)
-  first_repeated_atom plan most k le right fluent =
-      first_in_reading plan most repeated (atom_line k) refl (λ r l lt stage wrong. atoms_before k l r le right lt stage wrong) (λ r stage rank wrong. fluent_here k r fluent stage rank wrong)
-
-  states_upto : (k l : ℕ) (r : Reason) → AtomsAreRight task c (length c.atoms) → StatesAreRight task c k → l < state_line c k → stage_of r ≡ 0 → IsWrongLine task c r l → ⊥
-  states_upto k l r atoms right lt stage wrong = states_right k l r atoms right (λ j told within. omega arith) stage wrong
-
-  atoms_here : (k : ℕ) (r : Reason) → AtomsAreRight task c (length c.atoms) → stage_of r ≡ 0 → rank_of r < 1 → IsWrongLine task c r (state_line c k) → ⊥
-  atoms_here k not_fluent atoms stage rank (a, (place, told, at), wrong) =
-      let fluent = atoms.fluent place a (slice_get_within c.atoms place a at) at in
-      absurd (cc)
-  atoms_here k repeated atoms stage rank wrong = omega arith
-  atoms_here k cut_not_allowed atoms stage rank wrong = omega arith
-  atoms_here k no_initial atoms stage rank wrong = omega arith
-  atoms_here k goal_open atoms stage rank wrong = absurd (omega arith)
-  atoms_here k successor_missing atoms stage rank wrong = omega arith
-  atoms_here k successor_dearer atoms stage rank wrong = omega arith
-  atoms_here k cut_weak atoms stage rank wrong = absurd (omega arith)
-  atoms_here k plan_invalid atoms stage rank wrong = wrong
-  atoms_here k plan_dearer atoms stage rank wrong = wrong
-  atoms_here k limit atoms stage rank wrong = wrong
-
-  pub first_repeated_state : (plan : Option (List Instance)) (most k : ℕ) → AtomsAreRight task c (length c.atoms) → StatesAreRight task c k → IsFirst task c plan most repeated (state_line c k)
-  first_repeated_state plan most k atoms right =
-      first_in_reading plan most repeated (state_line c k) refl (λ r l lt stage wrong. states_upto k l r atoms right lt stage wrong) (λ r stage rank wrong. atoms_here k r atoms stage rank wrong)
-
-  distinct_here : (k : ℕ) (r : Reason) → AtomsAreRight task c (length c.atoms)
-      → ((j : ℕ) (a b : Line State) → j < k → slice_get (lines_of task c) j ≡ Some a → slice_get (lines_of task c) k ≡ Some b → a.state ≡ b.state → ⊥)
-      → stage_of r ≡ 0 → rank_of r < 2 → IsWrongLine task c r (state_line c k) → ⊥
-  distinct_here k not_fluent atoms new stage rank wrong = atoms_here k not_fluent atoms refl (omega arith) wrong
-  distinct_here k repeated atoms new stage rank (inl (a, before, earlier, (j, told_j, at_j), (i, told_i, at_i))) =
-      atoms.distinct j i a (omega arith) (slice_get_within c.atoms i a at_i) at_j at_i
-  distinct_here k repeated atoms new stage rank (inr (other, l, before, earlier, (j, told_j, at_j), (i, told_i, at_i), same)) =
-      let here : i ≡ k = omega arith in
-      new j other l (omega arith) at_j (subst (λ n. slice_get (lines_of task c) n ≡ Some l) here at_i) same
-  distinct_here k cut_not_allowed atoms new stage rank wrong = omega arith
-  distinct_here k no_initial atoms new stage rank wrong = wrong
-  distinct_here k goal_open atoms new stage rank wrong = absurd (omega arith)
-  distinct_here k successor_missing atoms new stage rank wrong = absurd (omega arith)
-  distinct_here k successor_dearer atoms new stage rank wrong = absurd (omega arith)
-  distinct_here k cut_weak atoms new stage rank wrong = absurd (omega arith)
-  distinct_here k plan_invalid atoms new stage rank wrong = wrong
-  distinct_here k plan_dearer atoms new stage rank wrong = wrong
-  distinct_here k limit atoms new stage rank wrong = wrong
-
-  pub first_not_allowed : (plan : Option (List Instance)) (most k : ℕ) → AtomsAreRight task c (length c.atoms) → StatesAreRight task c k
-      → ((j : ℕ) (a b : Line State) → j < k → slice_get (lines_of task c) j ≡ Some a → slice_get (lines_of task c) k ≡ Some b → a.state ≡ b.state → ⊥)
-      → IsFirst task c plan most cut_not_allowed (state_line c k)
-  first_not_allowed plan most k atoms right new =
-      first_in_reading plan most cut_not_allowed (state_line c k) refl (λ r l lt stage wrong. states_upto k l r atoms right lt stage wrong) (λ r stage rank wrong. distinct_here k r atoms new stage rank wrong)
 
   -- ---- after reading
 

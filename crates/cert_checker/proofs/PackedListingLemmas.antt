@@ -1,31 +1,36 @@
 -- What a packed listing has to do with the certificate's states.
-use Rattle.std.proofs.Common.{◌≡◌, ◌≢◌, ◌∙◌, ℕ, ◌<◌, ◌≤◌, Bool, List, ◌++◌, length, map, get_or, Option, Some, refl, sym, ap, subst, arith}
-use Rattle.std.specs.Prelude.{Contains, slice_get}
+use Rattle.std.proofs.Common.{◌≡◌, ◌≢◌, ◌∙◌, ℕ, ◌<◌, ◌≤◌, Bool, List, ◌++◌, length, map, get_or, Option, Some, refl, sym, ap, subst, arith, true}
+use Rattle.std.specs.Prelude.{AllPairs, Contains, nat_le, slice_get, ◌&&◌}
 use Rattle.std.proofs.lemmas.List.{length-append, length-map}
 use Rattle.std.proofs.lemmas.Option.{slice_get_within, slice_get-get_or}
 use Rattle.packed_state.specs.declared.pooled.PooledStore.{PooledStore}
-use Rattle.packed_state.specs.PooledView.{pooled_states}
-use Rattle.certificate_lines.specs.declared.line.StateLine as code_line
-use Rattle.certificate_lines.specs.Lines.{line_of}
+use Rattle.packed_state.specs.PooledView.{pooled_states, pooled_width}
+use Rattle.packed_state.specs.Store.{AreDistinct}
+use Rattle.certificate_listing.specs.declared.listing.Listing.{Listing}
+use Rattle.certificate_listing.specs.Listing.{certificate_in, store_in}
+use Rattle.certificate_listing.proofs.NumbersLemmas.{sets_are}
+use Rattle.std.specs.List.{list_all}
+use Rattle.std.proofs.lemmas.Bool.{and_parts}
 use Rattle.cert_checker.specs.FluentAtoms.{AreFluent}
 use Rattle.cert_checker.specs.CheckedLines.{HasCost, Stands, IsListedAt}
-use Rattle.cert_checker.specs.PackedLines.{packed_line, HoldsLines, IsPackedListing}
+use Rattle.cert_checker.specs.PackedLines.{packed_line, HoldsLines, IsPackedListing, NamesAtoms}
 use Rattle.cert_checker.proofs.CertCheckerLemmas.{entry, got_mapped, slice_get-map}
 use Rattle.cert_checker.proofs.GroundSuccessors.{leads_by, leads_by-successors}
 use Rattle.cert_checker.proofs.RefusalsLemmas.{AreApart}
-use Rattle.cert_checker.proofs.PackedLinesLemmas.{all_fluent, length-set_of, one_set, state_packed}
+use Rattle.cert_checker.proofs.PackedLinesLemmas.{all_fluent, length-set_of, names_atoms, one_set, state_packed}
 use Rattle.model.specs.Task.{Atom, Task}
 use Rattle.model.specs.Meaning.{State, initial_state}
 use Rattle.model.specs.Instances.{successors_of}
 use Rattle.model.specs.Claims.{Line}
-use Rattle.model.specs.Certificates.{Certificate, StateLine, state_of_line, lines_of}
+use Rattle.model.specs.Certificates.{Certificate, StateLine, is_claim, is_state_line, keeps_limits, state_of_line, lines_of}
 use Rattle.model.specs.CertificateRefusals.{IsListed}
 use Rattle.model.specs.NumberedAtoms.{numbered_atoms, HasNumberedFluents}
 use Rattle.model.specs.Grounding.{state_of_bits, bits_of_state, applicable_numbers, PacksStates}
 use Rattle.model.proofs.CertificateRefusalsLemmas.{apart}
 use Rattle.model.proofs.GroundTaskLemmas.{are_numbered, initial-numbered, packs_states}
-use Rattle.model.proofs.ListLemmas.{Contains-got, Contains-map, map-Contains}
+use Rattle.model.proofs.ListLemmas.{Contains-got, Contains-map, Contains-place, map-Contains}
 use Rattle.model.proofs.NumberingLemmas.{distinct-from_pairs}
+use Rattle.model.proofs.Tests.{passes_got}
 
 -- ---- the store
 
@@ -45,6 +50,27 @@ module _ (c : Certificate) (width : ℕ) (store : PooledStore) (holds : HoldsLin
       apart (λ (s t : List Bool). s ≢ t) (pooled_states store) i j (packed_line width first.0) (packed_line width second.0) holds.distinct before (set_there i first.0 first.1) (set_there j second.0 second.1)
       (one_set task c fluent width first.0 second.0 (holds.named first.0 (Contains-got c.lines i first.0 first.1)) (holds.named second.0 (Contains-got c.lines j second.0 second.1))
       (ap state first.2 ∙ same ∙ sym (ap state second.2)))
+
+-- ---- a listing
+
+unlike : (states : List (List Bool)) → AreDistinct states → AllPairs (λ (s t : List Bool). s ≢ t) states
+unlike states distinct i j d before within same =
+    let first : slice_get states i ≡ Some (get_or states j d) = slice_get-get_or states i d (omega (arith, before, within)) ∙ ap Some same in
+    omega (arith, before, distinct i j (get_or states j d) first (slice_get-get_or states j d within))
+
+names_its_atoms : (c : Certificate) → keeps_limits c ≡ true → (l : StateLine) → Contains c.lines l → NamesAtoms c l
+names_its_atoms c keeps l among =
+    let all = (and_parts (is_claim c.claim && nat_le (length c.atoms) 1048576 && nat_le (length c.lines) 16777216) (list_all (is_state_line (length c.atoms)) c.lines) keeps).1 in
+    let (place, at) = Contains-place c.lines l among in
+    names_atoms (length c.atoms) l (passes_got (is_state_line (length c.atoms)) c.lines place l at all)
+
+pub holds_lines : (listing : Listing) (width : ℕ) → pooled_width (store_in listing) ≡ width → HoldsLines (certificate_in listing) width (store_in listing)
+holds_lines listing width wide = record {
+  wide = wide;
+  sets = subst (λ w. pooled_states (store_in listing) ≡ map (packed_line w) (certificate_in listing).lines) wide (sym (sets_are listing));
+  distinct = unlike (pooled_states (store_in listing)) (store_in listing).pooled.stored.distinct;
+  named = names_its_atoms (certificate_in listing) listing.within_limits;
+}
 
 -- ---- the states
 
@@ -76,12 +102,11 @@ module _ (task : Task) (atoms : List Atom) (c : Certificate) (store : PooledStor
       slice_get-map (entry task c) c.lines place l at_l ∙ (λ i. Some (record { state = same i; cost = cost_is i; cut = cut_is i }))
 
   -- a state that is found is listed at the cost of its line
-  pub found_at : (place : ℕ) (bits : List Bool) (lines : List code_line.StateLine) (l : code_line.StateLine) → slice_get (pooled_states store) place ≡ Some bits → map line_of lines ≡ c.lines
-      → slice_get lines place ≡ Some l → IsListedAt (lines_of task c) (state_of_bits task atoms bits) l.cost
-  found_at place bits lines l at is at_l =
-      let here : slice_get c.lines place ≡ Some (line_of l) = subst (λ those. slice_get those place ≡ Some (line_of l)) is (slice_get-map line_of lines place l at_l) in
-      let stands = stands_there place bits at l.cost l.cut (line_of l, here, refl, refl) in
-      (record { state = state_of_bits task atoms bits; cost = l.cost; cut = l.cut }, Contains-got (lines_of task c) place _ stands, refl, refl)
+  pub found_at : (place : ℕ) (bits : List Bool) (cost : ℕ) (cut : Option ℕ) → slice_get (pooled_states store) place ≡ Some bits → HasCost c place cost cut
+      → IsListedAt (lines_of task c) (state_of_bits task atoms bits) cost
+  found_at place bits cost cut at has =
+      let stands = stands_there place bits at cost cut has in
+      (record { state = state_of_bits task atoms bits; cost = cost; cut = cut }, Contains-got (lines_of task c) place _ stands, refl, refl)
 
   -- and one that is not found is not listed
   pub not_listed : (bits : List Bool) → length bits ≡ length atoms → ¬ Contains (pooled_states store) bits → ¬ IsListed (lines_of task c) (state_of_bits task atoms bits)
@@ -93,9 +118,8 @@ module _ (task : Task) (atoms : List Atom) (c : Certificate) (store : PooledStor
       sym (packs.one_packed (packed_line (length atoms) from.0) (length-set_of (length atoms) from.0.atoms)) ∙ ap (bits_of_state atoms) same ∙ packs.one_packed bits long in
       missing (subst (λ sets. Contains sets bits) (sym listed.holds.sets) (subst (Contains (map (packed_line (length atoms)) c.lines)) set (Contains-map (packed_line (length atoms)) c.lines from.0 from.1)))
 
-  pub place_within : (place : ℕ) (bits : List Bool) (lines : List code_line.StateLine) → slice_get (pooled_states store) place ≡ Some bits → map line_of lines ≡ c.lines → place < length lines
-  place_within place bits lines at is =
-      omega (arith, slice_get_within (pooled_states store) place bits at, as_many c (length atoms) store listed.holds, ap length is, length-map lines line_of)
+  pub place_within : (place : ℕ) (bits : List Bool) → slice_get (pooled_states store) place ≡ Some bits → place < length c.lines
+  place_within place bits at = omega (arith, slice_get_within (pooled_states store) place bits at, as_many c (length atoms) store listed.holds)
 
   pub listed_apart : AreApart task c
   listed_apart = lines_apart c (length atoms) store listed.holds task listed.fluent

@@ -3,14 +3,16 @@ use Rattle.std.proofs.Common.{◌≡◌, ◌≢◌, ℕ, ◌+◌, ◌<◌, ◌�
 use Rattle.std.specs.Prelude.{◌↔◌, Result, Ok, Err, IfErr, IsTrue, AllPairs, Contains, MatchOption, nat_eq, slice_get}
 use Rattle.std.specs.Option.{option_eq}
 use Rattle.std.proofs.lemmas.Bool.{cases_order, eq-eqb, false≢true}
-use Rattle.cert_checker.specs.declared.check.Refusal.{Refusal}
-use Rattle.cert_checker.specs.declared.check.Refusal.TheVariants as refusal
-use Rattle.cert_checker.specs.declared.check.code.RefusalCode.{RefusalCode}
-use Rattle.certificate_lines.specs.declared.line.StateLine as code_line
-use Rattle.certificate_lines.specs.Lines.{line_of}
-use Rattle.cert_checker.specs.RefusalCode.{reason_of}
+use Rattle.certificate_listing.specs.declared.refusal.Refusal.{Refusal}
+use Rattle.certificate_listing.specs.declared.refusal.Refusal.TheVariants as refusal
+use Rattle.certificate_listing.specs.declared.refusal.RefusalCode.{RefusalCode}
+use Rattle.certificate_listing.specs.declared.states.Mark.{Mark}
+use Rattle.certificate_listing.specs.Listed.{mark_of}
+use Rattle.certificate_listing.specs.Sets.{Marked, marked}
+use Rattle.std.proofs.lemmas.List.{length-map}
+use Rattle.cert_checker.specs.Reasons.{reason_of}
 use Rattle.cert_checker.specs.CheckedLines.{HasCost, Stands, IsListedAt, IsTrueAnyway}
-use Rattle.cert_checker.proofs.CertCheckerLemmas.{slice_get-map}
+use Rattle.cert_checker.proofs.CertCheckerLemmas.{got_mapped, slice_get-map}
 use Rattle.model.specs.Task.{Task, Instance}
 use Rattle.model.specs.Meaning.{State, step, meets_goal, system_of}
 use Rattle.model.specs.Instances.{successors_of}
@@ -23,15 +25,21 @@ use Rattle.model.proofs.CertificateRefusalsLemmas.{apart}
 
 -- ---- a refusal with its line
 
-pub told : (task : Task) (c : Certificate) (r : Refusal) (code : RefusalCode) (line : ℕ) → r ≡ refusal.Line code line → IsWrongLine task c (reason_of code) line → IsTrueAnyway task c r
+pub told : (task : Task) (c : Certificate) (r : Refusal) (code : RefusalCode) (line : ℕ) → r ≡ refusal.Line code line
+    → MatchOption (reason_of code) ⊥ (λ reason. IsWrongLine task c reason line) → IsTrueAnyway task c r
 told task c r code line is wrong = subst (IsTrueAnyway task c) (sym is) (λ plan most. wrong)
 
 -- ---- a line of the certificate, and its state
 
-pub has_cost : (c : Certificate) (lines : List code_line.StateLine) (place : ℕ) (l : code_line.StateLine) (cut : Option ℕ) → map line_of lines ≡ c.lines → slice_get lines place ≡ Some l
-    → l.cut ≡ cut → HasCost c place l.cost cut
-has_cost c lines place l cut is at cut_is =
-    (line_of l, subst (λ ls. slice_get ls place ≡ Some (line_of l)) is (slice_get-map line_of lines place l at), refl, cut_is)
+-- the mark at a line's place has its cost and its cut
+pub has_cost : (c : Certificate) (marks : List Mark) (place : ℕ) (mark : Mark) → map mark_of marks ≡ map marked c.lines → slice_get marks place ≡ Some mark → HasCost c place mark.cost mark.cut
+has_cost c marks place mark same at =
+    let there : slice_get (map marked c.lines) place ≡ Some (mark_of mark) = subst (λ those. slice_get those place ≡ Some (mark_of mark)) same (slice_get-map mark_of marks place mark at) in
+    let (l, at_l, is) = got_mapped marked c.lines place (mark_of mark) there in
+    (l, at_l, ap (λ (m : Marked). m.cost) is, ap (λ (m : Marked). m.cut) is)
+
+pub as_many_marks : (c : Certificate) (marks : List Mark) → map mark_of marks ≡ map marked c.lines → length marks ≡ length c.lines
+as_many_marks c marks same = sym (length-map marks mark_of) ∙ ap length same ∙ length-map c.lines marked
 
 -- ---- distinct states are listed once
 

@@ -1,10 +1,10 @@
 -- What the answers of the checker of certificates say.
 use Rattle.std.specs.Prelude.{◌≡◌, ℕ, ◌+◌, ◌<◌, List, slice_get, MatchOption, Option, None, Some, IsSome}
-use Rattle.cert_checker.specs.declared.check.Accepted.{Accepted}
-use Rattle.cert_checker.specs.declared.check.Accepted.TheVariants.{Optimal, AtLeast, Unsolvable}
-use Rattle.cert_checker.specs.declared.check.Refusal.{Refusal}
-use Rattle.cert_checker.specs.declared.check.Refusal.TheVariants as refusal
-use Rattle.cert_checker.specs.RefusalCode.{reason_of}
+use Rattle.cert_checker.specs.declared.checker.Accepted.{Accepted}
+use Rattle.cert_checker.specs.declared.checker.Accepted.TheVariants.{Optimal, AtLeast, Unsolvable}
+use Rattle.certificate_listing.specs.declared.refusal.Refusal.{Refusal}
+use Rattle.certificate_listing.specs.declared.refusal.Refusal.TheVariants as refusal
+use Rattle.cert_checker.specs.Reasons.{reason_of}
 use Rattle.model.specs.Task.{Task, Instance}
 use Rattle.model.specs.Runs.{cost_of_all, IsOptimal, CostsAtLeast, IsUnsolvable}
 use Rattle.model.specs.Meaning.{State, system_of}
@@ -28,15 +28,20 @@ Answers claim plan Unsolvable = (claim ≡ none) × (plan ≡ None)
 
 -- The refusal is true of the certificate, the plan that was handed in, if one was, and the limit of kept instances.
 abbrev pub IsTrueRefusal : Task → Certificate → Option (List Instance) → ℕ → Refusal → Type 0
-IsTrueRefusal task c plan most (refusal.Line code line) = IsWrongLine task c (reason_of code) line
-IsTrueRefusal task c plan most (refusal.Plain code) = IsWrong task c plan most (reason_of code)
+IsTrueRefusal task c plan most (refusal.Line code line) = MatchOption (reason_of code) ⊥ (λ reason. IsWrongLine task c reason line)
+IsTrueRefusal task c plan most (refusal.Plain code) = MatchOption (reason_of code) ⊥ (λ reason. IsWrong task c plan most reason)
 IsTrueRefusal task c plan most refusal.NoMemory = Unit {0}
+IsTrueRefusal task c plan most refusal.Device = ⊥
+IsTrueRefusal task c plan most refusal.Failed = ⊥
 
--- Nothing is wrong with the certificate or the plan: a limit of the ground task is exceeded, or memory was refused.
+-- Nothing is wrong with the text, the certificate or the plan: a limit of the ground task is exceeded, memory was refused, or
+-- the device failed.
 abbrev pub IsNoFault : Refusal → Type 0
 IsNoFault (refusal.Line code line) = ⊥
-IsNoFault (refusal.Plain code) = reason_of code ≡ limit
+IsNoFault (refusal.Plain code) = reason_of code ≡ Some limit
 IsNoFault refusal.NoMemory = Unit {0}
+IsNoFault refusal.Device = Unit {0}
+IsNoFault refusal.Failed = ⊥
 
 -- This line lists an open state, from which this instance leads to this state. Each that is applicable there and comes
 -- before it, in the order of all instances, leads to a state that is listed at no more than the line's cost and its own.
@@ -59,6 +64,9 @@ IsFirstSuccessor task c _ line = Unit {0}
 
 -- Nothing that the checker looks for before is wrong, and of a line's successors none before.
 abbrev pub IsFirstRefusal : Task → Certificate → Option (List Instance) → ℕ → Refusal → Type 0
-IsFirstRefusal task c plan most (refusal.Line code line) = IsFirst task c plan most (reason_of code) line × IsFirstSuccessor task c (reason_of code) line
-IsFirstRefusal task c plan most (refusal.Plain code) = IsFirst task c plan most (reason_of code) 0
+IsFirstRefusal task c plan most (refusal.Line code line) =
+    MatchOption (reason_of code) ⊥ (λ reason. IsFirst task c plan most reason line × IsFirstSuccessor task c reason line)
+IsFirstRefusal task c plan most (refusal.Plain code) = MatchOption (reason_of code) ⊥ (λ reason. IsFirst task c plan most reason 0)
 IsFirstRefusal task c plan most refusal.NoMemory = Unit {0}
+IsFirstRefusal task c plan most refusal.Device = ⊥
+IsFirstRefusal task c plan most refusal.Failed = ⊥

@@ -1,6 +1,6 @@
 -- What the checker finds out of a certificate's lines, one after another.
-use Rattle.std.specs.Prelude.{◌≡◌, ◌≢◌, ℕ, ◌+◌, ◌<◌, ◌≤◌, Bool, IsTrue, MatchBool, List, [], ◌∷◌, ◌++◌, length, AllPairs, Contains, slice_get, Option, None, Some}
-use Rattle.cert_checker.specs.declared.check.Refusal.{Refusal}
+use Rattle.std.specs.Prelude.{◌≡◌, ◌≢◌, ℕ, ◌+◌, ◌<◌, ◌≤◌, IsTrue, List, length, AllPairs, Contains, slice_get, Option, None, Some}
+use Rattle.certificate_listing.specs.declared.refusal.Refusal.{Refusal}
 use Rattle.cert_checker.specs.FluentAtoms.{AreFluent}
 use Rattle.cert_checker.specs.CertChecker.{IsFirstRefusal, IsTrueRefusal}
 use Rattle.model.specs.Task.{Task, Instance}
@@ -9,10 +9,6 @@ use Rattle.model.specs.Limits.{max_numbered_atoms}
 use Rattle.model.specs.Grounding.{limit_told}
 use Rattle.model.specs.Claims.{none, Allows, Line, IsListedWithin}
 use Rattle.model.specs.Certificates.{Certificate, StateLine, lines_of, value_of}
-
--- the elements before and after one is to stand among them: it comes to the end if it is new, and else nothing changes
-abbrev pub IsAdded : {X : Type 0} → List X → List X → X → Bool → Type 0
-IsAdded old new x is_new = MatchBool is_new ((¬ Contains old x) × (new ≡ old ++ x ∷ [])) (Contains old x × (new ≡ old))
 
 -- the refusal is true, whatever plan is handed in and whatever the limit of kept instances
 abbrev pub IsTrueAnyway : Task → Certificate → Refusal → Type 0

@@ -1,5 +1,6 @@
-pub mod RefusalCode
+pub mod Reasons
 pub mod CertChecker
+pub mod Checking
 pub mod FluentAtoms
 pub mod CheckedLines
 pub mod PackedLines

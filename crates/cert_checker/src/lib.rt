@@ -2,8 +2,9 @@
 //! every plan of the task.
 #![tactic(auto)]
 
-mod check;
+mod checker;
 mod laws;
 
-pub use check::{Accepted, Refusal, RefusalCode, check_cert};
+pub use certificate_listing::{Refusal, RefusalCode};
+pub use checker::{Accepted, check};
 pub use laws::{closed_claim_holds, examples_are_judged, solving_list_stays_listed};

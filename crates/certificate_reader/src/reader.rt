@@ -3,7 +3,7 @@ ghost use Rattle.std.specs.Prelude.{◌≡◌, ◌+◌, ℕ, ◌++◌, [], ◌�
 ghost use Rattle.certificate_lines.specs.Lines.{text_line_of};
 ghost use Rattle.certificate_text.specs.CertificateText.{TextLine, AreWhole};
 ghost use Rattle.certificate_reader.specs.declared.reader.CertFault.TheVariants.{Failed};
-ghost use Rattle.certificate_reader.specs.Reader.{CountsCert, HasRead, IsAdvance, IsAnswer, fault_at, has_come, has_failed, source_of, waits_in};
+ghost use Rattle.certificate_reader.specs.Reader.{CountsCert, HasRead, IsAdvance, IsAnswer, fault_at, has_come, has_failed, lines_read, source_of, waits_in};
 ghost use Rattle.certificate_reader.specs.Next.{CountsFault};
 
 use crate::next::{NextFault, TextFault, is_at_end, next_line};
@@ -60,6 +60,20 @@ impl<R: Source> CertReader<R> {
             },
             failed: false,
         }
+    }
+
+    /// How many lines were handed out.
+    pub fn lines(&self) -> u64
+        ensures { result ≡ lines_read self.now }
+    {
+        self.position.lines
+    }
+
+    /// The source, as far as it was read.
+    pub fn into_source(self) -> R
+        ensures { result ≡ source_of self }
+    {
+        self.source
     }
 
     /// The next line; behind the last one `None`, where nothing follows it. The source is read only while no whole line

@@ -8,8 +8,6 @@ mod failing_files;
 #[cfg(test)]
 mod failing_runs;
 #[cfg(test)]
-mod helpers;
-#[cfg(test)]
 mod plan_files;
 #[cfg(test)]
 mod reading_certificates;

@@ -1,7 +1,6 @@
 //! Plans that are written to devices, and read back.
 ghost use Rattle.std.specs.Prelude.{◌<◌};
 
-use crate::helpers::{Term, instance, is_of, on_task};
 use devices::{FailsAt, InPieces, Memory, Source, WriteFault};
 use formulas::Plan;
 use plan_file::{read_plan, step_text, write_plan};
@@ -10,7 +9,7 @@ use std::alloc::Global;
 use std::process::Abort;
 use std::test::Fail;
 use std::{env, fs, process};
-use test_texts::HOP;
+use test_texts::{HOP, Term, instance, is_of, on_task};
 use typing::Task;
 
 /// Two hops, as they are written.

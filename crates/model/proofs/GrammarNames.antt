@@ -1,15 +1,15 @@
 -- The names that stand in a file's tree are names among its words: where each name among the words passes a test, so do
--- those of the tree's actions, constants and objects.
+-- those of the tree's predicates, actions, constants and objects.
 use Rattle.std.proofs.Common.{◌≡◌, Bool, true, false, ◌&&◌, cond, List, [], ◌∷◌, fold, Option, None, Some, refl, ◌∙◌, ap, subst}
 use Rattle.std.specs.Prelude.{⊤}
 use Rattle.std.specs.List.{list_all}
 use Rattle.std.specs.Option.{option_map, option_map_or}
 use Rattle.std.proofs.lemmas.Bool.{and_parts}
 use Rattle.std.proofs.lemmas.List.Folds.{list_all-append}
-use Rattle.model.specs.Trees.{File, domain_file, problem_file, Name, Group, Action, Domain, Problem, names_of}
-use Rattle.model.specs.GrammarWords.{Token, opens, closes, keyword, dash, SectionKeyword, of_section}
+use Rattle.model.specs.Trees.{File, domain_file, problem_file, Name, Group, Predicate, Action, Domain, Problem, names_of}
+use Rattle.model.specs.GrammarWords.{Token, opens, closes, free, keyword, dash, SectionKeyword, of_section}
 use Rattle.model.specs.GrammarWords as words
-use Rattle.model.specs.Grammar.{Sort, Value, Phrase, gives, ◌>>=◌, Section, requirements, types, constants, predicates, functions, action, domain, objects, init, goal, metric, Part, parameters, precondition, effect, with_part, bare_action, Contents, no_contents, with_section, Tree, domain_tree, problem_tree, tree_from, names, with_name, action_name, typed, group, section, sections, file, group_after, section_after, section_of, name_in, has_section, has_all, required_of, left_of, sections_of, after, Derives, by, Follows, nothing, next, IsDomain, IsProblem}
+use Rattle.model.specs.Grammar.{Sort, Value, Phrase, gives, ◌>>=◌, Section, requirements, types, constants, predicates, functions, action, domain, objects, init, goal, metric, Part, parameters, precondition, effect, with_part, bare_action, Contents, no_contents, with_section, Tree, domain_tree, problem_tree, tree_from, listed, many, declaration, names, with_name, action_name, typed, group, section, sections, file, group_after, section_after, section_of, name_in, has_section, has_all, required_of, left_of, sections_of, after, Derives, by, Follows, nothing, next, IsDomain, IsProblem}
 
 module _ (passes : Name → Bool) where
   -- a word that is no name, or a name that passes
@@ -24,10 +24,15 @@ module _ (passes : Name → Bool) where
   abbrev pub ActionsPass : List Action → Type 0
   ActionsPass actions = list_all (λ (a : Action). passes a.name) actions ≡ true
 
-  -- each name of a section's constants or objects, and that of its action
+  -- each name of these predicates
+  abbrev pub PredicatesPass : List Predicate → Type 0
+  PredicatesPass qs = list_all (λ (q : Predicate). passes q.name) qs ≡ true
+
+  -- each name of a section's constants, objects or predicates, and that of its action
   abbrev SectionPasses : Section → Type 0
   SectionPasses (constants gs) = GroupsPass gs
   SectionPasses (objects gs) = GroupsPass gs
+  SectionPasses (predicates qs) = PredicatesPass qs
   SectionPasses (action a) = passes a.name ≡ true
   SectionPasses _ = ⊤
 
@@ -36,10 +41,10 @@ module _ (passes : Name → Bool) where
   SectionsPass (x ∷ xs) = SectionPasses x × SectionsPass xs
 
   abbrev ContentsPass : Contents → Type 0
-  ContentsPass c = GroupsPass c.constants × ActionsPass c.actions × GroupsPass c.objects
+  ContentsPass c = GroupsPass c.constants × ActionsPass c.actions × GroupsPass c.objects × PredicatesPass c.predicates
 
   abbrev pub DomainPasses : Domain → Type 0
-  DomainPasses d = GroupsPass d.constants × ActionsPass d.actions
+  DomainPasses d = GroupsPass d.constants × ActionsPass d.actions × PredicatesPass d.predicates
 
   abbrev pub ProblemPasses : Problem → Type 0
   ProblemPasses p = GroupsPass p.objects
@@ -51,6 +56,9 @@ module _ (passes : Name → Bool) where
   -- the same of what is read where this is wanted
   abbrev AllPass : (s : Sort) → Value s → Type 0
   AllPass action_name n = passes n ≡ true
+  AllPass declaration q = passes q.name ≡ true
+  AllPass (listed declaration) q = passes q.name ≡ true
+  AllPass (many (listed declaration)) qs = PredicatesPass qs
   AllPass (typed names) gs = GroupsPass gs
   AllPass (group names) gs = GroupsPass gs
   AllPass (section f k others) x = SectionPasses x
@@ -111,7 +119,7 @@ module _ (passes : Name → Bool) where
   section_keeps f k others words.requirements = λ _ _. tt
   section_keeps f k others words.types = λ gs _. tt
   section_keeps f k others words.constants = λ gs pass. pass
-  section_keeps f k others words.predicates = λ ps _. tt
+  section_keeps f k others words.predicates = λ qs pass. pass
   section_keeps f k others words.functions = λ ns _. tt
   section_keeps f k others words.action = λ n pass ps _. ap passes (name_from (bare_action n) ps) ∙ pass
   section_keeps f k others words.domain_keyword = λ n _ _ _. tt
@@ -136,16 +144,17 @@ module _ (passes : Name → Bool) where
   with_section_passes : (c : Contents) (x : Section) → ContentsPass c → SectionPasses x → ContentsPass (with_section c x)
   with_section_passes c requirements pass here = pass
   with_section_passes c (types gs) pass here = pass
-  with_section_passes c (constants gs) pass here = (here, pass.1, pass.2)
-  with_section_passes c (predicates ps) pass here = pass
+  with_section_passes c (constants gs) pass here = (here, pass.1, pass.2, pass.3)
+  with_section_passes c (predicates qs) pass here = (pass.0, pass.1, pass.2, here)
   with_section_passes c (functions ns) pass here = pass
   with_section_passes c (action a) pass here = (
     pass.0,
     list_all-append (λ (b : Action). passes b.name) c.actions (a ∷ []) ∙ (λ i. pass.1 i && (here i && true)),
     pass.2,
+    pass.3,
   )
   with_section_passes c (domain n) pass here = pass
-  with_section_passes c (objects gs) pass here = (pass.0, pass.1, here)
+  with_section_passes c (objects gs) pass here = (pass.0, pass.1, here, pass.3)
   with_section_passes c (init fs) pass here = pass
   with_section_passes c (goal f) pass here = pass
   with_section_passes c (metric n) pass here = pass
@@ -155,12 +164,19 @@ module _ (passes : Name → Bool) where
   contents_pass c (x ∷ xs) pass each = contents_pass (with_section c x) xs (with_section_passes c x pass each.0) each.1
 
   tree_passes : (f : File) (n : Name) (c : Contents) → ContentsPass c → TreePasses (tree_from f n c)
-  tree_passes domain_file n c pass = (pass.0, pass.1)
+  tree_passes domain_file n c pass = (pass.0, pass.1, pass.3)
   tree_passes problem_file n c pass = pass.2
 
   -- where s is wanted and a word comes that passes
   after_keeps : (s : Sort) (t : Token) → word_passes t ≡ true → KeepsAfter s (after s t)
   after_keeps action_name t h = action_name_keeps (name_in t) h
+  after_keeps declaration (free f n) h = λ gs _. h
+  after_keeps declaration t h = tt
+  after_keeps (listed declaration) opens h = λ q pass. pass
+  after_keeps (listed declaration) t h = tt
+  after_keeps (many (listed declaration)) closes h = refl
+  after_keeps (many (listed declaration)) opens h = λ q here qs later. λ i. here i && later i
+  after_keeps (many (listed declaration)) t h = tt
   after_keeps (typed names) closes h = refl
   after_keeps (typed names) t h = typed_keeps (name_in t) h
   after_keeps (group names) closes h = refl
@@ -171,7 +187,7 @@ module _ (passes : Name → Bool) where
   after_keeps (sections f seen) closes h = sections_end f seen (has_all (required_of f) seen)
   after_keeps (sections f seen) opens h = sections_keep f seen (left_of (sections_of f) seen)
   after_keeps (sections f seen) t h = tt
-  after_keeps (file f) opens h = λ _ _ _ _ _ _ n _ _ _ xs each. tree_passes f n (fold with_section no_contents xs) (contents_pass no_contents xs (refl, refl, refl) each)
+  after_keeps (file f) opens h = λ _ _ _ _ _ _ n _ _ _ xs each. tree_passes f n (fold with_section no_contents xs) (contents_pass no_contents xs (refl, refl, refl, refl) each)
   after_keeps (file f) t h = tt
   after_keeps s t h = any_keeps_after s (λ x. tt) (after s t)
 

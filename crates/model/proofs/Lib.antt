@@ -41,3 +41,4 @@ pub mod CertificateExampleProofs
 pub mod PlanWritingLemmas
 pub mod PlanWritingExampleProofs
 pub mod TaskNames
+pub mod LimitsLemmas

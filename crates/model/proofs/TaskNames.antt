@@ -15,18 +15,18 @@ use Rattle.std.proofs.lemmas.Simd.{map-map}
 use Rattle.std.proofs.lemmas.Str.Ascii.{lowercase-lowercase}
 use Rattle.model.specs.Words.{Word, Kind, Form, Part, form, bytes, size, is_name, is_name_byte, kind_by, longest_run, IsWordAt, AreGapsAndWords}
 use Rattle.model.specs.Words as words
-use Rattle.model.specs.Trees.{File, domain_file, problem_file, Group, Action, Domain, Problem, names_of}
+use Rattle.model.specs.Trees.{File, domain_file, problem_file, Group, Predicate, Action, Domain, Problem, names_of}
 use Rattle.model.specs.Trees as tree
 use Rattle.model.specs.GrammarWords.{number, large_number, number_of_digits, name_from, named, token_from, token_of, tokens_of}
 use Rattle.model.specs.Limits.{max_number}
 use Rattle.model.specs.Grammar.{name_in}
 use Rattle.model.specs.Task.{Name, Object, Schema, Task}
-use Rattle.model.specs.Resolution.{folded, is_same, Declared, declared, declared_in_group, declared_objects, type_names, object_in, known_in_domain, schema_in, task_of_trees, Placed, placed, words_of}
-use Rattle.model.specs.TypingFaults.{IsRepeated, IsWellTyped, action_words, of_objects, of_actions, object_again, action_again}
+use Rattle.model.specs.Resolution.{folded, is_same, Declared, declared, declared_in_group, declared_objects, type_names, object_in, predicate_in, names_of_predicates, known_in_domain, schema_in, task_of_trees, Placed, placed, words_of}
+use Rattle.model.specs.TypingFaults.{IsRepeated, IsWellTyped, predicate_words, action_words, of_objects, of_predicates, of_actions, object_again, predicate_again, action_again}
 use Rattle.model.specs.PlanText.{schema_names, object_names}
 use Rattle.model.specs.PlanWriting.{is_lower_name, differ, are_lower_names, has_names}
 use Rattle.model.specs.Files.{IsTaskOf}
-use Rattle.model.proofs.GrammarNames.{word_passes, GroupsPass, ActionsPass, domain_passes, problem_passes}
+use Rattle.model.proofs.GrammarNames.{word_passes, GroupsPass, PredicatesPass, ActionsPass, DomainPasses, ProblemPasses, domain_passes, problem_passes}
 use Rattle.model.proofs.ListLemmas.{map-Contains}
 use Rattle.model.proofs.Tests.{passes_map, passes_weaker}
 use Rattle.model.proofs.TypingFaultsRepeats.{repeated_first, repeated_later}
@@ -155,17 +155,34 @@ module _ (d : Domain) (p : Problem) (well_typed : IsWellTyped d p) where
       let same : map (λ (o : Object). o.name) (map (object_in (type_names d)) xs) ≡ map folded_word (words_of xs) = map-map _ _ xs ∙ sym (map-map _ _ xs) in
       ap are_lower_names same ∙ names_of_words (words_of xs) named (λ w r. well_typed of_objects 16 w (object_again w r))
 
+  predicates_named : PredicatesPass has_lower_name d.predicates → are_lower_names (names_of_predicates (task_of_trees d p).predicates) ≡ true
+  predicates_named predicates =
+      let named = passes_map (λ (w : Placed). has_lower_name w.word) (λ (q : Predicate). placed domain_file q.name) d.predicates ∙ predicates in
+      let same : names_of_predicates (map (predicate_in (type_names d)) d.predicates) ≡ map folded_word (predicate_words d) = map-map _ _ d.predicates ∙ sym (map-map _ _ d.predicates) in
+      ap are_lower_names same ∙ names_of_words (predicate_words d) named (λ w r. well_typed of_predicates 16 w (predicate_again w r))
+
   schemas_named : ActionsPass has_lower_name d.actions → are_lower_names (schema_names (task_of_trees d p)) ≡ true
   schemas_named actions =
       let named = passes_map (λ (w : Placed). has_lower_name w.word) (λ (a : Action). placed domain_file a.name) d.actions ∙ actions in
       let same : map (λ (s : Schema). s.name) (map (schema_in (known_in_domain d)) d.actions) ≡ map folded_word (action_words d) = map-map _ _ d.actions ∙ sym (map-map _ _ d.actions) in
       ap are_lower_names same ∙ names_of_words (action_words d) named (λ w r. well_typed of_actions 16 w (action_again w r))
 
--- the names of a task that files make can be written and read back
-pub task_has_names : (domain problem : List ℕ) (task : Task) → IsTaskOf domain problem task → IsTrue (has_names task)
-task_has_names domain problem task is =
-    let d = is.domain_tree in
-    let p = is.problem_tree in
-    let in_domain = domain_passes has_lower_name _ d is.domain_reads.tree (words_named 0 is.domain_reads.reads.parts is.domain_reads.words is.domain_reads.reads.in_turn) in
-    let in_problem = problem_passes has_lower_name _ p is.problem_reads.tree (words_named 0 is.problem_reads.reads.parts is.problem_reads.words is.problem_reads.reads.in_turn) in
-    subst (λ u. has_names u ≡ true) (sym is.resolved) (λ i. schemas_named d p is.well_typed in_domain.1 i && objects_named d p is.well_typed in_domain.0 in_problem i)
+module _ (domain problem : List ℕ) (task : Task) (is : IsTaskOf domain problem task) where
+  in_domain : DomainPasses has_lower_name is.domain_tree
+  in_domain = domain_passes has_lower_name _ is.domain_tree is.domain_reads.tree (words_named 0 is.domain_reads.reads.parts is.domain_reads.words is.domain_reads.reads.in_turn)
+
+  in_problem : ProblemPasses has_lower_name is.problem_tree
+  in_problem = problem_passes has_lower_name _ is.problem_tree is.problem_reads.tree (words_named 0 is.problem_reads.reads.parts is.problem_reads.words is.problem_reads.reads.in_turn)
+
+  task_objects_named : are_lower_names (object_names (task_of_trees is.domain_tree is.problem_tree)) ≡ true
+  task_objects_named = objects_named is.domain_tree is.problem_tree is.well_typed in_domain.0 in_problem
+
+  -- the names of a task that files make can be written and read back
+  pub task_has_names : IsTrue (has_names task)
+  task_has_names = subst (λ u. has_names u ≡ true) (sym is.resolved) (λ i. schemas_named is.domain_tree is.problem_tree is.well_typed in_domain.1 i && task_objects_named i)
+
+  -- and those of its atoms
+  pub task_has_atom_names : IsTrue (are_lower_names (names_of_predicates task.predicates) && are_lower_names (object_names task))
+  task_has_atom_names =
+      subst (λ (u : Task). (are_lower_names (names_of_predicates u.predicates) && are_lower_names (object_names u)) ≡ true) (sym is.resolved)
+      (λ i. predicates_named is.domain_tree is.problem_tree is.well_typed in_domain.2 i && task_objects_named i)

@@ -6,3 +6,5 @@ pub mod ProgramTold
 pub mod PlanFiles
 pub mod OptionWords
 pub mod OptionsHeld
+pub mod CheckedLemmas
+pub mod CertificateTold

@@ -7,8 +7,9 @@ use Rattle.std.specs.Str.{bytes_eq}
 use Rattle.std.proofs.lemmas.Slice.Eq.{bytes_eq-Decides}
 use Rattle.planner_main.specs.declared.program.command.Command.{Command}
 use Rattle.planner_main.specs.declared.program.command.Options.{Options}
-use Rattle.planner_main.specs.Options.{Asked, NamedValue, named, words_of, value_of, AreDistinct, AreOptions, IsLimit}
-use Rattle.planner_main.specs.Program.{text_in, texts, Holds}
+use Rattle.planner_main.specs.Options.{Asked, AskedOfCheck, NamedValue, named, words_of, value_of, AreDistinct, AreOptions, AreCheckOptions, IsLimit}
+use Rattle.planner_main.specs.Files.{text_in}
+use Rattle.planner_main.specs.Program.{texts, Holds}
 use Rattle.planner_main.proofs.OptionWords.{one_list, no_odd_word, words_of_more, stops_at, value_last, value_before, distinct_more, is_known, not_twice}
 
 -- One option more is held, which had no value before.
@@ -20,7 +21,7 @@ given_before : (held : Option (Bor (List ℕ))) (is_new : Bool) → is_some held
 given_before None is_new tested old = absurd (cc (tested, old))
 given_before (Some word) is_new tested old = (word.now, refl)
 
-names_differ : (name other : List ℕ) → bytes_eq name other ≡ false → name ≢ other
+pub names_differ : (name other : List ℕ) → bytes_eq name other ≡ false → name ≢ other
 names_differ name other unlike = λ is. absurd (cc (sym unlike ∙ (bytes_eq-Decides name other).1 is))
 
 -- The value of another option stays.
@@ -160,3 +161,41 @@ module _ (words : List (List ℕ)) (held : Options) (options : List NamedValue) 
       → IfNone command ((asked : Asked) → AreOptions words asked → ⊥)
   none_asked None none = no_options_held none
   none_asked (Some command) none = tt
+
+-- What they ask `check` for.
+module _ (words : List (List ℕ)) (held : Options) (options : List NamedValue) (are : words ≡ words_of options) (holds : Holds held options) where
+  pub check_options_held : (instances : ℕ) → IsLimit (text_in held.instances) instances → text_in held.cert ≡ None → text_in held.states ≡ None
+      → AreCheckOptions words (record { instances = instances; plan = text_in held.plan })
+  check_options_held instances allow_instances no_cert no_states = record {
+    options = options;
+    in_order = are;
+    distinct = holds.distinct;
+    no_cert = sym holds.cert ∙ no_cert;
+    no_states = sym holds.states ∙ no_states;
+    allow_instances = subst (λ text. IsLimit text instances) holds.instances allow_instances;
+    name_plan = holds.plan;
+  }
+
+  no_check_options_held : ((instances : ℕ) → IsLimit (text_in held.instances) instances → text_in held.cert ≡ None → text_in held.states ≡ None → ⊥)
+      → (asked : AskedOfCheck) → AreCheckOptions words asked → ⊥
+  no_check_options_held none asked others =
+      let same : others.options ≡ options = one_list others.options options (sym others.in_order ∙ are) in
+      none asked.instances
+      (subst (λ text. IsLimit text asked.instances) (ap (value_of (codes "--instances")) same ∙ sym holds.instances) others.allow_instances)
+      (holds.cert ∙ sym (ap (value_of (codes "--cert")) same) ∙ others.no_cert)
+      (holds.states ∙ sym (ap (value_of (codes "--states")) same) ∙ others.no_states)
+
+  pub none_to_check : (command : Option Command)
+      → ((instances : ℕ) → IsLimit (text_in held.instances) instances → text_in held.cert ≡ None → text_in held.states ≡ None → ⊥)
+      → IfNone command ((asked : AskedOfCheck) → AreCheckOptions words asked → ⊥)
+  none_to_check None none = no_check_options_held none
+  none_to_check (Some command) none = tt
+
+-- where no number is given there is a limit
+pub allowed_alone : (text : Option (List ℕ)) → text ≡ None → IsLimit text 1000000
+allowed_alone text is = subst (λ text. IsLimit text 1000000) (sym is) (refl, omega arith, omega arith)
+
+-- what is so is so where there is nothing
+pub where_none : {T : Type 0} {P : Type 0} (r : Option T) → P → IfNone r P
+where_none None h = h
+where_none (Some value) h = tt

@@ -14,7 +14,7 @@ use Rattle.certificate_text.specs.CertificateNames.{certificate_text}
 use Rattle.solver.specs.declared.answer.Answer.{Answer}
 use Rattle.solver.specs.declared.answer.Answer.TheVariants as answer
 use Rattle.model.specs.Task.{Task}
-use Rattle.planner_main.specs.Program.{text_in}
+use Rattle.planner_main.specs.Files.{text_in}
 use Rattle.planner_main.specs.Solution.{cert_file, plan_file, text_of}
 use Rattle.planner_main.specs.Written.{HoldsBeginning, NamedText, AreWritten, AreWrittenPartly}
 

@@ -7,7 +7,7 @@ use Rattle.model.specs.Files.{File, of_task, the_plan, FileFault}
 
 -- how the program is used
 abbrev pub usage : List ℕ
-usage = codes "usage: optplan solve DOMAIN PROBLEM [--plan FILE] [--cert FILE] [--states N] [--instances N]\n       optplan validate DOMAIN PROBLEM PLAN\n"
+usage = codes "usage: optplan solve DOMAIN PROBLEM [--plan FILE] [--cert FILE] [--states N] [--instances N]\n       optplan validate DOMAIN PROBLEM PLAN\n       optplan check DOMAIN PROBLEM CERT [--plan FILE] [--instances N]\n"
 
 -- the name of a file
 abbrev pub name_of_file : File → List ℕ

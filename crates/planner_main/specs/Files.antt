@@ -1,5 +1,7 @@
 -- The files, faults and verdicts of the code, in the model's terms.
-use Rattle.std.specs.Prelude.{Option, None, Some}
+use Rattle.std.specs.Prelude.{ℕ, List, Option, None, Some}
+use Rattle.std.specs.Borrow.{Bor}
+use Rattle.std.specs.Global.{Vec}
 use Rattle.std.specs.Option.{option_map}
 use Rattle.faults.specs.Fault.{number_of}
 use Rattle.faults.specs.declared.code.Code.{Code}
@@ -37,3 +39,11 @@ abbrev pub told_of_pair : TaskFault → Option model.FileFault
 told_of_pair (refused.At r) =
     Some (record { file = model.of_task (file_of r.file); fault = record { code = number_of r.code; span = record { start = r.span.start; end = r.span.end } } })
 told_of_pair refused.NoMemory = None
+
+-- the bytes of a text that is lent, where one is
+abbrev pub text_in : Option (Bor (List ℕ)) → Option (List ℕ)
+text_in = option_map (λ (text : Bor (List ℕ)). text.now)
+
+-- the bytes of a text, where there is one
+abbrev pub items_in : Option (Vec ℕ) → Option (List ℕ)
+items_in = option_map (λ (text : Vec ℕ). text.items)

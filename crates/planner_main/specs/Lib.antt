@@ -6,3 +6,4 @@ pub mod Options
 pub mod Program
 pub mod Table
 pub mod Written
+pub mod Checked

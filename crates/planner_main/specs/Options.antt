@@ -1,4 +1,4 @@
--- What the options of `solve` are, and what they ask for.
+-- What the options of `solve` and of `check` are, and what they ask for.
 use Rattle.std.specs.Prelude.{◌≡◌, ◌≢◌, ℕ, ◌≤◌, ◌⊎◌, List, [], ◌∷◌, codes, Option, None, Some, All, AllPairs, if◌then◌else◌}
 use Rattle.std.specs.Str.{bytes_eq}
 use Rattle.std.specs.Str.Parse.{IsNumeral, without_leading_plus, digits_value}
@@ -65,3 +65,18 @@ pub record AreOptions (words : List (List ℕ)) (asked : Asked) : Type 0 where
   pub allow_instances : IsLimit (value_of (codes "--instances") options) asked.instances
   pub name_plan : asked.plan ≡ value_of (codes "--plan") options
   pub name_cert : asked.cert ≡ value_of (codes "--cert") options
+
+-- what the options of `check` ask for: how many instances are allowed, and the file that the plan is read from, if any
+pub record AskedOfCheck : Type 0 where
+  pub instances : ℕ
+  pub plan : Option (List ℕ)
+
+-- The words are options of `check`, in any order, that ask for this: the same, but none of states or of a file to be written.
+pub record AreCheckOptions (words : List (List ℕ)) (asked : AskedOfCheck) : Type 0 where
+  pub options : List NamedValue
+  pub in_order : words ≡ words_of options
+  pub distinct : AreDistinct options
+  pub no_cert : value_of (codes "--cert") options ≡ None
+  pub no_states : value_of (codes "--states") options ≡ None
+  pub allow_instances : IsLimit (value_of (codes "--instances") options) asked.instances
+  pub name_plan : asked.plan ≡ value_of (codes "--plan") options

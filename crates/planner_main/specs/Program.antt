@@ -1,6 +1,5 @@
 -- What the program does: what its words ask for, which texts its files have, and what it tells of them with which status.
 use Rattle.std.specs.Prelude.{◌≡◌, ℕ, ◌⊎◌, Bool, List, [], ◌∷◌, ◌++◌, codes, map, take, Option, None, Some, IfSome, IsTrue, Result, Ok, Err}
-use Rattle.std.specs.Option.{option_map}
 use Rattle.std.specs.Borrow.{Bor}
 use Rattle.std.specs.Io.KnownBytes.{Appends}
 use Rattle.solver.specs.declared.answer.Answer.{Answer}
@@ -8,7 +7,7 @@ use Rattle.solver.specs.declared.limits.Limits.{Limits}
 use Rattle.solver.specs.Solver.{IsTrueAnswer}
 use Rattle.planner_main.specs.declared.program.command.Command.{Command}
 use Rattle.planner_main.specs.declared.program.command.Options.{Options}
-use Rattle.planner_main.specs.declared.program.command.Command.TheVariants.{Validate, Solve}
+use Rattle.planner_main.specs.declared.program.command.Command.TheVariants.{Validate, Solve, Check}
 use Rattle.planner_main.specs.declared.report.Failure.{Failure}
 use Rattle.planner_main.specs.declared.report.Failure.TheVariants as failure
 use Rattle.planner_main.specs.declared.task_file.FileFault.TheVariants as refusal
@@ -16,21 +15,25 @@ use Rattle.devices.specs.declared.device.WriteFault as device_fault
 use Rattle.devices.specs.declared.device.WriteFault.TheVariants as device
 use Rattle.devices.specs.Devices.{AppendsBeginning, one_more}
 use Rattle.planner_main.specs.Failures.{line_of_fault, device_line, no_memory_line}
-use Rattle.planner_main.specs.Files.{fault_at, told_in}
-use Rattle.planner_main.specs.Options.{Asked, NamedValue, value_of, IsOneOf, AreDistinct, AreOptions}
+use Rattle.planner_main.specs.Files.{fault_at, told_in, text_in}
+use Rattle.planner_main.specs.Options.{Asked, AskedOfCheck, NamedValue, value_of, IsOneOf, AreDistinct, AreOptions, AreCheckOptions}
+use Rattle.planner_main.specs.Checked.{IsHandedIn, IsInputFault, IsLineOf, IsTrueCheck}
 use Rattle.planner_main.specs.Report.{line_of}
 use Rattle.planner_main.specs.Report as verdict
 use Rattle.planner_main.specs.Written.{NamedText, AreWritten, AreWrittenPartly}
 use Rattle.planner_main.specs.Solution.{TellsAnswer}
 use Rattle.model.specs.Runs.{Verdict}
-use Rattle.model.specs.Task.{Task}
+use Rattle.certificate_listing.specs.declared.refusal.Refusal.{Refusal}
+use Rattle.cert_checker.specs.declared.checker.Accepted.{Accepted}
+use Rattle.model.specs.Task.{Task, Instance}
 use Rattle.model.specs.Files.{FileFault, IsTaskOf, IsTaskFault, IsVerdictOf, IsFileFault}
 
 -- the bytes of words
 abbrev pub texts : List (Bor (List ℕ)) → List (List ℕ)
 texts words = map (λ word. word.now) words
 
--- The words ask for the verdict on a plan file, or for a cheapest plan, with what their options ask for.
+-- The words ask for the verdict on a plan file, for a cheapest plan, or for what a certificate file shows, with what their
+-- options ask for.
 abbrev pub AsksForVerdict : List (List ℕ) → (domain problem plan : List ℕ) → Type 0
 AsksForVerdict words domain problem plan = words ≡ codes "validate" ∷ domain ∷ problem ∷ plan ∷ []
 
@@ -39,15 +42,27 @@ pub record AsksForPlan (words : List (List ℕ)) (domain problem : List ℕ) (as
   pub in_order : words ≡ codes "solve" ∷ domain ∷ problem ∷ options
   pub are : AreOptions options asked
 
+pub record AsksForCheck (words : List (List ℕ)) (domain problem cert : List ℕ) (asked : AskedOfCheck) : Type 0 where
+  pub options : List (List ℕ)
+  pub in_order : words ≡ codes "check" ∷ domain ∷ problem ∷ cert ∷ options
+  pub are : AreCheckOptions options asked
+
 -- the words are a command
 pub data IsCommand (words : List (List ℕ)) : Type 0 where
   is_validate : (domain problem plan : List ℕ) → AsksForVerdict words domain problem plan → IsCommand words
   is_solve : (domain problem : List ℕ) (asked : Asked) → AsksForPlan words domain problem asked → IsCommand words
+  is_check : (domain problem cert : List ℕ) (asked : AskedOfCheck) → AsksForCheck words domain problem cert asked → IsCommand words
 
 -- The words are a command whose domain file has this name.
 pub data NamesDomain (words : List (List ℕ)) (domain : List ℕ) : Type 0 where
   in_validate : (problem plan : List ℕ) → AsksForVerdict words domain problem plan → NamesDomain words domain
   in_solve : (problem : List ℕ) (asked : Asked) → AsksForPlan words domain problem asked → NamesDomain words domain
+  in_check : (problem cert : List ℕ) (asked : AskedOfCheck) → AsksForCheck words domain problem cert asked → NamesDomain words domain
+
+-- the file of this name, if one is named
+abbrev pub if_named : Option (List ℕ) → List (List ℕ)
+if_named None = []
+if_named (Some name) = name ∷ []
 
 -- The words are a command that reads the file of this name.
 pub data NamesInput (words : List (List ℕ)) (name : List ℕ) : Type 0 where
@@ -55,6 +70,8 @@ pub data NamesInput (words : List (List ℕ)) (name : List ℕ) : Type 0 where
       → NamesInput words name
   of_solve : (domain problem : List ℕ) (asked : Asked) → AsksForPlan words domain problem asked
       → IsOneOf (domain ∷ problem ∷ []) name → NamesInput words name
+  of_check : (domain problem cert : List ℕ) (asked : AskedOfCheck) → AsksForCheck words domain problem cert asked
+      → IsOneOf (domain ∷ problem ∷ cert ∷ if_named asked.plan) name → NamesInput words name
 
 -- the text of the file of this name: where its contents are known, their first 16,777,217 bytes, or all where they are fewer
 abbrev pub IsText : (List ℕ → Option (List ℕ)) → List ℕ → List ℕ → Type 0
@@ -70,6 +87,18 @@ abbrev pub OnThree : (List ℕ → Option (List ℕ)) → (domain problem plan :
 OnThree contents domain problem plan Holds =
     (d : List ℕ) × (p : List ℕ) × (l : List ℕ) × IsText contents domain d × IsText contents problem p × IsText contents plan l × Holds d p l
 
+-- the text of the file of this name, and none where no file is named
+abbrev pub IsTextIfNamed : (List ℕ → Option (List ℕ)) → (name text : Option (List ℕ)) → Type 0
+IsTextIfNamed contents None None = Unit {0}
+IsTextIfNamed contents None (Some text) = ⊥
+IsTextIfNamed contents (Some name) None = ⊥
+IsTextIfNamed contents (Some name) (Some text) = IsText contents name text
+
+-- this is true of the texts of a domain file, a problem file and a plan file, if one is named
+abbrev pub OnInputs : (List ℕ → Option (List ℕ)) → (domain problem : List ℕ) → (plan : Option (List ℕ)) → (List ℕ → List ℕ → Option (List ℕ) → Type 0) → Type 0
+OnInputs contents domain problem plan Holds =
+    (d : List ℕ) × (p : List ℕ) × (l : Option (List ℕ)) × IsText contents domain d × IsText contents problem p × IsTextIfNamed contents plan l × Holds d p l
+
 -- this text is the line of the verdict that is true of three texts, and the status is the verdict's
 abbrev pub IsVerdictLine : (domain problem plan text : List ℕ) → (status : ℕ) → Type 0
 IsVerdictLine domain problem plan text status =
@@ -82,8 +111,20 @@ IsSolutionText domain problem asked text status files =
     (task : Task) × (a : Answer) × IsTaskOf domain problem task × IsTrueAnswer task asked.states asked.instances a
     × TellsAnswer task a asked.cert asked.plan text status files
 
+-- This text is the line of an answer of the checker that is true of a certificate's text, for the task of two texts and the
+-- plan of a third, if that is handed in; and the status is the answer's.
+abbrev pub IsCheckedLine : (domain problem : List ℕ) → (plan : Option (List ℕ)) → (cert : List ℕ) → (most : ℕ) → (text : List ℕ) → (status : ℕ) → Type 0
+IsCheckedLine domain problem plan cert most text status =
+    (task : Task) × (steps : Option (List Instance)) × (answer : Result Accepted Refusal) × IsTaskOf domain problem task × IsHandedIn task plan steps
+    × IsTrueCheck task cert steps most answer × IsLineOf answer text status
+
+-- the same of a certificate of which this is known: it is the whole text, where it is known
+abbrev pub IsCheckedIn : (known : Option (List ℕ)) → (domain problem : List ℕ) → (plan : Option (List ℕ)) → (most : ℕ) → (text : List ℕ) → (status : ℕ) → Type 0
+IsCheckedIn known domain problem plan most text status =
+    (cert : List ℕ) × IfSome known (λ bytes. cert ≡ bytes) × IsCheckedLine domain problem plan cert most text status
+
 -- This text, with this status and the files that are written before it, is an answer that is true of the texts of these files:
--- a verdict, beside which none is written, or what was found out of a task.
+-- a verdict or what is told of a certificate, beside which none is written, or what was found out of a task.
 abbrev pub IsVerdictText : (List ℕ → Option (List ℕ)) → (domain problem plan text : List ℕ) → (status : ℕ) → List NamedText → Type 0
 IsVerdictText contents domain problem plan text status written =
     OnThree contents domain problem plan (λ d p l. IsVerdictLine d p l text status) × (written ≡ [])
@@ -92,12 +133,18 @@ abbrev pub IsAnswerText : (List ℕ → Option (List ℕ)) → (domain problem :
 IsAnswerText contents domain problem asked text status written =
     OnTwo contents domain problem (λ d p. IsSolutionText d p asked text status written)
 
+abbrev pub IsCheckText : (List ℕ → Option (List ℕ)) → (domain problem cert : List ℕ) → AskedOfCheck → (text : List ℕ) → (status : ℕ) → List NamedText → Type 0
+IsCheckText contents domain problem cert asked text status written =
+    OnInputs contents domain problem asked.plan (λ d p l. IsCheckedIn (contents cert) d p l asked.instances text status) × (written ≡ [])
+
 -- They are a true answer to what the words ask for.
 pub data IsAnswer (contents : List ℕ → Option (List ℕ)) (words : List (List ℕ)) (text : List ℕ) (status : ℕ) (written : List NamedText) : Type 0 where
   a_verdict : (domain problem plan : List ℕ) → AsksForVerdict words domain problem plan
       → IsVerdictText contents domain problem plan text status written → IsAnswer contents words text status written
   an_answer : (domain problem : List ℕ) (asked : Asked) → AsksForPlan words domain problem asked
       → IsAnswerText contents domain problem asked text status written → IsAnswer contents words text status written
+  a_check : (domain problem cert : List ℕ) (asked : AskedOfCheck) → AsksForCheck words domain problem cert asked
+      → IsCheckText contents domain problem cert asked text status written → IsAnswer contents words text status written
 
 -- each file is as it was
 abbrev pub AreKept : (before after : List ℕ → Option (List ℕ)) → Type 0
@@ -134,6 +181,8 @@ pub data IsRefusedFor (contents : List ℕ → Option (List ℕ)) (words : List 
       → OnThree contents domain problem plan (λ d p l. IsFileFault d p l fault) → IsRefusedFor contents words fault
   an_answer_refused : (domain problem : List ℕ) (asked : Asked) → AsksForPlan words domain problem asked
       → OnTwo contents domain problem (λ d p. IsTaskFault d p fault) → IsRefusedFor contents words fault
+  a_check_refused : (domain problem cert : List ℕ) (asked : AskedOfCheck) → AsksForCheck words domain problem cert asked
+      → OnInputs contents domain problem asked.plan (λ d p l. IsInputFault d p l fault) → IsRefusedFor contents words fault
 
 -- The texts are refused: the standard output and the files are as they were, and the standard error says the line of the fault.
 abbrev pub Refuses : List (List ℕ) → (files files_after : List ℕ → Option (List ℕ)) → (out out_after : Option (List ℕ)) → (Says : List ℕ → Type 0) → Type 0
@@ -148,10 +197,6 @@ HasFailed files files_after out out_after = (files_after ≡ one_more files) ⊎
 abbrev pub HasNotFailed : (files files_after out out_after : ℕ) → Type 0
 HasNotFailed files files_after out out_after = (files_after ≡ files) × (out_after ≡ out)
 
--- the bytes of a word, where there is one
-abbrev pub text_in : Option (Bor (List ℕ)) → Option (List ℕ)
-text_in = option_map (λ (word : Bor (List ℕ)). word.now)
-
 -- These options are known, none stands twice, and their values are held.
 pub record Holds (held : Options) (options : List NamedValue) : Type 0 where
   pub distinct : AreDistinct options
@@ -164,12 +209,17 @@ pub record Holds (held : Options) (options : List NamedValue) : Type 0 where
 abbrev pub asked_of : Limits → (plan cert : Option (Bor (List ℕ))) → Asked
 asked_of limits plan cert = record { states = limits.states; instances = limits.instances; plan = text_in plan; cert = text_in cert }
 
+abbrev pub asked_of_check : (instances : ℕ) → (plan : Option (Bor (List ℕ))) → AskedOfCheck
+asked_of_check instances plan = record { instances = instances; plan = text_in plan }
+
 -- the same of what a command asks for, in the code's terms
 abbrev pub IsAnswerFor : (List ℕ → Option (List ℕ)) → Command → (text : List ℕ) → ℕ → List NamedText → Type 0
 IsAnswerFor contents (Validate domain problem plan) text status written =
     IsVerdictText contents domain.now problem.now plan.now text status written
 IsAnswerFor contents (Solve domain problem limits plan cert) text status written =
     IsAnswerText contents domain.now problem.now (asked_of limits plan cert) text status written
+IsAnswerFor contents (Check domain problem cert plan instances) text status written =
+    IsCheckText contents domain.now problem.now cert.now (asked_of_check instances plan) text status written
 
 abbrev pub TellsFor : Command → (known : Bool) → (files files_after : List ℕ → Option (List ℕ)) → (out out_after : Option (List ℕ)) → ℕ → Type 0
 TellsFor command known files files_after = IsTold (IsAnswerFor files command) known files files_after
@@ -181,6 +231,7 @@ TellsPartlyFor command known files files_after = IsToldPartly (IsAnswerFor files
 abbrev pub Asks : List (List ℕ) → Command → Type 0
 Asks words (Validate domain problem plan) = AsksForVerdict words domain.now problem.now plan.now
 Asks words (Solve domain problem limits plan cert) = AsksForPlan words domain.now problem.now (asked_of limits plan cert)
+Asks words (Check domain problem cert plan instances) = AsksForCheck words domain.now problem.now cert.now (asked_of_check instances plan)
 
 -- the fault of a text that the failure is, and None of a device or of memory
 abbrev pub fault_in : Failure → Option FileFault
@@ -192,6 +243,8 @@ abbrev pub IsFaultFor : (List ℕ → Option (List ℕ)) → Command → FileFau
 IsFaultFor contents (Validate domain problem plan) fault =
     OnThree contents domain.now problem.now plan.now (λ d p l. IsFileFault d p l fault)
 IsFaultFor contents (Solve domain problem limits plan cert) fault = OnTwo contents domain.now problem.now (λ d p. IsTaskFault d p fault)
+IsFaultFor contents (Check domain problem cert plan instances) fault =
+    OnInputs contents domain.now problem.now (text_in plan) (λ d p l. IsInputFault d p l fault)
 
 -- the failure of a write
 abbrev pub of_device : device_fault.WriteFault → Failure
@@ -225,11 +278,13 @@ IsToldOn (failure.Device device.NoMemory) Says status = (status ≡ 22) × Says 
 abbrev pub domain_of : Command → List ℕ
 domain_of (Validate domain problem plan) = domain.now
 domain_of (Solve domain problem limits plan cert) = domain.now
+domain_of (Check domain problem cert plan instances) = domain.now
 
 -- the names of the files that are read
 abbrev pub inputs_of : Command → List (List ℕ)
 inputs_of (Validate domain problem plan) = domain.now ∷ problem.now ∷ plan.now ∷ []
 inputs_of (Solve domain problem limits plan cert) = domain.now ∷ problem.now ∷ []
+inputs_of (Check domain problem cert plan instances) = domain.now ∷ problem.now ∷ cert.now ∷ if_named (text_in plan)
 
 -- there is no answer, and no fault of a text is told
 abbrev pub IsUnread : {T : Type 0} → Result T Failure → Type 0

@@ -1,14 +1,19 @@
-//! From files to answers: the validator over the bytes of three files, and the whole program over any files.
+//! From files to answers: the planner, the validator and the checker over the bytes of files, and the whole program over any
+//! files.
 #![tactic(auto)]
 
+mod checking;
 pub mod files;
+mod laws;
 mod program;
 mod report;
 mod solve;
 mod task_file;
 mod verdict;
 
+pub use checking::{Checked, check_files};
 pub use files::Files;
+pub use laws::solved_certificates_are_accepted;
 pub use program::run;
 pub use solve::{Solved, solve_files};
 pub use task_file::{File, FileFault, one_task};

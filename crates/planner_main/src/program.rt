@@ -6,6 +6,7 @@ ghost use Rattle.planner_main.specs.Options.{IsOneOf};
 ghost use Rattle.planner_main.specs.Program.{texts, AreKept, IsCommand, Tells, TellsFor, TellsPartly, TellsPartlyFor, Refuses, HasFailed, HasNotFailed, CountsEither, NamesDomain, NamesInput, IsFaultFor, IsUnread, device_failure, domain_of, fault_in, inputs_of};
 ghost use Rattle.devices.specs.Devices.{IsWritten};
 
+mod checking;
 mod command;
 mod inputs;
 mod solution;
@@ -13,6 +14,7 @@ mod verdict;
 
 use crate::files::Files;
 use crate::report::{Failure, tell, tell_usage};
+use checking::{Names, tell_check};
 use command::{Command, read_command};
 use devices::Sink;
 use solution::{Wanted, tell_solution};
@@ -27,8 +29,10 @@ use verdict::tell_verdict;
 /// 1,000,000 where it is not given. The options stand in any order. The certificate of the answer is written to the file of
 /// `--cert`, then a plan's text to the file of `--plan`, and then the standard output; where one of them fails, those after it
 /// are not touched, and neither is a file for which there is nothing to write. `validate DOMAIN PROBLEM PLAN` says whether the plan
-/// solves the task. Of a file at most 16,777,217 bytes are read and taken for its whole text, and all files are read before
-/// any fault of their texts is told.
+/// solves the task. `check DOMAIN PROBLEM CERT [--plan FILE] [--instances N]` says what the certificate shows: with a plan, which is
+/// read from the file of `--plan`, that it is a cheapest one; else that no plan costs less, or that there is none. Of a file at most
+/// 16,777,217 bytes are read and taken for its whole text, and all files are read before any fault of their texts is told; but the
+/// certificate is only opened before, and then read line by line, to its end or to its first fault, whatever its length.
 ///
 /// | What comes | Standard output | Standard error | Status |
 /// |---|---|---|---|
@@ -37,6 +41,8 @@ use verdict::tell_verdict;
 /// | a limit is exceeded | `unknown states`, `unknown instances` or `unknown atoms` | | 11 |
 /// | the plan solves the task | `valid cost N` | | 0 |
 /// | it does not | `not applicable step N` or `goal missed` | | 12 |
+/// | the certificate is accepted | `optimal cost N`, `at least N` or `unsolvable` | | 0 |
+/// | it is not | `not accepted CODE Name line L` or `not accepted CODE Name` | | 12 |
 /// | other words | | how the program is used | 2 |
 /// | a file's text is refused | | `fault CODE Name in FILE at S..E` | 20 |
 /// | a file, or the standard output, fails | | `fault 61 Device` | 21 |
@@ -125,6 +131,21 @@ fn carry_out<F: Files, O: Sink>(
         } => {
             let wanted = Wanted { plan, cert };
             tell_solution(alloc, domain, problem, limits, wanted, files, out)
+        }
+        Command::Check {
+            domain,
+            problem,
+            cert,
+            plan,
+            instances,
+        } => {
+            let names = Names {
+                domain,
+                problem,
+                cert,
+                plan,
+            };
+            tell_check(alloc, names, instances, files, out)
         }
     }
 }

@@ -14,13 +14,13 @@ use faults::{Code, Span};
 use std::alloc::{AllocError, Global};
 use validator::Verdict;
 
-/// The plan solves the task.
+/// The plan solves the task, or the certificate is accepted.
 pub(crate) const YES: u8 = 0;
 
 /// The words are no command.
 pub(crate) const WRONG_WORDS: u8 = 2;
 
-/// The plan does not solve the task.
+/// The plan does not solve the task, or the certificate is not accepted.
 pub(crate) const NO: u8 = 12;
 
 /// A file's text is refused.
@@ -33,7 +33,7 @@ pub(crate) const DEVICE: u8 = 21;
 pub(crate) const NO_MEMORY: u8 = 22;
 
 const USAGE: &str =
-    "usage: optplan solve DOMAIN PROBLEM [--plan FILE] [--cert FILE] [--states N] [--instances N]\n       optplan validate DOMAIN PROBLEM PLAN\n";
+    "usage: optplan solve DOMAIN PROBLEM [--plan FILE] [--cert FILE] [--states N] [--instances N]\n       optplan validate DOMAIN PROBLEM PLAN\n       optplan check DOMAIN PROBLEM CERT [--plan FILE] [--instances N]\n";
 
 /// Why the program has no answer.
 #[derive(Clone, Copy)]

@@ -1,11 +1,10 @@
 //! What ground tasks tell of instances beside the states that they lead to: sure literals, and the changes that count.
 use crate::ground_tasks::LAMP;
-use crate::helpers::on_task;
 use grounding::{CountingChange, Ground, NumberedLiteral};
 use std::alloc::{AllocError, Global};
 use std::process::Abort;
 use std::test::Fail;
-use test_texts::{HOP, PAIRS, Texts, UNTIED};
+use test_texts::{HOP, PAIRS, Texts, UNTIED, on_task};
 use typing::Task;
 
 /// A door is shut. One of the changes is under a condition that the start closes off, one under `(and)`.

@@ -4,7 +4,6 @@ ghost use Rattle.grounding.specs.Ground.{task_in, atoms_in};
 ghost use Rattle.model.specs.Grounding.{ground_system};
 
 use crate::answers::{ANSWERS, Found};
-use crate::helpers::on_task;
 use faults::NoMemory;
 use grounding::{Ground, GroundFault};
 use packed_state::{Packed, PlainStore, PooledStore, StateStore};
@@ -12,6 +11,7 @@ use search::{FoundStates, MAX_STATES, Outcome, TransitionSystem, best_first};
 use solver::Limit;
 use std::alloc::Global;
 use std::test::Fail;
+use test_texts::on_task;
 use typing::Task;
 
 /// A ground task, as search sees it.

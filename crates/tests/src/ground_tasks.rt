@@ -3,7 +3,6 @@ ghost use Rattle.std.specs.Prelude.{◌≡◌, length, IfOk};
 ghost use Rattle.packed_state.specs.Packed.{bits_of};
 ghost use Rattle.grounding.specs.Ground.{atoms_in};
 
-use crate::helpers::{Term, atom, is_of, on_task};
 use faults::NoMemory;
 use formulas::is_fluent_atom;
 use grounding::{Ground, GroundFault, GroundLimit};
@@ -11,7 +10,7 @@ use packed_state::Packed;
 use std::alloc::Global;
 use std::process::Abort;
 use std::test::Fail;
-use test_texts::{GO, HOP, PAIRS, PATH, TIE, Texts, UNTIED};
+use test_texts::{GO, HOP, PAIRS, PATH, TIE, Term, Texts, UNTIED, atom, is_of, on_task};
 use typing::Task;
 
 /// A lamp, and a way from the first place to the second, which is seen where the lamp is lit.

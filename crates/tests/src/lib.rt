@@ -4,19 +4,13 @@
 #[cfg(test)]
 mod answers;
 #[cfg(test)]
-mod certificates;
-#[cfg(test)]
 mod ground_literals;
 #[cfg(test)]
 mod ground_searches;
 #[cfg(test)]
 mod ground_tasks;
 #[cfg(test)]
-mod helpers;
-#[cfg(test)]
 mod laws;
-#[cfg(test)]
-mod listings;
 #[cfg(test)]
 mod states;
 #[cfg(test)]

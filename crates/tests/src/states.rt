@@ -1,5 +1,4 @@
 //! States, plans, instances and atoms in memory.
-use crate::helpers::{Term, atom, atoms, instance, is_of, on_task};
 use faults::NoMemory;
 use formulas::{
     Binding, Instance, Plan, State, Valuation, apply, changes, copied, cost, holds, is_atom,
@@ -8,7 +7,7 @@ use formulas::{
 use std::alloc::Global;
 use std::process::Abort;
 use std::test::Fail;
-use test_texts::Texts;
+use test_texts::{Term, Texts, atom, atoms, instance, is_of, on_task};
 use typing::{ObjectId, PredicateId, Task};
 
 /// Three places, and roads that lead from the first to itself and to the second, and from there to the third.

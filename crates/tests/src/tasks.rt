@@ -1,9 +1,8 @@
 //! Tasks in memory: what names and numbers lead to.
-use crate::helpers::on_task;
 use std::alloc::{AllocError, Global};
 use std::process::Abort;
 use std::test::Fail;
-use test_texts::Texts;
+use test_texts::{Texts, on_task};
 use typing::{ObjectId, PredicateId, SchemaId, Task, TypeId, TypeUnion};
 
 /// Names with letters of either case.

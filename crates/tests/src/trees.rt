@@ -1,11 +1,11 @@
 //! Trees of domains and problems in memory, and what is told of words that stop too early.
-use crate::helpers::{read_domain, read_problem};
 use faults::{Code, Fault, Refusal, Span};
 use pddl_tree::{
     Action, Domain, Effect, EffectLiteral, Fact, Formula, Group, Name, Problem, Term, domain,
     problem,
 };
 use std::test::Fail;
+use test_texts::{read_domain, read_problem};
 use tokens::scan;
 
 const GO: &[u8] =

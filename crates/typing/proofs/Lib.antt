@@ -14,3 +14,4 @@ pub mod WellTyped
 pub mod Tasks
 pub mod Shapes
 pub mod Arguments
+pub mod TypedTasks

@@ -1,7 +1,8 @@
 //! What the words of the program ask for.
-ghost use Rattle.std.specs.Prelude.{◌≡◌, ℕ, IfNone, IfSome, IsTrue, List, [], ◌∷◌, ◌++◌, Option, codes, false};
-ghost use Rattle.planner_main.specs.Options.{AreDistinct, AreOptions, Asked, IsLimit, IsNumberOf, NamedValue, named, words_of};
-ghost use Rattle.planner_main.specs.Program.{Asks, Holds, IsCommand, text_in, texts};
+ghost use Rattle.std.specs.Prelude.{◌≡◌, ℕ, IfNone, IfSome, IsTrue, List, [], ◌∷◌, ◌++◌, None, Option, codes, false};
+ghost use Rattle.planner_main.specs.Options.{AreCheckOptions, AreDistinct, AreOptions, Asked, AskedOfCheck, IsLimit, IsNumberOf, NamedValue, named, words_of};
+ghost use Rattle.planner_main.specs.Files.{text_in};
+ghost use Rattle.planner_main.specs.Program.{Asks, Holds, IsCommand, texts};
 
 use solver::Limits;
 
@@ -33,9 +34,22 @@ pub(super) enum Command<'a> {
         /// The name of the file that the certificate is written to, if any.
         cert: Option<&'a str>,
     },
+    /// What the certificate of a file shows of the task of two files.
+    Check {
+        /// The name of the domain file.
+        domain: &'a str,
+        /// The name of the problem file.
+        problem: &'a str,
+        /// The name of the certificate file.
+        cert: &'a str,
+        /// The name of the plan file, if any.
+        plan: Option<&'a str>,
+        /// How many instances may be kept.
+        instances: u32,
+    },
 }
 
-/// The options of `solve` that are given, as they are written.
+/// The options that are given, as they are written.
 #[derive(Clone, Copy)]
 struct Options<'a> {
     plan: Option<&'a str>,
@@ -72,6 +86,20 @@ impl<'a> Options<'a> {
         let instances = number_of(self.instances)?;
         Limits::new(states, instances)
     }
+
+    /// How many instances `check` may keep, and `None` where a text is no limit, or an option is none of `check`.
+    fn check_instances(self) -> Option<u32>
+        ensures instances { IfSome result (IsLimit (text_in self.entry.instances)) }
+        ensures others { IfSome result (λ _. (text_in self.entry.cert ≡ None) × (text_in self.entry.states ≡ None)) }
+        ensures none { IfNone result ((instances : ℕ) → IsLimit (text_in self.entry.instances) instances
+            → text_in self.entry.cert ≡ None → text_in self.entry.states ≡ None → ⊥) }
+    {
+        if self.cert.is_some() || self.states.is_some() {
+            return None;
+        }
+        let limits = self.limits()?;
+        Some(limits.instances())
+    }
 }
 
 /// The number of an option's text, and the default limit where the option is not given.
@@ -93,6 +121,9 @@ pub(super) fn read_command<'a>(words: &[&'a str]) -> Option<Command<'a>>
     match words {
         [command, domain, problem, options @ ..] if *command == "solve" => {
             read_solve(*domain, *problem, options)
+        }
+        [command, domain, problem, cert, options @ ..] if *command == "check" => {
+            read_check(*domain, *problem, *cert, options)
         }
         [command, domain, problem, plan] if *command == "validate" => Some(Command::Validate {
             domain: *domain,
@@ -116,6 +147,27 @@ fn read_solve<'a>(domain: &'a str, problem: &'a str, words: &[&'a str]) -> Optio
         limits,
         plan: options.plan,
         cert: options.cert,
+    })
+}
+
+/// The command `check` with these files and options, and `None` where the words are no options of it.
+fn read_check<'a>(
+    domain: &'a str,
+    problem: &'a str,
+    cert: &'a str,
+    words: &[&'a str],
+) -> Option<Command<'a>>
+    ensures asks { IfSome result (Asks (codes "check" ∷ domain.now ∷ problem.now ∷ cert.now ∷ texts words.now)) }
+    ensures none { IfNone result ((asked : AskedOfCheck) → AreCheckOptions (texts words.now) asked → ⊥) }
+{
+    let options = read_options(words)?;
+    let instances = options.check_instances()?;
+    Some(Command::Check {
+        domain,
+        problem,
+        cert,
+        plan: options.plan,
+        instances,
     })
 }
 

@@ -1,7 +1,8 @@
 //! `solve`: a cheapest plan, from files to the standard output, and to files.
 ghost use Rattle.std.specs.Prelude.{◌≡◌, ◌≢◌, ℕ, Err, IfErr, IfOk, IfSome, IsErr, IsTrue, List, [], ◌∷◌, OnOk, Some};
 ghost use Rattle.planner_main.specs.Options.{IsOneOf};
-ghost use Rattle.planner_main.specs.Program.{AreKept, CountsEither, CountsFailure, HasNotFailed, IsAnswerText, IsTold, IsToldPartly, IsUnread, OnTwo, asked_of, device_failure, fault_in, of_device, text_in};
+ghost use Rattle.planner_main.specs.Program.{AreKept, CountsEither, CountsFailure, HasNotFailed, IsAnswerText, IsTold, IsToldPartly, IsUnread, OnTwo, asked_of, device_failure, fault_in, of_device};
+ghost use Rattle.planner_main.specs.Files.{text_in};
 ghost use Rattle.planner_main.specs.Solution.{TellsAnswer, cert_file, plan_file, text_of};
 ghost use Rattle.planner_main.specs.Written.{AreWritten, AreWrittenPartly, HoldsBeginning, NamedText};
 ghost use Rattle.devices.specs.Devices.{CountsDevice};

@@ -1,0 +1,30 @@
+-- What the checker's answers say of the text that came.
+use Rattle.std.specs.Prelude.{◌≡◌, ℕ, ◌⊎◌, List, Option, None}
+use Rattle.std.specs.Io.KnownBytes.{Consumes, IsAtEnd}
+use Rattle.model.specs.Task.{Task, Instance}
+use Rattle.model.specs.Limits.{max_numbered_atoms}
+use Rattle.model.specs.Grounding.{limit_told}
+use Rattle.model.specs.Certificates.{Certificate}
+use Rattle.certificate_text.specs.CertificateChecking.{IsAccepted}
+use Rattle.certificate_reader.specs.declared.reader.CertReader.{CertReader}
+use Rattle.certificate_reader.specs.Reader.{source_of}
+use Rattle.certificate_listing.specs.declared.refusal.Refusal.{Refusal}
+use Rattle.certificate_listing.specs.Reading.{IsLineRefusal, IsRead}
+use Rattle.cert_checker.specs.declared.checker.Accepted.{Accepted}
+use Rattle.cert_checker.specs.CertChecker.{Answers, IsFirstRefusal, IsTrueRefusal}
+
+-- What came to the end is a text that is accepted, the ground task keeps its limits, and the answer is the one to the claim.
+pub record Accepts {R : Type 0} (remaining : R → Option (List ℕ)) (task : Task) (first now : CertReader R) (plan : Option (List Instance)) (most : ℕ) (answer : Accepted) : Type 0 where
+  pub text : List ℕ
+  pub consumed : Consumes (remaining (source_of first)) (remaining (source_of now)) text
+  pub at_end : IsAtEnd (remaining (source_of now))
+  pub accepted : IsAccepted task text plan
+  pub within : limit_told most max_numbered_atoms task accepted.certificate.atoms ≡ None
+  pub answers : Answers accepted.certificate.claim plan answer
+
+-- The refusal is that of the first line at fault; or what came to the end is the text of a certificate none of whose lines
+-- is at fault, and of this certificate the refusal is true, and the first.
+abbrev pub Refuses : {R : Type 0} → (remaining : R → Option (List ℕ)) → Task → (first now : CertReader R) → Option (List Instance) → (most : ℕ) → Refusal → Type 0
+Refuses remaining task first now plan most refusal =
+    IsLineRefusal remaining task first now refusal
+    ⊎ ((c : Certificate) × IsRead remaining task first now c × IsTrueRefusal task c plan most refusal × IsFirstRefusal task c plan most refusal)

@@ -1,0 +1,108 @@
+//! The checker of certificates: it accepts exactly where the text is that of a certificate that is closed for the task,
+//! and then its claim is true of every plan.
+ghost use Rattle.std.specs.Prelude.{◌≡◌, ℕ, List, Some, None, IsTrue, IfErr, IfOk, OnOk, length};
+ghost use Rattle.std.specs.List.{list_all};
+ghost use Rattle.std.specs.Option.{ForSome, option_map};
+ghost use Rattle.typing.specs.Task.{task_of};
+ghost use Rattle.formulas.specs.State.{plan_of};
+ghost use Rattle.model.specs.Meaning.{is_instance};
+ghost use Rattle.certificate_text.specs.CertificateChecking.{IsAccepted};
+ghost use Rattle.certificate_reader.specs.Reader.{source_of};
+ghost use Rattle.certificate_listing.specs.Reading.{CountsRefusal, IsFresh};
+ghost use Rattle.certificate_listing.specs.Listing.{certificate_in};
+ghost use Rattle.model.specs.Limits.{max_numbered_atoms};
+ghost use Rattle.model.specs.Grounding.{limit_told};
+ghost use Rattle.model.specs.Certificates.{IsClosedFor, lines_of};
+ghost use Rattle.cert_checker.specs.FluentAtoms.{AreFluent};
+ghost use Rattle.cert_checker.specs.CheckedLines.{CutsAreAllowed};
+ghost use Rattle.cert_checker.specs.CertChecker.{Answers, IsFirstRefusal, IsNoFault, IsShown, IsTrueRefusal};
+ghost use Rattle.cert_checker.specs.Checking.{Accepts, Refuses};
+
+mod answer;
+mod packed;
+mod steps;
+
+use certificate_listing::{Listing, Refusal, read_listing};
+use certificate_reader::CertReader;
+use devices::Source;
+use formulas::Plan;
+use std::alloc::Global;
+use typing::Task;
+
+/// What an accepted certificate shows.
+#[derive(Clone, Copy, Debug, PartialEq, Eq)]
+pub enum Accepted {
+    /// The plan that was handed in solves the task at this cost, and no plan solves it at less.
+    Optimal {
+        /// The plan's cost.
+        cost: u64,
+    },
+    /// No plan solves the task at less than this cost.
+    AtLeast {
+        /// The bound.
+        cost: u64,
+    },
+    /// No plan solves the task.
+    Unsolvable,
+}
+
+/// Decides whether what comes to the reader's end is the text of a certificate that is closed for the task, and whether
+/// the plan, if one is handed in, solves the task at a cost of at most the claim's. Each instance of the plan is one of the
+/// task's, and nothing was read of the reader. Each line is taken as it comes, and no text is kept.
+///
+/// # Errors
+/// The first that applies: the first line at fault, as [`read_listing`] tells it (40 to 44, 52 and 55); 55 where the task
+/// keeps more than `max_instances` instances once it is grounded, or would number more than 1,048,576 atoms; 45 where the
+/// initial state is not listed at 0; what is wrong with the successors or the cost of a listed state, line by line (48 to
+/// 51); what is wrong with the plan (53, 54). [`Refusal::Device`] where the device failed; [`Refusal::NoMemory`] where
+/// memory is refused.
+pub fn check<R: Source>(
+    alloc: Global,
+    task: &Task,
+    reader: &mut CertReader<R>,
+    plan: Option<&Plan>,
+    max_instances: u32,
+) -> Result<Accepted, Refusal>
+    requires fresh { IsFresh reader.old }
+    requires instances { ForSome plan (λ p. IsTrue (list_all (is_instance (task_of task.now)) (plan_of p.now))) }
+
+    // What is accepted is true of all lists of instances.
+    ensures shown { IfOk result (IsShown (task_of task.now) (option_map (λ p. plan_of p.now) plan.entry)) }
+
+    // It accepts exactly where the text is that of a closed certificate, and the plan, if one is handed in, costs no more
+    // than is claimed; the limits of the ground task, want of memory and failures of the device aside.
+    ensures accepted { IfOk result (Accepts R.remaining (task_of task.now) reader.old reader.new (option_map (λ p. plan_of p.now) plan.entry) max_instances) }
+    ensures accepts { (text : List ℕ) → R.remaining (source_of reader.old) ≡ Some text
+        → IsAccepted (task_of task.now) text (option_map (λ p. plan_of p.now) plan.entry) → IfErr result IsNoFault }
+
+    // Each refusal is true, and nothing that comes before it is wrong.
+    ensures refused { IfErr result (Refuses R.remaining (task_of task.now) reader.old reader.new (option_map (λ p. plan_of p.now) plan.entry) max_instances) }
+    ensures failures { CountsRefusal (R.failures (source_of reader.old)) (R.failures (source_of reader.new)) result }
+{
+    let listing = read_listing(alloc, task, reader)?;
+    judge(alloc, task, listing, plan, max_instances)
+}
+
+/// Decides whether a certificate none of whose lines is at fault is closed for the task, and whether the plan, if one is
+/// handed in, solves the task at a cost of at most the claim's.
+fn judge(
+    alloc: Global,
+    task: &Task,
+    listing: Listing,
+    plan: Option<&Plan>,
+    max_instances: u32,
+) -> Result<Accepted, Refusal>
+    requires instances { ForSome plan (λ p. IsTrue (list_all (is_instance (task_of task.now)) (plan_of p.now))) }
+    requires fluent { AreFluent (task_of task.now) (certificate_in listing).atoms }
+    requires allowed { CutsAreAllowed (task_of task.now) (certificate_in listing) (length (lines_of (task_of task.now) (certificate_in listing))) }
+    ensures shown { IfOk result (IsShown (task_of task.now) (option_map (λ p. plan_of p.now) plan.entry)) }
+    ensures closed { OnOk result (IsClosedFor (task_of task.now) (certificate_in listing)) }
+    ensures answers { IfOk result (Answers (certificate_in listing).claim (option_map (λ p. plan_of p.now) plan.entry)) }
+    ensures within { OnOk result (limit_told max_instances max_numbered_atoms (task_of task.now) (certificate_in listing).atoms ≡ None) }
+    ensures refused { IfErr result (IsTrueRefusal (task_of task.now) (certificate_in listing) (option_map (λ p. plan_of p.now) plan.entry) max_instances) }
+    ensures first { IfErr result (IsFirstRefusal (task_of task.now) (certificate_in listing) (option_map (λ p. plan_of p.now) plan.entry) max_instances) }
+{
+    let claim = listing.claim();
+    steps::check_listing(alloc, task, listing, max_instances)?;
+    answer::answer(alloc, task, claim, plan)
+}

@@ -1,0 +1,55 @@
+//! What a closed certificate shows, with the plan that was handed in.
+ghost use Rattle.std.specs.Prelude.{◌≡◌, ℕ, None, IsTrue, IfErr, IfOk};
+ghost use Rattle.std.specs.List.{list_all};
+ghost use Rattle.std.specs.Option.{ForSome, option_map};
+ghost use Rattle.typing.specs.Task.{task_of};
+ghost use Rattle.formulas.specs.State.{plan_of};
+ghost use Rattle.certificate_lines.specs.Lines.{claim_of};
+ghost use Rattle.cert_checker.specs.CertChecker.{Answers, IsFirstRefusal, IsShown, IsTrueRefusal};
+ghost use Rattle.model.specs.Meaning.{is_instance, system_of};
+ghost use Rattle.model.specs.Limits.{max_numbered_atoms};
+ghost use Rattle.model.specs.Grounding.{limit_told};
+ghost use Rattle.model.specs.Claims.{ClaimHolds};
+ghost use Rattle.model.specs.Certificates.{Certificate, IsClosedFor};
+
+use crate::checker::Accepted;
+use certificate_lines::Claim;
+use certificate_listing::{Refusal, RefusalCode};
+use formulas::Plan;
+use std::alloc::Global;
+use typing::Task;
+use validator::{Verdict, validate};
+
+/// What a certificate's claim, which is true, shows: of all plans, or that the plan handed in, if it costs no more, is
+/// optimal.
+pub(super) fn answer(
+    alloc: Global,
+    task: &Task,
+    claim: Claim,
+    plan: Option<&Plan>,
+) -> Result<Accepted, Refusal>
+    requires instances { ForSome plan (λ p. IsTrue (list_all (is_instance (task_of task.now)) (plan_of p.now))) }
+    requires holds { ClaimHolds (system_of (task_of task.now)) (claim_of claim) }
+    ensures shown { IfOk result (IsShown (task_of task.now) (option_map (λ p. plan_of p.now) plan.entry)) }
+    ensures answers { IfOk result (Answers (claim_of claim) (option_map (λ p. plan_of p.now) plan.entry)) }
+    ensures wrong { IfErr result (λ e. (c : Certificate) (most : ℕ) → c.claim ≡ claim_of claim
+        → IsTrueRefusal (task_of task.now) c (option_map (λ p. plan_of p.now) plan.entry) most e) }
+    ensures first { IfErr result (λ e. (c : Certificate) (most : ℕ) → c.claim ≡ claim_of claim
+        → IsClosedFor (task_of task.now) c → limit_told most max_numbered_atoms (task_of task.now) c.atoms ≡ None
+        → IsFirstRefusal (task_of task.now) c (option_map (λ p. plan_of p.now) plan.entry) most e) }
+{
+    let Some(plan) = plan else {
+        return Ok(match claim {
+            Claim::Bound(cost) => Accepted::AtLeast { cost },
+            Claim::Unsolvable => Accepted::Unsolvable,
+        });
+    };
+    let Verdict::Valid { cost } = validate(alloc, task, plan)? else {
+        return Err(Refusal::Plain(RefusalCode::PlanInvalid));
+    };
+    match claim {
+        Claim::Bound(least) if cost <= least => Ok(Accepted::Optimal { cost }),
+        Claim::Bound(_) => Err(Refusal::Plain(RefusalCode::PlanDearer)),
+        Claim::Unsolvable => Err(Refusal::Plain(RefusalCode::PlanInvalid)),
+    }
+}

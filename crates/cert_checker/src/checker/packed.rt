@@ -1,0 +1,63 @@
+//! A certificate's listing in the ground task.
+ghost use Rattle.std.proofs.Props.{props};
+ghost use Rattle.grounding.specs.Ground.{task_in, atoms_in};
+ghost use Rattle.certificate_listing.specs.Listing.{certificate_in, store_in};
+ghost use Rattle.cert_checker.specs.PackedLines.{IsPackedListing};
+
+use certificate_listing::Listing;
+use grounding::Ground;
+use packed_state::{Packed, StateStore};
+
+/// A certificate of a ground task in which the certificate's atoms have the first numbers, with its states packed as the
+/// ground task's are.
+#[derive(Drop)]
+pub(super) struct PackedListing<'a, 't> {
+    pub(super) grounded: &'a Ground<'t>,
+    pub(super) listing: &'a Listing,
+    ghost listed: { IsPackedListing (task_in grounded.now) (atoms_in grounded.now) (certificate_in listing.now) (store_in listing.now) } by { Prim.hlevel props },
+}
+
+impl<'a, 't> PackedListing<'a, 't> {
+    ghost use Rattle.std.specs.Prelude.{◌≡◌, ℕ, ◌<◌, MatchOption, Option, length};
+    ghost use Rattle.packed_state.specs.PooledView.{pooled_width};
+    ghost use Rattle.cert_checker.specs.FluentAtoms.{AreFluent};
+    ghost use Rattle.cert_checker.specs.CheckedLines.{HasCost, IsListedAt, Stands};
+    ghost use Rattle.cert_checker.specs.PackedListing.{task_at, certificate_at, state_at, IsPacked};
+    ghost use Rattle.model.specs.NumberedAtoms.{numbered_atoms};
+    ghost use Rattle.model.specs.Certificates.{lines_of};
+    ghost use Rattle.model.specs.CertificateRefusals.{IsListed};
+
+    /// That of the certificate.
+    pub(super) fn new(grounded: &'a Ground<'t>, listing: &'a Listing) -> PackedListing<'a, 't>
+        requires fluent { AreFluent (task_in grounded.now) (certificate_in listing.now).atoms }
+        requires numbered { atoms_in grounded.now ≡ numbered_atoms (task_in grounded.now) (certificate_in listing.now).atoms }
+        requires width { pooled_width (store_in listing.now) ≡ length (atoms_in grounded.now) }
+        ensures same { (task_at result ≡ task_in grounded.now) × (certificate_at result ≡ certificate_in listing.now) }
+    {
+        PackedListing { grounded, listing }
+    }
+
+    /// Copies the state that the line at this place lists.
+    pub(super) fn get(&self, place: usize, into: &mut Packed)
+        requires within { place < length (certificate_at self.now).lines }
+        requires packed { IsPacked self.now into.old }
+        ensures packed { IsPacked self.now into.new }
+        ensures state { (cost : ℕ) (cut : Option ℕ) → HasCost (certificate_at self.now) place cost cut
+            → Stands (task_at self.now) (certificate_at self.now) place (state_at self.now into.new) cost cut }
+    {
+        self.listing.sets().get(place as u32, into);
+    }
+
+    /// The cost at which the state is listed, if it is.
+    pub(super) fn cost_of(&self, state: &Packed) -> Option<u64>
+        requires { IsPacked self.now state.now }
+        ensures { MatchOption result
+            (¬ IsListed (lines_of (task_at self.now) (certificate_at self.now)) (state_at self.now state.now))
+            (IsListedAt (lines_of (task_at self.now) (certificate_at self.now)) (state_at self.now state.now)) }
+    {
+        match self.listing.sets().find(state) {
+            Some(place) => Some(self.listing.marks()[place as usize].cost),
+            None => None,
+        }
+    }
+}

@@ -1,0 +1,267 @@
+//! Whether no action leads out of the listing at less than is claimed.
+ghost use Rattle.std.specs.Prelude.{◌≡◌, ◌≢◌, ℕ, ◌+◌, ◌<◌, ◌↔◌, AllPairs, List, length, slice_get, Option, None, Some, IsTrue, IfErr, IfOk, OnOk};
+ghost use Rattle.typing.specs.Task.{task_of};
+ghost use Rattle.packed_state.specs.Packed.{bits_of};
+ghost use Rattle.grounding.specs.Ground.{IsGroundOf};
+ghost use Rattle.certificate_lines.specs.Lines.{claim_of};
+ghost use Rattle.certificate_listing.specs.Listing.{certificate_in};
+ghost use Rattle.cert_checker.specs.CertChecker.{IsFirstRefusal, IsTrueRefusal};
+ghost use Rattle.cert_checker.specs.FluentAtoms.{AreFluent};
+ghost use Rattle.cert_checker.specs.CheckedLines.{CutsAreAllowed, IsCutClosed, IsLineClosed, IsOpenClosed, IsRightUpTo, IsTrueAnyway, Stands};
+ghost use Rattle.cert_checker.specs.PackedListing.{task_at, atoms_at, certificate_at, state_at, IsPacked};
+ghost use Rattle.model.specs.Task as model_task;
+ghost use Rattle.model.specs.Meaning.{system_of};
+ghost use Rattle.model.specs.Meaning as meaning;
+ghost use Rattle.model.specs.Claims as claims;
+ghost use Rattle.model.specs.Claims.{Allows, IsListedWithin};
+ghost use Rattle.model.specs.Limits.{max_numbered_atoms};
+ghost use Rattle.model.specs.Grounding.{applicable_numbers, limit_told};
+ghost use Rattle.model.specs.Certificates.{lines_of, value_of};
+ghost use Rattle.model.specs.CertificateRefusals.{state_line};
+ghost use Rattle.certificate_listing.specs.declared.refusal.Refusal.TheVariants as Refusal;
+
+use crate::checker::packed::PackedListing;
+use certificate_lines::Claim;
+use certificate_listing::{Listing, Refusal, RefusalCode};
+use grounding::{Ground, GroundFault};
+use packed_state::Packed;
+use std::alloc::Global;
+use typing::Task;
+
+/// Grounds the task, and checks the listing: whether the initial state is listed at cost 0, and the state lines in
+/// order.
+pub(super) fn check_listing(
+    alloc: Global,
+    task: &Task,
+    listing: Listing,
+    max_instances: u32,
+) -> Result<(), Refusal>
+    requires atoms { AreFluent (task_of task.now) (certificate_in listing).atoms }
+    requires distinct { AllPairs (λ (k l : claims.Line meaning.State). k.state ≢ l.state) (lines_of (task_of task.now) (certificate_in listing)) }
+    requires allowed { CutsAreAllowed (task_of task.now) (certificate_in listing) (length (lines_of (task_of task.now) (certificate_in listing))) }
+    ensures right { OnOk result (IsRightUpTo (task_of task.now) (certificate_in listing) max_instances (length (lines_of (task_of task.now) (certificate_in listing)))) }
+    ensures wrong { IfErr result (λ e. (plan : Option (List model_task.Instance)) → IsTrueRefusal (task_of task.now) (certificate_in listing) plan max_instances e) }
+    ensures first { IfErr result (λ e. (plan : Option (List model_task.Instance)) → IsFirstRefusal (task_of task.now) (certificate_in listing) plan max_instances e) }
+{
+    let grounded = ground_task(alloc, task, &listing, max_instances)?;
+    let listing = listing.at_width(alloc, grounded.width())?;
+    let listing = PackedListing::new(&grounded, &listing);
+    check_initial(alloc, &listing)?;
+    check_lines(alloc, &listing)
+}
+
+/// The ground task in which the certificate's atoms have the first numbers.
+fn ground_task<'t>(
+    alloc: Global,
+    task: &'t Task,
+    listing: &Listing,
+    max_instances: u32,
+) -> Result<Ground<'t>, Refusal>
+    requires atoms { AreFluent (task_of task.now) (certificate_in listing.now).atoms }
+    requires distinct { AllPairs (λ (k l : claims.Line meaning.State). k.state ≢ l.state) (lines_of (task_of task.now) (certificate_in listing.now)) }
+    requires allowed { CutsAreAllowed (task_of task.now) (certificate_in listing.now) (length (lines_of (task_of task.now) (certificate_in listing.now))) }
+    ensures right { IfOk result (IsGroundOf (task_of task.now) (certificate_in listing.now).atoms max_instances) }
+    ensures wrong { IfErr result (λ e. (plan : Option (List model_task.Instance)) → IsTrueRefusal (task_of task.now) (certificate_in listing.now) plan max_instances e) }
+    ensures first { IfErr result (λ e. (plan : Option (List model_task.Instance)) → IsFirstRefusal (task_of task.now) (certificate_in listing.now) plan max_instances e) }
+{
+    match Ground::new(alloc, task, listing.atoms(), max_instances) {
+        Ok(grounded) => Ok(grounded),
+        Err(GroundFault::At(_)) => Err(Refusal::Plain(RefusalCode::Limit)),
+        Err(GroundFault::NoMemory) => Err(Refusal::NoMemory),
+    }
+}
+
+/// Whether the initial state is listed at cost 0.
+fn check_initial(alloc: Global, listing: &PackedListing) -> Result<(), Refusal>
+    ensures right { OnOk result (IsListedWithin (lines_of (task_at listing.now) (certificate_at listing.now)) (system_of (task_at listing.now)).initial 0) }
+    ensures wrong { IfErr result (IsTrueAnyway (task_at listing.now) (certificate_at listing.now)) }
+    ensures first { IfErr result (λ e. CutsAreAllowed (task_at listing.now) (certificate_at listing.now) (length (lines_of (task_at listing.now) (certificate_at listing.now)))
+        → (plan : Option (List model_task.Instance)) (most : ℕ) → limit_told most max_numbered_atoms (task_at listing.now) (certificate_at listing.now).atoms ≡ None
+        → IsFirstRefusal (task_at listing.now) (certificate_at listing.now) plan most e) }
+{
+    let initial = listing.grounded.initial(alloc)?;
+    if listing.cost_of(&initial) == Some(0) {
+        Ok(())
+    } else {
+        Err(Refusal::Plain(RefusalCode::NoInitial))
+    }
+}
+
+/// Checks the state lines in order: the successors and the costs of open states, and the bounds of cuts.
+fn check_lines(alloc: Global, listing: &PackedListing) -> Result<(), Refusal>
+    ensures right { OnOk result ((place : ℕ) (line : claims.Line meaning.State) → slice_get (lines_of (task_at listing.now) (certificate_at listing.now)) place ≡ Some line
+        → IsLineClosed (task_at listing.now) (certificate_at listing.now) line) }
+    ensures wrong { IfErr result (IsTrueAnyway (task_at listing.now) (certificate_at listing.now)) }
+    ensures first { IfErr result (λ e. (plan : Option (List model_task.Instance)) (most : ℕ) → IsRightUpTo (task_at listing.now) (certificate_at listing.now) most 0
+        → IsFirstRefusal (task_at listing.now) (certificate_at listing.now) plan most e) }
+{
+    let width = listing.grounded.width();
+    let mut state = Packed::empty(alloc, width)?;
+    let mut next = Packed::empty(alloc, width)?;
+    let mut numbers = Vec::new(alloc);
+    for place in 0..listing.listing.marks().len() {
+        check_line(listing, place, &mut state, &mut next, &mut numbers)?;
+    }
+    Ok(())
+}
+
+/// Checks the state line at this place. The state, the next one and the numbers are lent to work with.
+fn check_line(
+    listing: &PackedListing,
+    place: usize,
+    state: &mut Packed,
+    next: &mut Packed,
+    numbers: &mut Vec<u32>,
+) -> Result<(), Refusal>
+    requires within { place < length (certificate_at listing.now).lines }
+    requires state { IsPacked listing.now state.old }
+    requires next { IsPacked listing.now next.old }
+    ensures state { IsPacked listing.now state.new }
+    ensures next { IsPacked listing.now next.new }
+    ensures right { OnOk result ((line : claims.Line meaning.State) → slice_get (lines_of (task_at listing.now) (certificate_at listing.now)) place ≡ Some line
+        → IsLineClosed (task_at listing.now) (certificate_at listing.now) line) }
+    ensures wrong { IfErr result (IsTrueAnyway (task_at listing.now) (certificate_at listing.now)) }
+    ensures first { IfErr result (λ e. (plan : Option (List model_task.Instance)) (most : ℕ) → IsRightUpTo (task_at listing.now) (certificate_at listing.now) most place
+        → IsFirstRefusal (task_at listing.now) (certificate_at listing.now) plan most e) }
+{
+    let mark = listing.listing.marks()[place];
+    listing.get(place, state);
+    match mark.cut {
+        None => check_open(listing, place, mark.cost, state, next, numbers),
+        Some(rest) => check_cut(listing, place, mark.cost, rest, state),
+    }
+}
+
+/// Checks this open state, which is listed at this place and this cost: its goal, and its successors in order.
+fn check_open(
+    listing: &PackedListing,
+    place: usize,
+    cost: u64,
+    state: &Packed,
+    next: &mut Packed,
+    numbers: &mut Vec<u32>,
+) -> Result<(), Refusal>
+    requires within { place < length (certificate_at listing.now).lines }
+    requires state { IsPacked listing.now state.now }
+    requires next { IsPacked listing.now next.old }
+    requires listed { Stands (task_at listing.now) (certificate_at listing.now) place (state_at listing.now state.now) cost None }
+    requires small { cost < 1152921504606846976 }
+    ensures next { IsPacked listing.now next.new }
+    ensures right { OnOk result (IsOpenClosed (task_at listing.now) (certificate_at listing.now) (state_at listing.now state.now) cost) }
+    ensures wrong { IfErr result (IsTrueAnyway (task_at listing.now) (certificate_at listing.now)) }
+    ensures first { IfErr result (λ e. (plan : Option (List model_task.Instance)) (most : ℕ) → IsRightUpTo (task_at listing.now) (certificate_at listing.now) most place
+        → IsFirstRefusal (task_at listing.now) (certificate_at listing.now) plan most e) }
+{
+    check_goal(listing, place, cost, state)?;
+    listing.grounded.applicable(state, numbers)?;
+    check_successors(listing, place, cost, state, numbers, next)
+}
+
+/// Checks the goal in this open state, which is listed at this place and this cost.
+fn check_goal(
+    listing: &PackedListing,
+    place: usize,
+    cost: u64,
+    state: &Packed,
+) -> Result<(), Refusal>
+    requires within { place < length (certificate_at listing.now).lines }
+    requires state { IsPacked listing.now state.now }
+    requires listed { Stands (task_at listing.now) (certificate_at listing.now) place (state_at listing.now state.now) cost None }
+    ensures right { OnOk result (IsTrue (meaning.meets_goal (task_at listing.now) (state_at listing.now state.now)) → Allows (certificate_at listing.now).claim cost) }
+    ensures wrong { IfErr result (IsTrueAnyway (task_at listing.now) (certificate_at listing.now)) }
+    ensures first { IfErr result (λ e. (plan : Option (List model_task.Instance)) (most : ℕ) → IsRightUpTo (task_at listing.now) (certificate_at listing.now) most place
+        → IsFirstRefusal (task_at listing.now) (certificate_at listing.now) plan most e) }
+{
+    if listing.grounded.meets_goal(state) && !allows(listing.listing.claim(), cost) {
+        Err(state_line(RefusalCode::GoalOpen, listing.listing, place))
+    } else {
+        Ok(())
+    }
+}
+
+/// Checks the successors of this open state, which is listed at this place and this cost. The numbers are those of the
+/// instances that are applicable in it.
+fn check_successors(
+    listing: &PackedListing,
+    place: usize,
+    cost: u64,
+    state: &Packed,
+    numbers: &[u32],
+    next: &mut Packed,
+) -> Result<(), Refusal>
+    requires within { place < length (certificate_at listing.now).lines }
+    requires state { IsPacked listing.now state.now }
+    requires next { IsPacked listing.now next.old }
+    requires listed { Stands (task_at listing.now) (certificate_at listing.now) place (state_at listing.now state.now) cost None }
+    requires small { cost < 1152921504606846976 }
+    requires numbers { numbers.now ≡ applicable_numbers (task_at listing.now) (atoms_at listing.now) (bits_of state.now) }
+    requires goal { IsTrue (meaning.meets_goal (task_at listing.now) (state_at listing.now state.now)) → Allows (certificate_at listing.now).claim cost }
+    ensures next { IsPacked listing.now next.new }
+    ensures right { OnOk result (IsOpenClosed (task_at listing.now) (certificate_at listing.now) (state_at listing.now state.now) cost) }
+    ensures wrong { IfErr result (IsTrueAnyway (task_at listing.now) (certificate_at listing.now)) }
+    ensures first { IfErr result (λ e. (plan : Option (List model_task.Instance)) (most : ℕ) → IsRightUpTo (task_at listing.now) (certificate_at listing.now) most place
+        → IsFirstRefusal (task_at listing.now) (certificate_at listing.now) plan most e) }
+{
+    for &number in numbers {
+        listing.grounded.successor(number, state, next);
+        let Some(listed) = listing.cost_of(next) else {
+            return Err(state_line(RefusalCode::SuccessorMissing, listing.listing, place));
+        };
+        if listed > cost + u64::from(listing.grounded.cost(number)) {
+            return Err(state_line(RefusalCode::SuccessorDearer, listing.listing, place));
+        }
+    }
+    Ok(())
+}
+
+/// Checks the cut of this state, which is listed at this place and this cost, and told to have at least `rest` still to
+/// pay.
+fn check_cut(
+    listing: &PackedListing,
+    place: usize,
+    cost: u64,
+    rest: u64,
+    state: &Packed,
+) -> Result<(), Refusal>
+    requires within { place < length (certificate_at listing.now).lines }
+    requires listed { Stands (task_at listing.now) (certificate_at listing.now) place (state_at listing.now state.now) cost (Some rest) }
+    requires small { (cost < 1152921504606846976) × (rest < 1152921504606846976) }
+    ensures right { OnOk result (IsCutClosed (certificate_at listing.now) (state_at listing.now state.now) cost rest) }
+    ensures wrong { IfErr result (IsTrueAnyway (task_at listing.now) (certificate_at listing.now)) }
+    ensures first { IfErr result (λ e. (plan : Option (List model_task.Instance)) (most : ℕ) → IsRightUpTo (task_at listing.now) (certificate_at listing.now) most place
+        → IsFirstRefusal (task_at listing.now) (certificate_at listing.now) plan most e) }
+{
+    if rest <= value(listing, state) && allows(listing.listing.claim(), cost + rest) {
+        Ok(())
+    } else {
+        Err(state_line(RefusalCode::CutWeak, listing.listing, place))
+    }
+}
+
+/// The value of a state, which what is still to pay from it on does not fall short of: 0 in every state.
+fn value(_listing: &PackedListing, _state: &Packed) -> u64
+    ensures { result ≡ value_of (certificate_at _listing.now) (state_at _listing.now _state.now) }
+{
+    0
+}
+
+/// Whether the claim allows a plan of this cost.
+fn allows(claim: Claim, cost: u64) -> bool
+    ensures { IsTrue result ↔ Allows (claim_of claim) cost }
+{
+    match claim {
+        Claim::Bound(least) => least <= cost,
+        Claim::Unsolvable => false,
+    }
+}
+
+/// The refusal of the state line at this place, from 0, by its line.
+fn state_line(code: RefusalCode, listing: &Listing, place: usize) -> Refusal
+    requires { place < length (certificate_in listing.now).lines }
+    ensures { result ≡ Refusal.Line code (state_line (certificate_in listing.now) place) }
+{
+    Refusal::Line {
+        code,
+        line: 4 + listing.atoms().len() as u64 + place as u64,
+    }
+}

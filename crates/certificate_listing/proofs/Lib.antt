@@ -1,0 +1,13 @@
+pub mod NamesLemmas
+pub mod SetsLemmas
+pub mod ToldLemmas
+pub mod ListedLemmas
+pub mod PlacedLemmas
+pub mod AtomsLemmas
+pub mod ReadingLemmas
+pub mod ListingLemmas
+pub mod WideningLemmas
+pub mod NumbersLemmas
+pub mod SplitLemmas
+pub mod AcceptedLemmas
+pub mod WrittenLemmas

@@ -1,0 +1,223 @@
+-- What is written of a certificate within the limits is a text that says it.
+use Rattle.std.proofs.Common.{◌≡◌, ℕ, zero, suc, ◌+◌, ◌*◌, ◌≤◌, Bool, true, false, not, cond, List, [], ◌∷◌, ◌++◌, codes, map, length, length-append, Option, None, Some, refl, sym, ap, ◌∙◌, subst, true≢false, arith}
+use Rattle.std.specs.Prelude.{◌&&◌, IsTrue, All, nat_le, nat_lt, slice_get}
+use Rattle.std.specs.Char.{to_ascii_lowercase}
+use Rattle.std.specs.Cmp.Lexicographic.{pointwise, same_text}
+use Rattle.std.specs.List.{flat_map, list_all, list_any, position_or_len}
+use Rattle.std.specs.Option.{option_map_or}
+use Rattle.std.proofs.lemmas.Bool.{and_parts, leb-true, le-leb, lt-ltb, or_left, or_right}
+use Rattle.std.proofs.lemmas.Cmp.{nat_list_eq_equiv}
+use Rattle.std.proofs.lemmas.List.{length-map}
+use Rattle.std.proofs.lemmas.List.Folds.{list_all-append, list_all-map}
+use Rattle.std.proofs.lemmas.Option.{slice_get_within}
+use Rattle.model.specs.Task.{Name, Atom, Object, Predicate, Task, Union, Instance}
+use Rattle.model.specs.Meaning.{is_below, is_of}
+use Rattle.model.specs.WellTyped.{is_atom, is_task}
+use Rattle.model.specs.Words.{is_name, longest_run}
+use Rattle.model.specs.Resolution.{is_same}
+use Rattle.model.specs.PlanText.{object_names}
+use Rattle.model.specs.PlanWriting.{are_lower_names, differ, is_lower_name, object_name}
+use Rattle.model.specs.Fluents.{is_fluent}
+use Rattle.model.specs.Certificates.{Certificate, IsClosedFor, is_claim, is_number, is_state_line, keeps_limits}
+use Rattle.model.specs.CertificateRefusals.{IsPlanWithin}
+use Rattle.model.proofs.Tests.{passes_got}
+use Rattle.certificate_text.specs.CertificateText.{TextLine, atom, listed, last, after_blank, is_line, line_text, longest_line, most_atoms, most_states, text_lines}
+use Rattle.certificate_text.specs.CertificateNames.{AllName, AreNumbersOf, IsNumberOf, IsTextOf, Names, are_atoms_of, certificate_text, has_atom_names, named, named_atom, predicate_name, predicate_names}
+use Rattle.certificate_text.specs.CertificateChecking.{IsAccepted}
+use Rattle.certificate_listing.proofs.NamesLemmas.{few_objects}
+
+-- ---- the number of a name
+
+-- a test passes at some place
+passes_somewhere : (test : Name → Bool) (names : List Name) (k : ℕ) (name : Name) → slice_get names k ≡ Some name → test name ≡ true → list_any test names ≡ true
+passes_somewhere test [] k name at passes = absurd (cc)
+passes_somewhere test (first ∷ names) zero name at passes = let same : first ≡ name = cc in or_left (test first) (list_any test names) (ap test same ∙ passes)
+passes_somewhere test (first ∷ names) (suc k) name at passes = or_right (test first) (list_any test names) (passes_somewhere test names k name at passes)
+
+-- the first of names that differ is none of the others
+none_same : (first : Name) (names : List Name) (k : ℕ) (name : Name) → not (list_any (is_same first) names) ≡ true → slice_get names k ≡ Some name → is_same name first ≡ false
+none_same first names k name none at = by_test (is_same name first) refl
+  where
+    by_test : (t : Bool) → is_same name first ≡ t → t ≡ false
+    by_test false e = refl
+    by_test true e =
+        let same : name ≡ first = same_text name first (sym e) in
+        let among = passes_somewhere (is_same first) names k name at (ap (λ n. is_same first n) same ∙ nat_list_eq_equiv.refl first) in
+        absurd (true≢false (sym none ∙ ap not among))
+
+-- of names that differ each is the first that is the same
+first_at : (names : List Name) (k : ℕ) (name : Name) → differ names ≡ true → slice_get names k ≡ Some name → position_or_len (is_same name) names ≡ k
+first_at [] k name differs at = absurd (cc)
+first_at (first ∷ names) zero name differs at =
+    let same : first ≡ name = cc in
+    ap (λ t. cond (not t) (1 + position_or_len (is_same name) names) 0) (ap (is_same name) same ∙ nat_list_eq_equiv.refl name)
+first_at (first ∷ names) (suc k) name differs at =
+    let parts = and_parts (not (list_any (is_same first) names)) (differ names) differs in
+    ap (λ t. cond (not t) (1 + position_or_len (is_same name) names) 0) (none_same first names k name parts.0 at)
+    ∙ (let later = first_at names k name parts.1 at in omega (arith, later))
+
+-- a name in lower case, and its number
+record IsNameAt (names : List Name) (name : Name) (k : ℕ) : Type 0 where
+  number : IsNumberOf names name k
+  lower : is_lower_name name ≡ true
+
+name_at : {X : Type 0} (name_of : X → Name) (xs : List X) (k : ℕ) (x : X) → are_lower_names (map name_of xs) ≡ true → slice_get xs k ≡ Some x
+    → IsNameAt (map name_of xs) (option_map_or name_of (slice_get xs k) []) k
+name_at {X = X} name_of xs k x names at =
+    let (lower, differs) = and_parts (list_all is_lower_name (map name_of xs)) (differ (map name_of xs)) names in
+    let there : slice_get (map name_of xs) k ≡ Some (name_of x) = mapped xs k at in
+    let number : IsNumberOf (map name_of xs) (name_of x) k =
+    ap (λ j. cond (nat_lt j (length (map name_of xs))) (Some j) None) (first_at (map name_of xs) k (name_of x) differs there)
+    ∙ ap (λ b. cond b (Some k) None) (lt-ltb k (length (map name_of xs)) (slice_get_within (map name_of xs) k (name_of x) there)) in
+    subst (λ o. IsNameAt (map name_of xs) (option_map_or name_of o []) k) (sym at)
+    (record { number = number; lower = passes_got is_lower_name (map name_of xs) k (name_of x) there lower })
+  where
+    mapped : (ys : List X) (j : ℕ) → slice_get ys j ≡ Some x → slice_get (map name_of ys) j ≡ Some (name_of x)
+    mapped [] j there = absurd (cc)
+    mapped (y ∷ ys) zero there = let same : y ≡ x = cc in ap (λ y. Some (name_of y)) same
+    mapped (y ∷ ys) (suc j) there = mapped ys j there
+
+some_got : {X : Type 0} (test : X → Bool) (o : Option X) → option_map_or test o false ≡ true → (x : X) × (o ≡ Some x) × (test x ≡ true)
+some_got test None is = absurd (true≢false (sym is))
+some_got test (Some x) is = (x, refl, is)
+
+-- ---- how long a line is
+
+lower_short : (name : Name) → is_lower_name name ≡ true → length name ≤ 255
+lower_short name lower =
+    leb-true (length name) longest_run (and_parts (is_name name && is_same (map to_ascii_lowercase name) name) (nat_le (length name) longest_run) lower).1
+
+names_short : (names : List Name) → list_all is_lower_name names ≡ true → length (flat_map after_blank names) ≤ 256 * length names
+names_short [] lower = omega arith
+names_short (name ∷ names) lower =
+    let (here, others) = and_parts (is_lower_name name) (list_all is_lower_name names) lower in
+    let few = lower_short name here in
+    let rest = names_short names others in
+    omega (arith, few, rest, length-append (after_blank name) (flat_map after_blank names))
+
+atom_short : (predicate : Name) (objects : List Name) → is_lower_name predicate ≡ true → list_all is_lower_name objects ≡ true → length objects ≤ 8
+    → length (line_text (atom (record { predicate = predicate; objects = objects }))) ≤ longest_line
+atom_short predicate objects lower lowers few =
+    let short = lower_short predicate lower in
+    let rest = names_short objects lowers in
+    let words = flat_map after_blank objects in
+    omega (
+      arith,
+      few,
+      short,
+      rest,
+      length-append (codes "atom 0 (" ++ predicate) words,
+      length-append ((codes "atom 0 (" ++ predicate) ++ words) (codes ")"),
+    )
+
+-- ---- the atoms
+
+-- what is written of an atom names it, in lower case
+record IsNamed (task : Task) (a : Atom) : Type 0 where
+  names : Names task (named_atom task a) a
+  lower : is_lower_name (predicate_name task a.predicate) ≡ true
+  lowers : list_all is_lower_name (map (object_name task) a.objects) ≡ true
+
+module _ (task : Task) (predicates_named : are_lower_names (predicate_names task) ≡ true) (objects_named : are_lower_names (object_names task) ≡ true) where
+  object_at : (types : Union) (k : ℕ) → is_of task types k ≡ true → IsNameAt (object_names task) (object_name task k) k
+  object_at types k is =
+      let (o, at, _) = some_got (λ (o : Object). is_below task types o.type) (slice_get task.objects k) is in
+      name_at (λ (o : Object). o.name) task.objects k o objects_named at
+
+  objects_at : (unions : List Union) (objects : List ℕ) → pointwise (is_of task) unions objects ≡ true
+      → AreNumbersOf (object_names task) (map (object_name task) objects) objects × (list_all is_lower_name (map (object_name task) objects) ≡ true)
+  objects_at [] [] fit = (refl, refl)
+  objects_at (types ∷ unions) [] fit = absurd (cc)
+  objects_at [] (k ∷ objects) fit = absurd (cc)
+  objects_at (types ∷ unions) (k ∷ objects) fit =
+      let (is, are) = and_parts (is_of task types k) (pointwise (is_of task) unions objects) fit in
+      let here = object_at types k is in
+      let (numbers, lowers) = objects_at unions objects are in
+      ((λ i. here.number i ∷ numbers i), (λ i. here.lower i && lowers i))
+
+  atom_named : (a : Atom) → is_atom task a ≡ true → IsNamed task a
+  atom_named a typed =
+      let (p, at, fit) = some_got (λ (p : Predicate). pointwise (is_of task) p.arguments a.objects) (slice_get task.predicates a.predicate) typed in
+      let predicate = name_at (λ (p : Predicate). p.name) task.predicates a.predicate p predicates_named at in
+      let (numbers, lowers) = objects_at p.arguments a.objects fit in
+      record {
+        names = record { predicate = predicate.number; objects = numbers };
+        lower = predicate.lower;
+        lowers = lowers;
+      }
+
+  atoms_named : (atoms : List Atom) → list_all (is_atom task) atoms ≡ true → AllName task (map (named_atom task) atoms) atoms
+  atoms_named [] typed = tt
+  atoms_named (a ∷ atoms) typed =
+      let (here, more) = and_parts (is_atom task a) (list_all (is_atom task) atoms) typed in
+      ((atom_named a here).names, atoms_named atoms more)
+
+  -- and their lines keep the limits
+  module _ (well : is_task task ≡ true) (count : ℕ) where
+    atom_line : (a : Atom) → is_atom task a ≡ true → is_line count (atom (named_atom task a)) ≡ true
+    atom_line a typed =
+        let is = atom_named a typed in
+        let few : length (map (object_name task) a.objects) ≤ 8 = subst (λ n. n ≤ 8) (sym (length-map a.objects (object_name task))) (few_objects task a well typed) in
+        let short = le-leb (length (line_text (atom (named_atom task a)))) longest_line (atom_short (predicate_name task a.predicate) (map (object_name task) a.objects) is.lower is.lowers few) in
+        λ i. (is.lower i && is.lowers i) && short i
+
+    atom_lines : (atoms : List Atom) → list_all (is_atom task) atoms ≡ true → list_all (is_line count) (map (λ a. atom a) (map (named_atom task) atoms)) ≡ true
+    atom_lines [] typed = refl
+    atom_lines (a ∷ atoms) typed =
+        let (here, more) = and_parts (is_atom task a) (list_all (is_atom task) atoms) typed in
+        λ i. atom_line a here i && atom_lines atoms more i
+
+-- ---- the text
+
+module _ (task : Task) (c : Certificate) (well : IsTrue (is_task task)) (has_names : IsTrue (has_atom_names task)) (typed : IsTrue (are_atoms_of task c)) (keeps : IsTrue (keeps_limits c)) where
+  names_both : (are_lower_names (predicate_names task) ≡ true) × (are_lower_names (object_names task) ≡ true)
+  names_both = and_parts (are_lower_names (predicate_names task)) (are_lower_names (object_names task)) has_names
+
+  names_count : length (named task c).atoms ≡ length c.atoms
+  names_count = length-map c.atoms (named_atom task)
+
+  within_limits : (count : ℕ) → count ≡ length c.atoms
+      → (nat_le count most_atoms && nat_le (length c.lines) most_states && list_all (is_line count) (text_lines (named task c))) ≡ true
+  within_limits count same =
+      let (counts, states) = and_parts (is_claim c.claim && nat_le (length c.atoms) most_atoms && nat_le (length c.lines) most_states) (list_all (is_state_line (length c.atoms)) c.lines) keeps in
+      let (first, few_states) = and_parts (is_claim c.claim && nat_le (length c.atoms) most_atoms) (nat_le (length c.lines) most_states) counts in
+      let (claim, few) = and_parts (is_claim c.claim) (nat_le (length c.atoms) most_atoms) first in
+      let (predicates, objects) = names_both in
+      let atoms : List TextLine = map (λ a. atom a) (named task c).atoms in
+      let lines : List TextLine = map (λ l. listed l) c.lines in
+      let end : List TextLine = last (length c.lines) ∷ [] in
+      let atoms_are : list_all (is_line count) atoms ≡ true = atom_lines task predicates objects well count c.atoms typed in
+      let lines_are : list_all (is_line count) lines ≡ true =
+      list_all-map (is_line count) (λ l. listed l) c.lines ∙ ap (λ n. list_all (is_state_line n) c.lines) same ∙ states in
+      let below = leb-true (length c.lines) most_states few_states in
+      let number : is_number (length c.lines) ≡ true = lt-ltb (length c.lines) 1152921504606846976 (omega (arith, below)) in
+      let end_is : list_all (is_line count) end ≡ true = λ i. number i && true in
+      let body : list_all (is_line count) (atoms ++ lines) ≡ true = list_all-append (is_line count) atoms lines ∙ (λ i. atoms_are i && lines_are i) in
+      let behind : list_all (is_line count) ((atoms ++ lines) ++ end) ≡ true = list_all-append (is_line count) (atoms ++ lines) end ∙ (λ i. body i && end_is i) in
+      let few_atoms : nat_le count most_atoms ≡ true = ap (λ n. nat_le n most_atoms) same ∙ few in
+      λ i. (few_atoms i && few_states i) && (claim i && behind i)
+
+  pub written_reads_back : IsTextOf task (certificate_text task c) c
+  written_reads_back = record {
+    said = named task c;
+    text = record { within = within_limits (length (named task c).atoms) names_count; lines = refl };
+    claim = refl;
+    atoms = atoms_named task names_both.0 names_both.1 c.atoms typed;
+    lines = refl;
+  }
+
+typed_atoms : (task : Task) (atoms : List Atom) → All (λ (a : Atom). IsTrue (is_atom task a && is_fluent task a.predicate)) atoms → IsTrue (list_all (is_atom task) atoms)
+typed_atoms task [] all = refl
+typed_atoms task (a ∷ atoms) all =
+    let here = (and_parts (is_atom task a) (is_fluent task a.predicate) (all 0 a (omega arith))).0 in
+    let more = typed_atoms task atoms (λ k b below. all (suc k) b (omega (arith, below))) in
+    λ i. here i && more i
+
+pub closed_is_accepted : (task : Task) (c : Certificate) (plan : Option (List Instance)) → IsTrue (is_task task) → IsTrue (has_atom_names task) → IsTrue (keeps_limits c)
+    → IsClosedFor task c → IsPlanWithin task c.claim plan → IsAccepted task (certificate_text task c) plan
+closed_is_accepted task c plan well has_names keeps closed within = record {
+  certificate = c;
+  is_text = written_reads_back task c well has_names (typed_atoms task c.atoms closed.atoms_are_fluent) keeps;
+  closed = closed;
+  within = within;
+}

@@ -1,0 +1,22 @@
+-- some lines were read, and have told the claim and the atoms so far, and no state
+use Rattle.std.proofs.Common.{◌≡◌, ◌-◌, List, [], map}
+use Rattle.typing.specs.Task.{task_of}
+use Rattle.typing.specs.TaskParts.{atom_of}
+use Rattle.certificate_lines.specs.Lines.{claim_of}
+use Rattle.certificate_text.specs.CertificateText.{TextLine}
+use Rattle.certificate_reader.specs.Reader.{lines_read, source_of}
+use Rattle.certificate_listing.specs.Told.{HaveTold, states_told}
+use Rattle.certificate_listing.specs.Reading.{IsAt}
+use Rattle.certificate_listing.proofs.beginning.read_beginning.Given as goal
+
+abbrev pub invariant-lines : goal.invariant-lines
+invariant-lines g l = record {
+  lines : List TextLine;
+  at : IsAt g.R.Source.remaining l.initial.reader l.reader lines;
+  told : HaveTold (task_of l.task) lines (claim_of l.beginning.claim) (map atom_of l.beginning.atoms.keys);
+  no_state : states_told lines ≡ [];
+  failures : g.R.Source.failures (source_of l.reader) ≡ g.R.Source.failures (source_of l.initial.reader);
+}
+
+abbrev pub decreases-lines : goal.decreases-lines
+decreases-lines g l = 20000000 - lines_read l.reader

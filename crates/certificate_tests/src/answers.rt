@@ -1,0 +1,50 @@
+//! The certificates of answers, which the checker accepts from their texts.
+use crate::helpers::check_cert;
+use cert_checker::Accepted;
+use solver::{Answer, Limits, solve};
+use std::alloc::Global;
+use std::test::Fail;
+use test_texts::{DONE, FOUR_BALLS, FOUR_BLOCKS, GO, HOP, PAIRS, TIE, Texts, UNTIED, on_task};
+use typing::Task;
+
+/// Tasks, with the most states and the most kept instances: enough for an answer.
+static ANSWERED: [(Texts, u32, u32); 8] = [
+    (DONE, 1, 1),
+    (GO, 2, 1),
+    (TIE, 100, 1),
+    (UNTIED, 1, 1),
+    (HOP, 3, 3),
+    (PAIRS, 4, 6),
+    (FOUR_BLOCKS, 1000, 40),
+    (FOUR_BALLS, 1000, 36),
+];
+
+/// Whether there is an answer, and its certificate is accepted, with the plan and without.
+fn is_shown(alloc: Global, task: &Task, limits: Limits) -> Result<bool, Fail> {
+    match solve(alloc, task, limits)? {
+        Answer::Plan { steps, cost, cert } => {
+            let with_plan = check_cert(alloc, task, &cert, Some(&steps), 1_000_000)?;
+            let without = check_cert(alloc, task, &cert, None, 1_000_000)?;
+            Ok(
+                with_plan == Ok(Accepted::Optimal { cost })
+                    && without == Ok(Accepted::AtLeast { cost }),
+            )
+        }
+        Answer::Unsolvable { cert } => {
+            Ok(check_cert(alloc, task, &cert, None, 1_000_000)? == Ok(Accepted::Unsolvable))
+        }
+        Answer::Unknown(_) => Ok(false),
+    }
+}
+
+#[test]
+fn answers_are_shown_by_their_certificates(rt: HostRuntime) -> Result<(), Fail> {
+    for (texts, states, instances) in &ANSWERED {
+        let limits = Limits::new(*states, *instances).ok_or("no limits")?;
+        on_task(&rt, rt.alloc(), texts, |rt, alloc, task| {
+            assert!(rt; is_shown(alloc, task, limits)?, "{}", texts[1]);
+            Ok(())
+        })?;
+    }
+    Ok(())
+}

@@ -1,0 +1,171 @@
+//! The checker on small tasks: certificates that are accepted, and certificates with one condition broken.
+use crate::helpers::{Answer, check_cert, check_text};
+use crate::listings::{
+    ACCEPTED, FEW_ATOMS, LIMITED, Line, Listings, PLANNED, Row, TEXTS, WRONG_ATOMS, WRONG_LINES,
+};
+use certificate::{Cert, Claim, StateLine};
+use faults::NoMemory;
+use plan_file::read_plan;
+use std::alloc::Global;
+use std::process::Abort;
+use std::test::Fail;
+use test_texts::{Term, atom, atoms, on_task};
+use typing::Task;
+
+/// The state lines of these costs, cuts and atoms.
+fn state_lines(alloc: Global, rows: &[Line]) -> Result<Vec<StateLine>, NoMemory> {
+    let mut lines = Vec::new(alloc);
+    for row in rows {
+        let atoms = row.2.to_vec(alloc)?;
+        lines.push(StateLine {
+            cost: row.0,
+            cut: row.1,
+            atoms,
+        })?;
+    }
+    Ok(lines)
+}
+
+/// The certificate of these parts, and `None` where they exceed its limits.
+fn cert_of(
+    alloc: Global,
+    claim: Claim,
+    rows: &[Term],
+    lines: &[Line],
+) -> Result<Option<Cert>, NoMemory> {
+    let atoms = atoms(alloc, rows)?;
+    let lines = state_lines(alloc, lines)?;
+    Ok(Cert::new(claim, atoms, lines))
+}
+
+/// What the checker answers to a row of the listings.
+fn answer(alloc: Global, task: &Task, listings: &Listings, row: &Row) -> Result<Answer, Fail> {
+    let cert = cert_of(alloc, row.0, listings.atoms, row.1)?.ok_or("beyond the limits")?;
+    match row.2 {
+        None => Ok(check_cert(alloc, task, &cert, None, listings.max_instances)?),
+        Some(text) => {
+            let plan = read_plan(alloc, task, text.as_bytes())?;
+            Ok(check_cert(alloc, task, &cert, Some(&plan), listings.max_instances)?)
+        }
+    }
+}
+
+/// The checker answers each row of the listings as it says.
+fn are_answered(
+    rt: &impl Abort,
+    alloc: Global,
+    task: &Task,
+    listings: &Listings,
+) -> Result<(), Fail> {
+    for (number, row) in listings.rows.iter().enumerate() {
+        let answer = answer(alloc, task, listings, row)?;
+        assert_eq!(rt; answer, row.3, "row {number} of {}", listings.texts[1]);
+    }
+    Ok(())
+}
+
+/// The checker answers the listings of the table as they say.
+fn is_answered<R: Abort>(rt: &R, alloc: Global, table: &[Listings]) -> Result<(), Fail> {
+    for listings in table {
+        on_task(rt, alloc, &listings.texts, |rt, alloc, task| {
+            are_answered(rt, alloc, task, listings)
+        })?;
+    }
+    Ok(())
+}
+
+#[test]
+fn closed_listings_are_accepted(rt: HostRuntime) -> Result<(), Fail> {
+    is_answered(&rt, rt.alloc(), &ACCEPTED)
+}
+
+#[test]
+fn atoms_that_are_not_listed_are_false(rt: HostRuntime) -> Result<(), Fail> {
+    is_answered(&rt, rt.alloc(), &FEW_ATOMS)
+}
+
+#[test]
+fn wrong_atoms_are_told(rt: HostRuntime) -> Result<(), Fail> {
+    is_answered(&rt, rt.alloc(), &WRONG_ATOMS)
+}
+
+#[test]
+fn wrong_lines_are_told(rt: HostRuntime) -> Result<(), Fail> {
+    is_answered(&rt, rt.alloc(), &WRONG_LINES)
+}
+
+#[test]
+fn plans_are_held_against_the_claim(rt: HostRuntime) -> Result<(), Fail> {
+    is_answered(&rt, rt.alloc(), &PLANNED)
+}
+
+#[test]
+fn instances_are_limited(rt: HostRuntime) -> Result<(), Fail> {
+    is_answered(&rt, rt.alloc(), &LIMITED)
+}
+
+#[test]
+fn what_no_certificate_says_is_told(rt: HostRuntime) -> Result<(), Fail> {
+    for (number, (texts, max_instances, text, wanted)) in TEXTS.iter().enumerate() {
+        on_task(&rt, rt.alloc(), texts, |rt, alloc, task| {
+            let text = text.as_bytes().to_vec(alloc)?;
+            let answer = check_text(alloc, task, text, *max_instances);
+            assert_eq!(rt; answer, *wanted, "row {number}");
+            Ok(())
+        })?;
+    }
+    Ok(())
+}
+
+/// The largest number that may stand in a certificate.
+const MOST: u64 = 1_152_921_504_606_846_975;
+
+/// A claim and a line of a certificate with two atoms, and whether they keep the limits.
+#[rattlefmt::skip]
+static WITHIN: [(Claim, Line, bool); 11] = [
+    (Claim::Bound(MOST), (MOST, Some(MOST), &[0, 1]), true),
+    (Claim::Bound(0), (0, Some(0), &[1]), true),
+    (Claim::Unsolvable, (0, None, &[]), true),
+    (Claim::Bound(MOST + 1), (0, None, &[]), false),
+    (Claim::Bound(0), (MOST + 1, None, &[]), false),
+    (Claim::Bound(0), (0, Some(MOST + 1), &[]), false),
+    // numbers that fall, stand twice, or name no atom
+    (Claim::Bound(0), (0, None, &[1, 0]), false),
+    (Claim::Bound(0), (0, None, &[0, 0]), false),
+    (Claim::Bound(0), (0, None, &[1, 1]), false),
+    (Claim::Bound(0), (0, None, &[2]), false),
+    (Claim::Bound(0), (0, None, &[0, 1, 2]), false),
+];
+
+/// Whether the certificate makes this claim, with two atoms and this line.
+fn has_its_parts(cert: &Cert, claim: Claim, line: &Line) -> bool {
+    match (cert.atoms(), cert.lines()) {
+        ([_, second], [only]) => {
+            (only.cost, only.cut, only.atoms.as_slice()) == *line
+                && cert.claim() == claim
+                && *second == atom(1, &[])
+        }
+        _ => false,
+    }
+}
+
+/// Whether there is a certificate of this claim and this line. If so, it has these parts.
+fn is_made(rt: &impl Abort, alloc: Global, claim: Claim, line: &Line) -> Result<bool, Fail> {
+    let cert = cert_of(alloc, claim, &[(0, &[]), (1, &[])], &[*line])?;
+    if let Some(cert) = &cert {
+        assert!(rt; has_its_parts(cert, claim, line));
+    }
+    Ok(cert.is_some())
+}
+
+#[test]
+fn certificates_keep_their_limits(rt: HostRuntime) -> Result<(), Fail> {
+    for (number, (claim, line, fits)) in WITHIN.iter().enumerate() {
+        assert_eq!(rt;
+            is_made(&rt, rt.alloc(), *claim, line)?,
+            *fits,
+            "row {number}"
+        );
+    }
+    Ok(())
+}

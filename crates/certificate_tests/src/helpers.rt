@@ -1,0 +1,53 @@
+//! What the checker answers to texts of certificates.
+ghost use Rattle.std.specs.Prelude.{IsTrue};
+ghost use Rattle.std.specs.List.{list_all};
+ghost use Rattle.std.specs.Option.{ForSome};
+ghost use Rattle.typing.specs.Task.{task_of};
+ghost use Rattle.formulas.specs.State.{plan_of};
+ghost use Rattle.model.specs.Meaning.{is_instance};
+
+use cert_checker::{Accepted, Refusal, check};
+use certificate::Cert;
+use certificate_reader::CertReader;
+use certificate_writer::write_cert;
+use devices::{Memory, Source, WriteFault};
+use formulas::Plan;
+use std::alloc::Global;
+use typing::Task;
+
+/// What the checker answers.
+pub(crate) type Answer = Result<Accepted, Refusal>;
+
+/// What the checker answers to the certificate whose text the source gives, and to the plan, if one is handed in.
+pub(crate) fn check_source<S: Source + Drop>(
+    alloc: Global,
+    task: &Task,
+    source: S,
+    plan: Option<&Plan>,
+    max_instances: u32,
+) -> Answer
+    requires { ForSome plan (λ p. IsTrue (list_all (is_instance (task_of task.now)) (plan_of p.now))) }
+{
+    let mut reader = CertReader::new(alloc, source);
+    check(alloc, task, &mut reader, plan, max_instances)
+}
+
+/// What the checker answers to the certificate of this text.
+pub(crate) fn check_text(alloc: Global, task: &Task, text: Vec<u8>, max_instances: u32) -> Answer {
+    check_source(alloc, task, Memory::new(text), None, max_instances)
+}
+
+/// What the checker answers to the text of the certificate, and to the plan, if one is handed in.
+pub(crate) fn check_cert(
+    alloc: Global,
+    task: &Task,
+    cert: &Cert,
+    plan: Option<&Plan>,
+    max_instances: u32,
+) -> Result<Answer, WriteFault>
+    requires { ForSome plan (λ p. IsTrue (list_all (is_instance (task_of task.now)) (plan_of p.now))) }
+{
+    let mut text = Memory::empty(alloc);
+    write_cert(alloc, task, cert, &mut text)?;
+    Ok(check_source(alloc, task, text, plan, max_instances))
+}

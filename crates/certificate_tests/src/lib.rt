@@ -1,0 +1,15 @@
+//! Tests of certificates: their texts, written, changed and cut, and what the checker tells of them.
+#![tactic(auto)]
+
+#[cfg(test)]
+mod answers;
+#[cfg(test)]
+mod certificates;
+#[cfg(test)]
+mod changed_texts;
+#[cfg(test)]
+mod helpers;
+#[cfg(test)]
+mod listings;
+#[cfg(test)]
+mod streams;

@@ -1,0 +1,107 @@
+//! The checker over sources that give bytes in pieces, that fail, and that never end.
+ghost use Rattle.std.specs.Prelude.{◌<◌, vec_len};
+
+use crate::helpers::{Answer, check_source};
+use cert_checker::Accepted;
+use cert_checker::Refusal::{Device, Line as At};
+use cert_checker::RefusalCode::{CertForm, Repeated};
+use devices::{Endless, FailsAt, InPieces, Memory};
+use std::alloc::{AllocError, Global};
+use std::process::Abort;
+use std::test::Fail;
+use test_texts::{PAIRS, on_task};
+use typing::Task;
+
+/// There is no plan.
+const NO_PLAN: &[u8] =
+    b"pddl-cert 1\nclaim none\nconstant 0\natom 0 (on s1)\natom 0 (on s2)\natom 0 (on s3)\nopen 0\nopen 1 0 1\nopen 1 0 2\nopen 1 1 2\nend 4\n";
+
+/// An atom is repeated.
+const AGAIN: &[u8] = b"pddl-cert 1\nclaim none\nconstant 0\natom 0 (on s1)\natom 0 (on s1)\n";
+
+/// The bytes as a device.
+fn memory(alloc: Global, bytes: &[u8]) -> Result<Memory, AllocError> {
+    Ok(Memory::new(bytes.to_vec(alloc)?))
+}
+
+/// What the checker answers to the text by bytes, and by sevens of them.
+fn in_pieces(alloc: Global, task: &Task) -> Result<(Answer, Answer), AllocError> {
+    let by_one = InPieces::new(memory(alloc, NO_PLAN)?, 1);
+    let by_seven = InPieces::new(memory(alloc, NO_PLAN)?, 7);
+    Ok((
+        check_source(alloc, task, by_one, None, 6),
+        check_source(alloc, task, by_seven, None, 6),
+    ))
+}
+
+#[test]
+fn bytes_come_in_pieces(rt: HostRuntime) -> Result<(), Fail> {
+    on_task(&rt, rt.alloc(), &PAIRS, |rt, alloc, task| {
+        let wanted = Ok(Accepted::Unsolvable);
+        assert_eq!(rt; in_pieces(alloc, task)?, (wanted, wanted));
+        Ok(())
+    })
+}
+
+/// What the checker answers where bytes come one by one, and the read after so many fails.
+fn failing(alloc: Global, task: &Task, bytes: &[u8], reads: u64) -> Result<Answer, AllocError> {
+    let source = FailsAt::source(InPieces::new(memory(alloc, bytes)?, 1), Some(reads));
+    Ok(check_source(alloc, task, source, None, 6))
+}
+
+/// A failure is told unless the end of the text was read, or a fault of a line that came comes before it.
+fn failures_are_told(rt: &impl Abort, alloc: Global, task: &Task) -> Result<(), Fail> {
+    let end = NO_PLAN.len().saturating_add(1) as u64;
+    for reads in 0..end {
+        assert_eq!(rt;
+            failing(alloc, task, NO_PLAN, reads)?,
+            Err(Device),
+            "{reads}"
+        );
+    }
+    assert_eq!(rt;
+        failing(alloc, task, NO_PLAN, end)?,
+        Ok(Accepted::Unsolvable)
+    );
+    let repeated = Err(At {
+        code: Repeated,
+        line: 5,
+    });
+    assert_eq!(rt; failing(alloc, task, AGAIN, AGAIN.len() as u64)?, repeated);
+    Ok(())
+}
+
+#[test]
+fn a_failure_is_told_where_it_comes(rt: HostRuntime) -> Result<(), Fail> {
+    on_task(&rt, rt.alloc(), &PAIRS, failures_are_told)
+}
+
+/// What the checker answers to a text that these bytes follow for ever.
+fn endless(alloc: Global, task: &Task, text: &[u8], again: Vec<u8>) -> Result<Answer, AllocError>
+    requires { 0 < vec_len again }
+{
+    let source = Endless::new(text.to_vec(alloc)?, again);
+    Ok(check_source(alloc, task, source, None, 6))
+}
+
+/// The first line at fault is told, whatever follows.
+fn ends_are_told(rt: &impl Abort, alloc: Global, task: &Task) -> Result<(), Fail> {
+    let blanks = vec![in alloc; b' '; 64]?;
+    let repeated = Err(At {
+        code: Repeated,
+        line: 5,
+    });
+    assert_eq!(rt; endless(alloc, task, AGAIN, blanks)?, repeated);
+    let blanks = vec![in alloc; b' '; 64]?;
+    let behind = Err(At {
+        code: CertForm,
+        line: 12,
+    });
+    assert_eq!(rt; endless(alloc, task, NO_PLAN, blanks)?, behind);
+    Ok(())
+}
+
+#[test]
+fn texts_without_an_end_are_refused(rt: HostRuntime) -> Result<(), Fail> {
+    on_task(&rt, rt.alloc(), &PAIRS, ends_are_told)
+}

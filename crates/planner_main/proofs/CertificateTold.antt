@@ -1,0 +1,120 @@
+-- What came of a certificate to a reader, and what it says of the certificate's whole text.
+use Rattle.std.proofs.Common.{◌≡◌, ℕ, inl, inr, List, [], ◌++◌, sym, ap, subst, ◌∙◌, append-nil}
+use Rattle.std.specs.Prelude.{Option, None, Some, IfSome, Result, Ok, Err, IfOk, IfErr}
+use Rattle.std.specs.Io.KnownBytes.{Consumes, IsAtEnd}
+use Rattle.devices.specs.Devices.{IsKept}
+use Rattle.certificate_text.specs.CertificateChecking.{IsLineFault}
+use Rattle.certificate_reader.specs.declared.reader.CertReader.{CertReader}
+use Rattle.certificate_reader.specs.Reader.{source_of}
+use Rattle.certificate_listing.specs.declared.refusal.RefusalCode.{RefusalCode}
+use Rattle.certificate_listing.specs.declared.refusal.RefusalCode.TheVariants.{CertForm, CertVersion, Truncated, NotFluent, Repeated, NoInitial, GoalOpen, SuccessorMissing, SuccessorDearer, CutWeak, CutNotAllowed, PlanInvalid, PlanDearer, Limit}
+use Rattle.certificate_listing.specs.declared.refusal.Refusal.{Refusal}
+use Rattle.certificate_listing.specs.declared.refusal.Refusal.TheVariants as refusal
+use Rattle.certificate_listing.specs.RefusalCode.{number_of}
+use Rattle.certificate_listing.specs.Reading.{CountsRefusal, IsRead, IsToldAt}
+use Rattle.cert_checker.specs.declared.checker.Accepted.{Accepted}
+use Rattle.cert_checker.specs.CertChecker.{IsFirstRefusal, IsShown, IsTrueRefusal}
+use Rattle.cert_checker.specs.Checking.{Accepts, Refuses}
+use Rattle.model.specs.Task.{Task, Instance}
+use Rattle.model.specs.Certificates.{Certificate}
+use Rattle.model.specs.Files.{FileFault, IsTaskOf}
+use Rattle.planner_main.specs.declared.report.Failure.{Failure}
+use Rattle.planner_main.specs.Checked.{IsChecked, IsLineOf, IsRefusedAs, IsTrueCheck}
+use Rattle.planner_main.specs.Program.{CountsFailure, IsCheckedIn, fault_in}
+
+-- What came to the end is all that there was, and what came is a beginning of it.
+whole_known : (known before after : Option (List ℕ)) (text : List ℕ) → IsKept known before → Consumes before after text → IsAtEnd after → IfSome known (λ bytes. text ≡ bytes)
+whole_known None before after text kept consumed ended = tt
+whole_known (Some bytes) before None text kept consumed ended = absurd (subst (λ b. Consumes b None text) kept consumed)
+whole_known (Some bytes) before (Some rest) text kept consumed ended =
+    sym (subst (λ b. Consumes b (Some rest) text) kept consumed ∙ ap (λ l. text ++ l) ended ∙ append-nil text)
+
+begun_known : (known before after : Option (List ℕ)) (bytes : List ℕ) → IsKept known before → Consumes before after bytes
+    → (more : List ℕ) × IfSome known (λ whole. bytes ++ more ≡ whole)
+begun_known None before after bytes kept consumed = ([], tt)
+begun_known (Some whole) before None bytes kept consumed = absurd (subst (λ b. Consumes b None bytes) kept consumed)
+begun_known (Some whole) before (Some rest) bytes kept consumed = (rest, sym (subst (λ b. Consumes b (Some rest) bytes) kept consumed))
+
+module _ {R : Type 0} (remaining : R → Option (List ℕ)) (task : Task) (first now : CertReader R) (known : Option (List ℕ)) (kept : IsKept known (remaining (source_of first))) where
+  of_beginning : (number line : ℕ)
+      → (bytes : List ℕ) × Consumes (remaining (source_of first)) (remaining (source_of now)) bytes × ((more : List ℕ) → IsLineFault task (bytes ++ more) number line)
+      → (text : List ℕ) × IfSome known (λ bytes. text ≡ bytes) × IsLineFault task text number line
+  of_beginning number line (bytes, consumed, fault) =
+      let (more, is) = begun_known known _ _ bytes kept consumed in
+      (bytes ++ more, is, fault more)
+
+  line_of_text : (code : RefusalCode) (line : ℕ) → IsToldAt remaining task first now code line
+      → (text : List ℕ) × IfSome known (λ bytes. text ≡ bytes) × IsLineFault task text (number_of code) line
+  line_of_text Truncated line (bytes, consumed, ended, fault) = (bytes, whole_known known _ _ bytes kept consumed ended, fault)
+  line_of_text CertForm line told = of_beginning (number_of CertForm) line told
+  line_of_text CertVersion line told = of_beginning (number_of CertVersion) line told
+  line_of_text NotFluent line told = of_beginning (number_of NotFluent) line told
+  line_of_text Repeated line told = of_beginning (number_of Repeated) line told
+  line_of_text NoInitial line told = of_beginning (number_of NoInitial) line told
+  line_of_text GoalOpen line told = of_beginning (number_of GoalOpen) line told
+  line_of_text SuccessorMissing line told = of_beginning (number_of SuccessorMissing) line told
+  line_of_text SuccessorDearer line told = of_beginning (number_of SuccessorDearer) line told
+  line_of_text CutWeak line told = of_beginning (number_of CutWeak) line told
+  line_of_text CutNotAllowed line told = of_beginning (number_of CutNotAllowed) line told
+  line_of_text PlanInvalid line told = of_beginning (number_of PlanInvalid) line told
+  line_of_text PlanDearer line told = of_beginning (number_of PlanDearer) line told
+  line_of_text Limit line told = of_beginning (number_of Limit) line told
+
+  module _ (plan : Option (List Instance)) (most : ℕ) where
+    of_certificate : (refusal : Refusal) (c : Certificate) → IsRead remaining task first now c → IsTrueRefusal task c plan most refusal → IsFirstRefusal task c plan most refusal
+        → (text : List ℕ) × IfSome known (λ bytes. text ≡ bytes) × IsRefusedAs task text plan most refusal
+    of_certificate refusal c read is_true is_first = (
+      read.text,
+      whole_known known _ _ read.text kept read.consumed read.at_end,
+      inr (c, record { is_text = read.is_text; lines = read.lines; text_is = read.text_is; right = read.right }, is_true, is_first),
+    )
+
+    -- what is true of what came is true of a text that is the whole, where that is known
+    true_of_text : (answer : Result Accepted Refusal) (line : List ℕ) (status : ℕ) → IsLineOf answer line status → IfOk answer (IsShown task plan)
+        → IfOk answer (Accepts remaining task first now plan most) → IfErr answer (Refuses remaining task first now plan most)
+        → (text : List ℕ) × IfSome known (λ bytes. text ≡ bytes) × IsTrueCheck task text plan most answer
+    true_of_text (Ok accepted) line status is shown accepts refuses = (
+      accepts.text,
+      whole_known known _ _ accepts.text kept accepts.consumed accepts.at_end,
+      record { accepted = accepts.accepted; within = accepts.within; answers = accepts.answers; shown = shown },
+    )
+    true_of_text (Err (refusal.Line code number)) line status is shown accepts (inl told) =
+        let (text, whole, fault) = line_of_text code number told in
+        (text, whole, inl fault)
+    true_of_text (Err (refusal.Line code number)) line status is shown accepts (inr (c, read, is_true, is_first)) =
+        of_certificate (refusal.Line code number) c read is_true is_first
+    true_of_text (Err (refusal.Plain code)) line status is shown accepts (inl told) = absurd told
+    true_of_text (Err (refusal.Plain code)) line status is shown accepts (inr (c, read, is_true, is_first)) =
+        of_certificate (refusal.Plain code) c read is_true is_first
+    true_of_text (Err refusal.NoMemory) line status is shown accepts refuses = absurd is
+    true_of_text (Err refusal.Device) line status is shown accepts refuses = absurd is
+    true_of_text (Err refusal.Failed) line status is shown accepts refuses = absurd is
+
+  -- the line of a true answer is one of the texts of the files
+  pub checked_in : (domain problem : List ℕ) (plan : Option (List ℕ)) (most : ℕ) (answer : Result Accepted Refusal) (line : List ℕ) (status : ℕ) → IsTaskOf domain problem task
+      → IsChecked remaining task first now plan most answer → IsLineOf answer line status → IsCheckedIn known domain problem plan most line status
+  checked_in domain problem plan most answer line status is_task checked is =
+      let (text, whole, is_true) = true_of_text checked.plan most answer line status is checked.shown checked.accepted checked.refused in
+      (text, whole, (task, checked.plan, answer, is_task, checked.handed_in, is_true, is))
+
+  -- the same of what a call told
+  pub checked_in_told : {T : Type 0} (domain problem : List ℕ) (plan : Option (List ℕ)) (most : ℕ) (answer : Result Accepted Refusal) → IsTaskOf domain problem task
+      → IsChecked remaining task first now plan most answer → (line_of : T → List ℕ) (status_of : T → ℕ) (r : Result T Failure)
+      → IfOk r (λ told. IsLineOf answer (line_of told) (status_of told)) → IfOk r (λ told. IsCheckedIn known domain problem plan most (line_of told) (status_of told))
+  checked_in_told domain problem plan most answer is_task checked line_of status_of (Ok told) is =
+      checked_in domain problem plan most answer (line_of told) (status_of told) is_task checked is
+  checked_in_told domain problem plan most answer is_task checked line_of status_of (Err f) is = tt
+
+-- What a call that tells an answer says of failures, and of faults.
+module _ {T : Type 0} (answer : Result Accepted Refusal) (before after : ℕ) (counts : CountsRefusal before after answer) where
+  pub told_unfailed : (r : Result T Failure) → IfOk r (λ _. (b a : ℕ) → CountsRefusal b a answer → a ≡ b) → IfOk r (λ _. after ≡ before)
+  told_unfailed (Ok told) h = h before after counts
+  told_unfailed (Err f) h = tt
+
+  pub told_failures : (r : Result T Failure) → IfErr r (λ f. (b a : ℕ) → CountsRefusal b a answer → CountsFailure b a f) → IfErr r (CountsFailure before after)
+  told_failures (Ok told) h = tt
+  told_failures (Err f) h = h before after counts
+
+pub told_no_fault : {T : Type 0} (P : FileFault → Type 0) (r : Result T Failure) → IfErr r (λ f. fault_in f ≡ None) → IfErr r (λ f. IfSome (fault_in f) P)
+told_no_fault P (Ok told) h = tt
+told_no_fault P (Err f) h = subst (λ o. IfSome o P) (sym h) tt

@@ -1,0 +1,84 @@
+//! Tasks of texts, and their atoms and instances by numbers.
+use arrayvec::ArrayVec;
+use faults::{Fault, NoMemory};
+use formulas::{Atom, Instance};
+use pddl_tree::{Domain, Problem, domain, problem};
+use std::alloc::Global;
+use std::test::Fail;
+use tokens::scan;
+use typing::{ObjectId, PredicateId, SchemaId, Task};
+
+/// A predicate or an action, and its objects, by their numbers.
+pub type Term = (usize, &'static [u32]);
+
+/// The tree of a domain's text.
+pub fn read_domain(alloc: Global, text: &[u8]) -> Result<Domain<'_>, Fault> {
+    let words = scan(alloc, text)?;
+    domain(alloc, words.as_slice())
+}
+
+/// The tree of a problem's text.
+pub fn read_problem(alloc: Global, text: &[u8]) -> Result<Problem<'_>, Fault> {
+    let words = scan(alloc, text)?;
+    problem(alloc, words.as_slice())
+}
+
+/// The task of a domain's and a problem's text.
+fn read_task(alloc: Global, texts: &[&str; 2]) -> Result<Task, Fail> {
+    let domain = read_domain(alloc, texts[0].as_bytes())?;
+    let problem = read_problem(alloc, texts[1].as_bytes())?;
+    Ok(Task::new(alloc, domain, problem)?)
+}
+
+/// Does this with the task of the texts.
+pub fn on_task<R, F: FnOnce(&R, Global, &Task) -> Result<(), Fail> + Drop>(
+    rt: &R,
+    alloc: Global,
+    texts: &[&str; 2],
+    act: F,
+) -> Result<(), Fail>
+    requires { F.IsAlwaysCallable act }
+{
+    let task = read_task(alloc, texts)?;
+    act(rt, alloc, &task)
+}
+
+/// The objects of these numbers.
+fn objects<const N: usize>(numbers: &[u32]) -> ArrayVec<ObjectId, N> {
+    let mut objects = ArrayVec::new();
+    for number in numbers {
+        let _ = objects.try_push(ObjectId(*number));
+    }
+    objects
+}
+
+/// The atom of a predicate and objects.
+pub fn atom(predicate: usize, numbers: &[u32]) -> Atom {
+    Atom {
+        predicate: PredicateId(predicate),
+        objects: objects(numbers),
+    }
+}
+
+/// The atoms of these predicates and objects.
+pub fn atoms(alloc: Global, rows: &[Term]) -> Result<Vec<Atom>, NoMemory> {
+    let mut atoms = Vec::new(alloc);
+    for row in rows {
+        atoms.push(atom(row.0, row.1))?;
+    }
+    Ok(atoms)
+}
+
+/// The instance of a schema with objects.
+pub fn instance(schema: usize, numbers: &[u32]) -> Instance {
+    Instance {
+        schema: SchemaId(schema),
+        objects: objects(numbers),
+    }
+}
+
+/// Whether the instance is of this schema and these objects.
+pub fn is_of(found: &Instance, wanted: &Term) -> bool {
+    let objects = objects(wanted.1);
+    found.schema == SchemaId(wanted.0) && found.objects == objects
+}
