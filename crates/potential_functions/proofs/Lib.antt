@@ -1,0 +1,5 @@
+pub mod Sums
+pub mod Passing
+pub mod Falls
+pub mod Steps
+pub mod LowerBound
