@@ -3,3 +3,4 @@ pub mod Passing
 pub mod Falls
 pub mod Steps
 pub mod LowerBound
+pub mod FairExampleProofs

@@ -3,3 +3,4 @@ pub mod PotentialFunctions
 pub mod Fair
 pub mod Settled
 pub mod Laws
+pub mod FairExamples
