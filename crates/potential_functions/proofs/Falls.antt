@@ -52,8 +52,8 @@ given-falls w most false true false loses stays = let e = stays refl in absurd (
 given-falls w most false false true loses stays = let e = stays refl in absurd (cc)
 given-falls w most false false false loses stays = omega (arith, ints)
 
-given-ends : (w : ℤ) (says_false says_true is_true : Bool) → (says_false ≡ true → is_true ≡ false) → (says_true ≡ true → is_true ≡ true)
-    → (if is_true then w else pos 0) ≤ℤ (if says_false then pos 0 else if says_true then w else int_max (pos 0) w)
+given-ends : (w : ℤ) (says_false says_true bit : Bool) → (says_false ≡ true → bit ≡ false) → (says_true ≡ true → bit ≡ true)
+    → (if bit then w else pos 0) ≤ℤ (if says_false then pos 0 else if says_true then w else int_max (pos 0) w)
 given-ends w true t true is_no is_yes = let e = is_no refl in absurd (cc)
 given-ends w true t false is_no is_yes = omega (arith, ints)
 given-ends w false true true is_no is_yes = omega (arith, ints)

@@ -7,4 +7,5 @@ pub mod LowerBound
 pub mod Numbers
 pub mod Worst
 pub mod Zero
+pub mod Settling
 pub mod FairExampleProofs

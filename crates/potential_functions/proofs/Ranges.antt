@@ -16,15 +16,15 @@ weight-range (w ∷ weights) (suc n) all = weight-range weights n (λ k d below.
 pub given-range : (weights : List ℤ) (bits : List Bool) (n : ℕ) → All IsInRange weights → IsInRange (given weights bits n)
 given-range weights bits n all = of_bit (get_or bits n false)
   where
-    of_bit : (is_true : Bool) → IsInRange (if is_true then weight weights n else pos 0)
+    of_bit : (bit : Bool) → IsInRange (if bit then weight weights n else pos 0)
     of_bit true = weight-range weights n all
     of_bit false = zero-range
 
 -- what the code computes of an atom
-pub given-is : (weights : List ℤ) (bits : List Bool) (n : ℕ) (is_true : Bool) (w v x : ℤ) → is_true ≡ get_or bits n false → w ≡ weight weights n → v ≡ w
-    → x ≡ (if is_true then v else pos 0) → x ≡ given weights bits n
-given-is weights bits n is_true w v x bit weighs same is =
-    is ∙ ap (λ b. if b then v else pos 0) bit ∙ ap (λ z. if get_or bits n false then z else pos 0) (same ∙ weighs)
+pub given-is : (weights : List ℤ) (bits : List Bool) (n : ℕ) (bit : Bool) (w v x : ℤ) → bit ≡ get_or bits n false → w ≡ weight weights n → v ≡ w
+    → x ≡ (if bit then v else pos 0) → x ≡ given weights bits n
+given-is weights bits n bit w v x set weighs same is =
+    is ∙ ap (λ b. if b then v else pos 0) set ∙ ap (λ z. if get_or bits n false then z else pos 0) (same ∙ weighs)
 
 -- how far two sums of numbers in range are apart
 pub sum-between : (n m : ℕ) (f : ℕ → ℤ) → ((k : ℕ) → IsInRange (f k)) → n ≤ m

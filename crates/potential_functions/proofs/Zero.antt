@@ -7,9 +7,10 @@ use Rattle.model.specs.Task.{Atom, Task, Instance}
 use Rattle.model.specs.Meaning.{cost_of}
 use Rattle.model.specs.ClosedOff.{kept_instances}
 use Rattle.model.specs.NumberedLiterals.{NumberedLiteral, NumberedChange, literals_of_instance, literals_of_goal, counting_of_instance}
-use Rattle.potential_functions.specs.PotentialFunctions.{PotentialFunction, weight, sum_below}
+use Rattle.potential_functions.specs.PotentialFunctions.{PotentialFunction, weight, sum_below, IsInRange}
 use Rattle.potential_functions.specs.Fair.{says, touches, Pair, pairs, loss, greatest, worst, loses, loses_at_most, goal_gives, goal_gives_at_most, IsFairAt, AreFair}
 use Rattle.potential_functions.proofs.Sums.{sum-alike, sum-zero}
+use Rattle.potential_functions.proofs.Ranges.{zero-range}
 
 abbrev zeros : ℕ → List ℤ
 zeros count = replicate count (pos 0)
@@ -68,3 +69,8 @@ zero-fair task atoms = record {
       let e = gives-zero (literals_of_goal task atoms) (length atoms) in
       record { within = omega (arith, ints) };
 }
+
+pub zeros-range : (count : ℕ) → All IsInRange (zeros count)
+zeros-range zero k d below = absurd (omega arith)
+zeros-range (suc count) zero d below = zero-range
+zeros-range (suc count) (suc k) d below = zeros-range count k d (omega arith)
