@@ -1,5 +1,5 @@
 -- Settled potential functions: fair ones that no small change makes better.
-use Rattle.std.specs.Prelude.{◌≡◌, ◌≢◌, ℕ, ◌≤◌, ℤ, pos, ◌+ℤ◌, ◌≤ℤ◌, List, length}
+use Rattle.std.specs.Prelude.{◌≡◌, ◌≢◌, ℕ, ◌+◌, ◌≤◌, ◌⊎◌, ℤ, pos, ◌+ℤ◌, ◌≤ℤ◌, List, length}
 use Rattle.model.specs.Task.{Atom, Task}
 use Rattle.model.specs.Grounding.{ground_system}
 use Rattle.potential_functions.specs.PotentialFunctions.{PotentialFunction, weight, value, AreInRange}
@@ -20,3 +20,11 @@ initial_value task atoms p = value p (ground_system task atoms).initial
 -- no fair one near it gives the initial state a greater value
 pub record IsSettled (task : Task) (atoms : List Atom) (p : PotentialFunction) : Type 0 where
   pub none_better : (q : PotentialFunction) → AreInRange q → AreFair task atoms q → AreNear p q → initial_value task atoms q ≤ initial_value task atoms p
+
+-- What improving gives: fair ones, whose initial value is no lower, and which are settled or have an initial value that is
+-- higher by at least so much.
+pub record IsImproved (task : Task) (atoms : List Atom) (by : ℕ) (p q : PotentialFunction) : Type 0 where
+  pub as_many : length q.weights ≡ length p.weights
+  pub fair : AreFair task atoms q
+  pub no_lower : initial_value task atoms p ≤ initial_value task atoms q
+  pub end : IsSettled task atoms q ⊎ (initial_value task atoms p + by ≤ initial_value task atoms q)
