@@ -38,7 +38,7 @@ loss-most : (literals : List NumberedLiteral) (changes : List NumberedChange) (w
 loss-most literals changes w number before after is =
     let pair : Pair = record { before = before; after = after } in
     greatest-most (map (loss w) (pairs literals changes number)) (loss w pair)
-      (Contains-map (loss w) (pairs literals changes number) pair (Contains-filter (is_pair literals changes number) every_pair pair (in_every_pair before after) is))
+    (Contains-map (loss w) (pairs literals changes number) pair (Contains-filter (is_pair literals changes number) every_pair pair (in_every_pair before after) is))
 
 -- what is given before is at most what is given after and what may be lost
 given-falls : (w most : ℤ) (touched before after : Bool) → (touched ≡ true → loss w (record { before = before; after = after }) ≤ℤ most) → (touched ≡ false → before ≡ after)
@@ -74,8 +74,8 @@ pub score-falls : (p : PotentialFunction) (bits next : List Bool) (literals : Li
     → score p bits ≤ℤ (score p next +ℤ pos cost)
 score-falls p bits next literals changes count cost long next_long is_pair untouched within =
     let most = sum-least_both count (given p.weights bits) (given p.weights next) (loses literals changes p.weights) (λ n below.
-        given-falls (weight p.weights n) (worst literals changes (weight p.weights n) n) (touches changes n) (bit bits n) (bit next n)
-          (λ touched. loss-most literals changes (weight p.weights n) n (bit bits n) (bit next n) (is_pair n below)) (untouched n below)) in
+    given-falls (weight p.weights n) (worst literals changes (weight p.weights n) n) (touches changes n) (bit bits n) (bit next n)
+    (λ touched. loss-most literals changes (weight p.weights n) n (bit bits n) (bit next n) (is_pair n below)) (untouched n below)) in
     let before = ap (λ l. sum_below l (given p.weights bits)) long in
     let after = ap (λ l. sum_below l (given p.weights next)) next_long in
     omega (arith, ints)
@@ -86,7 +86,7 @@ pub score-ends : (p : PotentialFunction) (bits : List Bool) (literals : List Num
     → score p bits ≤ℤ pos 0
 score-ends p bits literals count long agrees within =
     let most = sum-least count (given p.weights bits) (goal_gives literals p.weights) (λ n below.
-        given-ends (weight p.weights n) (says literals n false) (says literals n true) (bit bits n) (agrees n false below) (agrees n true below)) in
+    given-ends (weight p.weights n) (says literals n false) (says literals n true) (bit bits n) (agrees n false below) (agrees n true below)) in
     let all = ap (λ l. sum_below l (given p.weights bits)) long in
     omega (arith, ints)
 

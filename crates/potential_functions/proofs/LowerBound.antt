@@ -33,9 +33,9 @@ use Rattle.potential_functions.proofs.Steps.{formula-says, step-is_pair, step-un
 
 -- what falls by no more than each action costs, and is at most 0 where the goal is met, is a lower bound
 module _ {S A : Type 0} (t : System S A) (among : S → Type 0) (height : S → ℤ)
-  (stays : (s next : S) (a : A) → among s → t.step s a ≡ Some next → among next)
-  (falls : (s next : S) (a : A) → among s → t.step s a ≡ Some next → height s ≤ℤ (height next +ℤ pos (t.cost a)))
-  (ends : (s : S) → among s → IsTrue (t.meets_goal s) → height s ≤ℤ pos 0) where
+    (stays : (s next : S) (a : A) → among s → t.step s a ≡ Some next → among next)
+    (falls : (s next : S) (a : A) → among s → t.step s a ≡ Some next → height s ≤ℤ (height next +ℤ pos (t.cost a)))
+    (ends : (s : S) → among s → IsTrue (t.meets_goal s) → height s ≤ℤ pos 0) where
   first_step : (s end : S) (a : A) (plan : List A) → run t s (a ∷ plan) ≡ Some end → (next : S) × (t.step s a ≡ Some next) × (run t next plan ≡ Some end)
   first_step s end a plan runs =
       elim (t.step s a) as (λ o. t.step s a ≡ o → option_and_then (λ n. run t n plan) o ≡ Some end → (next : S) × (t.step s a ≡ Some next) × (run t next plan ≡ Some end)) [

@@ -99,22 +99,24 @@ by-one x w low high less same more =
 
 -- potentials of which the constant and each weight is tried are settled
 pub settled : (task : Task) (atoms : List Atom) (p : PotentialFunction) → IsNoneBetter task atoms p p.weights → ((n : ℕ) → n < length p.weights → IsTried task atoms p n) → IsSettled task atoms p
-settled task atoms p constant tried = record { none_better = λ q in_range fair near.
-    let n = near.number in
-    let w = weight p.weights n in
-    let x = weight q.weights n in
-    let are = near-weights p q near in
-    let long = near.as_many in
-    let done = λ (weights : List ℤ) (is : q.weights ≡ weights) (none : IsNoneBetter task atoms p weights).
-        subst (λ l. initial_value task atoms (potentials q.constant l) ≤ initial_value task atoms p) (sym is) (none.none q.constant in_range.constant (subst (λ l. AreFair task atoms (potentials q.constant l)) is fair)) in
-    let fits = λ (below : n < length p.weights). in_range.weights n (pos 0) (omega arith) in
-    elim (cases_lt n (length p.weights)) [
-      | inl below ↦
-          by-one x w near.least near.most
-          (λ e. done (set p.weights n (w +ℤ neg_ℤ (pos 1))) (are ∙ ap (set p.weights n) e) ((tried n below).less (subst IsInRange e (fits below))))
-          (λ e. done p.weights (are ∙ ap (set p.weights n) e ∙ set-same p.weights n) constant)
-          (λ e. done (set p.weights n (w +ℤ pos 1)) (are ∙ ap (set p.weights n) e) ((tried n below).more (subst IsInRange e (fits below))))
-      | inr past ↦
-          let e : x ≡ w = weight-past q.weights n (omega arith) ∙ sym (weight-past p.weights n past) in
-          done p.weights (are ∙ ap (set p.weights n) e ∙ set-same p.weights n) constant
-    ] }
+settled task atoms p constant tried = record {
+  none_better = λ q in_range fair near.
+      let n = near.number in
+      let w = weight p.weights n in
+      let x = weight q.weights n in
+      let are = near-weights p q near in
+      let long = near.as_many in
+      let done = λ (weights : List ℤ) (is : q.weights ≡ weights) (none : IsNoneBetter task atoms p weights).
+      subst (λ l. initial_value task atoms (potentials q.constant l) ≤ initial_value task atoms p) (sym is) (none.none q.constant in_range.constant (subst (λ l. AreFair task atoms (potentials q.constant l)) is fair)) in
+      let fits = λ (below : n < length p.weights). in_range.weights n (pos 0) (omega arith) in
+      elim (cases_lt n (length p.weights)) [
+        | inl below ↦
+            by-one x w near.least near.most
+            (λ e. done (set p.weights n (w +ℤ neg_ℤ (pos 1))) (are ∙ ap (set p.weights n) e) ((tried n below).less (subst IsInRange e (fits below))))
+            (λ e. done p.weights (are ∙ ap (set p.weights n) e ∙ set-same p.weights n) constant)
+            (λ e. done (set p.weights n (w +ℤ pos 1)) (are ∙ ap (set p.weights n) e) ((tried n below).more (subst IsInRange e (fits below))))
+        | inr past ↦
+            let e : x ≡ w = weight-past q.weights n (omega arith) ∙ sym (weight-past p.weights n past) in
+            done p.weights (are ∙ ap (set p.weights n) e ∙ set-same p.weights n) constant
+      ];
+}

@@ -112,8 +112,8 @@ module _ (atoms : List Atom) (distinct : are_distinct atoms ≡ true) (n : ℕ) 
     pub formula-says : (f : Formula) (binding : List ℕ) (value : Bool) → holds task f binding s ≡ true → says (numbered_literals task atoms f binding) n value ≡ true → contains s a ≡ value
     formula-says f binding value holding is =
         let it = all-any (literal_holds s) (λ l. option_map_or (λ (k : NumberedLiteral). k.atom == n && beq k.value value) (numbered_literal atoms l) false) (sure task f binding)
-            (sure_literals_hold task f binding s holding)
-            (sym (any-filter_map (λ (k : NumberedLiteral). k.atom == n && beq k.value value) (numbered_literal atoms) (sure task f binding)) ∙ is) in
+        (sure_literals_hold task f binding s holding)
+        (sym (any-filter_map (λ (k : NumberedLiteral). k.atom == n && beq k.value value) (numbered_literal atoms) (sure task f binding)) ∙ is) in
         literal-says value it.0 it.1 it.2
 
   -- ---- changes
