@@ -13,7 +13,7 @@ IsReachableAt {S} {A} t s cost = (actions : List A) × (run t t.initial actions 
 
 -- no list of actions that leads from the initial state to this one costs less
 abbrev pub ReachingCostsAtLeast : {S A : Type 0} → System S A → S → ℕ → Type 0
-ReachingCostsAtLeast {S} {A} t s bound = (actions : List A) → run t t.initial actions ≡ Some s → bound ≤ cost_of_all t actions
+ReachingCostsAtLeast {S} {A} t s least = (actions : List A) → run t t.initial actions ≡ Some s → least ≤ cost_of_all t actions
 
 -- a found state in a listing: open where it was expanded, and otherwise cut, where what follows costs at least its estimate
 abbrev pub line_of : {S : Type 0} → (S → ℕ) → S → Node → Line S

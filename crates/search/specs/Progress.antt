@@ -13,7 +13,7 @@ use Rattle.search.specs.Nodes.{Waiting, sum_of, estimate_of, place_of, entry, Is
 
 -- the queue's order: the least sum is on top, then the least estimate, and then the least place
 abbrev pub by_sum : Waiting → Waiting → Ordering
-by_sum x y = ordering_then (nat_cmp y.0.0 x.0.0) (ordering_then (nat_cmp y.0.1 x.0.1) (nat_cmp y.0.2.0 x.0.2.0))
+by_sum x y = ordering_then (ordering_then (nat_cmp y.0.0 x.0.0) (nat_cmp y.0.1 x.0.1)) (nat_cmp y.0.2.0 x.0.2.0)
 
 -- Of those that wait, the state whose turn it is has the least sum of cost and estimate; of equal sum, the least estimate;
 -- and of these it comes first. It leaves the queue, and the others stay in it.

@@ -9,7 +9,7 @@ ghost use Rattle.search.specs.Nodes.{Waiting, entry, IsEntry, IsCurrent, AreOpen
 ghost use Rattle.search.specs.Progress.{by_sum, TakesNext, Joins, nodes_in, IsSearch, IsAtTurn, IsExpanding, Reaches, Expands, AreWide};
 
 use crate::best::MAX_STATES;
-use crate::estimates::{Estimate, value_of};
+use crate::estimates::{Estimate, value_in};
 use crate::nodes::{FoundStates, Node, Origin, StateId, steps_to};
 use crate::transitions::TransitionSystem;
 use crate::turns::{Parent, Turn};
@@ -104,7 +104,7 @@ impl<S: StateStore> Progress<S> {
             nodes: Vec::new(alloc),
             queue: BinaryHeap::new(alloc),
         };
-        let value = value_of(estimate.score(&initial));
+        let value = value_in(estimate, &initial);
         progress.add(StateId(place), 0, value, None)?;
         Ok(progress)
     }

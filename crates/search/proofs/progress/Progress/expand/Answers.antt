@@ -1,4 +1,4 @@
-use Rattle.std.proofs.Common.{◌≡◌, ℕ, Bool, List, ◌+◌, get_or, drop, sym, refl, ◌∙◌, subst, arith, Some, true, false}
+use Rattle.std.proofs.Common.{rules, ◌≡◌, ℕ, Bool, List, ◌+◌, get_or, drop, sym, refl, ◌∙◌, subst, arith, Some, true, false}
 use Rattle.std.specs.Prelude.{IsTrue, is_some}
 use Rattle.std.specs.BinaryHeap.{heap_items}
 use Rattle.std.proofs.lemmas.List.{drop_more, drop_all}
@@ -39,7 +39,7 @@ loop-action-init g c =
       continues = continues_same (found_of states' begun.nodes.items) c.args.turn.id.0;
       width = rw c.mark_expanded.ensures.store c.requires.width;
       state = c.requires.buffers.state;
-      score = c.score-score.ensures;
+      score = search rules;
       next = c.requires.buffers.next;
       stands = rw c.mark_expanded.ensures.store c.requires.state;
       left = rw c.deref-action-items.ensures.value
