@@ -65,5 +65,5 @@ returns-in_ok-cert-in-Exhausted c =
 pub returns-in-States : goal.returns-in-States
 returns-in-States c =
     let ground = c.args.ground.now in
-    let more = subst (λ (most : ℕ). AreMoreReachable (ground_system (task_in ground) (atoms_in ground)) most) c.states.ensures (rw c.in-States.is at c.in_ok-steps.ensures) in
-    (more_of_task (task_in ground) (atoms_in ground) c.requires.ground.atoms c.args.limits.states more, c.requires.ground.within)
+    let more = subst (λ (most : ℕ). AreMoreReachable (ground_system (task_in ground) (atoms_in ground)) (λ _. 0) most) c.states.ensures (rw c.in-States.is at c.in_ok-steps.ensures) in
+    (more_of_task (task_in ground) (atoms_in ground) c.requires.ground.atoms (λ _. 0) c.args.limits.states more, c.requires.ground.within)
