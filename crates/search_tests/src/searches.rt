@@ -1,13 +1,12 @@
 //! The search over a system that stands here alone: what it finds, and in which order, in either store.
 ghost use Rattle.std.specs.Prelude.{◌≡◌, []};
-ghost use Rattle.search_tests.specs.Rooms.{rooms};
 
 use crate::packed_states::{set_of, stands_at};
 use crate::rooms::Rooms;
 use crate::signs::Signs;
 use faults::NoMemory;
 use packed_state::{PlainStore, PooledStore, StateStore};
-use search::{Estimate, FoundStates, MAX_STATES, NoEstimate, Node, Outcome, best_first, value_of};
+use search::{FoundStates, MAX_STATES, NoEstimate, Node, Outcome, best_first, value_of};
 use std::alloc::Global;
 use std::test::Fail;
 
@@ -127,20 +126,17 @@ fn are_found<S: StateStore>(
     Ok(are_they && are_reached(&states.nodes, row.costs))
 }
 
-/// Whether the search by the estimate finds what the row says.
-fn finds_by<E: Estimate, S: StateStore>(
-    alloc: Global,
-    row: &Row,
-    estimate: &E,
-    store: S,
-) -> Result<bool, NoMemory>
-    requires made_for { E.system_of estimate.now ≡ rooms row.now.rooms.width row.now.rooms.first.now row.now.rooms.second.now row.now.rooms.first_cost row.now.rooms.second_cost row.now.rooms.goal }
-    requires estimate_width { E.width_of estimate.now ≡ row.now.rooms.width }
+/// Whether the search by the row's signs finds what the row says.
+fn is_as_wanted<S: StateStore>(alloc: Global, row: &Row, store: S) -> Result<bool, NoMemory>
     requires empty { S.states store ≡ [] }
     requires width { S.width_of store ≡ row.now.rooms.width }
 {
     let most = row.most.clamp(1, MAX_STATES);
-    match &best_first(alloc, &row.rooms, estimate, store, most)? {
+    let signs = Signs {
+        rooms: row.rooms,
+        signs: row.signs,
+    };
+    match &best_first(alloc, &row.rooms, &signs, store, most)? {
         Outcome::Found {
             steps,
             cost,
@@ -151,16 +147,15 @@ fn finds_by<E: Estimate, S: StateStore>(
     }
 }
 
-/// Whether the search by the row's signs finds what the row says.
-fn is_as_wanted<S: StateStore>(alloc: Global, row: &Row, store: S) -> Result<bool, NoMemory>
-    requires empty { S.states store ≡ [] }
-    requires width { S.width_of store ≡ row.now.rooms.width }
-{
-    let signs = Signs {
-        rooms: row.rooms,
-        signs: row.signs,
-    };
-    finds_by(alloc, row, &signs, store)
+/// What a cheapest plan costs, as the search with no estimate finds out.
+fn cost_with_no_estimate(alloc: Global, rooms: &Rooms, most: u32) -> Result<Option<u64>, NoMemory> {
+    let most = most.clamp(1, MAX_STATES);
+    let store = PlainStore::new(alloc, rooms.width);
+    match &best_first(alloc, rooms, &NoEstimate(rooms), store, most)? {
+        Outcome::Found { cost, .. } => Ok(Some(*cost)),
+        Outcome::Exhausted { .. } => Ok(None),
+        Outcome::States => Ok(None),
+    }
 }
 
 #[test]
@@ -177,12 +172,15 @@ fn finds_cheapest_plans_in_their_order(rt: HostRuntime) -> Result<(), Fail> {
 }
 
 #[test]
-fn finds_the_same_with_no_estimate(rt: HostRuntime) -> Result<(), Fail> {
+fn finds_the_same_costs_with_no_estimate(rt: HostRuntime) -> Result<(), Fail> {
     let alloc = rt.alloc();
     for (number, row) in ROWS.iter().enumerate() {
-        let store = PlainStore::new(alloc, row.rooms.width);
-        let is_found = finds_by(alloc, row, &NoEstimate(&row.rooms), store)?;
-        assert!(rt; is_found || !row.signs.is_empty(), "row {number}");
+        let cost = cost_with_no_estimate(alloc, &row.rooms, row.most)?;
+        let wanted = match row.plan {
+            Some((_, cost)) => Some(cost),
+            None => None,
+        };
+        assert_eq!(rt; cost, wanted, "row {number}");
     }
     Ok(())
 }
