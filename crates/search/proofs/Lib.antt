@@ -1,4 +1,5 @@
 pub mod Closed
+pub mod Consistent
 pub mod Limit
 pub mod Linked
 pub mod Lists
@@ -6,3 +7,4 @@ pub mod Marked
 pub mod NodesLemmas
 pub mod Queue
 pub mod Steps
+pub mod Ways

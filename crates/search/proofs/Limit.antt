@@ -1,5 +1,5 @@
--- Where one state more is found than may be listed: each of them is found from one that is no dearer than any plan.
-use Rattle.std.proofs.Common.{◌≡◌, ℕ, ◌<◌, ◌≢◌, inl, inr, List, [], ◌∷◌, ◌++◌, length, Some, None, true, refl, sym, ap, ◌∙◌, subst, arith}
+-- Where one state more is found than may be listed: each of them is found from one whose sum is no more than any plan costs.
+use Rattle.std.proofs.Common.{◌≡◌, ℕ, ◌+◌, ◌<◌, ◌≢◌, inl, inr, List, [], ◌∷◌, ◌++◌, length, Some, None, true, refl, sym, ap, ◌∙◌, subst, arith}
 use Rattle.std.specs.Prelude.{slice_get, Contains}
 use Rattle.std.proofs.lemmas.Bool.{cases_eq}
 use Rattle.std.proofs.lemmas.Option.{same_Some, slice_get_within}
@@ -37,8 +37,8 @@ distinct-push {S} states s distinct is_new j k x at_j at_k =
         let is_s : s ≡ x = same_Some s x (sym (get-push_new states s) ∙ ap (slice_get (states ++ s ∷ [])) (sym is_last) ∙ at_last) in
         is_new (subst (λ y. Contains states y) (sym is_s) (Contains-got states before x (sym (get-push_other states s before other) ∙ at_before)))
 
-module _ {S : Type 0} (t : System S ℕ) (states : List S) (all : List Node) (queue : List Waiting)
-    (one_each : length all ≡ length states) (nodes : AreNodes t (found_of states all) queue) where
+module _ {S : Type 0} (t : System S ℕ) (value : S → ℕ) (states : List S) (all : List Node) (queue : List Waiting)
+    (one_each : length all ≡ length states) (nodes : AreNodes t value (found_of states all) queue) where
   node_there : (k : ℕ) (x : S) → slice_get states k ≡ Some x → (n : Found S) × (slice_get (found_of states all) k ≡ Some n) × (n.state ≡ x)
   node_there k x at =
       let r = get_exists all k (omega (arith, slice_get_within states k x at)) in
@@ -51,15 +51,15 @@ module _ {S : Type 0} (t : System S ℕ) (states : List S) (all : List Node) (qu
       nodes.distinct j k m n there_m there_n (same_m ∙ sym same_n)
 
   -- an action leads to the state from an expanded one
-  precedes-next : (k : ℕ) (n : Found S) → slice_get (found_of states all) k ≡ Some n → n.node.is_expanded ≡ true → (a : ℕ) (x : S) → t.step n.state a ≡ Some x → PrecedesPlans t x
+  precedes-next : (k : ℕ) (n : Found S) → slice_get (found_of states all) k ≡ Some n → n.node.is_expanded ≡ true → (a : ℕ) (x : S) → t.step n.state a ≡ Some x → PrecedesPlans t value x
   precedes-next k n there expanded a x leads =
       let (actions, runs, costs) = nodes.reachable k n there in
-      is_next actions n.state a runs (nodes.no_goal k n there expanded) (subst (λ c. CostsAtLeast t c) (sym costs) (nodes.no_dearer k n there expanded)) leads
+      is_next actions n.state a runs (nodes.no_goal k n there expanded) (subst (λ c. CostsAtLeast t (c + value n.state)) (sym costs) (nodes.no_dearer k n there expanded)) leads
 
   -- a found state is the initial one, or has an origin
-  precedes-found : (k : ℕ) (n : Found S) → slice_get (found_of states all) k ≡ Some n → PrecedesPlans t n.state
+  precedes-found : (k : ℕ) (n : Found S) → slice_get (found_of states all) k ≡ Some n → PrecedesPlans t value n.state
   precedes-found k n there =
-      elim n.node.origin as (λ o. n.node.origin ≡ o → PrecedesPlans t n.state) [
+      elim n.node.origin as (λ o. n.node.origin ≡ o → PrecedesPlans t value n.state) [
         | None ↦ λ none.
             let first : k ≡ 0 = nodes.only_root k n there none in
             let same : nodes.root.0 ≡ n = same_Some nodes.root.0 n (sym nodes.root.1 ∙ ap (slice_get (found_of states all)) (sym first) ∙ there) in
@@ -71,7 +71,7 @@ module _ {S : Type 0} (t : System S ℕ) (states : List S) (all : List Node) (qu
 
   -- the listed states are as many as the limit allows, and an action leads to a new one from the state whose turn it is
   pub more_reachable : (i : ℕ) (turn : IsTurn (found_of states all) i) (a : ℕ) (s : S) → t.step turn.found.state a ≡ Some s → (¬ Contains states s)
-      → (max_states : ℕ) → length states ≡ max_states → AreMoreReachable t max_states
+      → (max_states : ℕ) → length states ≡ max_states → AreMoreReachable t value max_states
   more_reachable i turn a s step is_new max_states full = (
     states ++ s ∷ [],
     distinct-push states s states_distinct is_new,
@@ -80,18 +80,18 @@ module _ {S : Type 0} (t : System S ℕ) (states : List S) (all : List Node) (qu
           | inl among ↦
               let (k, stands) = Contains-place states x among in
               let (n, there, same) = node_there k x stands in
-              subst (λ y. PrecedesPlans t y) same (precedes-found k n there)
+              subst (λ y. PrecedesPlans t value y) same (precedes-found k n there)
           | inr is ↦ precedes-next i turn.found turn.stands turn.is_expanded a x (step ∙ ap Some is)
         ]),
     omega (arith, length-append states (s ∷ []), full),
   )
 
 -- each of the states is reachable
-pub reachable-of_precedes : {S A : Type 0} (t : System S A) (s : S) → PrecedesPlans t s → IsReachable t s
-reachable-of_precedes t s (is_initial is) = ([], ap Some (sym is))
-reachable-of_precedes t s (is_next actions before a runs no_goal no_dearer step) = (actions ++ a ∷ [], run-push t t.initial actions a before s runs step)
+pub reachable-of_precedes : {S A : Type 0} (t : System S A) (value : S → ℕ) (s : S) → PrecedesPlans t value s → IsReachable t s
+reachable-of_precedes t value s (is_initial is) = ([], ap Some (sym is))
+reachable-of_precedes t value s (is_next actions before a runs no_goal no_dearer step) = (actions ++ a ∷ [], run-push t t.initial actions a before s runs step)
 
-pub reachable-of_more : {S A : Type 0} (t : System S A) (max_states : ℕ) → AreMoreReachable t max_states
+pub reachable-of_more : {S A : Type 0} (t : System S A) (value : S → ℕ) (max_states : ℕ) → AreMoreReachable t value max_states
     → (states : List S) × AreDistinct states × ((s : S) → Contains states s → IsReachable t s) × (max_states < length states)
-reachable-of_more t max_states (states, distinct, precede, more) =
-    (states, distinct, (λ s at. reachable-of_precedes t s (precede s at)), more)
+reachable-of_more t value max_states (states, distinct, precede, more) =
+    (states, distinct, (λ s at. reachable-of_precedes t value s (precede s at)), more)

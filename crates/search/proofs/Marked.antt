@@ -1,12 +1,13 @@
 -- What a search keeps true when a state's turn comes and goes.
-use Rattle.std.proofs.Common.{◌≡◌, ℕ, ◌+◌, ◌*◌, ◌<◌, ◌≤◌, ◌≢◌, inl, inr, List, length, Some, None, true, false, refl, sym, ap, ◌∙◌, subst, arith}
+use Rattle.std.proofs.Common.{◌≡◌, ℕ, ◌+◌, ◌*◌, ◌≤◌, ◌≢◌, inl, inr, List, Some, None, true, false, refl, sym, ap, ◌∙◌, subst, arith}
 use Rattle.std.specs.Prelude.{slice_get, Contains, All}
 use Rattle.std.proofs.lemmas.Bool.{cases_eq, false≢true}
+use Rattle.std.proofs.lemmas.List.Elements.{All-weaker}
 use Rattle.std.proofs.lemmas.Option.{same_Some}
 use Rattle.model.specs.Runs.{System, CostsAtLeast}
 use Rattle.search.specs.declared.nodes.Origin.{Origin}
-use Rattle.search.specs.Nodes.{Waiting, place_of, entry, depth_of, Found, expanded_count, Leads, dearest, AreNodes, IsFoundWithin, IsOpen, AreOpen, AreOpenBut, IsTurn, marked}
-use Rattle.search.specs.Outcome.{IsReachableAt}
+use Rattle.search.specs.Nodes.{Waiting, place_of, entry, IsEntryOf, depth_of, Found, expanded_count, Leads, dearest, AreNodes, IsFoundWithin, IsOpen, AreOpen, AreOpenBut, IsTurn, marked}
+use Rattle.search.specs.Outcome.{IsReachableAt, ReachingCostsAtLeast}
 
 module _ {S : Type 0} (nodes after : List (Found S)) (i : ℕ) (one : Found S) (stood : slice_get nodes i ≡ Some one) (waited : one.node.is_expanded ≡ false)
     (here : slice_get after i ≡ Some (marked one)) (others : (k : ℕ) → k ≢ i → slice_get after k ≡ slice_get nodes k) (count : expanded_count after ≡ expanded_count nodes + 1) where
@@ -36,8 +37,25 @@ module _ {S : Type 0} (nodes after : List (Found S)) (i : ℕ) (one : Found S) (
         | inr other ↦ (k, n, others k other ∙ at, is, within)
       ]
 
-  module _ (t : System S ℕ) (queue queue' : List Waiting) (old : AreNodes t nodes queue)
-      (cheapest : (k : ℕ) (n : Found S) → slice_get nodes k ≡ Some n → n.node.is_expanded ≡ false → one.node.cost ≤ n.node.cost) where
+  -- an entry's state stays where it is
+  entry_marked : (value : S → ℕ) (w : Waiting) → IsEntryOf value nodes w → IsEntryOf value after w
+  entry_marked value w of =
+      elim (cases_eq (place_of w) i) [
+        | inl e ↦
+            let same : one ≡ of.found = same_Some one of.found (sym stood ∙ ap (slice_get nodes) (sym e) ∙ of.stands) in
+            record {
+              found = marked one;
+              stands = ap (slice_get after) e ∙ here;
+              estimate = of.estimate ∙ sym (ap (λ (x : Found S). value x.state) same);
+              part = of.part;
+            }
+        | inr other ↦ record { found = of.found; stands = others (place_of w) other ∙ of.stands; estimate = of.estimate; part = of.part }
+      ]
+
+  pub entries_marked : (value : S → ℕ) (queue : List Waiting) → All (IsEntryOf value nodes) queue → All (IsEntryOf value after) queue
+  entries_marked value queue all = All-weaker (IsEntryOf value nodes) (IsEntryOf value after) (entry_marked value) queue all
+
+  module _ (t : System S ℕ) (value : S → ℕ) (queue queue' : List Waiting) (old : AreNodes t value nodes queue) where
     leads_marked : (n n' : Found S) (origin : Origin) → n'.state ≡ n.state → n'.node.cost ≡ n.node.cost → Leads t nodes n origin → Leads t after n' origin
     leads_marked n n' origin same_state same_cost leads = record {
       parent = leads.parent;
@@ -48,10 +66,10 @@ module _ {S : Type 0} (nodes after : List (Found S)) (i : ℕ) (one : Found S) (
       step = leads.step ∙ ap Some (sym same_state);
     }
 
-    pub nodes_marked : t.meets_goal one.state ≡ false → CostsAtLeast t one.node.cost
-        → ((k : ℕ) (n : Found S) → slice_get nodes k ≡ Some n → n.node.is_expanded ≡ false → k ≢ i → Contains queue' (entry n.node.cost k))
-        → All (λ w. place_of w < length after) queue' → AreNodes t after queue'
-    nodes_marked no_goal no_dearer queued in_range = record {
+    pub nodes_marked : t.meets_goal one.state ≡ false → CostsAtLeast t (one.node.cost + value one.state) → ReachingCostsAtLeast t one.state one.node.cost
+        → ((k : ℕ) (n : Found S) → slice_get nodes k ≡ Some n → n.node.is_expanded ≡ false → k ≢ i → Contains queue' (entry n.node.cost (value n.state) k))
+        → All (IsEntryOf value nodes) queue' → AreNodes t value after queue'
+    nodes_marked no_goal no_dearer cheapest queued entries = record {
       root =
           elim (cases_eq 0 i) [
             | inl e ↦
@@ -74,19 +92,12 @@ module _ {S : Type 0} (nodes after : List (Found S)) (i : ℕ) (one : Found S) (
       shallow = rw count (each_marked (λ k n. depth_of n.node.origin ≤ expanded_count nodes + 1) (omega (arith, old.shallow i one stood)) (λ k n _ at. omega (arith, old.shallow k n at)));
       reachable = each_marked (λ k n. IsReachableAt t n.state n.node.cost) (old.reachable i one stood) (λ k n _ at. old.reachable k n at);
       no_goal = each_marked (λ k n. n.node.is_expanded ≡ true → t.meets_goal n.state ≡ false) (λ _. no_goal) (λ k n _ at. old.no_goal k n at);
-      no_dearer = each_marked (λ k n. n.node.is_expanded ≡ true → CostsAtLeast t n.node.cost) (λ _. no_dearer) (λ k n _ at. old.no_dearer k n at);
-      ordered = λ p k x n at_p at_k expanded waits.
-          each_marked (λ k n. n.node.is_expanded ≡ false → x.node.cost ≤ n.node.cost)
-          (λ waits. absurd (false≢true (sym waits)))
-          (λ k n _ at waits.
-          each_marked (λ p x. x.node.is_expanded ≡ true → x.node.cost ≤ n.node.cost)
-          (λ _. cheapest k n at waits)
-          (λ p x _ at' expanded. old.ordered p k x n at' at expanded waits) p x at_p expanded)
-          k n at_k waits;
-      queued = each_marked (λ k n. n.node.is_expanded ≡ false → Contains queue' (entry n.node.cost k))
+      no_dearer = each_marked (λ k n. n.node.is_expanded ≡ true → CostsAtLeast t (n.node.cost + value n.state)) (λ _. no_dearer) (λ k n _ at. old.no_dearer k n at);
+      cheapest = each_marked (λ k n. n.node.is_expanded ≡ true → ReachingCostsAtLeast t n.state n.node.cost) (λ _. cheapest) (λ k n _ at. old.cheapest k n at);
+      queued = each_marked (λ k n. n.node.is_expanded ≡ false → Contains queue' (entry n.node.cost (value n.state) k))
           (λ waits. absurd (false≢true (sym waits)))
           (λ k n other at waits. queued k n at waits other);
-      in_range = in_range;
+      entries = entries_marked value queue' entries;
     }
 
     -- its turn begins
@@ -97,8 +108,6 @@ module _ {S : Type 0} (nodes after : List (Found S)) (i : ℕ) (one : Found S) (
       is_expanded = refl;
       cheap = rw count (omega (arith, old.cheap i one stood));
       shallow = rw count (omega (arith, old.shallow i one stood));
-      dearest_expanded = each_marked (λ k n. n.node.is_expanded ≡ true → n.node.cost ≤ one.node.cost) (λ _. omega arith) (λ k n _ at expanded. old.ordered k i n one at stood expanded waited);
-      cheapest = each_marked (λ k n. n.node.is_expanded ≡ false → one.node.cost ≤ n.node.cost) (λ waits. absurd (false≢true (sym waits))) (λ k n _ at waits. cheapest k n at waits);
     }
 
     pub open_but_marked : AreOpen t nodes → AreOpenBut t after i

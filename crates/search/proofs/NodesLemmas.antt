@@ -1,5 +1,5 @@
 -- What a search keeps true, through each of its steps.
-use Rattle.std.proofs.Common.{◌≡◌, ℕ, ◌+◌, ◌*◌, ◌<◌, ◌≤◌, ◌≢◌, ◌⊎◌, inl, inr, List, [], ◌∷◌, ◌++◌, length, Some, None, true, false, refl, sym, ap, ◌∙◌, subst, arith}
+use Rattle.std.proofs.Common.{◌≡◌, ℕ, ◌+◌, ◌*◌, ◌≤◌, ◌≢◌, ◌⊎◌, inl, inr, List, [], ◌∷◌, ◌++◌, Some, None, true, false, refl, sym, ap, ◌∙◌, subst, arith}
 use Rattle.std.specs.Prelude.{slice_get, Contains, All, IsPermutation}
 use Rattle.std.proofs.lemmas.List.Elements.{All-weaker, All-cons}
 use Rattle.std.proofs.lemmas.List.Sorted.{Contains-permutation, All-permutation}
@@ -10,13 +10,13 @@ use Rattle.std.proofs.lemmas.Option.{same_Some}
 use Rattle.std.proofs.lemmas.List.Sums.{sum_by-append}
 use Rattle.model.specs.Runs.{System, run, CostsAtLeast}
 use Rattle.search.specs.declared.nodes.Origin.{Origin}
-use Rattle.search.specs.Outcome.{IsReachableAt}
-use Rattle.search.specs.Nodes.{Waiting, place_of, entry, depth_of, Found, expanded_count, Leads, dearest, AreNodes, IsFoundWithin, IsOpen, AreOpenBut, IsTurn, Updates}
+use Rattle.search.specs.Outcome.{IsReachableAt, ReachingCostsAtLeast}
+use Rattle.search.specs.Nodes.{Waiting, place_of, entry, IsEntryOf, depth_of, Found, expanded_count, Leads, dearest, AreNodes, IsFoundWithin, IsOpen, AreOpenBut, IsTurn, Updates}
 use Rattle.search.specs.Progress.{Continues, IsListed}
 
 -- What holds of the nodes after a step of an expansion, by which the state is reached by the action.
-pub record Stepped {S : Type 0} (t : System S ℕ) (nodes after : List (Found S)) (queue : List Waiting) (i : ℕ) (a : ℕ) (s : S) : Type 0 where
-  pub sound : AreNodes t after queue
+pub record Stepped {S : Type 0} (t : System S ℕ) (value : S → ℕ) (nodes after : List (Found S)) (queue : List Waiting) (i : ℕ) (a : ℕ) (s : S) : Type 0 where
+  pub sound : AreNodes t value after queue
   pub turn : IsTurn after i
   pub others : AreOpenBut t after i
   pub continues : Continues nodes after i
@@ -72,7 +72,17 @@ module _ {S : Type 0} (nodes after : List (Found S)) (j : ℕ) (m : Found S) (up
         | inr was ↦ others k n was.0 was.1
       ]
 
-  module _ (t : System S ℕ) where
+  -- an entry's state stays where it is
+  entry_still : (value : S → ℕ) (w : Waiting) → IsEntryOf value nodes w → IsEntryOf value after w
+  entry_still value w of =
+      elim (cases_eq (place_of w) j) [
+        | inl e ↦
+            let was : slice_get nodes j ≡ Some of.found = ap (slice_get nodes) (sym e) ∙ of.stands in
+            record { found = m; stands = ap (slice_get after) e ∙ updates.here; estimate = of.estimate ∙ ap value (updates.same_state of.found was); part = of.part }
+        | inr other ↦ record { found = of.found; stands = updates.others (place_of w) other ∙ of.stands; estimate = of.estimate; part = of.part }
+      ]
+
+  module _ (t : System S ℕ) (value : S → ℕ) where
     leads_still : (n : Found S) (origin : Origin) → Leads t nodes n origin → Leads t after n origin
     leads_still n origin leads = record {
       parent = leads.parent;
@@ -94,30 +104,23 @@ module _ {S : Type 0} (nodes after : List (Found S)) (j : ℕ) (m : Found S) (up
         ]
 
     -- the node's turn is not over
-    pub turn_still : (i : ℕ) (turn : IsTurn nodes i) → turn.found.node.cost ≤ m.node.cost → IsTurn after i
-    turn_still i turn dearer = record {
+    pub turn_still : (i : ℕ) (turn : IsTurn nodes i) → IsTurn after i
+    turn_still i turn = record {
       found = turn.found;
       stands = stays i turn.found turn.stands turn.is_expanded;
       is_expanded = turn.is_expanded;
       cheap = rw updates.count turn.cheap;
       shallow = rw updates.count turn.shallow;
-      dearest_expanded = each_after (λ k n. n.node.is_expanded ≡ true → n.node.cost ≤ turn.found.node.cost)
-          (λ expanded. absurd (false≢true (sym updates.waits ∙ expanded)))
-          (λ k n other at expanded. turn.dearest_expanded k n at expanded);
-      cheapest = each_after (λ k n. n.node.is_expanded ≡ false → turn.found.node.cost ≤ n.node.cost)
-          (λ waits. dearer)
-          (λ k n other at waits. turn.cheapest k n at waits);
     }
 
     -- a state that an action leads to from the node whose turn it is joins the others, or is now reached at a lower cost
-    pub nodes_updated : (i : ℕ) (turn : IsTurn nodes i) (origin : Origin) (queue queue' : List Waiting) → AreNodes t nodes queue
+    pub nodes_updated : (i : ℕ) (turn : IsTurn nodes i) (origin : Origin) (queue queue' : List Waiting) → AreNodes t value nodes queue
         → m.node.origin ≡ Some origin → origin.parent.0 ≡ i → origin.depth ≡ depth_of turn.found.node.origin + 1
         → m.node.cost ≡ turn.found.node.cost + t.cost origin.action → t.cost origin.action ≤ dearest
         → t.step turn.found.state origin.action ≡ Some m.state
-        → ((w : Waiting) → Contains queue w → Contains queue' w) → Contains queue' (entry m.node.cost j) → All (λ w. place_of w < length after) queue'
-        → AreNodes t after queue'
-    nodes_updated i turn origin queue queue' old is_origin parent depth cost affordable step keeps queued in_range =
-        let dearer : turn.found.node.cost ≤ m.node.cost = omega (arith, cost) in
+        → ((w : Waiting) → Contains queue w → Contains queue' w) → Contains queue' (entry m.node.cost (value m.state) j) → All (IsEntryOf value after) queue'
+        → AreNodes t value after queue'
+    nodes_updated i turn origin queue queue' old is_origin parent depth cost affordable step keeps queued entries =
         let leads : Leads t after m origin = record {
           parent = turn.found;
           stands = ap (slice_get after) parent ∙ stays i turn.found turn.stands turn.is_expanded;
@@ -154,40 +157,35 @@ module _ {S : Type 0} (nodes after : List (Found S)) (j : ℕ) (m : Found S) (up
           no_goal = each_after (λ k n. n.node.is_expanded ≡ true → t.meets_goal n.state ≡ false)
               (λ expanded. absurd (false≢true (sym updates.waits ∙ expanded)))
               (λ k n other at. old.no_goal k n at);
-          no_dearer = each_after (λ k n. n.node.is_expanded ≡ true → CostsAtLeast t n.node.cost)
+          no_dearer = each_after (λ k n. n.node.is_expanded ≡ true → CostsAtLeast t (n.node.cost + value n.state))
               (λ expanded. absurd (false≢true (sym updates.waits ∙ expanded)))
               (λ k n other at. old.no_dearer k n at);
-          ordered = λ p k x n at_p at_k expanded waits.
-              each_after (λ p x. x.node.is_expanded ≡ true → x.node.cost ≤ n.node.cost)
+          cheapest = each_after (λ k n. n.node.is_expanded ≡ true → ReachingCostsAtLeast t n.state n.node.cost)
               (λ expanded. absurd (false≢true (sym updates.waits ∙ expanded)))
-              (λ p x other at expanded.
-              each_after (λ k n. n.node.is_expanded ≡ false → x.node.cost ≤ n.node.cost)
-              (λ waits. omega (arith, dearer, turn.dearest_expanded p x at expanded))
-              (λ k n _ at' waits. old.ordered p k x n at at' expanded waits) k n at_k waits)
-              p x at_p expanded;
-          queued = each_after (λ k n. n.node.is_expanded ≡ false → Contains queue' (entry n.node.cost k))
+              (λ k n other at. old.cheapest k n at);
+          queued = each_after (λ k n. n.node.is_expanded ≡ false → Contains queue' (entry n.node.cost (value n.state) k))
               (λ _. queued)
-              (λ k n other at waits. keeps (entry n.node.cost k) (old.queued k n at waits));
-          in_range = in_range;
+              (λ k n other at waits. keeps (entry n.node.cost (value n.state) k) (old.queued k n at waits));
+          entries = entries;
         }
 
     -- all that a step keeps
-    pub stepped : (i : ℕ) (turn : IsTurn nodes i) (origin : Origin) (queue queue' : List Waiting) → AreNodes t nodes queue → AreOpenBut t nodes i
+    pub stepped : (i : ℕ) (turn : IsTurn nodes i) (origin : Origin) (queue queue' : List Waiting) → AreNodes t value nodes queue → AreOpenBut t nodes i
         → m.node.origin ≡ Some origin → origin.parent.0 ≡ i → origin.depth ≡ depth_of turn.found.node.origin + 1
         → m.node.cost ≡ turn.found.node.cost + t.cost origin.action → t.cost origin.action ≤ dearest
         → t.step turn.found.state origin.action ≡ Some m.state
-        → IsPermutation (entry m.node.cost j ∷ queue) queue' → j < length after
-        → Stepped t nodes after queue' i origin.action m.state
-    stepped i turn origin queue queue' old others is_origin parent depth cost affordable step joins within =
-        let longer : length nodes ≤ length after = updates.longer in
-        let all_in : All (λ w. place_of w < length after) queue = All-weaker (λ w. place_of w < length nodes) (λ w. place_of w < length after) (λ w lt. omega (arith, lt, longer)) queue old.in_range in
+        → IsPermutation (entry m.node.cost (value m.state) j ∷ queue) queue'
+        → Stepped t value nodes after queue' i origin.action m.state
+    stepped i turn origin queue queue' old others is_origin parent depth cost affordable step joins =
+        let one = entry m.node.cost (value m.state) j in
+        let of : IsEntryOf value after one = record { found = m; stands = updates.here; estimate = refl; part = omega arith } in
+        let all_in : All (IsEntryOf value after) queue = All-weaker (IsEntryOf value nodes) (IsEntryOf value after) (entry_still value) queue old.entries in
         record {
           sound = nodes_updated i turn origin queue queue' old is_origin parent depth cost affordable step
-              (λ w at. Contains-permutation (entry m.node.cost j ∷ queue) queue' w joins (Contains-there (entry m.node.cost j) queue w at))
-              (Contains-permutation (entry m.node.cost j ∷ queue) queue' (entry m.node.cost j) joins (Contains-here (entry m.node.cost j) queue))
-              (All-permutation (λ w. place_of w < length after) (entry m.node.cost j ∷ queue) queue' joins
-              (All-cons (λ w. place_of w < length after) (entry m.node.cost j) queue within all_in));
-          turn = turn_still i turn (omega (arith, cost));
+              (λ w at. Contains-permutation (one ∷ queue) queue' w joins (Contains-there one queue w at))
+              (Contains-permutation (one ∷ queue) queue' one joins (Contains-here one queue))
+              (All-permutation (IsEntryOf value after) (one ∷ queue) queue' joins (All-cons (IsEntryOf value after) one queue of all_in));
+          turn = turn_still i turn;
           others = open_but_still i others;
           continues = record {
             found = found_still;

@@ -1,5 +1,5 @@
 -- The queue of a search, and the way back along the origins.
-use Rattle.std.proofs.Common.{◌≡◌, ℕ, ◌<◌, ◌≤◌, ◌≢◌, ◌⊎◌, inl, inr, List, [], ◌∷◌, ◌++◌, reverse, length, get_or, Bool, not, Option, Some, None, true, false, refl, sym, ap, ◌∙◌, subst, arith, append_assoc}
+use Rattle.std.proofs.Common.{◌≡◌, ℕ, ◌+◌, ◌<◌, ◌≤◌, ◌≢◌, ◌⊎◌, inl, inr, List, [], ◌∷◌, ◌++◌, reverse, length, get_or, Bool, not, Option, Some, None, true, false, refl, sym, ap, ◌∙◌, subst, arith, append_assoc}
 use Rattle.std.specs.Prelude.{slice_get, Contains, All, IsPermutation}
 use Rattle.std.specs.Ordering.{is_lt}
 use Rattle.std.specs.BinaryHeap.{IsHeap, IsUpperBound}
@@ -9,64 +9,90 @@ use Rattle.std.proofs.lemmas.Option.{same_Some, slice_get_read, slice_get_within
 use Rattle.std.proofs.lemmas.List.{append-nil, reverse-append}
 use Rattle.std.proofs.lemmas.List.Elements.{All-from_recursion, All-contains, All-tail, All-head}
 use Rattle.std.proofs.lemmas.List.Sorted.{Contains-permutation, All-permutation}
-use Rattle.model.proofs.ListLemmas.{Contains-cases}
+use Rattle.model.proofs.ListLemmas.{Contains-cases, Contains-got}
 use Rattle.search.specs.declared.nodes.Node.{Node}
 use Rattle.search.specs.declared.nodes.Origin.{Origin}
-use Rattle.search.specs.Nodes.{Waiting, place_of, cost_of, IsCurrent, depth_of, AreDescending, IsPath, begins, follows}
-use Rattle.search.specs.Progress.{by_cost, TakesNext}
+use Rattle.search.specs.declared.turns.Turn.{Turn}
+use Rattle.search.specs.Nodes.{Waiting, sum_of, estimate_of, place_of, IsEntry, IsCurrent, depth_of, AreDescending, IsPath, begins, follows}
+use Rattle.search.specs.Progress.{by_sum, TakesNext}
+use Rattle.search.proofs.Lists.{get_there}
 
--- what is not below another in the queue's order costs no more
-cost-le : (x w : Waiting) → is_lt (by_cost x w) ≡ false → cost_of x ≤ cost_of w
-cost-le x w above = grind (arith, nat_tests)
+-- what is not below another in the queue's order has no greater sum
+sum-le : (x w : Waiting) → is_lt (by_sum x w) ≡ false → sum_of x ≤ sum_of w
+sum-le x w above = grind (arith, nat_tests)
 
--- and of equal cost it comes no later
-place-le : (x w : Waiting) → is_lt (by_cost x w) ≡ false → cost_of w ≡ cost_of x → place_of x ≤ place_of w
-place-le x w above same = grind (arith, nat_tests)
+-- of equal sum it has no greater estimate
+estimate-le : (x w : Waiting) → is_lt (by_sum x w) ≡ false → sum_of w ≡ sum_of x → estimate_of x ≤ estimate_of w
+estimate-le x w above same = grind (arith, nat_tests)
 
-greatest-of : (x : Waiting) (queue : List Waiting) → IsUpperBound by_cost x queue → (w : Waiting) → Contains queue w → is_lt (by_cost x w) ≡ false
+-- and of equal estimate it comes no later
+place-le : (x w : Waiting) → is_lt (by_sum x w) ≡ false → sum_of w ≡ sum_of x → estimate_of w ≡ estimate_of x → place_of x ≤ place_of w
+place-le x w above same near = grind (arith, nat_tests)
+
+greatest-of : (x : Waiting) (queue : List Waiting) → IsUpperBound by_sum x queue → (w : Waiting) → Contains queue w → is_lt (by_sum x w) ≡ false
 greatest-of x queue greatest w at =
-    All-contains (λ y. is_lt (by_cost x y) ≡ false) queue w (All-from_recursion (λ y. is_lt (by_cost x y) ≡ false) queue greatest) at
+    All-contains (λ y. is_lt (by_sum x y) ≡ false) queue w (All-from_recursion (λ y. is_lt (by_sum x y) ≡ false) queue greatest) at
+
+-- what holds of all in a list holds of all in another that has no more
+pub All-among : {X : Type 0} (P : X → Type 0) (old new : List X) → ((x : X) → Contains new x → Contains old x) → All P old → All P new
+All-among P old new among all k d below =
+    All-contains P old (get_or new k d) all (among (get_or new k d) (Contains-got new k (get_or new k d) (get_there new k d below)))
 
 -- the queue, from which only entries that are stale have gone
 pub record KeepsCurrent (initial now : List Waiting) (all : List Node) : Type 0 where
-  pub heap : IsHeap by_cost now
-  pub in_range : All (λ w. place_of w < length all) now
+  pub heap : IsHeap by_sum now
+  pub kept : (w : Waiting) → Contains now w → Contains initial w
+  pub entries : All (IsEntry (length all)) now
   pub current : (w : Waiting) → Contains initial w → IsCurrent all w → Contains now w
 
 popped-cases : (old new : List Waiting) (x w : Waiting) → IsPermutation old (x ∷ new) → Contains old w → (x ≡ w) ⊎ Contains new w
 popped-cases old new x w moved at = Contains-cases x new w (Contains-permutation old (x ∷ new) w moved at)
 
--- a stale entry goes
-pub keeps-popped : (initial old new : List Waiting) (all : List Node) (x : Waiting) → KeepsCurrent initial old all → IsPermutation old (x ∷ new) → IsHeap by_cost new → (¬ IsCurrent all x) → KeepsCurrent initial new all
-keeps-popped initial old new all x keeps moved heap stale = record {
-  heap = heap;
-  in_range = All-tail (λ w. place_of w < length all) x new (All-permutation (λ w. place_of w < length all) old (x ∷ new) moved keeps.in_range);
-  current = λ w at now.
-      elim (popped-cases old new x w moved (keeps.current w at now)) [
-        | inl is ↦ absurd (stale (subst (λ y. IsCurrent all y) (sym is) now))
-        | inr there ↦ there
-      ];
-}
+module _ (initial old new : List Waiting) (all : List Node) (x : Waiting) (keeps : KeepsCurrent initial old all) (moved : IsPermutation old (x ∷ new)) where
+  both : All (λ w. Contains initial w × IsEntry (length all) w) (x ∷ new)
+  both = All-permutation (λ w. Contains initial w × IsEntry (length all) w) old (x ∷ new) moved
+      (λ k d below. (keeps.kept (get_or old k d) (Contains-got old k (get_or old k d) (get_there old k d below)), keeps.entries k d below))
 
--- a current entry is taken
-pub takes-popped : (initial old new : List Waiting) (all : List Node) (x : Waiting) → KeepsCurrent initial old all → IsPermutation old (x ∷ new) → IsUpperBound by_cost x old → IsCurrent all x → TakesNext initial new all (place_of x)
-takes-popped initial old new all x keeps moved greatest now = record {
-  next = x;
-  stands = refl;
-  current = now;
-  cheapest = λ w at current. cost-le x w (greatest-of x old greatest w (keeps.current w at current));
-  first = λ w at current same. place-le x w (greatest-of x old greatest w (keeps.current w at current)) same;
-  rest = λ w at current other.
-      elim (popped-cases old new x w moved (keeps.current w at current)) [
-        | inl is ↦ absurd (other (ap place_of (sym is)))
-        | inr there ↦ there
-      ];
-}
+  -- the entry that goes is one of the queue
+  pub popped : Contains initial x × IsEntry (length all) x
+  popped = All-head (λ w. Contains initial w × IsEntry (length all) w) x new both
 
-pub range-popped : (initial old new : List Waiting) (all : List Node) (x : Waiting) → KeepsCurrent initial old all → IsPermutation old (x ∷ new) → (place_of x < length all) × All (λ w. place_of w < length all) new
-range-popped initial old new all x keeps moved =
-    let both = All-permutation (λ w. place_of w < length all) old (x ∷ new) moved keeps.in_range in
-    (All-head (λ w. place_of w < length all) x new both, All-tail (λ w. place_of w < length all) x new both)
+  left : All (λ w. Contains initial w × IsEntry (length all) w) new
+  left = All-tail (λ w. Contains initial w × IsEntry (length all) w) x new both
+
+  pub kept-popped : (w : Waiting) → Contains new w → Contains initial w
+  kept-popped w at = (All-contains (λ w. Contains initial w × IsEntry (length all) w) new w left at).0
+
+  -- a stale entry goes
+  pub keeps-popped : IsHeap by_sum new → (¬ IsCurrent all x) → KeepsCurrent initial new all
+  keeps-popped heap stale = record {
+    heap = heap;
+    kept = kept-popped;
+    entries = λ k d below. (left k d below).1;
+    current = λ w at now.
+        elim (popped-cases old new x w moved (keeps.current w at now)) [
+          | inl is ↦ absurd (stale (subst (λ y. IsCurrent all y) (sym is) now))
+          | inr there ↦ there
+        ];
+  }
+
+  -- a current entry is taken
+  pub takes-popped : IsUpperBound by_sum x old → IsCurrent all x → (turn : Turn) → place_of x ≡ turn.id.0 → estimate_of x ≡ turn.estimate → TakesNext initial new all turn
+  takes-popped greatest now turn place estimate = record {
+    next = x;
+    stands = place;
+    estimate = estimate;
+    among = popped.0;
+    current = now;
+    least = λ w at current. sum-le x w (greatest-of x old greatest w (keeps.current w at current));
+    nearest = λ w at current same. estimate-le x w (greatest-of x old greatest w (keeps.current w at current)) same;
+    first = λ w at current same near. place-le x w (greatest-of x old greatest w (keeps.current w at current)) same near;
+    rest = λ w at current other.
+        elim (popped-cases old new x w moved (keeps.current w at current)) [
+          | inl is ↦ absurd (other (ap place_of (sym is) ∙ place))
+          | inr there ↦ there
+        ];
+  }
 
 pub not_true : (b : Bool) → not b ≡ true → b ≡ false
 not_true true is = absurd (false≢true is)
@@ -77,15 +103,15 @@ not_false true is = refl
 not_false false is = absurd (false≢true (sym is))
 
 -- what was read of the entry's state
-pub current-read : (all : List Node) (w : Waiting) (r : Node) → place_of w < length all → r ≡ get_or all (place_of w) r → r.is_expanded ≡ false → r.cost ≡ cost_of w → IsCurrent all w
+pub current-read : (all : List Node) (w : Waiting) (r : Node) → place_of w < length all → r ≡ get_or all (place_of w) r → r.is_expanded ≡ false → r.cost + estimate_of w ≡ sum_of w → IsCurrent all w
 current-read all w r within read waits same = (r, slice_get_read all (length all) (place_of w) r refl within read, same, waits)
 
-pub stale-read : (all : List Node) (w : Waiting) (r : Node) → place_of w < length all → r ≡ get_or all (place_of w) r → (r.is_expanded ≡ true) ⊎ (r.cost ≢ cost_of w) → ¬ IsCurrent all w
-stale-read all w r within read cases (node, stands, costs, waits) =
+pub stale-read : (all : List Node) (w : Waiting) (r : Node) → place_of w < length all → r ≡ get_or all (place_of w) r → (r.is_expanded ≡ true) ⊎ (r.cost + estimate_of w ≢ sum_of w) → ¬ IsCurrent all w
+stale-read all w r within read cases (node, stands, sums, waits) =
     let same : r ≡ node = same_Some r node (sym (slice_get_read all (length all) (place_of w) r refl within read) ∙ stands) in
     elim cases [
       | inl expanded ↦ absurd (false≢true (sym waits ∙ sym (ap (λ (x : Node). x.is_expanded) same) ∙ expanded))
-      | inr dearer ↦ absurd (dearer (ap (λ (x : Node). x.cost) same ∙ costs))
+      | inr dearer ↦ absurd (dearer (ap (λ (x : Node). x.cost + estimate_of w) same ∙ sums))
     ]
 
 abbrev pub depth_there : Option Node → ℕ

@@ -4,7 +4,7 @@ use Rattle.std.specs.Prelude.{slice_get, Contains, All, IsPermutation, IsTrue, i
 use Rattle.std.proofs.lemmas.Bool.{false≢true}
 use Rattle.std.proofs.lemmas.Option.{same_Some, slice_get_within}
 use Rattle.std.proofs.lemmas.List.{length-set, length-append}
-use Rattle.std.proofs.lemmas.List.Elements.{All-cons, All-nil, All-weaker}
+use Rattle.std.proofs.lemmas.List.Elements.{All-cons, All-nil, All-weaker, All-contains}
 use Rattle.std.proofs.lemmas.List.Sorted.{Contains-permutation, All-permutation}
 use Rattle.std.proofs.lemmas.List.Sums.{count_by-le-length}
 use Rattle.model.proofs.ListLemmas.{Contains-here, Contains-there, Contains-cases, Contains-none, Contains-got}
@@ -12,84 +12,89 @@ use Rattle.model.specs.Runs.{System, CostsAtLeast}
 use Rattle.search.specs.declared.nodes.Node.{Node}
 use Rattle.search.specs.declared.nodes.Origin.{Origin}
 use Rattle.search.specs.Transitions.{AreApplicable}
-use Rattle.search.specs.Outcome.{IsReachableAt}
+use Rattle.search.specs.declared.turns.Turn.{Turn}
+use Rattle.search.specs.Estimates.{IsConsistent}
+use Rattle.search.specs.Outcome.{IsReachableAt, ReachingCostsAtLeast}
 use Rattle.packed_state.specs.Store.{IsPlaced}
-use Rattle.search.specs.Nodes.{Waiting, place_of, entry, depth_of, Found, found_of, expanded_count, dearest, Leads, AreNodes, IsFoundWithin, IsOpen, AreOpen, AreOpenBut, IsTurn, IsCurrent, expanded, marked}
+use Rattle.search.specs.Nodes.{Waiting, place_of, estimate_of, entry, IsEntry, IsEntryOf, depth_of, Found, found_of, expanded_count, dearest, Leads, AreNodes, IsFoundWithin, IsOpen, AreOpen, AreOpenBut, IsTurn, IsCurrent, expanded, marked}
 use Rattle.search.specs.Progress.{Continues, IsListed, TakesNext}
 use Rattle.search.proofs.Lists.{get-set_here, get-set_other, get_exists}
 use Rattle.search.proofs.Linked.{length-found_of, found_of-get, get-found_of, found_of-push, found_of-set, count-mark, updates-push, updates-set}
 use Rattle.search.proofs.Closed.{no_plan_cheaper}
 use Rattle.search.proofs.Marked.{nodes_marked, turn_marked, open_but_marked}
-use Rattle.search.proofs.NodesLemmas.{Stepped, stepped}
+use Rattle.search.proofs.Ways.{cheapest_way}
+use Rattle.search.proofs.NodesLemmas.{Stepped, stepped, reachable-push}
 
-module _ {S : Type 0} (t : System S ℕ) (states : List S) (all : List Node) (queue : List Waiting) (i : ℕ)
+module _ {S : Type 0} (t : System S ℕ) (value : S → ℕ) (states : List S) (all : List Node) (queue : List Waiting) (i : ℕ)
     (one_each : length all ≡ length states)
-    (nodes : AreNodes t (found_of states all) queue) (turn : IsTurn (found_of states all) i) (others : AreOpenBut t (found_of states all) i)
+    (nodes : AreNodes t value (found_of states all) queue) (turn : IsTurn (found_of states all) i) (others : AreOpenBut t (found_of states all) i)
     (s : S) (cost : ℕ) (origin : Origin) (parent : origin.parent.0 ≡ i) (depth : origin.depth ≡ depth_of turn.found.node.origin + 1)
     (costs : cost ≡ turn.found.node.cost + t.cost origin.action) (affordable : t.cost origin.action ≤ dearest)
     (step : t.step turn.found.state origin.action ≡ Some s) where
   -- the state is new
-  stepped_pushed : (¬ Contains states s) → (queue' : List Waiting) → IsPermutation (entry cost (length states) ∷ queue) queue'
-      → Stepped t (found_of states all) (found_of (states ++ s ∷ []) (all ++ record { cost = cost; is_expanded = false; origin = Some origin } ∷ [])) queue' i origin.action s
+  stepped_pushed : (¬ Contains states s) → (queue' : List Waiting) → IsPermutation (entry cost (value s) (length states) ∷ queue) queue'
+      → Stepped t value (found_of states all) (found_of (states ++ s ∷ []) (all ++ record { cost = cost; is_expanded = false; origin = Some origin } ∷ [])) queue' i origin.action s
   stepped_pushed is_new queue' joins =
       let reached : Node = record { cost = cost; is_expanded = false; origin = Some origin } in
       let m : Found S = record { state = s; node = reached } in
       let place : length (found_of states all) ≡ length states = length-found_of states all one_each in
       let updates = updates-push (found_of states all) m refl (λ k n at same. is_new (subst (λ x. Contains states x) same (Contains-got states k n.state (found_of-get states all k n at).0))) in
-      let joins' : IsPermutation (entry cost (length (found_of states all)) ∷ queue) queue' = subst (λ p. IsPermutation (entry cost p ∷ queue) queue') (sym place) joins in
-      subst (λ after. Stepped t (found_of states all) after queue' i origin.action s) (sym (found_of-push states all s reached one_each))
-      (stepped (found_of states all) (found_of states all ++ m ∷ []) (length (found_of states all)) m updates t i turn origin queue queue' nodes others
-      refl parent depth costs affordable step joins' (omega (arith, length-append (found_of states all) (m ∷ []))))
+      let joins' : IsPermutation (entry cost (value s) (length (found_of states all)) ∷ queue) queue' = subst (λ p. IsPermutation (entry cost (value s) p ∷ queue) queue') (sym place) joins in
+      subst (λ after. Stepped t value (found_of states all) after queue' i origin.action s) (sym (found_of-push states all s reached one_each))
+      (stepped (found_of states all) (found_of states all ++ m ∷ []) (length (found_of states all)) m updates t value i turn origin queue queue' nodes others
+      refl parent depth costs affordable step joins')
 
   pub stepped_new : (¬ Contains states s) → (states' : List S) (all' : List Node) (place : ℕ) (queue' : List Waiting)
       → states' ≡ states ++ s ∷ [] → all' ≡ all ++ record { cost = cost; is_expanded = false; origin = Some origin } ∷ [] → place ≡ length states
-      → IsPermutation (entry cost place ∷ queue) queue'
-      → (length all' ≡ length states') × Stepped t (found_of states all) (found_of states' all') queue' i origin.action s
+      → IsPermutation (entry cost (value s) place ∷ queue) queue'
+      → (length all' ≡ length states') × Stepped t value (found_of states all) (found_of states' all') queue' i origin.action s
   stepped_new is_new states' all' place queue' is_states is_all at_end joins =
       let reached : Node = record { cost = cost; is_expanded = false; origin = Some origin } in
-      let joins' : IsPermutation (entry cost (length states) ∷ queue) queue' = subst (λ p. IsPermutation (entry cost p ∷ queue) queue') at_end joins in
+      let joins' : IsPermutation (entry cost (value s) (length states) ∷ queue) queue' = subst (λ p. IsPermutation (entry cost (value s) p ∷ queue) queue') at_end joins in
       let same : found_of states' all' ≡ found_of (states ++ s ∷ []) (all ++ reached ∷ []) = cc in
       let count_states : length states' ≡ length states + 1 = ap length is_states ∙ length-append states (s ∷ []) in
       let count_all : length all' ≡ length all + 1 = ap length is_all ∙ length-append all (reached ∷ []) in (
         omega (arith, count_states, count_all, one_each),
-        subst (λ after. Stepped t (found_of states all) after queue' i origin.action s) (sym same) (stepped_pushed is_new queue' joins'),
+        subst (λ after. Stepped t value (found_of states all) after queue' i origin.action s) (sym same) (stepped_pushed is_new queue' joins'),
       )
 
   -- the state waits, and is now reached at a lower cost
-  stepped_set : (j : ℕ) (reached : Node) → slice_get states j ≡ Some s → slice_get all j ≡ Some reached → cost < reached.cost → (queue' : List Waiting) → IsPermutation (entry cost j ∷ queue) queue'
-      → Stepped t (found_of states all) (found_of states (set all j (record { cost = cost; is_expanded = reached.is_expanded; origin = Some origin }))) queue' i origin.action s
+  stepped_set : (j : ℕ) (reached : Node) → slice_get states j ≡ Some s → slice_get all j ≡ Some reached → cost < reached.cost → (queue' : List Waiting) → IsPermutation (entry cost (value s) j ∷ queue) queue'
+      → Stepped t value (found_of states all) (found_of states (set all j (record { cost = cost; is_expanded = reached.is_expanded; origin = Some origin }))) queue' i origin.action s
   stepped_set j reached is_s is_reached cheaper queue' joins =
       let n : Found S = record { state = s; node = reached } in
       let stood : slice_get (found_of states all) j ≡ Some n = get-found_of states all j s reached is_s is_reached in
+      -- there is no cheaper way to an expanded state
+      let way : IsReachableAt t s (turn.found.node.cost + t.cost origin.action) =
+      reachable-push t turn.found.state s turn.found.node.cost origin.action (nodes.reachable i turn.found turn.stands) step in
       let waited : reached.is_expanded ≡ false =
       elim (reached.is_expanded) as (λ b. reached.is_expanded ≡ b → b ≡ false) [
-        | true ↦ λ expanded. absurd (omega (arith, costs, cheaper, turn.dearest_expanded j n stood expanded))
+        | true ↦ λ expanded. absurd (omega (arith, costs, cheaper, nodes.cheapest j n stood expanded way.0 way.1, way.2))
         | false ↦ λ _. refl
       ] refl in
       let now : Node = record { cost = cost; is_expanded = reached.is_expanded; origin = Some origin } in
       let m : Found S = record { state = s; node = now } in
       let updates = updates-set (found_of states all) j n m stood waited waited refl (omega (arith, cheaper)) (λ k x at same. nodes.distinct k j x n at stood same) in
-      let within : j < length (set (found_of states all) j m) = omega (arith, length-set (found_of states all) j m, slice_get_within (found_of states all) j n stood) in
-      subst (λ after. Stepped t (found_of states all) after queue' i origin.action s) (sym (found_of-set states all j n now stood))
-      (stepped (found_of states all) (set (found_of states all) j m) j m updates t i turn origin queue queue' nodes others
-      refl parent depth costs affordable step joins within)
+      subst (λ after. Stepped t value (found_of states all) after queue' i origin.action s) (sym (found_of-set states all j n now stood))
+      (stepped (found_of states all) (set (found_of states all) j m) j m updates t value i turn origin queue queue' nodes others
+      refl parent depth costs affordable step joins)
 
   pub stepped_cheaper : (j : ℕ) (reached : Node) → slice_get states j ≡ Some s → slice_get all j ≡ Some reached → cost < reached.cost
       → (states' : List S) (all' : List Node) (queue' : List Waiting)
-      → states' ≡ states → all' ≡ set all j (record { cost = cost; is_expanded = reached.is_expanded; origin = Some origin }) → IsPermutation (entry cost j ∷ queue) queue'
-      → (length all' ≡ length states') × Stepped t (found_of states all) (found_of states' all') queue' i origin.action s
+      → states' ≡ states → all' ≡ set all j (record { cost = cost; is_expanded = reached.is_expanded; origin = Some origin }) → IsPermutation (entry cost (value s) j ∷ queue) queue'
+      → (length all' ≡ length states') × Stepped t value (found_of states all) (found_of states' all') queue' i origin.action s
   stepped_cheaper j reached is_s is_reached cheaper states' all' queue' is_states is_all joins =
       let now : Node = record { cost = cost; is_expanded = reached.is_expanded; origin = Some origin } in
       let same : found_of states' all' ≡ found_of states (set all j now) = cc in
       let count_states : length states' ≡ length states = ap length is_states in
       let count_all : length all' ≡ length all = ap length is_all ∙ length-set all j now in (
         omega (arith, count_states, count_all, one_each),
-        subst (λ after. Stepped t (found_of states all) after queue' i origin.action s) (sym same) (stepped_set j reached is_s is_reached cheaper queue' joins),
+        subst (λ after. Stepped t value (found_of states all) after queue' i origin.action s) (sym same) (stepped_set j reached is_s is_reached cheaper queue' joins),
       )
 
   -- the state is found already, at no higher cost
   stepped_known : (j : ℕ) (reached : Node) → slice_get states j ≡ Some s → slice_get all j ≡ Some reached → reached.cost ≤ cost
-      → Stepped t (found_of states all) (found_of states all) queue i origin.action s
+      → Stepped t value (found_of states all) (found_of states all) queue i origin.action s
   stepped_known j reached is_s is_reached no_dearer =
       let n : Found S = record { state = s; node = reached } in
       let stood : slice_get (found_of states all) j ≡ Some n = get-found_of states all j s reached is_s is_reached in
@@ -104,10 +109,10 @@ module _ {S : Type 0} (t : System S ℕ) (states : List S) (all : List Node) (qu
       }
 
   pub stepped_same : (j : ℕ) (reached : Node) → slice_get states j ≡ Some s → slice_get all j ≡ Some reached → reached.cost ≤ cost → (states' : List S) → states' ≡ states
-      → (length all ≡ length states') × Stepped t (found_of states all) (found_of states' all) queue i origin.action s
+      → (length all ≡ length states') × Stepped t value (found_of states all) (found_of states' all) queue i origin.action s
   stepped_same j reached is_s is_reached no_dearer states' is_states = (
     one_each ∙ sym (ap length is_states),
-    subst (λ ss. Stepped t (found_of states all) (found_of ss all) queue i origin.action s) (sym is_states) (stepped_known j reached is_s is_reached no_dearer),
+    subst (λ ss. Stepped t value (found_of states all) (found_of ss all) queue i origin.action s) (sym is_states) (stepped_known j reached is_s is_reached no_dearer),
   )
 
 -- the sums fit
@@ -116,6 +121,11 @@ pub turn_limits : {S : Type 0} (nodes : List (Found S)) (i max_states : ℕ) (tu
 turn_limits {S} nodes i max_states turn within limit =
     let count = count_by-le-length (λ (n : Found S). n.node.is_expanded) nodes in
     (omega (arith, turn.cheap, count, within, limit), omega (arith, turn.shallow, count, within, limit))
+
+-- what the action leads to from the state that stands at the place
+pub leads_from : {S : Type 0} (t : System S ℕ) (states : List S) (before one next : S) (i a : ℕ) → slice_get states i ≡ Some before → slice_get states i ≡ Some one
+    → t.step before a ≡ Some next → t.step one a ≡ Some next
+leads_from {S} t states before one next i a stands at leads = subst (λ (s : S). t.step s a ≡ Some next) (same_Some before one (sym stands ∙ at)) leads
 
 pub placed_new : {S : Type 0} (old new : List S) (s : S) (place : ℕ) (is_new : Bool) → is_new ≡ true → IsPlaced old new s place is_new → (¬ Contains old s) × (new ≡ old ++ s ∷ []) × (place ≡ length old)
 placed_new old new s place true is placed = placed
@@ -133,7 +143,7 @@ placed_first {S} old new s place false empty (at, is) =
     absurd (cc)
 
 -- the initial state alone
-module _ {S : Type 0} (t : System S ℕ) (states : List S) (all : List Node) (queue queue' : List Waiting) (s : S) (place : ℕ) where
+module _ {S : Type 0} (t : System S ℕ) (value : S → ℕ) (states : List S) (all : List Node) (queue queue' : List Waiting) (s : S) (place : ℕ) where
   one_node : Found S
   one_node = record { state = s; node = record { cost = 0; is_expanded = false; origin = None } }
 
@@ -144,14 +154,16 @@ module _ {S : Type 0} (t : System S ℕ) (states : List S) (all : List Node) (qu
   each : (P : ℕ → Found S → Type 0) → P 0 one_node → (k : ℕ) (n : Found S) → slice_get (one_node ∷ []) k ≡ Some n → P k n
   each P one k n at = let is = only k n at in subst (λ i. P i n) (sym is.0) (subst (λ x. P 0 x) is.1 one)
 
-  pub nodes_start : states ≡ s ∷ [] → all ≡ record { cost = 0; is_expanded = false; origin = None } ∷ [] → s ≡ t.initial → place ≡ 0 → queue ≡ [] → IsPermutation (entry 0 place ∷ queue) queue'
-      → (length all ≡ length states) × AreNodes t (found_of states all) queue'
+  pub nodes_start : states ≡ s ∷ [] → all ≡ record { cost = 0; is_expanded = false; origin = None } ∷ [] → s ≡ t.initial → place ≡ 0 → queue ≡ [] → IsPermutation (entry 0 (value s) place ∷ queue) queue'
+      → (length all ≡ length states) × AreNodes t value (found_of states all) queue'
   unfolding one_node
   nodes_start is_states is_all initial first empty joins =
       let nodes : found_of states all ≡ one_node ∷ [] = cc in
-      let joins' : IsPermutation (entry 0 0 ∷ []) queue' = subst (λ q. IsPermutation (entry 0 0 ∷ q) queue') empty (subst (λ p. IsPermutation (entry 0 p ∷ queue) queue') first joins) in (
+      let only_entry = entry 0 (value s) 0 in
+      let joins' : IsPermutation (only_entry ∷ []) queue' = subst (λ q. IsPermutation (only_entry ∷ q) queue') empty (subst (λ p. IsPermutation (entry 0 (value s) p ∷ queue) queue') first joins) in
+      let of : IsEntryOf value (one_node ∷ []) only_entry = record { found = one_node; stands = refl; estimate = refl; part = omega arith } in (
         ap length is_all ∙ sym (ap length is_states),
-        subst (λ ns. AreNodes t ns queue') (sym nodes) (record {
+        subst (λ ns. AreNodes t value ns queue') (sym nodes) (record {
           root = (one_node, refl, initial, refl);
           only_root = λ k n at _. (only k n at).0;
           linked = λ k n o. each (λ k n. n.node.origin ≡ Some o → Leads t (one_node ∷ []) n o) (λ is. absurd (cc)) k n;
@@ -160,10 +172,12 @@ module _ {S : Type 0} (t : System S ℕ) (states : List S) (all : List Node) (qu
           shallow = each (λ k n. depth_of n.node.origin ≤ expanded_count (one_node ∷ [])) (omega arith);
           reachable = each (λ k n. IsReachableAt t n.state n.node.cost) ([], ap Some (sym initial), refl);
           no_goal = each (λ k n. n.node.is_expanded ≡ true → t.meets_goal n.state ≡ false) (λ expanded. absurd (false≢true expanded));
-          no_dearer = each (λ k n. n.node.is_expanded ≡ true → CostsAtLeast t n.node.cost) (λ expanded. absurd (false≢true expanded));
-          ordered = λ j k m n at_j at_k expanded _. absurd (false≢true (ap (λ (x : Found S). x.node.is_expanded) (only j m at_j).1 ∙ expanded));
-          queued = each (λ k n. n.node.is_expanded ≡ false → Contains queue' (entry n.node.cost k)) (λ _. Contains-permutation (entry 0 0 ∷ []) queue' (entry 0 0) joins' (Contains-here (entry 0 0) []));
-          in_range = All-permutation (λ w. place_of w < 1) (entry 0 0 ∷ []) queue' joins' (All-cons (λ w. place_of w < 1) (entry 0 0) [] (omega arith) (All-nil (λ w. place_of w < 1)));
+          no_dearer = each (λ k n. n.node.is_expanded ≡ true → CostsAtLeast t (n.node.cost + value n.state)) (λ expanded. absurd (false≢true expanded));
+          cheapest = each (λ k n. n.node.is_expanded ≡ true → ReachingCostsAtLeast t n.state n.node.cost) (λ expanded. absurd (false≢true expanded));
+          queued = each (λ k n. n.node.is_expanded ≡ false → Contains queue' (entry n.node.cost (value n.state) k))
+              (λ _. Contains-permutation (only_entry ∷ []) queue' only_entry joins' (Contains-here only_entry []));
+          entries = All-permutation (IsEntryOf value (one_node ∷ [])) (only_entry ∷ []) queue' joins'
+              (All-cons (IsEntryOf value (one_node ∷ [])) only_entry [] of (All-nil (IsEntryOf value (one_node ∷ []))));
         }),
       )
 
@@ -226,40 +240,54 @@ stands_still states states' all all' i n s at continues stands =
     (found_of-get states' all' i n (continues.stays n at)).0 ∙ sym (found_of-get states all i n at).0 ∙ stands
 
 -- whose turn it is
-module _ {S : Type 0} (t : System S ℕ) (states : List S) (all : List Node) (queue : List Waiting)
-    (one_each : length all ≡ length states) (nodes : AreNodes t (found_of states all) queue) where
+module _ {S : Type 0} (t : System S ℕ) (value : S → ℕ) (states : List S) (all : List Node) (queue : List Waiting)
+    (one_each : length all ≡ length states) (nodes : AreNodes t value (found_of states all) queue) where
+  -- the entries are of the nodes
+  pub entries_of : All (IsEntry (length all)) queue
+  entries_of =
+      All-weaker (IsEntryOf value (found_of states all)) (IsEntry (length all))
+      (λ w of. (omega (arith, slice_get_within (found_of states all) (place_of w) of.found of.stands, length-found_of states all one_each, one_each), of.part)) queue nodes.entries
+
   -- a node that waits has a current entry
-  current_entry : (k : ℕ) (n : Found S) → slice_get (found_of states all) k ≡ Some n → n.node.is_expanded ≡ false → IsCurrent all (entry n.node.cost k)
+  current_entry : (k : ℕ) (n : Found S) → slice_get (found_of states all) k ≡ Some n → n.node.is_expanded ≡ false → IsCurrent all (entry n.node.cost (value n.state) k)
   current_entry k n at waits = (n.node, (found_of-get states all k n at).1, refl, waits)
 
   pub none_waits : ((w : Waiting) → Contains queue w → ¬ IsCurrent all w) → (k : ℕ) (n : Found S) → slice_get (found_of states all) k ≡ Some n → n.node.is_expanded ≡ false → ⊥
-  none_waits none k n at waits = none (entry n.node.cost k) (nodes.queued k n at waits) (current_entry k n at waits)
+  none_waits none k n at waits = none (entry n.node.cost (value n.state) k) (nodes.queued k n at waits) (current_entry k n at waits)
 
-  pub at_turn : (queue' : List Waiting) (i : ℕ) → TakesNext queue queue' all i
-      → (n : Found S) × (slice_get (found_of states all) i ≡ Some n) × (n.node.is_expanded ≡ false)
-      × ((k : ℕ) (m : Found S) → slice_get (found_of states all) k ≡ Some m → m.node.is_expanded ≡ false → n.node.cost ≤ m.node.cost)
-      × ((k : ℕ) (m : Found S) → slice_get (found_of states all) k ≡ Some m → m.node.is_expanded ≡ false → k ≢ i → Contains queue' (entry m.node.cost k))
-  at_turn queue' i takes =
-      let (node, stands, costs, waits) = takes.current in
+  pub at_turn : (queue' : List Waiting) (turn : Turn) → TakesNext queue queue' all turn
+      → (n : Found S) × (slice_get (found_of states all) turn.id.0 ≡ Some n) × (n.node.is_expanded ≡ false)
+      × ((k : ℕ) (m : Found S) → slice_get (found_of states all) k ≡ Some m → m.node.is_expanded ≡ false → n.node.cost + value n.state ≤ m.node.cost + value m.state)
+      × ((k : ℕ) (m : Found S) → slice_get (found_of states all) k ≡ Some m → m.node.is_expanded ≡ false → k ≢ turn.id.0 → Contains queue' (entry m.node.cost (value m.state) k))
+      × (turn.estimate ≡ value n.state)
+  at_turn queue' turn takes =
+      let i = turn.id.0 in
+      let (node, stands, sums, waits) = takes.current in
+      let of = All-contains (IsEntryOf value (found_of states all)) queue takes.next nodes.entries takes.among in
       let is_node : slice_get all i ≡ Some node = ap (slice_get all) (sym takes.stands) ∙ stands in
-      let s = get_exists states i (omega (arith, slice_get_within all i node is_node)) in (
-        record { state = s.0; node = node },
-        get-found_of states all i s.0 node s.1 is_node,
+      let s = get_exists states i (omega (arith, slice_get_within all i node is_node)) in
+      let one : Found S = record { state = s.0; node = node } in
+      let at_one : slice_get (found_of states all) i ≡ Some one = get-found_of states all i s.0 node s.1 is_node in
+      let same : of.found ≡ one = same_Some of.found one (sym of.stands ∙ ap (slice_get (found_of states all)) takes.stands ∙ at_one) in
+      let estimate : estimate_of takes.next ≡ value one.state = of.estimate ∙ ap (λ (x : Found S). value x.state) same in (
+        one,
+        at_one,
         waits,
-        (λ k m at waits. subst (λ c. c ≤ m.node.cost) (sym costs) (takes.cheapest (entry m.node.cost k) (nodes.queued k m at waits) (current_entry k m at waits))),
-        (λ k m at waits elsewhere. takes.rest (entry m.node.cost k) (nodes.queued k m at waits) (current_entry k m at waits) elsewhere),
+        (λ k m at waits. omega (arith, sums, estimate, takes.least (entry m.node.cost (value m.state) k) (nodes.queued k m at waits) (current_entry k m at waits))),
+        (λ k m at waits elsewhere. takes.rest (entry m.node.cost (value m.state) k) (nodes.queued k m at waits) (current_entry k m at waits) elsewhere),
+        sym takes.estimate ∙ estimate,
       )
 
 -- a turn begins
-module _ {S : Type 0} (t : System S ℕ) (states : List S) (all : List Node) (queue queue' : List Waiting)
-    (one_each : length all ≡ length states) (nodes : AreNodes t (found_of states all) queue)
+module _ {S : Type 0} (t : System S ℕ) (value : S → ℕ) (consistent : IsConsistent t value) (states : List S) (all : List Node) (queue queue' : List Waiting)
+    (one_each : length all ≡ length states) (nodes : AreNodes t value (found_of states all) queue)
     (i : ℕ) (one : Found S) (stands : slice_get (found_of states all) i ≡ Some one) (waits : one.node.is_expanded ≡ false)
-    (cheapest : (k : ℕ) (n : Found S) → slice_get (found_of states all) k ≡ Some n → n.node.is_expanded ≡ false → one.node.cost ≤ n.node.cost)
-    (rest : (k : ℕ) (n : Found S) → slice_get (found_of states all) k ≡ Some n → n.node.is_expanded ≡ false → k ≢ i → Contains queue' (entry n.node.cost k))
-    (in_range : All (λ w. place_of w < length (found_of states all)) queue') where
+    (least : (k : ℕ) (n : Found S) → slice_get (found_of states all) k ≡ Some n → n.node.is_expanded ≡ false → one.node.cost + value one.state ≤ n.node.cost + value n.state)
+    (rest : (k : ℕ) (n : Found S) → slice_get (found_of states all) k ≡ Some n → n.node.is_expanded ≡ false → k ≢ i → Contains queue' (entry n.node.cost (value n.state) k))
+    (entries : All (IsEntryOf value (found_of states all)) queue') where
   pub turn_begins : t.meets_goal one.state ≡ false → AreOpen t (found_of states all) → (states' : List S) (all' : List Node)
       → states' ≡ states → all' ≡ set all i (expanded one.node)
-      → (length all' ≡ length states') × AreNodes t (found_of states' all') queue' × IsTurn (found_of states' all') i
+      → (length all' ≡ length states') × AreNodes t value (found_of states' all') queue' × IsTurn (found_of states' all') i
       × AreOpenBut t (found_of states' all') i × (slice_get (found_of states' all') i ≡ Some (marked one)) × (expanded_count (found_of states' all') ≡ expanded_count (found_of states all) + 1)
   turn_begins no_goal are_open states' all' is_states is_all =
       let now : Node = expanded one.node in
@@ -271,15 +299,14 @@ module _ {S : Type 0} (t : System S ℕ) (states : List S) (all : List Node) (qu
       let others : (k : ℕ) → k ≢ i → slice_get after k ≡ slice_get (found_of states all) k =
       λ k elsewhere. ap (λ (ns : List (Found S)). slice_get ns k) is ∙ get-set_other (found_of states all) i (marked one) k elsewhere in
       let count : expanded_count after ≡ expanded_count (found_of states all) + 1 = ap expanded_count is ∙ count-mark (found_of states all) i one stands waits in
-      let long : length after ≡ length (found_of states all) = ap length is ∙ length-set (found_of states all) i (marked one) in
-      let all_in : All (λ w. place_of w < length after) queue' = All-weaker (λ w. place_of w < length (found_of states all)) (λ w. place_of w < length after) (λ w lt. omega (arith, lt, long)) queue' in_range in
       let count_states : length states' ≡ length states = ap length is_states in
-      let count_all : length all' ≡ length all = ap length is_all ∙ length-set all i now in (
+      let count_all : length all' ≡ length all = ap length is_all ∙ length-set all i now in
+      let way = cheapest_way t value consistent (found_of states all) are_open (one.node.cost + value one.state) least queue nodes i one stands (omega arith) in (
         omega (arith, count_states, count_all, one_each),
-        nodes_marked (found_of states all) after i one stands waits here others count t queue queue' nodes cheapest no_goal
-            (no_plan_cheaper t states all one_each queue nodes one are_open cheapest) rest all_in,
-        turn_marked (found_of states all) after i one stands waits here others count t queue queue' nodes cheapest,
-        open_but_marked (found_of states all) after i one stands waits here others count t queue queue' nodes cheapest are_open,
+        nodes_marked (found_of states all) after i one stands waits here others count t value queue queue' nodes no_goal
+            (no_plan_cheaper t value states all one_each queue nodes consistent one are_open least) way rest entries,
+        turn_marked (found_of states all) after i one stands waits here others count t value queue queue' nodes,
+        open_but_marked (found_of states all) after i one stands waits here others count t value queue queue' nodes are_open,
         here,
         count,
       )

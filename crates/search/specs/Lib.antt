@@ -1,3 +1,4 @@
+pub mod Estimates
 pub mod Transitions
 pub mod Outcome
 pub mod Nodes

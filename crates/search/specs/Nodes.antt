@@ -5,24 +5,31 @@ use Rattle.model.specs.Runs.{System, CostsAtLeast}
 use Rattle.search.specs.declared.nodes.StateId.{StateId}
 use Rattle.search.specs.declared.nodes.Node.{Node}
 use Rattle.search.specs.declared.nodes.Origin.{Origin}
-use Rattle.search.specs.Outcome.{IsReachableAt}
+use Rattle.search.specs.Outcome.{IsReachableAt, ReachingCostsAtLeast}
 
--- a waiting state and its cost, as the queue holds them
+-- a waiting state as the queue holds it: the sum of its cost and its estimate, the estimate, and its place
 abbrev pub Waiting : Type 0
-Waiting = Reverse (ℕ × StateId)
+Waiting = Reverse (ℕ × ℕ × StateId)
 
-abbrev pub cost_of : Waiting → ℕ
-cost_of w = w.0.0
+abbrev pub sum_of : Waiting → ℕ
+sum_of w = w.0.0
+
+abbrev pub estimate_of : Waiting → ℕ
+estimate_of w = w.0.1
 
 abbrev pub place_of : Waiting → ℕ
-place_of w = w.0.1.0
+place_of w = w.0.2.0
 
-abbrev pub entry : ℕ → ℕ → Waiting
-entry cost place = record { 0 = (cost, record { 0 = place }) }
+abbrev pub entry : ℕ → ℕ → ℕ → Waiting
+entry cost estimate place = record { 0 = (cost + estimate, estimate, record { 0 = place }) }
+
+-- the entry's place is below this count, and its estimate is a part of its sum
+abbrev pub IsEntry : ℕ → Waiting → Type 0
+IsEntry count w = (place_of w < count) × (estimate_of w ≤ sum_of w)
 
 -- the entry tells at what cost a state waits now
 abbrev pub IsCurrent : List Node → Waiting → Type 0
-IsCurrent nodes w = (node : Node) × (slice_get nodes (place_of w) ≡ Some node) × (node.cost ≡ cost_of w) × (node.is_expanded ≡ false)
+IsCurrent nodes w = (node : Node) × (slice_get nodes (place_of w) ≡ Some node) × (node.cost + estimate_of w ≡ sum_of w) × (node.is_expanded ≡ false)
 
 -- how many actions lead to a state, by its origin
 abbrev pub depth_of : Option Origin → ℕ
@@ -39,6 +46,13 @@ abbrev pub found_of : {S : Type 0} → List S → List Node → List (Found S)
 found_of [] nodes = []
 found_of (s ∷ states) [] = []
 found_of (s ∷ states) (node ∷ nodes) = record { state = s; node = node } ∷ found_of states nodes
+
+-- the entry is one of a found state, with the state's estimate
+pub record IsEntryOf {S : Type 0} (value : S → ℕ) (nodes : List (Found S)) (w : Waiting) : Type 0 where
+  pub found : Found S
+  pub stands : slice_get nodes (place_of w) ≡ Some found
+  pub estimate : estimate_of w ≡ value found.state
+  pub part : estimate_of w ≤ sum_of w
 
 -- how many are expanded
 abbrev pub expanded_count : {S : Type 0} → List (Found S) → ℕ
@@ -58,8 +72,8 @@ module _ {S : Type 0} (t : System S ℕ) (nodes : List (Found S)) where
 abbrev pub dearest : ℕ
 dearest = 4294967295
 
-module _ {S : Type 0} (t : System S ℕ) (nodes : List (Found S)) where
-  -- What holds of the found states at any time. Those that wait are in the queue, at their cost.
+module _ {S : Type 0} (t : System S ℕ) (value : S → ℕ) (nodes : List (Found S)) where
+  -- What holds of the found states at any time. Those that wait are in the queue, at their cost and with their estimate.
   pub record AreNodes (queue : List Waiting) : Type 0 where
     pub root : (n : Found S) × (slice_get nodes 0 ≡ Some n) × (n.state ≡ t.initial) × (n.node.cost ≡ 0)
     pub only_root : (k : ℕ) (n : Found S) → slice_get nodes k ≡ Some n → n.node.origin ≡ None → k ≡ 0
@@ -69,10 +83,10 @@ module _ {S : Type 0} (t : System S ℕ) (nodes : List (Found S)) where
     pub shallow : (k : ℕ) (n : Found S) → slice_get nodes k ≡ Some n → depth_of n.node.origin ≤ expanded_count nodes
     pub reachable : (k : ℕ) (n : Found S) → slice_get nodes k ≡ Some n → IsReachableAt t n.state n.node.cost
     pub no_goal : (k : ℕ) (n : Found S) → slice_get nodes k ≡ Some n → n.node.is_expanded ≡ true → t.meets_goal n.state ≡ false
-    pub no_dearer : (k : ℕ) (n : Found S) → slice_get nodes k ≡ Some n → n.node.is_expanded ≡ true → CostsAtLeast t n.node.cost
-    pub ordered : (j k : ℕ) (m n : Found S) → slice_get nodes j ≡ Some m → slice_get nodes k ≡ Some n → m.node.is_expanded ≡ true → n.node.is_expanded ≡ false → m.node.cost ≤ n.node.cost
-    pub queued : (k : ℕ) (n : Found S) → slice_get nodes k ≡ Some n → n.node.is_expanded ≡ false → Contains queue (entry n.node.cost k)
-    pub in_range : All (λ w. place_of w < length nodes) queue
+    pub no_dearer : (k : ℕ) (n : Found S) → slice_get nodes k ≡ Some n → n.node.is_expanded ≡ true → CostsAtLeast t (n.node.cost + value n.state)
+    pub cheapest : (k : ℕ) (n : Found S) → slice_get nodes k ≡ Some n → n.node.is_expanded ≡ true → ReachingCostsAtLeast t n.state n.node.cost
+    pub queued : (k : ℕ) (n : Found S) → slice_get nodes k ≡ Some n → n.node.is_expanded ≡ false → Contains queue (entry n.node.cost (value n.state) k)
+    pub entries : All (IsEntryOf value nodes) queue
 
 -- the state is found, at no more than this cost
 abbrev pub IsFoundWithin : {S : Type 0} → List (Found S) → S → ℕ → Type 0
@@ -90,15 +104,13 @@ AreOpen {S} t nodes = (k : ℕ) (n : Found S) → slice_get nodes k ≡ Some n �
 abbrev pub AreOpenBut : {S : Type 0} → System S ℕ → List (Found S) → ℕ → Type 0
 AreOpenBut {S} t nodes i = (k : ℕ) (n : Found S) → slice_get nodes k ≡ Some n → n.node.is_expanded ≡ true → k ≢ i → IsOpen t nodes n
 
--- the node at this place was the cheapest to wait, and is being expanded
+-- the node at this place is being expanded
 pub record IsTurn {S : Type 0} (nodes : List (Found S)) (i : ℕ) : Type 0 where
   pub found : Found S
   pub stands : slice_get nodes i ≡ Some found
   pub is_expanded : found.node.is_expanded ≡ true
   pub cheap : found.node.cost + dearest ≤ expanded_count nodes * dearest
   pub shallow : depth_of found.node.origin + 1 ≤ expanded_count nodes
-  pub dearest_expanded : (k : ℕ) (n : Found S) → slice_get nodes k ≡ Some n → n.node.is_expanded ≡ true → n.node.cost ≤ found.node.cost
-  pub cheapest : (k : ℕ) (n : Found S) → slice_get nodes k ≡ Some n → n.node.is_expanded ≡ false → found.node.cost ≤ n.node.cost
 
 -- Beside one place, at which a node is new or now cheaper, the nodes are the same.
 pub record Updates {S : Type 0} (nodes after : List (Found S)) (j : ℕ) (m : Found S) : Type 0 where

@@ -1,7 +1,9 @@
-//! Search for a cheapest plan of a transition system, by expanding states in the order of their cost.
+//! Search for a cheapest plan of a transition system, by expanding states in the order of their cost and estimate.
 ghost use Rattle.std.specs.Prelude.{◌≡◌, ◌≤◌, [], IfOk};
+ghost use Rattle.search.specs.Estimates.{value_by};
 ghost use Rattle.search.specs.Outcome.{IsTrueOutcome};
 
+use crate::estimates::Estimate;
 use crate::nodes::FoundStates;
 use crate::progress::{Buffers, Progress};
 use crate::transitions::TransitionSystem;
@@ -33,60 +35,64 @@ pub enum Outcome<S> {
     States,
 }
 
-/// Searches for a cheapest plan, by uniform-cost search (Russell & Norvig, Artificial Intelligence, section 3.4.2):
-/// Dijkstra's algorithm (A Note on Two Problems in Connexion with Graphs, 1959, problem 2) from the initial state to
-/// a nearest goal state, over states that are listed only as they are found. The state that is expanded next is one
-/// of the least cost so far, and among these the one that was found first. A goal state is answered when its turn
-/// comes.
+/// Searches for a cheapest plan, by A* (Hart, Nilsson & Raphael, A Formal Basis for the Heuristic Determination of Minimum
+/// Cost Paths, 1968; Russell & Norvig, Artificial Intelligence, section 3.5.2), over states that are listed only as they
+/// are found. The state that is expanded next is one of the least sum of cost so far and estimate; among these, one of the
+/// least estimate; and among these the one that was found first. A goal state is answered when its turn comes. With the
+/// estimate 0 (`NoEstimate`) that is uniform-cost search, or Dijkstra's algorithm.
 ///
 /// What differs from these: the states stand in a store, in the order in which they were found, and are named by
 /// their places there; actions are the system's numbers. Where a cheaper way to a waiting state is found, the old entry
-/// stays in the queue beside the new one, and is passed over when it comes up (lazy deletion). At most `max_states`
-/// states are listed: where one more would have to be, the answer is `States`. Each turn writes into the same buffers,
-/// so that a state takes no memory but its place in the store, among the nodes and in the queue.
+/// stays in the queue beside the new one, and is passed over when it comes up (lazy deletion). To an expanded state there
+/// is no cheaper way, since an estimate is consistent. At most `max_states` states are listed: where one more would have
+/// to be, the answer is `States`. Each turn writes into the same buffers, so that a state takes no memory but its place in
+/// the store, among the nodes and in the queue.
 ///
 /// The clause promises what costs decide. A plan that is found is a cheapest one. `States` is told only where more
-/// states than the limit are next to one that is no dearer than any plan (`PrecedesPlans`): where there are no more of
-/// these, the answer is a plan, or that there is none. The clause leaves open which of several cheapest plans is
-/// answered, which states that cost as much as these are expanded before, and the order of the states in the store.
-/// Of that order, the contract of `next_waiting` says that it gives the state found first of those that cost least;
-/// that this is the one to be expanded or answered, and that states are found in the order of the successors, is
-/// shown by tests alone.
+/// states than the limit are next to one that is, with its estimate, no dearer than any plan (`PrecedesPlans`): where there
+/// are no more of these, the answer is a plan, or that there is none. The clause leaves open which of several cheapest plans
+/// is answered, which states whose sum is as much as these cost are expanded before, and the order of the states in the
+/// store. Of that order, the contract of `next_waiting` says that it gives the state found first of those of the least
+/// estimate of those of the least sum; that this is the one to be expanded or answered, and that states are found in the
+/// order of the successors, is shown by tests alone.
 ///
 /// ```text
 /// let store = PooledStore::new(alloc, system.width())?;
-/// match best_first(alloc, &system, store, 1_000_000)? {
+/// match best_first(alloc, &system, &NoEstimate(&system), store, 1_000_000)? {
 ///     Outcome::Found { steps, cost, states } => ..,
 ///     Outcome::Exhausted { states } => ..,
 ///     Outcome::States => ..,
 /// }
 /// ```
-pub fn best_first<T: TransitionSystem, S: StateStore>(
+pub fn best_first<T: TransitionSystem, E: Estimate, S: StateStore>(
     alloc: Global,
     system: &T,
+    estimate: &E,
     store: S,
     max_states: u32,
 ) -> Result<Outcome<S>, NoMemory>
+    requires made_for { E.system_of estimate.now ≡ T.means system.now }
+    requires estimate_width { E.width_of estimate.now ≡ T.width_of system.now }
     requires empty { S.states store ≡ [] }
     requires width { S.width_of store ≡ T.width_of system.now }
     requires some { 1 ≤ max_states }
     requires limit { max_states ≤ MAX_STATES }
-    ensures { IfOk result (IsTrueOutcome (T.means system.now) S.states max_states) }
+    ensures { IfOk result (IsTrueOutcome (T.means system.now) (value_by (E.score_of estimate.now)) S.states max_states) }
 {
     let mut buffers = Buffers::new(alloc, system.width())?;
-    let mut progress = Progress::start(alloc, system, store)?;
-    while let Some(id) = progress.next_waiting() {
-        progress.store.get(id.0, &mut buffers.state);
+    let mut progress = Progress::start(alloc, system, estimate, store)?;
+    while let Some(turn) = progress.next_waiting() {
+        progress.store.get(turn.id.0, &mut buffers.state);
         if system.meets_goal(&buffers.state) {
-            let cost = progress.nodes[id.0 as usize].cost;
-            let (steps, states) = progress.into_plan(alloc, id)?;
+            let cost = progress.nodes[turn.id.0 as usize].cost;
+            let (steps, states) = progress.into_plan(alloc, turn.id)?;
             return Ok(Outcome::Found {
                 steps,
                 cost,
                 states,
             });
         }
-        if !progress.expand(system, &mut buffers, id, max_states)? {
+        if !progress.expand(system, estimate, &mut buffers, turn, max_states)? {
             return Ok(Outcome::States);
         }
     }

@@ -2,10 +2,13 @@
 #![tactic(auto)]
 
 mod best;
+mod estimates;
 mod nodes;
 mod progress;
 mod transitions;
+mod turns;
 
 pub use best::{MAX_STATES, Outcome, best_first};
+pub use estimates::{Estimate, NoEstimate, value_of};
 pub use nodes::{FoundStates, Node, StateId};
 pub use transitions::TransitionSystem;

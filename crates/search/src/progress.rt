@@ -1,30 +1,34 @@
 //! How far a search has come: the states found so far, and which of them wait to be expanded.
-ghost use Rattle.std.specs.Prelude.{◌≡◌, ◌≢◌, ℕ, ◌+◌, ◌<◌, ◌≤◌, true, false, List, [], ◌∷◌, ◌++◌, length, slice_get, slice_set, Contains, All, MatchBool, MatchOption, IfOk, IfNone, IfSome, OnOk, Some, None};
+ghost use Rattle.std.specs.Prelude.{◌≡◌, ◌≢◌, ℕ, ◌+◌, ◌<◌, ◌≤◌, ◌^◌, true, false, List, [], ◌∷◌, ◌++◌, length, slice_get, slice_set, Contains, All, MatchBool, MatchOption, IfOk, IfNone, IfSome, OnOk, Some, None};
 ghost use Rattle.std.specs.BinaryHeap.{IsHeap, heap_items};
 ghost use Rattle.packed_state.specs.Packed.{bits_of};
 ghost use Rattle.packed_state.specs.Store.{IsPlaced};
+ghost use Rattle.search.specs.Estimates.{value_by};
 ghost use Rattle.search.specs.Outcome.{AreMoreReachable};
-ghost use Rattle.search.specs.Nodes.{Waiting, place_of, entry, IsCurrent, expanded_count, AreOpen, AreDescending, IsPath};
-ghost use Rattle.search.specs.Progress.{by_cost, TakesNext, Joins, nodes_in, IsSearch, IsAtTurn, IsExpanding, Reaches, Expands, AreWide};
+ghost use Rattle.search.specs.Nodes.{Waiting, entry, IsEntry, IsCurrent, AreOpen, AreDescending, IsPath};
+ghost use Rattle.search.specs.Progress.{by_sum, TakesNext, Joins, nodes_in, IsSearch, IsAtTurn, IsExpanding, Reaches, Expands, AreWide};
 
 use crate::best::MAX_STATES;
+use crate::estimates::{Estimate, value_in};
 use crate::nodes::{FoundStates, Node, Origin, StateId, steps_to};
 use crate::transitions::TransitionSystem;
+use crate::turns::{Parent, Turn};
 use faults::NoMemory;
 use packed_state::{Packed, StateStore};
 use std::alloc::Global;
 use std::cmp::Reverse;
 use std::collections::BinaryHeap;
 
-/// A waiting state at its cost: the cheapest, and among these the one found first, is the greatest.
-pub(crate) type QueueEntry = Reverse<(u64, StateId)>;
+/// A waiting state: the sum of its cost and its estimate, the estimate, and its place. The one that comes next is the
+/// greatest: of the least sum, then of the least estimate, then the one found first.
+pub(crate) type QueueEntry = Reverse<(u64, u64, StateId)>;
 
 /// How far a search has come.
 #[derive(Drop)]
 pub(crate) struct Progress<S> {
     pub(crate) store: S,
     pub(crate) nodes: Vec<Node>,
-    /// Each waiting state at its cost, beside entries that are stale: a cheaper way was found, or it was expanded.
+    /// Each waiting state, beside entries that are stale: a cheaper way was found, or it was expanded.
     pub(crate) queue: BinaryHeap<QueueEntry>,
 }
 
@@ -79,80 +83,109 @@ fn place_of_state<S: StateStore>(
 
 impl<S: StateStore> Progress<S> {
     /// The initial state alone is found, and waits.
-    pub(crate) fn start<T: TransitionSystem>(
+    pub(crate) fn start<T: TransitionSystem, E: Estimate>(
         alloc: Global,
         system: &T,
+        estimate: &E,
         mut store: S,
     ) -> Result<Progress<S>, NoMemory>
+        requires estimate_width { E.width_of estimate.now ≡ T.width_of system.now }
         requires empty { S.states store ≡ [] }
         requires width { S.width_of store ≡ T.width_of system.now }
-        ensures search { IfOk result (λ p. IsSearch (T.means system.now) S.states p) }
+        ensures search { IfOk result (λ p. IsSearch (T.means system.now) (value_by (E.score_of estimate.now)) S.states p) }
         ensures open { IfOk result (λ p. AreOpen (T.means system.now) (nodes_in S.states p)) }
         ensures one { IfOk result (λ p. length (S.states p.store) ≡ 1) }
         ensures width { IfOk result (λ p. S.width_of p.store ≡ T.width_of system.now) }
     {
-        let (place, _) = store.insert_if_new(&system.initial(alloc)?)?;
+        let initial = system.initial(alloc)?;
+        let (place, _) = store.insert_if_new(&initial)?;
         let mut progress = Progress {
             store,
             nodes: Vec::new(alloc),
             queue: BinaryHeap::new(alloc),
         };
-        progress.add(StateId(place), 0, None)?;
+        let value = value_in(estimate, &initial);
+        progress.add(StateId(place), 0, value, None)?;
         Ok(progress)
     }
 
-    /// The waiting state of the least cost and, among these, the one found first. It leaves the queue.
-    pub(crate) fn next_waiting(&mut self) -> Option<StateId>
-        requires heap { IsHeap by_cost (heap_items self.old.queue) }
-        requires in_range { All (λ w. place_of w < length self.old.nodes.items) (heap_items self.old.queue) }
+    /// The waiting state of the least sum of cost and estimate, among these of the least estimate and, among these, the one
+    /// found first. It leaves the queue.
+    pub(crate) fn next_waiting(&mut self) -> Option<Turn>
+        requires heap { IsHeap by_sum (heap_items self.old.queue) }
+        requires entries { All (IsEntry (length self.old.nodes.items)) (heap_items self.old.queue) }
         ensures store { self.new.store ≡ self.old.store }
         ensures nodes { self.new.nodes.items ≡ self.old.nodes.items }
-        ensures heap { IsHeap by_cost (heap_items self.new.queue) }
-        ensures in_range { All (λ w. place_of w < length self.old.nodes.items) (heap_items self.new.queue) }
+        ensures heap { IsHeap by_sum (heap_items self.new.queue) }
+        ensures kept { (w : Waiting) → Contains (heap_items self.new.queue) w → Contains (heap_items self.old.queue) w }
         ensures none { IfNone result ((w : Waiting) →
             Contains (heap_items self.old.queue) w → ¬ IsCurrent self.old.nodes.items w) }
         ensures some { IfSome result
-            (λ id. TakesNext (heap_items self.old.queue) (heap_items self.new.queue) self.old.nodes.items id.0) }
+            (λ turn. TakesNext (heap_items self.old.queue) (heap_items self.new.queue) self.old.nodes.items turn) }
     {
-        while let Some(Reverse((cost, id))) = self.queue.pop() {
+        while let Some(Reverse((sum, estimate, id))) = self.queue.pop() {
             let node = self.nodes[id.0 as usize];
-            if !node.is_expanded && node.cost == cost {
-                return Some(id);
+            if !node.is_expanded && node.cost == sum - estimate {
+                return Some(Turn { id, estimate });
             }
         }
         None
     }
 
     /// A new state waits.
-    fn add(&mut self, id: StateId, cost: u64, origin: Option<Origin>) -> Result<(), NoMemory>
+    fn add(
+        &mut self,
+        id: StateId,
+        cost: u64,
+        estimate: u64,
+        origin: Option<Origin>,
+    ) -> Result<(), NoMemory>
+        requires { cost + estimate < 2 ^ 64 }
         ensures store { self.new.store ≡ self.old.store }
         ensures nodes { OnOk result (self.new.nodes.items
             ≡ self.old.nodes.items ++ record { cost = cost; is_expanded = false; origin = origin } ∷ []) }
         ensures queue { OnOk result
-            (Joins (heap_items self.old.queue) (heap_items self.new.queue) (entry cost id.0)) }
+            (Joins (heap_items self.old.queue) (heap_items self.new.queue) (entry cost estimate id.0)) }
     {
         self.nodes.push(Node {
             cost,
             is_expanded: false,
             origin,
         })?;
-        self.queue.push(Reverse((cost, id)))?;
-        Ok(())
+        self.enqueue(id, cost, estimate)
     }
 
     /// A cheaper way to a waiting state is kept in place of the dearer.
-    fn improve(&mut self, id: StateId, cost: u64, origin: Origin) -> Result<(), NoMemory>
-        requires { id.0 < length self.old.nodes.items }
+    fn improve(
+        &mut self,
+        id: StateId,
+        cost: u64,
+        estimate: u64,
+        origin: Origin,
+    ) -> Result<(), NoMemory>
+        requires found { id.0 < length self.old.nodes.items }
+        requires sum { cost + estimate < 2 ^ 64 }
         ensures store { self.new.store ≡ self.old.store }
         ensures nodes { (node : _) → slice_get self.old.nodes.items id.0 ≡ Some node
             → self.new.nodes.items ≡ slice_set self.old.nodes.items id.0 (record node { cost = cost; origin = Some origin }) }
         ensures queue { OnOk result
-            (Joins (heap_items self.old.queue) (heap_items self.new.queue) (entry cost id.0)) }
+            (Joins (heap_items self.old.queue) (heap_items self.new.queue) (entry cost estimate id.0)) }
     {
         let node = &mut self.nodes[id.0 as usize];
         node.cost = cost;
         node.origin = Some(origin);
-        self.queue.push(Reverse((cost, id)))?;
+        self.enqueue(id, cost, estimate)
+    }
+
+    /// The state waits at this cost.
+    fn enqueue(&mut self, id: StateId, cost: u64, estimate: u64) -> Result<(), NoMemory>
+        requires { cost + estimate < 2 ^ 64 }
+        ensures store { self.new.store ≡ self.old.store }
+        ensures nodes { self.new.nodes.items ≡ self.old.nodes.items }
+        ensures queue { OnOk result
+            (Joins (heap_items self.old.queue) (heap_items self.new.queue) (entry cost estimate id.0)) }
+    {
+        self.queue.push(Reverse((cost + estimate, estimate, id)))?;
         Ok(())
     }
 
@@ -168,30 +201,35 @@ impl<S: StateStore> Progress<S> {
     }
 
     /// Lists a successor of the state that is being expanded; tells whether the limit allows that.
-    fn reach<T: TransitionSystem>(
+    fn reach<T: TransitionSystem, E: Estimate>(
         &mut self,
         system: &T,
-        parent: StateId,
+        estimate: &E,
+        parent: &Parent<'_>,
         action: u32,
         state: &Packed,
         max_states: u32,
     ) -> Result<bool, NoMemory>
-        requires expanding { IsExpanding (T.means system.now) S.states self.old parent.0 }
-        requires leads { (s : _) → slice_get (S.states self.old.store) parent.0 ≡ Some s
-            → (T.means system.now).step s action ≡ Some (bits_of state.now) }
+        requires made_for { E.system_of estimate.now ≡ T.means system.now }
+        requires estimate_width { E.width_of estimate.now ≡ S.width_of self.old.store }
+        requires expanding { IsExpanding (T.means system.now) (value_by (E.score_of estimate.now)) S.states self.old parent.now.id.0 }
+        requires parent { slice_get (S.states self.old.store) parent.now.id.0 ≡ Some (bits_of parent.now.state.now) }
+        requires parent_width { length (bits_of parent.now.state.now) ≡ S.width_of self.old.store }
+        requires score { parent.now.score ≡ E.score_of estimate.now (bits_of parent.now.state.now) }
+        requires leads { (T.means system.now).step (bits_of parent.now.state.now) action ≡ Some (bits_of state.now) }
         requires width { length (bits_of state.now) ≡ S.width_of self.old.store }
         requires within { length (S.states self.old.store) ≤ max_states }
         requires limit { max_states ≤ MAX_STATES }
         ensures width { S.width_of self.new.store ≡ S.width_of self.old.store }
         ensures listed { IfOk result (λ is_listed. MatchBool is_listed
-            (Reaches (T.means system.now) S.states self.old self.new parent.0 max_states action (bits_of state.now))
-            (AreMoreReachable (T.means system.now) max_states)) }
+            (Reaches (T.means system.now) (value_by (E.score_of estimate.now)) S.states self.old self.new parent.now.id.0 max_states action (bits_of state.now))
+            (AreMoreReachable (T.means system.now) (value_by (E.score_of estimate.now)) max_states)) }
     {
-        let before = self.nodes[parent.0 as usize];
+        let before = self.nodes[parent.id.0 as usize];
         let cost = before.cost + u64::from(system.cost(action));
         let depth = before.depth() + 1;
         let origin = Origin {
-            parent,
+            parent: parent.id,
             action,
             depth,
         };
@@ -199,24 +237,30 @@ impl<S: StateStore> Progress<S> {
             return Ok(false);
         };
         if is_new {
-            self.add(id, cost, Some(origin))?;
+            let value = parent.value_after(estimate, action, state);
+            self.add(id, cost, value, Some(origin))?;
         } else if cost < self.nodes[id.0 as usize].cost {
-            self.improve(id, cost, origin)?;
+            let value = parent.value_after(estimate, action, state);
+            self.improve(id, cost, value, origin)?;
         }
         Ok(true)
     }
 
     /// Lists the successors of the state whose turn it is, which the buffers hold; tells whether the limit allows that.
-    pub(crate) fn expand<T: TransitionSystem>(
+    pub(crate) fn expand<T: TransitionSystem, E: Estimate>(
         &mut self,
         system: &T,
+        estimate: &E,
         buffers: &mut Buffers,
-        id: StateId,
+        turn: Turn,
         max_states: u32,
     ) -> Result<bool, NoMemory>
-        requires turn { IsAtTurn (T.means system.now) S.states self.old id.0 }
+        requires made_for { E.system_of estimate.now ≡ T.means system.now }
+        requires estimate_width { E.width_of estimate.now ≡ T.width_of system.now }
+        requires turn { IsAtTurn (T.means system.now) (value_by (E.score_of estimate.now)) S.states self.old turn.id.0 }
+        requires value { turn.estimate ≡ value_by (E.score_of estimate.now) (bits_of buffers.old.state) }
         requires open { AreOpen (T.means system.now) (nodes_in S.states self.old) }
-        requires state { slice_get (S.states self.old.store) id.0 ≡ Some (bits_of buffers.old.state) }
+        requires state { slice_get (S.states self.old.store) turn.id.0 ≡ Some (bits_of buffers.old.state) }
         requires no_goal { (T.means system.now).meets_goal (bits_of buffers.old.state) ≡ false }
         requires width { S.width_of self.old.store ≡ T.width_of system.now }
         requires buffers { AreWide (T.width_of system.now) buffers.old }
@@ -225,14 +269,20 @@ impl<S: StateStore> Progress<S> {
         ensures width { IfOk result (λ _. S.width_of self.new.store ≡ T.width_of system.now) }
         ensures buffers { IfOk result (λ _. AreWide (T.width_of system.now) buffers.new) }
         ensures listed { IfOk result (λ is_listed. MatchBool is_listed
-            (Expands (T.means system.now) S.states self.old self.new max_states)
-            (AreMoreReachable (T.means system.now) max_states)) }
+            (Expands (T.means system.now) (value_by (E.score_of estimate.now)) S.states self.old self.new max_states)
+            (AreMoreReachable (T.means system.now) (value_by (E.score_of estimate.now)) max_states)) }
     {
         system.applicable(&buffers.state, &mut buffers.applicable)?;
-        self.mark_expanded(id);
+        self.mark_expanded(turn.id);
+        let score = turn.score(estimate, &buffers.state);
         for &action in &buffers.applicable {
             system.successor(action, &buffers.state, &mut buffers.next);
-            if !self.reach(system, id, action, &buffers.next, max_states)? {
+            let parent = Parent {
+                id: turn.id,
+                state: &buffers.state,
+                score,
+            };
+            if !self.reach(system, estimate, &parent, action, &buffers.next, max_states)? {
                 return Ok(false);
             }
         }

@@ -1,8 +1,12 @@
 -- A small transition system, on which the tests run the search: rooms by number, and a state is the set of its one room.
-use Rattle.std.specs.Prelude.{ℕ, ◌==◌, nat_lt, Bool, true, false, List, [], ◌∷◌, length, slice_get, slice_set, if◌then◌else◌, Option, Some, None, option_map, option_and_then, find}
+use Rattle.std.specs.Prelude.{ℕ, ◌==◌, ◌≤◌, min, nat_lt, Bool, true, false, List, [], ◌∷◌, length, slice_get, slice_set, if◌then◌else◌, Option, Some, None, option_map, option_and_then, find}
 use Rattle.std.specs.List.{range_with_len}
+use Rattle.std.specs.Option.{option_map_or}
+use Rattle.std.proofs.Common.{ap, zero-le}
+use Rattle.std.proofs.Math.Nat.{le_trans, le-add_right, min-le_left, min-le_right}
 use Rattle.model.specs.Runs.{System}
 use Rattle.packed_state.specs.Sets.{has, set_of}
+use Rattle.search.specs.Estimates.{IsConsistent}
 
 -- the room of a state: the least number in the set
 abbrev pub room_in : List Bool → Option ℕ
@@ -37,3 +41,33 @@ rooms width first second first_cost second_cost goal = record {
   cost = λ door. if door == 1 then first_cost else second_cost;
   meets_goal = λ set. has set goal;
 }
+
+-- What the sign in the state's room tells, of which no more is believed than this; 0 where there is no sign, and where the
+-- room to be reached is in the set.
+abbrev pub believed : ℕ → List ℕ → ℕ → List Bool → ℕ
+believed most signs goal set = if has set goal then 0 else option_map_or (λ sign. min sign most) (option_and_then (slice_get signs) (room_in set)) 0
+
+believed-le : (most : ℕ) (sign : Option ℕ) → option_map_or (λ sign. min sign most) sign 0 ≤ most
+believed-le most None = zero-le
+believed-le most (Some sign) = min-le_right sign most
+
+if-le : (b : Bool) (n most : ℕ) → n ≤ most → (if b then 0 else n) ≤ most
+if-le true n most within = zero-le
+if-le false n most within = within
+
+cheapest-le : (b : Bool) (first_cost second_cost : ℕ) → min first_cost second_cost ≤ (if b then first_cost else second_cost)
+cheapest-le true first_cost second_cost = min-le_left first_cost second_cost
+cheapest-le false first_cost second_cost = min-le_right first_cost second_cost
+
+-- No door costs less than the cheapest, so that an estimate of no more than that is consistent.
+pub consistent_signs : (width : ℕ) (first second : List ℕ) (first_cost second_cost goal : ℕ) (signs : List ℕ)
+    → IsConsistent (rooms width first second first_cost second_cost goal) (believed (min first_cost second_cost) signs goal)
+consistent_signs width first second first_cost second_cost goal signs =
+    let most = min first_cost second_cost in
+    let told = λ (set : List Bool). option_and_then (slice_get signs) (room_in set) in
+    record {
+      zero_at_goals = λ set reached. ap (λ b. if b then 0 else option_map_or (λ sign. min sign most) (told set) 0) reached;
+      falls_by_no_more = λ set next door leads.
+          le_trans (if-le (has set goal) (option_map_or (λ sign. min sign most) (told set) 0) most (believed-le most (told set)))
+          (le_trans (cheapest-le (door == 1) first_cost second_cost) (le-add_right (if door == 1 then first_cost else second_cost) (believed most signs goal next)));
+    }

@@ -7,3 +7,5 @@ mod packed_states;
 mod rooms;
 #[cfg(test)]
 mod searches;
+#[cfg(test)]
+mod signs;

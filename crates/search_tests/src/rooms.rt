@@ -22,7 +22,7 @@ pub(crate) struct Rooms {
 }
 
 /// The room that the state is.
-fn room_in(state: &Packed) -> Option<u32>
+pub(crate) fn room_in(state: &Packed) -> Option<u32>
     ensures room { result ≡ room_in (bits_of state.now) }
     ensures within { IfSome result (λ room. room < length (bits_of state.now)) }
 {

@@ -3,16 +3,18 @@ ghost use Rattle.std.specs.Prelude.{◌≡◌, []};
 
 use crate::packed_states::{set_of, stands_at};
 use crate::rooms::Rooms;
+use crate::signs::Signs;
 use faults::NoMemory;
 use packed_state::{PlainStore, PooledStore, StateStore};
-use search::{FoundStates, MAX_STATES, Node, Outcome, best_first};
+use search::{FoundStates, MAX_STATES, NoEstimate, Node, Outcome, best_first, value_of};
 use std::alloc::Global;
 use std::test::Fail;
 
-/// Rooms, the most that may be found, the doors of the plan that is found and its cost, if there is one, and the rooms in
+/// Rooms, their signs, the most rooms that may be found, the doors of the plan that is found and its cost, if there is one, and the rooms in
 /// the order in which they are found, with what it costs to reach each. There are no such rooms where the limit is told.
 struct Row {
     rooms: Rooms,
+    signs: &'static [u32],
     most: u32,
     plan: Option<(&'static [u32], u64)>,
     found: &'static [u32],
@@ -24,46 +26,67 @@ const CLIMB_FIRST: &[u32] = &[1, 2, 3, 4, 5, 6, 7, 8, 9];
 
 const CLIMB_SECOND: &[u32] = &[2, 3, 4, 5, 6, 7, 8, 9];
 
+/// Two ways that part in room 0 and cost the same: by the rooms 1, 3 and 5, and by 2, 4 and 6.
+const ARMS_FIRST: &[u32] = &[1, 3, 4, 5, 6];
+
+const ARMS_SECOND: &[u32] = &[2];
+
 #[rattlefmt::skip]
-static ROWS: [Row; 8] = [
+static ROWS: [Row; 11] = [
     // many cheap steps are cheaper than few dear ones
     Row {
         rooms: Rooms { width: 10, first: CLIMB_FIRST, second: CLIMB_SECOND, first_cost: 1, second_cost: 5, goal: 3 },
-        most: 100, plan: Some((&[1, 1, 1], 3)), found: &[0, 1, 2, 3, 4], costs: &[0, 1, 2, 3, 7],
+        signs: &[], most: 100, plan: Some((&[1, 1, 1], 3)), found: &[0, 1, 2, 3, 4], costs: &[0, 1, 2, 3, 7],
     },
     // there are ten rooms, and no room 10
     Row {
         rooms: Rooms { width: 10, first: CLIMB_FIRST, second: CLIMB_SECOND, first_cost: 1, second_cost: 5, goal: 10 },
-        most: 10, plan: None, found: &[0, 1, 2, 3, 4, 5, 6, 7, 8, 9], costs: &[0, 1, 2, 3, 4, 5, 6, 7, 8, 9],
+        signs: &[], most: 10, plan: None, found: &[0, 1, 2, 3, 4, 5, 6, 7, 8, 9], costs: &[0, 1, 2, 3, 4, 5, 6, 7, 8, 9],
     },
     Row {
         rooms: Rooms { width: 10, first: CLIMB_FIRST, second: CLIMB_SECOND, first_cost: 1, second_cost: 5, goal: 10 },
-        most: 9, plan: None, found: &[], costs: &[],
+        signs: &[], most: 9, plan: None, found: &[], costs: &[],
     },
     // the goal holds at the start
     Row {
         rooms: Rooms { width: 64, first: &[1], second: &[2], first_cost: 1, second_cost: 1, goal: 0 },
-        most: 100, plan: Some((&[], 0)), found: &[0], costs: &[0],
+        signs: &[], most: 100, plan: Some((&[], 0)), found: &[0], costs: &[0],
     },
     // Doors to N + 1 and to N + 2: room 3 is reached from 1 and from 2, which cost the same, and 1 was found first.
     Row {
         rooms: Rooms { width: 65, first: &[1, 2, 3, 4, 5, 6], second: &[2, 3, 4, 5, 6, 7], first_cost: 1, second_cost: 1, goal: 3 },
-        most: 100, plan: Some((&[1, 2], 2)), found: &[0, 1, 2, 3, 4], costs: &[0, 1, 1, 2, 2],
+        signs: &[], most: 100, plan: Some((&[1, 2], 2)), found: &[0, 1, 2, 3, 4], costs: &[0, 1, 1, 2, 2],
     },
     // The same doors in the other order: 2 is found first, then 1, and of 4 and 3, which cost the same, 4.
     Row {
         rooms: Rooms { width: 128, first: &[2, 3, 4, 5, 6, 7], second: &[1, 2, 3, 4, 5, 6], first_cost: 1, second_cost: 1, goal: 3 },
-        most: 100, plan: Some((&[1, 2], 2)), found: &[0, 2, 1, 4, 3, 6, 5], costs: &[0, 1, 1, 2, 2, 3, 3],
+        signs: &[], most: 100, plan: Some((&[1, 2], 2)), found: &[0, 2, 1, 4, 3, 6, 5], costs: &[0, 1, 1, 2, 2, 3, 3],
     },
     // Room 5 is found before 6. A cheaper way to 5 is found after 6, and then both cost the same: 5 comes first.
     Row {
         rooms: Rooms { width: 64, first: &[1, 5, 3, 3, 4, 5, 6], second: &[2, 6, 4, 3, 5, 7, 7], first_cost: 2, second_cost: 1, goal: 7 },
-        most: 100, plan: Some((&[2, 2, 2, 2], 4)), found: &[0, 1, 2, 3, 4, 5, 6, 7], costs: &[0, 2, 1, 3, 2, 3, 3, 4],
+        signs: &[], most: 100, plan: Some((&[2, 2, 2, 2], 4)), found: &[0, 1, 2, 3, 4, 5, 6, 7], costs: &[0, 2, 1, 3, 2, 3, 3, 4],
     },
     // second doors cost nothing, and lead in a circle
     Row {
         rooms: Rooms { width: 200, first: &[3, 2], second: &[1, 0], first_cost: 1, second_cost: 0, goal: 2 },
-        most: 100, plan: Some((&[2, 1], 1)), found: &[0, 3, 1, 2], costs: &[0, 1, 0, 1],
+        signs: &[], most: 100, plan: Some((&[2, 1], 1)), found: &[0, 3, 1, 2], costs: &[0, 1, 0, 1],
+    },
+    // The signs lead astray: of 2 and 3, then of 4 and 5, whose sums are the same, the one with the least estimate comes first.
+    Row {
+        rooms: Rooms { width: 64, first: ARMS_FIRST, second: ARMS_SECOND, first_cost: 2, second_cost: 2, goal: 6 },
+        signs: &[0, 0, 3, 0, 3, 0], most: 100, plan: Some((&[2, 1, 1], 6)), found: &[0, 1, 2, 3, 5, 4, 6], costs: &[0, 2, 2, 4, 6, 4, 6],
+    },
+    // The signs are right: room 5 is not found, though with no estimate it is.
+    Row {
+        rooms: Rooms { width: 64, first: ARMS_FIRST, second: ARMS_SECOND, first_cost: 2, second_cost: 2, goal: 6 },
+        signs: &[0, 3, 0, 3, 0, 3], most: 100, plan: Some((&[2, 1, 1], 6)), found: &[0, 1, 2, 4, 6, 3], costs: &[0, 2, 2, 4, 6, 4],
+    },
+    // Rooms 1 and 4 have one sum and one estimate, and 1 was found first. Then 6 has the same sum and a lower estimate. A
+    // cheaper way to 5 is found while it waits; 7 comes before 3 and 5, whose sums are the same.
+    Row {
+        rooms: Rooms { width: 64, first: &[1, 5, 3, 3, 4, 5, 6], second: &[2, 6, 4, 3, 5, 7, 7], first_cost: 2, second_cost: 1, goal: 7 },
+        signs: &[0, 1, 0, 2, 1, 1], most: 100, plan: Some((&[1, 2, 2], 4)), found: &[0, 1, 2, 3, 4, 5, 6, 7], costs: &[0, 2, 1, 3, 2, 3, 3, 4],
     },
 ];
 
@@ -103,13 +126,17 @@ fn are_found<S: StateStore>(
     Ok(are_they && are_reached(&states.nodes, row.costs))
 }
 
-/// Whether the search finds what the row says.
+/// Whether the search by the row's signs finds what the row says.
 fn is_as_wanted<S: StateStore>(alloc: Global, row: &Row, store: S) -> Result<bool, NoMemory>
     requires empty { S.states store ≡ [] }
     requires width { S.width_of store ≡ row.now.rooms.width }
 {
     let most = row.most.clamp(1, MAX_STATES);
-    match &best_first(alloc, &row.rooms, store, most)? {
+    let signs = Signs {
+        rooms: row.rooms,
+        signs: row.signs,
+    };
+    match &best_first(alloc, &row.rooms, &signs, store, most)? {
         Outcome::Found {
             steps,
             cost,
@@ -117,6 +144,17 @@ fn is_as_wanted<S: StateStore>(alloc: Global, row: &Row, store: S) -> Result<boo
         } => Ok(row.plan == Some((steps.as_slice(), *cost)) && are_found(alloc, states, row)?),
         Outcome::Exhausted { states } => Ok(row.plan.is_none() && are_found(alloc, states, row)?),
         Outcome::States => Ok(row.plan.is_none() && row.found.is_empty()),
+    }
+}
+
+/// What a cheapest plan costs, as the search with no estimate finds out.
+fn cost_with_no_estimate(alloc: Global, rooms: &Rooms, most: u32) -> Result<Option<u64>, NoMemory> {
+    let most = most.clamp(1, MAX_STATES);
+    let store = PlainStore::new(alloc, rooms.width);
+    match &best_first(alloc, rooms, &NoEstimate(rooms), store, most)? {
+        Outcome::Found { cost, .. } => Ok(Some(*cost)),
+        Outcome::Exhausted { .. } => Ok(None),
+        Outcome::States => Ok(None),
     }
 }
 
@@ -131,4 +169,27 @@ fn finds_cheapest_plans_in_their_order(rt: HostRuntime) -> Result<(), Fail> {
         assert!(rt; is_as_wanted(alloc, row, pooled)?, "row {number}, pooled");
     }
     Ok(())
+}
+
+#[test]
+fn finds_the_same_costs_with_no_estimate(rt: HostRuntime) -> Result<(), Fail> {
+    let alloc = rt.alloc();
+    for (number, row) in ROWS.iter().enumerate() {
+        let cost = cost_with_no_estimate(alloc, &row.rooms, row.most)?;
+        let wanted = match row.plan {
+            Some((_, cost)) => Some(cost),
+            None => None,
+        };
+        assert_eq!(rt; cost, wanted, "row {number}");
+    }
+    Ok(())
+}
+
+#[test]
+fn estimates_are_the_scores_above_0(rt: HostRuntime) {
+    assert_eq!(rt; value_of(i64::MIN), 0);
+    assert_eq!(rt; value_of(-1), 0);
+    assert_eq!(rt; value_of(0), 0);
+    assert_eq!(rt; value_of(7), 7);
+    assert_eq!(rt; value_of(i64::MAX), 9_223_372_036_854_775_807);
 }

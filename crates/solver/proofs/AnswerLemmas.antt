@@ -10,8 +10,11 @@ use Rattle.std.proofs.lemmas.Slice.Zip.{AllZip-long}
 use Rattle.formulas.specs.declared.instance.Instance as code
 use Rattle.formulas.specs.State.{instance_of}
 use Rattle.search.specs.declared.nodes.Node.{Node}
-use Rattle.search.specs.Outcome.{line_of, lines_of, AreFound, AreMoreReachable}
+use Rattle.search.specs.Outcome as search
+use Rattle.search.specs.Outcome.{line_of, lines_of, AreFound}
+use Rattle.solver.specs.Reachable.{AreMoreReachable}
 use Rattle.solver.specs.Limit.{is_limit}
+use Rattle.solver.proofs.ByCost.{more_by_cost}
 use Rattle.solver.proofs.GroundLemmas.{more_reachable, numbers_named, one_named}
 use Rattle.model.specs.Task.{Task, Atom, Instance}
 use Rattle.model.specs.Runs.{System, run, cost_of_all, Solves, IsOptimal, IsUnsolvable}
@@ -53,26 +56,26 @@ never : (least most cost : ℕ) → most < least → least ≤ cost → cost ≤
 never least most cost more reached within = omega (arith, more, reached, within)
 
 -- a line costs what a found state does
-found_cost : {S : Type 0} (states : List S) (nodes : List Node) (line : Line S) → Contains (lines_of states nodes) line → (k : ℕ) × (n : Node) × (slice_get nodes k ≡ Some n) × (line.cost ≡ n.cost)
+found_cost : {S : Type 0} (states : List S) (nodes : List Node) (line : Line S) → Contains (lines_of (λ _. 0) states nodes) line → (k : ℕ) × (n : Node) × (slice_get nodes k ≡ Some n) × (line.cost ≡ n.cost)
 found_cost [] nodes line at = absurd (Contains-none line at)
 found_cost (s ∷ states) [] line at = absurd (Contains-none line at)
 found_cost {S} (s ∷ states) (n ∷ nodes) line at =
-    elim (Contains-cases (line_of s n) (lines_of states nodes) line at) [
+    elim (Contains-cases (line_of (λ _. 0) s n) (lines_of (λ _. 0) states nodes) line at) [
       | inl is ↦ (0, n, refl, ap (λ (l : Line S). l.cost) (sym is))
       | inr later ↦ let (k, n', there, is) = found_cost states nodes line later in (suc k, n', there, is)
     ]
 
 -- Where some list solves, the claim of a listing is at most what its dearest line costs: else it would show that none does.
-module _ {S A : Type 0} (t : System S A) (cost : ℕ) (states : List S) (nodes : List Node) (max_states : ℕ) (found : AreFound t (bound cost) max_states states nodes) where
+module _ {S A : Type 0} (t : System S A) (cost : ℕ) (states : List S) (nodes : List Node) (max_states : ℕ) (found : AreFound t (λ _. 0) (bound cost) max_states states nodes) where
   abbrev most : ℕ
   most = length states * 4294967295
 
-  within : (line : Line S) → Contains (lines_of states nodes) line → line.cost ≤ most
+  within : (line : Line S) → Contains (lines_of (λ _. 0) states nodes) line → line.cost ≤ most
   within line at =
       let (k, node, there, is) = found_cost states nodes line at in
       subst (λ n. n ≤ most) (sym is) (found.cheap k node there)
 
-  none_solves : most < cost → IsClosed t (λ _. 0) none (lines_of states nodes)
+  none_solves : most < cost → IsClosed t (λ _. 0) none (lines_of (λ _. 0) states nodes)
   none_solves more = record {
     initial_listed = found.closed.initial_listed;
     successors_listed = found.closed.successors_listed;
@@ -86,11 +89,11 @@ module _ {S A : Type 0} (t : System S A) (cost : ℕ) (states : List S) (nodes :
   bound_within plan solves =
       elim (nat_le cost most) as (λ v. nat_le cost most ≡ v → cost ≤ most) [
         | true ↦ λ is. leb-true cost most is
-        | false ↦ λ is_not. absurd (claim-of_closed t (λ _. 0) none (lines_of states nodes) (λ s end rest runs goal. omega arith) (none_solves (beyond cost most is_not)) plan solves)
+        | false ↦ λ is_not. absurd (claim-of_closed t (λ _. 0) none (lines_of (λ _. 0) states nodes) (λ s end rest runs goal. omega arith) (none_solves (beyond cost most is_not)) plan solves)
       ] refl
 
 -- so what is found among so few states is cheap
-pub cheap_plan : {S A : Type 0} (t : System S A) (cost max_states : ℕ) (states : List S) (nodes : List Node) (plan : List A) → Solves t plan → AreFound t (bound cost) max_states states nodes
+pub cheap_plan : {S A : Type 0} (t : System S A) (cost max_states : ℕ) (states : List S) (nodes : List Node) (plan : List A) → Solves t plan → AreFound t (λ _. 0) (bound cost) max_states states nodes
     → max_states ≤ 16777216 → is_claim (bound cost) ≡ true
 cheap_plan t cost max_states states nodes plan solves found few =
     let few_found : length states ≤ 16777216 = omega (arith, found.within_limit, few) in
@@ -125,8 +128,10 @@ module _ (task : Task) (atoms : List Atom) (numbered : atoms ≡ numbered_atoms 
   pub task_unsolvable : IsUnsolvable (ground_system task atoms) → IsUnsolvable (system_of task)
   task_unsolvable unsolvable = (ground_task_solves_alike task [] none_more).unsolvable (subst (λ (l : List Atom). IsUnsolvable (ground_system task l)) numbered unsolvable)
 
-  pub more_of_task : (max_states : ℕ) → AreMoreReachable (ground_system task atoms) max_states → AreMoreReachable (system_of task) max_states
-  more_of_task max_states more = more_reachable task max_states (subst (λ (l : List Atom). AreMoreReachable (ground_system task l) max_states) numbered more)
+  pub more_of_task : (value : List Bool → ℕ) (max_states : ℕ) → search.AreMoreReachable (ground_system task atoms) value max_states → AreMoreReachable (system_of task) max_states
+  more_of_task value max_states more =
+      more_reachable task max_states
+      (subst (λ (l : List Atom). AreMoreReachable (ground_system task l) max_states) numbered (more_by_cost (ground_system task atoms) value max_states more))
 
 -- as many instances as numbers
 pub plan_length : (task : Task) (numbers : List ℕ) (plan : List code.Instance) → AllZip (NamesKept task) numbers (map instance_of plan) → length plan ≡ length numbers

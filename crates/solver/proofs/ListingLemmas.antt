@@ -95,14 +95,14 @@ numbers_rise bits = rise_filter (has bits) (length bits) 0 0 (length bits) (omeg
 
 -- ---- the lines
 
-line_at : {S : Type 0} (states : List S) (nodes : List Node) (k : ℕ) (d : Line S) → length nodes ≡ length states → k < length (search.lines_of states nodes)
-    → (s : S) × (slice_get states k ≡ Some s) × ((get_or (search.lines_of states nodes) k d).state ≡ s)
+line_at : {S : Type 0} (states : List S) (nodes : List Node) (k : ℕ) (d : Line S) → length nodes ≡ length states → k < length (search.lines_of (λ _. 0) states nodes)
+    → (s : S) × (slice_get states k ≡ Some s) × ((get_or (search.lines_of (λ _. 0) states nodes) k d).state ≡ s)
 line_at [] nodes k d one below = absurd (omega (arith, below))
 line_at (s ∷ states) [] k d one below = absurd (omega (arith, one))
 line_at (s ∷ states) (node ∷ nodes) zero d one below = (s, refl, refl)
 line_at (s ∷ states) (node ∷ nodes) (suc k) d one below = line_at states nodes k d (omega (arith, one)) (omega (arith, below))
 
-states_apart : {S : Type 0} (states : List S) (nodes : List Node) → length nodes ≡ length states → AreDistinct states → AllPairs (λ (k l : Line S). k.state ≢ l.state) (search.lines_of states nodes)
+states_apart : {S : Type 0} (states : List S) (nodes : List Node) → length nodes ≡ length states → AreDistinct states → AllPairs (λ (k l : Line S). k.state ≢ l.state) (search.lines_of (λ _. 0) states nodes)
 states_apart states nodes one distinct i j d before within is =
     let (s, at_i, is_i) = line_at states nodes i d one (omega (arith, before, within)) in
     let (t, at_j, is_j) = line_at states nodes j d one within in
@@ -111,17 +111,17 @@ states_apart states nodes one distinct i j d before within is =
     absurd (omega (arith, before, place))
 
 lines_mapped : {S T : Type 0} (f : S → T) (states : List S) (nodes : List Node)
-    → map (λ (l : Line S). record { state = f l.state; cost = l.cost; cut = l.cut }) (search.lines_of states nodes) ≡ search.lines_of (map f states) nodes
+    → map (λ (l : Line S). record { state = f l.state; cost = l.cost; cut = l.cut }) (search.lines_of (λ _. 0) states nodes) ≡ search.lines_of (λ _. 0) (map f states) nodes
 lines_mapped f [] nodes = refl
 lines_mapped f (s ∷ states) [] = refl
-lines_mapped f (s ∷ states) (node ∷ nodes) = ap (λ l. search.line_of (f s) node ∷ l) (lines_mapped f states nodes)
+lines_mapped f (s ∷ states) (node ∷ nodes) = ap (λ l. search.line_of (λ _. 0) (f s) node ∷ l) (lines_mapped f states nodes)
 
 node_at : (nodes : List Node) (k : ℕ) → k < length nodes → (node : Node) × (slice_get nodes k ≡ Some node)
 node_at [] k below = absurd (omega (arith, below))
 node_at (node ∷ nodes) zero below = (node, refl)
 node_at (n ∷ nodes) (suc k) below = node_at nodes k (omega (arith, below))
 
-pub length-lines : {S : Type 0} (states : List S) (nodes : List Node) → length nodes ≡ length states → length (search.lines_of states nodes) ≡ length states
+pub length-lines : {S : Type 0} (states : List S) (nodes : List Node) → length nodes ≡ length states → length (search.lines_of (λ _. 0) states nodes) ≡ length states
 length-lines [] nodes one = refl
 length-lines (s ∷ states) [] one = absurd (omega (arith, one))
 length-lines (s ∷ states) (node ∷ nodes) one = ap suc (length-lines states nodes (omega (arith, one)))
@@ -151,19 +151,19 @@ module _ (task : Task) (claim : Claim) (most : ℕ) (states : List (List Bool)) 
   view line = record { state = state_of_bits task atoms line.state; cost = line.cost; cut = line.cut }
 
   abbrev made : Certificate
-  made = record { claim = claim; atoms = atoms; lines = map state_line (search.lines_of states nodes) }
+  made = record { claim = claim; atoms = atoms; lines = map state_line (search.lines_of (λ _. 0) states nodes) }
 
   abbrev entry : StateLine → Line State
   entry l = record { state = state_of_line task made l; cost = l.cost; cut = l.cut }
 
-  listing : lines_of task made ≡ map view (search.lines_of states nodes)
-  listing = map-map entry state_line (search.lines_of states nodes) ∙ each (search.lines_of states nodes)
+  listing : lines_of task made ≡ map view (search.lines_of (λ _. 0) states nodes)
+  listing = map-map entry state_line (search.lines_of (λ _. 0) states nodes) ∙ each (search.lines_of (λ _. 0) states nodes)
     where
       each : (lines : List (Line (List Bool))) → map (λ l. entry (state_line l)) lines ≡ map view lines
       each [] = refl
       each (l ∷ lines) = λ i. record { state = from_list (named_chosen atoms l.state i ++ static_atoms task); cost = l.cost; cut = l.cut } ∷ each lines i
 
-  module _ (found : AreFound (ground_system task atoms) claim most states nodes) where
+  module _ (found : AreFound (ground_system task atoms) (λ _. 0) claim most states nodes) where
     pub found_width : (k : ℕ) (bits : List Bool) → slice_get states k ≡ Some bits → length bits ≡ length atoms
     found_width k bits at =
         let (node, there) = node_at nodes k (omega (arith, slice_get_within states k bits at, found.one_for_each)) in
@@ -183,9 +183,9 @@ module _ (task : Task) (claim : Claim) (most : ℕ) (states : List (List Bool)) 
             (states_apart (map (state_of_bits task atoms) states) nodes (omega (arith, found.one_for_each, length-map states (state_of_bits task atoms))) (distinct_states task states found_width found.distinct));
         listing_is_closed = subst (IsClosed (system_of task) (value_of made) claim) (sym listing)
             (closed_forth (ground_system task atoms) (system_of task) (state_of_bits task atoms) (NamesKept task) (ground_task_is_bisimilar task [] none_more)
-            (λ _. 0) (λ _. 0) (λ s. omega arith) claim (search.lines_of states nodes) found.closed);
+            (λ _. 0) (λ _. 0) (λ s. omega arith) claim (search.lines_of (λ _. 0) states nodes) found.closed);
       };
-      within_limit = omega (arith, length-map (search.lines_of states nodes) state_line, length-lines states nodes found.one_for_each);
+      within_limit = omega (arith, length-map (search.lines_of (λ _. 0) states nodes) state_line, length-lines states nodes found.one_for_each);
       atoms = refl;
     }
 
@@ -194,7 +194,7 @@ module _ (task : Task) (claim : Claim) (most : ℕ) (states : List (List Bool)) 
         and_from (is_claim claim && nat_le (length atoms) 1048576 && nat_le (length made.lines) 16777216) (list_all (is_state_line (length atoms)) made.lines)
         (and_from (is_claim claim && nat_le (length atoms) 1048576) (nat_le (length made.lines) 16777216)
         (and_from (is_claim claim) (nat_le (length atoms) 1048576) small (le-leb (length atoms) 1048576 few_atoms))
-        (le-leb (length made.lines) 16777216 (omega (arith, length-map (search.lines_of states nodes) state_line, length-lines states nodes found.one_for_each, found.within_limit, few))))
+        (le-leb (length made.lines) 16777216 (omega (arith, length-map (search.lines_of (λ _. 0) states nodes) state_line, length-lines states nodes found.one_for_each, found.within_limit, few))))
         (all_pass states nodes found_width (λ k node at. omega (arith, found.cheap k node at, found.within_limit, few)))
       where
         small_cut : (b : Bool) → option_map_or is_number (if b then None else Some 0) true ≡ true
@@ -203,11 +203,11 @@ module _ (task : Task) (claim : Claim) (most : ℕ) (states : List (List Bool)) 
 
         all_pass : (ss : List (List Bool)) (ns : List Node) → ((k : ℕ) (bits : List Bool) → slice_get ss k ≡ Some bits → length bits ≡ length atoms)
             → ((k : ℕ) (node : Node) → slice_get ns k ≡ Some node → node.cost < 1152921504606846976)
-            → list_all (is_state_line (length atoms)) (map state_line (search.lines_of ss ns)) ≡ true
+            → list_all (is_state_line (length atoms)) (map state_line (search.lines_of (λ _. 0) ss ns)) ≡ true
         all_pass [] ns long cheap = refl
         all_pass (s ∷ ss) [] long cheap = refl
         all_pass (s ∷ ss) (n ∷ ns) long cheap =
-            and_from (is_state_line (length atoms) (state_line (search.line_of s n))) (list_all (is_state_line (length atoms)) (map state_line (search.lines_of ss ns)))
+            and_from (is_state_line (length atoms) (state_line (search.line_of (λ _. 0) s n))) (list_all (is_state_line (length atoms)) (map state_line (search.lines_of (λ _. 0) ss ns)))
             (and_from (is_number n.cost && option_map_or is_number (if n.is_expanded then None else Some 0) true) (rise (length atoms) 0 (numbers_in s))
             (and_from (is_number n.cost) (option_map_or is_number (if n.is_expanded then None else Some 0) true) (lt-ltb n.cost 1152921504606846976 (cheap 0 n refl)) (small_cut n.is_expanded))
             (ap (λ width. rise width 0 (numbers_in s)) (sym (long 0 s refl)) ∙ numbers_rise s))
@@ -216,13 +216,13 @@ module _ (task : Task) (claim : Claim) (most : ℕ) (states : List (List Bool)) 
 -- ---- for a certificate of these parts
 
 module _ (task : Task) (claim : Claim) (most : ℕ) (states : List (List Bool)) (nodes : List Node) (known : List Atom) (numbered : known ≡ numbered_atoms task [])
-    (found : AreFound (ground_system task known) claim most states nodes) (certificate : Certificate)
-    (is : certificate ≡ record { claim = claim; atoms = known; lines = map state_line (search.lines_of states nodes) }) where
-  same_found : AreFound (ground_system task (numbered_atoms task [])) claim most states nodes
-  same_found = subst (λ (l : List Atom). AreFound (ground_system task l) claim most states nodes) numbered found
+    (found : AreFound (ground_system task known) (λ _. 0) claim most states nodes) (certificate : Certificate)
+    (is : certificate ≡ record { claim = claim; atoms = known; lines = map state_line (search.lines_of (λ _. 0) states nodes) }) where
+  same_found : AreFound (ground_system task (numbered_atoms task [])) (λ _. 0) claim most states nodes
+  same_found = subst (λ (l : List Atom). AreFound (ground_system task l) (λ _. 0) claim most states nodes) numbered found
 
   is_made : made task claim most states nodes ≡ certificate
-  is_made = sym (is ∙ (λ i. record { claim = claim; atoms = numbered i; lines = map state_line (search.lines_of states nodes) }))
+  is_made = sym (is ∙ (λ i. record { claim = claim; atoms = numbered i; lines = map state_line (search.lines_of (λ _. 0) states nodes) }))
 
   pub shown : is_task task ≡ true → IsShownBy task claim (length states) certificate
   shown well = subst (IsShownBy task claim (length states)) is_made (shown_by task claim most states nodes same_found well)

@@ -21,27 +21,27 @@ use Rattle.model.specs.Grounding.{NamesKept}
 -- ---- the lines
 
 lines_more : {S : Type 0} (states : List S) (nodes : List Node) (i : ℕ) (s : S) (node : Node) → slice_get states i ≡ Some s → slice_get nodes i ≡ Some node
-    → search.lines_of (take (suc i) states) (take (suc i) nodes) ≡ search.lines_of (take i states) (take i nodes) ++ search.line_of s node ∷ []
+    → search.lines_of (λ _. 0) (take (suc i) states) (take (suc i) nodes) ≡ search.lines_of (λ _. 0) (take i states) (take i nodes) ++ search.line_of (λ _. 0) s node ∷ []
 lines_more [] nodes i s node at_s at_n = absurd (cc)
 lines_more (x ∷ states) [] i s node at_s at_n = absurd (cc)
 lines_more (x ∷ states) (n ∷ nodes) zero s node at_s at_n =
     let same_state : x ≡ s = cc in
     let same_node : n ≡ node = cc in
-    λ i. search.line_of (same_state i) (same_node i) ∷ []
-lines_more (x ∷ states) (n ∷ nodes) (suc i) s node at_s at_n = ap (λ l. search.line_of x n ∷ l) (lines_more states nodes i s node at_s at_n)
+    λ i. search.line_of (λ _. 0) (same_state i) (same_node i) ∷ []
+lines_more (x ∷ states) (n ∷ nodes) (suc i) s node at_s at_n = ap (λ l. search.line_of (λ _. 0) x n ∷ l) (lines_more states nodes i s node at_s at_n)
 
 plus_one : (k : ℕ) → k + 1 ≡ suc k
 plus_one k = omega arith
 
 pub lines_next : (lines new : List code_line.StateLine) (line : code_line.StateLine) (states : List (List Bool)) (nodes : List Node) (i : ℕ) (s : List Bool) (node : Node)
-    → map line_of lines ≡ map state_line (search.lines_of (take i states) (take i nodes)) → new ≡ lines ++ line ∷ [] → line_of line ≡ state_line (search.line_of s node)
-    → slice_get states i ≡ Some s → slice_get nodes i ≡ Some node → map line_of new ≡ map state_line (search.lines_of (take (i + 1) states) (take (i + 1) nodes))
+    → map line_of lines ≡ map state_line (search.lines_of (λ _. 0) (take i states) (take i nodes)) → new ≡ lines ++ line ∷ [] → line_of line ≡ state_line (search.line_of (λ _. 0) s node)
+    → slice_get states i ≡ Some s → slice_get nodes i ≡ Some node → map line_of new ≡ map state_line (search.lines_of (λ _. 0) (take (i + 1) states) (take (i + 1) nodes))
 lines_next lines new line states nodes i s node so_far pushed is at_s at_n =
     ap (map line_of) pushed ∙ map-append line_of lines (line ∷ [])
     ∙ (λ j. so_far j ++ is j ∷ [])
-    ∙ sym (ap (λ k. map state_line (search.lines_of (take k states) (take k nodes))) (plus_one i)
+    ∙ sym (ap (λ k. map state_line (search.lines_of (λ _. 0) (take k states) (take k nodes))) (plus_one i)
     ∙ ap (map state_line) (lines_more states nodes i s node at_s at_n)
-    ∙ map-append state_line (search.lines_of (take i states) (take i nodes)) (search.line_of s node ∷ []))
+    ∙ map-append state_line (search.lines_of (λ _. 0) (take i states) (take i nodes)) (search.line_of (λ _. 0) s node ∷ []))
 
 -- ---- the instances
 

@@ -1,3 +1,4 @@
 pub mod Limit
 pub mod Listing
+pub mod Reachable
 pub mod Solver

@@ -3,11 +3,11 @@ use Rattle.std.specs.Prelude.{◌≡◌, ℕ, IsTrue, [], None, Some}
 use Rattle.std.specs.List.{list_all}
 use Rattle.formulas.specs.State.{plan_of}
 use Rattle.certificate.specs.Certificate.{certificate_of}
-use Rattle.search.specs.Outcome.{AreMoreReachable}
 use Rattle.solver.specs.declared.answer.Answer.{Answer}
 use Rattle.solver.specs.declared.answer.Answer.TheVariants.{Plan, Unsolvable, Unknown}
 use Rattle.solver.specs.declared.answer.Limit.TheVariants.{Instances, Atoms, States}
 use Rattle.solver.specs.Listing.{IsShownBy}
+use Rattle.solver.specs.Reachable.{AreMoreReachable}
 use Rattle.model.specs.Task.{Task}
 use Rattle.model.specs.Runs.{cost_of_all, IsOptimal, IsUnsolvable}
 use Rattle.model.specs.Claims.{bound, none}

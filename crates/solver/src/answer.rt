@@ -14,7 +14,7 @@ use faults::{NoMemory, Refused};
 use formulas::Plan;
 use grounding::{Ground, GroundLimit};
 use packed_state::PooledStore;
-use search::{Outcome, best_first};
+use search::{NoEstimate, Outcome, best_first};
 use std::alloc::Global;
 use typing::Task;
 
@@ -82,7 +82,8 @@ fn solve_ground(alloc: Global, ground: &Ground<'_>, limits: Limits) -> Result<An
     ensures { IfOk result (IsTrueAnswer (task_in ground.now) limits.states limits.instances) }
 {
     let store = PooledStore::new(alloc, ground.width())?;
-    match best_first(alloc, &GroundSystem(ground), store, limits.states())? {
+    let system = GroundSystem(ground);
+    match best_first(alloc, &system, &NoEstimate(&system), store, limits.states())? {
         Outcome::Found {
             steps,
             cost,

@@ -41,7 +41,7 @@ pub(crate) fn cert_of(
     requires claim { IsTrue (is_claim (claim_of claim)) }
     requires atoms { atoms_in ground.now ≡ numbered_atoms (task_in ground.now) [] }
     requires few { length (atoms_in ground.now) ≤ MAX_ATOMS }
-    requires found { AreFound (ground_system (task_in ground.now) (atoms_in ground.now)) (claim_of claim) MAX_STATE_LINES (pooled_states found.now.store) found.now.nodes.items }
+    requires found { AreFound (ground_system (task_in ground.now) (atoms_in ground.now)) (λ _. 0) (claim_of claim) MAX_STATE_LINES (pooled_states found.now.store) found.now.nodes.items }
     ensures { IfOk result (λ cert. IsShownBy (task_in ground.now) (claim_of claim) (length (pooled_states found.now.store)) (certificate_of cert)) }
 {
     let atoms = copied(alloc, ground.atoms().as_slice())?;
@@ -67,7 +67,7 @@ fn copied(alloc: Global, atoms: &[Atom]) -> Result<Vec<Atom>, NoMemory>
 fn lines(alloc: Global, found: &FoundStates<PooledStore>) -> Result<Vec<StateLine>, NoMemory>
     requires one_for_each { length found.now.nodes.items ≡ length (pooled_states found.now.store) }
     requires few { length (pooled_states found.now.store) ≤ MAX_STATE_LINES }
-    ensures { IfOk result (λ lines. map parts.line_of lines.items ≡ map state_line (search.lines_of (pooled_states found.now.store) found.now.nodes.items)) }
+    ensures { IfOk result (λ lines. map parts.line_of lines.items ≡ map state_line (search.lines_of (λ _. 0) (pooled_states found.now.store) found.now.nodes.items)) }
 {
     let mut state = Packed::empty(alloc, found.store.width())?;
     let mut lines = Vec::new(alloc);
@@ -80,7 +80,7 @@ fn lines(alloc: Global, found: &FoundStates<PooledStore>) -> Result<Vec<StateLin
 
 /// The line of a state that was reached so.
 fn line_of(alloc: Global, state: &Packed, node: Node) -> Result<StateLine, NoMemory>
-    ensures { IfOk result (λ line. parts.line_of line ≡ state_line (search.line_of (bits_of state.now) node)) }
+    ensures { IfOk result (λ line. parts.line_of line ≡ state_line (search.line_of (λ _. 0) (bits_of state.now) node)) }
 {
     let atoms = state.numbers(alloc)?;
     Ok(StateLine {

@@ -7,7 +7,7 @@ use crate::answers::{ANSWERS, Found};
 use faults::NoMemory;
 use grounding::{Ground, GroundFault};
 use packed_state::{Packed, PlainStore, PooledStore, StateStore};
-use search::{FoundStates, MAX_STATES, Outcome, TransitionSystem, best_first};
+use search::{FoundStates, MAX_STATES, NoEstimate, Outcome, TransitionSystem, best_first};
 use solver::Limit;
 use std::alloc::Global;
 use std::test::Fail;
@@ -120,8 +120,9 @@ fn are_alike<A: StateStore, B: StateStore>(
 fn found_by_both(alloc: Global, ground: &Ground<'_>, most: u32) -> Result<Option<Found>, NoMemory> {
     let (system, width) = (GroundSystem(ground), ground.width());
     let most = most.clamp(1, MAX_STATES);
-    let plain = best_first(alloc, &system, PlainStore::new(alloc, width), most)?;
-    let pooled = best_first(alloc, &system, PooledStore::new(alloc, width)?, most)?;
+    let none = NoEstimate(&system);
+    let plain = best_first(alloc, &system, &none, PlainStore::new(alloc, width), most)?;
+    let pooled = best_first(alloc, &system, &none, PooledStore::new(alloc, width)?, most)?;
     let are_told = told(&plain) == told(&pooled) && steps_of(&plain) == steps_of(&pooled);
     if are_told && are_alike(alloc, width, states_of(&plain), states_of(&pooled))? {
         return Ok(Some(told(&plain)));

@@ -1,91 +1,98 @@
-use Rattle.std.proofs.Common.{List, Bool, ◌≡◌, ℕ, ◌+◌, ◌<◌, length, ap, sym, ◌∙◌, subst, arith, Some, get_or, true}
+use Rattle.std.proofs.Common.{List, Bool, ◌≡◌, ℕ, ◌+◌, length, ap, sym, ◌∙◌, subst, arith, Some, get_or, true}
 use Rattle.std.specs.Prelude.{slice_get}
 use Rattle.std.specs.BinaryHeap.{heap_items}
-use Rattle.std.proofs.lemmas.List.Elements.{All-weaker}
 use Rattle.std.proofs.lemmas.List.Sums.{count_by-le-length}
 use Rattle.std.proofs.lemmas.Option.{same_Some, get_or_from_slice_get, slice_get_within}
 use Rattle.packed_state.specs.Packed.{bits_of}
 use Rattle.search.specs.Progress.{AreWide}
 use Rattle.model.specs.Claims.{bound}
-use Rattle.search.specs.Outcome.{AreFound}
-use Rattle.search.specs.Nodes.{found_of, place_of, expanded_count, Found}
+use Rattle.model.specs.Runs.{System}
+use Rattle.search.specs.Estimates.{IsConsistent, value_by}
+use Rattle.search.specs.Outcome.{AreFound, AreExpandedWithin}
+use Rattle.search.specs.Nodes.{Found, found_of, expanded_count, IsEntryOf}
 use Rattle.search.proofs.Linked.{found_of-get, length-found_of}
 use Rattle.search.proofs.Closed.{descending, optimal, unsolvable}
-use Rattle.search.proofs.Steps.{at_turn, none_waits}
+use Rattle.search.proofs.Queue.{All-among}
+use Rattle.search.proofs.Steps.{entries_of, at_turn, none_waits}
 use Rattle.search.proofs.best.best_first.Goals as goal
 
-pub loop-id-init : goal.loop-id-init
-loop-id-init g c =
+pub loop-turn-init : goal.loop-turn-init
+loop-turn-init g c =
     record { search = c.in_ok-progress.ensures.search; are_open = c.in_ok-progress.ensures.open; within = omega (arith, c.in_ok-progress.ensures.one, c.requires.some); width = c.in_ok-progress.ensures.width; buffers = subst (λ w. AreWide w c.in_ok-buffers.buffers) c.width.ensures c.in_ok-buffers.ensures }
 
 pub next_waiting-requires-clause-heap : goal.next_waiting-requires-clause-heap
 next_waiting-requires-clause-heap g c =
-    c.loop-id.invariant.search.heap
+    c.loop-turn.invariant.search.heap
 
-pub next_waiting-requires-clause-in_range : goal.next_waiting-requires-clause-in_range
-next_waiting-requires-clause-in_range g c =
-    let search = c.loop-id.invariant.search in
+pub next_waiting-requires-clause-entries : goal.next_waiting-requires-clause-entries
+next_waiting-requires-clause-entries g c =
+    let search = c.loop-turn.invariant.search in
     let t = g.T.TransitionSystem.means c.args.system.now in
-    let states = g.S.StateStore.states c.loop-id.progress.store in
-    let all = c.loop-id.progress.nodes.items in
-    let queue = heap_items c.loop-id.progress.queue in
-    All-weaker (λ w. place_of w < length (found_of states all)) (λ w. place_of w < length all)
-    (λ w lt. omega (arith, lt, length-found_of states all search.one_each, search.one_each)) queue search.nodes.in_range
+    let value = value_by (g.E.Estimate.score_of c.args.estimate.now) in
+    let states = g.S.StateStore.states c.loop-turn.progress.store in
+    let all = c.loop-turn.progress.nodes.items in
+    let queue = heap_items c.loop-turn.progress.queue in
+    entries_of t value states all queue search.one_each search.nodes
 
 pub get-requires-clause-there : goal.get-requires-clause-there
 get-requires-clause-there g c =
-    let search = c.loop-id.invariant.search in
+    let search = c.loop-turn.invariant.search in
     let t = g.T.TransitionSystem.means c.args.system.now in
-    let states = g.S.StateStore.states c.loop-id.progress.store in
-    let all = c.loop-id.progress.nodes.items in
-    let queue = heap_items c.loop-id.progress.queue in
-    let id = c.in-Some.id.0 in
-    let turn = at_turn t states all queue search.one_each search.nodes (heap_items c.next_waiting.new.self.queue) id c.in-Some.ensures.some in
+    let value = value_by (g.E.Estimate.score_of c.args.estimate.now) in
+    let states = g.S.StateStore.states c.loop-turn.progress.store in
+    let all = c.loop-turn.progress.nodes.items in
+    let queue = heap_items c.loop-turn.progress.queue in
+    let id = c.in-Some.turn.id.0 in
+    let turn = at_turn t value states all queue search.one_each search.nodes (heap_items c.next_waiting.new.self.queue) c.in-Some.turn c.in-Some.ensures.some in
     let parts = found_of-get states all id turn.0 turn.1 in
     rw c.in-Some.ensures.store (slice_get_within states id turn.0.state parts.0)
 
 pub index-requires : goal.index-requires
 index-requires g c =
-    let search = c.loop-id.invariant.search in
+    let search = c.loop-turn.invariant.search in
     let t = g.T.TransitionSystem.means c.args.system.now in
-    let states = g.S.StateStore.states c.loop-id.progress.store in
-    let all = c.loop-id.progress.nodes.items in
-    let queue = heap_items c.loop-id.progress.queue in
-    let id = c.in-Some.id.0 in
-    let turn = at_turn t states all queue search.one_each search.nodes (heap_items c.next_waiting.new.self.queue) id c.in-Some.ensures.some in
+    let value = value_by (g.E.Estimate.score_of c.args.estimate.now) in
+    let states = g.S.StateStore.states c.loop-turn.progress.store in
+    let all = c.loop-turn.progress.nodes.items in
+    let queue = heap_items c.loop-turn.progress.queue in
+    let id = c.in-Some.turn.id.0 in
+    let turn = at_turn t value states all queue search.one_each search.nodes (heap_items c.next_waiting.new.self.queue) c.in-Some.turn c.in-Some.ensures.some in
     let parts = found_of-get states all id turn.0 turn.1 in
     omega (arith, slice_get_within all id turn.0.node parts.1, ap length c.in-Some.ensures.nodes, c.next_waiting.new.self.nodes.ok.0)
 
 pub into_plan-requires-clause-descending : goal.into_plan-requires-clause-descending
 into_plan-requires-clause-descending g c =
-    let search = c.loop-id.invariant.search in
+    let search = c.loop-turn.invariant.search in
     let t = g.T.TransitionSystem.means c.args.system.now in
-    let states = g.S.StateStore.states c.loop-id.progress.store in
-    let all = c.loop-id.progress.nodes.items in
-    let queue = heap_items c.loop-id.progress.queue in
-    rw c.in-Some.ensures.nodes (descending t states all search.one_each queue search.nodes)
+    let value = value_by (g.E.Estimate.score_of c.args.estimate.now) in
+    let states = g.S.StateStore.states c.loop-turn.progress.store in
+    let all = c.loop-turn.progress.nodes.items in
+    let queue = heap_items c.loop-turn.progress.queue in
+    rw c.in-Some.ensures.nodes (descending t value states all search.one_each queue search.nodes)
 
 pub into_plan-requires-clause-found : goal.into_plan-requires-clause-found
 into_plan-requires-clause-found g c =
-    let search = c.loop-id.invariant.search in
+    let search = c.loop-turn.invariant.search in
     let t = g.T.TransitionSystem.means c.args.system.now in
-    let states = g.S.StateStore.states c.loop-id.progress.store in
-    let all = c.loop-id.progress.nodes.items in
-    let queue = heap_items c.loop-id.progress.queue in
-    let id = c.in-Some.id.0 in
-    let turn = at_turn t states all queue search.one_each search.nodes (heap_items c.next_waiting.new.self.queue) id c.in-Some.ensures.some in
+    let value = value_by (g.E.Estimate.score_of c.args.estimate.now) in
+    let states = g.S.StateStore.states c.loop-turn.progress.store in
+    let all = c.loop-turn.progress.nodes.items in
+    let queue = heap_items c.loop-turn.progress.queue in
+    let id = c.in-Some.turn.id.0 in
+    let turn = at_turn t value states all queue search.one_each search.nodes (heap_items c.next_waiting.new.self.queue) c.in-Some.turn c.in-Some.ensures.some in
     let parts = found_of-get states all id turn.0 turn.1 in
     rw c.in-Some.ensures.nodes (slice_get_within all id turn.0.node parts.1)
 
 pub returns-then-meets_goal : goal.returns-then-meets_goal
 returns-then-meets_goal g c =
-    let search = c.loop-id.invariant.search in
+    let search = c.loop-turn.invariant.search in
     let t = g.T.TransitionSystem.means c.args.system.now in
-    let states = g.S.StateStore.states c.loop-id.progress.store in
-    let all = c.loop-id.progress.nodes.items in
-    let queue = heap_items c.loop-id.progress.queue in
-    let id = c.in-Some.id.0 in
-    let turn = at_turn t states all queue search.one_each search.nodes (heap_items c.next_waiting.new.self.queue) id c.in-Some.ensures.some in
+    let value = value_by (g.E.Estimate.score_of c.args.estimate.now) in
+    let states = g.S.StateStore.states c.loop-turn.progress.store in
+    let all = c.loop-turn.progress.nodes.items in
+    let queue = heap_items c.loop-turn.progress.queue in
+    let id = c.in-Some.turn.id.0 in
+    let turn = at_turn t value states all queue search.one_each search.nodes (heap_items c.next_waiting.new.self.queue) c.in-Some.turn c.in-Some.ensures.some in
     let parts = found_of-get states all id turn.0 turn.1 in
     let got : slice_get states id ≡ Some (bits_of c.get.new.into) = rw c.in-Some.ensures.store at c.get.ensures.set in
     let same : bits_of c.get.new.into ≡ turn.0.state = same_Some (bits_of c.get.new.into) turn.0.state (sym got ∙ parts.0) in
@@ -94,24 +101,28 @@ returns-then-meets_goal g c =
     let is_reached : c.index.result.now ≡ turn.0.node = read ∙ get_or_from_slice_get all id turn.0.node c.index.result.now parts.1 in
     let same_cost : turn.0.node.cost ≡ c.index.result.now.cost = cc in
     let path = rw c.in-Some.ensures.nodes at c.in_ok-steps.ensures.path in
-    let best = optimal t states all search.one_each queue search.nodes id turn.0 c.in_ok-steps.steps.items c.args.max_states
-    c.loop-id.invariant.are_open turn.1 turn.3 meets path c.loop-id.invariant.within in (
+    let consistent = subst (λ (u : System (List Bool) ℕ). IsConsistent u value) c.requires.made_for (g.met.E.Estimate.is_consistent c.args.estimate.now) in
+    let best = optimal t value states all search.one_each queue search.nodes consistent id turn.0 c.in_ok-steps.steps.items c.args.max_states
+    c.loop-turn.invariant.are_open turn.1 turn.3 meets path c.loop-turn.invariant.within in (
       best.0,
       best.1 ∙ same_cost,
       rw (c.in_ok-steps.ensures.store, c.in-Some.ensures.store, c.in_ok-steps.ensures.nodes, c.in-Some.ensures.nodes)
-          (subst (λ (n : ℕ). AreFound t (bound n) c.args.max_states states all) same_cost best.2),
+          (subst (λ (n : ℕ). AreFound t value (bound n) c.args.max_states states all) same_cost best.2),
       best.3,
+      rw (c.in_ok-steps.ensures.store, c.in-Some.ensures.store, c.in_ok-steps.ensures.nodes, c.in-Some.ensures.nodes)
+          (subst (λ (n : ℕ). AreExpandedWithin value n states all) same_cost best.4),
     )
 
 pub expand-requires-clause-turn : goal.expand-requires-clause-turn
 expand-requires-clause-turn g c =
-    let search = c.loop-id.invariant.search in
+    let search = c.loop-turn.invariant.search in
     let t = g.T.TransitionSystem.means c.args.system.now in
-    let states = g.S.StateStore.states c.loop-id.progress.store in
-    let all = c.loop-id.progress.nodes.items in
-    let queue = heap_items c.loop-id.progress.queue in
-    let id = c.in-Some.id.0 in
-    let turn = at_turn t states all queue search.one_each search.nodes (heap_items c.next_waiting.new.self.queue) id c.in-Some.ensures.some in
+    let value = value_by (g.E.Estimate.score_of c.args.estimate.now) in
+    let states = g.S.StateStore.states c.loop-turn.progress.store in
+    let all = c.loop-turn.progress.nodes.items in
+    let queue = heap_items c.loop-turn.progress.queue in
+    let id = c.in-Some.turn.id.0 in
+    let turn = at_turn t value states all queue search.one_each search.nodes (heap_items c.next_waiting.new.self.queue) c.in-Some.turn c.in-Some.ensures.some in
     let parts = found_of-get states all id turn.0 turn.1 in
     record {
       one_each = rw (c.in-Some.ensures.nodes, c.in-Some.ensures.store) search.one_each;
@@ -121,31 +132,45 @@ expand-requires-clause-turn g c =
       found = turn.0;
       stands = rw (c.in-Some.ensures.store, c.in-Some.ensures.nodes) turn.1;
       waits = turn.2;
-      cheapest = rw (c.in-Some.ensures.store, c.in-Some.ensures.nodes) turn.3;
+      least = rw (c.in-Some.ensures.store, c.in-Some.ensures.nodes) turn.3;
       rest = rw (c.in-Some.ensures.store, c.in-Some.ensures.nodes) turn.4;
-      in_range = rw (c.in-Some.ensures.store, c.in-Some.ensures.nodes)
-          (All-weaker (λ w. place_of w < length all) (λ w. place_of w < length (found_of states all))
-          (λ w lt. omega (arith, lt, length-found_of states all search.one_each, search.one_each)) (heap_items c.next_waiting.new.self.queue) c.in-Some.ensures.in_range);
+      entries = rw (c.in-Some.ensures.store, c.in-Some.ensures.nodes)
+          (All-among (IsEntryOf value (found_of states all)) queue (heap_items c.next_waiting.new.self.queue) c.in-Some.ensures.kept search.nodes.entries);
     }
+
+pub expand-requires-clause-value : goal.expand-requires-clause-value
+expand-requires-clause-value g c =
+    let search = c.loop-turn.invariant.search in
+    let t = g.T.TransitionSystem.means c.args.system.now in
+    let value = value_by (g.E.Estimate.score_of c.args.estimate.now) in
+    let states = g.S.StateStore.states c.loop-turn.progress.store in
+    let all = c.loop-turn.progress.nodes.items in
+    let queue = heap_items c.loop-turn.progress.queue in
+    let id = c.in-Some.turn.id.0 in
+    let turn = at_turn t value states all queue search.one_each search.nodes (heap_items c.next_waiting.new.self.queue) c.in-Some.turn c.in-Some.ensures.some in
+    let parts = found_of-get states all id turn.0 turn.1 in
+    let got : slice_get states id ≡ Some (bits_of c.get.new.into) = rw c.in-Some.ensures.store at c.get.ensures.set in
+    turn.5 ∙ ap value (sym (same_Some (bits_of c.get.new.into) turn.0.state (sym got ∙ parts.0)))
 
 pub expand-requires-clause-no_goal : goal.expand-requires-clause-no_goal
 expand-requires-clause-no_goal g c = sym c.meets_goal.ensures ∙ c.if-meets_goal.false
 
 pub expand-requires-clause-open : goal.expand-requires-clause-open
 expand-requires-clause-open g c =
-    rw (c.in-Some.ensures.store, c.in-Some.ensures.nodes) c.loop-id.invariant.are_open
+    rw (c.in-Some.ensures.store, c.in-Some.ensures.nodes) c.loop-turn.invariant.are_open
 
 pub expand-requires-clause-within : goal.expand-requires-clause-within
 expand-requires-clause-within g c =
-    rw c.in-Some.ensures.store c.loop-id.invariant.within
+    rw c.in-Some.ensures.store c.loop-turn.invariant.within
 
-pub loop-id-smaller : goal.loop-id-smaller
-loop-id-smaller g c =
-    let search = c.loop-id.invariant.search in
+pub loop-turn-smaller : goal.loop-turn-smaller
+loop-turn-smaller g c =
+    let search = c.loop-turn.invariant.search in
     let t = g.T.TransitionSystem.means c.args.system.now in
-    let states = g.S.StateStore.states c.loop-id.progress.store in
-    let all = c.loop-id.progress.nodes.items in
-    let queue = heap_items c.loop-id.progress.queue in
+    let value = value_by (g.E.Estimate.score_of c.args.estimate.now) in
+    let states = g.S.StateStore.states c.loop-turn.progress.store in
+    let all = c.loop-turn.progress.nodes.items in
+    let queue = heap_items c.loop-turn.progress.queue in
     let listed : c.in_ok-expand.field-0 ≡ true = c.if-not-branch.false in
     let expands = rw listed at c.in_ok-expand.ensures.listed in
     let after = found_of (g.S.StateStore.states c.expand.new.self.store) c.expand.new.self.nodes.items in
@@ -154,19 +179,21 @@ loop-id-smaller g c =
     let most = count_by-le-length (λ (n : Found (List Bool)). n.node.is_expanded) after in
     omega (arith, count, long, most, expands.within)
 
-pub loop-id-preserved : goal.loop-id-preserved
-loop-id-preserved g c =
+pub loop-turn-preserved : goal.loop-turn-preserved
+loop-turn-preserved g c =
     let listed : c.in_ok-expand.field-0 ≡ true = c.if-not-branch.false in
     let expands = rw listed at c.in_ok-expand.ensures.listed in
     record { search = expands.search; are_open = expands.are_open; within = expands.within; width = c.in_ok-expand.ensures.width; buffers = c.in_ok-expand.ensures.buffers }
 
 pub returns : goal.returns
 returns g c =
-    let search = c.loop-id.invariant.search in
+    let search = c.loop-turn.invariant.search in
     let t = g.T.TransitionSystem.means c.args.system.now in
-    let states = g.S.StateStore.states c.loop-id.progress.store in
-    let all = c.loop-id.progress.nodes.items in
-    let queue = heap_items c.loop-id.progress.queue in
-    let result = unsolvable t states all search.one_each queue search.nodes c.args.max_states c.loop-id.invariant.are_open
-    (none_waits t states all queue search.one_each search.nodes c.in_default.ensures.none) c.loop-id.invariant.within in
+    let value = value_by (g.E.Estimate.score_of c.args.estimate.now) in
+    let states = g.S.StateStore.states c.loop-turn.progress.store in
+    let all = c.loop-turn.progress.nodes.items in
+    let queue = heap_items c.loop-turn.progress.queue in
+    let consistent = subst (λ (u : System (List Bool) ℕ). IsConsistent u value) c.requires.made_for (g.met.E.Estimate.is_consistent c.args.estimate.now) in
+    let result = unsolvable t value states all search.one_each queue search.nodes consistent c.args.max_states c.loop-turn.invariant.are_open
+    (none_waits t value states all queue search.one_each search.nodes c.in_default.ensures.none) c.loop-turn.invariant.within in
     (result.0, rw (c.into_states.ensures.store, c.in_default.ensures.store, c.into_states.ensures.nodes, c.in_default.ensures.nodes) result.1)

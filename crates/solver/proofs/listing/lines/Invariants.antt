@@ -10,4 +10,4 @@ use Rattle.solver.proofs.listing.lines.Given as goal
 abbrev pub invariant-loop-place : goal.invariant-loop-place
 invariant-loop-place l =
     (length (bits_of l.state) ≡ pooled_width l.found.store)
-    × (map parts.line_of l.lines.items ≡ map state_line (search.lines_of (take l.place (pooled_states l.found.store)) (take l.place l.found.nodes.items)))
+    × (map parts.line_of l.lines.items ≡ map state_line (search.lines_of (λ _. 0) (take l.place (pooled_states l.found.store)) (take l.place l.found.nodes.items)))

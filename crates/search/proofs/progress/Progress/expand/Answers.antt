@@ -1,10 +1,12 @@
-use Rattle.std.proofs.Common.{◌≡◌, ◌+◌, get_or, drop, sym, refl, ◌∙◌, subst, arith, Some, true, false}
+use Rattle.std.proofs.Common.{rules, ◌≡◌, ℕ, Bool, List, ◌+◌, get_or, drop, sym, refl, ◌∙◌, subst, arith, Some, true, false}
 use Rattle.std.specs.Prelude.{IsTrue, is_some}
 use Rattle.std.specs.BinaryHeap.{heap_items}
 use Rattle.std.proofs.lemmas.List.{drop_more, drop_all}
 use Rattle.std.proofs.lemmas.Option.{same_Some}
 use Rattle.model.proofs.ListLemmas.{Contains-here}
 use Rattle.packed_state.specs.Packed.{bits_of}
+use Rattle.model.specs.Runs.{System}
+use Rattle.search.specs.Estimates.{IsConsistent, value_by}
 use Rattle.search.specs.Nodes.{found_of, marked}
 use Rattle.search.proofs.Linked.{found_of-get}
 use Rattle.search.proofs.Marked.{open_all}
@@ -17,13 +19,15 @@ loop-action-init g c =
     let t = g.T.TransitionSystem.means c.args.system.now in
     let states = g.S.StateStore.states c.args.self.now.store in
     let all = c.args.self.now.nodes.items in
-    let parts = found_of-get states all c.args.id.0 turn.found turn.stands in
+    let parts = found_of-get states all c.args.turn.id.0 turn.found turn.stands in
     let s = bits_of c.args.buffers.now.state in
     let same : s ≡ turn.found.state = same_Some s turn.found.state (sym c.requires.state ∙ parts.0) in
     let begun = c.mark_expanded.new.self in
     let states' = g.S.StateStore.states begun.store in
     let is_states : states' ≡ states = rw c.mark_expanded.ensures.store refl in
-    let begins = turn_begins t states all turn.queue (heap_items c.args.self.now.queue) turn.one_each turn.nodes c.args.id.0 turn.found turn.stands turn.waits turn.cheapest turn.rest turn.in_range
+    let value = value_by (g.E.Estimate.score_of c.args.estimate.now) in
+    let consistent = subst (λ (u : System (List Bool) ℕ). IsConsistent u value) c.requires.made_for (g.met.E.Estimate.is_consistent c.args.estimate.now) in
+    let begins = turn_begins t value consistent states all turn.queue (heap_items c.args.self.now.queue) turn.one_each turn.nodes c.args.turn.id.0 turn.found turn.stands turn.waits turn.least turn.rest turn.entries
     (subst (λ x. t.meets_goal x ≡ false) same c.requires.no_goal) c.requires.open states' begun.nodes.items is_states (c.mark_expanded.ensures.nodes turn.found.node parts.1) in
     record {
       expanding = record {
@@ -32,21 +36,15 @@ loop-action-init g c =
         others_open = begins.3;
       };
       within = rw c.mark_expanded.ensures.store c.requires.within;
-      continues = continues_same (found_of states' begun.nodes.items) c.args.id.0;
+      continues = continues_same (found_of states' begun.nodes.items) c.args.turn.id.0;
       width = rw c.mark_expanded.ensures.store c.requires.width;
       state = c.requires.buffers.state;
+      score = search rules;
       next = c.requires.buffers.next;
       stands = rw c.mark_expanded.ensures.store c.requires.state;
       left = rw c.deref-action-items.ensures.value
-          (left_start t (found_of states' begun.nodes.items) c.args.id.0 (marked turn.found) begins.4 s c.applicable.new.into.items same c.in_ok-applicable.ensures);
+          (left_start t (found_of states' begun.nodes.items) c.args.turn.id.0 (marked turn.found) begins.4 s c.applicable.new.into.items same c.in_ok-applicable.ensures);
     }
-
-pub reach-requires-clause-leads : goal.reach-requires-clause-leads
-reach-requires-clause-leads g c =
-    let t = g.T.TransitionSystem.means c.args.system.now in
-    let a = get_or c.deref-action-items.result.now c.loop-action.action-index 0 in
-    λ s at. subst (λ x. t.step x a ≡ Some (bits_of c.successor.new.into))
-    (same_Some (bits_of c.loop-action.buffers.1.0) s (sym c.loop-action.invariant.stands ∙ at)) c.successor.ensures.step
 
 pub successor-requires-clause-applicable : goal.successor-requires-clause-applicable
 successor-requires-clause-applicable g c =
@@ -54,7 +52,7 @@ successor-requires-clause-applicable g c =
     let e = inv.expanding in
     let t = g.T.TransitionSystem.means c.args.system.now in
     let states = g.S.StateStore.states c.loop-action.self.store in
-    let parts = found_of-get states c.loop-action.self.nodes.items c.args.id.0 e.turn.found e.turn.stands in
+    let parts = found_of-get states c.loop-action.self.nodes.items c.args.turn.id.0 e.turn.found e.turn.stands in
     let numbers = c.deref-action-items.result.now in
     let a = get_or numbers c.loop-action.action-index 0 in
     let s = bits_of c.loop-action.buffers.1.0 in
@@ -72,7 +70,7 @@ loop-action-preserved g c =
     let nodes = found_of states c.loop-action.self.nodes.items in
     let after = found_of states' c.reach.new.self.nodes.items in
     let begun = found_of (g.S.StateStore.states c.mark_expanded.new.self.store) c.mark_expanded.new.self.nodes.items in
-    let parts = found_of-get states c.loop-action.self.nodes.items c.args.id.0 e.turn.found e.turn.stands in
+    let parts = found_of-get states c.loop-action.self.nodes.items c.args.turn.id.0 e.turn.found e.turn.stands in
     let numbers = c.deref-action-items.result.now in
     let a = get_or numbers c.loop-action.action-index 0 in
     let s = bits_of c.loop-action.buffers.1.0 in
@@ -84,12 +82,13 @@ loop-action-preserved g c =
     record {
       expanding = reaches.expanding;
       within = reaches.within;
-      continues = continues_trans begun nodes after c.args.id.0 inv.continues reaches.continues;
+      continues = continues_trans begun nodes after c.args.turn.id.0 inv.continues reaches.continues;
       width = c.in_ok-reach.ensures.width ∙ inv.width;
       state = inv.state;
+      score = inv.score;
       next = c.successor.ensures.width;
-      stands = stands_still states states' c.loop-action.self.nodes.items c.reach.new.self.nodes.items c.args.id.0 e.turn.found s e.turn.stands reaches.continues inv.stands;
-      left = left_more t nodes c.args.id.0 e.turn.found e.turn.stands after a next (drop (c.loop-action.action-index + 1) numbers) left leads reaches.continues reaches.listed;
+      stands = stands_still states states' c.loop-action.self.nodes.items c.reach.new.self.nodes.items c.args.turn.id.0 e.turn.found s e.turn.stands reaches.continues inv.stands;
+      left = left_more t nodes c.args.turn.id.0 e.turn.found e.turn.stands after a next (drop (c.loop-action.action-index + 1) numbers) left leads reaches.continues reaches.listed;
     }
 
 pub returns-clause-listed : goal.returns-clause-listed
@@ -98,13 +97,15 @@ returns-clause-listed g c =
     let t = g.T.TransitionSystem.means c.args.system.now in
     let states = g.S.StateStore.states c.args.self.now.store in
     let all = c.args.self.now.nodes.items in
-    let parts = found_of-get states all c.args.id.0 turn.found turn.stands in
+    let parts = found_of-get states all c.args.turn.id.0 turn.found turn.stands in
     let s = bits_of c.args.buffers.now.state in
     let same : s ≡ turn.found.state = same_Some s turn.found.state (sym c.requires.state ∙ parts.0) in
     let begun = c.mark_expanded.new.self in
     let states' = g.S.StateStore.states begun.store in
     let is_states : states' ≡ states = rw c.mark_expanded.ensures.store refl in
-    let begins = turn_begins t states all turn.queue (heap_items c.args.self.now.queue) turn.one_each turn.nodes c.args.id.0 turn.found turn.stands turn.waits turn.cheapest turn.rest turn.in_range
+    let value = value_by (g.E.Estimate.score_of c.args.estimate.now) in
+    let consistent = subst (λ (u : System (List Bool) ℕ). IsConsistent u value) c.requires.made_for (g.met.E.Estimate.is_consistent c.args.estimate.now) in
+    let begins = turn_begins t value consistent states all turn.queue (heap_items c.args.self.now.queue) turn.one_each turn.nodes c.args.turn.id.0 turn.found turn.stands turn.waits turn.least turn.rest turn.entries
     (subst (λ x. t.meets_goal x ≡ false) same c.requires.no_goal) c.requires.open states' begun.nodes.items is_states (c.mark_expanded.ensures.nodes turn.found.node parts.1) in
     let inv = c.loop-action.invariant in
     let e = inv.expanding in
@@ -113,7 +114,7 @@ returns-clause-listed g c =
     let none = drop_all c.loop-action.action-index numbers (omega (arith, c.loop-action-test.false)) in
     record {
       search = e.search;
-      are_open = open_all t nodes c.args.id.0 e.turn.found e.turn.stands (left_end t nodes c.args.id.0 e.turn.found e.turn.stands (drop c.loop-action.action-index numbers) none inv.left) e.others_open;
+      are_open = open_all t nodes c.args.turn.id.0 e.turn.found e.turn.stands (left_end t nodes c.args.turn.id.0 e.turn.found e.turn.stands (drop c.loop-action.action-index numbers) none inv.left) e.others_open;
       within = inv.within;
       count = inv.continues.count ∙ begins.5;
     }

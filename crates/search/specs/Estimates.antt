@@ -1,0 +1,24 @@
+-- Estimates of what is still to pay from a state on.
+use Rattle.std.proofs.Common.{zero-le}
+use Rattle.std.specs.Prelude.{◌≡◌, ℕ, ◌+◌, ◌≤◌, ℤ, pos, negsuc, IsTrue, Some, refl}
+use Rattle.model.specs.Runs.{System}
+
+-- The estimate is 0 in each state that meets the goal, and across an applicable action it falls by at most what the action
+-- costs: it is consistent. (Russell & Norvig, Artificial Intelligence, section 3.5.2; Hart, Nilsson & Raphael, A Formal
+-- Basis for the Heuristic Determination of Minimum Cost Paths, 1968.)
+pub record IsConsistent {S A : Type 0} (t : System S A) (value : S → ℕ) : Type 0 where
+  pub zero_at_goals : (s : S) → IsTrue (t.meets_goal s) → value s ≡ 0
+  pub falls_by_no_more : (s next : S) (a : A) → t.step s a ≡ Some next → value s ≤ t.cost a + value next
+
+-- the greater of 0 and the number
+abbrev pub above_zero : ℤ → ℕ
+above_zero (pos n) = n
+above_zero (negsuc n) = 0
+
+-- the estimate of a state, by its score
+abbrev pub value_by : {S : Type 0} → (S → ℤ) → S → ℕ
+value_by score s = above_zero (score s)
+
+-- the estimate 0 is consistent
+pub consistent_zero : {S A : Type 0} (t : System S A) → IsConsistent t (λ _. 0)
+consistent_zero t = record { zero_at_goals = λ s goal. refl; falls_by_no_more = λ s next a leads. zero-le }

@@ -1,0 +1,77 @@
+//! Estimates of what is still to pay from a state on, by which a search chooses the state that is expanded next.
+ghost use Rattle.std.specs.Prelude.{◌≡◌, ℕ, ◌<◌, ◌^◌, ℤ, Bool, List, Some, length};
+ghost use Rattle.model.specs.Runs.{System};
+ghost use Rattle.packed_state.specs.Packed.{bits_of};
+ghost use Rattle.search.specs.Estimates.{IsConsistent, above_zero, value_by};
+
+use crate::transitions::TransitionSystem;
+use packed_state::Packed;
+
+/// An estimate of what is still to pay from each state of a transition system, which is at most what that costs.
+///
+/// Each state has a score, and its estimate is the greater of 0 and the score (`value_of`). A successor's score comes from
+/// that of the state before, so that what an action leaves alone need not be looked at.
+pub trait Estimate {
+    ghost width_of: { Self → ℕ };
+
+    ghost system_of: { Self → System (List Bool) ℕ };
+
+    ghost score_of: { Self → List Bool → ℤ };
+
+    /// The state's score.
+    fn score(&self, state: &Packed) -> i64
+        requires { length (bits_of state.now) ≡ width_of self.now }
+        ensures { result ≡ score_of self.now (bits_of state.now) };
+
+    /// The score of the state that the action leads to, from the score of the state before.
+    fn score_after(&self, score: i64, before: &Packed, action: u32, after: &Packed) -> i64
+        requires before { length (bits_of before.now) ≡ width_of self.now }
+        requires after { length (bits_of after.now) ≡ width_of self.now }
+        requires leads { (system_of self.now).step (bits_of before.now) action ≡ Some (bits_of after.now) }
+        requires score { score ≡ score_of self.now (bits_of before.now) }
+        ensures { result ≡ score_of self.now (bits_of after.now) };
+
+    ghost is_consistent: { (estimate : Self) → IsConsistent (system_of estimate) (value_by (score_of estimate)) };
+}
+
+/// The estimate of a state with this score: the greater of 0 and the score.
+pub fn value_of(score: i64) -> u64
+    ensures value { result ≡ above_zero score }
+    ensures within { result < 2 ^ 63 }
+{
+    if score > 0 { score as u64 } else { 0 }
+}
+
+/// The estimate of the state.
+pub(crate) fn value_in<E: Estimate>(estimate: &E, state: &Packed) -> u64
+    requires { length (bits_of state.now) ≡ E.width_of estimate.now }
+    ensures value { result ≡ value_by (E.score_of estimate.now) (bits_of state.now) }
+    ensures within { result < 2 ^ 63 }
+{
+    value_of(estimate.score(state))
+}
+
+/// The estimate 0 for each state of a system.
+#[derive(Clone, Copy)]
+pub struct NoEstimate<'a, T>(pub &'a T);
+
+impl<T: TransitionSystem> Estimate for NoEstimate<'_, T> {
+    ghost use Rattle.std.specs.Prelude.{pos};
+    ghost use Rattle.search.specs.Estimates.{consistent_zero};
+
+    ghost width_of = { λ estimate. T.width_of estimate.0.now };
+
+    ghost system_of = { λ estimate. T.means estimate.0.now };
+
+    ghost score_of = { λ _ _. pos 0 };
+
+    ghost is_consistent = { λ estimate. consistent_zero (T.means estimate.0.now) };
+
+    fn score(&self, _state: &Packed) -> i64 {
+        0
+    }
+
+    fn score_after(&self, _score: i64, _before: &Packed, _action: u32, _after: &Packed) -> i64 {
+        0
+    }
+}
