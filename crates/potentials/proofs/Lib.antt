@@ -1,0 +1,5 @@
+mod ListLemmas
+mod ScoreLemmas
+mod LossLemmas
+mod GroundLemmas
+mod FairLemmas

@@ -1,0 +1,15 @@
+//! Potentials: weights of atoms by which a state has a value, which is a lower bound of what is still to pay where they are
+//! fair.
+#![tactic(auto)]
+
+mod fair_potentials;
+mod fairness;
+mod goals;
+mod losses;
+mod potentials;
+mod range;
+mod swing;
+
+pub use fair_potentials::Fair;
+pub use fairness::Fairness;
+pub use potentials::Potentials;
