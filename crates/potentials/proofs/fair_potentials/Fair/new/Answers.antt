@@ -12,18 +12,18 @@ returns-in-Fair c =
     let t = task_in c.args.ground.now in
     let a = atoms_in c.args.ground.now in
     let p = potentials_of c.args.potentials in
-    record { potentials = refl; ground = refl; bounds = are_lower_bounds t a p (numberable c.args.ground.now) (subst (Tells t a p) c.in-Fair.is c.in_ok-fairness.ensures) }
+    record { fair = record { potentials = refl; ground = refl; bounds = are_lower_bounds t a p (numberable c.args.ground.now) (subst (Tells t a p) c.in-Fair.is c.in_ok-fairness.ensures) } }
 
 pub returns-in-Instance : goal.returns-in-Instance
 returns-in-Instance c =
     let t = task_in c.args.ground.now in
     let a = atoms_in c.args.ground.now in
     let p = potentials_of c.args.potentials in
-    unfair-instance t a p _ (subst (Tells t a p) c.in-Instance.is c.in_ok-fairness.ensures)
+    record { fair = unfair-instance t a p _ (subst (Tells t a p) c.in-Instance.is c.in_ok-fairness.ensures) }
 
-pub returns-in-Goal : goal.returns-in-Goal
-returns-in-Goal c = λ fair.
+pub returns : goal.returns
+returns c =
     let t = task_in c.args.ground.now in
     let a = atoms_in c.args.ground.now in
     let p = potentials_of c.args.potentials in
-    (subst (Tells t a p) c.in-Goal.is c.in_ok-fairness.ensures).1 fair.goals
+    record { fair = λ fair. (subst (Tells t a p) c.in-Goal.is c.in_ok-fairness.ensures).1 fair.goals }
