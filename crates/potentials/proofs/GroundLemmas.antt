@@ -1,14 +1,10 @@
 -- What every ground task keeps: how many instances and atoms it has, and that its atoms are numbered once.
-use Rattle.std.proofs.Common.{◌≡◌, ◌∙◌, ℕ, ◌<◌, ◌≤◌, ◌^◌, Bool, true, List, length, map, get_or, Some, refl, sym, ap, arith}
+use Rattle.std.proofs.Common.{◌<◌, ◌≤◌, ◌^◌, length, get_or, ap, arith}
 use Rattle.std.proofs.lemmas.List.{length-map}
-use Rattle.std.specs.Prelude.{All, Contains, IsTrue, slice_get}
 use Rattle.std.proofs.lemmas.List.Elements.{All-contains_itself}
 use Rattle.typing.specs.TaskParts.{atom_of}
-use Rattle.formulas.specs.State.{instance_of}
 use Rattle.grounding.specs.declared.ground.Ground.{Ground}
 use Rattle.grounding.specs.Ground.{task_in, atoms_in}
-use Rattle.model.specs.Task.{Atom}
-use Rattle.model.specs.Fluents.{is_fluent}
 use Rattle.model.specs.ClosedOff.{kept_instances}
 use Rattle.model.proofs.NumberingLemmas.{Contains-stands_in}
 use Rattle.potential_functions.specs.Laws.{AreNumberable}

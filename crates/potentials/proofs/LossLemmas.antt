@@ -1,15 +1,15 @@
 -- What an instance loses, change by change: each atom counts at the first change of it.
-use Rattle.std.proofs.Common.{◌≡◌, ◌∙◌, ℕ, ◌+◌, ◌*◌, ◌<◌, ◌≤◌, ◌≢◌, inl, inr, Bool, true, false, ◌||◌, ◌==◌, List, [], ◌∷◌, ◌++◌, length, map, take, get_or, refl, sym, ap, subst, arith, ℤ, pos, ◌+ℤ◌, neg_ℤ, ◌≤ℤ◌}
+use Rattle.std.proofs.Common.{◌≡◌, ◌∙◌, ℕ, ◌+◌, ◌*◌, ◌<◌, Bool, true, false, ◌||◌, ◌==◌, List, [], ◌∷◌, ◌++◌, length, map, take, get_or, refl, sym, ap, subst, arith, ℤ, pos, ◌+ℤ◌, neg_ℤ, ◌≤ℤ◌}
 use Rattle.std.specs.Prelude.{if◌then◌else◌, All, Some, slice_get}
 use Rattle.std.specs.Int.{int_max}
 use Rattle.std.proofs.lemmas.Option.{get_or_from_slice_get}
 use Rattle.std.proofs.lemmas.List.Elements.{All-contains}
-use Rattle.std.proofs.lemmas.Bool.{eq-eqb, eqb-true, false_from_ne_true, cases_eq}
+use Rattle.std.proofs.lemmas.Bool.{eq-eqb, eqb-true, false_from_ne_true}
 use Rattle.std.proofs.lemmas.Int.{ints}
 use Rattle.model.specs.NumberedLiterals.{NumberedLiteral, NumberedChange}
 use Rattle.potential_functions.specs.PotentialFunctions.{weight, sum_below, IsInRange}
 use Rattle.model.proofs.ListLemmas.{Contains-got, Contains-map}
-use Rattle.potential_functions.specs.Fair.{says, touches, Pair, is_pair, worst, loses_at_most, goal_gives}
+use Rattle.potential_functions.specs.Fair.{says, touches, is_pair, worst, goal_gives}
 use Rattle.potential_functions.proofs.Sums.{sum-alike, sum-changed, sum-zero, sum-range}
 use Rattle.potential_functions.proofs.Ranges.{weight-range, zero-range}
 use Rattle.potential_functions.proofs.Worst.{worst_by, worst-is, worst-range}

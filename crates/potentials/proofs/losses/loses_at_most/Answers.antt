@@ -1,8 +1,8 @@
-use Rattle.std.proofs.Common.{◌≡◌, ◌+◌, map, take, sym, arith, to_z, w64}
+use Rattle.std.proofs.Common.{◌+◌, map, take, sym, arith, to_z, w64}
 use Rattle.std.proofs.lemmas.Int.{ints}
 use Rattle.grounding_kept.specs.Numbers.{numbered_of}
 use Rattle.grounding.specs.Changes.{counting_of}
-use Rattle.potentials.proofs.LossLemmas.{losing, losing-none, losing-range, losing-at}
+use Rattle.potentials.proofs.LossLemmas.{losing-none, losing-range, losing-at}
 use Rattle.potentials.proofs.losses.loses_at_most.Goals as goal
 
 pub loop-place-init : goal.loop-place-init

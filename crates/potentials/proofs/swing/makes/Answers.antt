@@ -1,4 +1,4 @@
-use Rattle.std.proofs.Common.{rules, tests, ◌∙◌, sym, Bool, ◌&&◌}
+use Rattle.std.proofs.Common.{rules, tests, ◌∙◌, sym, ◌&&◌}
 use Rattle.std.specs.Prelude.{◌==◌}
 use Rattle.std.specs.Bool.{beq}
 use Rattle.std.proofs.lemmas.Iterator.{YieldsList-from_slice}

@@ -1,6 +1,5 @@
-use Rattle.std.proofs.Common.{rules, tests, ◌∙◌, sym, Bool, ◌&&◌}
+use Rattle.std.proofs.Common.{rules, tests, ◌∙◌, sym}
 use Rattle.std.specs.Prelude.{◌==◌}
-use Rattle.std.specs.Bool.{beq}
 use Rattle.std.proofs.lemmas.Iterator.{YieldsList-from_slice}
 use Rattle.std.proofs.lemmas.Iterator.Search.{any_from_yields_List}
 use Rattle.grounding.specs.declared.changes.CountingChange.{CountingChange}

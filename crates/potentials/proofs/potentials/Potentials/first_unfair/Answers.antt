@@ -1,6 +1,5 @@
-use Rattle.std.proofs.Common.{◌≡◌, ◌∙◌, ℕ, ◌<◌, ◌≤◌, ◌^◌, length, map, subst, sym, ap, arith}
+use Rattle.std.proofs.Common.{arith}
 use Rattle.grounding.specs.Ground.{task_in, atoms_in}
-use Rattle.model.specs.ClosedOff.{kept_instances}
 use Rattle.potentials.specs.Potentials.{potentials_of}
 use Rattle.potentials.proofs.FairLemmas.{fair-next, fair-all, first-unfair}
 use Rattle.potentials.proofs.potentials.Potentials.first_unfair.Goals as goal

@@ -1,4 +1,4 @@
-use Rattle.std.proofs.Common.{◌≡◌, ◌+◌, refl, ap, arith, length, pos, ◌+ℤ◌, neg_ℤ}
+use Rattle.std.proofs.Common.{◌≡◌, ◌+◌, refl, ap, arith, length, ◌+ℤ◌, neg_ℤ}
 use Rattle.std.proofs.lemmas.Int.{ints}
 use Rattle.packed_state.specs.Packed.{bits_of}
 use Rattle.potential_functions.specs.PotentialFunctions.{sum_below, given}
