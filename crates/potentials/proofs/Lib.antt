@@ -3,3 +3,4 @@ mod ScoreLemmas
 mod LossLemmas
 mod GroundLemmas
 mod FairLemmas
+mod ClimbLemmas

@@ -2,9 +2,11 @@
 //! fair.
 #![tactic(auto)]
 
+mod climb;
 mod fair_potentials;
 mod fairness;
 mod goals;
+mod improve;
 mod losses;
 mod potentials;
 mod range;

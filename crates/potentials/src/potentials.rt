@@ -20,7 +20,7 @@ pub struct Potentials {
 }
 
 impl Potentials {
-    ghost use Rattle.std.specs.Prelude.{◌<◌, ◌↔◌, IsSome, IfSome, IfOk, pos, length, replicate};
+    ghost use Rattle.std.specs.Prelude.{◌<◌, ◌↔◌, IsSome, IfSome, IfOk, pos, set, length, replicate};
     ghost use Rattle.grounding.specs.Ground.{task_in, atoms_in};
     ghost use Rattle.packed_state.specs.Packed.{bits_of};
     ghost use Rattle.potential_functions.specs.PotentialFunctions.{AreInRange};
@@ -106,17 +106,34 @@ impl Potentials {
     }
 
     /// The weight of the atom of this number.
-    fn weight(&self, number: u32) -> i64
+    pub(crate) fn weight(&self, number: u32) -> i64
         requires { number < length (potentials_of self.now).weights }
         ensures value { result ≡ potential.weight (potentials_of self.now).weights number }
         ensures range { IsInRange result }
     {
         self.weights[number as usize]
     }
+
+    /// Changes the weight of the atom of this number.
+    pub(crate) fn set_weight(&mut self, number: u32, weight: i64)
+        requires within { number < length (potentials_of self.old).weights }
+        requires range { IsInRange weight }
+        ensures { potentials_of self.new ≡ record { constant = (potentials_of self.old).constant; weights = set (potentials_of self.old).weights number weight } }
+    {
+        self.weights[number as usize] = weight;
+    }
+
+    /// Changes the constant.
+    pub(crate) fn set_constant(&mut self, constant: i64)
+        requires { IsInRange constant }
+        ensures { potentials_of self.new ≡ record { constant = constant; weights = (potentials_of self.old).weights } }
+    {
+        self.constant = constant;
+    }
 }
 
 /// The greater of 0 and the number.
-fn or_zero(number: i64) -> u64
+pub(crate) fn or_zero(number: i64) -> u64
     ensures { result ≡ potential.or_zero number }
 {
     if number > 0 { number as u64 } else { 0 }
