@@ -4,17 +4,14 @@ use Rattle.std.specs.Prelude.{if◌then◌else◌, All}
 use Rattle.std.specs.Int.{int_max}
 use Rattle.std.proofs.lemmas.Bool.{cases_eq}
 use Rattle.std.proofs.lemmas.List.{length-map}
-use Rattle.std.proofs.lemmas.List.Elements.{All-contains}
-use Rattle.model.proofs.ListLemmas.{Contains-got}
 use Rattle.std.proofs.lemmas.Int.{ints, clamps}
 use Rattle.std.specs.FinSet.{contains}
-use Rattle.model.specs.Task.{Atom, Task, Instance}
-use Rattle.model.specs.Meaning.{cost_of, initial_state}
-use Rattle.model.specs.ClosedOff.{kept_instances}
+use Rattle.model.specs.Task.{Atom, Task}
+use Rattle.model.specs.Meaning.{initial_state}
 use Rattle.model.specs.NumberedLiterals.{NumberedLiteral, literals_of_goal}
 use Rattle.model.specs.Grounding.{ground_system}
 use Rattle.potential_functions.specs.PotentialFunctions.{PotentialFunction, weight, given, score, or_zero, IsInRange}
-use Rattle.potential_functions.specs.Fair.{says, goal_gives, goal_gives_at_most, IsFairAt, IsFirstUnfair, AreFair}
+use Rattle.potential_functions.specs.Fair.{says, goal_gives, goal_gives_at_most, AreFair}
 use Rattle.potential_functions.specs.Settled.{initial_value, IsSettled, IsImproved}
 use Rattle.potential_functions.proofs.Sums.{sum-range}
 use Rattle.potential_functions.proofs.Ranges.{zero-range, weight-range, given-range}
@@ -112,12 +109,6 @@ module _ (task : Task) (atoms : List Atom) where
         let first = or_zero-rises (score (potentials k weights) initial) (score (potentials constant weights) initial) (omega (arith, ints)) in
         omega arith;
   }
-
-  pub none-unfair : (p q : PotentialFunction) (k : ℤ) (weights : List ℤ) (number : ℕ) → q ≡ potentials k weights → IsFirstUnfair task atoms q number → IsNoneBetter task atoms p weights
-  none-unfair p q k weights number is first = subst (λ (x : PotentialFunction). IsNoneBetter task atoms p x.weights) is (record { none = λ m fits fair. absurd (first.unfair (at fair.instances)) })
-    where
-      at : All (λ (i : Instance). IsFairAt (cost_of task i) task atoms q.weights i) (kept_instances task) → IsFairAt (cost_of task first.instance) task atoms q.weights first.instance
-      at all = All-contains (λ (i : Instance). IsFairAt (cost_of task i) task atoms q.weights i) (kept_instances task) first.instance all (Contains-got (kept_instances task) number first.instance first.named)
 
   -- ---- the first
 

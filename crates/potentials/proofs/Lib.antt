@@ -4,3 +4,4 @@ mod LossLemmas
 mod GroundLemmas
 mod FairLemmas
 mod ClimbLemmas
+mod TouchingLemmas

@@ -46,7 +46,7 @@ or_false : (b : Bool) → (b || false) ≡ b
 or_false true = refl
 or_false false = refl
 
-touches-append : (done : List NumberedChange) (c : NumberedChange) (n : ℕ) → touches (done ++ c ∷ []) n ≡ (touches done n || c.atom == n)
+pub touches-append : (done : List NumberedChange) (c : NumberedChange) (n : ℕ) → touches (done ++ c ∷ []) n ≡ (touches done n || c.atom == n)
 touches-append [] c n = or_false (c.atom == n)
 touches-append (d ∷ done) c n = ap (λ b. d.atom == n || b) (touches-append done c n) ∙ shift (d.atom == n) (touches done n) (c.atom == n)
   where

@@ -3,3 +3,4 @@ pub mod Swing
 pub mod Fairness
 pub mod FairPotentials
 pub mod Climb
+pub mod Touching

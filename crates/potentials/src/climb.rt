@@ -2,6 +2,7 @@
 ghost use Rattle.std.specs.Prelude.{◌≡◌, ◌<◌, ◌≤◌, ◌||◌, ℤ, ◌+ℤ◌, ◌≤ℤ◌, neg_ℤ, pos, set, IfSome, IfNone, length};
 ghost use Rattle.packed_state.specs.Packed.{bits_of};
 ghost use Rattle.grounding.specs.Ground.{task_in, atoms_in};
+ghost use Rattle.model.specs.ClosedOff.{kept_instances};
 ghost use Rattle.model.specs.NumberedLiterals.{literals_of_goal};
 ghost use Rattle.model.specs.Grounding.{ground_system};
 ghost use Rattle.potential_functions.specs.PotentialFunctions.{IsInRange};
@@ -11,12 +12,14 @@ ghost use Rattle.potential_functions.specs.Fair.{AreFair};
 ghost use Rattle.potential_functions.specs.Settled.{initial_value};
 ghost use Rattle.potential_functions.proofs.Settling.{IsNoneBetter};
 ghost use Rattle.potentials.specs.Potentials.{potentials_of};
+ghost use Rattle.potentials.specs.Touching.{IsTouching};
 ghost use Rattle.potentials.specs.Climb.{IsClimb, IsNext, IsWeightTried, IsAtomTried, IsPass, worth};
 
 use crate::goals::{goal_gives, goal_gives_at_most};
 use crate::potentials::{Potentials, or_zero};
 use crate::range::{MAX_WEIGHT, given, is_in_range};
 use crate::swing::says;
+use crate::touching::Touching;
 use grounding::Ground;
 use packed_state::Packed;
 
@@ -136,8 +139,16 @@ impl Climb {
     }
 
     /// Takes the weight, if it makes them better.
-    fn try_weight(&mut self, ground: &Ground<'_>, initial: &Packed, atom: u32, weight: i64) -> bool
+    fn try_weight(
+        &mut self,
+        ground: &Ground<'_>,
+        touching: &Touching,
+        initial: &Packed,
+        atom: u32,
+        weight: i64,
+    ) -> bool
         requires climb { IsClimb (task_in ground.now) (atoms_in ground.now) self.old }
+        requires touching { IsTouching (task_in ground.now) (atoms_in ground.now) (length (kept_instances (task_in ground.now))) touching.now }
         requires initial { bits_of initial.now ≡ (ground_system (task_in ground.now) (atoms_in ground.now)).initial }
         requires within { atom < length (atoms_in ground.now) }
         ensures { IsWeightTried (task_in ground.now) (atoms_in ground.now) self.old self.new atom weight result }
@@ -146,14 +157,22 @@ impl Climb {
             return false;
         }
         match self.next(ground, initial, atom, weight) {
-            Some(next) => self.take_if_fair(ground, atom, weight, next),
+            Some(next) => self.take_if_fair(ground, touching, atom, weight, next),
             None => false,
         }
     }
 
-    /// Takes the weight and what it gives, if each instance is fair then.
-    fn take_if_fair(&mut self, ground: &Ground<'_>, atom: u32, weight: i64, next: Next) -> bool
+    /// Takes the weight and what it gives, if each instance that touches the atom is fair then. The others stay fair.
+    fn take_if_fair(
+        &mut self,
+        ground: &Ground<'_>,
+        touching: &Touching,
+        atom: u32,
+        weight: i64,
+        next: Next,
+    ) -> bool
         requires climb { IsClimb (task_in ground.now) (atoms_in ground.now) self.old }
+        requires touching { IsTouching (task_in ground.now) (atoms_in ground.now) (length (kept_instances (task_in ground.now))) touching.now }
         requires within { atom < length (atoms_in ground.now) }
         requires range { IsInRange weight }
         requires next { IsNext (task_in ground.now) (atoms_in ground.now) self.old atom weight next }
@@ -161,43 +180,52 @@ impl Climb {
     {
         let old = self.potentials.weight(atom);
         self.potentials.set_weight(atom, weight);
-        match self.potentials.first_unfair(ground) {
-            Some(_) => {
-                self.potentials.set_weight(atom, old);
-                false
-            }
-            None => {
-                self.potentials.set_constant(next.constant);
-                self.goal = next.goal;
-                self.score = next.score;
-                true
-            }
+        if !self.potentials.are_fair_at(ground, touching.of(atom)) {
+            self.potentials.set_weight(atom, old);
+            return false;
         }
+        self.potentials.set_constant(next.constant);
+        self.goal = next.goal;
+        self.score = next.score;
+        true
     }
 
     /// Tries the weight of the atom that is one less, and the one that is one more.
-    fn try_atom(&mut self, ground: &Ground<'_>, initial: &Packed, atom: u32) -> bool
+    fn try_atom(
+        &mut self,
+        ground: &Ground<'_>,
+        touching: &Touching,
+        initial: &Packed,
+        atom: u32,
+    ) -> bool
         requires climb { IsClimb (task_in ground.now) (atoms_in ground.now) self.old }
+        requires touching { IsTouching (task_in ground.now) (atoms_in ground.now) (length (kept_instances (task_in ground.now))) touching.now }
         requires initial { bits_of initial.now ≡ (ground_system (task_in ground.now) (atoms_in ground.now)).initial }
         requires within { atom < length (atoms_in ground.now) }
         ensures { IsAtomTried (task_in ground.now) (atoms_in ground.now) self.old self.new atom result }
     {
         let old = self.potentials.weight(atom);
-        if self.try_weight(ground, initial, atom, old - 1) {
+        if self.try_weight(ground, touching, initial, atom, old - 1) {
             return true;
         }
-        self.try_weight(ground, initial, atom, old + 1)
+        self.try_weight(ground, touching, initial, atom, old + 1)
     }
 
     /// Tries each atom once.
-    pub(crate) fn pass(&mut self, ground: &Ground<'_>, initial: &Packed) -> bool
+    pub(crate) fn pass(
+        &mut self,
+        ground: &Ground<'_>,
+        touching: &Touching,
+        initial: &Packed,
+    ) -> bool
         requires climb { IsClimb (task_in ground.now) (atoms_in ground.now) self.old }
+        requires touching { IsTouching (task_in ground.now) (atoms_in ground.now) (length (kept_instances (task_in ground.now))) touching.now }
         requires initial { bits_of initial.now ≡ (ground_system (task_in ground.now) (atoms_in ground.now)).initial }
         ensures { IsPass (task_in ground.now) (atoms_in ground.now) (length (atoms_in ground.now)) self.old self.new result }
     {
         let mut raised = false;
         for atom in 0..ground.width() {
-            let better = self.try_atom(ground, initial, atom);
+            let better = self.try_atom(ground, touching, initial, atom);
             raised = either(raised, better);
         }
         raised

@@ -1,12 +1,12 @@
 //! Whether potentials are fair.
-ghost use Rattle.std.specs.Prelude.{◌≡◌, ◌<◌, ◌↔◌, ◌≤ℤ◌, pos, Some, IfOk, MatchOption, IsTrue, length, slice_get};
+ghost use Rattle.std.specs.Prelude.{◌≡◌, ◌<◌, ◌↔◌, ◌≤ℤ◌, pos, Some, IfOk, MatchOption, IsTrue, All, length, slice_get};
 ghost use Rattle.grounding.specs.Ground.{task_in, atoms_in};
 ghost use Rattle.model.specs.Task.{Instance};
 ghost use Rattle.model.specs.Meaning.{cost_of};
 ghost use Rattle.model.specs.ClosedOff.{kept_instances};
 ghost use Rattle.potential_functions.specs.Fair.{IsFairAt, IsFairAtGoals, IsFirstUnfair};
 ghost use Rattle.potentials.specs.Potentials.{potentials_of};
-ghost use Rattle.potentials.specs.Fairness.{AreInstancesFair, Tells};
+ghost use Rattle.potentials.specs.Fairness.{AreInstancesFair, AreFairAt, Tells};
 
 use crate::goals::goal_gives_at_most;
 use crate::losses::loses_at_most;
@@ -56,7 +56,7 @@ impl Potentials {
     }
 
     /// The number of the first instance that is not fair, if there is one.
-    pub(crate) fn first_unfair(&self, ground: &Ground<'_>) -> Option<u32>
+    fn first_unfair(&self, ground: &Ground<'_>) -> Option<u32>
         requires { length (potentials_of self.now).weights ≡ length (atoms_in ground.now) }
         ensures { MatchOption result (AreInstancesFair (task_in ground.now) (atoms_in ground.now) (potentials_of self.now)) (IsFirstUnfair (task_in ground.now) (atoms_in ground.now) (potentials_of self.now)) }
     {
@@ -66,6 +66,20 @@ impl Potentials {
             }
         }
         None
+    }
+
+    /// Whether each of the instances of these numbers is fair.
+    pub(crate) fn are_fair_at(&self, ground: &Ground<'_>, numbers: &[u32]) -> bool
+        requires width { length (potentials_of self.now).weights ≡ length (atoms_in ground.now) }
+        requires within { All (λ n. n < length (kept_instances (task_in ground.now))) numbers.now }
+        ensures { IsTrue result ↔ AreFairAt (task_in ground.now) (atoms_in ground.now) (potentials_of self.now) numbers.now }
+    {
+        for place in 0..numbers.len() {
+            if !self.is_fair_at(ground, numbers[place]) {
+                return false;
+            }
+        }
+        true
     }
 
     /// Whether the instance of this number is fair.
@@ -92,7 +106,7 @@ fn is_at_most(number: i64, cost: u32) -> bool
 }
 
 /// How many instances the ground task keeps.
-fn instance_count(ground: &Ground<'_>) -> u32
+pub(crate) fn instance_count(ground: &Ground<'_>) -> u32
     ensures { result ≡ length (kept_instances (task_in ground.now)) }
 {
     ground.instances().len() as u32

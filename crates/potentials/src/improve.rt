@@ -7,6 +7,7 @@ ghost use Rattle.potentials.specs.Potentials.{potentials_of};
 
 use crate::climb::Climb;
 use crate::potentials::Potentials;
+use crate::touching::Touching;
 use faults::NoMemory;
 use grounding::Ground;
 use std::alloc::Global;
@@ -25,9 +26,10 @@ impl Potentials {
         ensures { IfOk result (λ p. IsImproved (task_in ground.now) (atoms_in ground.now) rounds (potentials_of self) (potentials_of p)) }
     {
         let initial = ground.initial(alloc)?;
+        let touching = Touching::new(alloc, ground)?;
         let mut climb = Climb::new(self, ground, &initial);
         for _ in 0..rounds {
-            if !climb.pass(ground, &initial) {
+            if !climb.pass(ground, &touching, &initial) {
                 return Ok(climb.potentials);
             }
         }

@@ -11,6 +11,7 @@ mod losses;
 mod potentials;
 mod range;
 mod swing;
+mod touching;
 
 pub use fair_potentials::Fair;
 pub use fairness::Fairness;
