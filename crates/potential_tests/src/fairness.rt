@@ -1,0 +1,89 @@
+//! Hops and leaps: places `a`, `b` and `c`, from each of which to the next a hop leads at 3, and from `a` to `c` a leap at 10.
+//! The numbered atoms are those of being at `a`, `b` and `c`; the kept instances are the two hops, and then the leap.
+use faults::NoMemory;
+use grounding::Ground;
+use potentials::{Fair, Fairness, Potentials};
+use std::alloc::Global;
+use std::process::Abort;
+use std::test::Fail;
+use test_texts::{HOP, on_task};
+
+/// Potentials of this constant and these weights, where there is one for each atom.
+fn weighing(alloc: Global, constant: i64, weights: &[i64]) -> Result<Option<Potentials>, NoMemory> {
+    let mut list = Vec::new(alloc);
+    list.extend_from_slice(weights)?;
+    Ok(Potentials::new(constant, list))
+}
+
+/// What is told of the potentials.
+fn told(
+    alloc: Global,
+    ground: &Ground<'_>,
+    constant: i64,
+    weights: &[i64],
+) -> Result<Option<Fairness>, NoMemory> {
+    let Some(potentials) = weighing(alloc, constant, weights)? else {
+        return Ok(None);
+    };
+    if potentials.weights().len() != ground.width() as usize {
+        return Ok(None);
+    }
+    Ok(Some(potentials.fair(alloc, ground)?))
+}
+
+/// What fair potentials tell of the initial state.
+fn estimated(
+    alloc: Global,
+    ground: &Ground<'_>,
+    constant: i64,
+    weights: &[i64],
+) -> Result<Option<u64>, NoMemory> {
+    let Some(potentials) = weighing(alloc, constant, weights)? else {
+        return Ok(None);
+    };
+    if potentials.weights().len() != ground.width() as usize {
+        return Ok(None);
+    }
+    let initial = ground.initial(alloc)?;
+    match Fair::new(alloc, potentials, ground)? {
+        Some(fair) => Ok(Some(fair.estimate(&initial))),
+        None => Ok(None),
+    }
+}
+
+/// The value of the initial state by potentials that are 0 at first and are then made better.
+fn improved(alloc: Global, ground: &Ground<'_>, rounds: u32) -> Result<Option<u64>, NoMemory> {
+    let zero = Potentials::zero(alloc, ground)?;
+    if zero.weights().len() != ground.width() as usize {
+        return Ok(None);
+    }
+    let better = zero.improve(alloc, ground, rounds)?;
+    let initial = ground.initial(alloc)?;
+    if better.weights().len() != initial.width() as usize {
+        return Ok(None);
+    }
+    Ok(Some(better.value(&initial)))
+}
+
+#[test]
+fn hops_are_fair(rt: HostRuntime) -> Result<(), Fail> {
+    on_task(&rt, rt.alloc(), &HOP, |rt, alloc, task| {
+        let ground = Ground::new(alloc, task, &[], 10)?;
+        assert!(rt; told(alloc, &ground, 6, &[0, -3, -6])? == Some(Fairness::Fair));
+        assert!(rt; told(alloc, &ground, 6, &[0, -2, -6])? == Some(Fairness::Instance(1)));
+        assert!(rt; told(alloc, &ground, 7, &[0, -3, -6])? == Some(Fairness::Goal));
+        Ok(())
+    })
+}
+
+#[test]
+fn hops_are_estimated(rt: HostRuntime) -> Result<(), Fail> {
+    on_task(&rt, rt.alloc(), &HOP, |rt, alloc, task| {
+        let ground = Ground::new(alloc, task, &[], 10)?;
+        assert!(rt; estimated(alloc, &ground, 6, &[0, -3, -6])? == Some(6));
+        assert!(rt; estimated(alloc, &ground, 7, &[0, -3, -6])? == None);
+        assert!(rt; improved(alloc, &ground, 2)? == Some(2));
+        assert!(rt; improved(alloc, &ground, 8)? == Some(3));
+        Ok(())
+    })
+}

@@ -1,0 +1,7 @@
+mod ListLemmas
+mod ScoreLemmas
+mod LossLemmas
+mod GroundLemmas
+mod FairLemmas
+mod ClimbLemmas
+mod TouchingLemmas

@@ -1,0 +1,6 @@
+pub mod Potentials
+pub mod Swing
+pub mod Fairness
+pub mod FairPotentials
+pub mod Climb
+pub mod Touching

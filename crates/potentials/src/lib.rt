@@ -1,0 +1,18 @@
+//! Potentials: weights of atoms by which a state has a value, which is a lower bound of what is still to pay where they are
+//! fair.
+#![tactic(auto)]
+
+mod climb;
+mod fair_potentials;
+mod fairness;
+mod goals;
+mod improve;
+mod losses;
+mod potentials;
+mod range;
+mod swing;
+mod touching;
+
+pub use fair_potentials::Fair;
+pub use fairness::Fairness;
+pub use potentials::Potentials;

@@ -1,0 +1,140 @@
+//! Potentials.
+ghost use Rattle.std.specs.Prelude.{◌≡◌, All};
+ghost use Rattle.std.proofs.Props.{props};
+ghost use Rattle.potential_functions.specs.PotentialFunctions as potential;
+ghost use Rattle.potential_functions.specs.PotentialFunctions.{IsInRange};
+
+use crate::range::{are_in_range, gained, given, is_in_range};
+use faults::NoMemory;
+use grounding::Ground;
+use packed_state::Packed;
+use std::alloc::Global;
+
+/// A potential function: a constant and a weight for each numbered atom, each from -2147483647 to 2147483647.
+#[derive(Debug, Drop)]
+pub struct Potentials {
+    constant: i64,
+    weights: Vec<i64>,
+    ghost constant_in_range: { IsInRange constant } by { Prim.hlevel props },
+    ghost weights_in_range: { All IsInRange weights.items } by { Prim.hlevel props },
+}
+
+impl Potentials {
+    ghost use Rattle.std.specs.Prelude.{◌<◌, ◌↔◌, IsSome, IfSome, IfOk, pos, set, length, replicate};
+    ghost use Rattle.grounding.specs.Ground.{task_in, atoms_in};
+    ghost use Rattle.packed_state.specs.Packed.{bits_of};
+    ghost use Rattle.potential_functions.specs.PotentialFunctions.{AreInRange};
+    ghost use Rattle.potential_functions.specs.Fair.{AreFair};
+    ghost use Rattle.potentials.specs.Potentials.{potentials_of};
+
+    /// Those of this constant and these weights, each at the place, from 0, that is its atom's number. None exactly where
+    /// one of them is out of range.
+    pub fn new(constant: i64, weights: Vec<i64>) -> Option<Potentials>
+        ensures in_range { IsSome result ↔ AreInRange (record { constant = constant; weights = weights.items }) }
+        ensures given { IfSome result (λ p. potentials_of p ≡ record { constant = constant; weights = weights.items }) }
+    {
+        if !is_in_range(constant) {
+            return None;
+        }
+        if !are_in_range(&weights) {
+            return None;
+        }
+        Some(Potentials { constant, weights })
+    }
+
+    /// Those that are all 0, for the ground task. They are fair.
+    pub fn zero(alloc: Global, ground: &Ground<'_>) -> Result<Potentials, NoMemory>
+        ensures zero { IfOk result (λ p. potentials_of p ≡ record { constant = pos 0; weights = replicate (length (atoms_in ground.now)) (pos 0) }) }
+        ensures fair { IfOk result (λ p. AreFair (task_in ground.now) (atoms_in ground.now) (potentials_of p)) }
+    {
+        let weights = vec![in alloc; 0; ground.width() as usize]?;
+        Ok(Potentials {
+            constant: 0,
+            weights,
+        })
+    }
+
+    /// The constant.
+    pub fn constant(&self) -> i64
+        ensures { result ≡ (potentials_of self.now).constant }
+    {
+        self.constant
+    }
+
+    /// The weights, each at the place, from 0, that is its atom's number.
+    pub fn weights(&self) -> &[i64]
+        ensures { result.now ≡ (potentials_of self.now).weights }
+    {
+        &self.weights
+    }
+
+    /// The value of the state: the greater of 0 and its score. There is a weight for each of its atoms. No memory is taken.
+    pub fn value(&self, state: &Packed) -> u64
+        requires { length (bits_of state.now) ≡ length (potentials_of self.now).weights }
+        ensures { result ≡ potential.value (potentials_of self.now) (bits_of state.now) }
+    {
+        or_zero(self.score(state))
+    }
+
+    /// The constant plus the weights of the atoms that are true in the state.
+    pub fn score(&self, state: &Packed) -> i64
+        requires { length (bits_of state.now) ≡ length (potentials_of self.now).weights }
+        ensures { result ≡ potential.score (potentials_of self.now) (bits_of state.now) }
+    {
+        let mut total = self.constant;
+        for number in 0..state.width() {
+            total += given(state.has(number), self.weight(number));
+        }
+        total
+    }
+
+    /// The score of the state `after`, where that of `before` is known: the weights of the atoms that differ are added, or
+    /// taken off.
+    pub fn score_after(&self, score: i64, before: &Packed, after: &Packed) -> i64
+        requires before_width { length (bits_of before.now) ≡ length (potentials_of self.now).weights }
+        requires after_width { length (bits_of after.now) ≡ length (potentials_of self.now).weights }
+        requires score { score ≡ potential.score (potentials_of self.now) (bits_of before.now) }
+        ensures { result ≡ potential.score (potentials_of self.now) (bits_of after.now) }
+    {
+        let mut total = score;
+        for number in 0..before.width() {
+            let was_true = before.has(number);
+            let is_true = after.has(number);
+            total += gained(was_true, is_true, self.weight(number));
+        }
+        total
+    }
+
+    /// The weight of the atom of this number.
+    pub(crate) fn weight(&self, number: u32) -> i64
+        requires { number < length (potentials_of self.now).weights }
+        ensures value { result ≡ potential.weight (potentials_of self.now).weights number }
+        ensures range { IsInRange result }
+    {
+        self.weights[number as usize]
+    }
+
+    /// Changes the weight of the atom of this number.
+    pub(crate) fn set_weight(&mut self, number: u32, weight: i64)
+        requires within { number < length (potentials_of self.old).weights }
+        requires range { IsInRange weight }
+        ensures { potentials_of self.new ≡ record { constant = (potentials_of self.old).constant; weights = set (potentials_of self.old).weights number weight } }
+    {
+        self.weights[number as usize] = weight;
+    }
+
+    /// Changes the constant.
+    pub(crate) fn set_constant(&mut self, constant: i64)
+        requires { IsInRange constant }
+        ensures { potentials_of self.new ≡ record { constant = constant; weights = (potentials_of self.old).weights } }
+    {
+        self.constant = constant;
+    }
+}
+
+/// The greater of 0 and the number.
+pub(crate) fn or_zero(number: i64) -> u64
+    ensures { result ≡ potential.or_zero number }
+{
+    if number > 0 { number as u64 } else { 0 }
+}

@@ -1,0 +1,74 @@
+//! Which instances touch an atom.
+ghost use Rattle.std.specs.Prelude.{◌≡◌, ℕ, ◌<◌, ◌++◌, ◌∷◌, [], ◌==◌, if◌then◌else◌, All, IfOk, OnOk, length, map};
+ghost use Rattle.grounding.specs.Changes.{counting_of};
+ghost use Rattle.grounding.specs.Ground.{task_in, atoms_in};
+ghost use Rattle.model.specs.ClosedOff.{kept_instances};
+ghost use Rattle.model.specs.NumberedLiterals.{NumberedChange};
+ghost use Rattle.potentials.specs.Touching.{row_of, IsAdded, IsTouching};
+
+use crate::fairness::instance_count;
+use faults::NoMemory;
+use grounding::{CountingChange, Ground};
+use std::alloc::Global;
+
+/// For each numbered atom the numbers of the instances that touch it.
+#[derive(Drop)]
+pub(crate) struct Touching {
+    rows: Vec<Vec<u32>>,
+}
+
+impl Touching {
+    /// That of the ground task.
+    pub(crate) fn new(alloc: Global, ground: &Ground<'_>) -> Result<Touching, NoMemory>
+        ensures { IfOk result (IsTouching (task_in ground.now) (atoms_in ground.now) (length (kept_instances (task_in ground.now)))) }
+    {
+        let mut touching = Touching::empty(alloc, ground.width())?;
+        for number in 0..instance_count(ground) {
+            touching.add(number, ground.counting(number))?;
+        }
+        Ok(touching)
+    }
+
+    /// As many empty rows.
+    fn empty(alloc: Global, width: u32) -> Result<Touching, NoMemory>
+        ensures width { IfOk result (λ t. length t.rows.items ≡ width) }
+        ensures empty { IfOk result (λ t. (a : ℕ) → row_of t a ≡ []) }
+    {
+        let mut rows = Vec::new(alloc);
+        for _ in 0..width {
+            rows.push(Vec::new(alloc))?;
+        }
+        Ok(Touching { rows })
+    }
+
+    /// The instance of this number touches the atom of each of the changes.
+    fn add(&mut self, number: u32, changes: &[CountingChange<'_>]) -> Result<(), NoMemory>
+        requires { All (λ (c : NumberedChange). c.atom < length self.old.rows.items) (map counting_of changes.now) }
+        ensures { OnOk result (IsAdded number (map counting_of changes.now) self.old self.new) }
+    {
+        for place in 0..changes.len() {
+            self.push(changes[place].atom, number)?;
+        }
+        Ok(())
+    }
+
+    /// The instance of this number touches the atom.
+    fn push(&mut self, atom: u32, number: u32) -> Result<(), NoMemory>
+        requires { atom < length self.old.rows.items }
+        ensures width { OnOk result (length self.new.rows.items ≡ length self.old.rows.items) }
+        ensures rows { OnOk result ((a : ℕ) → row_of self.new a ≡ (if a == atom then row_of self.old a ++ number ∷ [] else row_of self.old a)) }
+    {
+        self.rows[atom as usize].push(number)?;
+        Ok(())
+    }
+
+    /// The numbers of the instances that touch the atom of this number.
+    pub(crate) fn of(&self, atom: u32) -> &[u32]
+        ensures { result.now ≡ row_of self.now atom }
+    {
+        match self.rows.get(atom as usize) {
+            Some(row) => row,
+            None => &[],
+        }
+    }
+}
