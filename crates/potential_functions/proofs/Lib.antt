@@ -1,0 +1,11 @@
+pub mod Sums
+pub mod Ranges
+pub mod Passing
+pub mod Falls
+pub mod Steps
+pub mod LowerBound
+pub mod Numbers
+pub mod Worst
+pub mod Zero
+pub mod Settling
+pub mod FairExampleProofs

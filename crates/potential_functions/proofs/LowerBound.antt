@@ -1,0 +1,171 @@
+-- Fair potential functions are lower bounds.
+use Rattle.std.proofs.Common.{◌≡◌, ◌∙◌, ℕ, ◌+◌, ◌<◌, ◌≤◌, Bool, true, false, List, [], ◌∷◌, length, map, get_or, Option, None, Some, refl, sym, ap, subst, arith, ℤ, pos, ◌+ℤ◌, ◌≤ℤ◌}
+use Rattle.std.specs.Prelude.{All, IsTrue, slice_get}
+use Rattle.std.specs.Option.{option_map, option_map_or, option_and_then}
+use Rattle.std.specs.FinSet.{contains}
+use Rattle.std.proofs.lemmas.List.{length-map, get_or-map}
+use Rattle.std.proofs.lemmas.List.Elements.{All-contains}
+use Rattle.std.proofs.lemmas.List.Sums.{sum_by-cons}
+use Rattle.std.proofs.lemmas.Option.{slice_get-get_or, get_or_from_slice_get}
+use Rattle.std.proofs.lemmas.Int.{ints}
+use Rattle.model.specs.Task.{Atom, Task, Instance}
+use Rattle.model.specs.Runs.{System, run, cost_of_all}
+use Rattle.model.specs.Meaning.{State, cost_of, step, meets_goal, system_of}
+use Rattle.model.specs.Fluents.{is_fluent, HasInitialStatics}
+use Rattle.model.specs.ClosedOff.{kept_instances}
+use Rattle.model.specs.NumberedAtoms.{stands_in}
+use Rattle.model.specs.NumberedLiterals.{literals_of_instance, literals_of_goal, counting_of_instance}
+use Rattle.model.specs.Grounding.{state_of_bits, bits_of_state, ground_step, ground_system}
+use Rattle.model.proofs.ListLemmas.{Contains-got}
+use Rattle.model.proofs.NumberingLemmas.{stands_in-Contains}
+use Rattle.model.proofs.PackedStates.{contains-static, bits_of-packed_state}
+use Rattle.model.proofs.Atoms.{atoms_total}
+use Rattle.model.proofs.ClosedOffLemmas.{Contains-kept}
+use Rattle.model.proofs.GroundTaskLemmas.{step-HasInitialStatics}
+use Rattle.std.specs.FinSet.{contains-from_list}
+use Rattle.potential_functions.specs.PotentialFunctions.{PotentialFunction, score, or_zero, value, value_of_state}
+use Rattle.potential_functions.specs.Fair.{is_pair, IsFairAt, AreFair}
+use Rattle.potential_functions.specs.Laws.{AreNumberable, IsLowerBoundOf, IsConsistent, IsGroundLowerBoundOf, IsGroundConsistent, AreLowerBounds, FairOnesAreLowerBounds}
+use Rattle.potential_functions.proofs.Falls.{score-falls, score-ends, or_zero-most, value-falls, value-ends}
+use Rattle.potential_functions.proofs.Steps.{formula-says, step-is_pair, step-untouched}
+
+-- ---- along any list that runs
+
+-- what falls by no more than each action costs, and is at most 0 where the goal is met, is a lower bound
+module _ {S A : Type 0} (t : System S A) (among : S → Type 0) (height : S → ℤ)
+  (stays : (s next : S) (a : A) → among s → t.step s a ≡ Some next → among next)
+  (falls : (s next : S) (a : A) → among s → t.step s a ≡ Some next → height s ≤ℤ (height next +ℤ pos (t.cost a)))
+  (ends : (s : S) → among s → IsTrue (t.meets_goal s) → height s ≤ℤ pos 0) where
+  first_step : (s end : S) (a : A) (plan : List A) → run t s (a ∷ plan) ≡ Some end → (next : S) × (t.step s a ≡ Some next) × (run t next plan ≡ Some end)
+  first_step s end a plan runs =
+      elim (t.step s a) as (λ o. t.step s a ≡ o → option_and_then (λ n. run t n plan) o ≡ Some end → (next : S) × (t.step s a ≡ Some next) × (run t next plan ≡ Some end)) [
+        | None ↦ λ _ none. absurd (cc)
+        | Some next ↦ λ leads on. (next, leads, on)
+      ] refl runs
+
+  pub height-most : (plan : List A) (s end : S) → among s → run t s plan ≡ Some end → IsTrue (t.meets_goal end) → height s ≤ℤ pos (cost_of_all t plan)
+  height-most [] s end here runs goal =
+      let same : end ≡ s = cc in
+      subst (λ e. IsTrue (t.meets_goal e) → height s ≤ℤ pos 0) (sym same) (ends s here) goal
+  height-most (a ∷ plan) s end here runs goal =
+      let first = first_step s end a plan runs in
+      let now = falls s first.0 a here first.1 in
+      let later = height-most plan first.0 end (stays s first.0 a here first.1) first.2 goal in
+      omega (arith, ints, sum_by-cons t.cost a plan)
+
+-- ---- states of a task
+
+module _ (task : Task) (atoms : List Atom) (p : PotentialFunction) (numberable : AreNumberable task atoms) (fair : AreFair task atoms p) where
+  abbrev bits_of : State → List Bool
+  bits_of s = bits_of_state atoms s
+
+  abbrev atom_at : ℕ → Atom
+  atom_at n = get_or atoms n (record { predicate = 0; objects = [] })
+
+  at : (n : ℕ) → n < length atoms → slice_get atoms n ≡ Some (atom_at n)
+  at n below = slice_get-get_or atoms n (record { predicate = 0; objects = [] }) below
+
+  bit-is : (s : State) (n : ℕ) → n < length atoms → get_or (bits_of s) n false ≡ contains s (atom_at n)
+  bit-is s n below = get_or-map (contains s) atoms n (record { predicate = 0; objects = [] }) false below
+
+  long : (s : State) → length (bits_of s) ≡ length atoms
+  long s = length-map atoms (contains s)
+
+  pub state-falls : (s next : State) (i : Instance) → HasInitialStatics task s → step task s i ≡ Some next → score p (bits_of s) ≤ℤ (score p (bits_of next) +ℤ pos (cost_of task i))
+  state-falls s next i statics leads =
+      let kept = All-contains (λ (j : Instance). IsFairAt (cost_of task j) task atoms p.weights j) (kept_instances task) i fair.instances (Contains-kept task s next i statics leads) in
+      score-falls p (bits_of s) (bits_of next) (literals_of_instance task atoms i) (counting_of_instance task atoms i) (length atoms) (cost_of task i) (long s) (long next)
+      (λ n below. subst (λ b. is_pair_of i n b (get_or (bits_of next) n false)) (sym (bit-is s n below)) (subst (λ b. is_pair_of i n (contains s (atom_at n)) b) (sym (bit-is next n below))
+      (step-is_pair atoms numberable.distinct n (atom_at n) (at n below) task s next i statics leads)))
+      (λ n below none. bit-is s n below ∙ step-untouched atoms numberable.distinct n (atom_at n) (at n below) task s next i statics leads none ∙ sym (bit-is next n below))
+      kept.within
+    where
+      is_pair_of : Instance → ℕ → Bool → Bool → Type 0
+      is_pair_of j n before after = is_pair (literals_of_instance task atoms j) (counting_of_instance task atoms j) n (record { before = before; after = after }) ≡ true
+
+  pub state-ends : (s : State) → IsTrue (meets_goal task s) → score p (bits_of s) ≤ℤ pos 0
+  state-ends s goal =
+      score-ends p (bits_of s) (literals_of_goal task atoms) (length atoms) (long s)
+      (λ n value below said. bit-is s n below ∙ formula-says atoms numberable.distinct n (atom_at n) (at n below) task s task.goal [] value goal said)
+      fair.goals.within
+
+  state_bound : IsLowerBoundOf task atoms p
+  state_bound s end plan statics runs goal =
+      or_zero-most (score p (bits_of s)) (cost_of_all (system_of task) plan)
+      (height-most (system_of task) (HasInitialStatics task) (λ t. score p (bits_of t)) (λ t next i here leads. step-HasInitialStatics task t next i here leads)
+      state-falls (λ t here met. state-ends t met) plan s end statics runs goal)
+
+  state_consistent : IsConsistent task atoms p
+  state_consistent = record {
+    falls = λ s next i statics leads. value-falls p (bits_of s) (bits_of next) (cost_of task i) (state-falls s next i statics leads);
+    ends = λ s statics goal. value-ends p (bits_of s) (state-ends s goal);
+  }
+
+  -- ---- packed states
+
+  numbered-fluent : (q : Atom) → stands_in atoms q ≡ true → is_fluent task q.predicate ≡ true
+  numbered-fluent q there = All-contains (λ (a : Atom). IsTrue (is_fluent task a.predicate)) atoms q numberable.fluent (stands_in-Contains atoms q there)
+
+  packed-statics : (bits : List Bool) → HasInitialStatics task (state_of_bits task atoms bits)
+  packed-statics bits q static = contains-static (is_fluent task) task.init atoms numbered-fluent bits q static ∙ sym (contains-from_list atoms_total task.init q)
+
+  -- a packed state has the bits of the state that it stands for
+  packed-bits : (bits : List Bool) → length bits ≡ length atoms → bits_of (state_of_bits task atoms bits) ≡ bits
+  packed-bits bits as_long = bits_of-packed_state (is_fluent task) task.init atoms numbered-fluent numberable.distinct bits as_long
+
+  abbrev is_packed : List Bool → Type 0
+  is_packed bits = length bits ≡ length atoms
+
+  -- where a step of the ground task leads
+  led : (bits next : List Bool) (number : ℕ) → ground_step task atoms bits number ≡ Some next
+      → (i : Instance) × (state : State) × (slice_get (kept_instances task) number ≡ Some i) × (step task (state_of_bits task atoms bits) i ≡ Some state) × (bits_of state ≡ next)
+  led bits next number leads =
+      elim (slice_get (kept_instances task) number) as (λ o. slice_get (kept_instances task) number ≡ o → option_and_then (λ (j : Instance). option_map (bits_of_state atoms) (step task (state_of_bits task atoms bits) j)) o ≡ Some next
+      → (i : Instance) × (state : State) × (slice_get (kept_instances task) number ≡ Some i) × (step task (state_of_bits task atoms bits) i ≡ Some state) × (bits_of state ≡ next)) [
+        | None ↦ λ _ none. absurd (cc)
+        | Some i ↦ λ named some.
+            elim (step task (state_of_bits task atoms bits) i) as (λ o. step task (state_of_bits task atoms bits) i ≡ o → option_map (bits_of_state atoms) o ≡ Some next
+            → (i : Instance) × (state : State) × (slice_get (kept_instances task) number ≡ Some i) × (step task (state_of_bits task atoms bits) i ≡ Some state) × (bits_of state ≡ next)) [
+              | None ↦ λ _ none. absurd (cc)
+              | Some state ↦ λ here is. (i, state, named, here, cc)
+            ] refl some
+      ] refl leads
+
+  ground-falls : (bits next : List Bool) (number : ℕ) → is_packed bits → ground_step task atoms bits number ≡ Some next → score p bits ≤ℤ (score p next +ℤ pos ((ground_system task atoms).cost number))
+  ground-falls bits next number as_long leads =
+      let there = led bits next number leads in
+      let cost : (ground_system task atoms).cost number ≡ cost_of task there.0 = ap (λ o. option_map_or (cost_of task) o 0) there.2 in
+      let falls = state-falls (state_of_bits task atoms bits) there.1 there.0 (packed-statics bits) there.3 in
+      let before : score p (bits_of (state_of_bits task atoms bits)) ≡ score p bits = ap (score p) (packed-bits bits as_long) in
+      let after : score p (bits_of there.1) ≡ score p next = ap (score p) there.4 in
+      let falls_so : score p bits ≤ℤ (score p (bits_of there.1) +ℤ pos (cost_of task there.0)) = subst (λ z. z ≤ℤ (score p (bits_of there.1) +ℤ pos (cost_of task there.0))) before falls in
+      let falls_to : score p bits ≤ℤ (score p next +ℤ pos (cost_of task there.0)) = subst (λ z. score p bits ≤ℤ (z +ℤ pos (cost_of task there.0))) after falls_so in
+      subst (λ c. score p bits ≤ℤ (score p next +ℤ pos c)) (sym cost) falls_to
+
+  ground-ends : (bits : List Bool) → is_packed bits → IsTrue ((ground_system task atoms).meets_goal bits) → score p bits ≤ℤ pos 0
+  ground-ends bits as_long goal = subst (λ l. score p l ≤ℤ pos 0) (packed-bits bits as_long) (state-ends (state_of_bits task atoms bits) goal)
+
+  ground-stays : (bits next : List Bool) (number : ℕ) → is_packed bits → ground_step task atoms bits number ≡ Some next → is_packed next
+  ground-stays bits next number as_long leads = let there = led bits next number leads in sym (ap length there.4) ∙ long there.1
+
+  ground_bound : IsGroundLowerBoundOf task atoms p
+  ground_bound bits end plan as_long runs goal =
+      or_zero-most (score p bits) (cost_of_all (ground_system task atoms) plan)
+      (height-most (ground_system task atoms) is_packed (score p) ground-stays ground-falls ground-ends plan bits end as_long runs goal)
+
+  ground_consistent : IsGroundConsistent task atoms p
+  ground_consistent = record {
+    falls = λ bits next number as_long leads. value-falls p bits next ((ground_system task atoms).cost number) (ground-falls bits next number as_long leads);
+    ends = λ bits as_long goal. value-ends p bits (ground-ends bits as_long goal);
+  }
+
+  pub are_lower_bounds : AreLowerBounds task atoms p
+  are_lower_bounds = record {
+    bound = state_bound;
+    consistent = state_consistent;
+    ground_bound = ground_bound;
+    ground_consistent = ground_consistent;
+  }
+
+pub fair_ones_are_lower_bounds : FairOnesAreLowerBounds
+fair_ones_are_lower_bounds task atoms p numberable fair = are_lower_bounds task atoms p numberable fair

@@ -1,0 +1,211 @@
+-- Worked examples of potential functions: what an instance may lose by one atom, what is left at a goal, values, and three
+-- small tasks. Each is chosen so that a wrong reading says otherwise.
+use Rattle.std.specs.Prelude.{◌≡◌, ℕ, Bool, true, false, ℤ, pos, neg_ℤ, List, [], ◌∷◌, codes, All}
+use Rattle.model.specs.Task.{Atom, variable, object, Formula, atom, and, not, forall, add, delete, when, Schema, Task, Instance}
+use Rattle.model.specs.Meaning.{cost_of}
+use Rattle.model.specs.ClosedOff.{kept_instances}
+use Rattle.model.specs.NumberedLiterals.{NumberedLiteral, NumberedChange}
+use Rattle.model.specs.Examples.{formulas, lifted, ground, instance, root, untyped, any, fact, adds, deletes, all}
+use Rattle.model.specs.GroundingExamples.{value, becomes}
+use Rattle.potential_functions.specs.PotentialFunctions as potential
+use Rattle.potential_functions.specs.PotentialFunctions.{PotentialFunction}
+use Rattle.potential_functions.specs.Fair.{loses_at_most, instance_loses, IsFairAt, goal_gives_at_most, IsFairAtGoals, AreFair, IsFirstUnfair}
+use Rattle.potential_functions.specs.Settled.{initial_value}
+
+abbrev pub minus : ℕ → ℤ
+minus n = neg_ℤ (pos n)
+
+abbrev pub potentials : ℤ → List ℤ → PotentialFunction
+potentials constant weights = record { constant = constant; weights = weights }
+
+-- ---- one atom, of number 0
+
+-- what the precondition says of it: that it is true, that it is false
+abbrev pub is_true : NumberedLiteral
+is_true = value 0 true
+
+abbrev pub is_false : NumberedLiteral
+is_false = value 0 false
+
+-- what an effect does to it: under no condition, or under a `when`
+abbrev pub added : NumberedChange
+added = becomes 0 true true
+
+abbrev pub deleted : NumberedChange
+deleted = becomes 0 false true
+
+abbrev pub may_be_added : NumberedChange
+may_be_added = becomes 0 true false
+
+abbrev pub may_be_deleted : NumberedChange
+may_be_deleted = becomes 0 false false
+
+-- what an instance of these literals and changes loses at most by the atom, where its weight is 3, -3 and 0
+pub record Loses (literals : List NumberedLiteral) (changes : List NumberedChange) (at_three at_minus_three at_zero : ℤ) : Type 0 where
+  pub three : loses_at_most 1 (pos 3 ∷ []) literals changes ≡ at_three
+  pub minus_three : loses_at_most 1 (minus 3 ∷ []) literals changes ≡ at_minus_three
+  pub zero : loses_at_most 1 (pos 0 ∷ []) literals changes ≡ at_zero
+
+-- what it gives at most at a goal of these literals
+pub record Gives (literals : List NumberedLiteral) (at_three at_minus_three at_zero : ℤ) : Type 0 where
+  pub three : goal_gives_at_most 1 (pos 3 ∷ []) literals ≡ at_three
+  pub minus_three : goal_gives_at_most 1 (minus 3 ∷ []) literals ≡ at_minus_three
+  pub zero : goal_gives_at_most 1 (pos 0 ∷ []) literals ≡ at_zero
+
+-- ---- a walk by hops and leaps
+
+-- (define (domain hop) (:predicates (at ?p) (road ?x ?y) (far ?x ?y)) (:functions (total-cost))
+--  (:action hop :parameters (?x ?y) :precondition (and (at ?x) (road ?x ?y))
+--   :effect (and (not (at ?x)) (at ?y) (increase (total-cost) 3)))
+--  (:action leap :parameters (?x ?y) :precondition (and (at ?x) (far ?x ?y))
+--   :effect (and (not (at ?x)) (at ?y) (increase (total-cost) 10))))
+-- (define (problem h) (:domain hop) (:objects a b c) (:init (at a) (road a b) (road b c) (far a c))
+--  (:goal (at c)) (:metric minimize (total-cost)))
+abbrev pub along : List ℕ → ℕ → ℕ → Schema
+along name ways cost = record {
+  name = name;
+  parameters = any 2;
+  precondition = and (formulas (atom (lifted 0 (variable 0 ∷ [])) ∷ atom (lifted ways (variable 0 ∷ variable 1 ∷ [])) ∷ []));
+  effect = all (deletes (lifted 0 (variable 0 ∷ [])) ∷ adds (lifted 0 (variable 1 ∷ [])) ∷ []);
+  cost = cost;
+}
+
+abbrev pub hop_task : Task
+hop_task = record {
+  types = root ∷ [];
+  objects = untyped (codes "a") ∷ untyped (codes "b") ∷ untyped (codes "c") ∷ [];
+  predicates = record { name = codes "at"; arguments = any 1 } ∷ record { name = codes "road"; arguments = any 2 } ∷ record { name = codes "far"; arguments = any 2 } ∷ [];
+  schemas = along (codes "hop") 1 3 ∷ along (codes "leap") 2 10 ∷ [];
+  init = ground 0 (0 ∷ []) ∷ ground 1 (0 ∷ 1 ∷ []) ∷ ground 1 (1 ∷ 2 ∷ []) ∷ ground 2 (0 ∷ 2 ∷ []) ∷ [];
+  goal = atom (lifted 0 (object 2 ∷ []));
+  has_metric = true;
+}
+
+-- (at a), (at b) and (at c)
+abbrev pub hop_atoms : List Atom
+hop_atoms = ground 0 (0 ∷ []) ∷ ground 0 (1 ∷ []) ∷ ground 0 (2 ∷ []) ∷ []
+
+abbrev pub hop_weights : List ℤ
+hop_weights = pos 0 ∷ minus 3 ∷ minus 6 ∷ []
+
+-- ---- a condition that may hold or not
+
+-- (define (domain w) (:predicates (a) (b) (c))
+--  (:action do :parameters () :precondition (not (b)) :effect (and (c) (not (a)) (when (a) (b)))))
+-- (define (problem p) (:domain w) (:init) (:goal (c)))
+abbrev pub when_task : Task
+when_task = record {
+  types = root ∷ [];
+  objects = [];
+  predicates = fact (codes "a") ∷ fact (codes "b") ∷ fact (codes "c") ∷ [];
+  schemas = record {
+    name = codes "do";
+    parameters = [];
+    precondition = not (atom (lifted 1 []));
+    effect = all (adds (lifted 2 []) ∷ deletes (lifted 0 []) ∷ when (atom (lifted 0 [])) (add (lifted 1 []) ∷ []) ∷ []);
+    cost = 0;
+  } ∷ [];
+  init = [];
+  goal = atom (lifted 2 []);
+  has_metric = false;
+}
+
+-- (b), (c) and (a)
+abbrev pub when_atoms : List Atom
+when_atoms = ground 1 [] ∷ ground 2 [] ∷ ground 0 [] ∷ []
+
+-- ---- lamps
+
+-- (define (domain lamps) (:predicates (on ?s))
+--  (:action flip :parameters (?s) :precondition (not (on ?s)) :effect (on ?s)))
+-- (define (problem l) (:domain lamps) (:objects s t) (:init) (:goal (forall (?s) (on ?s))))
+abbrev pub lamps_task : Task
+lamps_task = record {
+  types = root ∷ [];
+  objects = untyped (codes "s") ∷ untyped (codes "t") ∷ [];
+  predicates = record { name = codes "on"; arguments = any 1 } ∷ [];
+  schemas = record {
+    name = codes "flip";
+    parameters = any 1;
+    precondition = not (atom (lifted 0 (variable 0 ∷ [])));
+    effect = adds (lifted 0 (variable 0 ∷ []));
+    cost = 0;
+  } ∷ [];
+  init = [];
+  goal = forall (0 ∷ []) (atom (lifted 0 (variable 0 ∷ [])));
+  has_metric = false;
+}
+
+abbrev pub lamps_atoms : List Atom
+lamps_atoms = ground 0 (0 ∷ []) ∷ ground 0 (1 ∷ []) ∷ []
+
+-- the instances are fair, and the goals are not
+pub record IsUnfairAtGoals (task : Task) (atoms : List Atom) (p : PotentialFunction) : Type 0 where
+  pub instances : All (λ (i : Instance). IsFairAt (cost_of task i) task atoms p.weights i) (kept_instances task)
+  pub goals : ¬ IsFairAtGoals task atoms p
+
+pub record AreJudged : Type 0 where
+  -- An add makes the atom true, whatever it was; where it was true before, nothing is lost and nothing won.
+  pub add : Loses [] (added ∷ []) (pos 0) (pos 3) (pos 0)
+  pub add_to_true : Loses (is_true ∷ []) (added ∷ []) (pos 0) (pos 0) (pos 0)
+  pub add_to_false : Loses (is_false ∷ []) (added ∷ []) (minus 3) (pos 3) (pos 0)
+  -- A delete the other way round.
+  pub delete : Loses [] (deleted ∷ []) (pos 3) (pos 0) (pos 0)
+  pub delete_of_true : Loses (is_true ∷ []) (deleted ∷ []) (pos 3) (minus 3) (pos 0)
+  pub delete_of_false : Loses (is_false ∷ []) (deleted ∷ []) (pos 0) (pos 0) (pos 0)
+  -- An add under a `when` may win, and may not: nothing is counted on.
+  pub uncertain_add : Loses [] (may_be_added ∷ []) (pos 0) (pos 3) (pos 0)
+  pub uncertain_add_to_true : Loses (is_true ∷ []) (may_be_added ∷ []) (pos 0) (pos 0) (pos 0)
+  pub uncertain_add_to_false : Loses (is_false ∷ []) (may_be_added ∷ []) (pos 0) (pos 3) (pos 0)
+  -- So does a delete under one.
+  pub uncertain_delete : Loses [] (may_be_deleted ∷ []) (pos 3) (pos 0) (pos 0)
+  pub uncertain_delete_of_true : Loses (is_true ∷ []) (may_be_deleted ∷ []) (pos 3) (pos 0) (pos 0)
+  pub uncertain_delete_of_false : Loses (is_false ∷ []) (may_be_deleted ∷ []) (pos 0) (pos 0) (pos 0)
+  -- An add wins over a delete, in whatever order they stand, and over one under a `when`.
+  pub add_and_delete : Loses (is_true ∷ []) (added ∷ deleted ∷ []) (pos 0) (pos 0) (pos 0)
+  pub delete_and_add : Loses (is_false ∷ []) (deleted ∷ added ∷ []) (minus 3) (pos 3) (pos 0)
+  pub add_and_uncertain_delete : Loses (is_true ∷ []) (may_be_deleted ∷ added ∷ []) (pos 0) (pos 0) (pos 0)
+  -- Under a `when` an add may win over a delete, and may not; a delete under one adds nothing to a delete.
+  pub delete_and_uncertain_add : Loses (is_true ∷ []) (deleted ∷ may_be_added ∷ []) (pos 3) (pos 0) (pos 0)
+  pub delete_and_uncertain_add_to_false : Loses (is_false ∷ []) (may_be_added ∷ deleted ∷ []) (pos 0) (pos 3) (pos 0)
+  pub delete_and_uncertain_delete : Loses (is_true ∷ []) (deleted ∷ may_be_deleted ∷ []) (pos 3) (minus 3) (pos 0)
+  -- With both under a `when` the atom may become either.
+  pub both_uncertain : Loses [] (may_be_added ∷ may_be_deleted ∷ []) (pos 3) (pos 3) (pos 0)
+  pub both_uncertain_at_true : Loses (is_true ∷ []) (may_be_deleted ∷ may_be_added ∷ []) (pos 3) (pos 0) (pos 0)
+  pub both_uncertain_at_false : Loses (is_false ∷ []) (may_be_added ∷ may_be_deleted ∷ []) (pos 0) (pos 3) (pos 0)
+  -- Literals that contradict each other leave no pair, and an atom that no change touches loses nothing.
+  pub never_applicable : Loses (is_true ∷ is_false ∷ []) (deleted ∷ []) (pos 0) (pos 0) (pos 0)
+  pub untouched : Loses (is_true ∷ []) [] (pos 0) (pos 0) (pos 0)
+  -- What two changes do to one atom is counted once, and literals of other atoms say nothing of it.
+  pub touched_twice : Loses (is_false ∷ []) (added ∷ added ∷ []) (minus 3) (pos 3) (pos 0)
+  pub of_another : Loses (value 1 true ∷ []) (deleted ∷ []) (pos 3) (pos 0) (pos 0)
+  -- The sum is over all atoms: one is deleted, and another added.
+  pub of_two_atoms : loses_at_most 2 (pos 5 ∷ pos 2 ∷ []) (is_true ∷ value 1 false ∷ []) (deleted ∷ becomes 1 true true ∷ []) ≡ pos 3
+  pub of_no_atom : loses_at_most 0 [] [] [] ≡ pos 0
+  -- At a goal an atom gives its weight where it is to be true, nothing where it is to be false, or both; where it is not
+  -- named, it gives its weight if that is above 0.
+  pub to_be_true : Gives (is_true ∷ []) (pos 3) (minus 3) (pos 0)
+  pub to_be_false : Gives (is_false ∷ []) (pos 0) (pos 0) (pos 0)
+  pub to_be_both : Gives (is_true ∷ is_false ∷ []) (pos 0) (pos 0) (pos 0)
+  pub not_named : Gives [] (pos 3) (pos 0) (pos 0)
+  -- The value is that of the true atoms with the constant, and never below 0; an atom without a weight gives nothing.
+  pub of_some : potential.value (potentials (pos 6) hop_weights) (true ∷ true ∷ false ∷ []) ≡ 3
+  pub of_none : potential.value (potentials (pos 6) hop_weights) (false ∷ false ∷ false ∷ []) ≡ 6
+  pub below_zero : potential.value (potentials (pos 6) hop_weights) (false ∷ true ∷ true ∷ []) ≡ 0
+  pub without_weights : potential.value (potentials (pos 6) []) (true ∷ true ∷ []) ≡ 6
+  -- Hops and leaps: a hop may lose all that it costs, and a leap less. Of (hop a c), which no road allows, nothing is asked.
+  pub hop_loses : instance_loses hop_task hop_atoms hop_weights (instance 0 (0 ∷ 1 ∷ [])) ≡ pos 3
+  pub leap_loses : instance_loses hop_task hop_atoms hop_weights (instance 1 (0 ∷ 2 ∷ [])) ≡ pos 6
+  pub no_road : instance_loses hop_task hop_atoms hop_weights (instance 0 (0 ∷ 2 ∷ [])) ≡ pos 6
+  pub hops_are_fair : AreFair hop_task hop_atoms (potentials (pos 6) hop_weights)
+  pub hops_begin_at : initial_value hop_task hop_atoms (potentials (pos 6) hop_weights) ≡ 6
+  -- One more for (at b) makes the first hop cheaper than it is and the second too dear; the first that is unfair is told.
+  pub second_hop_is_unfair : IsFirstUnfair hop_task hop_atoms (potentials (pos 6) (pos 0 ∷ minus 2 ∷ minus 6 ∷ [])) 1
+  pub constant_too_high : IsUnfairAtGoals hop_task hop_atoms (potentials (pos 7) hop_weights)
+  -- The add of (b) under a `when` gives nothing back for (c), which may cost 3.
+  pub uncertain_add_gives_nothing : IsFirstUnfair when_task when_atoms (potentials (pos 1) (pos 2 ∷ minus 3 ∷ pos 0 ∷ [])) 0
+  pub without_it : AreFair when_task when_atoms (potentials (pos 1) (pos 0 ∷ minus 1 ∷ pos 0 ∷ []))
+  pub goals_are_unfair : IsUnfairAtGoals when_task when_atoms (potentials (pos 2) (pos 0 ∷ minus 1 ∷ pos 0 ∷ []))
+  -- Each lamp is worth its flip.
+  pub lamps_are_fair : AreFair lamps_task lamps_atoms (potentials (pos 2) (minus 1 ∷ minus 1 ∷ []))
+  pub lamps_begin_at : initial_value lamps_task lamps_atoms (potentials (pos 2) (minus 1 ∷ minus 1 ∷ [])) ≡ 2

@@ -1,0 +1,49 @@
+-- What fair potential functions are for: their value is a lower bound of what is still to pay.
+use Rattle.std.specs.Prelude.{◌≡◌, ℕ, ◌+◌, ◌≤◌, Bool, true, IsTrue, List, length, All, Some}
+use Rattle.model.specs.Task.{Atom, Task, Instance}
+use Rattle.model.specs.Runs.{run, cost_of_all}
+use Rattle.model.specs.Meaning.{State, cost_of, step, meets_goal, system_of}
+use Rattle.model.specs.Fluents.{is_fluent, HasInitialStatics}
+use Rattle.model.specs.NumberedAtoms.{are_distinct}
+use Rattle.model.specs.Grounding.{ground_step, ground_system}
+use Rattle.potential_functions.specs.PotentialFunctions.{PotentialFunction, value, value_of_state}
+use Rattle.potential_functions.specs.Fair.{AreFair}
+
+-- numbered atoms are fluent, and none has two numbers
+pub record AreNumberable (task : Task) (atoms : List Atom) : Type 0 where
+  pub distinct : are_distinct atoms ≡ true
+  pub fluent : All (λ (a : Atom). IsTrue (is_fluent task a.predicate)) atoms
+
+-- From every state with the initial static atoms on, every list of instances that runs to a state which meets the goal, of
+-- whatever length, costs at least the value of the state that it starts from.
+abbrev pub IsLowerBoundOf : Task → List Atom → PotentialFunction → Type 0
+IsLowerBoundOf task atoms p =
+    (state end : State) (plan : List Instance) → HasInitialStatics task state → run (system_of task) state plan ≡ Some end → IsTrue (meets_goal task end)
+    → value_of_state atoms p state ≤ cost_of_all (system_of task) plan
+
+-- the value of such a state falls by no more than an instance costs, and is 0 where the goal is met
+pub record IsConsistent (task : Task) (atoms : List Atom) (p : PotentialFunction) : Type 0 where
+  pub falls : (state next : State) (i : Instance) → HasInitialStatics task state → step task state i ≡ Some next
+      → value_of_state atoms p state ≤ value_of_state atoms p next + cost_of task i
+  pub ends : (state : State) → HasInitialStatics task state → IsTrue (meets_goal task state) → value_of_state atoms p state ≡ 0
+
+-- the same of the ground task
+abbrev pub IsGroundLowerBoundOf : Task → List Atom → PotentialFunction → Type 0
+IsGroundLowerBoundOf task atoms p =
+    (bits end : List Bool) (plan : List ℕ) → length bits ≡ length atoms → run (ground_system task atoms) bits plan ≡ Some end → IsTrue ((ground_system task atoms).meets_goal end)
+    → value p bits ≤ cost_of_all (ground_system task atoms) plan
+
+pub record IsGroundConsistent (task : Task) (atoms : List Atom) (p : PotentialFunction) : Type 0 where
+  pub falls : (bits next : List Bool) (number : ℕ) → length bits ≡ length atoms → ground_step task atoms bits number ≡ Some next
+      → value p bits ≤ value p next + (ground_system task atoms).cost number
+  pub ends : (bits : List Bool) → length bits ≡ length atoms → IsTrue ((ground_system task atoms).meets_goal bits) → value p bits ≡ 0
+
+-- What fair potential functions are.
+pub record AreLowerBounds (task : Task) (atoms : List Atom) (p : PotentialFunction) : Type 0 where
+  pub bound : IsLowerBoundOf task atoms p
+  pub consistent : IsConsistent task atoms p
+  pub ground_bound : IsGroundLowerBoundOf task atoms p
+  pub ground_consistent : IsGroundConsistent task atoms p
+
+abbrev pub FairOnesAreLowerBounds : Type 0
+FairOnesAreLowerBounds = (task : Task) (atoms : List Atom) (p : PotentialFunction) → AreNumberable task atoms → AreFair task atoms p → AreLowerBounds task atoms p

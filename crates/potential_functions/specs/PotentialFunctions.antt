@@ -1,0 +1,50 @@
+-- Potential functions: a weight for each numbered atom and a constant, which give each state a value (Pommerening, Helmert,
+-- Röger & Seipp 2015, "From Non-Negative to General Operator Cost Partitioning", potential heuristics).
+use Rattle.std.specs.Prelude.{ℕ, zero, suc, Bool, false, if◌then◌else◌, ℤ, pos, negsuc, ◌+ℤ◌, neg_ℤ, ◌≤ℤ◌, List, length, get_or, All}
+use Rattle.model.specs.Task.{Atom}
+use Rattle.model.specs.Meaning.{State}
+use Rattle.model.specs.Grounding.{bits_of_state}
+
+-- a constant, and weights, each at the place, from 0, that is the number of its atom
+pub record PotentialFunction : Type 0 where
+  pub constant : ℤ
+  pub weights : List ℤ
+
+-- the weight of the atom of this number, 0 where none is given
+abbrev pub weight : List ℤ → ℕ → ℤ
+weight weights number = get_or weights number (pos 0)
+
+-- the sum of f over the numbers below this one
+abbrev pub sum_below : ℕ → (ℕ → ℤ) → ℤ
+sum_below zero f = pos 0
+sum_below (suc number) f = sum_below number f +ℤ f number
+
+-- what the atom of this number gives in the packed state: its weight, where it is true
+abbrev pub given : List ℤ → List Bool → ℕ → ℤ
+given weights bits number = if get_or bits number false then weight weights number else pos 0
+
+-- the constant plus the weights of the atoms that are true in the packed state
+abbrev pub score : PotentialFunction → List Bool → ℤ
+score p bits = p.constant +ℤ sum_below (length bits) (given p.weights bits)
+
+abbrev pub or_zero : ℤ → ℕ
+or_zero (pos n) = n
+or_zero (negsuc n) = 0
+
+-- the value of a packed state: the greater of 0 and that
+abbrev pub value : PotentialFunction → List Bool → ℕ
+value p bits = or_zero (score p bits)
+
+-- the value of a state, where these atoms have numbers: the others have the weight 0
+abbrev pub value_of_state : List Atom → PotentialFunction → State → ℕ
+value_of_state atoms p state = value p (bits_of_state atoms state)
+
+-- ---- the range of constant and weights
+
+pub record IsInRange (number : ℤ) : Type 0 where
+  pub least : neg_ℤ (pos 2147483647) ≤ℤ number
+  pub most : number ≤ℤ pos 2147483647
+
+pub record AreInRange (p : PotentialFunction) : Type 0 where
+  pub constant : IsInRange p.constant
+  pub weights : All IsInRange p.weights
