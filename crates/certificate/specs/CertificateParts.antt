@@ -5,7 +5,7 @@ use Rattle.typing.specs.TaskParts.{atom_of}
 use Rattle.certificate_lines.specs.declared.line.Claim.{Claim}
 use Rattle.certificate_lines.specs.declared.line.StateLine.{StateLine}
 use Rattle.certificate_lines.specs.Lines.{claim_of, line_of}
-use Rattle.model.specs.Certificates as certificates
+use Rattle.certificate_text.specs.Certificates as certificates
 
 abbrev pub certificate_of_parts : Claim → List Atom → List StateLine → certificates.Certificate
 certificate_of_parts claim atoms lines = record { claim = claim_of claim; atoms = map atom_of atoms; lines = map line_of lines }

@@ -1,7 +1,7 @@
 //! Certificates in memory.
 ghost use Rattle.std.specs.Prelude.{◌≡◌, IsTrue, length, map};
 ghost use Rattle.std.specs.List.{list_all};
-ghost use Rattle.model.specs.Certificates.{is_number, is_claim, rise, is_state_line, keeps_limits};
+ghost use Rattle.certificate_text.specs.Certificates.{is_number, is_claim, rise, is_state_line, keeps_limits};
 ghost use Rattle.certificate_lines.specs.Lines.{claim_of, line_of};
 ghost use Rattle.certificate.specs.CertificateParts.{certificate_of_parts};
 

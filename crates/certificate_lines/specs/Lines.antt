@@ -8,7 +8,7 @@ use Rattle.certificate_lines.specs.declared.line.NamedAtom.{NamedAtom}
 use Rattle.certificate_lines.specs.declared.line.CertLine.{CertLine}
 use Rattle.certificate_lines.specs.declared.line.CertLine.TheVariants as line
 use Rattle.model.specs.Claims as claims
-use Rattle.model.specs.Certificates as certificates
+use Rattle.certificate_text.specs.Certificates as certificates
 use Rattle.certificate_text.specs.CertificateText as text
 
 abbrev pub claim_of : Claim → claims.Claim

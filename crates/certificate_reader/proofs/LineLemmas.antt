@@ -11,7 +11,7 @@ use Rattle.std.proofs.lemmas.Str.Parse.{tells_digits}
 use Rattle.model.specs.Words.{is_name, is_name_byte}
 use Rattle.model.specs.PlanWriting.{is_lower_name}
 use Rattle.model.specs.Claims.{bound, none}
-use Rattle.model.specs.Certificates.{is_number}
+use Rattle.certificate_text.specs.Certificates.{is_number}
 use Rattle.certificate_text.specs.CertificateText.{TextLine, version, claims, constant, atom, listed, last, after_blank, line_text}
 use Rattle.certificate_reader.specs.Words.{is_blank, is_word, line_head, line_rest, then_words, with_rest}
 use Rattle.certificate_reader.proofs.NumberLemmas.{is_below}

@@ -8,7 +8,7 @@ use Rattle.std.specs.Str.Parse.{ParsesUnsigned}
 use Rattle.std.proofs.lemmas.Bool.{ltb-true}
 use Rattle.std.proofs.lemmas.Fmt.{IsAscii-decimal, parse-decimal}
 use Rattle.std.proofs.lemmas.Str.{IsUtf8-from_ascii}
-use Rattle.model.specs.Certificates.{is_number}
+use Rattle.certificate_text.specs.Certificates.{is_number}
 
 module _ (n : ℕ) (is : IsTrue (is_number n)) where
   fits : n < 2 ^ 64

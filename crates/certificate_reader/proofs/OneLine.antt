@@ -7,7 +7,7 @@ use Rattle.std.proofs.lemmas.Bool.{and_parts}
 use Rattle.std.proofs.lemmas.List.{append_cancel_left}
 use Rattle.model.specs.Claims.{Claim, bound, none}
 use Rattle.model.specs.PlanWriting.{is_lower_name}
-use Rattle.model.specs.Certificates.{is_claim, is_number}
+use Rattle.certificate_text.specs.Certificates.{is_claim, is_number}
 use Rattle.certificate_text.specs.CertificateText.{NamedAtom, TextLine, version, claims, constant, atom, listed, last, is_line, line_text, longest_line}
 use Rattle.certificate_reader.specs.Words.{IsNumbered, IsReadAs, are_lower, claim_rest, is_word, line_head, line_rest, then_words}
 use Rattle.certificate_reader.proofs.WordLemmas.{one_first}

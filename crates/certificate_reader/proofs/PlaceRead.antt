@@ -3,7 +3,7 @@ use Rattle.std.proofs.Common.{◌≡◌, ◌≢◌, ℕ, ◌+◌, ◌≤◌, Lis
 use Rattle.std.specs.Prelude.{◌&&◌, ◌==◌, IsTrue, nat_le, nat_lt}
 use Rattle.std.specs.Fmt.{decimal}
 use Rattle.std.proofs.lemmas.Bool.{and_parts, eqb-true, leb-true, lt-ltb}
-use Rattle.model.specs.Certificates.{is_number}
+use Rattle.certificate_text.specs.Certificates.{is_number}
 use Rattle.certificate_text.specs.CertificateText.{TextLine, version, claims, constant, atom, listed, last, is_line, line_text, most_atoms, most_states}
 use Rattle.certificate_text.specs.CertificateMachine.{Place, at_version, at_claim, at_constant, in_body, ended, next_place}
 use Rattle.certificate_text.proofs.Machine.{never, only_where}

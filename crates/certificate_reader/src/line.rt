@@ -1,7 +1,7 @@
 //! A line of a certificate's text, read.
 ghost use Rattle.std.specs.Prelude.{◌≡◌, ◌≢◌, ℕ, ◌≤◌, ◌++◌, codes, Err, IfNone, IfOk, IfSome, IsTrue, List, Some, length};
 ghost use Rattle.std.specs.Fmt.{decimal};
-ghost use Rattle.model.specs.Certificates.{is_number};
+ghost use Rattle.certificate_text.specs.Certificates.{is_number};
 ghost use Rattle.certificate_text.specs.CertificateText.{TextLine, atom, is_line, line_text, listed, longest_line, most_atoms};
 ghost use Rattle.certificate_lines.specs.Lines.{line_of, named_atom_of, text_line_of};
 ghost use Rattle.certificate_text.specs.CertificateText as text;

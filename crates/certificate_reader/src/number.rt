@@ -2,7 +2,7 @@
 ghost use Rattle.std.specs.Prelude.{◌≡◌, ◌≢◌, ℕ, IfNone, IfSome, IsTrue};
 ghost use Rattle.std.specs.Fmt.{decimal};
 ghost use Rattle.std.specs.Str.{bytes_eq};
-ghost use Rattle.model.specs.Certificates.{is_number};
+ghost use Rattle.certificate_text.specs.Certificates.{is_number};
 
 use certificate_lines::NUMBER_LIMIT;
 use itoa::Buffer;

@@ -7,7 +7,7 @@ use Rattle.std.specs.Result.{OnOk}
 use Rattle.std.specs.Prelude.{Result, Ok, Err, is_ok, if◌then◌else◌}
 use Rattle.model.specs.Claims.{Claim}
 use Rattle.model.specs.Task.{Atom, Task}
-use Rattle.model.specs.Certificates.{StateLine}
+use Rattle.certificate_text.specs.Certificates.{StateLine}
 use Rattle.model.specs.PlanWriting.{object_name, object_text}
 use Rattle.certificate_text.specs.CertificateText.{after_blank, claims, constant, line_text, listed, version, whole_line}
 use Rattle.certificate_text.specs.CertificateNames.{predicate_name}

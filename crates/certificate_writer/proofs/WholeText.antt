@@ -8,7 +8,7 @@ use Rattle.std.proofs.lemmas.List.Folds.{flat_map-map}
 use Rattle.devices.specs.Devices.{AppendsBeginning}
 use Rattle.model.specs.Task.{Task}
 use Rattle.model.specs.Claims.{Claim}
-use Rattle.model.specs.Certificates.{Certificate}
+use Rattle.certificate_text.specs.Certificates.{Certificate}
 use Rattle.certificate_text.specs.CertificateText.{atom, claims, constant, last, listed, version, whole_line}
 use Rattle.certificate_text.specs.CertificateNames.{certificate_text, named, named_atom}
 use Rattle.certificate_writer.specs.Gathering.{IsPassedOn, atom_line, state_line}

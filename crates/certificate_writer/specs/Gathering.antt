@@ -4,7 +4,7 @@ use Rattle.std.specs.Fmt.{decimal}
 use Rattle.std.specs.Option.{option_map_or}
 use Rattle.std.specs.Io.KnownBytes.{Appends}
 use Rattle.model.specs.Task.{Atom, Task}
-use Rattle.model.specs.Certificates.{StateLine}
+use Rattle.certificate_text.specs.Certificates.{StateLine}
 use Rattle.certificate_text.specs.CertificateText.{atom, listed, whole_line}
 use Rattle.certificate_text.specs.CertificateNames.{named_atom}
 
