@@ -1,5 +1,5 @@
 -- The names of a certificate's atoms, and the certificates of a task that a text says.
-use Rattle.std.specs.Prelude.{◌≡◌, ℕ, ℤ, pos, Bool, ◌&&◌, List, [], ◌∷◌, map, position, slice_get, Some}
+use Rattle.std.specs.Prelude.{◌≡◌, ℕ, ℤ, Bool, ◌&&◌, List, [], ◌∷◌, map, position, slice_get, zip, Some}
 use Rattle.std.specs.List.{list_all}
 use Rattle.std.specs.Option.{option_map_or}
 use Rattle.model.specs.Task.{Name, Atom, Predicate, Task}
@@ -21,18 +21,16 @@ predicate_name task number = option_map_or (λ (p : Predicate). p.name) (slice_g
 abbrev pub named_atom : Task → Atom → NamedAtom
 named_atom task a = record { predicate = predicate_name task a.predicate; objects = map (object_name task) a.objects }
 
--- atoms with their weights, in order; one that has none has the weight 0
-abbrev pub weighted : List ℤ → List NamedAtom → List WeightedAtom
-weighted weights [] = []
-weighted [] (a ∷ atoms) = record { weight = pos 0; atom = a } ∷ weighted [] atoms
-weighted (w ∷ weights) (a ∷ atoms) = record { weight = w; atom = a } ∷ weighted weights atoms
+-- atoms by their names, each with its weight
+abbrev pub weighted_atom : Task → Atom × ℤ → WeightedAtom
+weighted_atom task (a, weight) = record { weight = weight; atom = named_atom task a }
 
 -- a certificate by its atoms' names
 abbrev pub named : Task → Certificate → NamedCertificate
 named task c = record {
   claim = c.claim;
   constant = c.potentials.constant;
-  atoms = weighted c.potentials.weights (map (named_atom task) c.atoms);
+  atoms = map (weighted_atom task) (zip c.atoms c.potentials.weights);
   lines = c.lines;
 }
 
