@@ -35,7 +35,7 @@ pub no_version : (rest : List ℕ) (count : ℕ) → ((n : ℕ) → IsTrue (is_n
     → (line : TextLine) → IsReadAs (codes "pddl-cert") rest count line → ⊥
 no_version rest count never version read = never 1 refl (one_is ∙ read.behind)
 no_version rest count never (claims claim) read = unlike (codes "claim") (codes "pddl-cert") refl read.head
-no_version rest count never constant read = unlike (codes "constant") (codes "pddl-cert") refl read.head
+no_version rest count never (constant k) read = unlike (codes "constant") (codes "pddl-cert") refl read.head
 no_version rest count never (atom a) read = unlike (codes "atom") (codes "pddl-cert") refl read.head
 no_version rest count never (listed l) read = listed_is_no_version l.cost l.cut l.atoms read.head
 no_version rest count never (last n) read = unlike (codes "end") (codes "pddl-cert") refl read.head
