@@ -1,18 +1,18 @@
 -- The lines of states and atoms, by what stands behind their first word.
 use Rattle.std.proofs.Common.{◌≡◌, ℕ, Bool, true, false, List, [], ◌∷◌, ◌++◌, codes, map, Option, None, Some, refl, sym, ap, ◌∙◌, subst, append_assoc, append-nil}
 use Rattle.std.specs.Prelude.{◌&&◌, IsTrue}
-use Rattle.std.specs.Fmt.{decimal}
+use Rattle.std.specs.Fmt.{decimal, signed_decimal}
 use Rattle.std.specs.List.{flat_map, list_all}
 use Rattle.std.specs.Str.{bytes_eq}
 use Rattle.std.proofs.lemmas.Slice.Eq.{bytes_eq-Decides}
 use Rattle.std.proofs.lemmas.Bool.{and_parts}
 use Rattle.std.proofs.lemmas.List.{append_cancel_left, append_cancel_right}
 use Rattle.model.specs.PlanWriting.{is_lower_name}
-use Rattle.certificate_text.specs.Certificates.{is_number, rise}
-use Rattle.certificate_text.specs.CertificateText.{NamedAtom, TextLine, version, claims, constant, atom, listed, last, after_blank}
-use Rattle.certificate_reader.specs.Words.{IsFirstWord, IsNumbered, IsReadAs, are_lower, line_rest, then_words, with_rest}
+use Rattle.certificate_text.specs.Certificates.{is_number, is_weight, rise}
+use Rattle.certificate_text.specs.CertificateText.{NamedAtom, WeightedAtom, TextLine, version, claims, constant, atom, listed, last, after_blank, is_line}
+use Rattle.certificate_reader.specs.Words.{IsFirstWord, IsNumbered, IsReadAs, are_lower, atom_rest, then_words, with_rest}
 use Rattle.certificate_reader.proofs.WordLemmas.{one_first}
-use Rattle.certificate_reader.proofs.LineLemmas.{lower_name_is_word, number_is_word, words_behind}
+use Rattle.certificate_reader.proofs.LineLemmas.{lower_name_is_word, number_is_word, weight_is_word, words_behind}
 
 -- ---- a number and numbers behind it
 
