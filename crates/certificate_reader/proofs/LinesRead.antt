@@ -1,6 +1,6 @@
 -- The lines of states and atoms, by what stands behind their first word.
 use Rattle.std.proofs.Common.{◌≡◌, ℕ, Bool, true, false, List, [], ◌∷◌, ◌++◌, codes, map, Option, None, Some, refl, sym, ap, ◌∙◌, subst, append_assoc, append-nil}
-use Rattle.std.specs.Prelude.{◌&&◌, IsTrue}
+use Rattle.std.specs.Prelude.{◌&&◌, ℤ, IsTrue}
 use Rattle.std.specs.Fmt.{decimal, signed_decimal}
 use Rattle.std.specs.List.{flat_map, list_all}
 use Rattle.std.specs.Str.{bytes_eq}
@@ -10,7 +10,7 @@ use Rattle.std.proofs.lemmas.List.{append_cancel_left, append_cancel_right}
 use Rattle.model.specs.PlanWriting.{is_lower_name}
 use Rattle.certificate_text.specs.Certificates.{is_number, is_weight, rise}
 use Rattle.certificate_text.specs.CertificateText.{NamedAtom, WeightedAtom, TextLine, version, claims, constant, atom, listed, last, after_blank, is_line}
-use Rattle.certificate_reader.specs.Words.{IsFirstWord, IsNumbered, IsReadAs, are_lower, atom_rest, then_words, with_rest}
+use Rattle.certificate_reader.specs.Words.{IsFirstWord, IsNumbered, IsReadAs, are_lower, atom_rest, line_head, then_words, with_rest}
 use Rattle.certificate_reader.proofs.WordLemmas.{one_first}
 use Rattle.certificate_reader.proofs.LineLemmas.{lower_name_is_word, number_is_word, weight_is_word, words_behind}
 
@@ -167,6 +167,27 @@ module _ (rest : List ℕ) (word : List ℕ) (behind : Option (List ℕ)) (first
 
   pub nothing_behind : (count : ℕ) → behind ≡ None → (a : WeightedAtom) → IsReadAs (codes "atom") rest count (atom a) → ⊥
   nothing_behind count alone a read = absurd (cc (sym alone ∙ (weighed count a read).1))
+
+  pub no_atom_behind : (count : ℕ) (bytes : List ℕ) → behind ≡ Some bytes → ((a : NamedAtom) → IsTrue (are_lower a) → atom_rest a ≡ bytes → ⊥)
+      → (a : WeightedAtom) → IsReadAs (codes "atom") rest count (atom a) → ⊥
+  no_atom_behind count bytes at never a read =
+      never a.atom (and_parts (is_weight a.weight) (are_lower a.atom) (and_parts (is_weight a.weight && are_lower a.atom) _ read.within).0).1
+      (some_bytes (atom_rest a.atom) bytes (sym (weighed count a read).1 ∙ at))
+    where
+      some_bytes : (a b : List ℕ) → ◌≡◌ {A = Option (List ℕ)} (Some a) (Some b) → a ≡ b
+      some_bytes a b same = cc
+
+listed_is_no_atom : (cost : ℕ) (cut : Option ℕ) (atoms : List ℕ) → line_head (listed (record { cost = cost; cut = cut; atoms = atoms })) ≡ codes "atom" → ⊥
+listed_is_no_atom cost None atoms = unlike (codes "open") (codes "atom") refl
+listed_is_no_atom cost (Some least) atoms = unlike (codes "cut") (codes "atom") refl
+
+pub no_atom : (rest : List ℕ) (count : ℕ) → ((a : WeightedAtom) → IsReadAs (codes "atom") rest count (atom a) → ⊥) → (line : TextLine) → IsReadAs (codes "atom") rest count line → ⊥
+no_atom rest count never version read = unlike (codes "pddl-cert") (codes "atom") refl read.head
+no_atom rest count never (claims claim) read = unlike (codes "claim") (codes "atom") refl read.head
+no_atom rest count never (constant k) read = unlike (codes "constant") (codes "atom") refl read.head
+no_atom rest count never (atom a) read = never a read
+no_atom rest count never (listed l) read = listed_is_no_atom l.cost l.cut l.atoms read.head
+no_atom rest count never (last n) read = unlike (codes "end") (codes "atom") refl read.head
 
 names_behind : (word : List ℕ) (words : List (List ℕ)) → with_rest word (then_words words None) ≡ word ++ flat_map after_blank words
 names_behind word [] = sym (append-nil word)

@@ -1,11 +1,11 @@
 -- A number's word is read as that number.
 use Rattle.std.proofs.Common.{◌≡◌, ℕ, ◌<◌, ◌^◌, List, false, sym, ap, ◌∙◌, subst, arith}
-use Rattle.std.specs.Prelude.{ℤ, pos, negsuc, IsTrue, Result, Ok}
+use Rattle.std.specs.Prelude.{ℤ, pos, negsuc, FitsSigned, IsTrue, Result, Ok}
 use Rattle.std.specs.Fmt.{decimal, signed_decimal}
 use Rattle.std.specs.Str.{IsUtf8, bytes_eq}
 use Rattle.std.proofs.lemmas.Slice.Eq.{bytes_eq-Decides}
 use Rattle.std.specs.Str.Parse.{ParsesSigned, ParsesUnsigned}
-use Rattle.std.specs.Int.{w64, FitsSigned}
+use Rattle.std.specs.Int.{w64}
 use lib.Signed.{mag}
 use Rattle.itoa.proofs.Decimal.{IsAscii-signed_decimal}
 use Rattle.std.proofs.lemmas.Bool.{leb-true, ltb-true}
