@@ -151,7 +151,7 @@ module _ {S : Type 0} (t : System S ℕ) (states : List S) (all : List Node)
 
     -- nothing is less than 0
     zero_lower : IsLowerBound t (λ _. 0)
-    zero_lower s end plan runs goal = omega arith
+    zero_lower s end plan reached runs goal = omega arith
 
     -- no list that solves costs less than the node whose turn came: each has to pass through one that waits
     pub no_plan_cheaper : (one : Found S) → AreOpen t (found_of states all)
