@@ -17,8 +17,8 @@ use Rattle.model.specs.Task.{Task, Instance}
 use Rattle.model.specs.Claims.{Claim}
 use Rattle.model.specs.Limits.{max_numbered_atoms}
 use Rattle.model.specs.Grounding.{limit_told}
-use Rattle.model.specs.Certificates.{Certificate, IsClosedFor}
-use Rattle.model.specs.CertificateRefusals.{IsPlanWithin}
+use Rattle.certificate_text.specs.Certificates.{Certificate, IsClosedFor}
+use Rattle.certificate_text.specs.CertificateRefusals.{IsPlanWithin}
 use Rattle.cert_checker.specs.declared.checker.Accepted.{Accepted}
 use Rattle.cert_checker.specs.declared.checker.Accepted.TheVariants.{Optimal, AtLeast, Unsolvable}
 use Rattle.cert_checker.specs.CertChecker.{Answers, IsFirstRefusal, IsNoFault, IsShown, IsTrueRefusal}

@@ -15,10 +15,10 @@ use Rattle.model.specs.Task.{Task, Instance}
 use Rattle.model.specs.Runs.{System, cost_of_all, Solves, CostsAtLeast, IsOptimal, valid, IsVerdict}
 use Rattle.model.specs.Meaning.{State}
 use Rattle.model.specs.Claims.{Line}
-use Rattle.model.specs.Certificates.{Certificate, lines_of, IsClosedFor}
-use Rattle.model.specs.CertificateRefusals.{Reason, limit, IsPlanWithin, IsWrong, IsWrongLine}
+use Rattle.certificate_text.specs.Certificates.{Certificate, lines_of, IsClosedFor}
+use Rattle.certificate_text.specs.CertificateRefusals.{Reason, limit, IsPlanWithin, IsWrong, IsWrongLine}
 use Rattle.model.proofs.ListLemmas.{Contains-place}
-use Rattle.model.proofs.CertificateRefusalsLemmas.{right, right_line}
+use Rattle.certificate_text.proofs.CertificateRefusalsLemmas.{right, right_line}
 
 pub on_ok : {T E : Type 0} {P : Type 0} (r : Result T E) → P → OnOk r P
 on_ok (Ok v) p = p

@@ -20,9 +20,9 @@ use Rattle.model.specs.Instances.{successors_of}
 use Rattle.model.specs.Limits.{max_numbered_atoms}
 use Rattle.model.specs.Grounding.{limit_told}
 use Rattle.model.specs.Claims.{none, Line, IsListedWithin}
-use Rattle.model.specs.Certificates.{Certificate, StateLine, lines_of, IsClosedFor}
-use Rattle.model.specs.CertificateRefusals.{Reason, state_line, IsFirst}
-use Rattle.model.proofs.CertificateRefusalsLemmas.{apart}
+use Rattle.certificate_text.specs.Certificates.{Certificate, StateLine, lines_of, IsClosedFor}
+use Rattle.certificate_text.specs.CertificateRefusals.{Reason, state_line, IsFirst}
+use Rattle.certificate_text.proofs.CertificateRefusalsLemmas.{apart}
 
 both_of : (P Q : Reason → Type 0) (o : Option Reason) → MatchOption o ⊥ P → MatchOption o ⊥ Q → MatchOption o ⊥ (λ reason. P reason × Q reason)
 both_of P Q (Some reason) p q = (p, q)

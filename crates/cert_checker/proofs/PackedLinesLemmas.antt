@@ -18,7 +18,7 @@ use Rattle.model.specs.Task.{Atom, Task}
 use Rattle.model.specs.WellTyped.{is_atom}
 use Rattle.model.specs.Meaning.{atom_cmp}
 use Rattle.model.specs.Fluents.{is_fluent, static_atoms}
-use Rattle.model.specs.Certificates.{Certificate, StateLine, state_of_line, is_number, is_state_line, rise}
+use Rattle.certificate_text.specs.Certificates.{Certificate, StateLine, state_of_line, is_number, is_state_line, rise}
 use Rattle.model.specs.NumberedAtoms.{stands_in, are_distinct}
 use Rattle.model.specs.Grounding.{chosen, state_of_bits, bits_of_state}
 use Rattle.model.proofs.Atoms.{atoms_total, same_state, stands_in-append}

@@ -22,11 +22,11 @@ use Rattle.model.specs.Task.{Atom, Task}
 use Rattle.model.specs.Meaning.{State, initial_state}
 use Rattle.model.specs.Instances.{successors_of}
 use Rattle.model.specs.Claims.{Line}
-use Rattle.model.specs.Certificates.{Certificate, StateLine, is_claim, is_state_line, keeps_limits, state_of_line, lines_of}
-use Rattle.model.specs.CertificateRefusals.{IsListed}
+use Rattle.certificate_text.specs.Certificates.{Certificate, StateLine, is_claim, is_state_line, keeps_limits, state_of_line, lines_of}
+use Rattle.certificate_text.specs.CertificateRefusals.{IsListed}
 use Rattle.model.specs.NumberedAtoms.{numbered_atoms, HasNumberedFluents}
 use Rattle.model.specs.Grounding.{state_of_bits, bits_of_state, applicable_numbers, PacksStates}
-use Rattle.model.proofs.CertificateRefusalsLemmas.{apart}
+use Rattle.certificate_text.proofs.CertificateRefusalsLemmas.{apart}
 use Rattle.model.proofs.GroundTaskLemmas.{are_numbered, initial-numbered, packs_states}
 use Rattle.model.proofs.ListLemmas.{Contains-got, Contains-map, Contains-place, map-Contains}
 use Rattle.model.proofs.NumberingLemmas.{distinct-from_pairs}

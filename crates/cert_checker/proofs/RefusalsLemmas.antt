@@ -17,11 +17,11 @@ use Rattle.model.specs.Task.{Task, Instance}
 use Rattle.model.specs.Meaning.{State, step, meets_goal, system_of}
 use Rattle.model.specs.Instances.{successors_of}
 use Rattle.model.specs.Claims.{Claim, Allows, Line, IsListedWithin}
-use Rattle.model.specs.Certificates.{Certificate, lines_of, value_of}
-use Rattle.model.specs.CertificateRefusals.{goal_open, successor_missing, successor_dearer, cut_weak, IsWrongLine, IsListed, state_line}
+use Rattle.certificate_text.specs.Certificates.{Certificate, lines_of, value_of}
+use Rattle.certificate_text.specs.CertificateRefusals.{goal_open, successor_missing, successor_dearer, cut_weak, IsWrongLine, IsListed, state_line}
 use Rattle.model.proofs.ListLemmas.{Contains-place, Contains-map}
 use Rattle.model.proofs.InstancesLemmas.{successors-Contains}
-use Rattle.model.proofs.CertificateRefusalsLemmas.{apart}
+use Rattle.certificate_text.proofs.CertificateRefusalsLemmas.{apart}
 
 -- ---- a refusal with its line
 

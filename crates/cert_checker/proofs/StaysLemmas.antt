@@ -7,7 +7,7 @@ use Rattle.model.specs.Runs.{System, run, cost_of_all, Solves}
 use Rattle.model.specs.Task.{Task, Instance}
 use Rattle.model.specs.Meaning.{system_of}
 use Rattle.model.specs.Claims.{Claim, Line, IsLowerBound, IsClosed, ClaimHolds}
-use Rattle.model.specs.Certificates.{Certificate, lines_of, value_of, IsClosedFor}
+use Rattle.certificate_text.specs.Certificates.{Certificate, lines_of, value_of, IsClosedFor}
 use Rattle.model.proofs.ClaimsLemmas.{claim-of_closed}
 use Rattle.cert_checker.specs.OnListing.{IsOpenWithin, IsCutWithin, StaysListed, to_its_end, to_a_cut}
 

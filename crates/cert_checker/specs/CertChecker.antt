@@ -10,8 +10,8 @@ use Rattle.model.specs.Runs.{cost_of_all, IsOptimal, CostsAtLeast, IsUnsolvable}
 use Rattle.model.specs.Meaning.{State, system_of}
 use Rattle.model.specs.Instances.{successors_of}
 use Rattle.model.specs.Claims.{Claim, bound, none, Line, IsListedWithin}
-use Rattle.model.specs.Certificates.{Certificate, lines_of}
-use Rattle.model.specs.CertificateRefusals.{Reason, limit, successor_missing, successor_dearer, IsFirst, IsListed, HasState, IsWrong, IsWrongLine}
+use Rattle.certificate_text.specs.Certificates.{Certificate, lines_of}
+use Rattle.certificate_text.specs.CertificateRefusals.{Reason, limit, successor_missing, successor_dearer, IsFirst, IsListed, HasState, IsWrong, IsWrongLine}
 
 -- What an accepted certificate shows is true, of all lists of instances: the plan that was handed in is optimal at
 -- this cost; every list that solves costs at least this; no list solves.

@@ -8,7 +8,7 @@ use Rattle.model.specs.Meaning.{State, initial_state, step, meets_goal, system_o
 use Rattle.model.specs.Limits.{max_numbered_atoms}
 use Rattle.model.specs.Grounding.{limit_told}
 use Rattle.model.specs.Claims.{none, Allows, Line, IsListedWithin}
-use Rattle.model.specs.Certificates.{Certificate, StateLine, lines_of, value_of}
+use Rattle.certificate_text.specs.Certificates.{Certificate, StateLine, lines_of, value_of}
 
 -- the refusal is true, whatever plan is handed in and whatever the limit of kept instances
 abbrev pub IsTrueAnyway : Task → Certificate → Refusal → Type 0

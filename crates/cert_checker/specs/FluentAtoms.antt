@@ -2,7 +2,7 @@
 use Rattle.std.specs.Prelude.{◌≢◌, ◌&&◌, IsTrue, List, All, AllPairs}
 use Rattle.model.specs.Task.{Atom, Task}
 use Rattle.model.specs.WellTyped.{is_atom}
-use Rattle.model.specs.Certificates.{is_fluent}
+use Rattle.model.specs.Fluents.{is_fluent}
 
 -- the atoms are well-typed, of fluent predicates, and distinct
 pub record AreFluent (task : Task) (atoms : List Atom) : Type 0 where

@@ -7,7 +7,7 @@ use Rattle.grounding.specs.Ground.{task_in, atoms_in}
 use Rattle.cert_checker.specs.declared.checker.packed.PackedListing.{PackedListing}
 use Rattle.model.specs.Task.{Atom, Task}
 use Rattle.model.specs.Meaning.{State}
-use Rattle.model.specs.Certificates.{Certificate}
+use Rattle.certificate_text.specs.Certificates.{Certificate}
 use Rattle.model.specs.Grounding.{state_of_bits}
 
 abbrev pub task_at : PackedListing → Task

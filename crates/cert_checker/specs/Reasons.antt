@@ -2,7 +2,7 @@
 use Rattle.std.specs.Prelude.{Option, Some, None}
 use Rattle.certificate_listing.specs.declared.refusal.RefusalCode.{RefusalCode}
 use Rattle.certificate_listing.specs.declared.refusal.RefusalCode.TheVariants.{CertForm, CertVersion, Truncated, NotFluent, Repeated, NoInitial, GoalOpen, SuccessorMissing, SuccessorDearer, CutWeak, CutNotAllowed, PlanInvalid, PlanDearer, Limit}
-use Rattle.model.specs.CertificateRefusals.{Reason, not_fluent, repeated, no_initial, goal_open, successor_missing, successor_dearer, cut_weak, cut_not_allowed, plan_invalid, plan_dearer, limit}
+use Rattle.certificate_text.specs.CertificateRefusals.{Reason, not_fluent, repeated, no_initial, goal_open, successor_missing, successor_dearer, cut_weak, cut_not_allowed, plan_invalid, plan_dearer, limit}
 
 -- what is wrong with a certificate; of a text that is none, nothing is said of one
 abbrev pub reason_of : RefusalCode → Option Reason

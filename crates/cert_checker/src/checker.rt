@@ -12,7 +12,7 @@ ghost use Rattle.certificate_listing.specs.Reading.{CountsRefusal, IsFresh};
 ghost use Rattle.certificate_listing.specs.Listing.{certificate_in};
 ghost use Rattle.model.specs.Limits.{max_numbered_atoms};
 ghost use Rattle.model.specs.Grounding.{limit_told};
-ghost use Rattle.model.specs.Certificates.{IsClosedFor, lines_of};
+ghost use Rattle.certificate_text.specs.Certificates.{IsClosedFor, lines_of};
 ghost use Rattle.cert_checker.specs.FluentAtoms.{AreFluent};
 ghost use Rattle.cert_checker.specs.CheckedLines.{CutsAreAllowed};
 ghost use Rattle.cert_checker.specs.CertChecker.{Answers, IsFirstRefusal, IsNoFault, IsShown, IsTrueRefusal};

@@ -4,8 +4,8 @@ ghost use Rattle.model.specs.Task.{Task, Instance};
 ghost use Rattle.model.specs.Runs.{Solves};
 ghost use Rattle.model.specs.Meaning.{system_of};
 ghost use Rattle.model.specs.Claims.{ClaimHolds};
-ghost use Rattle.model.specs.CertificateExamples.{AreJudged};
-ghost use Rattle.model.specs.Certificates.{Certificate, lines_of, IsClosedFor};
+ghost use Rattle.certificate_text.specs.CertificateExamples.{AreJudged};
+ghost use Rattle.certificate_text.specs.Certificates.{Certificate, lines_of, IsClosedFor};
 ghost use Rattle.cert_checker.specs.OnListing.{StaysListed};
 
 /// What a certificate that is closed for a task claims is true of all lists of instances, whatever their length.

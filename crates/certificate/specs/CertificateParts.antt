@@ -1,11 +1,16 @@
 -- The parts of the code's certificates, in the model's terms.
-use Rattle.std.specs.Prelude.{List, map}
+use Rattle.std.specs.Prelude.{ℤ, List, map}
 use Rattle.typing.specs.declared.atoms.Atom.{Atom}
 use Rattle.typing.specs.TaskParts.{atom_of}
 use Rattle.certificate_lines.specs.declared.line.Claim.{Claim}
 use Rattle.certificate_lines.specs.declared.line.StateLine.{StateLine}
 use Rattle.certificate_lines.specs.Lines.{claim_of, line_of}
-use Rattle.model.specs.Certificates as certificates
+use Rattle.certificate_text.specs.Certificates as certificates
 
-abbrev pub certificate_of_parts : Claim → List Atom → List StateLine → certificates.Certificate
-certificate_of_parts claim atoms lines = record { claim = claim_of claim; atoms = map atom_of atoms; lines = map line_of lines }
+abbrev pub certificate_of_parts : Claim → (constant : ℤ) → List Atom → (weights : List ℤ) → List StateLine → certificates.Certificate
+certificate_of_parts claim constant atoms weights lines = record {
+  claim = claim_of claim;
+  atoms = map atom_of atoms;
+  potentials = record { constant = constant; weights = weights };
+  lines = map line_of lines;
+}

@@ -1,22 +1,25 @@
 //! Certificates in memory.
 ghost use Rattle.std.specs.Prelude.{◌≡◌, IsTrue, length, map};
 ghost use Rattle.std.specs.List.{list_all};
-ghost use Rattle.model.specs.Certificates.{is_number, is_claim, rise, is_state_line, keeps_limits};
+ghost use Rattle.certificate_text.specs.Certificates.{is_number, is_weight, is_claim, rise, is_state_line, are_potentials, keeps_limits};
 ghost use Rattle.certificate_lines.specs.Lines.{claim_of, line_of};
 ghost use Rattle.certificate.specs.CertificateParts.{certificate_of_parts};
 
-use certificate_lines::{Claim, MAX_ATOMS, MAX_STATE_LINES, NUMBER_LIMIT, StateLine};
+use certificate_lines::{Claim, MAX_ATOMS, MAX_STATE_LINES, MAX_WEIGHT, NUMBER_LIMIT, StateLine};
 use typing::Atom;
 
-/// A claim with the listing of states that is to show it, within the limits of a certificate's text: at most
-/// 1,048,576 atoms and 16,777,216 state lines, each number below 2 to the power 60, and the atoms of each line
-/// strictly rising and below the count of atoms.
+/// A claim with the potential function and the listing of states that are to show it, within the limits of a certificate's
+/// text: at most 1,048,576 atoms, with a weight for each, and 16,777,216 state lines, the constant and each weight at most
+/// 2,147,483,647 either way, each other number below 2 to the power 60, and the atoms of each line strictly rising and below
+/// the count of atoms.
 #[derive(Drop)]
 pub struct Cert {
     claim: Claim,
+    constant: i64,
     atoms: Vec<Atom>,
+    weights: Vec<i64>,
     lines: Vec<StateLine>,
-    ghost within_limits: { IsTrue (keeps_limits (certificate_of_parts claim atoms.items lines.items)) },
+    ghost within_limits: { IsTrue (keeps_limits (certificate_of_parts claim constant atoms.items weights.items lines.items)) },
 }
 
 impl Cert {
@@ -26,18 +29,27 @@ impl Cert {
     ghost use Rattle.typing.specs.TaskParts.{atom_of};
 
     /// The certificate of these parts, and `None` where they exceed a limit of a certificate's text.
-    pub fn new(claim: Claim, atoms: Vec<Atom>, lines: Vec<StateLine>) -> Option<Cert>
-        ensures within { is_some result ≡ keeps_limits (certificate_of_parts claim atoms.items lines.items) }
-        ensures parts { IfSome result (λ c. certificate_of c ≡ certificate_of_parts claim atoms.items lines.items) }
+    pub fn new(
+        claim: Claim,
+        constant: i64,
+        atoms: Vec<Atom>,
+        weights: Vec<i64>,
+        lines: Vec<StateLine>,
+    ) -> Option<Cert>
+        ensures within { is_some result ≡ keeps_limits (certificate_of_parts claim constant atoms.items weights.items lines.items) }
+        ensures parts { IfSome result (λ c. certificate_of c ≡ certificate_of_parts claim constant atoms.items weights.items lines.items) }
     {
         if is_claim(claim)
             && atoms.len() <= MAX_ATOMS
             && lines.len() <= MAX_STATE_LINES
             && are_state_lines(&lines, atoms.len())
+            && are_potentials(constant, &weights, atoms.len())
         {
             Some(Cert {
                 claim,
+                constant,
                 atoms,
+                weights,
                 lines,
             })
         } else {
@@ -58,6 +70,21 @@ impl Cert {
         ensures at_most { length result.now ≤ MAX_ATOMS }
     {
         self.atoms.as_slice()
+    }
+
+    /// The constant of its potential function.
+    pub fn constant(&self) -> i64
+        ensures { result ≡ (certificate_of self.now).potentials.constant }
+    {
+        self.constant
+    }
+
+    /// The weights of its atoms, in their order.
+    pub fn weights(&self) -> &[i64]
+        ensures weights { result.now ≡ (certificate_of self.now).potentials.weights }
+        ensures one_for_each { length result.now ≡ length (certificate_of self.now).atoms }
+    {
+        self.weights.as_slice()
     }
 
     /// Its state lines, in order.
@@ -85,6 +112,32 @@ fn is_claim(claim: Claim) -> bool
         Claim::Bound(least) => is_number(least),
         Claim::Unsolvable => true,
     }
+}
+
+/// Whether these are a constant and a weight for each of this many atoms.
+fn are_potentials(constant: i64, weights: &[i64], atom_count: usize) -> bool
+    ensures { result ≡ are_potentials atom_count (record { constant = constant; weights = weights.now }) }
+{
+    is_weight(constant) && weights.len() == atom_count && are_weights(weights)
+}
+
+/// Whether each number may be a weight.
+fn are_weights(weights: &[i64]) -> bool
+    ensures { result ≡ list_all is_weight weights.now }
+{
+    for weight in weights {
+        if !is_weight(*weight) {
+            return false;
+        }
+    }
+    true
+}
+
+/// Whether the number may be a weight.
+fn is_weight(number: i64) -> bool
+    ensures { result ≡ is_weight number }
+{
+    -MAX_WEIGHT <= number && number <= MAX_WEIGHT
 }
 
 /// Whether each line may stand in a certificate of this many atoms.

@@ -8,7 +8,7 @@ use Rattle.certificate_lines.specs.declared.line.NamedAtom.{NamedAtom}
 use Rattle.certificate_lines.specs.declared.line.CertLine.{CertLine}
 use Rattle.certificate_lines.specs.declared.line.CertLine.TheVariants as line
 use Rattle.model.specs.Claims as claims
-use Rattle.model.specs.Certificates as certificates
+use Rattle.certificate_text.specs.Certificates as certificates
 use Rattle.certificate_text.specs.CertificateText as text
 
 abbrev pub claim_of : Claim → claims.Claim
@@ -27,7 +27,7 @@ named_atom_of a = record { predicate = name_of a.predicate; objects = map name_o
 abbrev pub text_line_of : CertLine → text.TextLine
 text_line_of line.Head = text.version
 text_line_of (line.Claim claim) = text.claims (claim_of claim)
-text_line_of line.Constant = text.constant
-text_line_of (line.Weight a) = text.atom (named_atom_of a)
+text_line_of (line.Constant k) = text.constant k
+text_line_of (line.Weight weight a) = text.atom (record { weight = weight; atom = named_atom_of a })
 text_line_of (line.Listed l) = text.listed (line_of l)
 text_line_of (line.Last count) = text.last count

@@ -6,6 +6,9 @@ pub const MAX_ATOMS: usize = 1_048_576;
 /// The most state lines that a certificate may have.
 pub const MAX_STATE_LINES: usize = 16_777_216;
 
+/// The constant of a certificate's potential function and each of its weights is at most this, and no less than its negative.
+pub const MAX_WEIGHT: i64 = 2_147_483_647;
+
 /// Each cost and each bound in a certificate is below this number, 2 to the power 60.
 pub const NUMBER_LIMIT: u64 = 1_152_921_504_606_846_976;
 
@@ -48,10 +51,15 @@ pub enum CertLine {
     Head,
     /// The claim: `claim bound 6`, `claim none`.
     Claim(Claim),
-    /// The constant of the state's values, which is 0: `constant 0`.
-    Constant,
-    /// An atom, whose weight is 0: `atom 0 (at a)`.
-    Weight(NamedAtom),
+    /// The constant of the potential function: `constant 6`.
+    Constant(i64),
+    /// An atom and its weight: `atom -3 (at b)`.
+    Weight {
+        /// The weight.
+        weight: i64,
+        /// The atom.
+        atom: NamedAtom,
+    },
     /// A state: `open 3 0 2`, `cut 6 0 1`.
     Listed(StateLine),
     /// The last line, with the count of the lines that list states: `end 2`.

@@ -13,7 +13,7 @@ use Rattle.model.specs.WellTyped.{is_atom}
 use Rattle.model.specs.Fluents.{is_fluent}
 use Rattle.model.specs.Meaning.{State}
 use Rattle.model.specs.Claims.{Claim, Allows, Line, none}
-use Rattle.model.specs.Certificates.{Certificate, IsClosedFor, StateLine, is_claim, keeps_limits, state_of_line}
+use Rattle.certificate_text.specs.Certificates.{Certificate, IsClosedFor, StateLine, is_claim, keeps_limits, state_of_line}
 use Rattle.model.proofs.ListLemmas.{Contains-cases, Contains-filter_map, Contains-here, Contains-map, Contains-none, Contains-there, map-Contains}
 use Rattle.certificate_text.specs.CertificateText.{NamedAtom, NamedCertificate, TextLine, version, claims, constant, atom, listed, last, AreWhole, BeginCertificate, HasLine, IsFaultAfter, IsOneTooMany, IsOtherVersion, other_version, malformed, too_long, trailing, cut_short, too_many, is_line, keeps_text_limits, line_text, most_atoms, most_states, text_lines, text_of, whole_line}
 use Rattle.certificate_text.specs.CertificateNames.{AllName, IsTextOf, Names}

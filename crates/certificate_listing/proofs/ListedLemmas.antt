@@ -9,7 +9,7 @@ use Rattle.packed_state.specs.Store.{IsPlaced}
 use Rattle.packed_state.specs.Sets.{set_of}
 use Rattle.model.specs.Task.{Atom, Task}
 use Rattle.model.specs.Claims.{Claim, none}
-use Rattle.model.specs.Certificates.{StateLine, rise}
+use Rattle.certificate_text.specs.Certificates.{StateLine, rise}
 use Rattle.model.proofs.ListLemmas.{Contains-filter_map, filter_map-Contains, Contains-got, Contains-map, Contains-place, map-Contains}
 use Rattle.model.proofs.Tests.{passes_got}
 use Rattle.certificate_text.specs.CertificateText.{TextLine, version, claims, constant, atom, listed, last}

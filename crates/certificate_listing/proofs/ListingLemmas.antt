@@ -8,7 +8,7 @@ use Rattle.std.proofs.lemmas.List.{length-map}
 use Rattle.packed_state.specs.Sets.{set_of}
 use Rattle.model.specs.Task.{Atom, Task}
 use Rattle.model.specs.Claims.{Claim}
-use Rattle.model.specs.Certificates.{StateLine, rise}
+use Rattle.certificate_text.specs.Certificates.{StateLine, rise}
 use Rattle.certificate_lines.specs.declared.line.CertLine.{CertLine}
 use Rattle.certificate_lines.specs.Lines.{text_line_of}
 use Rattle.certificate_text.specs.CertificateText.{NamedCertificate, TextLine, AreWhole, BeginCertificate, atom, claims, constant, last, listed, most_atoms, text_lines, text_of, version}

@@ -14,7 +14,7 @@ use Rattle.packed_state.specs.PooledView.{pooled_states, pooled_width}
 use Rattle.packed_state.specs.Store.{sets_in}
 use Rattle.packed_state.specs.Words.{bits_in}
 use Rattle.packed_state.proofs.PackedLemmas.{length-bits}
-use Rattle.model.specs.Certificates.{StateLine, is_claim, is_number, is_state_line, rise}
+use Rattle.certificate_text.specs.Certificates.{StateLine, is_claim, is_number, is_state_line, rise}
 use Rattle.model.proofs.ListLemmas.{Contains-cases, Contains-filter, Contains-here, Contains-none, Contains-range, Contains-there, filter-Contains}
 use Rattle.certificate_listing.specs.Sets.{Marked, line_with, lines_with, marked, numbers_of}
 use Rattle.certificate_listing.specs.declared.listing.Listing.{Listing}

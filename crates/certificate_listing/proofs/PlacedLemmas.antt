@@ -6,7 +6,7 @@ use Rattle.std.proofs.lemmas.Bool.{and_parts, eqb-true, leb-true, ltb-true}
 use Rattle.std.proofs.lemmas.List.Elements.{filter_map-append}
 use Rattle.model.specs.Task.{Atom, Task}
 use Rattle.model.specs.Claims.{Claim}
-use Rattle.model.specs.Certificates.{StateLine, is_number, rise}
+use Rattle.certificate_text.specs.Certificates.{StateLine, is_number, rise}
 use Rattle.std.specs.Option.{option_map_or}
 use Rattle.certificate_text.specs.CertificateText.{NamedAtom, NamedCertificate, TextLine, version, claims, constant, atom, listed, last, is_line, most_atoms, most_states, text_lines, AreWhole, BeginCertificate}
 use Rattle.certificate_text.specs.CertificateNames.{AllName}

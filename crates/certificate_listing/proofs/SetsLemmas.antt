@@ -6,7 +6,7 @@ use Rattle.std.specs.List.{filter, list_any, range_with_len}
 use Rattle.std.proofs.lemmas.Bool.{and_parts, cases_eq, eq-eqb, le-leb, lt-ltb, leb-true, ltb-true, ne_eqb}
 use Rattle.packed_state.specs.Sets.{has, set_of}
 use Rattle.packed_state.proofs.PackedLemmas.{has-set_of, length-set_of}
-use Rattle.model.specs.Certificates.{rise}
+use Rattle.certificate_text.specs.Certificates.{rise}
 use Rattle.certificate_listing.specs.Sets.{numbers_of}
 
 -- whether the number is among these

@@ -8,7 +8,7 @@ use Rattle.std.proofs.lemmas.Bool.{and_parts, leb-true, le-leb, lt-ltb, ne_eqb}
 use Rattle.std.proofs.lemmas.Fmt.{length-decimal-le}
 use Rattle.std.proofs.lemmas.List.Folds.{list_all-append}
 use Rattle.model.specs.Claims.{bound, none}
-use Rattle.model.specs.Certificates.{is_number, rise}
+use Rattle.certificate_text.specs.Certificates.{is_number, rise}
 use Rattle.model.proofs.ListLemmas.{Contains-here, Contains-there}
 use Rattle.certificate_text.specs.CertificateText.{NamedCertificate, TextLine, version, claims, constant, atom, listed, last, BeginCertificate, HasLine, IsInOneLine, after_blank, is_line, keeps_text_limits, line_text, longest_line, most_atoms, most_states, text_lines, text_of, whole_line}
 use Rattle.certificate_reader.specs.Words.{are_lower}

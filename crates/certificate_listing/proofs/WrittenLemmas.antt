@@ -18,8 +18,8 @@ use Rattle.model.specs.Resolution.{is_same}
 use Rattle.model.specs.PlanText.{object_names}
 use Rattle.model.specs.PlanWriting.{are_lower_names, differ, is_lower_name, object_name}
 use Rattle.model.specs.Fluents.{is_fluent}
-use Rattle.model.specs.Certificates.{Certificate, IsClosedFor, is_claim, is_number, is_state_line, keeps_limits}
-use Rattle.model.specs.CertificateRefusals.{IsPlanWithin}
+use Rattle.certificate_text.specs.Certificates.{Certificate, IsClosedFor, is_claim, is_number, is_state_line, keeps_limits}
+use Rattle.certificate_text.specs.CertificateRefusals.{IsPlanWithin}
 use Rattle.model.proofs.Tests.{passes_got}
 use Rattle.certificate_text.specs.CertificateText.{TextLine, atom, listed, last, after_blank, is_line, line_text, longest_line, most_atoms, most_states, text_lines}
 use Rattle.certificate_text.specs.CertificateNames.{AllName, AreNumbersOf, IsNumberOf, IsTextOf, Names, are_atoms_of, certificate_text, has_atom_names, named, named_atom, predicate_name, predicate_names}

@@ -3,7 +3,7 @@ use Rattle.std.specs.Prelude.{◌≡◌, ℕ, ◌<◌, Bool, length, IsTrue, Mat
 use Rattle.std.specs.List.{list_all}
 use Rattle.packed_state.specs.Sets.{set_of}
 use Rattle.model.specs.Claims.{Claim, none}
-use Rattle.model.specs.Certificates.{StateLine, rise}
+use Rattle.certificate_text.specs.Certificates.{StateLine, rise}
 use Rattle.certificate_text.specs.CertificateText.{TextLine, version, claims, constant, atom, listed, last}
 use Rattle.certificate_listing.specs.declared.states.Mark.{Mark}
 use Rattle.certificate_listing.specs.Sets.{Marked, marked}

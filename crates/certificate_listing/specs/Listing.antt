@@ -1,6 +1,6 @@
 -- A listing as a certificate of its task.
 use Rattle.packed_state.specs.declared.pooled.PooledStore.{PooledStore}
-use Rattle.model.specs.Certificates.{Certificate}
+use Rattle.certificate_text.specs.Certificates.{Certificate}
 use Rattle.certificate_listing.specs.declared.listing.Listing.{Listing}
 use Rattle.certificate_listing.specs.Parts.{certificate_with}
 

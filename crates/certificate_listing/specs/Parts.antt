@@ -4,7 +4,7 @@ use Rattle.typing.specs.declared.atoms.Atom.{Atom}
 use Rattle.typing.specs.TaskParts.{atom_of}
 use Rattle.packed_state.specs.declared.pooled.PooledStore.{PooledStore}
 use Rattle.packed_state.specs.PooledView.{pooled_states}
-use Rattle.model.specs.Certificates.{Certificate}
+use Rattle.certificate_text.specs.Certificates.{Certificate}
 use Rattle.certificate_lines.specs.declared.line.Claim.{Claim}
 use Rattle.certificate_lines.specs.Lines.{claim_of}
 use Rattle.certificate_listing.specs.declared.states.Mark.{Mark}

@@ -6,7 +6,7 @@ use Rattle.model.specs.Task.{Atom, Task}
 use Rattle.model.specs.WellTyped.{is_atom}
 use Rattle.model.specs.Fluents.{is_fluent}
 use Rattle.model.specs.Claims.{Claim, none}
-use Rattle.model.specs.Certificates.{Certificate, StateLine}
+use Rattle.certificate_text.specs.Certificates.{Certificate, StateLine}
 use Rattle.certificate_text.specs.CertificateNames.{IsTextOf}
 use Rattle.certificate_lines.specs.declared.line.CertLine.{CertLine}
 use Rattle.certificate_lines.specs.Lines.{text_line_of}

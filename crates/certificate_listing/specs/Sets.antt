@@ -2,7 +2,7 @@
 use Rattle.std.specs.Prelude.{ℕ, Bool, List, [], ◌∷◌, length, Option}
 use Rattle.std.specs.List.{filter, range_with_len}
 use Rattle.packed_state.specs.Sets.{has}
-use Rattle.model.specs.Certificates.{StateLine}
+use Rattle.certificate_text.specs.Certificates.{StateLine}
 
 -- the numbers in the set, rising
 abbrev pub numbers_of : List Bool → List ℕ

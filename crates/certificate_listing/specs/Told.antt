@@ -5,7 +5,7 @@ use Rattle.model.specs.Task.{Atom, Task}
 use Rattle.model.specs.WellTyped.{is_atom}
 use Rattle.model.specs.Fluents.{is_fluent}
 use Rattle.model.specs.Claims.{Claim, none}
-use Rattle.model.specs.Certificates.{StateLine}
+use Rattle.certificate_text.specs.Certificates.{StateLine}
 use Rattle.certificate_text.specs.CertificateText.{NamedAtom, TextLine, version, claims, constant, atom, listed, last}
 use Rattle.certificate_text.specs.CertificateNames.{AllName}
 use Rattle.certificate_text.specs.CertificateChecking.{AreRight}

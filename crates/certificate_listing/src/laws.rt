@@ -2,8 +2,8 @@
 ghost use Rattle.std.specs.Prelude.{IsTrue, List, Option};
 ghost use Rattle.model.specs.Task.{Task, Instance};
 ghost use Rattle.model.specs.WellTyped.{is_task};
-ghost use Rattle.model.specs.Certificates.{Certificate, IsClosedFor, keeps_limits};
-ghost use Rattle.model.specs.CertificateRefusals.{IsPlanWithin};
+ghost use Rattle.certificate_text.specs.Certificates.{Certificate, IsClosedFor, keeps_limits};
+ghost use Rattle.certificate_text.specs.CertificateRefusals.{IsPlanWithin};
 ghost use Rattle.certificate_text.specs.CertificateNames.{IsTextOf, are_atoms_of, certificate_text, has_atom_names};
 ghost use Rattle.certificate_text.specs.CertificateChecking.{IsAccepted};
 

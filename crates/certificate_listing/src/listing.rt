@@ -1,6 +1,6 @@
 //! A certificate of a task.
 ghost use Rattle.std.specs.Prelude.{◌≡◌, IsTrue, length};
-ghost use Rattle.model.specs.Certificates.{keeps_limits};
+ghost use Rattle.certificate_text.specs.Certificates.{keeps_limits};
 ghost use Rattle.packed_state.specs.PooledView.{pooled_states};
 ghost use Rattle.certificate_listing.specs.Parts.{certificate_with};
 

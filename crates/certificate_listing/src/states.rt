@@ -4,7 +4,7 @@ ghost use Rattle.packed_state.specs.PooledView.{pooled_width, pooled_states};
 ghost use Rattle.packed_state.specs.Sets.{set_of};
 ghost use Rattle.model.specs.Task as model;
 ghost use Rattle.model.specs.Claims as claims;
-ghost use Rattle.model.specs.Certificates.{rise};
+ghost use Rattle.certificate_text.specs.Certificates.{rise};
 ghost use Rattle.certificate_lines.specs.Lines.{claim_of, line_of, text_line_of};
 ghost use Rattle.certificate_text.specs.CertificateText.{TextLine, listed};
 ghost use Rattle.certificate_listing.specs.Told.{HaveTold, is_body};

@@ -3,7 +3,7 @@ use Rattle.std.proofs.Common.{◌≡◌, ◌≢◌, ℕ, inl, inr, List, [], ◌
 use Rattle.std.specs.Prelude.{IsTrue}
 use Rattle.std.specs.Option.{option_and_then}
 use Rattle.std.specs.Fmt.{decimal}
-use Rattle.model.specs.Certificates.{is_number}
+use Rattle.certificate_text.specs.Certificates.{is_number}
 use Rattle.certificate_text.specs.CertificateText.{TextLine, version, claims, constant, atom, listed, last, is_line, line_text, MayFollow, IsOtherVersion, IsOneTooMany, HasLine, IsFaultAfter, other_version, malformed, too_many}
 use Rattle.certificate_text.specs.CertificateMachine.{Place, at_version, at_claim, at_constant, in_body, ended, next_place, place_from, place_after}
 use Rattle.certificate_text.proofs.Machine.{StandsBefore, stands, followed, place_same}
@@ -17,7 +17,7 @@ over_is (in_body n m) (atom a) bytes is (empty, full) same = inl (empty, full, (
 over_is (in_body n m) (listed l) bytes is full same = inr (full, (l, is, sym same))
 over_is (in_body n m) version bytes is over same = absurd over
 over_is (in_body n m) (claims claim) bytes is over same = absurd over
-over_is (in_body n m) constant bytes is over same = absurd over
+over_is (in_body n m) (constant k) bytes is over same = absurd over
 over_is (in_body n m) (last count) bytes is over same = absurd over
 over_is at_version line bytes is over same = absurd over
 over_is at_claim line bytes is over same = absurd over

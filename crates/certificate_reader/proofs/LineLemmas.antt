@@ -1,17 +1,17 @@
 -- Lines by their words.
 use Rattle.std.proofs.Common.{◌≡◌, ℕ, Bool, true, false, not, List, [], ◌∷◌, ◌++◌, codes, map, Option, None, Some, refl, sym, ap, ◌∙◌, append_assoc, append-nil, arith}
-use Rattle.std.specs.Prelude.{◌&&◌, IsTrue}
+use Rattle.std.specs.Prelude.{◌&&◌, suc, ℤ, pos, negsuc, IsTrue}
 use Rattle.std.specs.Char.{is_ascii_alphabetic}
-use Rattle.std.specs.Fmt.{decimal}
+use Rattle.std.specs.Fmt.{decimal, signed_decimal}
 use Rattle.std.specs.List.{flat_map, list_all}
 use Rattle.std.specs.Str.Parse.{AllDigits}
-use Rattle.std.proofs.lemmas.Bool.{and_parts, ne_eqb, eqb-true}
+use Rattle.std.proofs.lemmas.Bool.{and_parts, leb-true, ltb-true, ne_eqb, eqb-true}
 use Rattle.std.proofs.lemmas.Fmt.{decimal_is_IsNumeral}
 use Rattle.std.proofs.lemmas.Str.Parse.{tells_digits}
 use Rattle.model.specs.Words.{is_name, is_name_byte}
 use Rattle.model.specs.PlanWriting.{is_lower_name}
 use Rattle.model.specs.Claims.{bound, none}
-use Rattle.model.specs.Certificates.{is_number}
+use Rattle.certificate_text.specs.Certificates.{is_number, is_weight}
 use Rattle.certificate_text.specs.CertificateText.{TextLine, version, claims, constant, atom, listed, last, after_blank, line_text}
 use Rattle.certificate_reader.specs.Words.{is_blank, is_word, line_head, line_rest, then_words, with_rest}
 use Rattle.certificate_reader.proofs.NumberLemmas.{is_below}
@@ -27,6 +27,11 @@ digits_are_word (digit ∷ digits) all =
 
 pub number_is_word : (n : ℕ) → IsTrue (is_number n) → IsTrue (is_word (decimal n))
 number_is_word n is = digits_are_word (decimal n) ((decimal_is_IsNumeral n (let below = is_below n is in omega (arith, below))).0.1)
+
+-- so is a constant or a weight, with its sign
+pub weight_is_word : (w : ℤ) → IsTrue (is_weight w) → IsTrue (is_word (signed_decimal w))
+weight_is_word (pos n) is = digits_are_word (decimal n) ((decimal_is_IsNumeral n (let most = leb-true n 2147483647 is in omega (arith, most))).0.1)
+weight_is_word (negsuc n) is = digits_are_word (decimal (suc n)) ((decimal_is_IsNumeral (suc n) (let most = ltb-true n 2147483647 is in omega (arith, most))).0.1)
 
 -- a byte that passes a test that a blank does not pass is none
 no_blank_byte : (test : ℕ → Bool) → test 32 ≡ false → (byte : ℕ) → test byte ≡ true → not (is_blank byte) ≡ true
@@ -59,12 +64,20 @@ listed_splits : (cost : ℕ) (cut : Option ℕ) (atoms : List ℕ)
 listed_splits cost None atoms = refl
 listed_splits cost (Some rest) atoms = refl
 
+parts_split : (c s b o p f e : List ℕ) → ((((c ++ s) ++ (b ++ o)) ++ p) ++ f) ++ e ≡ c ++ ((s ++ b) ++ (((o ++ p) ++ f) ++ e))
+parts_split c s b o p f e = simp append_assoc
+
+-- the line of an atom, by its weight, its predicate and what comes behind that
+atom_splits : (s p f : List ℕ)
+    → ((((codes "atom " ++ s) ++ codes " (") ++ p) ++ f) ++ codes ")" ≡ codes "atom " ++ with_rest s (Some (((codes "(" ++ p) ++ f) ++ codes ")"))
+atom_splits s p f = parts_split (codes "atom ") s (codes " ") (codes "(") p f (codes ")")
+
 pub line_splits : (line : TextLine) → line_text line ≡ with_rest (line_head line) (Some (line_rest line))
 line_splits version = refl
 line_splits (claims (bound least)) = refl
 line_splits (claims none) = refl
-line_splits constant = refl
-line_splits (atom a) = refl
+line_splits (constant k) = refl
+line_splits (atom a) = atom_splits (signed_decimal a.weight) a.atom.predicate (flat_map after_blank a.atom.objects)
 line_splits (listed l) = listed_splits l.cost l.cut l.atoms
 line_splits (last count) = refl
 
@@ -75,7 +88,7 @@ listed_head cost (Some rest) atoms = refl
 pub head_is_word : (line : TextLine) → IsTrue (is_word (line_head line))
 head_is_word version = refl
 head_is_word (claims claim) = refl
-head_is_word constant = refl
+head_is_word (constant k) = refl
 head_is_word (atom a) = refl
 head_is_word (listed l) = listed_head l.cost l.cut l.atoms
 head_is_word (last count) = refl

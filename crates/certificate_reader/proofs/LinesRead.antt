@@ -1,18 +1,18 @@
 -- The lines of states and atoms, by what stands behind their first word.
 use Rattle.std.proofs.Common.{◌≡◌, ℕ, Bool, true, false, List, [], ◌∷◌, ◌++◌, codes, map, Option, None, Some, refl, sym, ap, ◌∙◌, subst, append_assoc, append-nil}
-use Rattle.std.specs.Prelude.{◌&&◌, IsTrue}
-use Rattle.std.specs.Fmt.{decimal}
+use Rattle.std.specs.Prelude.{◌&&◌, ℤ, IsTrue}
+use Rattle.std.specs.Fmt.{decimal, signed_decimal}
 use Rattle.std.specs.List.{flat_map, list_all}
 use Rattle.std.specs.Str.{bytes_eq}
 use Rattle.std.proofs.lemmas.Slice.Eq.{bytes_eq-Decides}
 use Rattle.std.proofs.lemmas.Bool.{and_parts}
 use Rattle.std.proofs.lemmas.List.{append_cancel_left, append_cancel_right}
 use Rattle.model.specs.PlanWriting.{is_lower_name}
-use Rattle.model.specs.Certificates.{is_number, rise}
-use Rattle.certificate_text.specs.CertificateText.{NamedAtom, TextLine, version, claims, constant, atom, listed, last, after_blank}
-use Rattle.certificate_reader.specs.Words.{IsFirstWord, IsNumbered, IsReadAs, are_lower, line_rest, then_words, with_rest}
+use Rattle.certificate_text.specs.Certificates.{is_number, is_weight, rise}
+use Rattle.certificate_text.specs.CertificateText.{NamedAtom, WeightedAtom, TextLine, version, claims, constant, atom, listed, last, after_blank, is_line}
+use Rattle.certificate_reader.specs.Words.{IsFirstWord, IsNumbered, IsReadAs, are_lower, atom_rest, line_head, then_words, with_rest}
 use Rattle.certificate_reader.proofs.WordLemmas.{one_first}
-use Rattle.certificate_reader.proofs.LineLemmas.{lower_name_is_word, number_is_word, words_behind}
+use Rattle.certificate_reader.proofs.LineLemmas.{lower_name_is_word, number_is_word, weight_is_word, words_behind}
 
 -- ---- a number and numbers behind it
 
@@ -67,7 +67,7 @@ module _ (rest : List ℕ) (count : ℕ) where
   pub no_open : ((n : ℕ) (atoms : List ℕ) → IsNumbered rest count n atoms → ⊥) → (line : TextLine) → IsReadAs (codes "open") rest count line → ⊥
   no_open never version read = absurd (unlike (codes "pddl-cert") (codes "open") refl read.head)
   no_open never (claims claim) read = absurd (unlike (codes "claim") (codes "open") refl read.head)
-  no_open never constant read = absurd (unlike (codes "constant") (codes "open") refl read.head)
+  no_open never (constant k) read = absurd (unlike (codes "constant") (codes "open") refl read.head)
   no_open never (atom a) read = absurd (unlike (codes "atom") (codes "open") refl read.head)
   no_open never (listed l) read = never l.cost l.atoms (open_parts l.cost l.cut l.atoms read)
   no_open never (last n) read = absurd (unlike (codes "end") (codes "open") refl read.head)
@@ -118,7 +118,7 @@ module _ (rest : List ℕ) (count : ℕ) where
   pub no_cut : ((cost least : ℕ) (atoms : List ℕ) → IsCut rest count cost least atoms → ⊥) → (line : TextLine) → IsReadAs (codes "cut") rest count line → ⊥
   no_cut never version read = absurd (unlike (codes "pddl-cert") (codes "cut") refl read.head)
   no_cut never (claims claim) read = absurd (unlike (codes "claim") (codes "cut") refl read.head)
-  no_cut never constant read = absurd (unlike (codes "constant") (codes "cut") refl read.head)
+  no_cut never (constant k) read = absurd (unlike (codes "constant") (codes "cut") refl read.head)
   no_cut never (atom a) read = absurd (unlike (codes "atom") (codes "cut") refl read.head)
   no_cut never (listed l) read = let (least, is) = cut_parts l.cost l.cut l.atoms read in never l.cost least l.atoms is
   no_cut never (last n) read = absurd (unlike (codes "end") (codes "cut") refl read.head)
@@ -151,46 +151,84 @@ module _ (rest : List ℕ) (count : ℕ) where
 
 -- ---- atoms
 
+-- the bytes are a weight and, behind it, an atom
+module _ (rest : List ℕ) (word : List ℕ) (behind : Option (List ℕ)) (first : IsFirstWord rest word behind) where
+  weighed : (count : ℕ) (a : WeightedAtom) → IsReadAs (codes "atom") rest count (atom a) → (word ≡ signed_decimal a.weight) × (behind ≡ Some (atom_rest a.atom))
+  weighed count a read =
+      one_first word (signed_decimal a.weight) behind (Some (atom_rest a.atom)) first.is_word
+      (weight_is_word a.weight (weight_within count a read.within)) (sym first.splits ∙ sym read.behind)
+    where
+      weight_within : (count : ℕ) (a : WeightedAtom) → IsTrue (is_line count (atom a)) → IsTrue (is_weight a.weight)
+      weight_within count a within = (and_parts (is_weight a.weight) (are_lower a.atom) (and_parts (is_weight a.weight && are_lower a.atom) _ within).0).0
+
+  pub no_weight_first : (count : ℕ) → ((w : ℤ) → IsTrue (is_weight w) → signed_decimal w ≡ word → ⊥) → (a : WeightedAtom) → IsReadAs (codes "atom") rest count (atom a) → ⊥
+  no_weight_first count never a read =
+      never a.weight (and_parts (is_weight a.weight) (are_lower a.atom) (and_parts (is_weight a.weight && are_lower a.atom) _ read.within).0).0 (sym (weighed count a read).0)
+
+  pub nothing_behind : (count : ℕ) → behind ≡ None → (a : WeightedAtom) → IsReadAs (codes "atom") rest count (atom a) → ⊥
+  nothing_behind count alone a read = absurd (cc (sym alone ∙ (weighed count a read).1))
+
+  pub no_atom_behind : (count : ℕ) (bytes : List ℕ) → behind ≡ Some bytes → ((a : NamedAtom) → IsTrue (are_lower a) → atom_rest a ≡ bytes → ⊥)
+      → (a : WeightedAtom) → IsReadAs (codes "atom") rest count (atom a) → ⊥
+  no_atom_behind count bytes at never a read =
+      never a.atom (and_parts (is_weight a.weight) (are_lower a.atom) (and_parts (is_weight a.weight && are_lower a.atom) _ read.within).0).1
+      (some_bytes (atom_rest a.atom) bytes (sym (weighed count a read).1 ∙ at))
+    where
+      some_bytes : (a b : List ℕ) → ◌≡◌ {A = Option (List ℕ)} (Some a) (Some b) → a ≡ b
+      some_bytes a b same = cc
+
+listed_is_no_atom : (cost : ℕ) (cut : Option ℕ) (atoms : List ℕ) → line_head (listed (record { cost = cost; cut = cut; atoms = atoms })) ≡ codes "atom" → ⊥
+listed_is_no_atom cost None atoms = unlike (codes "open") (codes "atom") refl
+listed_is_no_atom cost (Some least) atoms = unlike (codes "cut") (codes "atom") refl
+
+pub no_atom : (rest : List ℕ) (count : ℕ) → ((a : WeightedAtom) → IsReadAs (codes "atom") rest count (atom a) → ⊥) → (line : TextLine) → IsReadAs (codes "atom") rest count line → ⊥
+no_atom rest count never version read = unlike (codes "pddl-cert") (codes "atom") refl read.head
+no_atom rest count never (claims claim) read = unlike (codes "claim") (codes "atom") refl read.head
+no_atom rest count never (constant k) read = unlike (codes "constant") (codes "atom") refl read.head
+no_atom rest count never (atom a) read = never a read
+no_atom rest count never (listed l) read = listed_is_no_atom l.cost l.cut l.atoms read.head
+no_atom rest count never (last n) read = unlike (codes "end") (codes "atom") refl read.head
+
 names_behind : (word : List ℕ) (words : List (List ℕ)) → with_rest word (then_words words None) ≡ word ++ flat_map after_blank words
 names_behind word [] = sym (append-nil word)
 names_behind word (next ∷ words) =
     ap (λ rest. word ++ codes " " ++ rest) (names_behind next words) ∙ append_assoc word (codes " ") (next ++ flat_map after_blank words)
 
--- an atom's line by what stands in its parentheses
+-- an atom by what stands in its parentheses
 abbrev pub inner_of : NamedAtom → List ℕ
 inner_of a = with_rest a.predicate (then_words a.objects None)
 
-pub atom_text : (a : NamedAtom) → line_rest (atom a) ≡ codes "0 (" ++ inner_of a ++ codes ")"
+pub atom_text : (a : NamedAtom) → atom_rest a ≡ codes "(" ++ inner_of a ++ codes ")"
 atom_text a = ap (λ inner. inner ++ codes ")")
-    (append_assoc (codes "0 (") a.predicate (flat_map after_blank a.objects) ∙ ap (λ inner. codes "0 (" ++ inner) (sym (names_behind a.predicate a.objects)))
+    (append_assoc (codes "(") a.predicate (flat_map after_blank a.objects) ∙ ap (λ inner. codes "(" ++ inner) (sym (names_behind a.predicate a.objects)))
 
-pub same_inner : (x y : List ℕ) → codes "0 (" ++ x ++ codes ")" ≡ codes "0 (" ++ y ++ codes ")" → x ≡ y
-same_inner x y same = append_cancel_left (codes "0 (") x y (append_cancel_right (codes "0 (" ++ x) (codes "0 (" ++ y) (codes ")") same)
+pub same_inner : (x y : List ℕ) → codes "(" ++ x ++ codes ")" ≡ codes "(" ++ y ++ codes ")" → x ≡ y
+same_inner x y same = append_cancel_left (codes "(") x y (append_cancel_right (codes "(" ++ x) (codes "(" ++ y) (codes ")") same)
 
-module _ (rest inner : List ℕ) (stands : rest ≡ codes "0 (" ++ inner ++ codes ")") (predicate : List ℕ) (behind : Option (List ℕ))
+module _ (rest inner : List ℕ) (stands : rest ≡ codes "(" ++ inner ++ codes ")") (predicate : List ℕ) (behind : Option (List ℕ))
     (first : IsFirstWord inner predicate behind) where
-  atom_parts : (a : NamedAtom) → IsTrue (are_lower a) → line_rest (atom a) ≡ rest → (predicate ≡ a.predicate) × (behind ≡ then_words a.objects None)
+  atom_parts : (a : NamedAtom) → IsTrue (are_lower a) → atom_rest a ≡ rest → (predicate ≡ a.predicate) × (behind ≡ then_words a.objects None)
   atom_parts a lower same =
       let both : inner ≡ inner_of a = same_inner inner (inner_of a) (sym stands ∙ sym same ∙ atom_text a) in
       one_first predicate a.predicate behind (then_words a.objects None) first.is_word
       (lower_name_is_word a.predicate (and_parts (is_lower_name a.predicate) (list_all is_lower_name a.objects) lower).0) (sym first.splits ∙ both)
 
-  pub no_lower_predicate : is_lower_name predicate ≡ false → (a : NamedAtom) → IsTrue (are_lower a) → line_rest (atom a) ≡ rest → ⊥
+  pub no_lower_predicate : is_lower_name predicate ≡ false → (a : NamedAtom) → IsTrue (are_lower a) → atom_rest a ≡ rest → ⊥
   no_lower_predicate other a lower same =
       let is = (and_parts (is_lower_name a.predicate) (list_all is_lower_name a.objects) lower).0 in
       absurd (cc (sym other ∙ ap is_lower_name (atom_parts a lower same).0 ∙ is))
 
   pub no_names_behind : ((names : List (List ℕ)) → IsTrue (list_all is_lower_name names) → then_words names None ≡ behind → ⊥)
-      → (a : NamedAtom) → IsTrue (are_lower a) → line_rest (atom a) ≡ rest → ⊥
+      → (a : NamedAtom) → IsTrue (are_lower a) → atom_rest a ≡ rest → ⊥
   no_names_behind never a lower same =
       never a.objects (and_parts (is_lower_name a.predicate) (list_all is_lower_name a.objects) lower).1 (sym (atom_parts a lower same).1)
 
   pub is_atom_line : is_lower_name predicate ≡ true → (name : List ℕ) (names : List (List ℕ)) → name ≡ predicate
       → IsTrue (list_all is_lower_name names) → then_words names None ≡ behind
-      → IsTrue (is_lower_name name && list_all is_lower_name names) × (line_rest (atom (record { predicate = name; objects = names })) ≡ rest)
+      → IsTrue (is_lower_name name && list_all is_lower_name names) × (atom_rest (record { predicate = name; objects = names }) ≡ rest)
   is_atom_line is name names same lower read = (
     (λ i. (ap is_lower_name same ∙ is) i && lower i),
     atom_text (record { predicate = name; objects = names })
-        ∙ ap (λ inner. codes "0 (" ++ inner ++ codes ")") ((λ i. with_rest (same i) (read i)) ∙ sym first.splits)
+        ∙ ap (λ inner. codes "(" ++ inner ++ codes ")") ((λ i. with_rest (same i) (read i)) ∙ sym first.splits)
         ∙ sym stands,
   )

@@ -1,17 +1,18 @@
 -- A line of a text is one line.
 use Rattle.std.proofs.Common.{◌≡◌, ℕ, List, [], ◌∷◌, codes, map, Option, None, Some, refl, sym, ap, ◌∙◌, subst}
 use Rattle.std.specs.Prelude.{◌&&◌, IsTrue, nat_le}
-use Rattle.std.specs.Fmt.{decimal}
+use Rattle.std.specs.Fmt.{decimal, signed_decimal}
 use Rattle.std.specs.List.{list_all}
 use Rattle.std.proofs.lemmas.Bool.{and_parts}
 use Rattle.std.proofs.lemmas.List.{append_cancel_left}
 use Rattle.model.specs.Claims.{Claim, bound, none}
 use Rattle.model.specs.PlanWriting.{is_lower_name}
-use Rattle.model.specs.Certificates.{is_claim, is_number}
-use Rattle.certificate_text.specs.CertificateText.{NamedAtom, TextLine, version, claims, constant, atom, listed, last, is_line, line_text, longest_line}
-use Rattle.certificate_reader.specs.Words.{IsNumbered, IsReadAs, are_lower, claim_rest, is_word, line_head, line_rest, then_words}
+use Rattle.certificate_text.specs.Certificates.{is_claim, is_number, is_weight}
+use Rattle.certificate_text.specs.CertificateText.{NamedAtom, WeightedAtom, TextLine, version, claims, constant, atom, listed, last, is_line, line_text, longest_line}
+use Rattle.certificate_reader.specs.Words.{IsNumbered, IsReadAs, are_lower, atom_rest, claim_rest, is_word, line_head, line_rest, then_words}
 use Rattle.certificate_reader.proofs.WordLemmas.{one_first}
-use Rattle.certificate_reader.proofs.LineLemmas.{all_words, head_is_word, line_splits, lower_name_is_word, number_is_word}
+use Rattle.certificate_reader.proofs.LineLemmas.{all_words, head_is_word, line_splits, lower_name_is_word, number_is_word, weight_is_word}
+use Rattle.certificate_reader.proofs.NumberLemmas.{same_weight}
 use Rattle.certificate_reader.proofs.NumbersRead.{same_number, rising_are_numbers}
 use Rattle.certificate_reader.proofs.NamesRead.{names_are_words}
 use Rattle.certificate_reader.proofs.LinesRead.{IsCut, cut_of, open_parts, atom_text, inner_of, same_inner, unlike}
@@ -101,14 +102,23 @@ module _ (count : ℕ) (few : count ≤ most_atoms) (rest : List ℕ) where
       let (costs, others) = one_cut rest count few c d k l a b first second in
       cut_same c d k l a b costs others
 
-one_atom : (a b : NamedAtom) → IsTrue (are_lower a) → IsTrue (are_lower b) → line_rest (atom a) ≡ line_rest (atom b) → atom a ≡ atom b
-one_atom a b a_are b_are same =
+one_name : (a b : NamedAtom) → IsTrue (are_lower a) → IsTrue (are_lower b) → atom_rest a ≡ atom_rest b → a ≡ b
+one_name a b a_are b_are same =
     let (a_predicate, a_objects) = and_parts (is_lower_name a.predicate) (list_all is_lower_name a.objects) a_are in
     let (b_predicate, b_objects) = and_parts (is_lower_name b.predicate) (list_all is_lower_name b.objects) b_are in
     let inner : inner_of a ≡ inner_of b = same_inner (inner_of a) (inner_of b) (sym (atom_text a) ∙ same ∙ atom_text b) in
     let both = one_first a.predicate b.predicate (then_words a.objects None) (then_words b.objects None) (lower_name_is_word a.predicate a_predicate) (lower_name_is_word b.predicate b_predicate) inner in
     let objects : a.objects ≡ b.objects = all_words a.objects b.objects (names_are_words a.objects a_objects) (names_are_words b.objects b_objects) both.1 in
-    λ i. atom (record { predicate = both.0 i; objects = objects i })
+    λ i. record { predicate = both.0 i; objects = objects i }
+
+one_atom : (a b : WeightedAtom) → IsTrue (is_weight a.weight && are_lower a.atom) → IsTrue (is_weight b.weight && are_lower b.atom) → line_rest (atom a) ≡ line_rest (atom b) → atom a ≡ atom b
+one_atom a b a_are b_are same =
+    let (a_weight, a_lower) = and_parts (is_weight a.weight) (are_lower a.atom) a_are in
+    let (b_weight, b_lower) = and_parts (is_weight b.weight) (are_lower b.atom) b_are in
+    let both = one_first (signed_decimal a.weight) (signed_decimal b.weight) (Some (atom_rest a.atom)) (Some (atom_rest b.atom)) (weight_is_word a.weight a_weight) (weight_is_word b.weight b_weight) same in
+    let weights : a.weight ≡ b.weight = same_weight a.weight b.weight a_weight b_weight both.0 in
+    let names : a.atom ≡ b.atom = one_name a.atom b.atom a_lower b_lower (some_same (atom_rest a.atom) (atom_rest b.atom) both.1) in
+    λ i. atom (record { weight = weights i; atom = names i })
 
 -- ---- any line
 
@@ -121,38 +131,38 @@ module _ (count : ℕ) (few : count ≤ most_atoms) where
   by_parts : (l m : TextLine) → IsTrue (is_line count l) → IsTrue (is_line count m) → line_head l ≡ line_head m → line_rest l ≡ line_rest m → l ≡ m
   by_parts version version h g heads rests = refl
   by_parts version (claims d) h g heads rests = absurd (unlike (codes "pddl-cert") (codes "claim") refl heads)
-  by_parts version constant h g heads rests = absurd (unlike (codes "pddl-cert") (codes "constant") refl heads)
+  by_parts version (constant k) h g heads rests = absurd (unlike (codes "pddl-cert") (codes "constant") refl heads)
   by_parts version (atom b) h g heads rests = absurd (unlike (codes "pddl-cert") (codes "atom") refl heads)
   by_parts version (listed s) h g heads rests = absurd (listed_unlike s.cost s.cut s.atoms (codes "pddl-cert") (unlike (codes "open") (codes "pddl-cert") refl) (unlike (codes "cut") (codes "pddl-cert") refl) (sym heads))
   by_parts version (last n) h g heads rests = absurd (unlike (codes "pddl-cert") (codes "end") refl heads)
   by_parts (claims c) version h g heads rests = absurd (unlike (codes "claim") (codes "pddl-cert") refl heads)
   by_parts (claims c) (claims d) h g heads rests = ap (λ claim. claims claim) (one_claim c d h g rests)
-  by_parts (claims c) constant h g heads rests = absurd (unlike (codes "claim") (codes "constant") refl heads)
+  by_parts (claims c) (constant k) h g heads rests = absurd (unlike (codes "claim") (codes "constant") refl heads)
   by_parts (claims c) (atom b) h g heads rests = absurd (unlike (codes "claim") (codes "atom") refl heads)
   by_parts (claims c) (listed s) h g heads rests = absurd (listed_unlike s.cost s.cut s.atoms (codes "claim") (unlike (codes "open") (codes "claim") refl) (unlike (codes "cut") (codes "claim") refl) (sym heads))
   by_parts (claims c) (last n) h g heads rests = absurd (unlike (codes "claim") (codes "end") refl heads)
-  by_parts constant version h g heads rests = absurd (unlike (codes "constant") (codes "pddl-cert") refl heads)
-  by_parts constant (claims d) h g heads rests = absurd (unlike (codes "constant") (codes "claim") refl heads)
-  by_parts constant constant h g heads rests = refl
-  by_parts constant (atom b) h g heads rests = absurd (unlike (codes "constant") (codes "atom") refl heads)
-  by_parts constant (listed s) h g heads rests = absurd (listed_unlike s.cost s.cut s.atoms (codes "constant") (unlike (codes "open") (codes "constant") refl) (unlike (codes "cut") (codes "constant") refl) (sym heads))
-  by_parts constant (last n) h g heads rests = absurd (unlike (codes "constant") (codes "end") refl heads)
+  by_parts (constant k) version h g heads rests = absurd (unlike (codes "constant") (codes "pddl-cert") refl heads)
+  by_parts (constant k) (claims d) h g heads rests = absurd (unlike (codes "constant") (codes "claim") refl heads)
+  by_parts (constant k) (constant j) h g heads rests = ap (λ w. constant w) (same_weight k j h g rests)
+  by_parts (constant k) (atom b) h g heads rests = absurd (unlike (codes "constant") (codes "atom") refl heads)
+  by_parts (constant k) (listed s) h g heads rests = absurd (listed_unlike s.cost s.cut s.atoms (codes "constant") (unlike (codes "open") (codes "constant") refl) (unlike (codes "cut") (codes "constant") refl) (sym heads))
+  by_parts (constant k) (last n) h g heads rests = absurd (unlike (codes "constant") (codes "end") refl heads)
   by_parts (atom a) version h g heads rests = absurd (unlike (codes "atom") (codes "pddl-cert") refl heads)
   by_parts (atom a) (claims d) h g heads rests = absurd (unlike (codes "atom") (codes "claim") refl heads)
-  by_parts (atom a) constant h g heads rests = absurd (unlike (codes "atom") (codes "constant") refl heads)
-  by_parts (atom a) (atom b) h g heads rests = one_atom a b (and_parts (are_lower a) (nat_le _ longest_line) h).0 (and_parts (are_lower b) (nat_le _ longest_line) g).0 rests
+  by_parts (atom a) (constant k) h g heads rests = absurd (unlike (codes "atom") (codes "constant") refl heads)
+  by_parts (atom a) (atom b) h g heads rests = one_atom a b (and_parts (is_weight a.weight && are_lower a.atom) (nat_le _ longest_line) h).0 (and_parts (is_weight b.weight && are_lower b.atom) (nat_le _ longest_line) g).0 rests
   by_parts (atom a) (listed s) h g heads rests = absurd (listed_unlike s.cost s.cut s.atoms (codes "atom") (unlike (codes "open") (codes "atom") refl) (unlike (codes "cut") (codes "atom") refl) (sym heads))
   by_parts (atom a) (last n) h g heads rests = absurd (unlike (codes "atom") (codes "end") refl heads)
   by_parts (listed r) version h g heads rests = absurd (listed_unlike r.cost r.cut r.atoms (codes "pddl-cert") (unlike (codes "open") (codes "pddl-cert") refl) (unlike (codes "cut") (codes "pddl-cert") refl) heads)
   by_parts (listed r) (claims d) h g heads rests = absurd (listed_unlike r.cost r.cut r.atoms (codes "claim") (unlike (codes "open") (codes "claim") refl) (unlike (codes "cut") (codes "claim") refl) heads)
-  by_parts (listed r) constant h g heads rests = absurd (listed_unlike r.cost r.cut r.atoms (codes "constant") (unlike (codes "open") (codes "constant") refl) (unlike (codes "cut") (codes "constant") refl) heads)
+  by_parts (listed r) (constant k) h g heads rests = absurd (listed_unlike r.cost r.cut r.atoms (codes "constant") (unlike (codes "open") (codes "constant") refl) (unlike (codes "cut") (codes "constant") refl) heads)
   by_parts (listed r) (atom b) h g heads rests = absurd (listed_unlike r.cost r.cut r.atoms (codes "atom") (unlike (codes "open") (codes "atom") refl) (unlike (codes "cut") (codes "atom") refl) heads)
   by_parts (listed r) (listed s) h g heads rests = one_state count few (line_rest (listed s)) r.cost s.cost r.cut s.cut r.atoms s.atoms (line_head (listed s))
       (record { head = heads; behind = rests; within = h }) (record { head = refl; behind = refl; within = g })
   by_parts (listed r) (last n) h g heads rests = absurd (listed_unlike r.cost r.cut r.atoms (codes "end") (unlike (codes "open") (codes "end") refl) (unlike (codes "cut") (codes "end") refl) heads)
   by_parts (last m) version h g heads rests = absurd (unlike (codes "end") (codes "pddl-cert") refl heads)
   by_parts (last m) (claims d) h g heads rests = absurd (unlike (codes "end") (codes "claim") refl heads)
-  by_parts (last m) constant h g heads rests = absurd (unlike (codes "end") (codes "constant") refl heads)
+  by_parts (last m) (constant k) h g heads rests = absurd (unlike (codes "end") (codes "constant") refl heads)
   by_parts (last m) (atom b) h g heads rests = absurd (unlike (codes "end") (codes "atom") refl heads)
   by_parts (last m) (listed s) h g heads rests = absurd (listed_unlike s.cost s.cut s.atoms (codes "end") (unlike (codes "open") (codes "end") refl) (unlike (codes "cut") (codes "end") refl) (sym heads))
   by_parts (last m) (last n) h g heads rests = ap (λ n. last n) (same_number m n h g rests)

@@ -1,20 +1,20 @@
 -- A text is at most one certificate.
 use Rattle.std.proofs.Common.{◌≡◌, ℕ, ◌+◌, ◌≤◌, Bool, true, false, not, List, [], ◌∷◌, ◌++◌, codes, map, length, Option, None, Some, refl, sym, ap, ◌∙◌, append_assoc, arith}
-use Rattle.std.specs.Prelude.{◌&&◌, ◌==◌, IsTrue, nat_le}
+use Rattle.std.specs.Prelude.{◌&&◌, ◌==◌, suc, ℤ, pos, negsuc, IsTrue, nat_le}
 use Rattle.std.specs.Char.{is_ascii_alphabetic}
-use Rattle.std.specs.Fmt.{decimal}
+use Rattle.std.specs.Fmt.{decimal, signed_decimal}
 use Rattle.std.specs.List.{flat_map, list_all}
 use Rattle.std.specs.Option.{option_map_or}
 use Rattle.std.specs.Str.Parse.{AllDigits}
-use Rattle.std.proofs.lemmas.Bool.{and_parts, eqb-true, leb-true, le-leb, lt-ltb, ne_eqb}
+use Rattle.std.proofs.lemmas.Bool.{and_parts, eqb-true, leb-true, le-leb, lt-ltb, ltb-true, ne_eqb}
 use Rattle.std.proofs.lemmas.Fmt.{decimal_is_IsNumeral}
 use Rattle.std.proofs.lemmas.List.Folds.{list_all-append}
 use Rattle.std.proofs.lemmas.Str.Parse.{tells_digits}
 use Rattle.model.specs.Words.{is_name, is_name_byte}
 use Rattle.model.specs.PlanWriting.{is_lower_name}
 use Rattle.model.specs.Claims.{Claim, bound, none}
-use Rattle.model.specs.Certificates.{StateLine, is_number, rise}
-use Rattle.certificate_text.specs.CertificateText.{NamedAtom, NamedCertificate, TextLine, version, claims, constant, atom, listed, last, after_blank, is_line, line_text, text_of, text_lines, keeps_text_limits, IsCertificateText, longest_line, most_atoms, most_states}
+use Rattle.certificate_text.specs.Certificates.{StateLine, is_number, is_weight, rise}
+use Rattle.certificate_text.specs.CertificateText.{WeightedAtom, NamedCertificate, TextLine, version, claims, constant, atom, listed, last, after_blank, is_line, line_text, text_of, text_lines, keeps_text_limits, IsCertificateText, longest_line, most_atoms, most_states}
 use Rattle.certificate_reader.specs.Words.{are_lower}
 use Rattle.certificate_reader.proofs.NumberLemmas.{is_below}
 use Rattle.certificate_reader.proofs.NumbersRead.{few_are_numbers, rise_parts}
@@ -40,6 +40,11 @@ digits_in_one (digit ∷ digits) all =
 
 number_in_one : (n : ℕ) → IsTrue (is_number n) → is_one_line (decimal n) ≡ true
 number_in_one n is = digits_in_one (decimal n) ((decimal_is_IsNumeral n (let below = is_below n is in omega (arith, below))).0.1)
+
+-- so is a constant or a weight, with its sign
+weight_in_one : (w : ℤ) → IsTrue (is_weight w) → is_one_line (signed_decimal w) ≡ true
+weight_in_one (pos n) is = digits_in_one (decimal n) ((decimal_is_IsNumeral n (let most = leb-true n 2147483647 is in omega (arith, most))).0.1)
+weight_in_one (negsuc n) is = digits_in_one (decimal (suc n)) ((decimal_is_IsNumeral (suc n) (let most = ltb-true n 2147483647 is in omega (arith, most))).0.1)
 
 no_end_byte : (test : ℕ → Bool) → test 10 ≡ false → (byte : ℕ) → test byte ≡ true → is_no_end byte ≡ true
 no_end_byte test fails byte passes = by_test (byte == 10) refl
@@ -95,12 +100,15 @@ pub line_in_one : (count : ℕ) → count ≤ most_atoms → (line : TextLine) �
 line_in_one count few version is = refl
 line_in_one count few (claims (bound n)) is = both (codes "claim bound ") (decimal n) refl (number_in_one n is)
 line_in_one count few (claims none) is = refl
-line_in_one count few constant is = refl
+line_in_one count few (constant k) is = both (codes "constant ") (signed_decimal k) refl (weight_in_one k is)
 line_in_one count few (atom a) is =
-    let names = (and_parts (are_lower a) (nat_le _ longest_line) is).0 in
-    let (predicate, objects) = and_parts (is_lower_name a.predicate) (list_all is_lower_name a.objects) names in
-    both ((codes "atom 0 (" ++ a.predicate) ++ flat_map after_blank a.objects) (codes ")")
-    (both (codes "atom 0 (" ++ a.predicate) (flat_map after_blank a.objects) (both (codes "atom 0 (") a.predicate refl (lower_in_one a.predicate predicate)) (names_in_one a.objects objects)) refl
+    let (weight, names) = and_parts (is_weight a.weight) (are_lower a.atom) (and_parts (is_weight a.weight && are_lower a.atom) (nat_le _ longest_line) is).0 in
+    let (predicate, objects) = and_parts (is_lower_name a.atom.predicate) (list_all is_lower_name a.atom.objects) names in
+    let start : List ℕ = codes "atom " ++ signed_decimal a.weight in
+    both (((start ++ codes " (") ++ a.atom.predicate) ++ flat_map after_blank a.atom.objects) (codes ")")
+    (both ((start ++ codes " (") ++ a.atom.predicate) (flat_map after_blank a.atom.objects)
+    (both (start ++ codes " (") a.atom.predicate (both start (codes " (") (both (codes "atom ") (signed_decimal a.weight) refl (weight_in_one a.weight weight)) refl) (lower_in_one a.atom.predicate predicate))
+    (names_in_one a.atom.objects objects)) refl
 line_in_one count few (listed l) is = state_in_one count few l.cost l.cut l.atoms is
 line_in_one count few (last n) is = both (codes "end ") (decimal n) refl (number_in_one n is)
 
@@ -150,7 +158,7 @@ rise_more count more least (n ∷ numbers) few all =
 line_more : (count : ℕ) → count ≤ most_atoms → (line : TextLine) → is_line count line ≡ true → is_line most_atoms line ≡ true
 line_more count few version is = refl
 line_more count few (claims claim) is = is
-line_more count few constant is = refl
+line_more count few (constant k) is = is
 line_more count few (atom a) is = is
 line_more count few (listed l) is =
     let (first, rising) = and_parts (is_number l.cost && option_map_or is_number l.cut true) (rise count 0 l.atoms) is in
@@ -187,11 +195,11 @@ states_same (k ∷ a) (l ∷ b) m n same =
     listed_same : (k l : StateLine) → listed k ≡ listed l → k ≡ l
     listed_same k l same = cc
 
-no_atom_there : (a : NamedAtom) (rest : List TextLine) (states : List StateLine) (n : ℕ) → atom a ∷ rest ≡ map (λ l. listed l) states ++ last n ∷ [] → ⊥
+no_atom_there : (a : WeightedAtom) (rest : List TextLine) (states : List StateLine) (n : ℕ) → atom a ∷ rest ≡ map (λ l. listed l) states ++ last n ∷ [] → ⊥
 no_atom_there a rest [] n same = absurd (cc same)
 no_atom_there a rest (l ∷ states) n same = absurd (cc same)
 
-atoms_same : (a b : List NamedAtom) (k l : List StateLine) (m n : ℕ)
+atoms_same : (a b : List WeightedAtom) (k l : List StateLine) (m n : ℕ)
     → map (λ a. atom a) a ++ (map (λ l. listed l) k ++ last m ∷ []) ≡ map (λ a. atom a) b ++ (map (λ l. listed l) l ++ last n ∷ []) → (a ≡ b) × (k ≡ l)
 atoms_same [] [] k l m n same = (refl, states_same k l m n same)
 atoms_same [] (x ∷ b) k l m n same = absurd (no_atom_there x (map (λ a. atom a) b ++ (map (λ l. listed l) l ++ last n ∷ [])) k m (sym same))
@@ -203,20 +211,20 @@ atoms_same (x ∷ a) (y ∷ b) k l m n same =
     let (atoms, states) = atoms_same a b k l m n (more_lines (atom x) (atom y) left right same) in
     ((λ i. here i ∷ atoms i), states)
   where
-    atom_same : (x y : NamedAtom) → atom x ≡ atom y → x ≡ y
+    atom_same : (x y : WeightedAtom) → atom x ≡ atom y → x ≡ y
     atom_same x y same = cc
 
-claim_same : (c d : Claim) (xs ys : List TextLine) → version ∷ claims c ∷ constant ∷ xs ≡ version ∷ claims d ∷ constant ∷ ys → (c ≡ d) × (xs ≡ ys)
-claim_same c d xs ys same = (cc same, cc same)
+claim_same : (c d : Claim) (j k : ℤ) (xs ys : List TextLine) → version ∷ claims c ∷ constant j ∷ xs ≡ version ∷ claims d ∷ constant k ∷ ys → (c ≡ d) × (j ≡ k) × (xs ≡ ys)
+claim_same c d j k xs ys same = (cc same, cc same, cc same)
 
 lines_of_one : (c d : NamedCertificate) → text_lines c ≡ text_lines d → c ≡ d
 lines_of_one c d same =
-    let (claim, body) = claim_same c.claim d.claim ((map (λ a. atom a) c.atoms ++ map (λ l. listed l) c.lines) ++ last (length c.lines) ∷ [])
+    let (claim, constants, body) = claim_same c.claim d.claim c.constant d.constant ((map (λ a. atom a) c.atoms ++ map (λ l. listed l) c.lines) ++ last (length c.lines) ∷ [])
     ((map (λ a. atom a) d.atoms ++ map (λ l. listed l) d.lines) ++ last (length d.lines) ∷ []) same in
     let (atoms, states) = atoms_same c.atoms d.atoms c.lines d.lines (length c.lines) (length d.lines)
     (sym (append_assoc (map (λ a. atom a) c.atoms) (map (λ l. listed l) c.lines) (last (length c.lines) ∷ [])) ∙ body
     ∙ append_assoc (map (λ a. atom a) d.atoms) (map (λ l. listed l) d.lines) (last (length d.lines) ∷ [])) in
-    λ i. record { claim = claim i; atoms = atoms i; lines = states i }
+    λ i. record { claim = claim i; constant = constants i; atoms = atoms i; lines = states i }
 
 -- a text is at most one certificate
 pub one_certificate : (text : List ℕ) (c d : NamedCertificate) → IsCertificateText text c → IsCertificateText text d → c ≡ d

@@ -6,17 +6,17 @@ use Rattle.std.specs.Fmt.{decimal}
 use Rattle.std.specs.Str.{bytes_eq}
 use Rattle.std.proofs.lemmas.Fmt.{decimal_digit}
 use Rattle.std.proofs.lemmas.Slice.Eq.{bytes_eq-Decides}
-use Rattle.model.specs.Certificates.{is_number}
+use Rattle.certificate_text.specs.Certificates.{is_number}
 use Rattle.certificate_lines.specs.declared.line.CertLine.{CertLine}
 use Rattle.certificate_lines.specs.Lines.{text_line_of}
-use Rattle.certificate_text.specs.CertificateText.{TextLine, version, claims, constant, atom, listed, last}
+use Rattle.certificate_text.specs.CertificateText.{WeightedAtom, TextLine, version, claims, constant, atom, listed, last}
 use Rattle.certificate_reader.specs.declared.line.LineFault.{LineFault}
 use Rattle.certificate_reader.specs.declared.line.LineFault.TheVariants.{OtherVersion, Malformed, TooMany, NoMemory}
 use Rattle.certificate_reader.specs.Parsing.{IsParsed, IsParsedBehind}
 use Rattle.certificate_reader.specs.Words.{IsFirstWord, IsReadAs, line_head, line_rest, text_in, with_rest}
 use Rattle.certificate_reader.proofs.WordLemmas.{one_first}
 use Rattle.certificate_reader.proofs.LineLemmas.{head_is_word, line_splits}
-use Rattle.certificate_reader.proofs.LinesRead.{unlike}
+use Rattle.certificate_reader.proofs.LinesRead.{no_atom, unlike}
 
 -- ---- the first line
 
@@ -35,10 +35,16 @@ pub no_version : (rest : List ℕ) (count : ℕ) → ((n : ℕ) → IsTrue (is_n
     → (line : TextLine) → IsReadAs (codes "pddl-cert") rest count line → ⊥
 no_version rest count never version read = never 1 refl (one_is ∙ read.behind)
 no_version rest count never (claims claim) read = unlike (codes "claim") (codes "pddl-cert") refl read.head
-no_version rest count never constant read = unlike (codes "constant") (codes "pddl-cert") refl read.head
+no_version rest count never (constant k) read = unlike (codes "constant") (codes "pddl-cert") refl read.head
 no_version rest count never (atom a) read = unlike (codes "atom") (codes "pddl-cert") refl read.head
 no_version rest count never (listed l) read = listed_is_no_version l.cost l.cut l.atoms read.head
 no_version rest count never (last n) read = unlike (codes "end") (codes "pddl-cert") refl read.head
+
+-- ---- the line of an atom
+
+pub malformed_atom : (rest : List ℕ) → ((count : ℕ) (a : WeightedAtom) → IsReadAs (codes "atom") rest count (atom a) → ⊥) → (count : ℕ)
+    → IsParsedBehind (codes "atom") rest count (Err Malformed)
+malformed_atom rest never count = (no_atom rest count (never count), λ same n is told. absurd (unlike (codes "atom") (codes "pddl-cert") refl same))
 
 -- ---- any line
 

@@ -3,7 +3,7 @@ use Rattle.std.proofs.Common.{◌≡◌, ◌≢◌, ℕ, ◌+◌, ◌≤◌, Lis
 use Rattle.std.specs.Prelude.{◌&&◌, ◌==◌, IsTrue, nat_le, nat_lt}
 use Rattle.std.specs.Fmt.{decimal}
 use Rattle.std.proofs.lemmas.Bool.{and_parts, eqb-true, leb-true, lt-ltb}
-use Rattle.model.specs.Certificates.{is_number}
+use Rattle.certificate_text.specs.Certificates.{is_number}
 use Rattle.certificate_text.specs.CertificateText.{TextLine, version, claims, constant, atom, listed, last, is_line, line_text, most_atoms, most_states}
 use Rattle.certificate_text.specs.CertificateMachine.{Place, at_version, at_claim, at_constant, in_body, ended, next_place}
 use Rattle.certificate_text.proofs.Machine.{never, only_where}
@@ -27,32 +27,32 @@ few_atoms ended within = omega arith
 pub leads_line : (place : Place) → IsWithin place → (line : TextLine) (next : Place) → next_place place line ≡ Some next → IsTrue (is_line (atoms_at place) line)
 leads_line at_version within version next leads = refl
 leads_line at_version within (claims claim) next leads = never next leads
-leads_line at_version within constant next leads = never next leads
+leads_line at_version within (constant k) next leads = never next leads
 leads_line at_version within (atom a) next leads = never next leads
 leads_line at_version within (listed l) next leads = never next leads
 leads_line at_version within (last count) next leads = never next leads
 leads_line at_claim within version next leads = never next leads
 leads_line at_claim within (claims claim) next leads = (only_where (is_line 0 (claims claim)) at_constant next leads).0
-leads_line at_claim within constant next leads = never next leads
+leads_line at_claim within (constant k) next leads = never next leads
 leads_line at_claim within (atom a) next leads = never next leads
 leads_line at_claim within (listed l) next leads = never next leads
 leads_line at_claim within (last count) next leads = never next leads
 leads_line at_constant within version next leads = never next leads
 leads_line at_constant within (claims claim) next leads = never next leads
-leads_line at_constant within constant next leads = refl
+leads_line at_constant within (constant k) next leads = (only_where (is_line 0 (constant k)) (in_body 0 0) next leads).0
 leads_line at_constant within (atom a) next leads = never next leads
 leads_line at_constant within (listed l) next leads = never next leads
 leads_line at_constant within (last count) next leads = never next leads
 leads_line (in_body n m) within version next leads = never next leads
 leads_line (in_body n m) within (claims claim) next leads = never next leads
-leads_line (in_body n m) within constant next leads = never next leads
+leads_line (in_body n m) within (constant k) next leads = never next leads
 leads_line (in_body n m) within (atom a) next leads = (and_parts ((m == 0) && nat_lt n most_atoms) (is_line n (atom a)) (only_where ((m == 0) && nat_lt n most_atoms && is_line n (atom a)) (in_body (n + 1) m) next leads).0).1
 leads_line (in_body n m) within (listed l) next leads = (and_parts (nat_lt m most_states) (is_line n (listed l)) (only_where (nat_lt m most_states && is_line n (listed l)) (in_body n (m + 1)) next leads).0).1
 leads_line (in_body n m) within (last count) next leads =
     lt-ltb count 1152921504606846976 (omega (arith, eqb-true count m (only_where (count == m) ended next leads).0, leb-true m most_states (and_parts (nat_le n most_atoms) (nat_le m most_states) within).1))
 leads_line ended within version next leads = never next leads
 leads_line ended within (claims claim) next leads = never next leads
-leads_line ended within constant next leads = never next leads
+leads_line ended within (constant k) next leads = never next leads
 leads_line ended within (atom a) next leads = never next leads
 leads_line ended within (listed l) next leads = never next leads
 leads_line ended within (last count) next leads = never next leads
@@ -61,7 +61,7 @@ leads_line ended within (last count) next leads = never next leads
 version_rest : (line : TextLine) → line_head line ≡ codes "pddl-cert" → line_rest line ≡ codes "1"
 version_rest version head = refl
 version_rest (claims claim) head = absurd (unlike (codes "claim") (codes "pddl-cert") refl head)
-version_rest constant head = absurd (unlike (codes "constant") (codes "pddl-cert") refl head)
+version_rest (constant k) head = absurd (unlike (codes "constant") (codes "pddl-cert") refl head)
 version_rest (atom a) head = absurd (unlike (codes "atom") (codes "pddl-cert") refl head)
 version_rest (last count) head = absurd (unlike (codes "end") (codes "pddl-cert") refl head)
 version_rest (listed l) head = absurd (listed_is_no_version l.cost l.cut l.atoms head)

@@ -21,25 +21,25 @@ use Rattle.certificate_reader.specs.Reader.{IsAdvance, IsAnswer, IsToldOf, fault
 pub leads_within : (place : Place) → IsWithin place → (line : TextLine) (next : Place) → next_place place line ≡ Some next → IsWithin next
 leads_within at_version within version next leads = subst IsWithin (place_same at_claim next leads) refl
 leads_within at_version within (claims claim) next leads = never next leads
-leads_within at_version within constant next leads = never next leads
+leads_within at_version within (constant k) next leads = never next leads
 leads_within at_version within (atom a) next leads = never next leads
 leads_within at_version within (listed l) next leads = never next leads
 leads_within at_version within (last count) next leads = never next leads
 leads_within at_claim within version next leads = never next leads
 leads_within at_claim within (claims claim) next leads = subst IsWithin (only_where (is_line 0 (claims claim)) at_constant next leads).1 refl
-leads_within at_claim within constant next leads = never next leads
+leads_within at_claim within (constant k) next leads = never next leads
 leads_within at_claim within (atom a) next leads = never next leads
 leads_within at_claim within (listed l) next leads = never next leads
 leads_within at_claim within (last count) next leads = never next leads
 leads_within at_constant within version next leads = never next leads
 leads_within at_constant within (claims claim) next leads = never next leads
-leads_within at_constant within constant next leads = subst IsWithin (place_same (in_body 0 0) next leads) refl
+leads_within at_constant within (constant k) next leads = subst IsWithin (only_where (is_line 0 (constant k)) (in_body 0 0) next leads).1 refl
 leads_within at_constant within (atom a) next leads = never next leads
 leads_within at_constant within (listed l) next leads = never next leads
 leads_within at_constant within (last count) next leads = never next leads
 leads_within (in_body n m) within version next leads = never next leads
 leads_within (in_body n m) within (claims claim) next leads = never next leads
-leads_within (in_body n m) within constant next leads = never next leads
+leads_within (in_body n m) within (constant k) next leads = never next leads
 leads_within (in_body n m) within (atom a) next leads =
     let (holds, same) = only_where ((m == 0) && nat_lt n most_atoms && is_line n (atom a)) (in_body (n + 1) m) next leads in
     let below : n < most_atoms = ltb-true n most_atoms (and_parts (m == 0) (nat_lt n most_atoms) (and_parts ((m == 0) && nat_lt n most_atoms) (is_line n (atom a)) holds).0).1 in
@@ -51,7 +51,7 @@ leads_within (in_body n m) within (listed l) next leads =
 leads_within (in_body n m) within (last count) next leads = subst IsWithin (only_where (count == m) ended next leads).1 refl
 leads_within ended within version next leads = never next leads
 leads_within ended within (claims claim) next leads = never next leads
-leads_within ended within constant next leads = never next leads
+leads_within ended within (constant k) next leads = never next leads
 leads_within ended within (atom a) next leads = never next leads
 leads_within ended within (listed l) next leads = never next leads
 leads_within ended within (last count) next leads = never next leads

@@ -1,7 +1,7 @@
 -- Where the code's reader stands, and what comes of a line there.
 use Rattle.std.specs.Prelude.{◌≡◌, ◌≢◌, ℕ, Bool, true, ◌&&◌, nat_le, List, ◌++◌, codes, None, Some, Result, Ok, Err, IsTrue}
 use Rattle.std.specs.Fmt.{decimal}
-use Rattle.model.specs.Certificates.{is_number}
+use Rattle.certificate_text.specs.Certificates.{is_number}
 use Rattle.certificate_lines.specs.declared.line.CertLine.{CertLine}
 use Rattle.certificate_lines.specs.Lines.{text_line_of}
 use Rattle.certificate_text.specs.CertificateText.{TextLine, atom, listed, is_line, line_text, most_atoms, most_states}

@@ -2,12 +2,12 @@
 use Rattle.std.specs.Prelude.{◌≡◌, ℕ, ◌==◌, Bool, not, List, [], ◌∷◌, ◌++◌, codes, map, Option, None, Some, IsTrue}
 use Rattle.std.specs.Borrow.{Bor}
 use Rattle.std.specs.Char.{is_ascii_uppercase}
-use Rattle.std.specs.Fmt.{decimal}
+use Rattle.std.specs.Fmt.{decimal, signed_decimal}
 use Rattle.std.specs.List.{flat_map, list_all}
 use Rattle.std.specs.Option.{option_map, option_map_or}
 use Rattle.model.specs.PlanWriting.{is_lower_name}
 use Rattle.model.specs.Claims.{Claim, bound, none}
-use Rattle.model.specs.Certificates.{is_number, rise}
+use Rattle.certificate_text.specs.Certificates.{is_number, rise}
 use Rattle.certificate_text.specs.CertificateText.{NamedAtom, TextLine, version, claims, constant, atom, listed, last, after_blank, is_line}
 
 -- the bytes of a word, where there is one
@@ -35,7 +35,7 @@ pub record IsFirstWord (bytes word : List ℕ) (rest : Option (List ℕ)) : Type
 abbrev pub line_head : TextLine → List ℕ
 line_head version = codes "pddl-cert"
 line_head (claims claim) = codes "claim"
-line_head constant = codes "constant"
+line_head (constant k) = codes "constant"
 line_head (atom a) = codes "atom"
 line_head (listed l) = option_map_or (λ (rest : ℕ). codes "cut") l.cut (codes "open")
 line_head (last count) = codes "end"
@@ -45,11 +45,15 @@ abbrev pub claim_rest : Claim → List ℕ
 claim_rest (bound least) = codes "bound " ++ decimal least
 claim_rest none = codes "none"
 
+-- what stands behind the weight of an atom
+abbrev pub atom_rest : NamedAtom → List ℕ
+atom_rest a = codes "(" ++ a.predicate ++ flat_map after_blank a.objects ++ codes ")"
+
 abbrev pub line_rest : TextLine → List ℕ
 line_rest version = codes "1"
 line_rest (claims claim) = claim_rest claim
-line_rest constant = codes "0"
-line_rest (atom a) = codes "0 (" ++ a.predicate ++ flat_map after_blank a.objects ++ codes ")"
+line_rest (constant k) = signed_decimal k
+line_rest (atom a) = with_rest (signed_decimal a.weight) (Some (atom_rest a.atom))
 line_rest (listed l) =
     option_map_or (λ (rest : ℕ). decimal l.cost ++ after_blank (decimal rest)) l.cut (decimal l.cost)
     ++ flat_map (λ (number : ℕ). after_blank (decimal number)) l.atoms

@@ -1,15 +1,15 @@
 //! A line of a certificate's text, read.
 ghost use Rattle.std.specs.Prelude.{◌≡◌, ◌≢◌, ℕ, ◌≤◌, ◌++◌, codes, Err, IfNone, IfOk, IfSome, IsTrue, List, Some, length};
 ghost use Rattle.std.specs.Fmt.{decimal};
-ghost use Rattle.model.specs.Certificates.{is_number};
-ghost use Rattle.certificate_text.specs.CertificateText.{TextLine, atom, is_line, line_text, listed, longest_line, most_atoms};
+ghost use Rattle.certificate_text.specs.Certificates.{is_number};
+ghost use Rattle.certificate_text.specs.CertificateText.{TextLine, is_line, line_text, listed, longest_line, most_atoms};
 ghost use Rattle.certificate_lines.specs.Lines.{line_of, named_atom_of, text_line_of};
 ghost use Rattle.certificate_text.specs.CertificateText as text;
 ghost use Rattle.certificate_reader.specs.Parsing.{IsParsed, IsParsedBehind};
-ghost use Rattle.certificate_reader.specs.Words.{IsReadAs, are_lower, line_rest, with_rest};
+ghost use Rattle.certificate_reader.specs.Words.{IsReadAs, are_lower, atom_rest, with_rest};
 
 use crate::names::{copy, is_lower_name, names};
-use crate::number::number;
+use crate::number::{number, weight};
 use crate::parts::{claim, numbered};
 use crate::word::{first_word, is};
 use certificate_lines::{CertLine, NamedAtom, StateLine};
@@ -116,10 +116,9 @@ fn claim_line(rest: &[u8]) -> Result<CertLine, LineFault>
 fn constant_line(rest: &[u8]) -> Result<CertLine, LineFault>
     ensures { (atom_count : ℕ) → IsParsedBehind (codes "constant") rest.now atom_count result }
 {
-    if is(rest, b"0") {
-        Ok(CertLine::Constant)
-    } else {
-        Err(LineFault::Malformed)
+    match weight(rest) {
+        Some(constant) => Ok(CertLine::Constant(constant)),
+        None => Err(LineFault::Malformed),
     }
 }
 
@@ -133,13 +132,20 @@ fn last_line(rest: &[u8]) -> Result<CertLine, LineFault>
     }
 }
 
-/// The line of the atom that stands behind `atom`.
+/// The line of the atom, with its weight, that stands behind `atom`.
 fn atom_line(alloc: Global, rest: &[u8]) -> Result<CertLine, LineFault>
     requires short { length (with_rest (codes "atom") (Some rest.now)) ≤ longest_line }
     ensures { (atom_count : ℕ) → IsParsedBehind (codes "atom") rest.now atom_count result }
 {
-    match named_atom(alloc, rest)? {
-        Some(atom) => Ok(CertLine::Weight(atom)),
+    let (word, behind) = first_word(rest);
+    let Some(weight) = weight(word) else {
+        return Err(LineFault::Malformed);
+    };
+    let Some(behind) = behind else {
+        return Err(LineFault::Malformed);
+    };
+    match named_atom(alloc, behind)? {
+        Some(atom) => Ok(CertLine::Weight { weight, atom }),
         None => Err(LineFault::Malformed),
     }
 }
@@ -205,10 +211,10 @@ fn cut(alloc: Global, rest: &[u8], atom_count: usize) -> Result<Option<StateLine
     }
 }
 
-/// The atom that stands behind `atom`, and `None` where none does.
+/// The atom that stands behind a weight, and `None` where none does.
 fn named_atom(alloc: Global, rest: &[u8]) -> Result<Option<NamedAtom>, AllocError>
-    ensures some { IfOk result (λ found. IfSome found (λ a. IsTrue (are_lower (named_atom_of a)) × (line_rest (atom (named_atom_of a)) ≡ rest.now))) }
-    ensures none { IfOk result (λ found. IfNone found ((a : text.NamedAtom) → IsTrue (are_lower a) → line_rest (atom a) ≢ rest.now)) }
+    ensures some { IfOk result (λ found. IfSome found (λ a. IsTrue (are_lower (named_atom_of a)) × (atom_rest (named_atom_of a) ≡ rest.now))) }
+    ensures none { IfOk result (λ found. IfNone found ((a : text.NamedAtom) → IsTrue (are_lower a) → atom_rest a ≢ rest.now)) }
 {
     let Some(inner) = in_parentheses(rest) else {
         return Ok(None);
@@ -226,13 +232,13 @@ fn named_atom(alloc: Global, rest: &[u8]) -> Result<Option<NamedAtom>, AllocErro
     }
 }
 
-/// What stands in the parentheses behind a weight of 0, and `None` where there is something else.
+/// What stands in the parentheses, and `None` where there is something else.
 fn in_parentheses(rest: &[u8]) -> Option<&[u8]>
-    ensures some { IfSome result (λ inner. rest.now ≡ codes "0 (" ++ inner.now ++ codes ")") }
-    ensures none { IfNone result ((inner : List ℕ) → rest.now ≢ codes "0 (" ++ inner ++ codes ")") }
+    ensures some { IfSome result (λ inner. rest.now ≡ codes "(" ++ inner.now ++ codes ")") }
+    ensures none { IfNone result ((inner : List ℕ) → rest.now ≢ codes "(" ++ inner ++ codes ")") }
 {
     match rest {
-        [b'0', b' ', b'(', inner @ .., b')'] => Some(inner),
+        [b'(', inner @ .., b')'] => Some(inner),
         _ => None,
     }
 }

@@ -3,7 +3,7 @@ ghost use Rattle.std.specs.Prelude.{◌≡◌, ◌≢◌, ℕ, ◌≤◌, ◌<�
 ghost use Rattle.std.specs.Fmt.{decimal};
 ghost use Rattle.std.specs.List.{list_all};
 ghost use Rattle.model.specs.Claims as model;
-ghost use Rattle.model.specs.Certificates.{is_claim, is_number, rise};
+ghost use Rattle.certificate_text.specs.Certificates.{is_claim, is_number, rise};
 ghost use Rattle.certificate_text.specs.CertificateText.{most_atoms};
 ghost use Rattle.certificate_lines.specs.Lines.{claim_of};
 ghost use Rattle.certificate_reader.specs.Words.{IsNumbered, claim_rest, text_in, then_words};

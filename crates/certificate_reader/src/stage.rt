@@ -1,6 +1,6 @@
 //! Where a reader stands in a certificate, and which line may come next.
 ghost use Rattle.std.specs.Prelude.{◌≡◌, ℕ, ◌≤◌, IsTrue, length};
-ghost use Rattle.certificate_text.specs.CertificateText.{NamedAtom, atom, is_line, longest_line};
+ghost use Rattle.certificate_text.specs.CertificateText.{WeightedAtom, atom, is_line, longest_line};
 ghost use Rattle.certificate_text.specs.CertificateMachine.{in_body};
 ghost use Rattle.certificate_lines.specs.Lines.{text_line_of};
 ghost use Rattle.certificate_reader.specs.Stages.{IsReadAt, IsStep, IsWithin, atoms_at, place_of};
@@ -67,7 +67,7 @@ impl Stage {
                 _ => Step::Misplaced,
             },
             Stage::Constant => match line {
-                CertLine::Constant => Step::Next(Stage::Body {
+                CertLine::Constant(_) => Step::Next(Stage::Body {
                     atoms: 0,
                     states: 0,
                 }),
@@ -86,7 +86,7 @@ fn after_body(atoms: usize, states: usize, line: &CertLine) -> Step
     ensures { IsStep (in_body atoms states) (text_line_of line.now) result }
 {
     match line {
-        CertLine::Weight(_) => after_atom(atoms, states),
+        CertLine::Weight { .. } => after_atom(atoms, states),
         CertLine::Listed(_) => {
             if states >= MAX_STATE_LINES {
                 return Step::TooMany;
@@ -110,7 +110,7 @@ fn after_body(atoms: usize, states: usize, line: &CertLine) -> Step
 /// What comes of an atom behind so many atoms and states.
 fn after_atom(atoms: usize, states: usize) -> Step
     requires within { IsWithin (in_body atoms states) }
-    ensures { (a : NamedAtom) → IsTrue (is_line atoms (atom a)) → IsStep (in_body atoms states) (atom a) result }
+    ensures { (a : WeightedAtom) → IsTrue (is_line atoms (atom a)) → IsStep (in_body atoms states) (atom a) result }
 {
     if states > 0 {
         return Step::Misplaced;

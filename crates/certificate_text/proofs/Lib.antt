@@ -1,2 +1,4 @@
+pub mod CertificateRefusalsLemmas
+pub mod CertificateExampleProofs
 pub mod Machine
 pub mod TooMany

@@ -5,14 +5,18 @@ use Rattle.model.specs.Task.{Atom, Task, Instance}
 use Rattle.model.specs.WellTyped.{is_atom}
 use Rattle.model.specs.Fluents.{is_fluent}
 use Rattle.model.specs.Claims.{none}
-use Rattle.model.specs.Certificates.{Certificate, StateLine, IsClosedFor}
-use Rattle.model.specs.CertificateRefusals.{IsPlanWithin}
-use Rattle.certificate_text.specs.CertificateText.{NamedAtom, TextLine, claims, atom, listed, whole_line, text_of, BeginCertificate, IsFaultAfter}
+use Rattle.certificate_text.specs.Certificates.{Certificate, StateLine, IsClosedFor}
+use Rattle.certificate_text.specs.CertificateRefusals.{IsPlanWithin}
+use Rattle.certificate_text.specs.CertificateText.{NamedAtom, WeightedAtom, TextLine, claims, atom, listed, whole_line, text_of, BeginCertificate, IsFaultAfter}
 use Rattle.certificate_text.specs.CertificateNames.{Names, IsTextOf}
 
 -- these are the names of a well-typed atom of a fluent predicate
 abbrev pub NamesFluent : Task → NamedAtom → Type 0
 NamesFluent task name = (a : Atom) × Names task name a × IsTrue (is_atom task a) × IsTrue (is_fluent task a.predicate)
+
+-- one of these lines has this atom
+abbrev pub HasAtom : List TextLine → NamedAtom → Type 0
+HasAtom lines name = (a : WeightedAtom) × Contains lines (atom a) × (a.atom ≡ name)
 
 -- one of these lines lists this set of atoms
 abbrev pub ListsAtoms : List TextLine → List ℕ → Type 0
@@ -21,9 +25,9 @@ ListsAtoms lines atoms = (l : StateLine) × Contains lines (listed l) × (l.atom
 -- The line says what is wrong of the task, after these lines, and the number is told.
 pub data IsWrongAfter (task : Task) (before : List TextLine) : TextLine → ℕ → Type 0 where
   -- an atom that is not one of the task's, or whose predicate is static
-  not_fluent : (a : NamedAtom) → ¬ NamesFluent task a → IsWrongAfter task before (atom a) 43
-  -- an atom that stood in a line before
-  repeated_atom : (a : NamedAtom) → NamesFluent task a → Contains before (atom a) → IsWrongAfter task before (atom a) 44
+  not_fluent : (a : WeightedAtom) → ¬ NamesFluent task a.atom → IsWrongAfter task before (atom a) 43
+  -- an atom that stood in a line before, with whatever weight
+  repeated_atom : (a : WeightedAtom) → NamesFluent task a.atom → HasAtom before a.atom → IsWrongAfter task before (atom a) 44
   -- a state that stood in a line before
   repeated_state : (l : StateLine) → ListsAtoms before l.atoms → IsWrongAfter task before (listed l) 44
   -- a cut, where it is claimed that no list of actions solves

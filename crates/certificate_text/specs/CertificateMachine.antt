@@ -20,7 +20,7 @@ only_if holds place = if holds then Some place else None
 abbrev pub next_place : Place → TextLine → Option Place
 next_place at_version version = Some at_claim
 next_place at_claim (claims claim) = only_if (is_line 0 (claims claim)) at_constant
-next_place at_constant constant = Some (in_body 0 0)
+next_place at_constant (constant k) = only_if (is_line 0 (constant k)) (in_body 0 0)
 next_place (in_body atoms states) (atom a) = only_if (states == 0 && nat_lt atoms most_atoms && is_line atoms (atom a)) (in_body (atoms + 1) states)
 next_place (in_body atoms states) (listed l) = only_if (nat_lt states most_states && is_line atoms (listed l)) (in_body atoms (states + 1))
 next_place (in_body atoms states) (last count) = only_if (count == states) ended

@@ -1,5 +1,5 @@
 -- The names of a certificate's atoms, and the certificates of a task that a text says.
-use Rattle.std.specs.Prelude.{◌≡◌, ℕ, Bool, ◌&&◌, List, [], ◌∷◌, map, position, slice_get, Some}
+use Rattle.std.specs.Prelude.{◌≡◌, ℕ, ℤ, Bool, ◌&&◌, List, [], ◌∷◌, map, position, slice_get, zip, Some}
 use Rattle.std.specs.List.{list_all}
 use Rattle.std.specs.Option.{option_map_or}
 use Rattle.model.specs.Task.{Name, Atom, Predicate, Task}
@@ -7,8 +7,8 @@ use Rattle.model.specs.WellTyped.{is_atom}
 use Rattle.model.specs.Resolution.{is_same}
 use Rattle.model.specs.PlanText.{object_names}
 use Rattle.model.specs.PlanWriting.{object_name, are_lower_names}
-use Rattle.model.specs.Certificates.{Certificate}
-use Rattle.certificate_text.specs.CertificateText.{NamedAtom, NamedCertificate, IsCertificateText, text_lines, text_of}
+use Rattle.certificate_text.specs.Certificates.{Certificate}
+use Rattle.certificate_text.specs.CertificateText.{NamedAtom, WeightedAtom, NamedCertificate, IsCertificateText, text_lines, text_of}
 
 abbrev pub predicate_names : Task → List Name
 predicate_names task = map (λ (p : Predicate). p.name) task.predicates
@@ -21,9 +21,18 @@ predicate_name task number = option_map_or (λ (p : Predicate). p.name) (slice_g
 abbrev pub named_atom : Task → Atom → NamedAtom
 named_atom task a = record { predicate = predicate_name task a.predicate; objects = map (object_name task) a.objects }
 
+-- atoms by their names, each with its weight
+abbrev pub weighted_atom : Task → Atom × ℤ → WeightedAtom
+weighted_atom task (a, weight) = record { weight = weight; atom = named_atom task a }
+
 -- a certificate by its atoms' names
 abbrev pub named : Task → Certificate → NamedCertificate
-named task c = record { claim = c.claim; atoms = map (named_atom task) c.atoms; lines = c.lines }
+named task c = record {
+  claim = c.claim;
+  constant = c.potentials.constant;
+  atoms = map (weighted_atom task) (zip c.atoms c.potentials.weights);
+  lines = c.lines;
+}
 
 -- what is written of a certificate
 abbrev pub certificate_text : Task → Certificate → List ℕ
@@ -55,7 +64,8 @@ pub record IsTextOf (task : Task) (bytes : List ℕ) (c : Certificate) : Type 0 
   pub said : NamedCertificate
   pub text : IsCertificateText bytes said
   pub claim : said.claim ≡ c.claim
-  pub atoms : AllName task said.atoms c.atoms
+  pub atoms : AllName task (map (λ (a : WeightedAtom). a.atom) said.atoms) c.atoms
+  pub potentials : c.potentials ≡ record { constant = said.constant; weights = map (λ (a : WeightedAtom). a.weight) said.atoms }
   pub lines : said.lines ≡ c.lines
 
 -- ---- what can be written

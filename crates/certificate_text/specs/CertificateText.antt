@@ -1,11 +1,11 @@
 -- The text of a certificate, version 1, and the first line at which a text that is none is at fault. The format is this
 -- repository's own; docs/certificates.md shows it. Every certificate has one text, and a text is at most one certificate.
-use Rattle.std.specs.Prelude.{◌≡◌, ◌≢◌, ℕ, ◌+◌, ◌<◌, ◌≤◌, Bool, true, ◌&&◌, nat_le, IsTrue, List, [], ◌∷◌, ◌++◌, codes, length, map, Contains}
-use Rattle.std.specs.Fmt.{decimal}
+use Rattle.std.specs.Prelude.{◌≡◌, ◌≢◌, ℕ, ◌+◌, ◌<◌, ◌≤◌, Bool, true, ◌&&◌, nat_le, ℤ, IsTrue, List, [], ◌∷◌, ◌++◌, codes, length, map, Contains}
+use Rattle.std.specs.Fmt.{decimal, signed_decimal}
 use Rattle.std.specs.List.{flat_map, list_all}
 use Rattle.std.specs.Option.{option_map_or}
 use Rattle.model.specs.Claims.{Claim, bound, none}
-use Rattle.model.specs.Certificates.{StateLine, is_number, is_claim, is_state_line}
+use Rattle.certificate_text.specs.Certificates.{StateLine, is_number, is_weight, is_claim, is_state_line}
 use Rattle.model.specs.PlanWriting.{is_lower_name}
 
 -- ---- what stands in a text
@@ -15,18 +15,24 @@ pub record NamedAtom : Type 0 where
   pub predicate : List ℕ
   pub objects : List (List ℕ)
 
--- what a text says: a claim, and a listing of states, each by the numbers of its atoms, from 0 on
+-- an atom and its weight
+pub record WeightedAtom : Type 0 where
+  pub weight : ℤ
+  pub atom : NamedAtom
+
+-- what a text says: a claim, a potential function, and a listing of states, each by the numbers of its atoms, from 0 on
 pub record NamedCertificate : Type 0 where
   pub claim : Claim
-  pub atoms : List NamedAtom
+  pub constant : ℤ
+  pub atoms : List WeightedAtom
   pub lines : List StateLine
 
 -- a line of a text
 pub data TextLine : Type 0 where
   version : TextLine
   claims : Claim → TextLine
-  constant : TextLine
-  atom : NamedAtom → TextLine
+  constant : ℤ → TextLine
+  atom : WeightedAtom → TextLine
   listed : StateLine → TextLine
   -- the last line, with the count of those that list states
   last : ℕ → TextLine
@@ -35,13 +41,13 @@ pub data TextLine : Type 0 where
 abbrev pub after_blank : List ℕ → List ℕ
 after_blank word = codes " " ++ word
 
--- the bytes of a line, without its LF; the constant and the weights are 0
+-- the bytes of a line, without its LF
 abbrev pub line_text : TextLine → List ℕ
 line_text version = codes "pddl-cert 1"
 line_text (claims (bound least)) = codes "claim bound " ++ decimal least
 line_text (claims none) = codes "claim none"
-line_text constant = codes "constant 0"
-line_text (atom a) = codes "atom 0 (" ++ a.predicate ++ flat_map after_blank a.objects ++ codes ")"
+line_text (constant k) = codes "constant " ++ signed_decimal k
+line_text (atom a) = codes "atom " ++ signed_decimal a.weight ++ codes " (" ++ a.atom.predicate ++ flat_map after_blank a.atom.objects ++ codes ")"
 line_text (listed l) =
     option_map_or (λ (rest : ℕ). codes "cut " ++ decimal l.cost ++ after_blank (decimal rest)) l.cut (codes "open " ++ decimal l.cost)
     ++ flat_map (λ (number : ℕ). after_blank (decimal number)) l.atoms
@@ -57,7 +63,7 @@ text_of lines = flat_map whole_line lines
 
 -- the certificate's lines: its atoms stand before its states
 abbrev pub text_lines : NamedCertificate → List TextLine
-text_lines c = version ∷ claims c.claim ∷ constant ∷ map atom c.atoms ++ map listed c.lines ++ last (length c.lines) ∷ []
+text_lines c = version ∷ claims c.claim ∷ constant c.constant ∷ map atom c.atoms ++ map listed c.lines ++ last (length c.lines) ∷ []
 
 -- ---- limits
 
@@ -71,14 +77,15 @@ most_states = 16777216
 abbrev pub longest_line : ℕ
 longest_line = 16777216
 
--- The line keeps the limits by itself, in a text of so many atoms: numbers are below 2 to the power 60, names are names of
+-- The line keeps the limits by itself, in a text of so many atoms: numbers are below 2 to the power 60, the constant and
+-- weights are at most 2147483647 either way, names are names of
 -- a domain file in lower case (PDDL 1.2 manual, "Syntax") of at most 255 bytes, the numbers of a state's atoms rise and
 -- are those of atoms, and the line is not too long.
 abbrev pub is_line : ℕ → TextLine → Bool
 is_line atom_count version = true
 is_line atom_count (claims claim) = is_claim claim
-is_line atom_count constant = true
-is_line atom_count (atom a) = list_all is_lower_name (a.predicate ∷ a.objects) && nat_le (length (line_text (atom a))) longest_line
+is_line atom_count (constant k) = is_weight k
+is_line atom_count (atom a) = is_weight a.weight && list_all is_lower_name (a.atom.predicate ∷ a.atom.objects) && nat_le (length (line_text (atom a))) longest_line
 is_line atom_count (listed l) = is_state_line atom_count l
 is_line atom_count (last count) = is_number count
 
@@ -111,14 +118,14 @@ abbrev pub IsOtherVersion : List TextLine → List ℕ → Type 0
 IsOtherVersion before bytes = (before ≡ []) × (number : ℕ) × IsTrue (is_number number) × (number ≢ 1) × (bytes ≡ codes "pddl-cert " ++ decimal number)
 
 -- the lines are the first ones, and then so many of these atoms and these states
-abbrev pub head_lines : Claim → List NamedAtom → List StateLine → List TextLine
-head_lines claim atoms lines = version ∷ claims claim ∷ constant ∷ map atom atoms ++ map listed lines
+abbrev pub head_lines : Claim → ℤ → List WeightedAtom → List StateLine → List TextLine
+head_lines claim k atoms lines = version ∷ claims claim ∷ constant k ∷ map atom atoms ++ map listed lines
 
 -- they are a line of an atom, or of a state, that may stand there but for the limit, which the lines before have used up
 pub data IsOneTooMany (before : List TextLine) (bytes : List ℕ) : Type 0 where
-  atoms : (claim : Claim) (all : List NamedAtom) (a : NamedAtom) → before ≡ head_lines claim all [] → length all ≡ most_atoms
+  atoms : (claim : Claim) (k : ℤ) (all : List WeightedAtom) (a : WeightedAtom) → before ≡ head_lines claim k all [] → length all ≡ most_atoms
       → IsTrue (is_line most_atoms (atom a)) → bytes ≡ line_text (atom a) → IsOneTooMany before bytes
-  states : (claim : Claim) (all : List NamedAtom) (lines : List StateLine) (l : StateLine) → before ≡ head_lines claim all lines
+  states : (claim : Claim) (k : ℤ) (all : List WeightedAtom) (lines : List StateLine) (l : StateLine) → before ≡ head_lines claim k all lines
       → length lines ≡ most_states → IsTrue (is_line (length all) (listed l)) → bytes ≡ line_text (listed l) → IsOneTooMany before bytes
 
 -- no LF stands in these bytes

@@ -1,4 +1,7 @@
 -- docs/definitions.md names each definition, in the order in which a reader needs them.
+pub mod Certificates
+pub mod CertificateRefusals
+pub mod CertificateExamples
 pub mod CertificateText
 pub mod CertificateMachine
 pub mod CertificateNames

@@ -1,13 +1,13 @@
 -- The bytes of lines that are added piece by piece.
-use Rattle.std.proofs.Common.{◌≡◌, ℕ, List, [], ◌∷◌, ◌++◌, codes, map, refl, sym, ap, ◌∙◌, append_assoc}
-use Rattle.std.specs.Prelude.{Option, None, Some}
-use Rattle.std.specs.Fmt.{decimal}
+use Rattle.std.proofs.Common.{◌≡◌, ℕ, List, [], ◌∷◌, ◌++◌, codes, map, refl, ap, ◌∙◌, append_assoc}
+use Rattle.std.specs.Prelude.{ℤ, Option, None, Some}
+use Rattle.std.specs.Fmt.{decimal, signed_decimal}
 use Rattle.std.specs.List.{flat_map}
 use Rattle.std.specs.Result.{OnOk}
 use Rattle.std.specs.Prelude.{Result, Ok, Err, is_ok, if◌then◌else◌}
 use Rattle.model.specs.Claims.{Claim}
 use Rattle.model.specs.Task.{Atom, Task}
-use Rattle.model.specs.Certificates.{StateLine}
+use Rattle.certificate_text.specs.Certificates.{StateLine}
 use Rattle.model.specs.PlanWriting.{object_name, object_text}
 use Rattle.certificate_text.specs.CertificateText.{after_blank, claims, constant, line_text, listed, version, whole_line}
 use Rattle.certificate_text.specs.CertificateNames.{predicate_name}
@@ -23,27 +23,28 @@ where_added (Err error) new old piece whole added is = tt
 pub pieces : (old a b : List ℕ) → (old ++ a) ++ b ≡ old ++ (a ++ b)
 pieces old a b = append_assoc old a b
 
-pub head_text : (old : List ℕ) (claim : Claim)
-    → ((old ++ codes "pddl-cert 1\n") ++ line_text (claims claim)) ++ codes "\nconstant 0\n"
-    ≡ old ++ (whole_line version ++ whole_line (claims claim) ++ whole_line constant)
-head_text old claim =
-    append_assoc (old ++ codes "pddl-cert 1\n") (line_text (claims claim)) (codes "\nconstant 0\n")
-    ∙ append_assoc old (codes "pddl-cert 1\n") (line_text (claims claim) ++ codes "\nconstant 0\n")
-    ∙ ap (λ xs. old ++ (codes "pddl-cert 1\n" ++ xs)) (sym (append_assoc (line_text (claims claim)) (codes "\n") (codes "constant 0\n")))
+five : (old a b n c d : List ℕ) → (((old ++ a) ++ b) ++ ((n ++ c) ++ d)) ++ n ≡ old ++ ((a ++ (b ++ n)) ++ ((c ++ d) ++ n))
+five old a b n c d = simp append_assoc
+
+pub head_text : (old : List ℕ) (claim : Claim) (k : ℤ)
+    → (((old ++ codes "pddl-cert 1\n") ++ line_text (claims claim)) ++ (codes "\nconstant " ++ signed_decimal k)) ++ codes "\n"
+    ≡ old ++ (whole_line version ++ whole_line (claims claim) ++ whole_line (constant k))
+head_text old claim k = five old (codes "pddl-cert 1\n") (line_text (claims claim)) (codes "\n") (codes "constant ") (signed_decimal k)
 
 -- the names of objects, as a plan's text spells them
 names_text : (task : Task) (objects : List ℕ) → flat_map (object_text task) objects ≡ flat_map after_blank (map (object_name task) objects)
 names_text task [] = refl
 names_text task (o ∷ objects) = ap (λ xs. object_text task o ++ xs) (names_text task objects)
 
-four : (old a b c d e : List ℕ) → (((old ++ a) ++ b) ++ c) ++ (d ++ e) ≡ old ++ ((((a ++ b) ++ c) ++ d) ++ e)
-four old a b c d e = simp append_assoc
+seven : (old a w b c d e n : List ℕ) → ((((old ++ (a ++ w)) ++ b) ++ c) ++ d) ++ (e ++ n) ≡ old ++ ((((((a ++ w) ++ b) ++ c) ++ d) ++ e) ++ n)
+seven old a w b c d e n = simp append_assoc
 
-pub atom_text : (task : Task) (a : Atom) (old : List ℕ)
-    → ((((old ++ codes "atom 0 (") ++ predicate_name task a.predicate) ++ flat_map (object_text task) a.objects) ++ codes ")\n") ≡ old ++ atom_line task a
-atom_text task a old =
-    ap (λ xs. (((old ++ codes "atom 0 (") ++ predicate_name task a.predicate) ++ xs) ++ codes ")\n") (names_text task a.objects)
-    ∙ four old (codes "atom 0 (") (predicate_name task a.predicate) (flat_map after_blank (map (object_name task) a.objects)) (codes ")") (codes "\n")
+pub atom_text : (task : Task) (a : Atom) (weight : ℤ) (old : List ℕ)
+    → (((((old ++ (codes "atom " ++ signed_decimal weight)) ++ codes " (") ++ predicate_name task a.predicate) ++ flat_map (object_text task) a.objects) ++ codes ")\n")
+    ≡ old ++ atom_line task (a, weight)
+atom_text task a weight old =
+    ap (λ xs. ((((old ++ (codes "atom " ++ signed_decimal weight)) ++ codes " (") ++ predicate_name task a.predicate) ++ xs) ++ codes ")\n") (names_text task a.objects)
+    ∙ seven old (codes "atom ") (signed_decimal weight) (codes " (") (predicate_name task a.predicate) (flat_map after_blank (map (object_name task) a.objects)) (codes ")") (codes "\n")
 
 -- the cost, and the numbers behind it, as they stand in a line
 cost_of_line : (l : StateLine) → cost_text l ++ flat_map number_text l.atoms ≡ line_text (listed l)

@@ -1,20 +1,20 @@
 -- A text that goes to a sink in large pieces: bytes are held until there are many.
-use Rattle.std.specs.Prelude.{◌≡◌, ℕ, List, ◌++◌, codes, Option}
+use Rattle.std.specs.Prelude.{◌≡◌, ℕ, ℤ, List, ◌++◌, codes, Option}
 use Rattle.std.specs.Fmt.{decimal}
 use Rattle.std.specs.Option.{option_map_or}
 use Rattle.std.specs.Io.KnownBytes.{Appends}
 use Rattle.model.specs.Task.{Atom, Task}
-use Rattle.model.specs.Certificates.{StateLine}
+use Rattle.certificate_text.specs.Certificates.{StateLine}
 use Rattle.certificate_text.specs.CertificateText.{atom, listed, whole_line}
-use Rattle.certificate_text.specs.CertificateNames.{named_atom}
+use Rattle.certificate_text.specs.CertificateNames.{weighted_atom}
 
 -- Behind the bytes that were held comes this text: of both, in their order, some went to the sink, and the others are held.
 abbrev pub IsPassedOn : (before after : Option (List ℕ)) → (held held_after : List ℕ) → List ℕ → Type 0
 IsPassedOn before after held held_after text = (written : List ℕ) × Appends before after written × (held ++ text ≡ written ++ held_after)
 
--- the line of an atom, and that of a listed state
-abbrev pub atom_line : Task → Atom → List ℕ
-atom_line task a = whole_line (atom (named_atom task a))
+-- the line of an atom and its weight, and that of a listed state
+abbrev pub atom_line : Task → Atom × ℤ → List ℕ
+atom_line task a = whole_line (atom (weighted_atom task a))
 
 abbrev pub state_line : StateLine → List ℕ
 state_line l = whole_line (listed l)

@@ -1,12 +1,13 @@
 //! The lines of a certificate's text, each added to the bytes of those before it.
 ghost use Rattle.std.specs.Prelude.{◌≡◌, ◌++◌, map, OnOk};
 ghost use Rattle.std.specs.List.{flat_map};
-ghost use Rattle.std.specs.Fmt.{decimal};
+ghost use Rattle.std.specs.Fmt.{decimal, signed_decimal};
 ghost use Rattle.typing.specs.Task.{task_of};
 ghost use Rattle.typing.specs.TaskParts.{atom_of, object_of};
 ghost use Rattle.model.specs.PlanWriting.{object_name, object_text};
 ghost use Rattle.certificate_lines.specs.Lines.{claim_of, line_of};
-ghost use Rattle.certificate_text.specs.CertificateText.{claims, constant, last, line_text, version, whole_line};
+ghost use Rattle.certificate_text.specs.CertificateText as line;
+ghost use Rattle.certificate_text.specs.CertificateText.{claims, last, line_text, version, whole_line};
 ghost use Rattle.certificate_text.specs.CertificateNames.{predicate_name};
 ghost use Rattle.certificate_writer.specs.Gathering.{atom_line, cost_text, number_text, state_line};
 
@@ -16,12 +17,17 @@ use std::alloc::AllocError;
 use typing::{Atom, ObjectId, PredicateId, Task};
 
 /// Adds the lines of the version, the claim and the constant.
-pub(crate) fn add_head(claim: Claim, text: &mut Vec<u8>) -> Result<(), AllocError>
-    ensures { OnOk result (text.new.items ≡ text.old.items ++ (whole_line version ++ whole_line (claims (claim_of claim)) ++ whole_line constant)) }
+pub(crate) fn add_head(
+    claim: Claim,
+    constant: i64,
+    text: &mut Vec<u8>,
+) -> Result<(), AllocError>
+    ensures { OnOk result (text.new.items ≡ text.old.items ++ (whole_line version ++ whole_line (claims (claim_of claim)) ++ whole_line (line.constant constant))) }
 {
     text.extend_from_slice(b"pddl-cert 1\n")?;
     add_claim(claim, text)?;
-    text.extend_from_slice(b"\nconstant 0\n")
+    add_weight(b"\nconstant ", constant, text)?;
+    text.extend_from_slice(b"\n")
 }
 
 /// Adds the claim, without its LF.
@@ -34,11 +40,17 @@ fn add_claim(claim: Claim, text: &mut Vec<u8>) -> Result<(), AllocError>
     }
 }
 
-/// Adds the line of an atom, by its names.
-pub(crate) fn add_atom(task: &Task, atom: &Atom, text: &mut Vec<u8>) -> Result<(), AllocError>
-    ensures { OnOk result (text.new.items ≡ text.old.items ++ atom_line (task_of task.now) (atom_of atom.now)) }
+/// Adds the line of an atom, by its names, with its weight.
+pub(crate) fn add_atom(
+    task: &Task,
+    atom: &Atom,
+    weight: i64,
+    text: &mut Vec<u8>,
+) -> Result<(), AllocError>
+    ensures { OnOk result (text.new.items ≡ text.old.items ++ atom_line (task_of task.now) (atom_of atom.now, weight)) }
 {
-    text.extend_from_slice(b"atom 0 (")?;
+    add_weight(b"atom ", weight, text)?;
+    text.extend_from_slice(b" (")?;
     text.extend_from_slice(predicate_name(task, atom.predicate))?;
     add_names(task, atom.objects.as_slice(), text)?;
     text.extend_from_slice(b")\n")
@@ -101,6 +113,14 @@ fn add_number(before: &[u8], number: u64, text: &mut Vec<u8>) -> Result<(), Allo
 {
     text.extend_from_slice(before)?;
     text.extend_from_slice(Buffer::new().format(number).as_bytes())
+}
+
+/// Adds these bytes, and then a constant or a weight in decimal digits, a `-` before it where it is negative.
+fn add_weight(before: &[u8], weight: i64, text: &mut Vec<u8>) -> Result<(), AllocError>
+    ensures { OnOk result (text.new.items ≡ text.old.items ++ (before.now ++ signed_decimal weight)) }
+{
+    text.extend_from_slice(before)?;
+    text.extend_from_slice(Buffer::new().format(weight).as_bytes())
 }
 
 /// The predicate's name; no bytes where there is no such predicate.

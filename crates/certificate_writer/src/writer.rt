@@ -1,5 +1,5 @@
 //! The text of a certificate, on any device.
-ghost use Rattle.std.specs.Prelude.{◌≡◌, ◌++◌, [], map, OnOk};
+ghost use Rattle.std.specs.Prelude.{◌≡◌, ◌++◌, [], map, zip, OnOk};
 ghost use Rattle.std.specs.Io.KnownBytes.{Appends};
 ghost use Rattle.std.specs.List.{flat_map};
 ghost use Rattle.devices.specs.Devices.{AppendsBeginning, CountsDevice};
@@ -43,27 +43,28 @@ pub fn write_cert<W: Sink>(
     ensures name { W.name out.new ≡ W.name out.old }
 {
     let mut held = Vec::new(alloc);
-    add_head(cert.claim(), &mut held)?;
-    write_atoms(task, cert.atoms(), &mut held, out)?;
+    add_head(cert.claim(), cert.constant(), &mut held)?;
+    write_atoms(task, cert.atoms(), cert.weights(), &mut held, out)?;
     write_states(cert.lines(), &mut held, out)?;
     add_last(cert.lines().len(), &mut held)?;
     write_all(out, held.as_slice())
 }
 
-/// Writes the lines of the atoms behind the bytes that are held.
+/// Writes the lines of the atoms, each with its weight, behind the bytes that are held.
 fn write_atoms<W: Sink>(
     task: &Task,
     atoms: &[Atom],
+    weights: &[i64],
     held: &mut Vec<u8>,
     out: &mut W,
 ) -> Result<(), WriteFault>
-    ensures text { OnOk result (IsPassedOn (W.taken out.old) (W.taken out.new) held.old.items held.new.items (flat_map (atom_line (task_of task.now)) (map atom_of atoms.now))) }
-    ensures beginning { AppendsBeginning (W.taken out.old) (W.taken out.new) (held.old.items ++ flat_map (atom_line (task_of task.now)) (map atom_of atoms.now)) }
+    ensures text { OnOk result (IsPassedOn (W.taken out.old) (W.taken out.new) held.old.items held.new.items (flat_map (atom_line (task_of task.now)) (zip (map atom_of atoms.now) weights.now))) }
+    ensures beginning { AppendsBeginning (W.taken out.old) (W.taken out.new) (held.old.items ++ flat_map (atom_line (task_of task.now)) (zip (map atom_of atoms.now) weights.now)) }
     ensures failures { CountsDevice (W.failures out.old) (W.failures out.new) result }
     ensures name { W.name out.new ≡ W.name out.old }
 {
-    for atom in atoms {
-        add_atom(task, atom, held)?;
+    for (atom, weight) in atoms.iter().zip(weights) {
+        add_atom(task, atom, *weight, held)?;
         pass_on(held, out)?;
     }
     Ok(())

@@ -14,7 +14,7 @@ use Rattle.formulas.proofs.Trees.{effects_in, effect_of-And}
 use Rattle.model.specs.Task.{Union, Schema, Task, Predicate, Atom}
 use Rattle.model.specs.Meaning.{is_of}
 use Rattle.model.specs.WellTyped.{is_atom}
-use Rattle.model.specs.Certificates.{touches, any_touches, is_fluent}
+use Rattle.model.specs.Fluents.{touches, any_touches, is_fluent}
 use Rattle.model.proofs.ListLemmas.{drop-here}
 
 any_touches-list : (predicate : ℕ) (parts : List Effect) → any_touches predicate (effects_in parts) ≡ list_any (λ part. touches predicate (effect_of part)) parts

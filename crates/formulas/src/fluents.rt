@@ -5,8 +5,8 @@ ghost use Rattle.typing.specs.TaskParts.{atom_of};
 ghost use Rattle.model.specs.WellTyped as well_typed;
 ghost use Rattle.typing.specs.Task.{task_of};
 ghost use Rattle.typing.specs.TaskParts.{effect_of, effect_literal_of};
-ghost use Rattle.model.specs.Certificates as certificates;
-ghost use Rattle.model.specs.Certificates.{touches};
+ghost use Rattle.model.specs.Fluents as defined;
+ghost use Rattle.model.specs.Fluents.{touches};
 
 use crate::instance::are_of;
 use typing::{Atom, Effect, EffectLiteral, PredicateId, SchemaId, Task};
@@ -23,14 +23,14 @@ pub fn is_atom(task: &Task, atom: &Atom) -> bool
 
 /// Whether the atom is well-typed, and some action of the task adds or deletes atoms of its predicate.
 pub fn is_fluent_atom(task: &Task, atom: &Atom) -> bool
-    ensures { result ≡ (well_typed.is_atom (task_of task.now) (atom_of atom.now) && certificates.is_fluent (task_of task.now) (atom_of atom.now).predicate) }
+    ensures { result ≡ (well_typed.is_atom (task_of task.now) (atom_of atom.now) && defined.is_fluent (task_of task.now) (atom_of atom.now).predicate) }
 {
     is_atom(task, atom) && is_fluent(task, atom.predicate)
 }
 
 /// Whether some action of the task adds or deletes an atom of the predicate.
 pub fn is_fluent(task: &Task, predicate: PredicateId) -> bool
-    ensures { result ≡ certificates.is_fluent (task_of task.now) predicate.0 }
+    ensures { result ≡ defined.is_fluent (task_of task.now) predicate.0 }
 {
     for number in 0..task.schema_count() {
         let Some(schema) = task.schema(SchemaId(number)) else {
@@ -64,7 +64,7 @@ fn touches(effect: &Effect, predicate: PredicateId) -> bool
 
 /// Whether one of the literals is of the predicate.
 fn some_is_literal_of(literals: &[EffectLiteral], predicate: PredicateId) -> bool
-    ensures { result ≡ list_any (certificates.is_literal_of predicate.0) (map effect_literal_of literals.now) }
+    ensures { result ≡ list_any (defined.is_literal_of predicate.0) (map effect_literal_of literals.now) }
 {
     for literal in literals {
         if is_literal_of(literal, predicate) {
@@ -76,7 +76,7 @@ fn some_is_literal_of(literals: &[EffectLiteral], predicate: PredicateId) -> boo
 
 /// Whether the literal is of the predicate.
 fn is_literal_of(literal: &EffectLiteral, predicate: PredicateId) -> bool
-    ensures { result ≡ certificates.is_literal_of predicate.0 (effect_literal_of literal.now) }
+    ensures { result ≡ defined.is_literal_of predicate.0 (effect_literal_of literal.now) }
 {
     match literal {
         EffectLiteral::Add(atom) | EffectLiteral::Delete(atom) => atom.predicate == predicate,

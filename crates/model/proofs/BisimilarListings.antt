@@ -2,11 +2,11 @@
 -- listing of the other.
 use Rattle.std.proofs.Common.{◌≡◌, ◌∙◌, ℕ, ◌+◌, ◌≤◌, List, map, None, refl, sym, ap, subst, arith}
 use Rattle.std.specs.Prelude.{true}
-use Rattle.model.specs.Runs.{System}
+use Rattle.model.specs.Runs.{System, IsReachable}
 use Rattle.model.specs.Claims.{Claim, Allows, Line, IsListedWithin, IsLowerBound, IsClosed}
 use Rattle.model.specs.Bisimulation.{IsBisimulation}
 use Rattle.model.proofs.ListLemmas.{Contains-map, map-Contains}
-use Rattle.model.proofs.BisimulationLemmas.{run_forth, same_cost}
+use Rattle.model.proofs.BisimulationLemmas.{reachable_forth, run_forth, same_cost}
 
 module _ {S A T B : Type 0} (t : System S A) (u : System T B) (view : S → T) (names : A → B → Type 0) (both : IsBisimulation t u (λ s s'. view s ≡ s') names) where
   -- the line lists the state of the other system
@@ -45,6 +45,7 @@ module _ {S A T B : Type 0} (t : System S A) (u : System T B) (view : S → T) (
 
   -- values that are no more than what is still to pay in the other system are so in the one
   pub lower_bound_back : (value : S → ℕ) (value' : T → ℕ) → ((s : S) → value s ≤ value' (view s)) → IsLowerBound u value' → IsLowerBound t value
-  lower_bound_back value value' values lower s end plan runs goal =
+  lower_bound_back value value' values lower s end plan reached runs goal =
+      let there = reachable_forth t u (λ s s'. view s ≡ s') names both s reached in
       let other = run_forth t u (λ s s'. view s ≡ s') names both plan s (view s) end refl runs in
-      omega (arith, values s, lower (view s) other.1 other.0 other.3 (sym (both.goals end other.1 other.4) ∙ goal), same_cost t u (λ s s'. view s ≡ s') names both plan other.0 other.2)
+      omega (arith, values s, lower (view s) other.1 other.0 (subst (IsReachable u) (sym there.1) there.2) other.3 (sym (both.goals end other.1 other.4) ∙ goal), same_cost t u (λ s s'. view s ≡ s') names both plan other.0 other.2)

@@ -18,7 +18,6 @@ pub mod PackedSteps
 pub mod ExampleProofs
 pub mod FormulaExampleProofs
 pub mod GroundingExampleProofs
-pub mod CertificateRefusalsLemmas
 pub mod PlanReading
 pub mod PlanMeaning
 pub mod Places
@@ -37,7 +36,6 @@ pub mod TypingFaultsUses
 pub mod TypingFaultsPhases
 pub mod TypingFaultsTold
 pub mod PlanExampleProofs
-pub mod CertificateExampleProofs
 pub mod PlanWritingLemmas
 pub mod PlanWritingExampleProofs
 pub mod TaskNames

@@ -7,7 +7,7 @@ use Rattle.model.specs.Meaning.{objects_of, ground_atom, GroundLiteral, Change, 
 use Rattle.model.specs.Meaning as meaning
 use Rattle.model.specs.Instances.{all_instances}
 use Rattle.model.specs.WellTyped.{is_term, is_effect}
-use Rattle.model.specs.Certificates.{is_fluent}
+use Rattle.model.specs.Fluents.{is_fluent}
 
 -- ---- formulas and effects from lists
 

@@ -24,13 +24,10 @@ pub mod NumberedLiterals
 pub mod Bisimulation
 pub mod Grounding
 pub mod Claims
-pub mod Certificates
-pub mod CertificateRefusals
 pub mod Examples
 pub mod FormulaExamples
 pub mod GroundingExamples
 pub mod PlanExamples
-pub mod CertificateExamples
 pub mod PlanText
 pub mod PlanMachine
 pub mod PlanWriting

@@ -16,7 +16,7 @@ use Rattle.cert_checker.specs.declared.checker.Accepted.{Accepted}
 use Rattle.cert_checker.specs.CertChecker.{IsFirstRefusal, IsShown, IsTrueRefusal}
 use Rattle.cert_checker.specs.Checking.{Accepts, Refuses}
 use Rattle.model.specs.Task.{Task, Instance}
-use Rattle.model.specs.Certificates.{Certificate}
+use Rattle.certificate_text.specs.Certificates.{Certificate}
 use Rattle.model.specs.Files.{FileFault, IsTaskOf}
 use Rattle.planner_main.specs.declared.report.Failure.{Failure}
 use Rattle.planner_main.specs.Checked.{IsChecked, IsLineOf, IsRefusedAs, IsTrueCheck}

@@ -19,7 +19,7 @@ use Rattle.model.specs.Task.{Task, Instance}
 use Rattle.model.specs.Limits.{max_numbered_atoms}
 use Rattle.model.specs.Grounding.{limit_told}
 use Rattle.model.specs.PlanText.{IsPlanText}
-use Rattle.model.specs.Certificates.{Certificate}
+use Rattle.certificate_text.specs.Certificates.{Certificate}
 use Rattle.model.specs.Files.{FileFault, IsTaskFault, IsFileFault}
 
 -- the text is this plan of the task; where no text is handed in, neither is a plan

@@ -17,16 +17,16 @@ use Rattle.model.specs.Examples.{instance}
 
 module _ (task : Task) (atoms : List Atom) where
   -- what an instance loses, in a form that computes
-  abbrev losing : List ℤ → Instance → ℤ
+  abbrev pub losing : List ℤ → Instance → ℤ
   losing weights i = loses_at_most (length atoms) weights (literals_of_instance task atoms i) (filter_map (numbered_change atoms) (counting task i))
 
-  losing-is : (weights : List ℤ) (i : Instance) → instance_loses task atoms weights i ≡ losing weights i
+  pub losing-is : (weights : List ℤ) (i : Instance) → instance_loses task atoms weights i ≡ losing weights i
   losing-is weights i = ap (loses_at_most (length atoms) weights (literals_of_instance task atoms i)) (counting_numbers-is task atoms i)
 
-  is_fair_at : (weights : List ℤ) (i : Instance) → losing weights i ≤ℤ pos (cost_of task i) → IsFairAt (cost_of task i) task atoms weights i
+  pub is_fair_at : (weights : List ℤ) (i : Instance) → losing weights i ≤ℤ pos (cost_of task i) → IsFairAt (cost_of task i) task atoms weights i
   is_fair_at weights i within = record { within = subst (λ z. z ≤ℤ pos (cost_of task i)) (sym (losing-is weights i)) within }
 
-  is_unfair_at : (weights : List ℤ) (i : Instance) (cost : ℕ) (more : ℤ) → losing weights i ≡ more → cost_of task i ≡ cost → (more ≤ℤ pos cost → ⊥) → IsFairAt (cost_of task i) task atoms weights i → ⊥
+  pub is_unfair_at : (weights : List ℤ) (i : Instance) (cost : ℕ) (more : ℤ) → losing weights i ≡ more → cost_of task i ≡ cost → (more ≤ℤ pos cost → ⊥) → IsFairAt (cost_of task i) task atoms weights i → ⊥
   is_unfair_at weights i cost more loses costs too_much fair =
       too_much (subst (λ c. more ≤ℤ pos c) costs (subst (λ z. z ≤ℤ pos (cost_of task i)) (losing-is weights i ∙ loses) fair.within))
 

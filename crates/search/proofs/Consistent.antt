@@ -22,4 +22,4 @@ module _ {S A : Type 0} (t : System S A) (value : S → ℕ) (consistent : IsCon
 
   -- so that it is at most what is still to pay
   pub lower_bound : IsLowerBound t value
-  lower_bound s end plan runs goal = omega (arith, falls_along plan s end runs, consistent.zero_at_goals end goal)
+  lower_bound s end plan reached runs goal = omega (arith, falls_along plan s end runs, consistent.zero_at_goals end goal)

@@ -20,7 +20,7 @@ use Rattle.model.specs.Task.{Task, Atom, Instance}
 use Rattle.model.specs.Runs.{System, run, cost_of_all, Solves, IsOptimal, IsUnsolvable}
 use Rattle.model.specs.Claims.{bound, none, Line, IsClosed}
 use Rattle.model.specs.Meaning.{State, step, is_instance, system_of}
-use Rattle.model.specs.Certificates.{is_claim}
+use Rattle.certificate_text.specs.Certificates.{is_claim}
 use Rattle.model.specs.Fluents.{is_fluent}
 use Rattle.model.specs.ClosedOff.{kept_instances}
 use Rattle.model.specs.NumberedAtoms.{numbered_atoms}

@@ -23,7 +23,7 @@ use Rattle.model.specs.Meaning.{State, system_of}
 use Rattle.model.specs.Fluents.{is_fluent, static_atoms}
 use Rattle.model.specs.NumberedAtoms.{stands_in, are_distinct, numbered_atoms}
 use Rattle.model.specs.Grounding.{chosen, state_of_bits, ground_system, NamesKept}
-use Rattle.model.specs.Certificates.{Certificate, StateLine, is_number, is_claim, is_state_line, keeps_limits, rise, state_of_line, lines_of, value_of}
+use Rattle.certificate_text.specs.Certificates.{Certificate, StateLine, is_number, is_claim, is_state_line, keeps_limits, rise, state_of_line, lines_of, value_of}
 use Rattle.model.proofs.NumberingLemmas.{stands_in-got}
 use Rattle.model.proofs.GroundTaskLemmas.{numbered-distinct, numbered-fluent, ground_task_is_bisimilar}
 use Rattle.model.proofs.BisimilarListings.{closed_forth}

@@ -4,7 +4,7 @@ use Rattle.std.specs.List.{filter, range_with_len}
 use Rattle.packed_state.specs.Sets.{has}
 use Rattle.model.specs.Task.{Task}
 use Rattle.model.specs.Claims.{Claim, Line}
-use Rattle.model.specs.Certificates.{Certificate, StateLine, IsClosedFor}
+use Rattle.certificate_text.specs.Certificates.{Certificate, StateLine, IsClosedFor}
 use Rattle.model.specs.NumberedAtoms.{numbered_atoms}
 
 -- the numbers of the atoms that are true in the packed state, rising

@@ -20,7 +20,7 @@ ghost use Rattle.solver.specs.Listing.{state_line, IsShownBy};
 ghost use Rattle.model.specs.WellTyped.{is_task};
 ghost use Rattle.model.specs.NumberedAtoms.{numbered_atoms};
 ghost use Rattle.model.specs.Grounding.{ground_system};
-ghost use Rattle.model.specs.Certificates.{is_claim};
+ghost use Rattle.certificate_text.specs.Certificates.{is_claim};
 
 use certificate::{Cert, Claim, StateLine};
 use faults::NoMemory;

@@ -10,7 +10,7 @@ ghost use Rattle.model.specs.Meaning.{is_instance, system_of};
 ghost use Rattle.model.specs.Limits.{max_numbered_atoms};
 ghost use Rattle.model.specs.Grounding.{limit_told};
 ghost use Rattle.model.specs.Claims.{ClaimHolds};
-ghost use Rattle.model.specs.Certificates.{Certificate, IsClosedFor};
+ghost use Rattle.certificate_text.specs.Certificates.{Certificate, IsClosedFor};
 
 use crate::checker::Accepted;
 use certificate_lines::Claim;

@@ -24,8 +24,8 @@ impl<'a, 't> PackedListing<'a, 't> {
     ghost use Rattle.cert_checker.specs.CheckedLines.{HasCost, IsListedAt, Stands};
     ghost use Rattle.cert_checker.specs.PackedListing.{task_at, certificate_at, state_at, IsPacked};
     ghost use Rattle.model.specs.NumberedAtoms.{numbered_atoms};
-    ghost use Rattle.model.specs.Certificates.{lines_of};
-    ghost use Rattle.model.specs.CertificateRefusals.{IsListed};
+    ghost use Rattle.certificate_text.specs.Certificates.{lines_of};
+    ghost use Rattle.certificate_text.specs.CertificateRefusals.{IsListed};
 
     /// That of the certificate.
     pub(super) fn new(grounded: &'a Ground<'t>, listing: &'a Listing) -> PackedListing<'a, 't>

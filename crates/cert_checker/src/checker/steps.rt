@@ -16,8 +16,8 @@ ghost use Rattle.model.specs.Claims as claims;
 ghost use Rattle.model.specs.Claims.{Allows, IsListedWithin};
 ghost use Rattle.model.specs.Limits.{max_numbered_atoms};
 ghost use Rattle.model.specs.Grounding.{applicable_numbers, limit_told};
-ghost use Rattle.model.specs.Certificates.{lines_of, value_of};
-ghost use Rattle.model.specs.CertificateRefusals.{state_line};
+ghost use Rattle.certificate_text.specs.Certificates.{lines_of, value_of};
+ghost use Rattle.certificate_text.specs.CertificateRefusals.{state_line};
 ghost use Rattle.certificate_listing.specs.declared.refusal.Refusal.TheVariants as Refusal;
 
 use crate::checker::packed::PackedListing;

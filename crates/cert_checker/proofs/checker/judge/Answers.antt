@@ -11,7 +11,7 @@ use Rattle.model.specs.Meaning.{system_of}
 use Rattle.model.specs.Claims.{ClaimHolds}
 use Rattle.model.specs.Limits.{max_numbered_atoms}
 use Rattle.model.specs.Grounding.{limit_told}
-use Rattle.model.specs.Certificates.{Certificate, IsClosedFor}
+use Rattle.certificate_text.specs.Certificates.{Certificate, IsClosedFor}
 use Rattle.cert_checker.specs.CertChecker.{Answers, IsFirstRefusal, IsTrueRefusal}
 use Rattle.cert_checker.proofs.StaysLemmas.{closed_holds}
 use Rattle.cert_checker.proofs.AnswerLemmas.{closed_for, on_ok}

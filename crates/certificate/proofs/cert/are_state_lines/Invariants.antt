@@ -1,6 +1,6 @@
 use Rattle.std.proofs.Common.{◌≡◌, drop, map}
 use Rattle.std.specs.List.{list_all}
-use Rattle.model.specs.Certificates.{is_state_line}
+use Rattle.certificate_text.specs.Certificates.{is_state_line}
 use Rattle.certificate_lines.specs.Lines.{line_of}
 use Rattle.certificate.proofs.cert.are_state_lines.Given as goal
 

@@ -1,5 +1,5 @@
 use Rattle.std.proofs.Common.{◌≡◌, drop}
-use Rattle.model.specs.Certificates.{rise}
+use Rattle.certificate_text.specs.Certificates.{rise}
 use Rattle.certificate.proofs.cert.rise.Given as goal
 
 -- the numbers that are left decide

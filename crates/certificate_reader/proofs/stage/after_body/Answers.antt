@@ -9,4 +9,4 @@ pub returns-in-Weight : goal.returns-in-Weight
 returns-in-Weight c =
     let is = ap text_line_of c.in-Weight.is in
     subst (λ line. IsStep (in_body c.args.atoms c.args.states) line c.after_atom.result) (sym is)
-    (c.after_atom.ensures (named_atom_of c.in-Weight.field-0) (subst (λ line. IsTrue (is_line c.args.atoms line)) is c.requires.line))
+    (c.after_atom.ensures (record { weight = c.in-Weight.weight; atom = named_atom_of c.in-Weight.atom }) (subst (λ line. IsTrue (is_line c.args.atoms line)) is c.requires.line))

@@ -1,4 +1,5 @@
-use Rattle.std.proofs.Common.{◌≡◌, map, take}
+use Rattle.std.proofs.Common.{◌≡◌, length, map, take}
+use Rattle.std.specs.Prelude.{zip}
 use Rattle.std.specs.List.{flat_map}
 use Rattle.typing.specs.Task.{task_of}
 use Rattle.typing.specs.TaskParts.{atom_of}
@@ -10,7 +11,7 @@ abbrev pub invariant-loop-atom : goal.invariant-loop-atom
 invariant-loop-atom g l =
     record {
       passed : IsPassedOn (g.W.Sink.taken l.initial.out) (g.W.Sink.taken l.out) l.initial.held.items l.held.items
-          (flat_map (atom_line (task_of l.task)) (map atom_of (take l.atom-index l.atoms)));
+          (flat_map (atom_line (task_of l.task)) (take (length l.yielded) (zip (map atom_of l.atoms) l.weights)));
       failures : g.W.Sink.failures l.out ≡ g.W.Sink.failures l.initial.out;
       name : g.W.Sink.name l.out ≡ g.W.Sink.name l.initial.out;
     }

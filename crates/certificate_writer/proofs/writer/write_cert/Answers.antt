@@ -1,8 +1,10 @@
-use Rattle.std.proofs.Common.{◌≡◌, ◌∙◌, ◌++◌, ap, sym, subst, map, length}
+use Rattle.std.specs.Int.{w64}
+use Rattle.std.proofs.lemmas.Int.{to_z-of_z}
+use Rattle.std.proofs.Common.{rules, ◌≡◌, ◌∙◌, ◌++◌, ap, sym, subst, length}
 use Rattle.std.proofs.lemmas.List.{length-map}
 use Rattle.std.specs.Io.KnownBytes.{Appends}
 use Rattle.std.specs.List.{flat_map}
-use Rattle.std.specs.Prelude.{OnOk}
+use Rattle.std.specs.Prelude.{OnOk, zip}
 use Rattle.typing.specs.Task.{task_of}
 use Rattle.devices.specs.Devices.{AppendsBeginning}
 use Rattle.certificate_lines.specs.Lines.{line_of}
@@ -17,19 +19,19 @@ returns-in_err-write_atoms-clause-beginning g c =
     let taken = g.W.Sink.taken c.args.out.now in
     let task = task_of c.args.task.now in
     let cert = certificate_of c.args.cert.now in
-    let first = head_held taken taken task cert c.new-held.result.items _ c.new-held.ensures.items (c.in_ok-add_head.ensures ∙ ap (λ k. c.new-held.result.items ++ head k) c.claim.ensures) in
+    let first = head_held taken taken task cert c.new-held.result.items _ c.new-held.ensures.items (c.in_ok-add_head.ensures ∙ (λ i. c.new-held.result.items ++ head (c.claim.ensures i) ((to_z-of_z w64 c.constant.result (search rules) ∙ c.constant.ensures) i))) in
     atoms_begun taken _ task cert _ first
-    (subst (λ atoms. AppendsBeginning taken (g.W.Sink.taken c.write_atoms.new.out) (c.add_head.new.text.items ++ flat_map (atom_line task) atoms)) c.atoms.ensures.atoms c.write_atoms.ensures.beginning)
+    (subst (λ atoms. AppendsBeginning taken (g.W.Sink.taken c.write_atoms.new.out) (c.add_head.new.text.items ++ flat_map (atom_line task) atoms)) (λ i. zip (c.atoms.ensures.atoms i) (c.weights.ensures.weights i)) c.write_atoms.ensures.beginning)
 
 pub returns-in_err-write_states-clause-beginning : goal.returns-in_err-write_states-clause-beginning
 returns-in_err-write_states-clause-beginning g c =
     let taken = g.W.Sink.taken c.args.out.now in
     let task = task_of c.args.task.now in
     let cert = certificate_of c.args.cert.now in
-    let first = head_held taken taken task cert c.new-held.result.items _ c.new-held.ensures.items (c.in_ok-add_head.ensures ∙ ap (λ k. c.new-held.result.items ++ head k) c.claim.ensures) in
+    let first = head_held taken taken task cert c.new-held.result.items _ c.new-held.ensures.items (c.in_ok-add_head.ensures ∙ (λ i. c.new-held.result.items ++ head (c.claim.ensures i) ((to_z-of_z w64 c.constant.result (search rules) ∙ c.constant.ensures) i))) in
     let atoms_now = g.W.Sink.taken c.write_atoms.new.out in
     let second = atoms_held taken atoms_now task cert _ _ first
-    (subst (λ atoms. IsPassedOn taken atoms_now c.add_head.new.text.items c.write_atoms.new.held.items (flat_map (atom_line task) atoms)) c.atoms.ensures.atoms c.in_ok-write_atoms.ensures.text) in
+    (subst (λ atoms. IsPassedOn taken atoms_now c.add_head.new.text.items c.write_atoms.new.held.items (flat_map (atom_line task) atoms)) (λ i. zip (c.atoms.ensures.atoms i) (c.weights.ensures.weights i)) c.in_ok-write_atoms.ensures.text) in
     states_begun taken atoms_now task cert _ _ second
     (subst (λ lines. AppendsBeginning atoms_now (g.W.Sink.taken c.write_states.new.out) (c.write_atoms.new.held.items ++ flat_map state_line lines)) c.lines.ensures.lines c.write_states.ensures.beginning)
 
@@ -38,10 +40,10 @@ returns-in_err-add_last-clause-beginning g c =
     let taken = g.W.Sink.taken c.args.out.now in
     let task = task_of c.args.task.now in
     let cert = certificate_of c.args.cert.now in
-    let first = head_held taken taken task cert c.new-held.result.items _ c.new-held.ensures.items (c.in_ok-add_head.ensures ∙ ap (λ k. c.new-held.result.items ++ head k) c.claim.ensures) in
+    let first = head_held taken taken task cert c.new-held.result.items _ c.new-held.ensures.items (c.in_ok-add_head.ensures ∙ (λ i. c.new-held.result.items ++ head (c.claim.ensures i) ((to_z-of_z w64 c.constant.result (search rules) ∙ c.constant.ensures) i))) in
     let atoms_now = g.W.Sink.taken c.write_atoms.new.out in
     let second = atoms_held taken atoms_now task cert _ _ first
-    (subst (λ atoms. IsPassedOn taken atoms_now c.add_head.new.text.items c.write_atoms.new.held.items (flat_map (atom_line task) atoms)) c.atoms.ensures.atoms c.in_ok-write_atoms.ensures.text) in
+    (subst (λ atoms. IsPassedOn taken atoms_now c.add_head.new.text.items c.write_atoms.new.held.items (flat_map (atom_line task) atoms)) (λ i. zip (c.atoms.ensures.atoms i) (c.weights.ensures.weights i)) c.in_ok-write_atoms.ensures.text) in
     let states_now = g.W.Sink.taken c.write_states.new.out in
     let third = states_held taken atoms_now task cert states_now _ _ second
     (subst (λ lines. IsPassedOn atoms_now states_now c.write_atoms.new.held.items c.write_states.new.held.items (flat_map state_line lines)) c.lines.ensures.lines c.in_ok-write_states.ensures.text) in
@@ -52,10 +54,10 @@ returns-clause-text g c =
     let taken = g.W.Sink.taken c.args.out.now in
     let task = task_of c.args.task.now in
     let cert = certificate_of c.args.cert.now in
-    let first = head_held taken taken task cert c.new-held.result.items _ c.new-held.ensures.items (c.in_ok-add_head.ensures ∙ ap (λ k. c.new-held.result.items ++ head k) c.claim.ensures) in
+    let first = head_held taken taken task cert c.new-held.result.items _ c.new-held.ensures.items (c.in_ok-add_head.ensures ∙ (λ i. c.new-held.result.items ++ head (c.claim.ensures i) ((to_z-of_z w64 c.constant.result (search rules) ∙ c.constant.ensures) i))) in
     let atoms_now = g.W.Sink.taken c.write_atoms.new.out in
     let second = atoms_held taken atoms_now task cert _ _ first
-    (subst (λ atoms. IsPassedOn taken atoms_now c.add_head.new.text.items c.write_atoms.new.held.items (flat_map (atom_line task) atoms)) c.atoms.ensures.atoms c.in_ok-write_atoms.ensures.text) in
+    (subst (λ atoms. IsPassedOn taken atoms_now c.add_head.new.text.items c.write_atoms.new.held.items (flat_map (atom_line task) atoms)) (λ i. zip (c.atoms.ensures.atoms i) (c.weights.ensures.weights i)) c.in_ok-write_atoms.ensures.text) in
     let states_now = g.W.Sink.taken c.write_states.new.out in
     let third = states_held taken atoms_now task cert states_now _ _ second
     (subst (λ lines. IsPassedOn atoms_now states_now c.write_atoms.new.held.items c.write_states.new.held.items (flat_map state_line lines)) c.lines.ensures.lines c.in_ok-write_states.ensures.text) in
@@ -69,10 +71,10 @@ returns-clause-beginning g c =
     let taken = g.W.Sink.taken c.args.out.now in
     let task = task_of c.args.task.now in
     let cert = certificate_of c.args.cert.now in
-    let first = head_held taken taken task cert c.new-held.result.items _ c.new-held.ensures.items (c.in_ok-add_head.ensures ∙ ap (λ k. c.new-held.result.items ++ head k) c.claim.ensures) in
+    let first = head_held taken taken task cert c.new-held.result.items _ c.new-held.ensures.items (c.in_ok-add_head.ensures ∙ (λ i. c.new-held.result.items ++ head (c.claim.ensures i) ((to_z-of_z w64 c.constant.result (search rules) ∙ c.constant.ensures) i))) in
     let atoms_now = g.W.Sink.taken c.write_atoms.new.out in
     let second = atoms_held taken atoms_now task cert _ _ first
-    (subst (λ atoms. IsPassedOn taken atoms_now c.add_head.new.text.items c.write_atoms.new.held.items (flat_map (atom_line task) atoms)) c.atoms.ensures.atoms c.in_ok-write_atoms.ensures.text) in
+    (subst (λ atoms. IsPassedOn taken atoms_now c.add_head.new.text.items c.write_atoms.new.held.items (flat_map (atom_line task) atoms)) (λ i. zip (c.atoms.ensures.atoms i) (c.weights.ensures.weights i)) c.in_ok-write_atoms.ensures.text) in
     let states_now = g.W.Sink.taken c.write_states.new.out in
     let third = states_held taken atoms_now task cert states_now _ _ second
     (subst (λ lines. IsPassedOn atoms_now states_now c.write_atoms.new.held.items c.write_states.new.held.items (flat_map state_line lines)) c.lines.ensures.lines c.in_ok-write_states.ensures.text) in

@@ -1,7 +1,7 @@
 use Rattle.std.proofs.Common.{◌≡◌, false, take}
 use Rattle.std.specs.List.{list_any}
 use Rattle.typing.specs.TaskParts.{effect_of}
-use Rattle.model.specs.Certificates.{touches}
+use Rattle.model.specs.Fluents.{touches}
 use Rattle.formulas.proofs.fluents.+touches.Given as goal
 
 abbrev pub decreases-touches : goal.decreases-touches

@@ -2,11 +2,11 @@ use Rattle.std.proofs.Common.{◌≡◌, drop}
 use Rattle.std.specs.List.{list_any}
 use Rattle.typing.specs.Task.{task_of}
 use Rattle.model.specs.Task.{Schema}
-use Rattle.model.specs.Certificates as certificates
+use Rattle.model.specs.Fluents as defined
 use Rattle.formulas.proofs.fluents.is_fluent.Given as goal
 
 -- the schemas that are left decide
 abbrev pub invariant-loop-number : goal.invariant-loop-number
 invariant-loop-number l =
-    certificates.is_fluent (task_of l.task) l.predicate.0
-    ≡ list_any (λ (s : Schema). certificates.touches l.predicate.0 s.effect) (drop l.number (task_of l.task).schemas)
+    defined.is_fluent (task_of l.task) l.predicate.0
+    ≡ list_any (λ (s : Schema). defined.touches l.predicate.0 s.effect) (drop l.number (task_of l.task).schemas)

@@ -2,7 +2,7 @@ use Rattle.std.proofs.Common.{◌≡◌, None, sym, subst}
 use Rattle.certificate_listing.proofs.WrittenLemmas.{closed_is_accepted}
 use Rattle.model.specs.Limits.{max_numbered_atoms}
 use Rattle.model.specs.Grounding.{limit_told}
-use Rattle.model.specs.CertificateRefusals.{IsPlanWithin}
+use Rattle.certificate_text.specs.CertificateRefusals.{IsPlanWithin}
 use Rattle.model.proofs.LimitsLemmas.{limits_alike}
 use Rattle.model.proofs.TaskNames.{task_has_atom_names}
 use Rattle.typing.proofs.TypedTasks.{task_is_typed}

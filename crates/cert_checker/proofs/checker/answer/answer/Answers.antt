@@ -5,7 +5,7 @@ use Rattle.typing.specs.Task.{task_of}
 use Rattle.formulas.specs.State.{plan_of}
 use Rattle.validator.specs.Verdict.{verdict_of}
 use Rattle.model.specs.Runs.{cost_of_all, Solves, IsOptimal, IsVerdict}
-use Rattle.model.specs.CertificateRefusals.{plan_dearer, IsFirst}
+use Rattle.certificate_text.specs.CertificateRefusals.{plan_dearer, IsFirst}
 use Rattle.model.specs.Meaning.{system_of}
 use Rattle.model.specs.Claims.{bound, ClaimHolds}
 use Rattle.certificate_lines.specs.Lines.{claim_of}

@@ -9,7 +9,7 @@ use Rattle.model.specs.Meaning.{State, system_of}
 use Rattle.model.specs.Limits.{max_numbered_atoms}
 use Rattle.model.specs.Grounding.{limit_told}
 use Rattle.model.specs.Claims.{Line, IsListedWithin}
-use Rattle.model.specs.Certificates.{Certificate, lines_of}
+use Rattle.certificate_text.specs.Certificates.{Certificate, lines_of}
 use Rattle.cert_checker.specs.CertChecker.{IsFirstRefusal, IsTrueRefusal}
 use Rattle.cert_checker.specs.CheckedLines.{CutsAreAllowed, IsLineClosed, IsRightUpTo, IsTrueAnyway}
 use Rattle.cert_checker.specs.PackedListing.{task_at, certificate_at}

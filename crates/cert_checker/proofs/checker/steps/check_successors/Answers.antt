@@ -7,8 +7,8 @@ use Rattle.cert_checker.specs.CheckedLines.{IsListedAt}
 use Rattle.cert_checker.specs.PackedListing.{task_at, atoms_at, certificate_at, state_at}
 use Rattle.model.specs.Meaning.{State, system_of}
 use Rattle.model.specs.Claims.{Line}
-use Rattle.model.specs.Certificates.{lines_of}
-use Rattle.model.specs.CertificateRefusals.{successor_missing, successor_dearer, state_line, IsListed}
+use Rattle.certificate_text.specs.Certificates.{lines_of}
+use Rattle.certificate_text.specs.CertificateRefusals.{successor_missing, successor_dearer, state_line, IsListed}
 use Rattle.cert_checker.proofs.CertCheckerLemmas.{AllListed-none, AllListed-more, listed_within, open_closed}
 use Rattle.cert_checker.proofs.GroundSuccessors.{leads_by, applies_at, step_packed, next_by, cost_by}
 use Rattle.cert_checker.proofs.PackedListingLemmas.{listed_apart, successors_there}

@@ -1,7 +1,7 @@
 use Rattle.std.proofs.Common.{length, sym, ap, ◌∙◌, subst}
 use Rattle.std.specs.Prelude.{IsTrue}
 use Rattle.std.proofs.lemmas.List.{length-map}
-use Rattle.model.specs.Certificates.{keeps_limits}
+use Rattle.certificate_text.specs.Certificates.{keeps_limits}
 use Rattle.packed_state.specs.Sets.{at_width}
 use Rattle.packed_state.specs.PooledView.{pooled_states}
 use Rattle.certificate_listing.proofs.NumbersLemmas.{all_below, same_certificate}

@@ -3,17 +3,23 @@ use Rattle.std.specs.Prelude.{◌≡◌, ℕ, ◌+◌, ◌<◌, ◌≤◌, ◌�
 use Rattle.model.specs.Task.{Atom, Task, Instance}
 use Rattle.model.specs.WellTyped.{is_atom}
 use Rattle.model.specs.Runs.{cost_of_all, Solves}
-use Rattle.model.specs.Meaning.{State, initial_state, step, meets_goal, system_of}
+use Rattle.model.specs.Meaning.{State, cost_of, initial_state, step, meets_goal, system_of}
 use Rattle.model.specs.Limits.{max_numbered_atoms}
+use Rattle.model.specs.ClosedOff.{kept_instances}
+use Rattle.model.specs.NumberedAtoms.{numbered_atoms}
 use Rattle.model.specs.Grounding.{limit_told}
 use Rattle.model.specs.Claims.{Claim, bound, none, Allows, Line, IsListedWithin}
-use Rattle.model.specs.Certificates.{Certificate, is_fluent, lines_of, value_of}
+use Rattle.potential_functions.specs.Fair.{IsFairAt, IsFairAtGoals}
+use Rattle.model.specs.Fluents.{is_fluent}
+use Rattle.certificate_text.specs.Certificates.{Certificate, lines_of, value_of}
 
 -- the reasons, each with the number that is told
 pub data Reason : Type 0 where
   not_fluent : Reason  -- 43
   repeated : Reason  -- 44
   no_initial : Reason  -- 45
+  unfair : Reason  -- 46
+  unfair_goal : Reason  -- 47
   goal_open : Reason  -- 48
   successor_missing : Reason  -- 49
   successor_dearer : Reason  -- 50
@@ -87,29 +93,38 @@ IsWrong task c plan most plan_invalid = MatchOption plan ⊥ (λ p. ¬ Solves (s
 -- the plan solves it, and costs more than is claimed
 IsWrong task c plan most plan_dearer =
     MatchOption plan ⊥ (λ p. (least : ℕ) × (c.claim ≡ bound least) × Solves (system_of task) p × (least < cost_of_all (system_of task) p))
+-- a kept instance may lose more than it costs
+IsWrong task c plan most unfair =
+    (i : Instance) × Contains (kept_instances task) i × ¬ IsFairAt (cost_of task i) task (numbered_atoms task c.atoms) c.potentials.weights i
+-- more than 0 may be left at a goal
+IsWrong task c plan most unfair_goal = ¬ IsFairAtGoals task (numbered_atoms task c.atoms) c.potentials
 -- more instances are kept, or too many atoms have numbers
 IsWrong task c plan most limit = IsSome (limit_told most max_numbered_atoms task c.atoms)
 IsWrong task c plan most _ = ⊥
 
--- The checker looks for what is wrong in this order: it reads the lines one by one, grounds the task, looks for the
--- initial state, goes through the state lines one by one, and holds the plan against the claim.
+-- The checker looks for what is wrong in this order: it reads the lines one by one, grounds the task, looks whether the
+-- potential function is fair, looks for the initial state, goes through the state lines one by one, and holds the plan
+-- against the claim.
 abbrev pub stage_of : Reason → ℕ
 stage_of not_fluent = 0
 stage_of repeated = 0
 stage_of cut_not_allowed = 0
 stage_of limit = 1
-stage_of no_initial = 2
-stage_of goal_open = 3
-stage_of successor_missing = 3
-stage_of successor_dearer = 3
-stage_of cut_weak = 3
-stage_of plan_invalid = 4
-stage_of plan_dearer = 4
+stage_of unfair = 2
+stage_of unfair_goal = 2
+stage_of no_initial = 3
+stage_of goal_open = 4
+stage_of successor_missing = 4
+stage_of successor_dearer = 4
+stage_of cut_weak = 4
+stage_of plan_invalid = 5
+stage_of plan_dearer = 5
 
 -- and of one line in this order; of a line's successors it tells the first one that is not as it is to be
 abbrev pub rank_of : Reason → ℕ
 rank_of repeated = 1
 rank_of cut_not_allowed = 2
+rank_of unfair_goal = 1
 rank_of successor_missing = 1
 rank_of successor_dearer = 1
 rank_of plan_dearer = 1

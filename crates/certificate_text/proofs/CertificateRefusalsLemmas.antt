@@ -2,13 +2,18 @@
 use Rattle.std.proofs.Common.{◌≡◌, ℕ, ◌+◌, ◌<◌, ◌&&◌, List, get_or, Option, None, Some, inl, inr, refl, subst, arith}
 use Rattle.std.specs.Prelude.{◌≢◌, IsTrue, AllPairs, slice_get}
 use Rattle.std.proofs.lemmas.Option.{slice_get_within, get_or_from_slice_get}
+use Rattle.std.proofs.lemmas.List.Elements.{All-contains}
 use Rattle.model.specs.Task.{Atom, Task, Instance}
 use Rattle.model.specs.WellTyped.{is_atom}
 use Rattle.model.specs.Runs.{Solves}
-use Rattle.model.specs.Meaning.{State, system_of}
+use Rattle.model.specs.Meaning.{State, cost_of, system_of}
+use Rattle.model.specs.ClosedOff.{kept_instances}
+use Rattle.model.specs.NumberedAtoms.{numbered_atoms}
 use Rattle.model.specs.Claims.{Claim, bound, none, Allows, Line}
-use Rattle.model.specs.Certificates.{Certificate, is_fluent, lines_of, IsClosedFor}
-use Rattle.model.specs.CertificateRefusals.{Reason, not_fluent, repeated, no_initial, goal_open, successor_missing, successor_dearer, cut_weak, cut_not_allowed, plan_invalid, plan_dearer, limit, IsWrongLine, IsWrong, IsPlanWithin}
+use Rattle.model.specs.Fluents.{is_fluent}
+use Rattle.certificate_text.specs.Certificates.{Certificate, lines_of, IsClosedFor}
+use Rattle.certificate_text.specs.CertificateRefusals.{Reason, not_fluent, repeated, no_initial, unfair, unfair_goal, goal_open, successor_missing, successor_dearer, cut_weak, cut_not_allowed, plan_invalid, plan_dearer, limit, IsWrongLine, IsWrong, IsPlanWithin}
+use Rattle.potential_functions.specs.Fair.{IsFairAt}
 use Rattle.model.proofs.ListLemmas.{Contains-got}
 
 -- ---- elements at their places
@@ -55,6 +60,8 @@ module _ (task : Task) (c : Certificate) (closed : IsClosedFor task c) where
       let allowed = (closed.listing_is_closed.cuts_allowed l rest (Contains-got listed place l at) is_cut).1 in
       subst (λ (claim : Claim). Allows claim (l.cost + rest)) is_none allowed
   right_line no_initial line wrong = wrong
+  right_line unfair line wrong = wrong
+  right_line unfair_goal line wrong = wrong
   right_line plan_invalid line wrong = wrong
   right_line plan_dearer line wrong = wrong
   right_line limit line wrong = wrong
@@ -62,6 +69,9 @@ module _ (task : Task) (c : Certificate) (closed : IsClosedFor task c) where
   -- and nothing else is wrong but the count of instances
   pub right : (plan : Option (List Instance)) (most : ℕ) (reason : Reason) → IsPlanWithin task c.claim plan → IsWrong task c plan most reason → reason ≡ limit
   right plan most no_initial within wrong = absurd (wrong closed.listing_is_closed.initial_listed)
+  right plan most unfair within (i, kept, wrong) =
+      absurd (wrong (All-contains (λ (i : Instance). IsFairAt (cost_of task i) task (numbered_atoms task c.atoms) c.potentials.weights i) (kept_instances task) i closed.potentials_are_fair.instances kept))
+  right plan most unfair_goal within wrong = absurd (wrong closed.potentials_are_fair.goals)
   right None most plan_invalid within wrong = absurd wrong
   right (Some p) most plan_invalid within wrong = absurd (wrong (plan_solves task c.claim p within))
   right None most plan_dearer within wrong = absurd wrong
