@@ -4,7 +4,5 @@ pub mod ProgramWords
 pub mod TableLemmas
 pub mod ProgramTold
 pub mod PlanFiles
-pub mod OptionWords
-pub mod OptionsHeld
 pub mod CheckedLemmas
 pub mod CertificateTold

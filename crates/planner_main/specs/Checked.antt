@@ -1,6 +1,6 @@
 -- What is told of a certificate for the task of two texts, and for the plan of a third one if that is handed in: by what came
 -- of the certificate to a reader, and by its whole text.
-use Rattle.std.specs.Prelude.{◌≡◌, ℕ, ◌==◌, ◌⊎◌, if◌then◌else◌, List, ◌++◌, codes, Option, None, Some, Result, Ok, Err, IfOk, IfErr}
+use Rattle.std.specs.Prelude.{◌≡◌, ℕ, Bool, ◌==◌, ◌⊎◌, if◌then◌else◌, List, ◌++◌, codes, Option, None, Some, Result, Ok, Err, IfOk, IfErr}
 use Rattle.std.specs.Fmt.{decimal}
 use Rattle.certificate_text.specs.CertificateText.{TextLine, text_of}
 use Rattle.certificate_text.specs.CertificateNames.{IsTextOf}
@@ -8,7 +8,6 @@ use Rattle.certificate_text.specs.CertificateChecking.{AreRight, IsAccepted, IsL
 use Rattle.certificate_reader.specs.declared.reader.CertReader.{CertReader}
 use Rattle.certificate_reader.specs.Reader.{source_of}
 use Rattle.certificate_listing.specs.declared.refusal.RefusalCode.{RefusalCode}
-use Rattle.certificate_listing.specs.declared.refusal.RefusalCode.TheVariants.{CertForm, CertVersion, Truncated, NotFluent, Repeated, NoInitial, GoalOpen, SuccessorMissing, SuccessorDearer, CutWeak, CutNotAllowed, PlanInvalid, PlanDearer, Limit}
 use Rattle.certificate_listing.specs.declared.refusal.Refusal.{Refusal}
 use Rattle.certificate_listing.specs.declared.refusal.Refusal.TheVariants as refusal
 use Rattle.certificate_listing.specs.RefusalCode.{number_of}
@@ -16,6 +15,8 @@ use Rattle.cert_checker.specs.declared.checker.Accepted.{Accepted}
 use Rattle.cert_checker.specs.declared.checker.Accepted.TheVariants.{Optimal, AtLeast, Unsolvable}
 use Rattle.cert_checker.specs.CertChecker.{Answers, IsFirstRefusal, IsNoFault, IsShown, IsTrueRefusal}
 use Rattle.cert_checker.specs.Checking.{Accepts, Refuses}
+use Rattle.planner_main.specs.RefusalNames.{name_of}
+use Rattle.planner_main.specs.Json.{line_of_members, of_accepted, of_refused}
 use Rattle.model.specs.Task.{Task, Instance}
 use Rattle.model.specs.Limits.{max_numbered_atoms}
 use Rattle.model.specs.Grounding.{limit_told}
@@ -84,23 +85,6 @@ accepted_line (Optimal cost) = codes "optimal cost " ++ (decimal cost ++ codes "
 accepted_line (AtLeast cost) = codes "at least " ++ (decimal cost ++ codes "\n")
 accepted_line Unsolvable = codes "unsolvable\n"
 
--- the name of a refusal
-abbrev pub name_of : RefusalCode → List ℕ
-name_of CertForm = codes "CertForm"
-name_of CertVersion = codes "CertVersion"
-name_of Truncated = codes "Truncated"
-name_of NotFluent = codes "NotFluent"
-name_of Repeated = codes "Repeated"
-name_of NoInitial = codes "NoInitial"
-name_of GoalOpen = codes "GoalOpen"
-name_of SuccessorMissing = codes "SuccessorMissing"
-name_of SuccessorDearer = codes "SuccessorDearer"
-name_of CutWeak = codes "CutWeak"
-name_of CutNotAllowed = codes "CutNotAllowed"
-name_of PlanInvalid = codes "PlanInvalid"
-name_of PlanDearer = codes "PlanDearer"
-name_of Limit = codes "Limit"
-
 -- the lines of refusals: `not accepted CODE Name`, and `not accepted CODE Name line L` of a line, but for 55, of which none is told
 abbrev pub plain_refused : RefusalCode → List ℕ
 plain_refused code = codes "not accepted " ++ (decimal (number_of code) ++ (codes " " ++ (name_of code ++ codes "\n")))
@@ -110,12 +94,22 @@ line_refused code line =
     if number_of code == 55 then plain_refused code
     else (codes "not accepted " ++ (decimal (number_of code) ++ (codes " " ++ (name_of code ++ (codes " line " ++ (decimal line ++ codes "\n"))))))
 
--- This text is the answer's line, and this is its status: 0 where the certificate is accepted, and 12 where it is refused. That
--- memory was refused, or that the device failed, has no line.
-abbrev pub IsLineOf : Result Accepted Refusal → (text : List ℕ) → (status : ℕ) → Type 0
-IsLineOf (Ok answer) text status = (text ≡ accepted_line answer) × (status ≡ 0)
-IsLineOf (Err (refusal.Line code line)) text status = (text ≡ line_refused code line) × (status ≡ 12)
-IsLineOf (Err (refusal.Plain code)) text status = (text ≡ plain_refused code) × (status ≡ 12)
-IsLineOf (Err refusal.NoMemory) text status = ⊥
-IsLineOf (Err refusal.Device) text status = ⊥
-IsLineOf (Err refusal.Failed) text status = ⊥
+-- the same, or as JSON, which tells neither line nor instance
+abbrev pub told_accepted : (json : Bool) → Accepted → List ℕ
+told_accepted json answer = if json then line_of_members (of_accepted answer) else accepted_line answer
+
+abbrev pub told_line : (json : Bool) → RefusalCode → (line : ℕ) → List ℕ
+told_line json code line = if json then line_of_members (of_refused code) else line_refused code line
+
+abbrev pub told_plain : (json : Bool) → RefusalCode → List ℕ
+told_plain json code = if json then line_of_members (of_refused code) else plain_refused code
+
+-- This text tells the answer, and this is its status: 0 where the certificate is accepted, and 12 where it is refused. That
+-- memory was refused, or that the device failed, is told by none.
+abbrev pub IsLineOf : (json : Bool) → Result Accepted Refusal → (text : List ℕ) → (status : ℕ) → Type 0
+IsLineOf json (Ok answer) text status = (text ≡ told_accepted json answer) × (status ≡ 0)
+IsLineOf json (Err (refusal.Line code line)) text status = (text ≡ told_line json code line) × (status ≡ 12)
+IsLineOf json (Err (refusal.Plain code)) text status = (text ≡ told_plain json code) × (status ≡ 12)
+IsLineOf json (Err refusal.NoMemory) text status = ⊥
+IsLineOf json (Err refusal.Device) text status = ⊥
+IsLineOf json (Err refusal.Failed) text status = ⊥

@@ -2,7 +2,10 @@ pub mod Report
 pub mod Failures
 pub mod Solution
 pub mod Files
-pub mod Options
+pub mod Asked
+pub mod Json
+pub mod Reported
+pub mod RefusalNames
 pub mod Program
 pub mod Table
 pub mod Written

@@ -9,14 +9,14 @@ pub returns-in_err-save_cert-clause-partly : goal.returns-in_err-save_cert-claus
 returns-in_err-save_cert-clause-partly g c =
     let p = err_from_is_err_and c.from_residual-in_err-save_cert.result c.from_residual-in_err-save_cert.ensures.1 in
     rw (p.1)
-    (partly_in_cert (task_of c.args.solved.now.task) c.args.solved.now.answer (text_in c.args.wanted.cert) (text_in c.args.wanted.plan) g.F.Files.is_known
+    (partly_in_cert (task_of c.args.solved.now.task) c.args.solved.now.answer c.args.wanted.json (text_in c.args.wanted.cert) (text_in c.args.wanted.plan) g.F.Files.is_known
     (g.F.Files.contents c.args.files.now) _ _ (c.in_err-save_cert.ensures.partly refl))
 
 pub returns-in_err-save_plan-clause-partly : goal.returns-in_err-save_plan-clause-partly
 returns-in_err-save_plan-clause-partly g c =
     let p = err_from_is_err_and c.from_residual-in_err-save_plan.result c.from_residual-in_err-save_plan.ensures.1 in
     rw (p.1)
-    (partly_in_plan (task_of c.args.solved.now.task) c.args.solved.now.answer (text_in c.args.wanted.cert) (text_in c.args.wanted.plan) g.F.Files.is_known
+    (partly_in_plan (task_of c.args.solved.now.task) c.args.solved.now.answer c.args.wanted.json (text_in c.args.wanted.cert) (text_in c.args.wanted.plan) g.F.Files.is_known
     (g.F.Files.contents c.args.files.now) (g.F.Files.contents c.save_cert.new.files) _ c.in_ok-save_cert.ensures.written _ (c.in_err-save_plan.ensures.partly refl))
 
 pub returns-in_err-write_all-clause-partly : goal.returns-in_err-write_all-clause-partly
@@ -24,6 +24,6 @@ returns-in_err-write_all-clause-partly g c =
     let p = err_from_is_err_and c.from_residual-in_err-write_all.result c.from_residual-in_err-write_all.ensures.1 in
     let told = rw (c.deref-2.ensures.value) at c.write_all.ensures.beginning in
     rw (p.1)
-    (partly_on_output (task_of c.args.solved.now.task) c.args.solved.now.answer (text_in c.args.wanted.cert) (text_in c.args.wanted.plan) g.F.Files.is_known
+    (partly_on_output (task_of c.args.solved.now.task) c.args.solved.now.answer c.args.wanted.json (text_in c.args.wanted.cert) (text_in c.args.wanted.plan) g.F.Files.is_known
     (g.F.Files.contents c.args.files.now) (g.F.Files.contents c.save_cert.new.files) _ c.in_ok-save_cert.ensures.written c.in_ok-save_plan.ensures.written
     _ _ _ c.in_ok-text.ensures.text told)
