@@ -96,11 +96,11 @@ module _ {R : Type 0} (remaining : R → Option (List ℕ)) (first : CertReader 
       came bytes consumed = consumes_more (remaining (source_of first)) (remaining (source_of now)) (remaining (source_of next)) at.bytes bytes at.consumed consumed
 
       pub fault_told : (fault : CertFault) → IsAnswer remaining now next lines (Err fault) → IsLineRefusal remaining task first next (refusal_of fault)
-      fault_told (cert.Line Form line) (line_is, (bytes, consumed, told)) =
+      fault_told (cert.Line Form line) (line_is, (bytes, consumed, told, prompt)) =
           subst (IsToldAt remaining task first next CertForm) (sym line_is) (at.bytes ++ bytes, came bytes consumed, λ more. line_fault bytes more 40 (told more))
-      fault_told (cert.Line Version line) (line_is, (bytes, consumed, told)) =
+      fault_told (cert.Line Version line) (line_is, (bytes, consumed, told, prompt)) =
           subst (IsToldAt remaining task first next CertVersion) (sym line_is) (at.bytes ++ bytes, came bytes consumed, λ more. line_fault bytes more 41 (told more))
-      fault_told (cert.Line Limit line) (line_is, (bytes, consumed, told)) =
+      fault_told (cert.Line Limit line) (line_is, (bytes, consumed, told, prompt)) =
           subst (IsToldAt remaining task first next Exceeded) (sym line_is) (at.bytes ++ bytes, came bytes consumed, λ more. line_fault bytes more 55 (told more))
       fault_told (cert.Line Truncated line) (line_is, (bytes, consumed, at_end, told)) =
           subst (IsToldAt remaining task first next CutShort) (sym line_is) (

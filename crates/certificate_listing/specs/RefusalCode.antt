@@ -1,10 +1,11 @@
--- The numbers of the checker's refusals.
-use Rattle.std.specs.Prelude.{ℕ}
+-- The numbers and the names of the checker's refusals.
+use Rattle.std.specs.Prelude.{ℕ, List, codes}
 use Rattle.certificate_reader.specs.declared.next.TextFault.{TextFault}
 use Rattle.certificate_reader.specs.declared.next.TextFault.TheVariants as text
 use Rattle.certificate_listing.specs.declared.refusal.RefusalCode.{RefusalCode}
 use Rattle.certificate_listing.specs.declared.refusal.RefusalCode.TheVariants.{CertForm, CertVersion, Truncated, NotFluent, Repeated, NoInitial, GoalOpen, SuccessorMissing, SuccessorDearer, CutWeak, CutNotAllowed, PlanInvalid, PlanDearer, Limit}
 
+-- the number that the program prints
 abbrev pub number_of : RefusalCode → ℕ
 number_of CertForm = 40
 number_of CertVersion = 41
@@ -20,6 +21,23 @@ number_of CutNotAllowed = 52
 number_of PlanInvalid = 53
 number_of PlanDearer = 54
 number_of Limit = 55
+
+-- the name that the program prints beside the number
+abbrev pub name_of : RefusalCode → List ℕ
+name_of CertForm = codes "CertForm"
+name_of CertVersion = codes "CertVersion"
+name_of Truncated = codes "Truncated"
+name_of NotFluent = codes "NotFluent"
+name_of Repeated = codes "Repeated"
+name_of NoInitial = codes "NoInitial"
+name_of GoalOpen = codes "GoalOpen"
+name_of SuccessorMissing = codes "SuccessorMissing"
+name_of SuccessorDearer = codes "SuccessorDearer"
+name_of CutWeak = codes "CutWeak"
+name_of CutNotAllowed = codes "CutNotAllowed"
+name_of PlanInvalid = codes "PlanInvalid"
+name_of PlanDearer = codes "PlanDearer"
+name_of Limit = codes "Limit"
 
 -- the refusal of a text
 abbrev pub code_of : TextFault → RefusalCode

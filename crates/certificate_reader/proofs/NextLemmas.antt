@@ -79,16 +79,16 @@ module _ (place : Place) (bytes : List ℕ) (end : ℕ) (has : HasEnd bytes end)
 
 module _ (place : Place) (old waiting : List ℕ) (before after : Option (List ℕ)) (grown : IsGrown before after old waiting) where
   pub next_of_line : (new : List ℕ) (r : Result (CertLine × Stage) NextFault) → IsTaken place waiting new r → IsNext place old new before after r
-  next_of_line new (Ok (line, next)) (splits, leads) = (grown.bytes, grown.consumed, sym grown.appended ∙ splits, leads)
-  next_of_line new (Err (Text Form)) told = (grown.bytes, grown.consumed, subst (λ bytes. IsFaultAt place bytes Form) grown.appended told)
-  next_of_line new (Err (Text Version)) told = (grown.bytes, grown.consumed, subst (λ bytes. IsFaultAt place bytes Version) grown.appended told)
-  next_of_line new (Err (Text Limit)) told = (grown.bytes, grown.consumed, subst (λ bytes. IsFaultAt place bytes Limit) grown.appended told)
+  next_of_line new (Ok (line, next)) (splits, leads) = (grown.bytes, grown.consumed, sym grown.appended ∙ splits, leads, grown.prompt)
+  next_of_line new (Err (Text Form)) told = (grown.bytes, grown.consumed, subst (λ bytes. IsFaultAt place bytes Form) grown.appended told, grown.prompt)
+  next_of_line new (Err (Text Version)) told = (grown.bytes, grown.consumed, subst (λ bytes. IsFaultAt place bytes Version) grown.appended told, grown.prompt)
+  next_of_line new (Err (Text Limit)) told = (grown.bytes, grown.consumed, subst (λ bytes. IsFaultAt place bytes Limit) grown.appended told, grown.prompt)
   next_of_line new (Err (Text Truncated)) told = absurd told
   next_of_line new (Err Device) told = absurd told
   next_of_line new (Err NoMemory) told = tt
 
   pub too_long_told : longest_line < position_or_len is_end waiting → IsNext place old waiting before after (Err (Text Form))
-  too_long_told long = (grown.bytes, grown.consumed, subst (λ bytes. IsFaultAt place bytes Form) grown.appended told)
+  too_long_told long = (grown.bytes, grown.consumed, subst (λ bytes. IsFaultAt place bytes Form) grown.appended told, grown.prompt)
     where
       told : IsFaultAt place waiting Form
       told lines leads more =

@@ -14,8 +14,8 @@ use Rattle.certificate_reader.specs.declared.next.TextFault.TheVariants.{Form, V
 use Rattle.certificate_reader.specs.declared.stage.Stage.{Stage}
 use Rattle.certificate_reader.specs.declared.stage.Stage.TheVariants as stage
 use Rattle.certificate_reader.specs.Stages.{IsWithin, place_of}
-use Rattle.certificate_reader.specs.Ready.{is_ready}
-use Rattle.certificate_reader.specs.Reader.{IsAdvance, IsAnswer, IsToldOf, come_at, fault_at}
+use Rattle.certificate_reader.specs.Ready.{IsPrompt, come_at, is_ready}
+use Rattle.certificate_reader.specs.Reader.{IsAdvance, IsAnswer, IsToldOf, fault_at}
 
 -- one line more leads to a place within the limits
 pub leads_within : (place : Place) → IsWithin place → (line : TextLine) (next : Place) → next_place place line ≡ Some next → IsWithin next
@@ -97,6 +97,11 @@ come_unless_ended stage.Claim bytes goes_on = refl
 come_unless_ended stage.Constant bytes goes_on = refl
 come_unless_ended (stage.Body n m) bytes goes_on = refl
 come_unless_ended stage.Ended bytes goes_on = absurd (goes_on refl)
+
+pub prompt_unless_ended : (at : Stage) → at ≢ stage.Ended → (waited came : List ℕ) → IsPrompt is_ready waited came → IsPrompt (come_at (place_of at)) waited came
+prompt_unless_ended at goes_on waited came prompt = λ some.
+    let (earlier, piece, splits, short, nothing) = prompt some in
+    (earlier, piece, splits, short, come_unless_ended at (waited ++ earlier) goes_on ∙ nothing)
 
 -- ---- what is told of a line
 

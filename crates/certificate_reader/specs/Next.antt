@@ -16,7 +16,7 @@ use Rattle.certificate_reader.specs.declared.next.TextFault.{TextFault}
 use Rattle.certificate_reader.specs.declared.next.TextFault.TheVariants.{Form, Version, Truncated, Limit}
 use Rattle.certificate_reader.specs.Stages.{place_of}
 use Rattle.certificate_reader.specs.Ends.{is_end}
-use Rattle.certificate_reader.specs.Ready.{IsUnready}
+use Rattle.certificate_reader.specs.Ready.{IsPrompt, IsUnready, come_at, is_ready}
 
 -- the number of a fault
 abbrev pub number_of : TextFault → ℕ
@@ -55,23 +55,24 @@ IsTaken place old new (Err (Text Truncated)) = ⊥
 IsTaken place old new (Err Device) = ⊥
 IsTaken place old new (Err NoMemory) = Unit {0}
 
--- Of the bytes that waited and those that came the next line is handed out; or they are at fault, or end too early.
+-- Of the bytes that waited and those that came, no more than had to, the next line is handed out; or they are at fault, or
+-- end too early.
 abbrev pub IsNext : Place → (old new : List ℕ) → (before after : Option (List ℕ)) → Result (CertLine × Stage) NextFault → Type 0
 IsNext place old new before after (Ok (line, next)) =
     (bytes : List ℕ) × Consumes before after bytes × (old ++ bytes ≡ whole_line (text_line_of line) ++ new)
-    × (next_place place (text_line_of line) ≡ Some (place_of next))
+    × (next_place place (text_line_of line) ≡ Some (place_of next)) × IsPrompt is_ready old bytes
 IsNext place old new before after (Err (Text Truncated)) =
     (bytes : List ℕ) × Consumes before after bytes × IsAtEnd after
     × ((lines : List TextLine) → place_after lines ≡ Some place → place ≢ ended → IsFaultAfter lines (old ++ bytes) 42)
-IsNext place old new before after (Err (Text Form)) = (bytes : List ℕ) × Consumes before after bytes × IsFaultAt place (old ++ bytes) Form
-IsNext place old new before after (Err (Text Version)) = (bytes : List ℕ) × Consumes before after bytes × IsFaultAt place (old ++ bytes) Version
-IsNext place old new before after (Err (Text Limit)) = (bytes : List ℕ) × Consumes before after bytes × IsFaultAt place (old ++ bytes) Limit
+IsNext place old new before after (Err (Text Form)) = (bytes : List ℕ) × Consumes before after bytes × IsFaultAt place (old ++ bytes) Form × IsPrompt is_ready old bytes
+IsNext place old new before after (Err (Text Version)) = (bytes : List ℕ) × Consumes before after bytes × IsFaultAt place (old ++ bytes) Version × IsPrompt is_ready old bytes
+IsNext place old new before after (Err (Text Limit)) = (bytes : List ℕ) × Consumes before after bytes × IsFaultAt place (old ++ bytes) Limit × IsPrompt is_ready old bytes
 IsNext place old new before after (Err Device) = IsUnready before after old new
 IsNext place old new before after (Err NoMemory) = Unit {0}
 
 -- Nothing waits, and the end has come; or some byte waits.
 abbrev pub IsEnd : (old new : List ℕ) → (before after : Option (List ℕ)) → Result Bool WriteFault → Type 0
 IsEnd old new before after (Ok true) = (old ≡ []) × (new ≡ []) × Consumes before after [] × IsAtEnd after
-IsEnd old new before after (Ok false) = (bytes : List ℕ) × Consumes before after bytes × (new ≡ old ++ bytes) × (new ≢ [])
+IsEnd old new before after (Ok false) = (bytes : List ℕ) × Consumes before after bytes × (new ≡ old ++ bytes) × (new ≢ []) × IsPrompt (come_at ended) old bytes
 IsEnd old new before after (Err device.Device) = (old ≡ []) × (new ≡ []) × Keeps before after
 IsEnd old new before after (Err device.NoMemory) = Unit {0}

@@ -1,11 +1,11 @@
 -- What a reader of a certificate's text has handed out, and what it tells.
-use Rattle.std.specs.Prelude.{◌≡◌, ℕ, ◌+◌, Bool, true, false, List, [], ◌∷◌, ◌++◌, length, Option, Some, None, Result, Ok, Err}
+use Rattle.std.specs.Prelude.{◌≡◌, ℕ, ◌+◌, Bool, false, List, [], ◌∷◌, ◌++◌, length, Option, Some, None, Result, Ok, Err}
 use Rattle.std.specs.Io.KnownBytes.{Consumes, IsAtEnd}
 use Rattle.devices.specs.Devices.{one_more}
 use Rattle.certificate_lines.specs.declared.line.CertLine.{CertLine}
 use Rattle.certificate_lines.specs.Lines.{text_line_of}
 use Rattle.certificate_text.specs.CertificateText.{TextLine, AreWhole, IsFaultAfter, whole_line}
-use Rattle.certificate_text.specs.CertificateMachine.{Place, at_version, at_claim, at_constant, in_body, ended, place_after}
+use Rattle.certificate_text.specs.CertificateMachine.{place_after}
 use Rattle.certificate_reader.specs.declared.reader.CertReader.{CertReader}
 use Rattle.certificate_reader.specs.declared.reader.CertFault.{CertFault}
 use Rattle.certificate_reader.specs.declared.reader.CertFault.TheVariants as cert
@@ -13,7 +13,7 @@ use Rattle.certificate_reader.specs.declared.next.NextFault.{NextFault}
 use Rattle.certificate_reader.specs.declared.next.NextFault.TheVariants as next
 use Rattle.certificate_reader.specs.declared.next.TextFault.{TextFault}
 use Rattle.certificate_reader.specs.declared.next.TextFault.TheVariants.{Form, Version, Truncated, Limit}
-use Rattle.certificate_reader.specs.Ready.{is_ready}
+use Rattle.certificate_reader.specs.Ready.{IsPrompt, come_at}
 use Rattle.certificate_reader.specs.Stages.{place_of}
 use Rattle.certificate_reader.specs.Waiting.{waiting_of}
 
@@ -31,15 +31,7 @@ waits_in reader = waiting_of reader.waiting
 abbrev pub has_failed : {R : Type 0} → CertReader R → Bool
 has_failed reader = reader.failed
 
--- what is to be told next is in these bytes: a line, or too long a one, and behind the last line any byte
-abbrev pub come_at : Place → List ℕ → Bool
-come_at at_version bytes = is_ready bytes
-come_at at_claim bytes = is_ready bytes
-come_at at_constant bytes = is_ready bytes
-come_at (in_body atoms states) bytes = is_ready bytes
-come_at ended [] = false
-come_at ended (byte ∷ bytes) = true
-
+-- what is to be told next waits
 abbrev pub has_come : {R : Type 0} → CertReader R → Bool
 has_come reader = come_at (place_of reader.position.stage) (waits_in reader)
 
@@ -61,12 +53,17 @@ CountsCert before after (Err cert.Device) = after ≡ one_more before
 CountsCert before after (Err cert.NoMemory) = after ≡ before
 CountsCert before after (Err cert.Failed) = after ≡ before
 
+-- The source was read only while what is to be told next had not come.
+abbrev pub WasPrompt : {R : Type 0} → CertReader R → (came : List ℕ) → Type 0
+WasPrompt old came = IsPrompt (come_at (place_of old.position.stage)) (waits_in old) came
+
 -- The bytes that waited and that came are this line, with its LF, and those that wait now.
 pub record IsHandedOut {R : Type 0} (remaining : R → Option (List ℕ)) (old new : CertReader R) (before : List TextLine) (line : TextLine) : Type 0 where
   pub bytes : List ℕ
   pub consumed : Consumes (remaining (source_of old)) (remaining (source_of new)) bytes
   pub splits : waits_in old ++ bytes ≡ whole_line line ++ waits_in new
   pub read : HasRead new (before ++ line ∷ [])
+  pub prompt : WasPrompt old bytes
 
 -- The lines that were handed out are all of a certificate, and nothing stands behind them.
 pub record IsOver {R : Type 0} (remaining : R → Option (List ℕ)) (old new : CertReader R) (before : List TextLine) : Type 0 where
@@ -90,11 +87,11 @@ IsToldOf remaining old new before Truncated =
     (bytes : List ℕ) × Consumes (remaining (source_of old)) (remaining (source_of new)) bytes × IsAtEnd (remaining (source_of new))
     × IsFaultAfter before (waits_in old ++ bytes) 42
 IsToldOf remaining old new before Form =
-    (bytes : List ℕ) × Consumes (remaining (source_of old)) (remaining (source_of new)) bytes × ((more : List ℕ) → IsFaultAfter before (waits_in old ++ bytes ++ more) 40)
+    (bytes : List ℕ) × Consumes (remaining (source_of old)) (remaining (source_of new)) bytes × ((more : List ℕ) → IsFaultAfter before (waits_in old ++ bytes ++ more) 40) × WasPrompt old bytes
 IsToldOf remaining old new before Version =
-    (bytes : List ℕ) × Consumes (remaining (source_of old)) (remaining (source_of new)) bytes × ((more : List ℕ) → IsFaultAfter before (waits_in old ++ bytes ++ more) 41)
+    (bytes : List ℕ) × Consumes (remaining (source_of old)) (remaining (source_of new)) bytes × ((more : List ℕ) → IsFaultAfter before (waits_in old ++ bytes ++ more) 41) × WasPrompt old bytes
 IsToldOf remaining old new before Limit =
-    (bytes : List ℕ) × Consumes (remaining (source_of old)) (remaining (source_of new)) bytes × ((more : List ℕ) → IsFaultAfter before (waits_in old ++ bytes ++ more) 55)
+    (bytes : List ℕ) × Consumes (remaining (source_of old)) (remaining (source_of new)) bytes × ((more : List ℕ) → IsFaultAfter before (waits_in old ++ bytes ++ more) 55) × WasPrompt old bytes
 
 -- what is handed out or told, where these lines were handed out before
 abbrev pub IsAdvance : {R : Type 0} → (remaining : R → Option (List ℕ)) → (old new : CertReader R) → List TextLine → Result (Option CertLine) NextFault → Type 0

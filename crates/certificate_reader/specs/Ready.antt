@@ -1,8 +1,9 @@
 -- What waits in a reader: a line, too long a one, or neither.
-use Rattle.std.specs.Prelude.{◌≡◌, ℕ, ◌<◌, ◌≤◌, Bool, false, ◌||◌, nat_lt, List, ◌++◌, length, is_some, Option, None, Some}
+use Rattle.std.specs.Prelude.{◌≡◌, ◌≢◌, ℕ, ◌<◌, ◌≤◌, Bool, false, true, ◌||◌, nat_lt, List, [], ◌∷◌, ◌++◌, length, is_some, Option, None, Some}
 use Rattle.std.specs.List.{position, position_or_len}
 use Rattle.std.specs.Io.KnownBytes.{Consumes, IsAtEnd}
 use Rattle.certificate_text.specs.CertificateText.{longest_line}
+use Rattle.certificate_text.specs.CertificateMachine.{Place, at_version, at_claim, at_constant, in_body, ended}
 use Rattle.certificate_reader.specs.declared.ready.Ready.{Ready}
 use Rattle.certificate_reader.specs.declared.ready.Ready.TheVariants.{Line, TooLong, End}
 use Rattle.certificate_reader.specs.Ends.{is_end}
@@ -10,6 +11,15 @@ use Rattle.certificate_reader.specs.Ends.{is_end}
 -- a line waits, or more bytes than one may have
 abbrev pub is_ready : List ℕ → Bool
 is_ready bytes = is_some (position is_end bytes) || nat_lt longest_line (length bytes)
+
+-- what is to be told next is in these bytes: a line, or too long a one, and behind the last line any byte
+abbrev pub come_at : Place → List ℕ → Bool
+come_at at_version bytes = is_ready bytes
+come_at at_claim bytes = is_ready bytes
+come_at at_constant bytes = is_ready bytes
+come_at (in_body atoms states) bytes = is_ready bytes
+come_at ended [] = false
+come_at ended (byte ∷ bytes) = true
 
 -- What is told of bytes, behind which this remains of the source.
 abbrev pub IsReady : List ℕ → Option (List ℕ) → Ready → Type 0
@@ -24,11 +34,17 @@ IsLineIn bytes (Some TooLong) = longest_line < position_or_len is_end bytes
 IsLineIn bytes (Some End) = ⊥
 IsLineIn bytes None = (position is_end bytes ≡ None) × (length bytes ≤ longest_line)
 
--- bytes came from a source and wait behind those that waited
+-- A source was read only while what was waited for had not come: it was not yet among what waited and what came before the
+-- last piece, which has as many bytes as one read gives at most.
+abbrev pub IsPrompt : (has_come : List ℕ → Bool) → (waited came : List ℕ) → Type 0
+IsPrompt has_come waited came = came ≢ [] → (earlier piece : List ℕ) × (came ≡ earlier ++ piece) × (length piece ≤ 65536) × (has_come (waited ++ earlier) ≡ false)
+
+-- bytes came from a source, no more than had to, and wait behind those that waited
 pub record IsGrown (before after : Option (List ℕ)) (old new : List ℕ) : Type 0 where
   pub bytes : List ℕ
   pub appended : new ≡ old ++ bytes
   pub consumed : Consumes before after bytes
+  pub prompt : IsPrompt is_ready old bytes
 
 -- The device failed while no line had come.
 pub record IsUnready (before after : Option (List ℕ)) (old new : List ℕ) : Type 0 where

@@ -10,12 +10,11 @@ use Rattle.certificate_reader.specs.Reader.{source_of}
 use Rattle.certificate_listing.specs.declared.refusal.RefusalCode.{RefusalCode}
 use Rattle.certificate_listing.specs.declared.refusal.Refusal.{Refusal}
 use Rattle.certificate_listing.specs.declared.refusal.Refusal.TheVariants as refusal
-use Rattle.certificate_listing.specs.RefusalCode.{number_of}
+use Rattle.certificate_listing.specs.RefusalCode.{name_of, number_of}
 use Rattle.cert_checker.specs.declared.checker.Accepted.{Accepted}
 use Rattle.cert_checker.specs.declared.checker.Accepted.TheVariants.{Optimal, AtLeast, Unsolvable}
 use Rattle.cert_checker.specs.CertChecker.{Answers, IsFirstRefusal, IsNoFault, IsShown, IsTrueRefusal}
 use Rattle.cert_checker.specs.Checking.{Accepts, Refuses}
-use Rattle.planner_main.specs.RefusalNames.{name_of}
 use Rattle.planner_main.specs.Json.{line_of_members, of_accepted, of_refused}
 use Rattle.model.specs.Task.{Task, Instance}
 use Rattle.model.specs.Limits.{max_numbered_atoms}

@@ -10,10 +10,9 @@ use Rattle.solver.specs.declared.answer.Limit.TheVariants as limit
 use Rattle.certificate_listing.specs.declared.refusal.RefusalCode.{RefusalCode}
 use Rattle.certificate_listing.specs.declared.refusal.Refusal.{Refusal}
 use Rattle.certificate_listing.specs.declared.refusal.Refusal.TheVariants as refusal
-use Rattle.certificate_listing.specs.RefusalCode.{number_of}
+use Rattle.certificate_listing.specs.RefusalCode.{name_of, number_of}
 use Rattle.cert_checker.specs.declared.checker.Accepted.{Accepted}
 use Rattle.cert_checker.specs.declared.checker.Accepted.TheVariants as accepted
-use Rattle.planner_main.specs.RefusalNames.{name_of}
 use Rattle.model.specs.Runs.{Verdict, valid, not_applicable, goal_missed}
 use Rattle.model.specs.Task.{Task, Instance}
 use Rattle.model.specs.PlanWriting.{step_text}

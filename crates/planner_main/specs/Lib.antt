@@ -5,7 +5,6 @@ pub mod Files
 pub mod Asked
 pub mod Json
 pub mod Reported
-pub mod RefusalNames
 pub mod Program
 pub mod Table
 pub mod Written

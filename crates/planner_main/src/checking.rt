@@ -16,7 +16,7 @@ use certificate_reader::CertReader;
 use devices::Source;
 use plan_file::read_plan;
 use std::alloc::Global;
-pub(crate) use text::{checked_text, name_of};
+pub(crate) use text::checked_text;
 use typing::Task;
 
 /// A task with what is told of a certificate for it.

@@ -9,7 +9,7 @@ ghost use Rattle.planner_main.specs.Json.{limit_name, of_accepted, of_answer, of
 ghost use Rattle.planner_main.specs.Reported.{IsTold, IsToldRefusal, of_report};
 ghost use Rattle.model.specs.PlanWriting.{has_names, step_text};
 
-use crate::checking::{Checked, name_of};
+use crate::checking::Checked;
 use crate::solve::Solved;
 use answer_json::{Member, object_text};
 use cert_checker::{Accepted, Refusal, RefusalCode};
@@ -203,7 +203,7 @@ pub(crate) fn refused_object(alloc: Global, code: RefusalCode) -> Result<String,
     let members = [
         Member::number("code", u64::from(code.number())),
         Member::text("command", "check"),
-        Member::text("name", name_of(code)),
+        Member::text("name", code.name()),
         Member::text("result", "not accepted"),
     ];
     object_text(alloc, &members)

@@ -3,7 +3,6 @@ ghost use Rattle.std.specs.Prelude.{◌≡◌, ℕ, IfErr, IfOk, None};
 ghost use Rattle.std.specs.String.{string_bytes};
 ghost use Rattle.certificate_listing.specs.Reading.{CountsRefusal};
 ghost use Rattle.planner_main.specs.Checked.{IsLineOf, accepted_line, line_refused, plain_refused, told_accepted, told_line, told_plain};
-ghost use Rattle.planner_main.specs.RefusalNames.{name_of};
 ghost use Rattle.planner_main.specs.Program.{CountsFailure, fault_in};
 
 use crate::json::{accepted_object, line_of, refused_object};
@@ -99,7 +98,7 @@ fn line_refused(alloc: Global, code: RefusalCode, line: u64) -> Result<String, A
     if number == LIMIT {
         return plain_refused(alloc, code);
     }
-    let name = name_of(code);
+    let name = code.name();
     format!(in alloc; "not accepted {number} {name} line {line}\n")
 }
 
@@ -108,28 +107,6 @@ fn plain_refused(alloc: Global, code: RefusalCode) -> Result<String, AllocError>
     ensures { IfOk result (λ told. string_bytes told ≡ plain_refused code) }
 {
     let number = code.number();
-    let name = name_of(code);
+    let name = code.name();
     format!(in alloc; "not accepted {number} {name}\n")
-}
-
-/// The name of a refusal.
-pub(crate) fn name_of(code: RefusalCode) -> &'static str
-    ensures { result.now ≡ name_of code }
-{
-    match code {
-        RefusalCode::CertForm => "CertForm",
-        RefusalCode::CertVersion => "CertVersion",
-        RefusalCode::Truncated => "Truncated",
-        RefusalCode::NotFluent => "NotFluent",
-        RefusalCode::Repeated => "Repeated",
-        RefusalCode::NoInitial => "NoInitial",
-        RefusalCode::GoalOpen => "GoalOpen",
-        RefusalCode::SuccessorMissing => "SuccessorMissing",
-        RefusalCode::SuccessorDearer => "SuccessorDearer",
-        RefusalCode::CutWeak => "CutWeak",
-        RefusalCode::CutNotAllowed => "CutNotAllowed",
-        RefusalCode::PlanInvalid => "PlanInvalid",
-        RefusalCode::PlanDearer => "PlanDearer",
-        RefusalCode::Limit => "Limit",
-    }
 }

@@ -1,10 +1,11 @@
-use Rattle.std.proofs.Common.{◌∷◌, [], Some, refl, sym, ap, ◌∙◌, length-append, arith}
+use Rattle.std.proofs.Common.{◌∷◌, [], Some, refl, sym, ap, ◌∙◌, subst, length-append, arith}
 use Rattle.certificate_lines.specs.Lines.{text_line_of}
 use Rattle.certificate_text.proofs.Machine.{ends, stands}
 use Rattle.certificate_reader.specs.Stages.{place_of}
 use Rattle.certificate_reader.specs.Reader.{waits_in}
+use Rattle.certificate_reader.specs.Ready.{IsPrompt, come_at}
 use Rattle.certificate_reader.proofs.FaultsRead.{one_line_behind}
-use Rattle.certificate_reader.proofs.ReaderLemmas.{come_unless_ended, few_lines, leads_within, trailing_told}
+use Rattle.certificate_reader.proofs.ReaderLemmas.{come_unless_ended, few_lines, leads_within, prompt_unless_ended, trailing_told}
 use Rattle.certificate_reader.proofs.reader.CertReader.advance.Goals as goal
 
 pub returns-then-branch-clause-told : goal.returns-then-branch-clause-told
@@ -21,8 +22,12 @@ returns-then-branch-clause-told g c = λ before read.
 
 pub returns-in-Ended-clause-told : goal.returns-in-Ended-clause-told
 returns-in-Ended-clause-told g c = λ before read.
-    let more = rw c.if-branch.false at c.in_ok-is_at_end.ensures.end in
-    (more.0, more.1, trailing_told before (ends before (read.place ∙ ap (λ stage. Some (place_of stage)) c.in-Ended.is)) _ more.0 _ more.2 more.3)
+    let more = rw c.if-branch.false at c.in_ok-is_at_end.ensures.end in (
+      more.0,
+      more.1,
+      trailing_told before (ends before (read.place ∙ ap (λ stage. Some (place_of stage)) c.in-Ended.is)) _ more.0 _ more.2 more.3,
+      subst (λ at. IsPrompt (come_at (place_of at)) (waits_in c.args.self.now) more.0) (sym c.in-Ended.is) more.4,
+    )
 
 pub invariant_of-self : goal.invariant_of-self
 invariant_of-self g c =
@@ -46,6 +51,7 @@ returns g c = record {
             length-append before (text_line_of c.in_ok-line.line ∷ []),
           );
         };
+        prompt = prompt_unless_ended c.args.self.now.position.stage c.in_default.not-Ended (waits_in c.args.self.now) next.0 next.4;
       };
   failed = refl;
   lazy = λ come. c.in_ok-line.ensures.lazy (sym (come_unless_ended c.args.self.now.position.stage (waits_in c.args.self.now) c.in_default.not-Ended) ∙ come);
