@@ -6,3 +6,4 @@ pub mod ProgramTold
 pub mod PlanFiles
 pub mod CheckedLemmas
 pub mod CertificateTold
+pub mod OrderWanted

@@ -1,6 +1,6 @@
 -- What the program tells, and which files are written, of an answer, of a command and of the words that ask for it.
 use Rattle.std.proofs.Common.{◌≡◌, ℕ, List, [], ◌∷◌, ◌++◌, ◌∙◌, sym, refl, ap, subst}
-use Rattle.std.specs.Prelude.{Option, Some, Bool, false, IsTrue, if◌then◌else◌}
+use Rattle.std.specs.Prelude.{Option, None, Some, Bool, true, false, IsTrue, if◌then◌else◌, unwrap_or}
 use Rattle.std.specs.Str.{bytes_eq}
 use Rattle.std.specs.Io.KnownBytes.{Appends}
 use Rattle.devices.specs.Devices.{AppendsBeginning}
@@ -9,7 +9,8 @@ use Rattle.solver.specs.Solver.{IsTrueAnswer}
 use Rattle.command_line.specs.Orders.{Asks, Asked, Wanted}
 use Rattle.planner_main.specs.Written.{NamedText, HoldsBeginning, with_file, with_files, AreWritten, AreWrittenPartly}
 use Rattle.planner_main.specs.Report.{is_failure}
-use Rattle.planner_main.specs.Solution.{TellsAnswer, cert_file, plan_file, status_of, told_of}
+use Rattle.planner_main.specs.Json.{line_of_members, of_answer}
+use Rattle.planner_main.specs.Solution.{TellsAnswer, cert_file, plan_file, status_of, text_of, told_of}
 use Rattle.planner_main.specs.Program.{AreKept, IsTold, IsToldPartly, nothing, in_a_file, on_the_output, IsAnswer, IsAnswerTo, IsAnswerText, OnTwo, Tells, TellsPartly, TellsFor, TellsPartlyFor}
 use Rattle.planner_main.proofs.ProgramWords.{answered_status}
 use Rattle.model.specs.Task.{Task}
@@ -70,6 +71,12 @@ pub answer_told : (contents : List ℕ → Option (List ℕ)) (domain problem : 
     → IsAnswerText contents domain problem asked text status written
 answer_told contents domain problem asked task a (d, p, d_is, p_is, (is_task, is_true)) text status written tells =
     (d, p, d_is, p_is, (task, a, is_task, is_true, tells))
+
+-- What is told on the standard output: the line of JSON where that is wanted, and else the text.
+pub told_is : (task : Task) (a : Answer) (json : Bool) (line : Option (List ℕ)) (text told : List ℕ)
+    → line ≡ (if json then Some (line_of_members (of_answer task a)) else None) → text ≡ text_of task a → told ≡ unwrap_or line text → told ≡ told_of task a json
+told_is task a true line text told line_is text_is is = is ∙ ap (λ (o : Option (List ℕ)). unwrap_or o text) line_is
+told_is task a false line text told line_is text_is is = is ∙ ap (λ (o : Option (List ℕ)). unwrap_or o text) line_is ∙ text_is
 
 -- An answer is told, whole or in part, by its files and then the standard output.
 module _ (task : Task) (a : Answer) (json : Bool) (cert plan : Option (List ℕ)) (known : Bool) (before : List ℕ → Option (List ℕ)) where

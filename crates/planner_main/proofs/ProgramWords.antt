@@ -8,14 +8,16 @@ use Rattle.planner_main.specs.declared.report.Failure.{Failure}
 use Rattle.planner_main.specs.declared.report.Failure.TheVariants as failure
 use Rattle.planner_main.specs.declared.task_file.FileFault.TheVariants as refusal
 use Rattle.devices.specs.declared.device.WriteFault.TheVariants as device
-use Rattle.command_line.specs.Orders.{Asks, Wanted, to_solve, to_validate, to_check}
+use Rattle.command_line.specs.Orders.{Asks, IsCommand, Wanted, to_solve, to_validate, to_check}
+use Rattle.command_line.specs.View.{IsOfWords}
+use Rattle.command_line.specs.declared.fault.WordsFault.{WordsFault}
 use Rattle.command_line.proofs.OrderLemmas.{one_wanted}
 use Rattle.planner_main.specs.Written.{NamedText}
 use Rattle.planner_main.specs.Checked.{IsInputFault, IsLineOf}
 use Rattle.certificate_listing.specs.declared.refusal.Refusal.{Refusal}
 use Rattle.certificate_listing.specs.declared.refusal.Refusal.TheVariants as refused
 use Rattle.cert_checker.specs.declared.checker.Accepted.{Accepted}
-use Rattle.planner_main.specs.Program.{IsText, IsTextIfNamed, OnTwo, OnThree, OnInputs, IsAnswerTo, Refuses, fault_in, IsFaultFor, IsOneOf, IsToldOn, AreKept, NamesInput, HasFailed, HasNotFailed, CountsFailure, CountsEither, device_failure, inputs_of}
+use Rattle.planner_main.specs.Program.{IsText, IsTextIfNamed, OnTwo, OnThree, OnInputs, IsAnswerTo, Refuses, fault_in, IsFaultFor, IsOneOf, IsToldOn, IsToldOfWords, SaysOfWords, AreKept, NamesInput, HasFailed, HasNotFailed, CountsFailure, CountsEither, device_failure, inputs_of}
 use Rattle.planner_main.specs.declared.task_file.File.{File}
 use Rattle.planner_main.specs.declared.task_file.FileFault as file
 use Rattle.faults.specs.declared.code.Code.{Code}
@@ -126,6 +128,38 @@ module _ (Says : List ℕ → Type 0) (status : ℕ) where
       → ((status ≡ 20) × Says (line_of_fault (fault_at named code span))) ⊎ ((status ≡ 22) × Says no_memory_line)
       → IsToldOn f Says status
   fault_told f t named code span first second told = subst (λ f. IsToldOn f Says status) (sym (first ∙ ap failure.Text second)) told
+
+-- What is told of words that are no order has the status of such words, with what is said of them, or that of memory, with its line.
+module _ (fault : WordsFault) (Says : List ℕ → Type 0) (status : ℕ) where
+  pub words_failed : IsToldOfWords fault Says status → is_failure status ≡ true
+  words_failed (inl (is, told)) = ap is_failure is
+  words_failed (inr (is, told)) = ap is_failure is
+
+  pub words_status : IsToldOfWords fault Says status → (status ≡ 2) ⊎ (status ≡ 22)
+  words_status (inl (is, told)) = inl is
+  words_status (inr (is, told)) = inr is
+
+  pub words_told : IsToldOfWords fault Says status → status ≡ 2 → IsOfWords fault × SaysOfWords Says
+  words_told (inl (is, told)) same = told
+  words_told (inr (is, told)) same = absurd (omega arith)
+
+  pub words_memory : IsToldOfWords fault Says status → status ≡ 22 → Says no_memory_line
+  words_memory (inl (is, told)) same = absurd (omega arith)
+  words_memory (inr (is, told)) same = told
+
+  pub words_refuse_no_text : IsToldOfWords fault Says status → status ≡ 20 → ⊥
+  words_refuse_no_text (inl (is, told)) same = absurd (omega arith)
+  words_refuse_no_text (inr (is, told)) same = absurd (omega arith)
+
+  pub words_fail_no_device : IsToldOfWords fault Says status → status ≡ 21 → ⊥
+  words_fail_no_device (inl (is, told)) same = absurd (omega arith)
+  words_fail_no_device (inr (is, told)) same = absurd (omega arith)
+
+  -- Of words that are a command it is that memory was refused.
+  pub unread_words : (words : List (List ℕ)) → IsToldOfWords fault Says status → (IsOfWords fault → IsCommand words → ⊥) → IsCommand words
+      → (status ≡ 21) ⊎ (status ≡ 22)
+  unread_words words (inl (is, (of_words, says))) refused command = absurd (refused of_words command)
+  unread_words words (inr (is, told)) refused command = inr is
 
 -- What counts as a failure of a device, in a call of the files after another that counted none.
 pub device_counted : (T : Type 0) (before opened after : ℕ) (fault : WriteFault) → opened ≡ before → CountsDevice {T = T} opened after (Err fault)

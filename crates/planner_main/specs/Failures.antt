@@ -24,3 +24,7 @@ device_line = codes "fault 61 Device\n"
 
 abbrev pub no_memory_line : List ℕ
 no_memory_line = codes "fault 60 NoMemory\n"
+
+-- the last line where the words are no command, or ask for help
+abbrev pub nothing_done_line : List ℕ
+nothing_done_line = codes "optplan: nothing was done\n"

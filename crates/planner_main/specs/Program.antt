@@ -9,9 +9,11 @@ use Rattle.planner_main.specs.declared.task_file.FileFault.TheVariants as refusa
 use Rattle.devices.specs.declared.device.WriteFault as device_fault
 use Rattle.devices.specs.declared.device.WriteFault.TheVariants as device
 use Rattle.devices.specs.Devices.{AppendsBeginning, one_more}
-use Rattle.planner_main.specs.Failures.{line_of_fault, device_line, no_memory_line}
+use Rattle.planner_main.specs.Failures.{line_of_fault, device_line, no_memory_line, nothing_done_line}
 use Rattle.planner_main.specs.Files.{fault_at, told_in}
 use Rattle.command_line.specs.Orders.{Asks, Asked, AskedOfCheck, Wanted, to_solve, to_validate, to_check}
+use Rattle.command_line.specs.View.{IsOfWords}
+use Rattle.command_line.specs.declared.fault.WordsFault.{WordsFault}
 use Rattle.planner_main.specs.Checked.{IsHandedIn, IsInputFault, IsLineOf, IsTrueCheck}
 use Rattle.planner_main.specs.Report.{told_verdict, status_of}
 use Rattle.planner_main.specs.Written.{NamedText, AreWritten, AreWrittenPartly}
@@ -206,6 +208,15 @@ IsToldOn (failure.Text (refusal.At file code span)) Says status =
 IsToldOn (failure.Text refusal.NoMemory) Says status = (status ≡ 22) × Says no_memory_line
 IsToldOn (failure.Device device.Device) Says status = (status ≡ 21) × Says device_line
 IsToldOn (failure.Device device.NoMemory) Says status = (status ≡ 22) × Says no_memory_line
+
+-- It is said what is wrong with the words, or the help that they ask for, and behind it that nothing was done.
+abbrev pub SaysOfWords : (Says : List ℕ → Type 0) → Type 0
+SaysOfWords Says = (text : List ℕ) × Says (text ++ nothing_done_line)
+
+-- Words that are no order are told with the status 2 where they are no command, and with 22 where memory was refused.
+abbrev pub IsToldOfWords : WordsFault → (Says : List ℕ → Type 0) → ℕ → Type 0
+IsToldOfWords fault Says status =
+    ((status ≡ 2) × IsOfWords fault × SaysOfWords Says) ⊎ ((status ≡ 22) × Says no_memory_line)
 
 -- there is no answer, and no fault of a text is told
 abbrev pub IsUnread : {T : Type 0} → Result T Failure → Type 0

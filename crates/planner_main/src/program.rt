@@ -4,7 +4,7 @@ ghost use Rattle.command_line.specs.Orders.{IsCommand};
 ghost use Rattle.command_line.specs.View.{texts, wanted_of};
 ghost use Rattle.planner_main.specs.Failures.{device_line, no_memory_line};
 ghost use Rattle.planner_main.specs.Report.{is_failure};
-ghost use Rattle.planner_main.specs.Program.{AreKept, Tells, TellsFor, TellsPartly, TellsPartlyFor, Refuses, HasFailed, HasNotFailed, CountsEither, NamesInput, IsFaultFor, IsOneOf, IsUnread, fault_in, inputs_of};
+ghost use Rattle.planner_main.specs.Program.{AreKept, Tells, TellsFor, TellsPartly, TellsPartlyFor, Refuses, HasFailed, HasNotFailed, CountsEither, NamesInput, IsFaultFor, IsOneOf, IsUnread, SaysOfWords, fault_in, inputs_of};
 ghost use Rattle.devices.specs.Devices.{IsWritten};
 
 mod checking;
@@ -42,7 +42,7 @@ use verdict::tell_verdict;
 /// | it does not | `not applicable step N` or `goal missed` | | 12 |
 /// | the certificate is accepted | `optimal cost N`, `at least N` or `unsolvable` | | 0 |
 /// | it is not | `not accepted CODE Name line L` or `not accepted CODE Name` | | 12 |
-/// | other words, or such as ask for help | | what is wrong, or the help | 2 |
+/// | other words, or such as ask for help | | what is wrong, or the help, and `optplan: nothing was done` | 2 |
 /// | a file's text is refused | | `fault CODE Name in FILE at S..E` | 20 |
 /// | a file, or the standard output, fails | | `fault 61 Device` | 21 |
 /// | memory is refused | | `fault 60 NoMemory` | 22 |
@@ -76,7 +76,7 @@ pub fn run<F: Files, O: Sink, E: Sink>(
     ensures words { result ≡ 2 → IsCommand (texts words.now) → ⊥ }
     ensures no_command { (IsCommand (texts words.now) → ⊥) → (result ≡ 2) ⊎ (result ≡ 22) }
     ensures usage { result ≡ 2 → (O.taken out.new ≡ O.taken out.old) × AreKept (F.contents files.old) (F.contents files.new)
-        × ((text : List ℕ) × IsWritten E.wants_memory (E.failures err.old) (E.failures err.new) (E.taken err.old) (E.taken err.new) text) }
+        × SaysOfWords (IsWritten E.wants_memory (E.failures err.old) (E.failures err.new) (E.taken err.old) (E.taken err.new)) }
     ensures refused { result ≡ 20 → Refuses (texts words.now) (F.contents files.old) (F.contents files.new)
         (O.taken out.old) (O.taken out.new) (IsWritten E.wants_memory (E.failures err.old) (E.failures err.new) (E.taken err.old) (E.taken err.new)) }
 

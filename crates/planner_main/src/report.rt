@@ -1,12 +1,12 @@
 //! What the program says: the lines of its two streams, and the statuses beside them.
-ghost use Rattle.std.specs.Prelude.{◌≡◌, ◌⊎◌, ℕ, IfOk, IsTrue, List};
+ghost use Rattle.std.specs.Prelude.{◌≡◌, ◌⊎◌, ◌++◌, ℕ, IfOk, IsTrue, List};
 ghost use Rattle.std.specs.String.{string_bytes};
 ghost use Rattle.validator.specs.Verdict.{verdict_of};
 ghost use Rattle.command_line.specs.View.{IsOfWords};
 ghost use Rattle.planner_main.specs.Report.{is_failure, line_of, status_of, told_verdict};
-ghost use Rattle.planner_main.specs.Failures.{line_of_fault, no_memory_line};
+ghost use Rattle.planner_main.specs.Failures.{line_of_fault, no_memory_line, nothing_done_line};
 ghost use Rattle.planner_main.specs.Files.{fault_at};
-ghost use Rattle.planner_main.specs.Program.{IsToldOn};
+ghost use Rattle.planner_main.specs.Program.{IsToldOfWords, IsToldOn};
 ghost use Rattle.devices.specs.Devices.{IsWritten};
 
 use crate::json::{line_of, verdict_object};
@@ -34,6 +34,9 @@ pub(crate) const DEVICE: u8 = 21;
 
 /// Memory was refused.
 pub(crate) const NO_MEMORY: u8 = 22;
+
+/// The last line where the words are no command.
+const NOTHING_DONE: &str = "optplan: nothing was done\n";
 
 /// Why the program has no answer.
 #[derive(Clone, Copy)]
@@ -169,21 +172,30 @@ fn say<E: Sink>(err: &mut E, bytes: &[u8])
     let _ = write_all(err, bytes);
 }
 
-/// Tells what is wrong with the words, or what they ask for: that the program has no command.
+/// Tells what is wrong with the words, or the help that they ask for, and that nothing was done: the status.
 pub(crate) fn tell_words<E: Sink>(alloc: Global, fault: WordsFault, err: &mut E) -> u8
-    ensures words { result ≡ WRONG_WORDS → IsOfWords fault
-        × ((text : List ℕ) × IsWritten E.wants_memory (E.failures err.old) (E.failures err.new) (E.taken err.old) (E.taken err.new) text) }
-    ensures memory { (result ≡ WRONG_WORDS → ⊥) → (result ≡ NO_MEMORY)
-        × IsWritten E.wants_memory (E.failures err.old) (E.failures err.new) (E.taken err.old) (E.taken err.new) no_memory_line }
+    ensures { IsToldOfWords fault (IsWritten E.wants_memory (E.failures err.old) (E.failures err.new) (E.taken err.old) (E.taken err.new)) result }
+{
+    match words_text(alloc, &fault) {
+        Ok(text) => {
+            say(err, text.as_bytes());
+            WRONG_WORDS
+        }
+        Err(AllocError) => tell_no_memory(err),
+    }
+}
+
+/// What a fault of the words says, and the last line.
+fn words_text(alloc: Global, fault: &WordsFault) -> Result<String, AllocError>
+    ensures words { IfOk result (λ _. IsOfWords fault.now) }
+    ensures text { IfOk result (λ told. (text : List ℕ) × (string_bytes told ≡ text ++ nothing_done_line)) }
 {
     match fault {
-        WordsFault::Words(error) => match format!(in alloc; "{error}") {
-            Ok(text) => {
-                say(err, text.as_bytes());
-                WRONG_WORDS
-            }
-            Err(AllocError) => tell_no_memory(err),
-        },
-        WordsFault::NoMemory => tell_no_memory(err),
+        WordsFault::Words(_) => {
+            let mut text = format!(in alloc; "{fault}")?;
+            text.push_str(NOTHING_DONE)?;
+            Ok(text)
+        }
+        WordsFault::NoMemory => Err(AllocError),
     }
 }

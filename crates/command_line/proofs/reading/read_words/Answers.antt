@@ -8,7 +8,7 @@ use Rattle.command_line.proofs.reading.read_words.Goals as goal
 pub returns-in_err-matches-clause-refused : goal.returns-in_err-matches-clause-refused
 returns-in_err-matches-clause-refused c =
     let p = err_from_is_err_and c.from_residual-in_err-matches.result c.from_residual-in_err-matches.ensures.1 in
-    rw (p.1) (λ of_words. refused _ c.in_ok-program.ensures (texts c.args.words.now) _ c.in_err-matches.ensures.kinds (p.2 of_words))
+    rw (p.1) (λ of_words. refused _ c.in_ok-program.ensures (texts c.args.words.now) c.in_err-matches.field-0.0 c.in_err-matches.ensures.kinds (p.2 of_words))
 
 pub returns-in-Some-clause-asks : goal.returns-in-Some-clause-asks
 returns-in-Some-clause-asks c =
