@@ -1,7 +1,7 @@
 -- What the words are, and what they ask for.
 use Rattle.std.proofs.Common.{◌≡◌, ◌∙◌, ℕ, ◌<◌, ◌≤◌, ◌^◌, List, [], ◌∷◌, Bool, true, false, refl, sym, ap, ap₂, subst, inl, inr, codes, arith}
-use Rattle.std.specs.Prelude.{Option, Some, None, IfSome, Result, Ok, Err, is_some, if◌then◌else◌, option_map, option_and_then}
-use Rattle.std.specs.Str.Parse.{IsNumeral, ParsesUnsigned, digits_value, without_leading_plus}
+use Rattle.std.specs.Prelude.{Option, Some, None, IfSome, is_some, if◌then◌else◌, option_map, option_and_then}
+use Rattle.std.specs.Str.Parse.{IsNumeral, digits_value, without_leading_plus}
 use Rattle.std.proofs.lemmas.Bool.{le-leb, leb-true}
 use Rattle.clap.specs.Walk.{Text}
 use Rattle.clap.specs.Simple.{App, is_simple, subcommand_of, subcommand_rows_of}
@@ -52,11 +52,11 @@ limit_made None false number value some is same = refl
 limit_made (Some l) true number value some is same = ap Some (is ∙ same)
 limit_made (Some l) false number value some is same = absurd (cc)
 
-pub limit_read : {E : Type 0} (text : Text) (number : ℕ) (o : Option Limit) → ParsesUnsigned {E = E} 32 10 text (Ok number) → is_some o ≡ is_limit number
-    → IfSome o (λ l. l.number ≡ number) → option_map (λ l. l.number) o ≡ limit_of text
-limit_read text number o parses some is =
+pub limit_read : (text : Text) (number : ℕ) (o : Option Limit) → IsNumeral 10 (without_leading_plus text) → number ≡ digits_value 10 (without_leading_plus text)
+    → is_some o ≡ is_limit number → IfSome o (λ l. l.number ≡ number) → option_map (λ l. l.number) o ≡ limit_of text
+limit_read text number o numeral value some is =
     limit_made o (is_unsigned_in 1 16777216 text) number (digits_value 10 (without_leading_plus text))
-    (some ∙ ap is_limit parses.1 ∙ sym (limit_text text parses.0.0)) is parses.1
+    (some ∙ ap is_limit value ∙ sym (limit_text text numeral)) is value
 
 module _ (text : Text) (fails : IsNumeral 10 (without_leading_plus text) × (digits_value 10 (without_leading_plus text) < 2 ^ 32) → ⊥) where
   no_limit : (b : Bool) → is_unsigned_in 1 16777216 text ≡ b → ◌≡◌ {A = Option ℕ} None (if b then Some (digits_value 10 (without_leading_plus text)) else None)

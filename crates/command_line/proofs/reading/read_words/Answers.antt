@@ -15,7 +15,7 @@ returns-in-Some-clause-asks c =
     asked _ c.in_ok-program.ensures (texts c.args.words.now) c.in_ok-matches.matches (wanted_of c.in-Some.order)
     (λ simple. (c.in_ok-matches.ensures.matches simple).1) c.in_ok-matches.ensures.kinds (sym (ap (option_map wanted_of) c.in-Some.is) ∙ c.order_in.ensures)
 
-pub returns-in-None-clause-refused : goal.returns-in-None-clause-refused
-returns-in-None-clause-refused c = λ of_words.
+pub returns-clause-refused : goal.returns-clause-refused
+returns-clause-refused c = λ of_words.
     not_asked _ c.in_ok-program.ensures (texts c.args.words.now) c.in_ok-matches.matches
     (λ simple. (c.in_ok-matches.ensures.matches simple).1) (sym (ap (option_map wanted_of) c.in-None.is) ∙ c.order_in.ensures)
