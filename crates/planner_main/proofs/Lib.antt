@@ -7,3 +7,4 @@ pub mod PlanFiles
 pub mod CheckedLemmas
 pub mod CertificateTold
 pub mod OrderWanted
+pub mod JsonTold
