@@ -132,33 +132,33 @@ module _ (Says : List ℕ → Type 0) (status : ℕ) where
 -- What is told of words that are no order has the status of such words, with what is said of them, or that of memory, with its line.
 module _ (fault : WordsFault) (Says : List ℕ → Type 0) (status : ℕ) where
   pub words_failed : IsToldOfWords fault Says status → is_failure status ≡ true
-  words_failed (inl (is, told)) = ap is_failure is
+  words_failed (inl (is, of_words, says)) = ap is_failure is
   words_failed (inr (is, told)) = ap is_failure is
 
   pub words_status : IsToldOfWords fault Says status → (status ≡ 2) ⊎ (status ≡ 22)
-  words_status (inl (is, told)) = inl is
+  words_status (inl (is, of_words, says)) = inl is
   words_status (inr (is, told)) = inr is
 
   pub words_told : IsToldOfWords fault Says status → status ≡ 2 → IsOfWords fault × SaysOfWords Says
-  words_told (inl (is, told)) same = told
+  words_told (inl (is, of_words, says)) same = (of_words, says)
   words_told (inr (is, told)) same = absurd (omega arith)
 
   pub words_memory : IsToldOfWords fault Says status → status ≡ 22 → Says no_memory_line
-  words_memory (inl (is, told)) same = absurd (omega arith)
+  words_memory (inl (is, of_words, says)) same = absurd (omega arith)
   words_memory (inr (is, told)) same = told
 
   pub words_refuse_no_text : IsToldOfWords fault Says status → status ≡ 20 → ⊥
-  words_refuse_no_text (inl (is, told)) same = absurd (omega arith)
+  words_refuse_no_text (inl (is, of_words, says)) same = absurd (omega arith)
   words_refuse_no_text (inr (is, told)) same = absurd (omega arith)
 
   pub words_fail_no_device : IsToldOfWords fault Says status → status ≡ 21 → ⊥
-  words_fail_no_device (inl (is, told)) same = absurd (omega arith)
+  words_fail_no_device (inl (is, of_words, says)) same = absurd (omega arith)
   words_fail_no_device (inr (is, told)) same = absurd (omega arith)
 
   -- Of words that are a command it is that memory was refused.
   pub unread_words : (words : List (List ℕ)) → IsToldOfWords fault Says status → (IsOfWords fault → IsCommand words → ⊥) → IsCommand words
       → (status ≡ 21) ⊎ (status ≡ 22)
-  unread_words words (inl (is, (of_words, says))) refused command = absurd (refused of_words command)
+  unread_words words (inl (is, of_words, says)) refused command = absurd (refused of_words command)
   unread_words words (inr (is, told)) refused command = inr is
 
 -- What counts as a failure of a device, in a call of the files after another that counted none.
