@@ -11,7 +11,7 @@ use Rattle.command_line.specs.declared.order.Order.TheVariants.{Solve, Check}
 use Rattle.planner_main.specs.Asked.{asked_of_check}
 
 -- this is asked for, with these numbers
-asked_with : (plan cert : Option (Bor (List ℕ))) (json : Bool) (states instances : ℕ) → Asked
+abbrev asked_with : (plan cert : Option (Bor (List ℕ))) (json : Bool) (states instances : ℕ) → Asked
 asked_with plan cert json states instances = record { states = states; instances = instances; plan = text_in plan; cert = text_in cert; json = json }
 
 pub wanted_of_solve : (order : Order) (domain problem : Bor (List ℕ)) (plan cert : Option (Bor (List ℕ))) (states instances : Limit) (json : Bool) (limits : Limits)

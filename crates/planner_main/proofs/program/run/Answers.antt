@@ -10,10 +10,6 @@ pub returns-in-Err-clause-status : goal.returns-in-Err-clause-status
 returns-in-Err-clause-status g c =
     inl (words_failed c.in-Err.fault (IsWritten g.E.Sink.wants_memory (g.E.Sink.failures c.args.err.now) (g.E.Sink.failures c.tell_words.new.err) (g.E.Sink.taken c.args.err.now) (g.E.Sink.taken c.tell_words.new.err)) _ c.tell_words.ensures)
 
-pub returns-in-Err-clause-quiet : goal.returns-in-Err-clause-quiet
-returns-in-Err-clause-quiet g c =
-    λ answers. absurd (no_failure _ _ answers (words_failed c.in-Err.fault (IsWritten g.E.Sink.wants_memory (g.E.Sink.failures c.args.err.now) (g.E.Sink.failures c.tell_words.new.err) (g.E.Sink.taken c.args.err.now) (g.E.Sink.taken c.tell_words.new.err)) _ c.tell_words.ensures) refl)
-
 pub returns-in-Err-clause-words : goal.returns-in-Err-clause-words
 returns-in-Err-clause-words g c =
     λ same. c.in-Err.ensures.refused (words_told c.in-Err.fault (IsWritten g.E.Sink.wants_memory (g.E.Sink.failures c.args.err.now) (g.E.Sink.failures c.tell_words.new.err) (g.E.Sink.taken c.args.err.now) (g.E.Sink.taken c.tell_words.new.err)) _ c.tell_words.ensures same).0
@@ -45,74 +41,74 @@ returns-in-Err-clause-memory g c =
 -- words that name a file are a command, so that memory was refused
 pub returns-in-Err-clause-unread : goal.returns-in-Err-clause-unread
 returns-in-Err-clause-unread g c =
-    λ name named missing. unread_words c.in-Err.fault (IsWritten g.E.Sink.wants_memory (g.E.Sink.failures c.args.err.now) (g.E.Sink.failures c.tell_words.new.err) (g.E.Sink.taken c.args.err.now) (g.E.Sink.taken c.tell_words.new.err)) _ (texts c.args.words.now) c.tell_words.ensures c.in-Err.ensures.refused (named.0, named.1.0)
+    λ name named missing. unread_words c.in-Err.fault (IsWritten g.E.Sink.wants_memory (g.E.Sink.failures c.args.err.now) (g.E.Sink.failures c.tell_words.new.err) (g.E.Sink.taken c.args.err.now) (g.E.Sink.taken c.tell_words.new.err)) _ (texts c.args.words.now) c.tell_words.ensures c.in-Err.ensures.refused (named.0, named.1)
 
-pub returns-in-Ok-in-Ok-clause-status : goal.returns-in-Ok-in-Ok-clause-status
-returns-in-Ok-in-Ok-clause-status g c =
-    inr (told_of_words (texts c.args.words.now) (wanted_of c.in-Ok.order) c.in-Ok.ensures.asks g.F.Files.is_known (g.F.Files.contents c.args.files.now) (g.F.Files.contents c.carry_out.new.files) (g.O.Sink.taken c.args.out.now) (g.O.Sink.taken c.carry_out.new.out) _ c.in-Ok-in-Ok.ensures.told)
+pub returns-in-Ok-carry_out-clause-status : goal.returns-in-Ok-carry_out-clause-status
+returns-in-Ok-carry_out-clause-status g c =
+    inr (told_of_words (texts c.args.words.now) (wanted_of c.in-Ok.order) c.in-Ok.ensures.asks g.F.Files.is_known (g.F.Files.contents c.args.files.now) (g.F.Files.contents c.carry_out.new.files) (g.O.Sink.taken c.args.out.now) (g.O.Sink.taken c.carry_out.new.out) _ c.in-Ok-carry_out.ensures.told)
 
-pub returns-in-Ok-in-Ok-clause-words : goal.returns-in-Ok-in-Ok-clause-words
-returns-in-Ok-in-Ok-clause-words g c =
-    λ same. absurd (no_failure 2 _ (told_status (texts c.args.words.now) (wanted_of c.in-Ok.order) c.in-Ok.ensures.asks g.F.Files.is_known (g.F.Files.contents c.args.files.now) (g.F.Files.contents c.carry_out.new.files) (g.O.Sink.taken c.args.out.now) (g.O.Sink.taken c.carry_out.new.out) _ c.in-Ok-in-Ok.ensures.told) refl same)
+pub returns-in-Ok-carry_out-clause-words : goal.returns-in-Ok-carry_out-clause-words
+returns-in-Ok-carry_out-clause-words g c =
+    λ same. absurd (no_failure 2 _ (told_status (texts c.args.words.now) (wanted_of c.in-Ok.order) c.in-Ok.ensures.asks g.F.Files.is_known (g.F.Files.contents c.args.files.now) (g.F.Files.contents c.carry_out.new.files) (g.O.Sink.taken c.args.out.now) (g.O.Sink.taken c.carry_out.new.out) _ c.in-Ok-carry_out.ensures.told) refl same)
 
-pub returns-in-Ok-in-Ok-clause-usage : goal.returns-in-Ok-in-Ok-clause-usage
-returns-in-Ok-in-Ok-clause-usage g c =
-    λ same. absurd (no_failure 2 _ (told_status (texts c.args.words.now) (wanted_of c.in-Ok.order) c.in-Ok.ensures.asks g.F.Files.is_known (g.F.Files.contents c.args.files.now) (g.F.Files.contents c.carry_out.new.files) (g.O.Sink.taken c.args.out.now) (g.O.Sink.taken c.carry_out.new.out) _ c.in-Ok-in-Ok.ensures.told) refl same)
+pub returns-in-Ok-carry_out-clause-usage : goal.returns-in-Ok-carry_out-clause-usage
+returns-in-Ok-carry_out-clause-usage g c =
+    λ same. absurd (no_failure 2 _ (told_status (texts c.args.words.now) (wanted_of c.in-Ok.order) c.in-Ok.ensures.asks g.F.Files.is_known (g.F.Files.contents c.args.files.now) (g.F.Files.contents c.carry_out.new.files) (g.O.Sink.taken c.args.out.now) (g.O.Sink.taken c.carry_out.new.out) _ c.in-Ok-carry_out.ensures.told) refl same)
 
-pub returns-in-Ok-in-Ok-clause-refused : goal.returns-in-Ok-in-Ok-clause-refused
-returns-in-Ok-in-Ok-clause-refused g c =
-    λ same. absurd (no_failure 20 _ (told_status (texts c.args.words.now) (wanted_of c.in-Ok.order) c.in-Ok.ensures.asks g.F.Files.is_known (g.F.Files.contents c.args.files.now) (g.F.Files.contents c.carry_out.new.files) (g.O.Sink.taken c.args.out.now) (g.O.Sink.taken c.carry_out.new.out) _ c.in-Ok-in-Ok.ensures.told) refl same)
+pub returns-in-Ok-carry_out-clause-refused : goal.returns-in-Ok-carry_out-clause-refused
+returns-in-Ok-carry_out-clause-refused g c =
+    λ same. absurd (no_failure 20 _ (told_status (texts c.args.words.now) (wanted_of c.in-Ok.order) c.in-Ok.ensures.asks g.F.Files.is_known (g.F.Files.contents c.args.files.now) (g.F.Files.contents c.carry_out.new.files) (g.O.Sink.taken c.args.out.now) (g.O.Sink.taken c.carry_out.new.out) _ c.in-Ok-carry_out.ensures.told) refl same)
 
-pub returns-in-Ok-in-Ok-clause-device : goal.returns-in-Ok-in-Ok-clause-device
-returns-in-Ok-in-Ok-clause-device g c =
-    λ same. absurd (no_failure 21 _ (told_status (texts c.args.words.now) (wanted_of c.in-Ok.order) c.in-Ok.ensures.asks g.F.Files.is_known (g.F.Files.contents c.args.files.now) (g.F.Files.contents c.carry_out.new.files) (g.O.Sink.taken c.args.out.now) (g.O.Sink.taken c.carry_out.new.out) _ c.in-Ok-in-Ok.ensures.told) refl same)
+pub returns-in-Ok-carry_out-clause-device : goal.returns-in-Ok-carry_out-clause-device
+returns-in-Ok-carry_out-clause-device g c =
+    λ same. absurd (no_failure 21 _ (told_status (texts c.args.words.now) (wanted_of c.in-Ok.order) c.in-Ok.ensures.asks g.F.Files.is_known (g.F.Files.contents c.args.files.now) (g.F.Files.contents c.carry_out.new.files) (g.O.Sink.taken c.args.out.now) (g.O.Sink.taken c.carry_out.new.out) _ c.in-Ok-carry_out.ensures.told) refl same)
 
-pub returns-in-Ok-in-Ok-clause-memory : goal.returns-in-Ok-in-Ok-clause-memory
-returns-in-Ok-in-Ok-clause-memory g c =
-    λ same. absurd (no_failure 22 _ (told_status (texts c.args.words.now) (wanted_of c.in-Ok.order) c.in-Ok.ensures.asks g.F.Files.is_known (g.F.Files.contents c.args.files.now) (g.F.Files.contents c.carry_out.new.files) (g.O.Sink.taken c.args.out.now) (g.O.Sink.taken c.carry_out.new.out) _ c.in-Ok-in-Ok.ensures.told) refl same)
+pub returns-in-Ok-carry_out-clause-memory : goal.returns-in-Ok-carry_out-clause-memory
+returns-in-Ok-carry_out-clause-memory g c =
+    λ same. absurd (no_failure 22 _ (told_status (texts c.args.words.now) (wanted_of c.in-Ok.order) c.in-Ok.ensures.asks g.F.Files.is_known (g.F.Files.contents c.args.files.now) (g.F.Files.contents c.carry_out.new.files) (g.O.Sink.taken c.args.out.now) (g.O.Sink.taken c.carry_out.new.out) _ c.in-Ok-carry_out.ensures.told) refl same)
 
-pub returns-in-Ok-in-Ok-clause-no_command : goal.returns-in-Ok-in-Ok-clause-no_command
-returns-in-Ok-in-Ok-clause-no_command g c =
+pub returns-in-Ok-carry_out-clause-no_command : goal.returns-in-Ok-carry_out-clause-no_command
+returns-in-Ok-carry_out-clause-no_command g c =
     λ none. absurd (none (wanted_of c.in-Ok.order, c.in-Ok.ensures.asks))
 
-pub returns-in-Ok-in-Ok-clause-unread : goal.returns-in-Ok-in-Ok-clause-unread
-returns-in-Ok-in-Ok-clause-unread g c =
+pub returns-in-Ok-carry_out-clause-unread : goal.returns-in-Ok-carry_out-clause-unread
+returns-in-Ok-carry_out-clause-unread g c =
     λ name named missing.
-    absurd (c.in-Ok-in-Ok.ensures.unread name (inputs_named (texts c.args.words.now) (wanted_of c.in-Ok.order) name c.in-Ok.ensures.asks named) missing)
+    absurd (c.in-Ok-carry_out.ensures.unread name (inputs_named (texts c.args.words.now) (wanted_of c.in-Ok.order) name c.in-Ok.ensures.asks named) missing)
 
-pub returns-in-Err-in-Ok-clause-words : goal.returns-in-Err-in-Ok-clause-words
-returns-in-Err-in-Ok-clause-words g c =
-    λ same. absurd (failed_status _ _ c.in-Err-in-Ok.failure c.tell.ensures.told same)
+pub returns-in-Err-carry_out-clause-words : goal.returns-in-Err-carry_out-clause-words
+returns-in-Err-carry_out-clause-words g c =
+    λ same. absurd (failed_status _ _ c.in-Err-carry_out.failure c.tell.ensures.told same)
 
-pub returns-in-Err-in-Ok-clause-no_command : goal.returns-in-Err-in-Ok-clause-no_command
-returns-in-Err-in-Ok-clause-no_command g c =
+pub returns-in-Err-carry_out-clause-no_command : goal.returns-in-Err-carry_out-clause-no_command
+returns-in-Err-carry_out-clause-no_command g c =
     λ none. absurd (none (wanted_of c.in-Ok.order, c.in-Ok.ensures.asks))
 
-pub returns-in-Err-in-Ok-clause-usage : goal.returns-in-Err-in-Ok-clause-usage
-returns-in-Err-in-Ok-clause-usage g c =
-    λ same. absurd (failed_status _ _ c.in-Err-in-Ok.failure c.tell.ensures.told same)
+pub returns-in-Err-carry_out-clause-usage : goal.returns-in-Err-carry_out-clause-usage
+returns-in-Err-carry_out-clause-usage g c =
+    λ same. absurd (failed_status _ _ c.in-Err-carry_out.failure c.tell.ensures.told same)
 
-pub returns-in-Err-in-Ok-clause-refused : goal.returns-in-Err-in-Ok-clause-refused
-returns-in-Err-in-Ok-clause-refused g c =
+pub returns-in-Err-carry_out-clause-refused : goal.returns-in-Err-carry_out-clause-refused
+returns-in-Err-carry_out-clause-refused g c =
     λ same.
-    refuses_of_words (g.F.Files.contents c.args.files.now) (texts c.args.words.now) (wanted_of c.in-Ok.order) c.in-Ok.ensures.asks (g.F.Files.contents c.carry_out.new.files) (g.O.Sink.taken c.args.out.now) (g.O.Sink.taken c.carry_out.new.out) (IsWritten g.E.Sink.wants_memory (g.E.Sink.failures c.args.err.now) (g.E.Sink.failures c.tell.new.err) (g.E.Sink.taken c.args.err.now) (g.E.Sink.taken c.tell.new.err)) c.in-Err-in-Ok.failure _ c.tell.ensures.told same c.in-Err-in-Ok.ensures.refused
+    refuses_of_words (g.F.Files.contents c.args.files.now) (texts c.args.words.now) (wanted_of c.in-Ok.order) c.in-Ok.ensures.asks (g.F.Files.contents c.carry_out.new.files) (g.O.Sink.taken c.args.out.now) (g.O.Sink.taken c.carry_out.new.out) (IsWritten g.E.Sink.wants_memory (g.E.Sink.failures c.args.err.now) (g.E.Sink.failures c.tell.new.err) (g.E.Sink.taken c.args.err.now) (g.E.Sink.taken c.tell.new.err)) c.in-Err-carry_out.failure _ c.tell.ensures.told same c.in-Err-carry_out.ensures.refused
 
-pub returns-in-Err-in-Ok-clause-device : goal.returns-in-Err-in-Ok-clause-device
-returns-in-Err-in-Ok-clause-device g c =
+pub returns-in-Err-carry_out-clause-device : goal.returns-in-Err-carry_out-clause-device
+returns-in-Err-carry_out-clause-device g c =
     λ same.
-    let (is, line) = device_told _ _ c.in-Err-in-Ok.failure c.tell.ensures.told same in
-    (device_has_failed _ _ _ _ c.in-Err-in-Ok.failure is c.in-Err-in-Ok.ensures.failures, partly_of_words (texts c.args.words.now) (wanted_of c.in-Ok.order) c.in-Ok.ensures.asks g.F.Files.is_known (g.F.Files.contents c.args.files.now) (g.F.Files.contents c.carry_out.new.files) (g.O.Sink.taken c.args.out.now) (g.O.Sink.taken c.carry_out.new.out) c.in-Err-in-Ok.ensures.partly, line)
+    let (is, line) = device_told _ _ c.in-Err-carry_out.failure c.tell.ensures.told same in
+    (device_has_failed _ _ _ _ c.in-Err-carry_out.failure is c.in-Err-carry_out.ensures.failures, partly_of_words (texts c.args.words.now) (wanted_of c.in-Ok.order) c.in-Ok.ensures.asks g.F.Files.is_known (g.F.Files.contents c.args.files.now) (g.F.Files.contents c.carry_out.new.files) (g.O.Sink.taken c.args.out.now) (g.O.Sink.taken c.carry_out.new.out) c.in-Err-carry_out.ensures.partly, line)
 
-pub returns-in-Err-in-Ok-clause-memory : goal.returns-in-Err-in-Ok-clause-memory
-returns-in-Err-in-Ok-clause-memory g c =
+pub returns-in-Err-carry_out-clause-memory : goal.returns-in-Err-carry_out-clause-memory
+returns-in-Err-carry_out-clause-memory g c =
     λ same.
-    (partly_of_words (texts c.args.words.now) (wanted_of c.in-Ok.order) c.in-Ok.ensures.asks g.F.Files.is_known (g.F.Files.contents c.args.files.now) (g.F.Files.contents c.carry_out.new.files) (g.O.Sink.taken c.args.out.now) (g.O.Sink.taken c.carry_out.new.out) c.in-Err-in-Ok.ensures.partly, memory_told _ _ c.in-Err-in-Ok.failure c.tell.ensures.told same)
+    (partly_of_words (texts c.args.words.now) (wanted_of c.in-Ok.order) c.in-Ok.ensures.asks g.F.Files.is_known (g.F.Files.contents c.args.files.now) (g.F.Files.contents c.carry_out.new.files) (g.O.Sink.taken c.args.out.now) (g.O.Sink.taken c.carry_out.new.out) c.in-Err-carry_out.ensures.partly, memory_told _ _ c.in-Err-carry_out.failure c.tell.ensures.told same)
 
-pub returns-in-Err-in-Ok-clause-unfailed : goal.returns-in-Err-in-Ok-clause-unfailed
-returns-in-Err-in-Ok-clause-unfailed g c =
-    others_have_not_failed _ _ _ _ _ _ c.in-Err-in-Ok.failure c.tell.ensures.told c.in-Err-in-Ok.ensures.failures
+pub returns-in-Err-carry_out-clause-unfailed : goal.returns-in-Err-carry_out-clause-unfailed
+returns-in-Err-carry_out-clause-unfailed g c =
+    others_have_not_failed _ _ _ _ _ _ c.in-Err-carry_out.failure c.tell.ensures.told c.in-Err-carry_out.ensures.failures
 
-pub returns-in-Err-in-Ok-clause-unread : goal.returns-in-Err-in-Ok-clause-unread
-returns-in-Err-in-Ok-clause-unread g c =
+pub returns-in-Err-carry_out-clause-unread : goal.returns-in-Err-carry_out-clause-unread
+returns-in-Err-carry_out-clause-unread g c =
     λ name named missing.
-    unread_status _ _ c.in-Err-in-Ok.failure (c.in-Err-in-Ok.ensures.unread name (inputs_named (texts c.args.words.now) (wanted_of c.in-Ok.order) name c.in-Ok.ensures.asks named) missing) c.tell.ensures.told
+    unread_status _ _ c.in-Err-carry_out.failure (c.in-Err-carry_out.ensures.unread name (inputs_named (texts c.args.words.now) (wanted_of c.in-Ok.order) name c.in-Ok.ensures.asks named) missing) c.tell.ensures.told
