@@ -7,12 +7,20 @@ use std::alloc::{AllocError, Global};
 /// A stream that may take its bytes in pieces, and fail.
 pub type Device = FailsAt<InPieces<Memory>>;
 
+/// Which part of what a stream takes is told.
+#[derive(Clone, Copy)]
+enum Part {
+    Whole,
+    Beginning,
+    End,
+}
+
 /// A stream: what it is to take, and how it takes it.
 #[derive(Drop)]
 pub struct Stream {
     wanted: Vec<u8>,
-    // whether the wanted bytes are the end alone
-    is_end: bool,
+    // the part that the wanted bytes are
+    part: Part,
     // the most bytes that it takes at a write
     piece: u32,
     // how many writes succeed before the one that fails, and `None` where none fails
@@ -24,7 +32,7 @@ impl Stream {
     pub fn new(alloc: Global) -> Stream {
         Stream {
             wanted: Vec::new(alloc),
-            is_end: false,
+            part: Part::Whole,
             piece: u32::MAX,
             writes_before: None,
         }
@@ -38,8 +46,9 @@ impl Stream {
         turn: Turn,
     ) -> Result<(), CaseFault> {
         match section.verb() {
-            ("", _) => self.want(section.bytes(alloc, turn)?, false),
-            ("ends", _) => self.want(section.bytes(alloc, turn)?, true),
+            ("", _) => self.want(section.bytes(alloc, turn)?, Part::Whole),
+            ("begins", _) => self.want(section.bytes(alloc, turn)?, Part::Beginning),
+            ("ends", _) => self.want(section.bytes(alloc, turn)?, Part::End),
             ("pieces", length) => self.piece = number_of(length)?,
             ("fails", count) => self.writes_before = Some(number_of(count)?),
             _ => return Err(CaseFault::Words),
@@ -47,9 +56,9 @@ impl Stream {
         Ok(())
     }
 
-    fn want(&mut self, bytes: Vec<u8>, is_end: bool) {
+    fn want(&mut self, bytes: Vec<u8>, part: Part) {
         self.wanted = bytes;
-        self.is_end = is_end;
+        self.part = part;
     }
 
     /// The device of the stream, which holds nothing yet.
@@ -79,10 +88,10 @@ impl Stream {
     }
 
     fn is_wanted(&self, taken: &[u8]) -> bool {
-        if self.is_end {
-            taken.ends_with(&self.wanted)
-        } else {
-            taken == self.wanted.as_slice()
+        match self.part {
+            Part::Whole => taken == self.wanted.as_slice(),
+            Part::Beginning => taken.starts_with(&self.wanted),
+            Part::End => taken.ends_with(&self.wanted),
         }
     }
 }

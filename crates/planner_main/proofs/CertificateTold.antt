@@ -1,6 +1,6 @@
 -- What came of a certificate to a reader, and what it says of the certificate's whole text.
 use Rattle.std.proofs.Common.{◌≡◌, ℕ, inl, inr, List, [], ◌++◌, sym, ap, subst, ◌∙◌, append-nil}
-use Rattle.std.specs.Prelude.{Option, None, Some, IfSome, Result, Ok, Err, IfOk, IfErr}
+use Rattle.std.specs.Prelude.{Bool, Option, None, Some, IfSome, Result, Ok, Err, IfOk, IfErr}
 use Rattle.std.specs.Io.KnownBytes.{Consumes, IsAtEnd}
 use Rattle.devices.specs.Devices.{IsKept}
 use Rattle.certificate_text.specs.CertificateChecking.{IsLineFault}
@@ -70,40 +70,40 @@ module _ {R : Type 0} (remaining : R → Option (List ℕ)) (task : Task) (first
     )
 
     -- what is true of what came is true of a text that is the whole, where that is known
-    true_of_text : (answer : Result Accepted Refusal) (line : List ℕ) (status : ℕ) → IsLineOf answer line status → IfOk answer (IsShown task plan)
+    true_of_text : (json : Bool) (answer : Result Accepted Refusal) (line : List ℕ) (status : ℕ) → IsLineOf json answer line status → IfOk answer (IsShown task plan)
         → IfOk answer (Accepts remaining task first now plan most) → IfErr answer (Refuses remaining task first now plan most)
         → (text : List ℕ) × IfSome known (λ bytes. text ≡ bytes) × IsTrueCheck task text plan most answer
-    true_of_text (Ok accepted) line status is shown accepts refuses = (
+    true_of_text json (Ok accepted) line status is shown accepts refuses = (
       accepts.text,
       whole_known known _ _ accepts.text kept accepts.consumed accepts.at_end,
       record { accepted = accepts.accepted; within = accepts.within; answers = accepts.answers; shown = shown },
     )
-    true_of_text (Err (refusal.Line code number)) line status is shown accepts (inl told) =
+    true_of_text json (Err (refusal.Line code number)) line status is shown accepts (inl told) =
         let (text, whole, fault) = line_of_text code number told in
         (text, whole, inl fault)
-    true_of_text (Err (refusal.Line code number)) line status is shown accepts (inr (c, read, is_true, is_first)) =
+    true_of_text json (Err (refusal.Line code number)) line status is shown accepts (inr (c, read, is_true, is_first)) =
         of_certificate (refusal.Line code number) c read is_true is_first
-    true_of_text (Err (refusal.Plain code)) line status is shown accepts (inl told) = absurd told
-    true_of_text (Err (refusal.Plain code)) line status is shown accepts (inr (c, read, is_true, is_first)) =
+    true_of_text json (Err (refusal.Plain code)) line status is shown accepts (inl told) = absurd told
+    true_of_text json (Err (refusal.Plain code)) line status is shown accepts (inr (c, read, is_true, is_first)) =
         of_certificate (refusal.Plain code) c read is_true is_first
-    true_of_text (Err refusal.NoMemory) line status is shown accepts refuses = absurd is
-    true_of_text (Err refusal.Device) line status is shown accepts refuses = absurd is
-    true_of_text (Err refusal.Failed) line status is shown accepts refuses = absurd is
+    true_of_text json (Err refusal.NoMemory) line status is shown accepts refuses = absurd is
+    true_of_text json (Err refusal.Device) line status is shown accepts refuses = absurd is
+    true_of_text json (Err refusal.Failed) line status is shown accepts refuses = absurd is
 
   -- the line of a true answer is one of the texts of the files
-  pub checked_in : (domain problem : List ℕ) (plan : Option (List ℕ)) (most : ℕ) (answer : Result Accepted Refusal) (line : List ℕ) (status : ℕ) → IsTaskOf domain problem task
-      → IsChecked remaining task first now plan most answer → IsLineOf answer line status → IsCheckedIn known domain problem plan most line status
-  checked_in domain problem plan most answer line status is_task checked is =
-      let (text, whole, is_true) = true_of_text checked.plan most answer line status is checked.shown checked.accepted checked.refused in
+  pub checked_in : (domain problem : List ℕ) (plan : Option (List ℕ)) (most : ℕ) (json : Bool) (answer : Result Accepted Refusal) (line : List ℕ) (status : ℕ) → IsTaskOf domain problem task
+      → IsChecked remaining task first now plan most answer → IsLineOf json answer line status → IsCheckedIn known domain problem plan most json line status
+  checked_in domain problem plan most json answer line status is_task checked is =
+      let (text, whole, is_true) = true_of_text checked.plan most json answer line status is checked.shown checked.accepted checked.refused in
       (text, whole, (task, checked.plan, answer, is_task, checked.handed_in, is_true, is))
 
   -- the same of what a call told
-  pub checked_in_told : {T : Type 0} (domain problem : List ℕ) (plan : Option (List ℕ)) (most : ℕ) (answer : Result Accepted Refusal) → IsTaskOf domain problem task
+  pub checked_in_told : {T : Type 0} (domain problem : List ℕ) (plan : Option (List ℕ)) (most : ℕ) (json : Bool) (answer : Result Accepted Refusal) → IsTaskOf domain problem task
       → IsChecked remaining task first now plan most answer → (line_of : T → List ℕ) (status_of : T → ℕ) (r : Result T Failure)
-      → IfOk r (λ told. IsLineOf answer (line_of told) (status_of told)) → IfOk r (λ told. IsCheckedIn known domain problem plan most (line_of told) (status_of told))
-  checked_in_told domain problem plan most answer is_task checked line_of status_of (Ok told) is =
-      checked_in domain problem plan most answer (line_of told) (status_of told) is_task checked is
-  checked_in_told domain problem plan most answer is_task checked line_of status_of (Err f) is = tt
+      → IfOk r (λ told. IsLineOf json answer (line_of told) (status_of told)) → IfOk r (λ told. IsCheckedIn known domain problem plan most json (line_of told) (status_of told))
+  checked_in_told domain problem plan most json answer is_task checked line_of status_of (Ok told) is =
+      checked_in domain problem plan most json answer (line_of told) (status_of told) is_task checked is
+  checked_in_told domain problem plan most json answer is_task checked line_of status_of (Err f) is = tt
 
 -- What a call that tells an answer says of failures, and of faults.
 module _ {T : Type 0} (answer : Result Accepted Refusal) (before after : ℕ) (counts : CountsRefusal before after answer) where

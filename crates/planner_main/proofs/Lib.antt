@@ -4,7 +4,7 @@ pub mod ProgramWords
 pub mod TableLemmas
 pub mod ProgramTold
 pub mod PlanFiles
-pub mod OptionWords
-pub mod OptionsHeld
 pub mod CheckedLemmas
 pub mod CertificateTold
+pub mod OrderWanted
+pub mod JsonTold

@@ -1,18 +1,18 @@
 -- What the program tells, and which files are written, of an answer, of a command and of the words that ask for it.
 use Rattle.std.proofs.Common.{◌≡◌, ℕ, List, [], ◌∷◌, ◌++◌, ◌∙◌, sym, refl, ap, subst}
-use Rattle.std.specs.Prelude.{Option, Some, Bool, false, IsTrue, if◌then◌else◌}
+use Rattle.std.specs.Prelude.{Option, None, Some, Bool, true, false, IsTrue, if◌then◌else◌, unwrap_or}
 use Rattle.std.specs.Str.{bytes_eq}
 use Rattle.std.specs.Io.KnownBytes.{Appends}
 use Rattle.devices.specs.Devices.{AppendsBeginning}
 use Rattle.solver.specs.declared.answer.Answer.{Answer}
 use Rattle.solver.specs.Solver.{IsTrueAnswer}
-use Rattle.planner_main.specs.declared.program.command.Command.{Command}
-use Rattle.planner_main.specs.Options.{Asked}
+use Rattle.command_line.specs.Orders.{Asks, Asked, Wanted}
 use Rattle.planner_main.specs.Written.{NamedText, HoldsBeginning, with_file, with_files, AreWritten, AreWrittenPartly}
 use Rattle.planner_main.specs.Report.{is_failure}
-use Rattle.planner_main.specs.Solution.{TellsAnswer, cert_file, plan_file, text_of, status_of}
-use Rattle.planner_main.specs.Program.{AreKept, IsTold, IsToldPartly, nothing, in_a_file, on_the_output, IsAnswer, IsAnswerFor, IsAnswerText, OnTwo, Tells, TellsPartly, TellsFor, TellsPartlyFor, Asks}
-use Rattle.planner_main.proofs.ProgramWords.{answer_of_words, answered_status}
+use Rattle.planner_main.specs.Json.{line_of_members, of_answer}
+use Rattle.planner_main.specs.Solution.{TellsAnswer, cert_file, plan_file, status_of, text_of, told_of}
+use Rattle.planner_main.specs.Program.{AreKept, IsTold, IsToldPartly, nothing, in_a_file, on_the_output, IsAnswer, IsAnswerTo, IsAnswerText, OnTwo, Tells, TellsPartly, TellsFor, TellsPartlyFor}
+use Rattle.planner_main.proofs.ProgramWords.{answered_status}
 use Rattle.model.specs.Task.{Task}
 use Rattle.model.specs.Files.{IsTaskOf}
 
@@ -67,46 +67,55 @@ module _ (P Q : List ℕ → ℕ → List NamedText → Type 0) (means : (text :
 -- What tells an answer that is true of two texts tells what they are asked for.
 pub answer_told : (contents : List ℕ → Option (List ℕ)) (domain problem : List ℕ) (asked : Asked) (task : Task) (a : Answer)
     → OnTwo contents domain problem (λ d p. IsTaskOf d p task × IsTrueAnswer task asked.states asked.instances a)
-    → (text : List ℕ) (status : ℕ) (written : List NamedText) → TellsAnswer task a asked.cert asked.plan text status written
+    → (text : List ℕ) (status : ℕ) (written : List NamedText) → TellsAnswer task a asked.json asked.cert asked.plan text status written
     → IsAnswerText contents domain problem asked text status written
 answer_told contents domain problem asked task a (d, p, d_is, p_is, (is_task, is_true)) text status written tells =
     (d, p, d_is, p_is, (task, a, is_task, is_true, tells))
 
+-- What is told on the standard output: the line of JSON where that is wanted, and else the text.
+pub told_is : (task : Task) (a : Answer) (json : Bool) (line : Option (List ℕ)) (text told : List ℕ)
+    → line ≡ (if json then Some (line_of_members (of_answer task a)) else None) → text ≡ text_of task a → told ≡ unwrap_or line text → told ≡ told_of task a json
+told_is task a true line text told line_is text_is is = is ∙ ap (λ (o : Option (List ℕ)). unwrap_or o text) line_is
+told_is task a false line text told line_is text_is is = is ∙ ap (λ (o : Option (List ℕ)). unwrap_or o text) line_is ∙ text_is
+
 -- An answer is told, whole or in part, by its files and then the standard output.
-module _ (task : Task) (a : Answer) (cert plan : Option (List ℕ)) (known : Bool) (before : List ℕ → Option (List ℕ)) where
+module _ (task : Task) (a : Answer) (json : Bool) (cert plan : Option (List ℕ)) (known : Bool) (before : List ℕ → Option (List ℕ)) where
   pub partly_in_cert : (after : List ℕ → Option (List ℕ)) (out : Option (List ℕ))
       → (next : NamedText) × (cert_file task a cert ≡ next ∷ []) × (IsTrue known → AreWrittenPartly before after [] next)
-      → IsToldPartly (TellsAnswer task a cert plan) known before after out out
+      → IsToldPartly (TellsAnswer task a json cert plan) known before after out out
   partly_in_cert after out (next, is, held) =
-      in_a_file (text_of task a) (status_of a) [] (plan_file task a plan) next (refl, refl, sym (ap (λ files. files ++ plan_file task a plan) is)) refl held
+      in_a_file (told_of task a json) (status_of a) [] (plan_file task a plan) next (refl, refl, sym (ap (λ files. files ++ plan_file task a plan) is)) refl held
 
   module _ (now after : List ℕ → Option (List ℕ)) (written : IsTrue known → AreWritten before now (cert_file task a cert)) where
     pub partly_in_plan : (out : Option (List ℕ))
         → (next : NamedText) × (plan_file task a plan ≡ next ∷ []) × (IsTrue known → AreWrittenPartly now after [] next)
-        → IsToldPartly (TellsAnswer task a cert plan) known before after out out
+        → IsToldPartly (TellsAnswer task a json cert plan) known before after out out
     partly_in_plan out (next, is, held) =
-        in_a_file (text_of task a) (status_of a) (cert_file task a cert) [] next (refl, refl, sym (ap (λ files. cert_file task a cert ++ files) is)) refl
+        in_a_file (told_of task a json) (status_of a) (cert_file task a cert) [] next (refl, refl, sym (ap (λ files. cert_file task a cert ++ files) is)) refl
         (λ is_known. partly_after before now after (cert_file task a cert) (written is_known) next (held is_known))
 
     both_written : (IsTrue known → AreWritten now after (plan_file task a plan)) → IsTrue known → AreWritten before after (cert_file task a cert ++ plan_file task a plan)
     both_written saved is_known = written_after before now after (cert_file task a cert) (written is_known) (plan_file task a plan) (saved is_known)
 
-    module _ (saved : IsTrue known → AreWritten now after (plan_file task a plan)) (out out_after : Option (List ℕ)) (text : List ℕ) (is : text ≡ text_of task a) where
-      pub partly_on_output : AppendsBeginning out out_after text → IsToldPartly (TellsAnswer task a cert plan) known before after out out_after
+    module _ (saved : IsTrue known → AreWritten now after (plan_file task a plan)) (out out_after : Option (List ℕ)) (text : List ℕ) (is : text ≡ told_of task a json) where
+      pub partly_on_output : AppendsBeginning out out_after text → IsToldPartly (TellsAnswer task a json cert plan) known before after out out_after
       partly_on_output told = on_the_output text (status_of a) (cert_file task a cert ++ plan_file task a plan) (is, refl, refl) told (both_written saved)
 
-      pub told_on_output : (status : ℕ) → status ≡ status_of a → Appends out out_after text → IsTold (TellsAnswer task a cert plan) known before after out out_after status
+      pub told_on_output : (status : ℕ) → status ≡ status_of a → Appends out out_after text → IsTold (TellsAnswer task a json cert plan) known before after out out_after status
       told_on_output status has told = (text, cert_file task a cert ++ plan_file task a plan, (is, has, refl), told, both_written saved)
 
--- What a command tells is told of the words that ask for it.
-module _ (words : List (List ℕ)) (command : Command) (asks : Asks words command) (known : Bool) (files after : List ℕ → Option (List ℕ)) (out out_after : Option (List ℕ)) where
-  pub told_of_words : (status : ℕ) → TellsFor command known files after out out_after status → Tells words known files after out out_after status
+-- What is told of what is asked for is told of the words that ask for it.
+module _ (words : List (List ℕ)) (wanted : Wanted) (asks : Asks words wanted) (known : Bool) (files after : List ℕ → Option (List ℕ)) (out out_after : Option (List ℕ)) where
+  answers_words : (text : List ℕ) (status : ℕ) (written : List NamedText) → IsAnswerTo files wanted text status written → IsAnswer files words text status written
+  answers_words text status written is = (wanted, asks, is)
+
+  pub told_of_words : (status : ℕ) → TellsFor wanted known files after out out_after status → Tells words known files after out out_after status
   told_of_words status told =
-      told_as (IsAnswerFor files command) (IsAnswer files words) (answer_of_words files words command asks) known files files after (λ name. refl) out out_after status told
+      told_as (IsAnswerTo files wanted) (IsAnswer files words) answers_words known files files after (λ name. refl) out out_after status told
 
-  pub partly_of_words : TellsPartlyFor command known files after out out_after → TellsPartly words known files after out out_after
+  pub partly_of_words : TellsPartlyFor wanted known files after out out_after → TellsPartly words known files after out out_after
   partly_of_words told =
-      partly_as (IsAnswerFor files command) (IsAnswer files words) (answer_of_words files words command asks) known files files after (λ name. refl) out out_after told
+      partly_as (IsAnswerTo files wanted) (IsAnswer files words) answers_words known files files after (λ name. refl) out out_after told
 
-  pub told_status : (status : ℕ) → TellsFor command known files after out out_after status → is_failure status ≡ false
-  told_status status (text, written, is, appended, held) = answered_status files command text status written is
+  pub told_status : (status : ℕ) → TellsFor wanted known files after out out_after status → is_failure status ≡ false
+  told_status status (text, written, is, appended, held) = answered_status files wanted text status written is

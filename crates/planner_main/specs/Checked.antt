@@ -1,6 +1,6 @@
 -- What is told of a certificate for the task of two texts, and for the plan of a third one if that is handed in: by what came
 -- of the certificate to a reader, and by its whole text.
-use Rattle.std.specs.Prelude.{◌≡◌, ℕ, ◌==◌, ◌⊎◌, if◌then◌else◌, List, ◌++◌, codes, Option, None, Some, Result, Ok, Err, IfOk, IfErr}
+use Rattle.std.specs.Prelude.{◌≡◌, ℕ, Bool, ◌==◌, ◌⊎◌, if◌then◌else◌, List, ◌++◌, codes, Option, None, Some, Result, Ok, Err, IfOk, IfErr}
 use Rattle.std.specs.Fmt.{decimal}
 use Rattle.certificate_text.specs.CertificateText.{TextLine, text_of}
 use Rattle.certificate_text.specs.CertificateNames.{IsTextOf}
@@ -15,6 +15,7 @@ use Rattle.cert_checker.specs.declared.checker.Accepted.{Accepted}
 use Rattle.cert_checker.specs.declared.checker.Accepted.TheVariants.{Optimal, AtLeast, Unsolvable}
 use Rattle.cert_checker.specs.CertChecker.{Answers, IsFirstRefusal, IsNoFault, IsShown, IsTrueRefusal}
 use Rattle.cert_checker.specs.Checking.{Accepts, Refuses}
+use Rattle.planner_main.specs.Json.{line_of_members, of_accepted, of_refused}
 use Rattle.model.specs.Task.{Task, Instance}
 use Rattle.model.specs.Limits.{max_numbered_atoms}
 use Rattle.model.specs.Grounding.{limit_told}
@@ -92,12 +93,22 @@ line_refused code line =
     if number_of code == 55 then plain_refused code
     else (codes "not accepted " ++ (decimal (number_of code) ++ (codes " " ++ (name_of code ++ (codes " line " ++ (decimal line ++ codes "\n"))))))
 
--- This text is the answer's line, and this is its status: 0 where the certificate is accepted, and 12 where it is refused. That
--- memory was refused, or that the device failed, has no line.
-abbrev pub IsLineOf : Result Accepted Refusal → (text : List ℕ) → (status : ℕ) → Type 0
-IsLineOf (Ok answer) text status = (text ≡ accepted_line answer) × (status ≡ 0)
-IsLineOf (Err (refusal.Line code line)) text status = (text ≡ line_refused code line) × (status ≡ 12)
-IsLineOf (Err (refusal.Plain code)) text status = (text ≡ plain_refused code) × (status ≡ 12)
-IsLineOf (Err refusal.NoMemory) text status = ⊥
-IsLineOf (Err refusal.Device) text status = ⊥
-IsLineOf (Err refusal.Failed) text status = ⊥
+-- the same, or as JSON, which tells neither line nor instance
+abbrev pub told_accepted : (json : Bool) → Accepted → List ℕ
+told_accepted json answer = if json then line_of_members (of_accepted answer) else accepted_line answer
+
+abbrev pub told_line : (json : Bool) → RefusalCode → (line : ℕ) → List ℕ
+told_line json code line = if json then line_of_members (of_refused code) else line_refused code line
+
+abbrev pub told_plain : (json : Bool) → RefusalCode → List ℕ
+told_plain json code = if json then line_of_members (of_refused code) else plain_refused code
+
+-- This text tells the answer, and this is its status: 0 where the certificate is accepted, and 12 where it is refused. That
+-- memory was refused, or that the device failed, is told by none.
+abbrev pub IsLineOf : (json : Bool) → Result Accepted Refusal → (text : List ℕ) → (status : ℕ) → Type 0
+IsLineOf json (Ok answer) text status = (text ≡ told_accepted json answer) × (status ≡ 0)
+IsLineOf json (Err (refusal.Line code line)) text status = (text ≡ told_line json code line) × (status ≡ 12)
+IsLineOf json (Err (refusal.Plain code)) text status = (text ≡ told_plain json code) × (status ≡ 12)
+IsLineOf json (Err refusal.NoMemory) text status = ⊥
+IsLineOf json (Err refusal.Device) text status = ⊥
+IsLineOf json (Err refusal.Failed) text status = ⊥

@@ -5,10 +5,6 @@ use Rattle.faults.specs.Fault.{name_in, names}
 use Rattle.model.specs.Trees.{domain_file, problem_file}
 use Rattle.model.specs.Files.{File, of_task, the_plan, FileFault}
 
--- how the program is used
-abbrev pub usage : List ℕ
-usage = codes "usage: optplan solve DOMAIN PROBLEM [--plan FILE] [--cert FILE] [--states N] [--instances N]\n       optplan validate DOMAIN PROBLEM PLAN\n       optplan check DOMAIN PROBLEM CERT [--plan FILE] [--instances N]\n"
-
 -- the name of a file
 abbrev pub name_of_file : File → List ℕ
 name_of_file (of_task domain_file) = codes "domain"
@@ -28,3 +24,7 @@ device_line = codes "fault 61 Device\n"
 
 abbrev pub no_memory_line : List ℕ
 no_memory_line = codes "fault 60 NoMemory\n"
+
+-- the last line where the words are no command, or ask for help
+abbrev pub nothing_done_line : List ℕ
+nothing_done_line = codes "optplan: nothing was done\n"

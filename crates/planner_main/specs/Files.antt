@@ -2,6 +2,8 @@
 use Rattle.std.specs.Prelude.{ℕ, List, Option, None, Some}
 use Rattle.std.specs.Borrow.{Bor}
 use Rattle.std.specs.Global.{Vec}
+use Rattle.std.specs.String.{string_bytes}
+use Rattle.std.proofs.Common.{String, Global}
 use Rattle.std.specs.Option.{option_map}
 use Rattle.faults.specs.Fault.{number_of}
 use Rattle.faults.specs.declared.code.Code.{Code}
@@ -47,3 +49,7 @@ text_in = option_map (λ (text : Bor (List ℕ)). text.now)
 -- the bytes of a text, where there is one
 abbrev pub items_in : Option (Vec ℕ) → Option (List ℕ)
 items_in = option_map (λ (text : Vec ℕ). text.items)
+
+-- the bytes of a string, where there is one
+abbrev pub string_in : Option (String Global) → Option (List ℕ)
+string_in = option_map string_bytes

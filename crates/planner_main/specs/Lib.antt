@@ -2,7 +2,9 @@ pub mod Report
 pub mod Failures
 pub mod Solution
 pub mod Files
-pub mod Options
+pub mod Asked
+pub mod Json
+pub mod Reported
 pub mod Program
 pub mod Table
 pub mod Written

@@ -1,25 +1,21 @@
 -- What the program does: what its words ask for, which texts its files have, and what it tells of them with which status.
-use Rattle.std.specs.Prelude.{◌≡◌, ℕ, ◌⊎◌, Bool, List, [], ◌∷◌, ◌++◌, codes, map, take, Option, None, Some, IfSome, IsTrue, Result, Ok, Err}
-use Rattle.std.specs.Borrow.{Bor}
+use Rattle.std.specs.Prelude.{◌≡◌, ℕ, ◌⊎◌, Bool, List, [], ◌∷◌, ◌++◌, take, Option, None, Some, IfSome, IsTrue, Result, Ok, Err}
 use Rattle.std.specs.Io.KnownBytes.{Appends}
 use Rattle.solver.specs.declared.answer.Answer.{Answer}
-use Rattle.solver.specs.declared.limits.Limits.{Limits}
 use Rattle.solver.specs.Solver.{IsTrueAnswer}
-use Rattle.planner_main.specs.declared.program.command.Command.{Command}
-use Rattle.planner_main.specs.declared.program.command.Options.{Options}
-use Rattle.planner_main.specs.declared.program.command.Command.TheVariants.{Validate, Solve, Check}
 use Rattle.planner_main.specs.declared.report.Failure.{Failure}
 use Rattle.planner_main.specs.declared.report.Failure.TheVariants as failure
 use Rattle.planner_main.specs.declared.task_file.FileFault.TheVariants as refusal
 use Rattle.devices.specs.declared.device.WriteFault as device_fault
 use Rattle.devices.specs.declared.device.WriteFault.TheVariants as device
 use Rattle.devices.specs.Devices.{AppendsBeginning, one_more}
-use Rattle.planner_main.specs.Failures.{line_of_fault, device_line, no_memory_line}
-use Rattle.planner_main.specs.Files.{fault_at, told_in, text_in}
-use Rattle.planner_main.specs.Options.{Asked, AskedOfCheck, NamedValue, value_of, IsOneOf, AreDistinct, AreOptions, AreCheckOptions}
+use Rattle.planner_main.specs.Failures.{line_of_fault, device_line, no_memory_line, nothing_done_line}
+use Rattle.planner_main.specs.Files.{fault_at, told_in}
+use Rattle.command_line.specs.Orders.{Asks, Asked, AskedOfCheck, Wanted, to_solve, to_validate, to_check}
+use Rattle.command_line.specs.View.{IsOfWords}
+use Rattle.command_line.specs.declared.fault.WordsFault.{WordsFault}
 use Rattle.planner_main.specs.Checked.{IsHandedIn, IsInputFault, IsLineOf, IsTrueCheck}
-use Rattle.planner_main.specs.Report.{line_of}
-use Rattle.planner_main.specs.Report as verdict
+use Rattle.planner_main.specs.Report.{told_verdict, status_of}
 use Rattle.planner_main.specs.Written.{NamedText, AreWritten, AreWrittenPartly}
 use Rattle.planner_main.specs.Solution.{TellsAnswer}
 use Rattle.model.specs.Runs.{Verdict}
@@ -28,50 +24,25 @@ use Rattle.cert_checker.specs.declared.checker.Accepted.{Accepted}
 use Rattle.model.specs.Task.{Task, Instance}
 use Rattle.model.specs.Files.{FileFault, IsTaskOf, IsTaskFault, IsVerdictOf, IsFileFault}
 
--- the bytes of words
-abbrev pub texts : List (Bor (List ℕ)) → List (List ℕ)
-texts words = map (λ word. word.now) words
-
--- The words ask for the verdict on a plan file, for a cheapest plan, or for what a certificate file shows, with what their
--- options ask for.
-abbrev pub AsksForVerdict : List (List ℕ) → (domain problem plan : List ℕ) → Type 0
-AsksForVerdict words domain problem plan = words ≡ codes "validate" ∷ domain ∷ problem ∷ plan ∷ []
-
-pub record AsksForPlan (words : List (List ℕ)) (domain problem : List ℕ) (asked : Asked) : Type 0 where
-  pub options : List (List ℕ)
-  pub in_order : words ≡ codes "solve" ∷ domain ∷ problem ∷ options
-  pub are : AreOptions options asked
-
-pub record AsksForCheck (words : List (List ℕ)) (domain problem cert : List ℕ) (asked : AskedOfCheck) : Type 0 where
-  pub options : List (List ℕ)
-  pub in_order : words ≡ codes "check" ∷ domain ∷ problem ∷ cert ∷ options
-  pub are : AreCheckOptions options asked
-
--- the words are a command
-pub data IsCommand (words : List (List ℕ)) : Type 0 where
-  is_validate : (domain problem plan : List ℕ) → AsksForVerdict words domain problem plan → IsCommand words
-  is_solve : (domain problem : List ℕ) (asked : Asked) → AsksForPlan words domain problem asked → IsCommand words
-  is_check : (domain problem cert : List ℕ) (asked : AskedOfCheck) → AsksForCheck words domain problem cert asked → IsCommand words
-
--- The words are a command whose domain file has this name.
-pub data NamesDomain (words : List (List ℕ)) (domain : List ℕ) : Type 0 where
-  in_validate : (problem plan : List ℕ) → AsksForVerdict words domain problem plan → NamesDomain words domain
-  in_solve : (problem : List ℕ) (asked : Asked) → AsksForPlan words domain problem asked → NamesDomain words domain
-  in_check : (problem cert : List ℕ) (asked : AskedOfCheck) → AsksForCheck words domain problem cert asked → NamesDomain words domain
+-- the name is one of these
+abbrev pub IsOneOf : List (List ℕ) → List ℕ → Type 0
+IsOneOf [] name = ⊥
+IsOneOf (first ∷ rest) name = (name ≡ first) ⊎ IsOneOf rest name
 
 -- the file of this name, if one is named
 abbrev pub if_named : Option (List ℕ) → List (List ℕ)
 if_named None = []
 if_named (Some name) = name ∷ []
 
+-- the names of the files that are read
+abbrev pub inputs_of : Wanted → List (List ℕ)
+inputs_of (to_validate domain problem plan json) = domain ∷ problem ∷ plan ∷ []
+inputs_of (to_solve domain problem asked) = domain ∷ problem ∷ []
+inputs_of (to_check domain problem cert asked) = domain ∷ problem ∷ cert ∷ if_named asked.plan
+
 -- The words are a command that reads the file of this name.
-pub data NamesInput (words : List (List ℕ)) (name : List ℕ) : Type 0 where
-  of_validate : (domain problem plan : List ℕ) → AsksForVerdict words domain problem plan → IsOneOf (domain ∷ problem ∷ plan ∷ []) name
-      → NamesInput words name
-  of_solve : (domain problem : List ℕ) (asked : Asked) → AsksForPlan words domain problem asked
-      → IsOneOf (domain ∷ problem ∷ []) name → NamesInput words name
-  of_check : (domain problem cert : List ℕ) (asked : AskedOfCheck) → AsksForCheck words domain problem cert asked
-      → IsOneOf (domain ∷ problem ∷ cert ∷ if_named asked.plan) name → NamesInput words name
+abbrev pub NamesInput : List (List ℕ) → List ℕ → Type 0
+NamesInput words name = (wanted : Wanted) × Asks words wanted × IsOneOf (inputs_of wanted) name
 
 -- the text of the file of this name: where its contents are known, their first 16,777,217 bytes, or all where they are fewer
 abbrev pub IsText : (List ℕ → Option (List ℕ)) → List ℕ → List ℕ → Type 0
@@ -99,35 +70,35 @@ abbrev pub OnInputs : (List ℕ → Option (List ℕ)) → (domain problem : Lis
 OnInputs contents domain problem plan Holds =
     (d : List ℕ) × (p : List ℕ) × (l : Option (List ℕ)) × IsText contents domain d × IsText contents problem p × IsTextIfNamed contents plan l × Holds d p l
 
--- this text is the line of the verdict that is true of three texts, and the status is the verdict's
-abbrev pub IsVerdictLine : (domain problem plan text : List ℕ) → (status : ℕ) → Type 0
-IsVerdictLine domain problem plan text status =
-    (v : Verdict) × IsVerdictOf domain problem plan v × (text ≡ line_of v) × (status ≡ verdict.status_of v)
+-- this text tells the verdict that is true of three texts, and the status is the verdict's
+abbrev pub IsVerdictLine : (domain problem plan : List ℕ) → (json : Bool) → (text : List ℕ) → (status : ℕ) → Type 0
+IsVerdictLine domain problem plan json text status =
+    (v : Verdict) × IsVerdictOf domain problem plan v × (text ≡ told_verdict json v) × (status ≡ status_of v)
 
 -- This text is that of an answer to the task of two texts that is true within the asked limits, the status is the answer's,
 -- and these files are written.
 abbrev pub IsSolutionText : (domain problem : List ℕ) → Asked → (text : List ℕ) → (status : ℕ) → List NamedText → Type 0
 IsSolutionText domain problem asked text status files =
     (task : Task) × (a : Answer) × IsTaskOf domain problem task × IsTrueAnswer task asked.states asked.instances a
-    × TellsAnswer task a asked.cert asked.plan text status files
+    × TellsAnswer task a asked.json asked.cert asked.plan text status files
 
 -- This text is the line of an answer of the checker that is true of a certificate's text, for the task of two texts and the
 -- plan of a third, if that is handed in; and the status is the answer's.
-abbrev pub IsCheckedLine : (domain problem : List ℕ) → (plan : Option (List ℕ)) → (cert : List ℕ) → (most : ℕ) → (text : List ℕ) → (status : ℕ) → Type 0
-IsCheckedLine domain problem plan cert most text status =
+abbrev pub IsCheckedLine : (domain problem : List ℕ) → (plan : Option (List ℕ)) → (cert : List ℕ) → (most : ℕ) → (json : Bool) → (text : List ℕ) → (status : ℕ) → Type 0
+IsCheckedLine domain problem plan cert most json text status =
     (task : Task) × (steps : Option (List Instance)) × (answer : Result Accepted Refusal) × IsTaskOf domain problem task × IsHandedIn task plan steps
-    × IsTrueCheck task cert steps most answer × IsLineOf answer text status
+    × IsTrueCheck task cert steps most answer × IsLineOf json answer text status
 
 -- the same of a certificate of which this is known: it is the whole text, where it is known
-abbrev pub IsCheckedIn : (known : Option (List ℕ)) → (domain problem : List ℕ) → (plan : Option (List ℕ)) → (most : ℕ) → (text : List ℕ) → (status : ℕ) → Type 0
-IsCheckedIn known domain problem plan most text status =
-    (cert : List ℕ) × IfSome known (λ bytes. cert ≡ bytes) × IsCheckedLine domain problem plan cert most text status
+abbrev pub IsCheckedIn : (known : Option (List ℕ)) → (domain problem : List ℕ) → (plan : Option (List ℕ)) → (most : ℕ) → (json : Bool) → (text : List ℕ) → (status : ℕ) → Type 0
+IsCheckedIn known domain problem plan most json text status =
+    (cert : List ℕ) × IfSome known (λ bytes. cert ≡ bytes) × IsCheckedLine domain problem plan cert most json text status
 
 -- This text, with this status and the files that are written before it, is an answer that is true of the texts of these files:
 -- a verdict or what is told of a certificate, beside which none is written, or what was found out of a task.
-abbrev pub IsVerdictText : (List ℕ → Option (List ℕ)) → (domain problem plan text : List ℕ) → (status : ℕ) → List NamedText → Type 0
-IsVerdictText contents domain problem plan text status written =
-    OnThree contents domain problem plan (λ d p l. IsVerdictLine d p l text status) × (written ≡ [])
+abbrev pub IsVerdictText : (List ℕ → Option (List ℕ)) → (domain problem plan : List ℕ) → (json : Bool) → (text : List ℕ) → (status : ℕ) → List NamedText → Type 0
+IsVerdictText contents domain problem plan json text status written =
+    OnThree contents domain problem plan (λ d p l. IsVerdictLine d p l json text status) × (written ≡ [])
 
 abbrev pub IsAnswerText : (List ℕ → Option (List ℕ)) → (domain problem : List ℕ) → Asked → (text : List ℕ) → (status : ℕ) → List NamedText → Type 0
 IsAnswerText contents domain problem asked text status written =
@@ -135,16 +106,16 @@ IsAnswerText contents domain problem asked text status written =
 
 abbrev pub IsCheckText : (List ℕ → Option (List ℕ)) → (domain problem cert : List ℕ) → AskedOfCheck → (text : List ℕ) → (status : ℕ) → List NamedText → Type 0
 IsCheckText contents domain problem cert asked text status written =
-    OnInputs contents domain problem asked.plan (λ d p l. IsCheckedIn (contents cert) d p l asked.instances text status) × (written ≡ [])
+    OnInputs contents domain problem asked.plan (λ d p l. IsCheckedIn (contents cert) d p l asked.instances asked.json text status) × (written ≡ [])
 
--- They are a true answer to what the words ask for.
-pub data IsAnswer (contents : List ℕ → Option (List ℕ)) (words : List (List ℕ)) (text : List ℕ) (status : ℕ) (written : List NamedText) : Type 0 where
-  a_verdict : (domain problem plan : List ℕ) → AsksForVerdict words domain problem plan
-      → IsVerdictText contents domain problem plan text status written → IsAnswer contents words text status written
-  an_answer : (domain problem : List ℕ) (asked : Asked) → AsksForPlan words domain problem asked
-      → IsAnswerText contents domain problem asked text status written → IsAnswer contents words text status written
-  a_check : (domain problem cert : List ℕ) (asked : AskedOfCheck) → AsksForCheck words domain problem cert asked
-      → IsCheckText contents domain problem cert asked text status written → IsAnswer contents words text status written
+-- They are a true answer to what is asked for, and to what the words ask for.
+abbrev pub IsAnswerTo : (List ℕ → Option (List ℕ)) → Wanted → (text : List ℕ) → (status : ℕ) → List NamedText → Type 0
+IsAnswerTo contents (to_validate domain problem plan json) text status written = IsVerdictText contents domain problem plan json text status written
+IsAnswerTo contents (to_solve domain problem asked) text status written = IsAnswerText contents domain problem asked text status written
+IsAnswerTo contents (to_check domain problem cert asked) text status written = IsCheckText contents domain problem cert asked text status written
+
+abbrev pub IsAnswer : (List ℕ → Option (List ℕ)) → List (List ℕ) → (text : List ℕ) → (status : ℕ) → List NamedText → Type 0
+IsAnswer contents words text status written = (wanted : Wanted) × Asks words wanted × IsAnswerTo contents wanted text status written
 
 -- each file is as it was
 abbrev pub AreKept : (before after : List ℕ → Option (List ℕ)) → Type 0
@@ -175,14 +146,15 @@ Tells words known files files_after = IsTold (IsAnswer files words) known files 
 abbrev pub TellsPartly : List (List ℕ) → (known : Bool) → (files files_after : List ℕ → Option (List ℕ)) → (out out_after : Option (List ℕ)) → Type 0
 TellsPartly words known files files_after = IsToldPartly (IsAnswer files words) known files files_after
 
+-- the texts of the files that are named are refused, and this fault is the first
+abbrev pub IsFaultFor : (List ℕ → Option (List ℕ)) → Wanted → FileFault → Type 0
+IsFaultFor contents (to_validate domain problem plan json) fault = OnThree contents domain problem plan (λ d p l. IsFileFault d p l fault)
+IsFaultFor contents (to_solve domain problem asked) fault = OnTwo contents domain problem (λ d p. IsTaskFault d p fault)
+IsFaultFor contents (to_check domain problem cert asked) fault = OnInputs contents domain problem asked.plan (λ d p l. IsInputFault d p l fault)
+
 -- The texts of the files that the words name are refused, and this fault is the first.
-pub data IsRefusedFor (contents : List ℕ → Option (List ℕ)) (words : List (List ℕ)) (fault : FileFault) : Type 0 where
-  a_verdict_refused : (domain problem plan : List ℕ) → AsksForVerdict words domain problem plan
-      → OnThree contents domain problem plan (λ d p l. IsFileFault d p l fault) → IsRefusedFor contents words fault
-  an_answer_refused : (domain problem : List ℕ) (asked : Asked) → AsksForPlan words domain problem asked
-      → OnTwo contents domain problem (λ d p. IsTaskFault d p fault) → IsRefusedFor contents words fault
-  a_check_refused : (domain problem cert : List ℕ) (asked : AskedOfCheck) → AsksForCheck words domain problem cert asked
-      → OnInputs contents domain problem asked.plan (λ d p l. IsInputFault d p l fault) → IsRefusedFor contents words fault
+abbrev pub IsRefusedFor : (List ℕ → Option (List ℕ)) → List (List ℕ) → FileFault → Type 0
+IsRefusedFor contents words fault = (wanted : Wanted) × Asks words wanted × IsFaultFor contents wanted fault
 
 -- The texts are refused: the standard output and the files are as they were, and the standard error says the line of the fault.
 abbrev pub Refuses : List (List ℕ) → (files files_after : List ℕ → Option (List ℕ)) → (out out_after : Option (List ℕ)) → (Says : List ℕ → Type 0) → Type 0
@@ -197,54 +169,17 @@ HasFailed files files_after out out_after = (files_after ≡ one_more files) ⊎
 abbrev pub HasNotFailed : (files files_after out out_after : ℕ) → Type 0
 HasNotFailed files files_after out out_after = (files_after ≡ files) × (out_after ≡ out)
 
--- These options are known, none stands twice, and their values are held.
-pub record Holds (held : Options) (options : List NamedValue) : Type 0 where
-  pub distinct : AreDistinct options
-  pub plan : text_in held.plan ≡ value_of (codes "--plan") options
-  pub cert : text_in held.cert ≡ value_of (codes "--cert") options
-  pub states : text_in held.states ≡ value_of (codes "--states") options
-  pub instances : text_in held.instances ≡ value_of (codes "--instances") options
+-- what is asked for is told, whole or in part
+abbrev pub TellsFor : Wanted → (known : Bool) → (files files_after : List ℕ → Option (List ℕ)) → (out out_after : Option (List ℕ)) → ℕ → Type 0
+TellsFor wanted known files files_after = IsTold (IsAnswerTo files wanted) known files files_after
 
--- what a command asks for beyond the files that it reads
-abbrev pub asked_of : Limits → (plan cert : Option (Bor (List ℕ))) → Asked
-asked_of limits plan cert = record { states = limits.states; instances = limits.instances; plan = text_in plan; cert = text_in cert }
-
-abbrev pub asked_of_check : (instances : ℕ) → (plan : Option (Bor (List ℕ))) → AskedOfCheck
-asked_of_check instances plan = record { instances = instances; plan = text_in plan }
-
--- the same of what a command asks for, in the code's terms
-abbrev pub IsAnswerFor : (List ℕ → Option (List ℕ)) → Command → (text : List ℕ) → ℕ → List NamedText → Type 0
-IsAnswerFor contents (Validate domain problem plan) text status written =
-    IsVerdictText contents domain.now problem.now plan.now text status written
-IsAnswerFor contents (Solve domain problem limits plan cert) text status written =
-    IsAnswerText contents domain.now problem.now (asked_of limits plan cert) text status written
-IsAnswerFor contents (Check domain problem cert plan instances) text status written =
-    IsCheckText contents domain.now problem.now cert.now (asked_of_check instances plan) text status written
-
-abbrev pub TellsFor : Command → (known : Bool) → (files files_after : List ℕ → Option (List ℕ)) → (out out_after : Option (List ℕ)) → ℕ → Type 0
-TellsFor command known files files_after = IsTold (IsAnswerFor files command) known files files_after
-
-abbrev pub TellsPartlyFor : Command → (known : Bool) → (files files_after : List ℕ → Option (List ℕ)) → (out out_after : Option (List ℕ)) → Type 0
-TellsPartlyFor command known files files_after = IsToldPartly (IsAnswerFor files command) known files files_after
-
--- the words are this command
-abbrev pub Asks : List (List ℕ) → Command → Type 0
-Asks words (Validate domain problem plan) = AsksForVerdict words domain.now problem.now plan.now
-Asks words (Solve domain problem limits plan cert) = AsksForPlan words domain.now problem.now (asked_of limits plan cert)
-Asks words (Check domain problem cert plan instances) = AsksForCheck words domain.now problem.now cert.now (asked_of_check instances plan)
+abbrev pub TellsPartlyFor : Wanted → (known : Bool) → (files files_after : List ℕ → Option (List ℕ)) → (out out_after : Option (List ℕ)) → Type 0
+TellsPartlyFor wanted known files files_after = IsToldPartly (IsAnswerTo files wanted) known files files_after
 
 -- the fault of a text that the failure is, and None of a device or of memory
 abbrev pub fault_in : Failure → Option FileFault
 fault_in (failure.Text fault) = told_in fault
 fault_in (failure.Device fault) = None
-
--- the texts of the files of this command are refused, and this fault is the first
-abbrev pub IsFaultFor : (List ℕ → Option (List ℕ)) → Command → FileFault → Type 0
-IsFaultFor contents (Validate domain problem plan) fault =
-    OnThree contents domain.now problem.now plan.now (λ d p l. IsFileFault d p l fault)
-IsFaultFor contents (Solve domain problem limits plan cert) fault = OnTwo contents domain.now problem.now (λ d p. IsTaskFault d p fault)
-IsFaultFor contents (Check domain problem cert plan instances) fault =
-    OnInputs contents domain.now problem.now (text_in plan) (λ d p l. IsInputFault d p l fault)
 
 -- the failure of a write
 abbrev pub of_device : device_fault.WriteFault → Failure
@@ -274,17 +209,14 @@ IsToldOn (failure.Text refusal.NoMemory) Says status = (status ≡ 22) × Says n
 IsToldOn (failure.Device device.Device) Says status = (status ≡ 21) × Says device_line
 IsToldOn (failure.Device device.NoMemory) Says status = (status ≡ 22) × Says no_memory_line
 
--- the name of the file that is opened first
-abbrev pub domain_of : Command → List ℕ
-domain_of (Validate domain problem plan) = domain.now
-domain_of (Solve domain problem limits plan cert) = domain.now
-domain_of (Check domain problem cert plan instances) = domain.now
+-- It is said what is wrong with the words, or the help that they ask for, and behind it that nothing was done.
+abbrev pub SaysOfWords : (Says : List ℕ → Type 0) → Type 0
+SaysOfWords Says = (text : List ℕ) × Says (text ++ nothing_done_line)
 
--- the names of the files that are read
-abbrev pub inputs_of : Command → List (List ℕ)
-inputs_of (Validate domain problem plan) = domain.now ∷ problem.now ∷ plan.now ∷ []
-inputs_of (Solve domain problem limits plan cert) = domain.now ∷ problem.now ∷ []
-inputs_of (Check domain problem cert plan instances) = domain.now ∷ problem.now ∷ cert.now ∷ if_named (text_in plan)
+-- Words that are no order are told with the status 2 where they are no command, and with 22 where memory was refused.
+abbrev pub IsToldOfWords : WordsFault → (Says : List ℕ → Type 0) → ℕ → Type 0
+IsToldOfWords fault Says status =
+    ((status ≡ 2) × IsOfWords fault × SaysOfWords Says) ⊎ ((status ≡ 22) × Says no_memory_line)
 
 -- there is no answer, and no fault of a text is told
 abbrev pub IsUnread : {T : Type 0} → Result T Failure → Type 0

@@ -1,11 +1,12 @@
--- What stands on the standard output once a task was solved, and the status beside it.
-use Rattle.std.specs.Prelude.{◌≡◌, ℕ, List, [], ◌∷◌, ◌++◌, codes, Option, None, Some}
+-- What stands on the standard output, and in files, once a task was solved, and the status beside it.
+use Rattle.std.specs.Prelude.{◌≡◌, ℕ, Bool, List, [], ◌∷◌, ◌++◌, codes, Option, None, Some, if◌then◌else◌}
 use Rattle.formulas.specs.State.{plan_of}
 use Rattle.solver.specs.declared.answer.Answer.{Answer}
 use Rattle.solver.specs.declared.answer.Answer.TheVariants.{Plan, Unsolvable, Unknown}
 use Rattle.solver.specs.declared.answer.Limit.TheVariants.{Instances, Atoms, States}
 use Rattle.certificate.specs.Certificate.{certificate_of}
 use Rattle.certificate_text.specs.CertificateNames.{certificate_text}
+use Rattle.planner_main.specs.Json.{line_of_members, of_answer}
 use Rattle.planner_main.specs.Written.{NamedText}
 use Rattle.model.specs.Task.{Task}
 use Rattle.model.specs.PlanWriting.{plan_text}
@@ -17,6 +18,10 @@ text_of task (Unsolvable cert) = codes "unsolvable\n"
 text_of task (Unknown Instances) = codes "unknown instances\n"
 text_of task (Unknown Atoms) = codes "unknown atoms\n"
 text_of task (Unknown States) = codes "unknown states\n"
+
+-- what is told on the standard output: that text, or the answer as JSON
+abbrev pub told_of : Task → Answer → (json : Bool) → List ℕ
+told_of task a json = if json then line_of_members (of_answer task a) else text_of task a
 
 -- the status beside it: 0 with a plan, 10 where there is none, 11 where a limit is exceeded
 abbrev pub status_of : Answer → ℕ
@@ -46,5 +51,5 @@ abbrev pub files_of : Task → Answer → (cert plan : Option (List ℕ)) → Li
 files_of task a cert plan = cert_file task a cert ++ plan_file task a plan
 
 -- This text, with this status and these files, tells the answer where these files are asked for.
-abbrev pub TellsAnswer : Task → Answer → (cert plan : Option (List ℕ)) → (text : List ℕ) → (status : ℕ) → List NamedText → Type 0
-TellsAnswer task a cert plan text status files = (text ≡ text_of task a) × (status ≡ status_of a) × (files ≡ files_of task a cert plan)
+abbrev pub TellsAnswer : Task → Answer → (json : Bool) → (cert plan : Option (List ℕ)) → (text : List ℕ) → (status : ℕ) → List NamedText → Type 0
+TellsAnswer task a json cert plan text status files = (text ≡ told_of task a json) × (status ≡ status_of a) × (files ≡ files_of task a cert plan)

@@ -4,6 +4,7 @@
 
 mod checking;
 pub mod files;
+mod json;
 mod laws;
 mod program;
 mod report;
@@ -12,7 +13,9 @@ mod task_file;
 mod verdict;
 
 pub use checking::{Checked, check_files};
+pub use command_line::{Limit, Order, WordsFault, read_words};
 pub use files::Files;
+pub use json::{Report, json_line};
 pub use laws::solved_certificates_are_accepted;
 pub use program::run;
 pub use solve::{Solved, solve_files};

@@ -1,38 +1,37 @@
 //! The program.
-ghost use Rattle.std.specs.Prelude.{◌≡◌, ℕ, ◌↔◌, ◌⊎◌, Err, IfErr, IfOk, IfSome, IsTrue, List, false};
-ghost use Rattle.planner_main.specs.Failures.{device_line, no_memory_line, usage};
+ghost use Rattle.std.specs.Prelude.{◌≡◌, ℕ, ◌⊎◌, IfErr, IfOk, IfSome, IsTrue, List, false};
+ghost use Rattle.command_line.specs.Orders.{IsCommand};
+ghost use Rattle.command_line.specs.View.{texts, wanted_of};
+ghost use Rattle.planner_main.specs.Failures.{device_line, no_memory_line};
 ghost use Rattle.planner_main.specs.Report.{is_failure};
-ghost use Rattle.planner_main.specs.Options.{IsOneOf};
-ghost use Rattle.planner_main.specs.Program.{texts, AreKept, IsCommand, Tells, TellsFor, TellsPartly, TellsPartlyFor, Refuses, HasFailed, HasNotFailed, CountsEither, NamesDomain, NamesInput, IsFaultFor, IsUnread, device_failure, domain_of, fault_in, inputs_of};
+ghost use Rattle.planner_main.specs.Program.{AreKept, Tells, TellsFor, TellsPartly, TellsPartlyFor, Refuses, HasFailed, HasNotFailed, CountsEither, NamesInput, IsFaultFor, IsOneOf, IsUnread, SaysOfWords, fault_in, inputs_of};
 ghost use Rattle.devices.specs.Devices.{IsWritten};
 
 mod checking;
-mod command;
 mod inputs;
 mod solution;
 mod verdict;
 
 use crate::files::Files;
-use crate::report::{Failure, tell, tell_usage};
+use crate::report::{Failure, tell, tell_words};
 use checking::{Names, tell_check};
-use command::{Command, read_command};
+use command_line::{Limit, Order, read_words};
 use devices::Sink;
 use solution::{Wanted, tell_solution};
+use solver::Limits;
 use std::alloc::Global;
 use verdict::tell_verdict;
 
 /// The whole program: what the words ask for, with its answer on the standard output and its faults on the standard
-/// error, and the status that it ends with.
+/// error, and the status that it ends with. What the words ask for is `read_words`' matter.
 ///
-/// `solve DOMAIN PROBLEM [--plan FILE] [--cert FILE] [--states N] [--instances N]` tells a cheapest plan, or that there is
-/// none. At most so many states are listed, and so many instances kept, those that the start does not close off; each N is
-/// 1,000,000 where it is not given. The options stand in any order. The certificate of the answer is written to the file of
-/// `--cert`, then a plan's text to the file of `--plan`, and then the standard output; where one of them fails, those after it
-/// are not touched, and neither is a file for which there is nothing to write. `validate DOMAIN PROBLEM PLAN` says whether the plan
-/// solves the task. `check DOMAIN PROBLEM CERT [--plan FILE] [--instances N]` says what the certificate shows: with a plan, which is
-/// read from the file of `--plan`, that it is a cheapest one; else that no plan costs less, or that there is none. Of a file at most
-/// 16,777,217 bytes are read and taken for its whole text, and all files are read before any fault of their texts is told; but the
-/// certificate is only opened before, and then read line by line, to its end or to its first fault, whatever its length.
+/// `solve` tells a cheapest plan, or that there is none. At most so many states are listed, and so many instances kept, those that
+/// the start does not close off. The certificate of the answer is written to the file of `--cert`, then a plan's text to the file of
+/// `--plan`, and then the standard output; where one of them fails, those after it are not touched, and neither is a file for which
+/// there is nothing to write. `validate` says whether the plan solves the task. `check` says what the certificate shows: with a plan,
+/// which is read from the file of `--plan`, that it is a cheapest one; else that no plan costs less, or that there is none. Of a file
+/// at most 16,777,217 bytes are read and taken for its whole text, and all files are read before any fault of their texts is told; but
+/// the certificate is only opened before, and then read line by line, to its end or to its first fault, whatever its length.
 ///
 /// | What comes | Standard output | Standard error | Status |
 /// |---|---|---|---|
@@ -43,13 +42,13 @@ use verdict::tell_verdict;
 /// | it does not | `not applicable step N` or `goal missed` | | 12 |
 /// | the certificate is accepted | `optimal cost N`, `at least N` or `unsolvable` | | 0 |
 /// | it is not | `not accepted CODE Name line L` or `not accepted CODE Name` | | 12 |
-/// | other words | | how the program is used | 2 |
+/// | other words, or such as ask for help | | what is wrong, or the help, and `optplan: nothing was done` | 2 |
 /// | a file's text is refused | | `fault CODE Name in FILE at S..E` | 20 |
 /// | a file, or the standard output, fails | | `fault 61 Device` | 21 |
 /// | memory is refused | | `fault 60 NoMemory` | 22 |
 ///
-/// Where a stream or a file that is written fails, a beginning of what is told stands there; that the standard error fails
-/// changes no status.
+/// With `--json` the standard output takes a line of JSON in place of the text (`json_line`), with the same status. Where a stream or
+/// a file that is written fails, a beginning of what is told stands there; that the standard error fails changes no status.
 ///
 /// ```
 /// let mut files = Table::new(alloc);
@@ -72,10 +71,12 @@ pub fn run<F: Files, O: Sink, E: Sink>(
         ⊎ Tells (texts words.now) F.is_known (F.contents files.old) (F.contents files.new) (O.taken out.old) (O.taken out.new) result }
     ensures quiet { is_failure result ≡ false → E.taken err.new ≡ E.taken err.old }
 
-    // The status of words that are no command is told exactly of these, and that of texts only where they are refused.
-    ensures words { (result ≡ 2) ↔ (IsCommand (texts words.now) → ⊥) }
+    // The status of words that are no command is told exactly of these, unless memory for reading them is refused; and that of
+    // texts only where they are refused.
+    ensures words { result ≡ 2 → IsCommand (texts words.now) → ⊥ }
+    ensures no_command { (IsCommand (texts words.now) → ⊥) → (result ≡ 2) ⊎ (result ≡ 22) }
     ensures usage { result ≡ 2 → (O.taken out.new ≡ O.taken out.old) × AreKept (F.contents files.old) (F.contents files.new)
-        × IsWritten E.wants_memory (E.failures err.old) (E.failures err.new) (E.taken err.old) (E.taken err.new) usage }
+        × SaysOfWords (IsWritten E.wants_memory (E.failures err.old) (E.failures err.new) (E.taken err.old) (E.taken err.new)) }
     ensures refused { result ≡ 20 → Refuses (texts words.now) (F.contents files.old) (F.contents files.new)
         (O.taken out.old) (O.taken out.new) (IsWritten E.wants_memory (E.failures err.old) (E.failures err.new) (E.taken err.old) (E.taken err.new)) }
 
@@ -84,60 +85,63 @@ pub fn run<F: Files, O: Sink, E: Sink>(
     ensures device { result ≡ 21 → HasFailed (F.failures files.old) (F.failures files.new) (O.failures out.old) (O.failures out.new)
         × TellsPartly (texts words.now) F.is_known (F.contents files.old) (F.contents files.new) (O.taken out.old) (O.taken out.new)
         × IsWritten E.wants_memory (E.failures err.old) (E.failures err.new) (E.taken err.old) (E.taken err.new) device_line }
-    ensures missing { (name : List ℕ) → NamesDomain (texts words.now) name → IsTrue (F.is_missing files.old name) → result ≡ 21 }
     // All files are opened before any fault of their texts is told.
     ensures unread { (name : List ℕ) → NamesInput (texts words.now) name → IsTrue (F.is_missing files.old name)
         → (result ≡ 21) ⊎ (result ≡ 22) }
     ensures memory { result ≡ 22 → TellsPartly (texts words.now) F.is_known (F.contents files.old) (F.contents files.new) (O.taken out.old) (O.taken out.new)
         × IsWritten E.wants_memory (E.failures err.old) (E.failures err.new) (E.taken err.old) (E.taken err.new) no_memory_line }
 {
-    let Some(command) = read_command(words) else {
-        return tell_usage(err);
-    };
-    match carry_out(alloc, command, files, out) {
-        Ok(status) => status,
-        Err(failure) => tell(alloc, failure, err),
+    match read_words(alloc, words) {
+        Err(fault) => tell_words(alloc, fault, err),
+        Ok(order) => match carry_out(alloc, order, files, out) {
+            Ok(status) => status,
+            Err(failure) => tell(alloc, failure, err),
+        },
     }
 }
 
 /// Does what is asked for: the status.
 fn carry_out<F: Files, O: Sink>(
     alloc: Global,
-    command: Command<'_>,
+    order: Order<'_>,
     files: &mut F,
     out: &mut O,
 ) -> Result<u8, Failure>
-    ensures told { IfOk result (TellsFor command.entry F.is_known (F.contents files.old) (F.contents files.new) (O.taken out.old) (O.taken out.new)) }
-    ensures refused { IfErr result (λ failure. IfSome (fault_in failure) (λ fault. IsFaultFor (F.contents files.old) command.entry fault
+    ensures told { IfOk result (TellsFor (wanted_of order.entry) F.is_known (F.contents files.old) (F.contents files.new) (O.taken out.old) (O.taken out.new)) }
+    ensures refused { IfErr result (λ failure. IfSome (fault_in failure) (λ fault. IsFaultFor (F.contents files.old) (wanted_of order.entry) fault
         × (O.taken out.new ≡ O.taken out.old) × AreKept (F.contents files.old) (F.contents files.new))) }
-    ensures partly { IfErr result (λ failure. TellsPartlyFor command.entry F.is_known (F.contents files.old) (F.contents files.new) (O.taken out.old) (O.taken out.new)) }
+    ensures partly { IfErr result (λ failure. TellsPartlyFor (wanted_of order.entry) F.is_known (F.contents files.old) (F.contents files.new) (O.taken out.old) (O.taken out.new)) }
     ensures unfailed { IfOk result (λ _. HasNotFailed (F.failures files.old) (F.failures files.new) (O.failures out.old) (O.failures out.new)) }
     ensures failures { IfErr result (CountsEither (F.failures files.old) (F.failures files.new) (O.failures out.old) (O.failures out.new)) }
-    ensures missing { IsTrue (F.is_missing files.old (domain_of command.entry)) → result ≡ Err device_failure }
-    ensures unread { (name : List ℕ) → IsOneOf (inputs_of command.entry) name → IsTrue (F.is_missing files.old name) → IsUnread result }
+    ensures unread { (name : List ℕ) → IsOneOf (inputs_of (wanted_of order.entry)) name → IsTrue (F.is_missing files.old name) → IsUnread result }
 {
-    match command {
-        Command::Validate {
+    match order {
+        Order::Validate {
             domain,
             problem,
             plan,
-        } => tell_verdict(alloc, domain, problem, plan, files, out),
-        Command::Solve {
+            json,
+        } => tell_verdict(alloc, domain, problem, plan, json, files, out),
+        Order::Solve {
             domain,
             problem,
-            limits,
             plan,
             cert,
+            states,
+            instances,
+            json,
         } => {
-            let wanted = Wanted { plan, cert };
+            let limits = limits_of(states, instances);
+            let wanted = Wanted { plan, cert, json };
             tell_solution(alloc, domain, problem, limits, wanted, files, out)
         }
-        Command::Check {
+        Order::Check {
             domain,
             problem,
             cert,
             plan,
             instances,
+            json,
         } => {
             let names = Names {
                 domain,
@@ -145,7 +149,15 @@ fn carry_out<F: Files, O: Sink>(
                 cert,
                 plan,
             };
-            tell_check(alloc, names, instances, files, out)
+            tell_check(alloc, names, instances.number(), json, files, out)
         }
     }
+}
+
+/// These limits of a search.
+fn limits_of(states: Limit, instances: Limit) -> Limits
+    ensures states { result.states ≡ states.number }
+    ensures instances { result.instances ≡ instances.number }
+{
+    Limits::new(states.number(), instances.number()).unwrap()
 }

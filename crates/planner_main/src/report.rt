@@ -1,14 +1,17 @@
 //! What the program says: the lines of its two streams, and the statuses beside them.
-ghost use Rattle.std.specs.Prelude.{◌≡◌, ◌⊎◌, IfOk, IsTrue};
+ghost use Rattle.std.specs.Prelude.{◌≡◌, ◌⊎◌, ◌++◌, ℕ, IfOk, IsTrue, List};
 ghost use Rattle.std.specs.String.{string_bytes};
 ghost use Rattle.validator.specs.Verdict.{verdict_of};
-ghost use Rattle.planner_main.specs.Report.{is_failure, line_of, status_of};
-ghost use Rattle.planner_main.specs.Failures.{line_of_fault, no_memory_line, usage};
+ghost use Rattle.command_line.specs.View.{IsOfWords};
+ghost use Rattle.planner_main.specs.Report.{is_failure, line_of, status_of, told_verdict};
+ghost use Rattle.planner_main.specs.Failures.{line_of_fault, no_memory_line, nothing_done_line};
 ghost use Rattle.planner_main.specs.Files.{fault_at};
-ghost use Rattle.planner_main.specs.Program.{IsToldOn};
+ghost use Rattle.planner_main.specs.Program.{IsToldOfWords, IsToldOn};
 ghost use Rattle.devices.specs.Devices.{IsWritten};
 
+use crate::json::{line_of, verdict_object};
 use crate::task_file::{File, FileFault};
+use command_line::WordsFault;
 use devices::{Sink, WriteFault, write_all};
 use faults::{Code, Span};
 use std::alloc::{AllocError, Global};
@@ -32,8 +35,8 @@ pub(crate) const DEVICE: u8 = 21;
 /// Memory was refused.
 pub(crate) const NO_MEMORY: u8 = 22;
 
-const USAGE: &str =
-    "usage: optplan solve DOMAIN PROBLEM [--plan FILE] [--cert FILE] [--states N] [--instances N]\n       optplan validate DOMAIN PROBLEM PLAN\n       optplan check DOMAIN PROBLEM CERT [--plan FILE] [--instances N]\n";
+/// The last line where the words are no command.
+const NOTHING_DONE: &str = "optplan: nothing was done\n";
 
 /// Why the program has no answer.
 #[derive(Clone, Copy)]
@@ -66,17 +69,47 @@ impl From<WriteFault> for Failure {
     }
 }
 
-/// The line of a verdict, and its status.
-pub(crate) fn answer(alloc: Global, verdict: Verdict) -> Result<(String, u8), AllocError>
-    ensures line { IfOk result (λ told. string_bytes told.0 ≡ line_of (verdict_of verdict)) }
+/// What a verdict is told as, and its status.
+pub(crate) fn answer(
+    alloc: Global,
+    verdict: Verdict,
+    json: bool,
+) -> Result<(String, u8), AllocError>
+    ensures line { IfOk result (λ told. string_bytes told.0 ≡ told_verdict json (verdict_of verdict)) }
     ensures status { IfOk result (λ told. told.1 ≡ status_of (verdict_of verdict)) }
 {
+    Ok((tell_verdict(alloc, verdict, json)?, status_of(verdict)))
+}
+
+/// What a verdict is told as.
+fn tell_verdict(alloc: Global, verdict: Verdict, json: bool) -> Result<String, AllocError>
+    ensures { IfOk result (λ told. string_bytes told ≡ told_verdict json (verdict_of verdict)) }
+{
+    if json {
+        line_of(verdict_object(alloc, verdict)?)
+    } else {
+        verdict_line(alloc, verdict)
+    }
+}
+
+/// The line of a verdict.
+fn verdict_line(alloc: Global, verdict: Verdict) -> Result<String, AllocError>
+    ensures { IfOk result (λ line. string_bytes line ≡ line_of (verdict_of verdict)) }
+{
     match verdict {
-        Verdict::Valid { cost } => Ok((format!(in alloc; "valid cost {cost}\n")?, YES)),
-        Verdict::NotApplicable { step } => {
-            Ok((format!(in alloc; "not applicable step {step}\n")?, NO))
-        }
-        Verdict::GoalMissed => Ok((String::from_str(alloc, "goal missed\n")?, NO)),
+        Verdict::Valid { cost } => format!(in alloc; "valid cost {cost}\n"),
+        Verdict::NotApplicable { step } => format!(in alloc; "not applicable step {step}\n"),
+        Verdict::GoalMissed => String::from_str(alloc, "goal missed\n"),
+    }
+}
+
+/// The status beside a verdict.
+fn status_of(verdict: Verdict) -> u8
+    ensures { result ≡ status_of (verdict_of verdict) }
+{
+    match verdict {
+        Verdict::Valid { .. } => YES,
+        Verdict::NotApplicable { .. } | Verdict::GoalMissed => NO,
     }
 }
 
@@ -139,11 +172,30 @@ fn say<E: Sink>(err: &mut E, bytes: &[u8])
     let _ = write_all(err, bytes);
 }
 
-/// Tells how the program is used.
-pub(crate) fn tell_usage<E: Sink>(err: &mut E) -> u8
-    ensures status { result ≡ WRONG_WORDS }
-    ensures line { IsWritten E.wants_memory (E.failures err.old) (E.failures err.new) (E.taken err.old) (E.taken err.new) usage }
+/// Tells what is wrong with the words, or the help that they ask for, and that nothing was done: the status.
+pub(crate) fn tell_words<E: Sink>(alloc: Global, fault: WordsFault, err: &mut E) -> u8
+    ensures { IsToldOfWords fault (IsWritten E.wants_memory (E.failures err.old) (E.failures err.new) (E.taken err.old) (E.taken err.new)) result }
 {
-    say(err, USAGE.as_bytes());
-    WRONG_WORDS
+    match words_text(alloc, &fault) {
+        Ok(text) => {
+            say(err, text.as_bytes());
+            WRONG_WORDS
+        }
+        Err(AllocError) => tell_no_memory(err),
+    }
+}
+
+/// What a fault of the words says, and the last line.
+fn words_text(alloc: Global, fault: &WordsFault) -> Result<String, AllocError>
+    ensures words { IfOk result (λ _. IsOfWords fault.now) }
+    ensures text { IfOk result (λ told. (text : List ℕ) × (string_bytes told ≡ text ++ nothing_done_line)) }
+{
+    match fault {
+        WordsFault::Words(_) => {
+            let mut text = format!(in alloc; "{fault}")?;
+            text.push_str(NOTHING_DONE)?;
+            Ok(text)
+        }
+        WordsFault::NoMemory => Err(AllocError),
+    }
 }

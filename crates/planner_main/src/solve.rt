@@ -1,10 +1,11 @@
 //! From the bytes of a domain file and a problem file to a cheapest plan.
-ghost use Rattle.std.specs.Prelude.{◌≡◌, ℕ, List, IfOk, IfErr, IfSome, None};
+ghost use Rattle.std.specs.Prelude.{◌≡◌, ℕ, List, IfOk, IfErr, IfSome, IsTrue, None};
 ghost use Rattle.typing.specs.Task.{task_of};
 ghost use Rattle.solver.specs.Solver.{IsTrueAnswer};
 ghost use Rattle.planner_main.specs.Files.{told_in};
 ghost use Rattle.model.specs.Task as model;
 ghost use Rattle.model.specs.Files.{IsTaskOf, IsTaskFault};
+ghost use Rattle.model.specs.PlanWriting.{has_names};
 
 mod text;
 
@@ -12,7 +13,7 @@ use crate::task_file::{FileFault, read_task};
 use faults::NoMemory;
 use solver::{Answer, Limits, solve};
 use std::alloc::Global;
-pub(crate) use text::{PLAN, answer_text};
+pub(crate) use text::{answer_text, json_text, told};
 use typing::Task;
 
 /// A task with what was found out of it.
@@ -45,6 +46,7 @@ pub fn solve_files(
     // The task is that of the two texts, and the answer is true of it.
     ensures task { IfOk result (λ s. IsTaskOf domain.now problem.now (task_of s.task)) }
     ensures answer { IfOk result (λ s. IsTrueAnswer (task_of s.task) limits.states limits.instances s.answer) }
+    ensures names { IfOk result (λ s. IsTrue (has_names (task_of s.task))) }
     ensures refused { IfErr result (λ fault. IfSome (told_in fault) (IsTaskFault domain.now problem.now)) }
 
     // Where the two are a task, there is an answer: the only error is want of memory.

@@ -1,11 +1,11 @@
 //! `check`: what a certificate shows, from files to the standard output.
-ghost use Rattle.std.specs.Prelude.{◌≡◌, ℕ, Err, IfErr, IfOk, IfSome, IsErr, IsTrue, List, ◌∷◌, Option};
+ghost use Rattle.std.specs.Prelude.{◌≡◌, ℕ, IfErr, IfOk, IfSome, IsErr, IsTrue, List, ◌∷◌, Option};
 ghost use Rattle.certificate_listing.specs.Reading.{IsFresh};
 ghost use Rattle.certificate_reader.specs.Reader.{source_of};
 ghost use Rattle.planner_main.specs.Checked.{IsInputFault};
 ghost use Rattle.planner_main.specs.Files.{items_in, text_in};
-ghost use Rattle.planner_main.specs.Options.{IsOneOf};
-ghost use Rattle.planner_main.specs.Program.{AreKept, CountsEither, CountsFailure, HasNotFailed, IsCheckText, IsCheckedIn, IsTextIfNamed, IsTold, IsToldPartly, IsUnread, OnInputs, asked_of_check, device_failure, fault_in, if_named};
+ghost use Rattle.planner_main.specs.Asked.{asked_of_check};
+ghost use Rattle.planner_main.specs.Program.{AreKept, CountsEither, CountsFailure, HasNotFailed, IsCheckText, IsCheckedIn, IsOneOf, IsTextIfNamed, IsTold, IsToldPartly, IsUnread, OnInputs, fault_in, if_named};
 ghost use Rattle.devices.specs.Devices.{CountsDevice, IsKept};
 
 use crate::checking::{check_files, checked_text};
@@ -41,23 +41,23 @@ pub(super) fn tell_check<F: Files, O: Sink>(
     alloc: Global,
     names: Names<'_>,
     instances: u32,
+    json: bool,
     files: &mut F,
     out: &mut O,
 ) -> Result<u8, Failure>
-    ensures told { IfOk result (IsTold (IsCheckText (F.contents files.old) names.entry.domain.now names.entry.problem.now names.entry.cert.now (asked_of_check instances names.entry.plan))
+    ensures told { IfOk result (IsTold (IsCheckText (F.contents files.old) names.entry.domain.now names.entry.problem.now names.entry.cert.now (asked_of_check instances names.entry.plan json))
         F.is_known (F.contents files.old) (F.contents files.new) (O.taken out.old) (O.taken out.new)) }
     ensures refused { IfErr result (λ failure. IfSome (fault_in failure) (λ fault.
         OnInputs (F.contents files.old) names.entry.domain.now names.entry.problem.now (text_in names.entry.plan) (λ d p l. IsInputFault d p l fault)
         × (O.taken out.new ≡ O.taken out.old) × AreKept (F.contents files.old) (F.contents files.new))) }
-    ensures partly { IfErr result (λ failure. IsToldPartly (IsCheckText (F.contents files.old) names.entry.domain.now names.entry.problem.now names.entry.cert.now (asked_of_check instances names.entry.plan))
+    ensures partly { IfErr result (λ failure. IsToldPartly (IsCheckText (F.contents files.old) names.entry.domain.now names.entry.problem.now names.entry.cert.now (asked_of_check instances names.entry.plan json))
         F.is_known (F.contents files.old) (F.contents files.new) (O.taken out.old) (O.taken out.new)) }
     ensures unfailed { IfOk result (λ _. HasNotFailed (F.failures files.old) (F.failures files.new) (O.failures out.old) (O.failures out.new)) }
     ensures failures { IfErr result (CountsEither (F.failures files.old) (F.failures files.new) (O.failures out.old) (O.failures out.new)) }
-    ensures missing { IsTrue (F.is_missing files.old names.entry.domain.now) → result ≡ Err device_failure }
     ensures unread { (name : List ℕ) → IsOneOf (names.entry.domain.now ∷ names.entry.problem.now ∷ names.entry.cert.now ∷ if_named (text_in names.entry.plan)) name
         → IsTrue (F.is_missing files.old name) → IsUnread result }
 {
-    let (line, status) = checked_line(alloc, names, instances, files)?;
+    let (line, status) = checked_line(alloc, names, instances, json, files)?;
     write_all(out, &line)?;
     Ok(status)
 }
@@ -67,16 +67,16 @@ fn checked_line<F: Files>(
     alloc: Global,
     names: Names<'_>,
     instances: u32,
+    json: bool,
     files: &mut F,
 ) -> Result<(Vec<u8>, u8), Failure>
     ensures answer { IfOk result (λ told. OnInputs (F.contents files.old) names.entry.domain.now names.entry.problem.now (text_in names.entry.plan)
-        (λ d p l. IsCheckedIn (F.contents files.old names.entry.cert.now) d p l instances told.0.items told.1)) }
+        (λ d p l. IsCheckedIn (F.contents files.old names.entry.cert.now) d p l instances json told.0.items told.1)) }
     ensures refused { IfErr result (λ failure. IfSome (fault_in failure) (λ fault.
         OnInputs (F.contents files.old) names.entry.domain.now names.entry.problem.now (text_in names.entry.plan) (λ d p l. IsInputFault d p l fault))) }
     ensures kept { AreKept (F.contents files.old) (F.contents files.new) }
     ensures unfailed { IfOk result (λ _. F.failures files.new ≡ F.failures files.old) }
     ensures failures { IfErr result (CountsFailure (F.failures files.old) (F.failures files.new)) }
-    ensures missing { IsTrue (F.is_missing files.old names.entry.domain.now) → result ≡ Err device_failure }
     ensures unread { (name : List ℕ) → IsOneOf (names.entry.domain.now ∷ names.entry.problem.now ∷ names.entry.cert.now ∷ if_named (text_in names.entry.plan)) name
         → IsTrue (F.is_missing files.old name) → IsUnread result }
 {
@@ -85,7 +85,7 @@ fn checked_line<F: Files>(
     let plan = read_named(alloc, files, names.plan)?;
     let texts = Texts { pair, plan };
     let mut cert = CertReader::new(alloc, input);
-    let told = check_texts(alloc, &texts, &mut cert, instances);
+    let told = check_texts(alloc, &texts, &mut cert, instances, json);
     files.finish(cert.into_source());
     told
 }
@@ -113,10 +113,11 @@ fn check_texts<R: Source>(
     texts: &Texts,
     cert: &mut CertReader<R>,
     instances: u32,
+    json: bool,
 ) -> Result<(Vec<u8>, u8), Failure>
     requires { IsFresh cert.old }
     ensures answer { (known : Option (List ℕ)) → IsKept known (R.remaining (source_of cert.old))
-        → IfOk result (λ told. IsCheckedIn known texts.now.pair.domain.items texts.now.pair.problem.items (items_in texts.now.plan) instances told.0.items told.1) }
+        → IfOk result (λ told. IsCheckedIn known texts.now.pair.domain.items texts.now.pair.problem.items (items_in texts.now.plan) instances json told.0.items told.1) }
     ensures refused { IfErr result (λ failure. IfSome (fault_in failure) (IsInputFault texts.now.pair.domain.items texts.now.pair.problem.items (items_in texts.now.plan))) }
     ensures unfailed { IfOk result (λ _. R.failures (source_of cert.new) ≡ R.failures (source_of cert.old)) }
     ensures failures { IfErr result (CountsFailure (R.failures (source_of cert.old)) (R.failures (source_of cert.new))) }
@@ -124,7 +125,7 @@ fn check_texts<R: Source>(
     let plan = slice_in(&texts.plan);
     let (domain, problem) = (&texts.pair.domain, &texts.pair.problem);
     let checked = check_files(alloc, domain, problem, cert, plan, instances)?;
-    checked_text(alloc, &checked.answer)
+    checked_text(alloc, &checked.answer, json)
 }
 
 /// The bytes of a text, if there is one.

@@ -1,7 +1,7 @@
 //! `solve`: a cheapest plan, from files to the standard output, and to files.
-ghost use Rattle.std.specs.Prelude.{◌≡◌, ◌≢◌, ℕ, Err, IfErr, IfOk, IfSome, IsErr, IsTrue, List, [], ◌∷◌, OnOk, Some};
-ghost use Rattle.planner_main.specs.Options.{IsOneOf};
-ghost use Rattle.planner_main.specs.Program.{AreKept, CountsEither, CountsFailure, HasNotFailed, IsAnswerText, IsTold, IsToldPartly, IsUnread, OnTwo, asked_of, device_failure, fault_in, of_device};
+ghost use Rattle.std.specs.Prelude.{◌≡◌, ◌≢◌, ℕ, IfErr, IfOk, IfSome, IsErr, IsTrue, List, [], ◌∷◌, OnOk, Some};
+ghost use Rattle.planner_main.specs.Asked.{asked_of};
+ghost use Rattle.planner_main.specs.Program.{AreKept, CountsEither, CountsFailure, HasNotFailed, IsAnswerText, IsOneOf, IsTold, IsToldPartly, IsUnread, OnTwo, fault_in, of_device};
 ghost use Rattle.planner_main.specs.Files.{text_in};
 ghost use Rattle.planner_main.specs.Solution.{TellsAnswer, cert_file, plan_file, text_of};
 ghost use Rattle.planner_main.specs.Written.{AreWritten, AreWrittenPartly, HoldsBeginning, NamedText};
@@ -11,11 +11,12 @@ ghost use Rattle.certificate.specs.Certificate.{certificate_of};
 ghost use Rattle.certificate_text.specs.CertificateNames.{certificate_text};
 ghost use Rattle.solver.specs.Solver.{IsTrueAnswer};
 ghost use Rattle.model.specs.Files.{IsTaskFault, IsTaskOf};
+ghost use Rattle.model.specs.PlanWriting.{has_names};
 
 use crate::files::Files;
 use crate::program::inputs::read_pair;
 use crate::report::Failure;
-use crate::solve::{Solved, answer_text, solve_files};
+use crate::solve::{Solved, answer_text, json_text, solve_files, told};
 use certificate::Cert;
 use certificate_writer::write_cert;
 use devices::{Sink, WriteFault, write_all};
@@ -30,6 +31,8 @@ pub(super) struct Wanted<'a> {
     pub(super) plan: Option<&'a str>,
     /// The file that the certificate is written to, if any.
     pub(super) cert: Option<&'a str>,
+    /// Whether the standard output tells it as JSON.
+    pub(super) json: bool,
 }
 
 /// Tells a cheapest plan for the task of two files, or that there is none: the status.
@@ -42,16 +45,15 @@ pub(super) fn tell_solution<F: Files, O: Sink>(
     files: &mut F,
     out: &mut O,
 ) -> Result<u8, Failure>
-    ensures told { IfOk result (IsTold (IsAnswerText (F.contents files.old) domain.now problem.now (asked_of limits wanted.entry.plan wanted.entry.cert))
+    ensures told { IfOk result (IsTold (IsAnswerText (F.contents files.old) domain.now problem.now (asked_of limits wanted.entry))
         F.is_known (F.contents files.old) (F.contents files.new) (O.taken out.old) (O.taken out.new)) }
     ensures refused { IfErr result (λ failure. IfSome (fault_in failure) (λ fault.
         OnTwo (F.contents files.old) domain.now problem.now (λ d p. IsTaskFault d p fault)
         × (O.taken out.new ≡ O.taken out.old) × AreKept (F.contents files.old) (F.contents files.new))) }
-    ensures partly { IfErr result (λ failure. IsToldPartly (IsAnswerText (F.contents files.old) domain.now problem.now (asked_of limits wanted.entry.plan wanted.entry.cert))
+    ensures partly { IfErr result (λ failure. IsToldPartly (IsAnswerText (F.contents files.old) domain.now problem.now (asked_of limits wanted.entry))
         F.is_known (F.contents files.old) (F.contents files.new) (O.taken out.old) (O.taken out.new)) }
     ensures unfailed { IfOk result (λ _. HasNotFailed (F.failures files.old) (F.failures files.new) (O.failures out.old) (O.failures out.new)) }
     ensures failures { IfErr result (CountsEither (F.failures files.old) (F.failures files.new) (O.failures out.old) (O.failures out.new)) }
-    ensures missing { IsTrue (F.is_missing files.old domain.now) → result ≡ Err device_failure }
     ensures unread { (name : List ℕ) → IsOneOf (domain.now ∷ problem.now ∷ []) name → IsTrue (F.is_missing files.old name) → IsUnread result }
 {
     let solved = solve_pair(alloc, domain, problem, limits, files)?;
@@ -70,10 +72,10 @@ fn solve_pair<F: Files>(
         IsTaskOf d p (task_of solved.task) × IsTrueAnswer (task_of solved.task) limits.states limits.instances solved.answer)) }
     ensures refused { IfErr result (λ failure. IfSome (fault_in failure) (λ fault.
         OnTwo (F.contents files.old) domain.now problem.now (λ d p. IsTaskFault d p fault))) }
+    ensures names { IfOk result (λ solved. IsTrue (has_names (task_of solved.task))) }
     ensures kept { AreKept (F.contents files.old) (F.contents files.new) }
     ensures unfailed { IfOk result (λ _. F.failures files.new ≡ F.failures files.old) }
     ensures failures { IfErr result (CountsFailure (F.failures files.old) (F.failures files.new)) }
-    ensures missing { IsTrue (F.is_missing files.old domain.now) → result ≡ Err device_failure }
     ensures unread { (name : List ℕ) → IsOneOf (domain.now ∷ problem.now ∷ []) name → IsTrue (F.is_missing files.old name) → IsUnread result }
 {
     let pair = read_pair(alloc, files, domain, problem)?;
@@ -88,17 +90,19 @@ fn tell_answer<F: Files, O: Sink>(
     files: &mut F,
     out: &mut O,
 ) -> Result<u8, WriteFault>
-    ensures told { IfOk result (IsTold (TellsAnswer (task_of solved.now.task) solved.now.answer (text_in wanted.entry.cert) (text_in wanted.entry.plan))
+    requires { IsTrue (has_names (task_of solved.now.task)) }
+    ensures told { IfOk result (IsTold (TellsAnswer (task_of solved.now.task) solved.now.answer wanted.entry.json (text_in wanted.entry.cert) (text_in wanted.entry.plan))
         F.is_known (F.contents files.old) (F.contents files.new) (O.taken out.old) (O.taken out.new)) }
-    ensures partly { IfErr result (λ _. IsToldPartly (TellsAnswer (task_of solved.now.task) solved.now.answer (text_in wanted.entry.cert) (text_in wanted.entry.plan))
+    ensures partly { IfErr result (λ _. IsToldPartly (TellsAnswer (task_of solved.now.task) solved.now.answer wanted.entry.json (text_in wanted.entry.cert) (text_in wanted.entry.plan))
         F.is_known (F.contents files.old) (F.contents files.new) (O.taken out.old) (O.taken out.new)) }
     ensures unfailed { IfOk result (λ _. HasNotFailed (F.failures files.old) (F.failures files.new) (O.failures out.old) (O.failures out.new)) }
     ensures failures { IfErr result (λ fault. CountsEither (F.failures files.old) (F.failures files.new) (O.failures out.old) (O.failures out.new) (of_device fault)) }
 {
     let (text, status) = answer_text(alloc, &solved.task, &solved.answer)?;
+    let json = json_text(alloc, &solved.task, &solved.answer, wanted.json)?;
     save_cert(alloc, solved, wanted.cert, files)?;
     save_plan(solved, &text, wanted.plan, files)?;
-    write_all(out, &text)?;
+    write_all(out, told(&json, &text))?;
     Ok(status)
 }
 

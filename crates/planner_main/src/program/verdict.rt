@@ -1,8 +1,7 @@
 //! `validate`: the verdict on a plan, from files to the standard output.
-ghost use Rattle.std.specs.Prelude.{◌≡◌, ℕ, Err, IfErr, IfOk, IfSome, IsTrue, List, [], ◌∷◌};
+ghost use Rattle.std.specs.Prelude.{◌≡◌, ℕ, IfErr, IfOk, IfSome, IsTrue, List, [], ◌∷◌};
 ghost use Rattle.planner_main.specs.Files.{told_in};
-ghost use Rattle.planner_main.specs.Options.{IsOneOf};
-ghost use Rattle.planner_main.specs.Program.{AreKept, CountsEither, CountsFailure, HasNotFailed, IsTold, IsToldPartly, IsUnread, IsVerdictLine, IsVerdictText, OnThree, device_failure, fault_in};
+ghost use Rattle.planner_main.specs.Program.{AreKept, CountsEither, CountsFailure, HasNotFailed, IsOneOf, IsTold, IsToldPartly, IsUnread, IsVerdictLine, IsVerdictText, OnThree, fault_in};
 ghost use Rattle.model.specs.Files.{IsFileFault};
 
 use crate::files::Files;
@@ -19,22 +18,22 @@ pub(super) fn tell_verdict<F: Files, O: Sink>(
     domain: &str,
     problem: &str,
     plan: &str,
+    json: bool,
     files: &mut F,
     out: &mut O,
 ) -> Result<u8, Failure>
-    ensures told { IfOk result (IsTold (IsVerdictText (F.contents files.old) domain.now problem.now plan.now)
+    ensures told { IfOk result (IsTold (IsVerdictText (F.contents files.old) domain.now problem.now plan.now json)
         F.is_known (F.contents files.old) (F.contents files.new) (O.taken out.old) (O.taken out.new)) }
     ensures refused { IfErr result (λ failure. IfSome (fault_in failure) (λ fault.
         OnThree (F.contents files.old) domain.now problem.now plan.now (λ d p l. IsFileFault d p l fault)
         × (O.taken out.new ≡ O.taken out.old) × AreKept (F.contents files.old) (F.contents files.new))) }
-    ensures partly { IfErr result (λ failure. IsToldPartly (IsVerdictText (F.contents files.old) domain.now problem.now plan.now)
+    ensures partly { IfErr result (λ failure. IsToldPartly (IsVerdictText (F.contents files.old) domain.now problem.now plan.now json)
         F.is_known (F.contents files.old) (F.contents files.new) (O.taken out.old) (O.taken out.new)) }
     ensures unfailed { IfOk result (λ _. HasNotFailed (F.failures files.old) (F.failures files.new) (O.failures out.old) (O.failures out.new)) }
     ensures failures { IfErr result (CountsEither (F.failures files.old) (F.failures files.new) (O.failures out.old) (O.failures out.new)) }
-    ensures missing { IsTrue (F.is_missing files.old domain.now) → result ≡ Err device_failure }
     ensures unread { (name : List ℕ) → IsOneOf (domain.now ∷ problem.now ∷ plan.now ∷ []) name → IsTrue (F.is_missing files.old name) → IsUnread result }
 {
-    let (line, status) = verdict_line(alloc, domain, problem, plan, files)?;
+    let (line, status) = verdict_line(alloc, domain, problem, plan, json, files)?;
     write_all(out, &line)?;
     Ok(status)
 }
@@ -45,20 +44,20 @@ fn verdict_line<F: Files>(
     domain: &str,
     problem: &str,
     plan: &str,
+    json: bool,
     files: &mut F,
 ) -> Result<(Vec<u8>, u8), Failure>
-    ensures answer { IfOk result (λ told. OnThree (F.contents files.old) domain.now problem.now plan.now (λ d p l. IsVerdictLine d p l told.0.items told.1)) }
+    ensures answer { IfOk result (λ told. OnThree (F.contents files.old) domain.now problem.now plan.now (λ d p l. IsVerdictLine d p l json told.0.items told.1)) }
     ensures refused { IfErr result (λ failure. IfSome (fault_in failure) (λ fault.
         OnThree (F.contents files.old) domain.now problem.now plan.now (λ d p l. IsFileFault d p l fault))) }
     ensures kept { AreKept (F.contents files.old) (F.contents files.new) }
     ensures unfailed { IfOk result (λ _. F.failures files.new ≡ F.failures files.old) }
     ensures failures { IfErr result (CountsFailure (F.failures files.old) (F.failures files.new)) }
-    ensures missing { IsTrue (F.is_missing files.old domain.now) → result ≡ Err device_failure }
     ensures unread { (name : List ℕ) → IsOneOf (domain.now ∷ problem.now ∷ plan.now ∷ []) name → IsTrue (F.is_missing files.old name) → IsUnread result }
 {
     let task = read_pair(alloc, files, domain, problem)?;
     let plan = read_file(alloc, files, plan)?;
-    Ok(verdict_text(alloc, &task.domain, &task.problem, &plan)?)
+    Ok(verdict_text(alloc, &task.domain, &task.problem, &plan, json)?)
 }
 
 /// The line of the verdict on three texts, and its status.
@@ -67,11 +66,12 @@ fn verdict_text(
     domain: &[u8],
     problem: &[u8],
     plan: &[u8],
+    json: bool,
 ) -> Result<(Vec<u8>, u8), FileFault>
-    ensures verdict { IfOk result (λ told. IsVerdictLine domain.now problem.now plan.now told.0.items told.1) }
+    ensures verdict { IfOk result (λ told. IsVerdictLine domain.now problem.now plan.now json told.0.items told.1) }
     ensures refused { IfErr result (λ fault. IfSome (told_in fault) (IsFileFault domain.now problem.now plan.now)) }
 {
     let verdict = validate_files(alloc, domain, problem, plan)?;
-    let (line, status) = answer(alloc, verdict)?;
+    let (line, status) = answer(alloc, verdict, json)?;
     Ok((line.into_bytes(), status))
 }

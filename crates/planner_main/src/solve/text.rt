@@ -1,10 +1,13 @@
 //! What an answer is told as: the text of the plan, or a line, and the status.
-ghost use Rattle.std.specs.Prelude.{◌≡◌, IfOk};
+ghost use Rattle.std.specs.Prelude.{◌≡◌, IfOk, IsTrue, None, Some, if◌then◌else◌, unwrap_or};
 ghost use Rattle.typing.specs.Task.{task_of};
 ghost use Rattle.formulas.specs.State.{plan_of};
+ghost use Rattle.planner_main.specs.Files.{string_in};
+ghost use Rattle.planner_main.specs.Json.{line_of_members, of_answer};
 ghost use Rattle.planner_main.specs.Solution.{text_of, status_of};
-ghost use Rattle.model.specs.PlanWriting.{plan_text};
+ghost use Rattle.model.specs.PlanWriting.{has_names, plan_text};
 
+use crate::json::{answer_object, line_of};
 use devices::Memory;
 use formulas::Plan;
 use plan_file::write_plan;
@@ -13,7 +16,7 @@ use std::alloc::{AllocError, Global};
 use typing::Task;
 
 /// A plan is told.
-pub(crate) const PLAN: u8 = 0;
+const PLAN: u8 = 0;
 
 /// There is no plan.
 const UNSOLVABLE: u8 = 10;
@@ -36,6 +39,33 @@ pub(crate) fn answer_text(
         Answer::Unknown(Limit::Instances) => Ok((line(alloc, b"unknown instances\n")?, UNKNOWN)),
         Answer::Unknown(Limit::Atoms) => Ok((line(alloc, b"unknown atoms\n")?, UNKNOWN)),
         Answer::Unknown(Limit::States) => Ok((line(alloc, b"unknown states\n")?, UNKNOWN)),
+    }
+}
+
+/// The answer as a line of JSON, where that is wanted.
+pub(crate) fn json_text(
+    alloc: Global,
+    task: &Task,
+    answer: &Answer,
+    wanted: bool,
+) -> Result<Option<String>, AllocError>
+    requires { IsTrue (has_names (task_of task.now)) }
+    ensures { IfOk result (λ line. string_in line ≡ (if wanted then Some (line_of_members (of_answer (task_of task.now) answer.now)) else None)) }
+{
+    if wanted {
+        Ok(Some(line_of(answer_object(alloc, task, answer)?)?))
+    } else {
+        Ok(None)
+    }
+}
+
+/// What is told: the line of JSON, where there is one, and else the text.
+pub(crate) fn told<'a>(json: &'a Option<String>, text: &'a [u8]) -> &'a [u8]
+    ensures { result.now ≡ unwrap_or (string_in json.now) text.now }
+{
+    match json {
+        Some(line) => line.as_bytes(),
+        None => text,
     }
 }
 

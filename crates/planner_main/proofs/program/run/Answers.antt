@@ -1,74 +1,114 @@
-use Rattle.std.proofs.Common.{inr, refl, subst, IsTrue}
-use Rattle.planner_main.proofs.ProgramWords.{refuses_of_words, asked_is_command, no_failure, failed_status, device_told, memory_told, device_status, unread_status, domain_named, names_command, inputs_named, reads_command, answer_is_no_failure, failure_is_same, device_has_failed, others_have_not_failed}
+use Rattle.std.proofs.Common.{inl, inr, refl}
+use Rattle.devices.specs.Devices.{IsWritten}
+use Rattle.command_line.specs.View.{texts, wanted_of}
+use Rattle.planner_main.specs.Program.{nothing}
+use Rattle.planner_main.proofs.ProgramWords.{refuses_of_words, no_failure, failed_status, device_told, memory_told, unread_status, inputs_named, device_has_failed, others_have_not_failed, words_failed, words_status, words_told, words_memory, words_refuse_no_text, words_fail_no_device, unread_words}
 use Rattle.planner_main.proofs.ProgramTold.{told_of_words, partly_of_words, told_status}
 use Rattle.planner_main.proofs.program.run.Goals as goal
 
-pub returns-in-Ok-clause-status : goal.returns-in-Ok-clause-status
-returns-in-Ok-clause-status g c = inr (told_of_words _ c.in-Some.command c.in-Some.ensures.asks _ _ _ _ _ _ c.in-Ok.ensures.told)
-
-pub returns-in-Ok-clause-words : goal.returns-in-Ok-clause-words
-returns-in-Ok-clause-words g c = (
-  λ same. absurd (no_failure 2 _ (told_status _ c.in-Some.command c.in-Some.ensures.asks _ _ _ _ _ _ c.in-Ok.ensures.told) refl same),
-  λ none. absurd (none (asked_is_command _ c.in-Some.command c.in-Some.ensures.asks)),
-)
-
-pub returns-in-Ok-clause-usage : goal.returns-in-Ok-clause-usage
-returns-in-Ok-clause-usage g c = λ same. absurd (no_failure 2 _ (told_status _ c.in-Some.command c.in-Some.ensures.asks _ _ _ _ _ _ c.in-Ok.ensures.told) refl same)
-
-pub returns-in-Ok-clause-refused : goal.returns-in-Ok-clause-refused
-returns-in-Ok-clause-refused g c = λ same. absurd (no_failure 20 _ (told_status _ c.in-Some.command c.in-Some.ensures.asks _ _ _ _ _ _ c.in-Ok.ensures.told) refl same)
-
-pub returns-in-Ok-clause-device : goal.returns-in-Ok-clause-device
-returns-in-Ok-clause-device g c = λ same. absurd (no_failure 21 _ (told_status _ c.in-Some.command c.in-Some.ensures.asks _ _ _ _ _ _ c.in-Ok.ensures.told) refl same)
-
-pub returns-in-Ok-clause-memory : goal.returns-in-Ok-clause-memory
-returns-in-Ok-clause-memory g c = λ same. absurd (no_failure 22 _ (told_status _ c.in-Some.command c.in-Some.ensures.asks _ _ _ _ _ _ c.in-Ok.ensures.told) refl same)
+pub returns-in-Err-clause-status : goal.returns-in-Err-clause-status
+returns-in-Err-clause-status g c =
+    inl (words_failed c.in-Err.fault (IsWritten g.E.Sink.wants_memory (g.E.Sink.failures c.args.err.now) (g.E.Sink.failures c.tell_words.new.err) (g.E.Sink.taken c.args.err.now) (g.E.Sink.taken c.tell_words.new.err)) _ c.tell_words.ensures)
 
 pub returns-in-Err-clause-words : goal.returns-in-Err-clause-words
-returns-in-Err-clause-words g c = (
-  λ same. absurd (failed_status _ _ c.in-Err.failure c.tell.ensures.told same),
-  λ none. absurd (none (asked_is_command _ c.in-Some.command c.in-Some.ensures.asks)),
-)
+returns-in-Err-clause-words g c =
+    λ same. c.in-Err.ensures.refused (words_told c.in-Err.fault (IsWritten g.E.Sink.wants_memory (g.E.Sink.failures c.args.err.now) (g.E.Sink.failures c.tell_words.new.err) (g.E.Sink.taken c.args.err.now) (g.E.Sink.taken c.tell_words.new.err)) _ c.tell_words.ensures same).0
+
+pub returns-in-Err-clause-no_command : goal.returns-in-Err-clause-no_command
+returns-in-Err-clause-no_command g c =
+    λ none. words_status c.in-Err.fault (IsWritten g.E.Sink.wants_memory (g.E.Sink.failures c.args.err.now) (g.E.Sink.failures c.tell_words.new.err) (g.E.Sink.taken c.args.err.now) (g.E.Sink.taken c.tell_words.new.err)) _ c.tell_words.ensures
 
 pub returns-in-Err-clause-usage : goal.returns-in-Err-clause-usage
-returns-in-Err-clause-usage g c = λ same. absurd (failed_status _ _ c.in-Err.failure c.tell.ensures.told same)
+returns-in-Err-clause-usage g c =
+    λ same. (refl, (λ name. refl), (words_told c.in-Err.fault (IsWritten g.E.Sink.wants_memory (g.E.Sink.failures c.args.err.now) (g.E.Sink.failures c.tell_words.new.err) (g.E.Sink.taken c.args.err.now) (g.E.Sink.taken c.tell_words.new.err)) _ c.tell_words.ensures same).1)
 
 pub returns-in-Err-clause-refused : goal.returns-in-Err-clause-refused
-returns-in-Err-clause-refused g c = λ same.
-    refuses_of_words _ _ _ _ _ _ c.in-Some.command c.in-Err.failure _ c.in-Some.ensures.asks c.tell.ensures.told same c.in-Err.ensures.refused
-
-pub returns-in-Err-clause-device : goal.returns-in-Err-clause-device
-returns-in-Err-clause-device g c = λ same.
-    let (is, line) = device_told _ _ c.in-Err.failure c.tell.ensures.told same in
-    (device_has_failed _ _ _ _ c.in-Err.failure is c.in-Err.ensures.failures, partly_of_words _ c.in-Some.command c.in-Some.ensures.asks _ _ _ _ _ c.in-Err.ensures.partly, line)
-
-pub returns-in-Err-clause-memory : goal.returns-in-Err-clause-memory
-returns-in-Err-clause-memory g c = λ same.
-    (partly_of_words _ c.in-Some.command c.in-Some.ensures.asks _ _ _ _ _ c.in-Err.ensures.partly, memory_told _ _ c.in-Err.failure c.tell.ensures.told same)
-
-pub returns-in_default-clause-missing : goal.returns-in_default-clause-missing
-returns-in_default-clause-missing g c = λ name named missing. absurd (c.in_default.ensures.none (names_command _ name named))
-
-pub returns-in-Ok-clause-missing : goal.returns-in-Ok-clause-missing
-returns-in-Ok-clause-missing g c = λ name named missing.
-    absurd (answer_is_no_failure _ _ (c.in-Ok.ensures.missing
-    (subst (λ n. IsTrue (g.F.Files.is_missing c.args.files.now n)) (domain_named _ c.in-Some.command name c.in-Some.ensures.asks named) missing)))
-
-pub returns-in-Err-clause-missing : goal.returns-in-Err-clause-missing
-returns-in-Err-clause-missing g c = λ name named missing.
-    device_status _ _ c.in-Err.failure (failure_is_same _ _ (c.in-Err.ensures.missing
-    (subst (λ n. IsTrue (g.F.Files.is_missing c.args.files.now n)) (domain_named _ c.in-Some.command name c.in-Some.ensures.asks named) missing))) c.tell.ensures.told
+returns-in-Err-clause-refused g c =
+    λ same. absurd (words_refuse_no_text c.in-Err.fault (IsWritten g.E.Sink.wants_memory (g.E.Sink.failures c.args.err.now) (g.E.Sink.failures c.tell_words.new.err) (g.E.Sink.taken c.args.err.now) (g.E.Sink.taken c.tell_words.new.err)) _ c.tell_words.ensures same)
 
 pub returns-in-Err-clause-unfailed : goal.returns-in-Err-clause-unfailed
-returns-in-Err-clause-unfailed g c = others_have_not_failed _ _ _ _ _ _ c.in-Err.failure c.tell.ensures.told c.in-Err.ensures.failures
+returns-in-Err-clause-unfailed g c =
+    λ other. (refl, refl)
 
-pub returns-in_default-clause-unread : goal.returns-in_default-clause-unread
-returns-in_default-clause-unread g c = λ name named missing. absurd (c.in_default.ensures.none (reads_command _ name named))
+pub returns-in-Err-clause-device : goal.returns-in-Err-clause-device
+returns-in-Err-clause-device g c =
+    λ same. absurd (words_fail_no_device c.in-Err.fault (IsWritten g.E.Sink.wants_memory (g.E.Sink.failures c.args.err.now) (g.E.Sink.failures c.tell_words.new.err) (g.E.Sink.taken c.args.err.now) (g.E.Sink.taken c.tell_words.new.err)) _ c.tell_words.ensures same)
 
-pub returns-in-Ok-clause-unread : goal.returns-in-Ok-clause-unread
-returns-in-Ok-clause-unread g c = λ name named missing.
-    absurd (c.in-Ok.ensures.unread name (inputs_named _ c.in-Some.command name c.in-Some.ensures.asks named) missing)
+pub returns-in-Err-clause-memory : goal.returns-in-Err-clause-memory
+returns-in-Err-clause-memory g c =
+    λ same. (nothing refl (λ name. refl), words_memory c.in-Err.fault (IsWritten g.E.Sink.wants_memory (g.E.Sink.failures c.args.err.now) (g.E.Sink.failures c.tell_words.new.err) (g.E.Sink.taken c.args.err.now) (g.E.Sink.taken c.tell_words.new.err)) _ c.tell_words.ensures same)
 
+-- words that name a file are a command, so that memory was refused
 pub returns-in-Err-clause-unread : goal.returns-in-Err-clause-unread
-returns-in-Err-clause-unread g c = λ name named missing.
-    unread_status _ _ c.in-Err.failure (c.in-Err.ensures.unread name (inputs_named _ c.in-Some.command name c.in-Some.ensures.asks named) missing) c.tell.ensures.told
+returns-in-Err-clause-unread g c =
+    λ name named missing. unread_words c.in-Err.fault (IsWritten g.E.Sink.wants_memory (g.E.Sink.failures c.args.err.now) (g.E.Sink.failures c.tell_words.new.err) (g.E.Sink.taken c.args.err.now) (g.E.Sink.taken c.tell_words.new.err)) _ (texts c.args.words.now) c.tell_words.ensures c.in-Err.ensures.refused (named.0, named.1)
+
+pub returns-in-Ok-carry_out-clause-status : goal.returns-in-Ok-carry_out-clause-status
+returns-in-Ok-carry_out-clause-status g c =
+    inr (told_of_words (texts c.args.words.now) (wanted_of c.in-Ok.order) c.in-Ok.ensures.asks g.F.Files.is_known (g.F.Files.contents c.args.files.now) (g.F.Files.contents c.carry_out.new.files) (g.O.Sink.taken c.args.out.now) (g.O.Sink.taken c.carry_out.new.out) _ c.in-Ok-carry_out.ensures.told)
+
+pub returns-in-Ok-carry_out-clause-words : goal.returns-in-Ok-carry_out-clause-words
+returns-in-Ok-carry_out-clause-words g c =
+    λ same. absurd (no_failure 2 _ (told_status (texts c.args.words.now) (wanted_of c.in-Ok.order) c.in-Ok.ensures.asks g.F.Files.is_known (g.F.Files.contents c.args.files.now) (g.F.Files.contents c.carry_out.new.files) (g.O.Sink.taken c.args.out.now) (g.O.Sink.taken c.carry_out.new.out) _ c.in-Ok-carry_out.ensures.told) refl same)
+
+pub returns-in-Ok-carry_out-clause-usage : goal.returns-in-Ok-carry_out-clause-usage
+returns-in-Ok-carry_out-clause-usage g c =
+    λ same. absurd (no_failure 2 _ (told_status (texts c.args.words.now) (wanted_of c.in-Ok.order) c.in-Ok.ensures.asks g.F.Files.is_known (g.F.Files.contents c.args.files.now) (g.F.Files.contents c.carry_out.new.files) (g.O.Sink.taken c.args.out.now) (g.O.Sink.taken c.carry_out.new.out) _ c.in-Ok-carry_out.ensures.told) refl same)
+
+pub returns-in-Ok-carry_out-clause-refused : goal.returns-in-Ok-carry_out-clause-refused
+returns-in-Ok-carry_out-clause-refused g c =
+    λ same. absurd (no_failure 20 _ (told_status (texts c.args.words.now) (wanted_of c.in-Ok.order) c.in-Ok.ensures.asks g.F.Files.is_known (g.F.Files.contents c.args.files.now) (g.F.Files.contents c.carry_out.new.files) (g.O.Sink.taken c.args.out.now) (g.O.Sink.taken c.carry_out.new.out) _ c.in-Ok-carry_out.ensures.told) refl same)
+
+pub returns-in-Ok-carry_out-clause-device : goal.returns-in-Ok-carry_out-clause-device
+returns-in-Ok-carry_out-clause-device g c =
+    λ same. absurd (no_failure 21 _ (told_status (texts c.args.words.now) (wanted_of c.in-Ok.order) c.in-Ok.ensures.asks g.F.Files.is_known (g.F.Files.contents c.args.files.now) (g.F.Files.contents c.carry_out.new.files) (g.O.Sink.taken c.args.out.now) (g.O.Sink.taken c.carry_out.new.out) _ c.in-Ok-carry_out.ensures.told) refl same)
+
+pub returns-in-Ok-carry_out-clause-memory : goal.returns-in-Ok-carry_out-clause-memory
+returns-in-Ok-carry_out-clause-memory g c =
+    λ same. absurd (no_failure 22 _ (told_status (texts c.args.words.now) (wanted_of c.in-Ok.order) c.in-Ok.ensures.asks g.F.Files.is_known (g.F.Files.contents c.args.files.now) (g.F.Files.contents c.carry_out.new.files) (g.O.Sink.taken c.args.out.now) (g.O.Sink.taken c.carry_out.new.out) _ c.in-Ok-carry_out.ensures.told) refl same)
+
+pub returns-in-Ok-carry_out-clause-no_command : goal.returns-in-Ok-carry_out-clause-no_command
+returns-in-Ok-carry_out-clause-no_command g c =
+    λ none. absurd (none (wanted_of c.in-Ok.order, c.in-Ok.ensures.asks))
+
+pub returns-in-Ok-carry_out-clause-unread : goal.returns-in-Ok-carry_out-clause-unread
+returns-in-Ok-carry_out-clause-unread g c =
+    λ name named missing.
+    absurd (c.in-Ok-carry_out.ensures.unread name (inputs_named (texts c.args.words.now) (wanted_of c.in-Ok.order) name c.in-Ok.ensures.asks named) missing)
+
+pub returns-in-Err-carry_out-clause-words : goal.returns-in-Err-carry_out-clause-words
+returns-in-Err-carry_out-clause-words g c =
+    λ same. absurd (failed_status _ _ c.in-Err-carry_out.failure c.tell.ensures.told same)
+
+pub returns-in-Err-carry_out-clause-no_command : goal.returns-in-Err-carry_out-clause-no_command
+returns-in-Err-carry_out-clause-no_command g c =
+    λ none. absurd (none (wanted_of c.in-Ok.order, c.in-Ok.ensures.asks))
+
+pub returns-in-Err-carry_out-clause-usage : goal.returns-in-Err-carry_out-clause-usage
+returns-in-Err-carry_out-clause-usage g c =
+    λ same. absurd (failed_status _ _ c.in-Err-carry_out.failure c.tell.ensures.told same)
+
+pub returns-in-Err-carry_out-clause-refused : goal.returns-in-Err-carry_out-clause-refused
+returns-in-Err-carry_out-clause-refused g c =
+    λ same.
+    refuses_of_words (g.F.Files.contents c.args.files.now) (texts c.args.words.now) (wanted_of c.in-Ok.order) c.in-Ok.ensures.asks (g.F.Files.contents c.carry_out.new.files) (g.O.Sink.taken c.args.out.now) (g.O.Sink.taken c.carry_out.new.out) (IsWritten g.E.Sink.wants_memory (g.E.Sink.failures c.args.err.now) (g.E.Sink.failures c.tell.new.err) (g.E.Sink.taken c.args.err.now) (g.E.Sink.taken c.tell.new.err)) c.in-Err-carry_out.failure _ c.tell.ensures.told same c.in-Err-carry_out.ensures.refused
+
+pub returns-in-Err-carry_out-clause-device : goal.returns-in-Err-carry_out-clause-device
+returns-in-Err-carry_out-clause-device g c =
+    λ same.
+    let (is, line) = device_told _ _ c.in-Err-carry_out.failure c.tell.ensures.told same in
+    (device_has_failed _ _ _ _ c.in-Err-carry_out.failure is c.in-Err-carry_out.ensures.failures, partly_of_words (texts c.args.words.now) (wanted_of c.in-Ok.order) c.in-Ok.ensures.asks g.F.Files.is_known (g.F.Files.contents c.args.files.now) (g.F.Files.contents c.carry_out.new.files) (g.O.Sink.taken c.args.out.now) (g.O.Sink.taken c.carry_out.new.out) c.in-Err-carry_out.ensures.partly, line)
+
+pub returns-in-Err-carry_out-clause-memory : goal.returns-in-Err-carry_out-clause-memory
+returns-in-Err-carry_out-clause-memory g c =
+    λ same.
+    (partly_of_words (texts c.args.words.now) (wanted_of c.in-Ok.order) c.in-Ok.ensures.asks g.F.Files.is_known (g.F.Files.contents c.args.files.now) (g.F.Files.contents c.carry_out.new.files) (g.O.Sink.taken c.args.out.now) (g.O.Sink.taken c.carry_out.new.out) c.in-Err-carry_out.ensures.partly, memory_told _ _ c.in-Err-carry_out.failure c.tell.ensures.told same)
+
+pub returns-in-Err-carry_out-clause-unfailed : goal.returns-in-Err-carry_out-clause-unfailed
+returns-in-Err-carry_out-clause-unfailed g c =
+    others_have_not_failed _ _ _ _ _ _ c.in-Err-carry_out.failure c.tell.ensures.told c.in-Err-carry_out.ensures.failures
+
+pub returns-in-Err-carry_out-clause-unread : goal.returns-in-Err-carry_out-clause-unread
+returns-in-Err-carry_out-clause-unread g c =
+    λ name named missing.
+    unread_status _ _ c.in-Err-carry_out.failure (c.in-Err-carry_out.ensures.unread name (inputs_named (texts c.args.words.now) (wanted_of c.in-Ok.order) name c.in-Ok.ensures.asks named) missing) c.tell.ensures.told

@@ -1,4 +1,6 @@
-use Rattle.std.proofs.lemmas.Result.{err_from_is_err_and}
+use Rattle.std.proofs.lemmas.Result.{err_from_is_err_and, IfOk-weaker}
+use Rattle.typing.specs.Task.{task_of}
+use Rattle.model.proofs.TaskNames.{task_has_names}
 use Rattle.model.specs.Files.{IsTaskFault}
 use Rattle.planner_main.proofs.FilesRead.{none_told_of_task, none_refused}
 use Rattle.planner_main.proofs.solve.solve_files.Goals as goal
@@ -24,3 +26,8 @@ returns-clause-refused c = none_refused (IsTaskFault c.args.domain.now c.args.pr
 
 pub returns-clause-taken : goal.returns-clause-taken
 returns-clause-taken c = λ task is. c.solve_task.ensures.memory
+
+pub returns-clause-names : goal.returns-clause-names
+returns-clause-names c =
+    IfOk-weaker c.solve_task.result _ _ (λ s is. task_has_names c.args.domain.now c.args.problem.now (task_of s.task) is)
+    (c.solve_task.ensures.task c.args.domain.now c.args.problem.now c.in_ok-task.ensures.task)

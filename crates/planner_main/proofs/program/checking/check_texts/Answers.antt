@@ -11,7 +11,7 @@ returns-clause-answer g c = λ known kept.
     let is_task = rw (c.deref.ensures.value, c.deref-2.ensures.value) at c.in_ok-checked.ensures.task in
     let is_checked = rw (c.slice_in-plan.ensures) at c.in_ok-checked.ensures.answer in
     checked_in_told g.R.Source.remaining (task_of c.in_ok-checked.checked.task) c.args.cert.now c.check_files.new.cert known kept
-    c.args.texts.now.pair.domain.items c.args.texts.now.pair.problem.items (items_in c.args.texts.now.plan) c.args.instances c.in_ok-checked.checked.answer
+    c.args.texts.now.pair.domain.items c.args.texts.now.pair.problem.items (items_in c.args.texts.now.plan) c.args.instances c.args.json c.in_ok-checked.checked.answer
     is_task is_checked (λ (told : Vec ℕ × ℕ). told.0.items) (λ (told : Vec ℕ × ℕ). told.1) c.checked_text.result c.checked_text.ensures.line
 
 pub returns-clause-refused : goal.returns-clause-refused

@@ -15,5 +15,5 @@ returns-clause-answer g c =
     let kept = subst (λ known. IsKept known (g.F.Input.Source.remaining (source_of c.new-cert.result))) (c.in_ok-pair.ensures.kept names.cert.now) came in
     told_on_inputs contents names.domain.now names.problem.now (text_in names.plan) _ _ _ c.in_ok-pair.ensures.domain c.in_ok-pair.ensures.problem
     (text_if_named_kept _ _ (λ name. c.in_ok-input.ensures.kept name ∙ c.in_ok-pair.ensures.kept name) _ _ c.in_ok-plan.ensures.text)
-    (λ (told : Vec ℕ × ℕ) d p l. IsCheckedIn (contents names.cert.now) d p l c.args.instances told.0.items told.1)
+    (λ (told : Vec ℕ × ℕ) d p l. IsCheckedIn (contents names.cert.now) d p l c.args.instances c.args.json told.0.items told.1)
     c.check_texts-told.result (c.check_texts-told.ensures.answer (contents names.cert.now) kept)

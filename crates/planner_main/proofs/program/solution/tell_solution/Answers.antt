@@ -1,6 +1,7 @@
 use Rattle.std.proofs.lemmas.Result.{err_from_is_err_and}
 use Rattle.typing.specs.Task.{task_of}
-use Rattle.planner_main.specs.Program.{IsAnswerText, asked_of, of_device}
+use Rattle.planner_main.specs.Asked.{asked_of}
+use Rattle.planner_main.specs.Program.{IsAnswerText, of_device}
 use Rattle.planner_main.specs.Solution.{TellsAnswer}
 use Rattle.planner_main.proofs.ProgramWords.{either_since}
 use Rattle.planner_main.proofs.ProgramTold.{answer_told, told_as, partly_as}
@@ -14,11 +15,11 @@ returns-in_err-tell_answer-clause-refused g c =
 pub returns-in_err-tell_answer-clause-partly : goal.returns-in_err-tell_answer-clause-partly
 returns-in_err-tell_answer-clause-partly g c =
     let p = err_from_is_err_and c.from_residual-in_err-tell_answer.result c.from_residual-in_err-tell_answer.ensures.1 in
-    let asked = asked_of c.args.limits c.args.wanted.plan c.args.wanted.cert in
+    let asked = asked_of c.args.limits c.args.wanted in
     let contents = g.F.Files.contents c.args.files.now in
     let solved = c.in_ok-solved.solved in
     rw (p.1)
-    (partly_as (TellsAnswer (task_of solved.task) solved.answer asked.cert asked.plan) (IsAnswerText contents c.args.domain.now c.args.problem.now asked)
+    (partly_as (TellsAnswer (task_of solved.task) solved.answer asked.json asked.cert asked.plan) (IsAnswerText contents c.args.domain.now c.args.problem.now asked)
     (answer_told contents c.args.domain.now c.args.problem.now asked (task_of solved.task) solved.answer c.in_ok-solved.ensures.answer)
     g.F.Files.is_known contents _ _ c.in_ok-solved.ensures.kept _ _ c.in_err-tell_answer.ensures.partly)
 
@@ -30,9 +31,9 @@ returns-in_err-tell_answer-clause-failures g c =
 
 pub returns-clause-told : goal.returns-clause-told
 returns-clause-told g c =
-    let asked = asked_of c.args.limits c.args.wanted.plan c.args.wanted.cert in
+    let asked = asked_of c.args.limits c.args.wanted in
     let contents = g.F.Files.contents c.args.files.now in
     let solved = c.in_ok-solved.solved in
-    told_as (TellsAnswer (task_of solved.task) solved.answer asked.cert asked.plan) (IsAnswerText contents c.args.domain.now c.args.problem.now asked)
+    told_as (TellsAnswer (task_of solved.task) solved.answer asked.json asked.cert asked.plan) (IsAnswerText contents c.args.domain.now c.args.problem.now asked)
     (answer_told contents c.args.domain.now c.args.problem.now asked (task_of solved.task) solved.answer c.in_ok-solved.ensures.answer)
     g.F.Files.is_known contents _ _ c.in_ok-solved.ensures.kept _ _ _ c.in_ok-tell_answer.ensures.told

@@ -1,0 +1,4 @@
+pub mod JsonText
+pub mod Members
+pub mod Tokens
+pub mod Examples

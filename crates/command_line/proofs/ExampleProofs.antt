@@ -1,0 +1,36 @@
+-- The worked examples of what words ask for: each computes.
+use Rattle.std.proofs.Common.{refl}
+use Rattle.clap.proofs.OnLiterals.{clap_on_literals}
+use Rattle.command_line.specs.Examples.{AreRead}
+
+pub are_read : AreRead
+unfolding clap_on_literals
+are_read = record {
+  no_option = (refl, refl);
+  a_plan = (refl, refl);
+  a_certificate = (refl, refl);
+  states = (refl, refl);
+  instances = (refl, refl);
+  in_json = (refl, refl);
+  in_one_word = (refl, refl);
+  around = (refl, refl);
+  behind_hyphens = (refl, refl);
+  one_hyphen = (refl, refl);
+  plus = (refl, refl);
+  to_validate = (refl, refl);
+  to_check = (refl, refl);
+  no_word = refl;
+  help = refl;
+  version = refl;
+  no_problem = refl;
+  a_file_too_many = refl;
+  an_unknown_option = refl;
+  an_option_of_solve = refl;
+  no_value = refl;
+  an_option_for_a_value = refl;
+  a_value_for_none = refl;
+  twice = refl;
+  none = refl;
+  one_too_many = refl;
+  no_number = refl;
+}

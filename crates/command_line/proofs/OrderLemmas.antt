@@ -1,0 +1,102 @@
+-- What the words are, and what they ask for.
+use Rattle.std.proofs.Common.{◌≡◌, ◌∙◌, ℕ, ◌<◌, ◌≤◌, ◌^◌, List, [], ◌∷◌, Bool, true, false, refl, sym, ap, ap₂, subst, inl, inr, codes, arith}
+use Rattle.std.specs.Prelude.{Option, Some, None, IfSome, is_some, if◌then◌else◌, option_map, option_and_then}
+use Rattle.std.specs.Str.Parse.{IsNumeral, digits_value, without_leading_plus}
+use Rattle.std.proofs.lemmas.Bool.{le-leb, leb-true}
+use Rattle.clap.specs.Walk.{Text}
+use Rattle.clap.specs.Simple.{App, is_simple, subcommand_of, subcommand_rows_of}
+use Rattle.clap.specs.Faults.{fault_of, is_simple_and_free}
+use Rattle.clap.specs.Kinds.{HasKind}
+use Rattle.clap.specs.Values.{kind_of}
+use Rattle.clap.specs.ValueTests.{is_unsigned_in}
+use Rattle.clap.specs.declared.builder.value_parser.ValueParser.TheVariants.{Unsigned}
+use Rattle.clap.specs.declared.error.Error.{Error}
+use Rattle.clap.specs.declared.error.kind.ErrorKind.TheVariants.{OutOfMemory}
+use Rattle.clap.specs.declared.parser.matches.ArgMatches.{ArgMatches}
+use Rattle.clap.proofs.OnLiterals.{clap_on_literals}
+use Rattle.clap.proofs.WalkLemmas.{both}
+use Rattle.clap.proofs.ValueTestLemmas.{accepts-Accepts, Accepts-accepts}
+use Rattle.command_line.specs.Limit.{is_limit}
+use Rattle.command_line.specs.Description.{optplan}
+use Rattle.command_line.specs.Orders.{Asks, IsCommand, Wanted, limit_of, wanted_in}
+use Rattle.command_line.specs.declared.limit.Limit.{Limit}
+
+-- words ask for one thing
+pub one_wanted : (words : List Text) (a b : Wanted) → Asks words a → Asks words b → a ≡ b
+one_wanted words a b asks others =
+    let same : ◌≡◌ {A = Option Wanted} (Some a) (Some b) = sym asks.1 ∙ others.1 in cc
+
+-- ---- limits
+
+same_bool : (a b : Bool) → (a ≡ true → b ≡ true) → (b ≡ true → a ≡ true) → a ≡ b
+same_bool true b first second = sym (first refl)
+same_bool false true first second = second refl
+same_bool false false first second = refl
+
+limit_within : (n : ℕ) → 1 ≤ n → n ≤ 16777216 → is_limit n ≡ true
+limit_within n least most = rw (le-leb _ _ least, le-leb _ _ most) refl
+
+within_limit : (n : ℕ) → is_limit n ≡ true → (1 ≤ n) × (n ≤ 16777216)
+within_limit n is = let parts = both _ _ is in (leb-true _ _ parts.0, leb-true _ _ parts.1)
+
+-- a text that reads as a number is a limit where the number is
+limit_text : (text : Text) → IsNumeral 10 (without_leading_plus text) → is_unsigned_in 1 16777216 text ≡ is_limit (digits_value 10 (without_leading_plus text))
+limit_text text numeral = same_bool _ _
+    (λ is. let a = accepts-Accepts false (Unsigned 1 16777216) text is in limit_within _ a.2 a.3)
+    (λ is. let (least, most) = within_limit _ is in Accepts-accepts false (Unsigned 1 16777216) text (numeral, omega arith, least, most))
+
+limit_made : (o : Option Limit) (b : Bool) (number value : ℕ) → is_some o ≡ b → IfSome o (λ l. l.number ≡ number) → number ≡ value
+    → option_map (λ l. l.number) o ≡ (if b then Some value else None)
+limit_made None true number value some is same = absurd (cc)
+limit_made None false number value some is same = refl
+limit_made (Some l) true number value some is same = ap Some (is ∙ same)
+limit_made (Some l) false number value some is same = absurd (cc)
+
+pub limit_read : (text : Text) (number : ℕ) (o : Option Limit) → IsNumeral 10 (without_leading_plus text) → number ≡ digits_value 10 (without_leading_plus text)
+    → is_some o ≡ is_limit number → IfSome o (λ l. l.number ≡ number) → option_map (λ l. l.number) o ≡ limit_of text
+limit_read text number o numeral value some is =
+    limit_made o (is_unsigned_in 1 16777216 text) number (digits_value 10 (without_leading_plus text))
+    (some ∙ ap is_limit value ∙ sym (limit_text text numeral)) is value
+
+module _ (text : Text) (fails : IsNumeral 10 (without_leading_plus text) × (digits_value 10 (without_leading_plus text) < 2 ^ 32) → ⊥) where
+  no_limit : (b : Bool) → is_unsigned_in 1 16777216 text ≡ b → ◌≡◌ {A = Option ℕ} None (if b then Some (digits_value 10 (without_leading_plus text)) else None)
+  no_limit true is = let a = accepts-Accepts false (Unsigned 1 16777216) text is in absurd (fails (a.0, omega (arith, a.3)))
+  no_limit false is = refl
+
+  pub no_limit_read : None ≡ limit_of text
+  no_limit_read = no_limit (is_unsigned_in 1 16777216 text) refl
+
+-- ---- what the words are
+
+pub optplan_is_simple : is_simple_and_free optplan ≡ true
+unfolding clap_on_literals
+optplan_is_simple = refl
+
+is_simple_too : is_simple optplan ≡ true
+unfolding clap_on_literals
+is_simple_too = refl
+
+module _ (app : App) (is : app ≡ optplan) (words : List Text) where
+  pub asked : (m : ArgMatches) (wanted : Wanted) → (is_simple app ≡ true → subcommand_rows_of m ≡ subcommand_of app words)
+      → (is_simple_and_free app ≡ true → fault_of app words ≡ []) → Some wanted ≡ option_and_then wanted_in (subcommand_rows_of m) → Asks words wanted
+  asked m wanted matches taken wants =
+      let simple : is_simple app ≡ true = ap is_simple is ∙ is_simple_too in
+      let free : is_simple_and_free app ≡ true = ap is_simple_and_free is ∙ optplan_is_simple in
+      (
+        sym (ap (λ a. fault_of a words) is) ∙ taken free,
+        sym (wants ∙ ap (option_and_then wanted_in) (matches simple ∙ ap (λ a. subcommand_of a words) is)),
+      )
+
+  pub not_asked : (m : ArgMatches) → (is_simple app ≡ true → subcommand_rows_of m ≡ subcommand_of app words)
+      → None ≡ option_and_then wanted_in (subcommand_rows_of m) → IsCommand words → ⊥
+  not_asked m matches none (wanted, asks) =
+      let simple : is_simple app ≡ true = ap is_simple is ∙ is_simple_too in
+      let same : ◌≡◌ {A = Option Wanted} None (Some wanted) =
+      none ∙ ap (option_and_then wanted_in) (matches simple ∙ ap (λ a. subcommand_of a words) is) ∙ asks.1 in
+      absurd (cc)
+
+  pub refused : (e : Error) → (is_simple_and_free app ≡ true → HasKind (fault_of app words) e) → (kind_of e ≡ OutOfMemory → ⊥) → IsCommand words → ⊥
+  refused e fails of_words (wanted, asks) =
+      let free : is_simple_and_free app ≡ true = ap is_simple_and_free is ∙ optplan_is_simple in
+      let kind : HasKind [] e = subst (λ kinds. HasKind kinds e) (ap (λ a. fault_of a words) is ∙ asks.0) (fails free) in
+      elim kind [ inl memory ↦ of_words memory | inr among ↦ absurd among ]

@@ -1,0 +1,53 @@
+-- The command line as it is described to `clap`, whose definitions say what words come to under a description: which words it takes
+-- (`fault_of`), and which values its arguments then have (`subcommand_of`).
+use Rattle.std.specs.Prelude.{ℕ, List, [], ◌∷◌, codes, Some, true, false}
+use Rattle.clap.specs.Walk.{Rule, Text}
+use Rattle.clap.specs.Simple.{App, Shape, new_rule, new_shape}
+use Rattle.clap.specs.declared.builder.action.ArgAction.TheVariants.{SetTrue}
+use Rattle.clap.specs.declared.builder.value_parser.ValueParser.TheVariants.{Unsigned}
+
+-- the name of a file, which must be there
+abbrev pub file : Text → Rule
+file name = record (new_rule name) { required = true }
+
+-- an option with a value, as `--plan FILE`
+abbrev pub option : Text → Rule
+option name = record (new_rule name) { long = Some name; value_names = 1 }
+
+-- an option whose value is a limit, 1,000,000 where it is not given
+abbrev pub limit : Text → Rule
+limit name = record (option name) { parser = Some (Unsigned 1 16777216); defaults = codes "1000000" ∷ [] }
+
+-- the option `--json`, which has no value
+abbrev pub json : Rule
+json = record (new_rule (codes "json")) { long = Some (codes "json"); action = Some SetTrue }
+
+abbrev pub subcommand : Text → List Rule → Shape
+subcommand name rules = record (new_shape name) { rules = rules }
+
+abbrev pub solve : Shape
+solve = subcommand (codes "solve")
+    (file (codes "DOMAIN") ∷ file (codes "PROBLEM") ∷ option (codes "plan") ∷ option (codes "cert")
+    ∷ limit (codes "states") ∷ limit (codes "instances") ∷ json ∷ [])
+
+abbrev pub validate : Shape
+validate = subcommand (codes "validate")
+    (file (codes "DOMAIN") ∷ file (codes "PROBLEM") ∷ file (codes "PLAN") ∷ json ∷ [])
+
+abbrev pub check : Shape
+check = subcommand (codes "check")
+    (file (codes "DOMAIN") ∷ file (codes "PROBLEM") ∷ file (codes "CERT") ∷ option (codes "plan")
+    ∷ limit (codes "instances") ∷ json ∷ [])
+
+-- the program: one of the three commands must be there, and it is told how the program is used where no word is
+abbrev pub optplan : App
+optplan = record {
+  top = record (new_shape (codes "optplan")) {
+    is_leaf = false;
+    no_binary_name = true;
+    has_version = true;
+    arg_required_else_help = true;
+    subcommand_required = true;
+  };
+  subs = solve ∷ validate ∷ check ∷ [];
+}

@@ -1,0 +1,64 @@
+-- Worked examples of what words ask for, each chosen so that a wrong reading says otherwise.
+use Rattle.std.specs.Prelude.{◌≡◌, ℕ, true, false, List, [], ◌∷◌, ◌++◌, codes, None, Some}
+use Rattle.clap.specs.Kinds.{Kinds}
+use Rattle.clap.specs.Faults.{fault_of}
+use Rattle.clap.specs.Walk.{Text}
+use Rattle.clap.specs.declared.error.kind.ErrorKind.TheVariants.{ArgumentConflict, DisplayHelp, DisplayHelpOnMissingArgumentOrSubcommand, DisplayVersion, InvalidValue, MissingRequiredArgument, TooManyValues, UnknownArgument, ValueValidation}
+use Rattle.command_line.specs.Description.{optplan}
+use Rattle.command_line.specs.Orders.{Asks, Asked, to_solve, to_validate, to_check}
+
+-- `solve d p`, with the words before, between and behind the two names
+abbrev pub solve_words : (first second third : List Text) → List Text
+solve_words first second third = codes "solve" ∷ (first ++ (codes "d" ∷ (second ++ (codes "p" ∷ third))))
+
+abbrev pub words : List Text → List Text
+words options = solve_words [] [] options
+
+-- nothing is asked for but the answer
+abbrev pub plain : Asked
+plain = record { states = 1000000; instances = 1000000; plan = None; cert = None; json = false }
+
+-- the words ask for a plan for d and p, with this
+abbrev pub AskToSolve : List Text → Asked → Type 0
+AskToSolve words asked = Asks words (to_solve (codes "d") (codes "p") asked)
+
+-- the words are refused, for this reason
+abbrev pub AreRefused : List Text → Kinds → Type 0
+AreRefused words kinds = fault_of optplan words ≡ kinds
+
+pub record AreRead : Type 0 where
+  pub no_option : AskToSolve (words []) plain
+  pub a_plan : AskToSolve (words (codes "--plan" ∷ codes "x" ∷ [])) (record plain { plan = Some (codes "x") })
+  pub a_certificate : AskToSolve (words (codes "--cert" ∷ codes "x" ∷ [])) (record plain { cert = Some (codes "x") })
+  pub states : AskToSolve (words (codes "--states" ∷ codes "5" ∷ [])) (record plain { states = 5 })
+  pub instances : AskToSolve (words (codes "--instances" ∷ codes "5" ∷ [])) (record plain { instances = 5 })
+  pub in_json : AskToSolve (words (codes "--json" ∷ [])) (record plain { json = true })
+  -- a value may stand in the option's word, and then begin with a hyphen
+  pub in_one_word : AskToSolve (words (codes "--states=5" ∷ codes "--plan=-x=y" ∷ [])) (record plain { states = 5; plan = Some (codes "-x=y") })
+  -- options stand before, between and behind the files
+  pub around : AskToSolve (solve_words (codes "--json" ∷ []) (codes "--plan" ∷ codes "x" ∷ []) (codes "--states" ∷ codes "5" ∷ []))
+      (record plain { states = 5; plan = Some (codes "x"); json = true })
+  -- what stands behind two hyphens is the name of a file, and one hyphen is one
+  pub behind_hyphens : Asks (codes "solve" ∷ codes "--json" ∷ codes "--" ∷ codes "-d" ∷ codes "--states" ∷ [])
+      (to_solve (codes "-d") (codes "--states") (record plain { json = true }))
+  pub one_hyphen : Asks (codes "solve" ∷ codes "-" ∷ codes "p" ∷ []) (to_solve (codes "-") (codes "p") plain)
+  -- a plus may stand before the digits, and noughts
+  pub plus : AskToSolve (words (codes "--states" ∷ codes "+016777216" ∷ [])) (record plain { states = 16777216 })
+  pub to_validate : Asks (codes "validate" ∷ codes "d" ∷ codes "p" ∷ codes "l" ∷ codes "--json" ∷ []) (to_validate (codes "d") (codes "p") (codes "l") true)
+  pub to_check : Asks (codes "check" ∷ codes "d" ∷ codes "p" ∷ codes "c" ∷ codes "--plan" ∷ codes "l" ∷ codes "--instances=7" ∷ [])
+      (to_check (codes "d") (codes "p") (codes "c") (record { instances = 7; plan = Some (codes "l"); json = false }))
+  -- what is refused
+  pub no_word : AreRefused [] (DisplayHelpOnMissingArgumentOrSubcommand ∷ [])
+  pub help : AreRefused (words (codes "--help" ∷ [])) (DisplayHelp ∷ [])
+  pub version : AreRefused (codes "-V" ∷ []) (DisplayVersion ∷ [])
+  pub no_problem : AreRefused (codes "solve" ∷ codes "d" ∷ []) (MissingRequiredArgument ∷ [])
+  pub a_file_too_many : AreRefused (words (codes "l" ∷ [])) (UnknownArgument ∷ [])
+  pub an_unknown_option : AreRefused (words (codes "--twice" ∷ [])) (UnknownArgument ∷ [])
+  pub an_option_of_solve : AreRefused (codes "validate" ∷ codes "d" ∷ codes "p" ∷ codes "l" ∷ codes "--states" ∷ codes "5" ∷ []) (UnknownArgument ∷ [])
+  pub no_value : AreRefused (words (codes "--plan" ∷ [])) (InvalidValue ∷ [])
+  pub an_option_for_a_value : AreRefused (words (codes "--plan" ∷ codes "--json" ∷ [])) (InvalidValue ∷ [])
+  pub a_value_for_none : AreRefused (words (codes "--json=true" ∷ [])) (TooManyValues ∷ [])
+  pub twice : AreRefused (words (codes "--plan" ∷ codes "x" ∷ codes "--plan=x" ∷ [])) (ArgumentConflict ∷ [])
+  pub none : AreRefused (words (codes "--states" ∷ codes "0" ∷ [])) (ValueValidation ∷ [])
+  pub one_too_many : AreRefused (words (codes "--instances=16777217" ∷ [])) (ValueValidation ∷ [])
+  pub no_number : AreRefused (words (codes "--states" ∷ codes "many" ∷ [])) (ValueValidation ∷ [])

@@ -1,0 +1,83 @@
+-- What the words of a command line ask for.
+use Rattle.std.specs.Prelude.{◌≡◌, ℕ, Bool, false, List, [], codes, Option, Some, None, if◌then◌else◌, option_and_then, option_map}
+use Rattle.std.specs.Option.{option_map_or}
+use Rattle.std.specs.Str.{bytes_eq}
+use Rattle.std.specs.Str.Parse.{without_leading_plus, digits_value}
+use Rattle.clap.specs.Walk.{Row, Text, first_of}
+use Rattle.clap.specs.Simple.{subcommand_of}
+use Rattle.clap.specs.Faults.{fault_of}
+use Rattle.clap.specs.ValueTests.{is_unsigned_in}
+use Rattle.command_line.specs.Description.{optplan}
+
+-- what `solve` is asked for: how many states and instances are allowed, the files that the plan and the certificate are to be written
+-- to, if any, and whether the answer is told as JSON
+pub record Asked : Type 0 where
+  pub states : ℕ
+  pub instances : ℕ
+  pub plan : Option Text
+  pub cert : Option Text
+  pub json : Bool
+
+-- what `check` is asked for: how many instances are allowed, the file that the plan is read from, if any, and whether the answer is told as JSON
+pub record AskedOfCheck : Type 0 where
+  pub instances : ℕ
+  pub plan : Option Text
+  pub json : Bool
+
+-- what is asked for, by the names of the files that are read
+pub data Wanted : Type 0 where
+  to_solve : (domain problem : Text) → Asked → Wanted
+  to_validate : (domain problem plan : Text) (json : Bool) → Wanted
+  to_check : (domain problem cert : Text) → AskedOfCheck → Wanted
+
+-- the number that the text writes in decimal digits, which a plus may precede, where it is from 1 to 16,777,216
+abbrev pub limit_of : Text → Option ℕ
+limit_of text = if is_unsigned_in 1 16777216 text then Some (digits_value 10 (without_leading_plus text)) else None
+
+-- the limit that the value of an argument is
+abbrev pub limit_in : Text → List Row → Option ℕ
+limit_in name rows = option_and_then limit_of (first_of name rows)
+
+-- the option without a value is given
+abbrev pub is_given : Text → List Row → Bool
+is_given name rows = option_map_or (λ value. bytes_eq value (codes "true")) (first_of name rows) false
+
+-- what the values of the arguments of a command ask for
+abbrev pub solve_in : List Row → Option Wanted
+solve_in rows =
+    option_and_then (λ domain. option_and_then (λ problem. option_and_then (λ states. option_and_then (λ instances.
+    Some (to_solve domain problem (record {
+      states = states;
+      instances = instances;
+      plan = first_of (codes "plan") rows;
+      cert = first_of (codes "cert") rows;
+      json = is_given (codes "json") rows;
+    })))
+    (limit_in (codes "instances") rows)) (limit_in (codes "states") rows)) (first_of (codes "PROBLEM") rows)) (first_of (codes "DOMAIN") rows)
+
+abbrev pub validate_in : List Row → Option Wanted
+validate_in rows =
+    option_and_then (λ domain. option_and_then (λ problem. option_and_then (λ plan.
+    Some (to_validate domain problem plan (is_given (codes "json") rows)))
+    (first_of (codes "PLAN") rows)) (first_of (codes "PROBLEM") rows)) (first_of (codes "DOMAIN") rows)
+
+abbrev pub check_in : List Row → Option Wanted
+check_in rows =
+    option_and_then (λ domain. option_and_then (λ problem. option_and_then (λ cert. option_and_then (λ instances.
+    Some (to_check domain problem cert (record { instances = instances; plan = first_of (codes "plan") rows; json = is_given (codes "json") rows })))
+    (limit_in (codes "instances") rows)) (first_of (codes "CERT") rows)) (first_of (codes "PROBLEM") rows)) (first_of (codes "DOMAIN") rows)
+
+-- what a command with these values asks for
+abbrev pub wanted_in : Text × List Row → Option Wanted
+wanted_in used =
+    if bytes_eq used.0 (codes "solve") then solve_in used.1
+    else (if bytes_eq used.0 (codes "validate") then validate_in used.1
+    else (if bytes_eq used.0 (codes "check") then check_in used.1 else None))
+
+-- The words are taken, and ask for this.
+abbrev pub Asks : List Text → Wanted → Type 0
+Asks words wanted = (fault_of optplan words ≡ []) × (option_and_then wanted_in (subcommand_of optplan words) ≡ Some wanted)
+
+-- the words are a command
+abbrev pub IsCommand : List Text → Type 0
+IsCommand words = (wanted : Wanted) × Asks words wanted

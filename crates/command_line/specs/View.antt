@@ -1,0 +1,29 @@
+-- An order of the code as what is asked for.
+use Rattle.std.specs.Prelude.{ℕ, List, map, Option, Some, None}
+use Rattle.std.specs.Borrow.{Bor}
+use Rattle.std.specs.Option.{option_map}
+use Rattle.clap.specs.Walk.{Text}
+use Rattle.command_line.specs.Orders.{Wanted, to_solve, to_validate, to_check}
+use Rattle.command_line.specs.declared.order.Order.{Order}
+use Rattle.command_line.specs.declared.order.Order.TheVariants.{Solve, Validate, Check}
+use Rattle.command_line.specs.declared.fault.WordsFault.{WordsFault}
+use Rattle.command_line.specs.declared.fault.WordsFault.TheVariants.{Words, NoMemory}
+
+-- the text that is lent, where one is
+abbrev pub text_in : Option (Bor Text) → Option Text
+text_in = option_map (λ (text : Bor Text). text.now)
+
+abbrev pub texts : List (Bor Text) → List Text
+texts = map (λ (word : Bor Text). word.now)
+
+abbrev pub wanted_of : Order → Wanted
+wanted_of (Solve domain problem plan cert states instances json) =
+    to_solve domain.now problem.now (record { states = states.number; instances = instances.number; plan = text_in plan; cert = text_in cert; json = json })
+wanted_of (Validate domain problem plan json) = to_validate domain.now problem.now plan.now json
+wanted_of (Check domain problem cert plan instances json) =
+    to_check domain.now problem.now cert.now (record { instances = instances.number; plan = text_in plan; json = json })
+
+-- the fault is one of the words, and not want of memory
+abbrev pub IsOfWords : WordsFault → Type 0
+IsOfWords (Words error) = Unit {0}
+IsOfWords NoMemory = ⊥

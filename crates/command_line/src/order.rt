@@ -1,0 +1,50 @@
+//! What the program is asked for.
+use crate::limit::Limit;
+
+/// What the program is asked for.
+#[derive(Clone, Copy)]
+pub enum Order<'a> {
+    /// A cheapest plan for the task of two files.
+    Solve {
+        /// The name of the domain file.
+        domain: &'a str,
+        /// The name of the problem file.
+        problem: &'a str,
+        /// The name of the file that the plan is written to, if any.
+        plan: Option<&'a str>,
+        /// The name of the file that the certificate is written to, if any.
+        cert: Option<&'a str>,
+        /// How many states may be listed.
+        states: Limit,
+        /// How many instances may be kept.
+        instances: Limit,
+        /// Whether the answer is told as JSON.
+        json: bool,
+    },
+    /// Whether the plan of a file solves the task of two files.
+    Validate {
+        /// The name of the domain file.
+        domain: &'a str,
+        /// The name of the problem file.
+        problem: &'a str,
+        /// The name of the plan file.
+        plan: &'a str,
+        /// Whether the answer is told as JSON.
+        json: bool,
+    },
+    /// What the certificate of a file shows of the task of two files.
+    Check {
+        /// The name of the domain file.
+        domain: &'a str,
+        /// The name of the problem file.
+        problem: &'a str,
+        /// The name of the certificate file.
+        cert: &'a str,
+        /// The name of the plan file, if any.
+        plan: Option<&'a str>,
+        /// How many instances may be kept.
+        instances: Limit,
+        /// Whether the answer is told as JSON.
+        json: bool,
+    },
+}

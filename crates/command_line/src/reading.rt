@@ -1,0 +1,158 @@
+//! What the words ask for.
+ghost use Rattle.std.specs.Prelude.{◌≡◌, IfErr, IfOk, option_and_then, option_map};
+ghost use Rattle.clap.specs.Matches.{found_of};
+ghost use Rattle.clap.specs.Simple.{subcommand_rows_of};
+ghost use Rattle.clap.specs.Walk.{first_of, rows_of};
+ghost use Rattle.command_line.specs.Examples.{AreRead};
+ghost use Rattle.command_line.specs.Orders.{Asks, IsCommand, check_in, is_given, limit_in, limit_of, solve_in, validate_in, wanted_in};
+ghost use Rattle.command_line.specs.View.{IsOfWords, text_in, texts, wanted_of};
+
+use crate::description::program;
+use crate::fault::WordsFault;
+use crate::limit::Limit;
+use crate::order::Order;
+use clap::error::ErrorKind;
+use clap::{ArgMatches, Error};
+use std::alloc::Global;
+
+/// What the words ask for, which are those behind the program's name.
+///
+/// ```text
+/// optplan solve DOMAIN PROBLEM [--plan FILE] [--cert FILE] [--states N] [--instances N] [--json]
+/// optplan validate DOMAIN PROBLEM PLAN [--json]
+/// optplan check DOMAIN PROBLEM CERT [--plan FILE] [--instances N] [--json]
+/// ```
+///
+/// Options stand in any order, each at most once, before, between and behind the files, as `--states 5` or `--states=5`; what
+/// stands behind `--` is a file's name, even where it begins with a hyphen. A number is from 1 to 16,777,216 in decimal digits, which
+/// a plus may precede, and 1,000,000 where it is not given. Words that ask for help or the version are no order: the
+/// fault's text is what they ask for.
+pub fn read_words<'a>(alloc: Global, words: &'a [&str]) -> Result<Order<'a>, WordsFault>
+    ensures asks { IfOk result (λ order. Asks (texts words.entry.now) (wanted_of order)) }
+    ensures refused { IfErr result (λ fault. IsOfWords fault → IsCommand (texts words.entry.now) → ⊥) }
+{
+    let matches = program(alloc)?.try_get_matches_from(words)?;
+    match order_in(&matches) {
+        Some(order) => Ok(order),
+        None => Err(no_order(alloc)),
+    }
+}
+
+/// The worked examples of what words ask for. They are proved; the call does nothing.
+pub fn examples_are_read()
+    ensures { AreRead }
+{}
+
+/// What is told of a match that is no order. `clap` finds none without a command and its files.
+fn no_order(alloc: Global) -> WordsFault {
+    match missing(alloc) {
+        Ok(error) => WordsFault::Words(error),
+        Err(fault) => fault,
+    }
+}
+
+/// That a command, or a file of it, is missing.
+fn missing(alloc: Global) -> Result<Error, WordsFault> {
+    let mut program = program(alloc)?;
+    let text = "a command, or one of its files, is missing";
+    Ok(program.error(ErrorKind::MissingRequiredArgument, text)?)
+}
+
+/// What a match asks for.
+fn order_in<'a>(matches: &ArgMatches<'a>) -> Option<Order<'a>>
+    ensures { option_map wanted_of result ≡ option_and_then wanted_in (subcommand_rows_of matches.now) }
+{
+    let (name, matches) = matches.subcommand()?;
+    match name {
+        "solve" => solve_in(matches),
+        "validate" => validate_in(matches),
+        "check" => check_in(matches),
+        _ => None,
+    }
+}
+
+/// The order of the command `solve` with these values.
+fn solve_in<'a>(matches: &ArgMatches<'a>) -> Option<Order<'a>>
+    ensures { option_map wanted_of result ≡ solve_in (rows_of (found_of matches.now)) }
+{
+    let domain = value_of(matches, "DOMAIN")?;
+    let problem = value_of(matches, "PROBLEM")?;
+    let states = limit_in(matches, "states")?;
+    let instances = limit_in(matches, "instances")?;
+    Some(Order::Solve {
+        domain,
+        problem,
+        plan: value_of(matches, "plan"),
+        cert: value_of(matches, "cert"),
+        states,
+        instances,
+        json: is_given(matches, "json"),
+    })
+}
+
+/// The order of the command `validate` with these values.
+fn validate_in<'a>(matches: &ArgMatches<'a>) -> Option<Order<'a>>
+    ensures { option_map wanted_of result ≡ validate_in (rows_of (found_of matches.now)) }
+{
+    let domain = value_of(matches, "DOMAIN")?;
+    let problem = value_of(matches, "PROBLEM")?;
+    let plan = value_of(matches, "PLAN")?;
+    Some(Order::Validate {
+        domain,
+        problem,
+        plan,
+        json: is_given(matches, "json"),
+    })
+}
+
+/// The order of the command `check` with these values.
+fn check_in<'a>(matches: &ArgMatches<'a>) -> Option<Order<'a>>
+    ensures { option_map wanted_of result ≡ check_in (rows_of (found_of matches.now)) }
+{
+    let domain = value_of(matches, "DOMAIN")?;
+    let problem = value_of(matches, "PROBLEM")?;
+    let cert = value_of(matches, "CERT")?;
+    let instances = limit_in(matches, "instances")?;
+    Some(Order::Check {
+        domain,
+        problem,
+        cert,
+        plan: value_of(matches, "plan"),
+        instances,
+        json: is_given(matches, "json"),
+    })
+}
+
+/// The value of an argument.
+fn value_of<'a>(matches: &ArgMatches<'a>, name: &str) -> Option<&'a str>
+    ensures { text_in result ≡ first_of name.now (rows_of (found_of matches.now)) }
+{
+    matches.get_str(name)
+}
+
+/// The limit that the value of an argument is.
+fn limit_in(matches: &ArgMatches<'_>, name: &str) -> Option<Limit>
+    ensures { option_map (λ limit. limit.number) result ≡ limit_in name.now (rows_of (found_of matches.now)) }
+{
+    limit_of(value_of(matches, name)?)
+}
+
+/// The limit that a text writes.
+fn limit_of(text: &str) -> Option<Limit>
+    ensures { option_map (λ limit. limit.number) result ≡ limit_of text.now }
+{
+    match text.parse::<u32>() {
+        Ok(number) => Limit::new(number),
+        Err(_) => None,
+    }
+}
+
+/// Whether an option without a value is given.
+fn is_given(matches: &ArgMatches<'_>, name: &str) -> bool
+    ensures { result ≡ is_given name.now (rows_of (found_of matches.now)) }
+{
+    match value_of(matches, name) {
+        Some(value) => value == "true",
+        None => false,
+    }
+}

@@ -1,0 +1,27 @@
+-- What an order asks for, in the terms of the calls that carry it out.
+use Rattle.std.proofs.Common.{◌≡◌, ℕ, Bool, List, ◌∙◌, sym, ap, ap₂}
+use Rattle.std.specs.Prelude.{Option}
+use Rattle.std.specs.Borrow.{Bor}
+use Rattle.solver.specs.declared.limits.Limits.{Limits}
+use Rattle.command_line.specs.Orders.{Asked, Wanted, to_solve, to_check}
+use Rattle.command_line.specs.View.{text_in, wanted_of}
+use Rattle.command_line.specs.declared.limit.Limit.{Limit}
+use Rattle.command_line.specs.declared.order.Order.{Order}
+use Rattle.command_line.specs.declared.order.Order.TheVariants.{Solve, Check}
+use Rattle.planner_main.specs.Asked.{asked_of_check}
+
+-- this is asked for, with these numbers
+abbrev asked_with : (plan cert : Option (Bor (List ℕ))) (json : Bool) (states instances : ℕ) → Asked
+asked_with plan cert json states instances = record { states = states; instances = instances; plan = text_in plan; cert = text_in cert; json = json }
+
+pub wanted_of_solve : (order : Order) (domain problem : Bor (List ℕ)) (plan cert : Option (Bor (List ℕ))) (states instances : Limit) (json : Bool) (limits : Limits)
+    → order ≡ Solve domain problem plan cert states instances json → limits.states ≡ states.number → limits.instances ≡ instances.number
+    → to_solve domain.now problem.now (record { states = limits.states; instances = limits.instances; plan = text_in plan; cert = text_in cert; json = json }) ≡ wanted_of order
+wanted_of_solve order domain problem plan cert states instances json limits is same_states same_instances =
+    ap (to_solve domain.now problem.now) (ap₂ (asked_with plan cert json) same_states same_instances) ∙ sym (ap wanted_of is)
+
+pub wanted_of_check : (order : Order) (domain problem cert : Bor (List ℕ)) (plan : Option (Bor (List ℕ))) (instances : Limit) (json : Bool) (number : ℕ)
+    → order ≡ Check domain problem cert plan instances json → number ≡ instances.number
+    → to_check domain.now problem.now cert.now (asked_of_check number plan json) ≡ wanted_of order
+wanted_of_check order domain problem cert plan instances json number is same =
+    ap (λ (n : ℕ). to_check domain.now problem.now cert.now (asked_of_check n plan json)) same ∙ sym (ap wanted_of is)
