@@ -81,8 +81,7 @@ module _ (app : App) (is : app ≡ optplan) (words : List Text) where
       → (is_simple_and_free app ≡ true → fault_of app words ≡ []) → Some wanted ≡ option_and_then wanted_in (subcommand_rows_of m) → Asks words wanted
   asked m wanted matches taken wants =
       let simple : is_simple app ≡ true = ap is_simple is ∙ is_simple_too in
-      let free : is_simple_and_free app ≡ true = ap is_simple_and_free is ∙ optplan_is_simple in
-      (
+      let free : is_simple_and_free app ≡ true = ap is_simple_and_free is ∙ optplan_is_simple in (
         sym (ap (λ a. fault_of a words) is) ∙ taken free,
         sym (wants ∙ ap (option_and_then wanted_in) (matches simple ∙ ap (λ a. subcommand_of a words) is)),
       )

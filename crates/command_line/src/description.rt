@@ -10,7 +10,8 @@ use clap::builder::ValueParser;
 use clap::{Arg, ArgAction, Command};
 use std::alloc::{AllocError, Global};
 
-const ABOUT: &str = "A cost-optimal planner, a validator of plans and a checker of certificates, for classical PDDL.";
+const ABOUT: &str =
+    "A cost-optimal planner, a validator of plans and a checker of certificates, for classical PDDL.";
 
 const USAGE: &str =
     "optplan solve DOMAIN PROBLEM [--plan FILE] [--cert FILE] [--states N] [--instances N] [--json]
@@ -80,9 +81,22 @@ fn solve<'a>(alloc: Global) -> Result<Command<'a>, AllocError>
         .arg(file(alloc, "DOMAIN", "The domain file"))?
         .arg(file(alloc, "PROBLEM", "The problem file"))?
         .arg(option(alloc, "plan", "FILE", "Writes the plan to this file too"))?
-        .arg(option(alloc, "cert", "FILE", "Writes the answer's certificate to this file"))?
-        .arg(limit(alloc, "states", "How many states may be listed, 1 to 16777216"))?
-        .arg(limit(alloc, "instances", "How many instances of actions may be kept, 1 to 16777216"))?
+        .arg(option(
+            alloc,
+            "cert",
+            "FILE",
+            "Writes the answer's certificate to this file",
+        ))?
+        .arg(limit(
+            alloc,
+            "states",
+            "How many states may be listed, 1 to 16777216",
+        ))?
+        .arg(limit(
+            alloc,
+            "instances",
+            "How many instances of actions may be kept, 1 to 16777216",
+        ))?
         .arg(json(alloc))
 }
 
@@ -111,8 +125,17 @@ fn check<'a>(alloc: Global) -> Result<Command<'a>, AllocError>
         .arg(file(alloc, "DOMAIN", "The domain file"))?
         .arg(file(alloc, "PROBLEM", "The problem file"))?
         .arg(file(alloc, "CERT", "The certificate file"))?
-        .arg(option(alloc, "plan", "FILE", "A plan file, which is to be shown cheapest"))?
-        .arg(limit(alloc, "instances", "How many instances of actions may be kept, 1 to 16777216"))?
+        .arg(option(
+            alloc,
+            "plan",
+            "FILE",
+            "A plan file, which is to be shown cheapest",
+        ))?
+        .arg(limit(
+            alloc,
+            "instances",
+            "How many instances of actions may be kept, 1 to 16777216",
+        ))?
         .arg(json(alloc))
 }
 
@@ -125,12 +148,7 @@ fn file<'a>(alloc: Global, name: &'a str, help: &'a str) -> Arg<'a>
 }
 
 /// An option with a value.
-fn option<'a>(
-    alloc: Global,
-    name: &'a str,
-    value: &'a str,
-    help: &'a str,
-) -> Arg<'a>
+fn option<'a>(alloc: Global, name: &'a str, value: &'a str, help: &'a str) -> Arg<'a>
     ensures rule { rule_of result ≡ description.option name.entry.now }
     ensures local { result.global ≡ false }
 {

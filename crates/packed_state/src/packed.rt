@@ -64,8 +64,9 @@ impl Packed {
         self.width
     }
 
-    /// The words that hold the set, as few as its width needs.
-    pub(crate) fn words(&self) -> &[u64]
+    /// The words that hold the set, as few as its width needs: bit `k % 64` of word `k / 64`, counted from the lowest, says
+    /// whether the number k is in.
+    pub fn words(&self) -> &[u64]
         ensures packed { AreWordsOf (length (bits_of self.now)) result.now }
         ensures bits { bits_in (length (bits_of self.now)) result.now ≡ bits_of self.now }
     {

@@ -77,7 +77,10 @@ pub(crate) fn verdict_object(alloc: Global, verdict: Verdict) -> Result<String, 
         }
         Verdict::NotApplicable { step } => {
             let result = Member::text("result", "not applicable");
-            object_text(alloc, &[command, result, Member::number("step", step as u64)])
+            object_text(
+                alloc,
+                &[command, result, Member::number("step", step as u64)],
+            )
         }
         Verdict::GoalMissed => {
             object_text(alloc, &[command, Member::text("result", "goal missed")])
@@ -115,12 +118,7 @@ pub(crate) fn answer_object(
 }
 
 /// The object of a plan.
-fn plan_object(
-    alloc: Global,
-    task: &Task,
-    plan: &Plan,
-    cost: u64,
-) -> Result<String, AllocError>
+fn plan_object(alloc: Global, task: &Task, plan: &Plan, cost: u64) -> Result<String, AllocError>
     requires { IsTrue (has_names (task_of task.now)) }
     ensures { IfOk result (λ text. string_bytes text ≡ object_text (of_plan (task_of task.now) (plan_of plan.now) cost)) }
 {
@@ -161,10 +159,7 @@ fn limit_name(limit: Limit) -> &'static str
 }
 
 /// The object of what is told of a certificate.
-fn checked_object(
-    alloc: Global,
-    answer: &Result<Accepted, Refusal>,
-) -> Result<String, AllocError>
+fn checked_object(alloc: Global, answer: &Result<Accepted, Refusal>) -> Result<String, AllocError>
     requires { IsToldRefusal answer.now }
     ensures { IfOk result (λ text. string_bytes text ≡ object_text (of_checked answer.now)) }
 {

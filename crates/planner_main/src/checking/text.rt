@@ -53,12 +53,7 @@ fn tell_accepted(alloc: Global, accepted: Accepted, json: bool) -> Result<String
 }
 
 /// What is told of a certificate of which a line is refused.
-fn tell_line(
-    alloc: Global,
-    code: RefusalCode,
-    line: u64,
-    json: bool,
-) -> Result<String, AllocError>
+fn tell_line(alloc: Global, code: RefusalCode, line: u64, json: bool) -> Result<String, AllocError>
     ensures { IfOk result (λ told. string_bytes told ≡ told_line json code line) }
 {
     if json {
