@@ -5,7 +5,9 @@
 mod cert;
 
 pub use cert::Cert;
-pub use certificate_lines::{Claim, MAX_ATOMS, MAX_STATE_LINES, MAX_WEIGHT, NUMBER_LIMIT, StateLine};
+pub use certificate_lines::{
+    Claim, MAX_ATOMS, MAX_STATE_LINES, MAX_WEIGHT, NUMBER_LIMIT, StateLine,
+};
 pub use devices::{
     Device, DeviceFault, Endless, FailsAt, InPieces, Memory, Sink, Source, WriteFault, write_all,
 };

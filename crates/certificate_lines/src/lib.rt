@@ -4,5 +4,6 @@
 mod line;
 
 pub use line::{
-    CertLine, Claim, LONGEST_LINE, MAX_ATOMS, MAX_STATE_LINES, MAX_WEIGHT, NUMBER_LIMIT, NamedAtom, StateLine,
+    CertLine, Claim, LONGEST_LINE, MAX_ATOMS, MAX_STATE_LINES, MAX_WEIGHT, NUMBER_LIMIT, NamedAtom,
+    StateLine,
 };

@@ -17,11 +17,7 @@ use std::alloc::AllocError;
 use typing::{Atom, ObjectId, PredicateId, Task};
 
 /// Adds the lines of the version, the claim and the constant.
-pub(crate) fn add_head(
-    claim: Claim,
-    constant: i64,
-    text: &mut Vec<u8>,
-) -> Result<(), AllocError>
+pub(crate) fn add_head(claim: Claim, constant: i64, text: &mut Vec<u8>) -> Result<(), AllocError>
     ensures { OnOk result (text.new.items ≡ text.old.items ++ (whole_line version ++ whole_line (claims (claim_of claim)) ++ whole_line (line.constant constant))) }
 {
     text.extend_from_slice(b"pddl-cert 1\n")?;
