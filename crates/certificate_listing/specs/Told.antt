@@ -7,7 +7,7 @@ use Rattle.model.specs.Fluents.{is_fluent}
 use Rattle.model.specs.Claims.{Claim, none}
 use Rattle.certificate_text.specs.Certificates.{StateLine}
 use Rattle.potential_functions.specs.PotentialFunctions.{PotentialFunction}
-use Rattle.certificate_text.specs.CertificateText.{WeightedAtom, TextLine, version, claims, constant, atom, listed, last}
+use Rattle.certificate_text.specs.CertificateText.{NamedAtom, WeightedAtom, TextLine, version, claims, constant, atom, listed, last}
 use Rattle.certificate_text.specs.CertificateNames.{AllName}
 use Rattle.certificate_text.specs.CertificateChecking.{AreRight}
 
@@ -32,6 +32,13 @@ state_in (last count) = None
 abbrev pub atoms_told : List TextLine → List WeightedAtom
 atoms_told lines = filter_map atom_in lines
 
+-- the names of those atoms, and their weights
+abbrev pub names_told : List TextLine → List NamedAtom
+names_told lines = map (λ (a : WeightedAtom). a.atom) (atoms_told lines)
+
+abbrev pub weights_told : List TextLine → List ℤ
+weights_told lines = map (λ (a : WeightedAtom). a.weight) (atoms_told lines)
+
 abbrev pub states_told : List TextLine → List StateLine
 states_told lines = filter_map state_in lines
 
@@ -49,8 +56,8 @@ pub record HaveTold (task : Task) (lines : List TextLine) (claim : Claim) (atoms
   pub one_claim : (c : Claim) → Contains lines (claims c) → claim ≡ c
   pub none_stands : claim ≡ none → Contains lines (claims none)
   pub one_constant : (k : ℤ) → Contains lines (constant k) → potentials.constant ≡ k
-  pub named : AllName task (map (λ (a : WeightedAtom). a.atom) (atoms_told lines)) atoms
-  pub weighed : potentials.weights ≡ map (λ (a : WeightedAtom). a.weight) (atoms_told lines)
+  pub named : AllName task (names_told lines) atoms
+  pub weighed : potentials.weights ≡ weights_told lines
   pub fluent : All (λ (a : Atom). IsTrue (is_atom task a && is_fluent task a.predicate)) atoms
   pub distinct : AllPairs (λ (a b : Atom). a ≢ b) atoms
   pub right : AreRight task lines
