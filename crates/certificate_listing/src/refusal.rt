@@ -23,6 +23,10 @@ pub enum RefusalCode {
     Repeated = 44,
     /// The initial state is not listed at cost 0.
     NoInitial = 45,
+    /// An instance may make the potential function fall by more than it costs.
+    Unfair = 46,
+    /// The potential function may be more than 0 at a goal.
+    UnfairGoal = 47,
     /// An open state meets the goal at a cost that the claim does not allow.
     GoalOpen = 48,
     /// A successor of an open state is not listed.
@@ -64,6 +68,8 @@ impl RefusalCode {
             RefusalCode::NotFluent => "NotFluent",
             RefusalCode::Repeated => "Repeated",
             RefusalCode::NoInitial => "NoInitial",
+            RefusalCode::Unfair => "Unfair",
+            RefusalCode::UnfairGoal => "UnfairGoal",
             RefusalCode::GoalOpen => "GoalOpen",
             RefusalCode::SuccessorMissing => "SuccessorMissing",
             RefusalCode::SuccessorDearer => "SuccessorDearer",
