@@ -4,12 +4,12 @@ use Rattle.std.specs.Option.{option_map, option_and_then}
 use Rattle.std.proofs.lemmas.List.{map-append, append-nil}
 use Rattle.tokens.specs.declared.word.Word.{Word}
 use Rattle.pddl_words.specs.Token.{from, first}
-use Rattle.pddl_tree.specs.Reading.{Reading, made, stops, bind, part, number_seen, one_of, closes_first}
-use Rattle.pddl_tree.specs.Typed.{ends_group_first}
-use Rattle.pddl_tree.proofs.Read.{part_here, taken, bind_bind}
+use Rattle.pddl_tree.specs.Reading.{Reading, made, stops, bind, part, phrase, number_seen, one_of, closes_first}
+use Rattle.pddl_tree.specs.Typed.{ends_group_first, the_either}
+use Rattle.pddl_tree.proofs.Read.{by_first, part_here, taken, bind_bind}
 use Rattle.pddl_tree.proofs.Looks.{is_closes, refused_here}
 use Rattle.model.specs.Trees.{Name, Group}
-use Rattle.model.specs.GrammarWords.{Token, closes, dash}
+use Rattle.model.specs.GrammarWords.{Token, opens, closes, dash, free, reserved}
 use Rattle.model.specs.Grammar.{Listed, names, variables, listed_in, gives, after, typed, group, group_after, type, close, with_name, ends_group}
 
 -- some names at the head of a typed list's first group
@@ -120,3 +120,22 @@ pub typed_end : (l : Listed) (list : List Word) (at : ℕ) → closes_first (fir
 typed_end l list at e = taken (typed l) list at closes (is_closes (first (from list at)) e) refl
 
 pub ruleset of_typed = (typed_end, append-nil)
+
+-- ---- a type, by its first word
+
+abbrev pub by_type : Option Token → Listed → List Token → List Token → Reading (List Name)
+by_type (Some (free f n)) l w here = made (n ∷ []) w
+by_type (Some (reserved r n)) l w here = made (n ∷ []) w
+by_type (Some opens) variables w here = phrase the_either w
+by_type o l w here = stops (number_seen (type l) o) here
+
+pub type_here : (l : Listed) (list : List Word) (at : ℕ) → part (type l) (from list at) ≡ by_type (first (from list at)) l (from list (at + 1)) (from list at)
+type_here l list at = part_here (type l) list at ∙ by_word l (first (from list at))
+  where
+    by_word : (l : Listed) (o : Option Token) → by_first (type l) o (from list (at + 1)) (from list at) ≡ by_type o l (from list (at + 1)) (from list at)
+    by_word names None = refl
+    by_word variables None = refl
+    by_word names (Some (free f n)) = refl
+    by_word names (Some t) = refl
+    by_word variables (Some (free f n)) = refl
+    by_word variables (Some t) = refl

@@ -29,9 +29,9 @@ abbrev pub after_head : File → Name → Phrase Tree
 after_head f n = sections f [] >>= λ ss. gives (tree_from f n (fold with_section no_contents ss))
 
 -- the name, and the index after the head, or where the words stop in it
-abbrev pub ReadsHead : File → List Word → Result (code.Name × ℕ) WordRefusal → Type 0
-ReadsHead f words (Ok (n, next)) = part (file f) (from words 0) ≡ phrase (after_head f (name_of n)) (from words next)
-ReadsHead f words (Err refusal) = Stops words (part (file f) (from words 0)) refusal
+abbrev pub ReadsHead : File → List Word → ℕ → Result (code.Name × ℕ) WordRefusal → Type 0
+ReadsHead f words at (Ok (n, next)) = part (file f) (from words at) ≡ phrase (after_head f (name_of n)) (from words next)
+ReadsHead f words at (Err refusal) = Stops words (part (file f) (from words at)) refusal
 
 -- no word follows what was read
 abbrev pub at_end : {A : Type 0} → A → List Token → Reading A

@@ -100,6 +100,9 @@ fn atom<'a>(
             let (terms, next) = list(alloc, words, at + 1)?;
             Ok((Atom { predicate, terms }, next))
         }
-        _ => Err(Refused::At(refusal(words, at, literals.place()))),
+        _ => match literals {
+            Literals::Plain => Err(Refused::At(refusal(words, at, Place::Elsewhere))),
+            Literals::UnderWhen => Err(Refused::At(refusal(words, at, Place::UnderWhen))),
+        },
     }
 }

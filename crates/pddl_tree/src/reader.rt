@@ -183,7 +183,7 @@ fn file<'a>(
     ensures taken { IsWhole (file_of file) (tokens_of (map word_of words.now)) → IfErr result (λ fault. told_by fault ≡ None) }
     ensures head { HasNoHead (file_of file) (tokens_of (map word_of words.now)) → IsErrAnd result (λ fault. IsSome (told_by fault)) }
 {
-    let (name, at) = match head(words, file) {
+    let (name, at) = match head(words, 0, file) {
         Ok(head) => head,
         Err(refusal) => return Err(fault(words, Refused::At(refusal))),
     };
@@ -211,11 +211,15 @@ fn rest<'a>(
 
 /// `( define ( domain NAME )`, or `problem` in place of `domain`: the name, and the index after the parenthesis.
 #[tactic(auto, using(crate::proofs::Heads::of_heads))]
-fn head<'a>(words: &[Word<'a>], file: TaskFile) -> Result<(Name<'a>, usize), WordRefusal>
-    ensures head { IfOk result (λ _. HasHead (file_of file) (from words.now 0)) }
-    ensures read { ReadsHead (file_of file) words.now result }
+fn head<'a>(
+    words: &[Word<'a>],
+    at: usize,
+    file: TaskFile,
+) -> Result<(Name<'a>, usize), WordRefusal>
+    ensures head { IfOk result (λ _. HasHead (file_of file) (from words.now at)) }
+    ensures read { ReadsHead (file_of file) words.now at result }
 {
-    let next = open(words, 0, Place::Elsewhere)?;
+    let next = open(words, at, Place::Elsewhere)?;
     let next = define(words, next)?;
     let next = open(words, next, Place::Incomplete)?;
     let next = kind(words, next, file)?;

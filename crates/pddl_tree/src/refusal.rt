@@ -8,7 +8,7 @@ ghost use Rattle.model.specs.GrammarWords as model_words;
 ghost use Rattle.model.specs.Refusals.{number_at, number_of_keyword, number_in_file, number_in_action, number_at_value};
 ghost use Rattle.pddl_tree.specs.Reading.{number_seen};
 ghost use Rattle.syntax_tree.specs.Tree.{file_of};
-ghost use Rattle.pddl_tree.specs.Place.{wanted, place_of};
+ghost use Rattle.pddl_tree.specs.Place.{wanted};
 
 use faults::Code;
 use pddl_words::{
@@ -71,18 +71,6 @@ pub(crate) enum Literals {
     Plain,
     /// Those under a `when`.
     UnderWhen,
-}
-
-impl Literals {
-    /// The place of an atom's predicate.
-    pub(crate) fn place(self) -> Place<'static>
-        ensures { wanted result ≡ place_of self }
-    {
-        match self {
-            Literals::Plain => Place::Elsewhere,
-            Literals::UnderWhen => Place::UnderWhen,
-        }
-    }
 }
 
 /// A place in a file, as far as it decides what is told of a word that may not stand there.

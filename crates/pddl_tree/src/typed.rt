@@ -64,7 +64,7 @@ fn group<'a>(
 }
 
 /// The type after a `-`, or the types of an `either`, and the index after it.
-#[tactic(auto, using(crate::proofs::Read::part_here))]
+#[tactic(auto, using(crate::proofs::Groups::type_here))]
 fn types<'a>(
     alloc: Global,
     words: &[Word<'a>],

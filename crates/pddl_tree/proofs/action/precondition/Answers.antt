@@ -1,4 +1,4 @@
-use Rattle.std.proofs.Common.{map, sym, ◌∙◌, ap, arith, rules}
+use Rattle.std.proofs.Common.{◌+◌, map, sym, ◌∙◌, ap, arith, rules}
 use Rattle.model.specs.Grammar.{precondition_list, formula}
 use Rattle.model.specs.Trees.{formulas}
 use Rattle.model.specs.Trees as tree

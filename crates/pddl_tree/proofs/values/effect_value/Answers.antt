@@ -1,4 +1,4 @@
-use Rattle.std.proofs.Common.{map, sym, ◌∙◌, ap, arith, rules}
+use Rattle.std.proofs.Common.{◌+◌, map, sym, ◌∙◌, ap, arith, rules}
 use Rattle.model.specs.Trees.{effects}
 use Rattle.model.specs.Trees as tree
 use Rattle.pddl_words.specs.Token.{from}

@@ -1,4 +1,4 @@
-use Rattle.std.proofs.Common.{map, sym, ◌∙◌, ap, arith, rules}
+use Rattle.std.proofs.Common.{◌+◌, map, sym, ◌∙◌, ap, arith, rules}
 use Rattle.model.specs.Grammar.{item}
 use Rattle.syntax_tree.specs.Tree.{effect_of, increase_of}
 use Rattle.pddl_tree.specs.Values.{item_tree}
