@@ -10,7 +10,7 @@ use Rattle.pddl_tree.proofs.Read.{by_first, part_here, taken, bind_bind}
 use Rattle.pddl_tree.proofs.Looks.{is_closes, refused_here}
 use Rattle.model.specs.Trees.{Name, Group}
 use Rattle.model.specs.GrammarWords.{Token, opens, closes, dash, free, reserved}
-use Rattle.model.specs.Grammar.{Listed, names, variables, listed_in, gives, after, typed, group, group_after, type, close, with_name, ends_group}
+use Rattle.model.specs.Grammar.{Listed, names, variables, listed_in, after, typed, group, group_after, type, close, with_name, ends_group}
 
 -- some names at the head of a typed list's first group
 abbrev with_names : List Name → List Group → List Group

@@ -17,7 +17,6 @@ use Rattle.pddl_tree.proofs.Read.{by_first, part_none, part_of, part_here, taken
 use Rattle.model.specs.Trees.{Name}
 use Rattle.model.specs.GrammarWords.{Token, opens, closes, reserved}
 use Rattle.model.specs.GrammarWords as words
-use Rattle.model.specs.Grammar
 use Rattle.model.specs.Grammar.{Sort, Value, Phrase, gives, ◌>>=◌, and_then, after, listed, many, more, a_name, either_word, close, conditional, conditional_literal}
 use Rattle.model.specs.Refusals.{number_at}
 

@@ -9,7 +9,7 @@ use Rattle.pddl_tree.specs.Reading.{made, stops, bind, part, number_seen, closes
 use Rattle.pddl_tree.proofs.Read.{part_here, part_none, part_of, taken, bind_made}
 use Rattle.pddl_tree.proofs.Looks.{is_closes, refused_here}
 use Rattle.model.specs.GrammarWords.{Token, opens, closes, dash}
-use Rattle.model.specs.Grammar.{after, total_cost, function_list, function_type, number_type, close}
+use Rattle.model.specs.Grammar.{after, function_list, function_type, number_type, close}
 
 pub functions_end : (list : List Word) (at : ℕ) → closes_first (first (from list at)) ≡ true → part function_list (from list at) ≡ made [] (from list (at + 1))
 functions_end list at e = taken function_list list at closes (is_closes (first (from list at)) e) refl

@@ -211,11 +211,7 @@ fn rest<'a>(
 
 /// `( define ( domain NAME )`, or `problem` in place of `domain`: the name, and the index after the parenthesis.
 #[tactic(auto, using(crate::proofs::Heads::of_heads))]
-fn head<'a>(
-    words: &[Word<'a>],
-    at: usize,
-    file: TaskFile,
-) -> Result<(Name<'a>, usize), WordRefusal>
+fn head<'a>(words: &[Word<'a>], at: usize, file: TaskFile) -> Result<(Name<'a>, usize), WordRefusal>
     ensures head { IfOk result (λ _. HasHead (file_of file) (from words.now at)) }
     ensures read { ReadsHead (file_of file) words.now at result }
 {

@@ -1,6 +1,5 @@
 use Rattle.std.proofs.Common.{[], ◌∙◌, sym, ap, arith}
 use Rattle.model.specs.Grammar.{bare_action}
-use Rattle.pddl_words.specs.Name.{name_of}
 use Rattle.pddl_words.specs.Token.{from}
 use Rattle.syntax_tree.specs.Tree.{action_of}
 use Rattle.pddl_tree.specs.Reading.{made, bind, phrase, Reads}
@@ -11,9 +10,10 @@ use Rattle.pddl_tree.proofs.action.action.Goals as goal
 pub returns : goal.returns
 returns c =
     let words = c.args.words.now in let next = c.in_ok-name.next in
-    let bare = ap action_of (c.deref_mut.ensures.value ∙ c.in_ok-action.ensures.ok) ∙ c.bare.ensures in
-    (ap (λ r. bind r (λ n w. phrase (parts_on [] (bare_action n)) w)) c.in_ok-name.ensures.0 ∙ ap (λ a. phrase (parts_on [] a) (from words next)) (sym bare) ∙ c.in_ok-end.ensures.0 ∙ ap (λ a. made (action_of a) (from words c.in_ok-end.end)) (sym c.into_inner.ensures),
-    (omega (arith, c.in_ok-name.ensures.1, c.in_ok-end.ensures.1), omega (arith, c.in_ok-end.ensures.1)))
+    let bare = ap action_of (c.deref_mut.ensures.value ∙ c.in_ok-action.ensures.ok) ∙ c.bare.ensures in (
+      ap (λ r. bind r (λ n w. phrase (parts_on [] (bare_action n)) w)) c.in_ok-name.ensures.0 ∙ ap (λ a. phrase (parts_on [] a) (from words next)) (sym bare) ∙ c.in_ok-end.ensures.0 ∙ ap (λ a. made (action_of a) (from words c.in_ok-end.end)) (sym c.into_inner.ensures),
+      (omega (arith, c.in_ok-name.ensures.1, c.in_ok-end.ensures.1), omega (arith, c.in_ok-end.ensures.1)),
+    )
 
 pub returns-in_err-end : goal.returns-in_err-end
 returns-in_err-end c =

@@ -1,4 +1,4 @@
-use Rattle.std.proofs.Common.{[], ◌∙◌, map, sym, ap, arith, rules}
+use Rattle.std.proofs.Common.{◌∙◌, map, sym, ap, arith, rules}
 use Rattle.pddl_words.specs.Token.{from, part_view}
 use Rattle.model.specs.GrammarWords.{parameters}
 use Rattle.model.specs.Grammar.{has_part}

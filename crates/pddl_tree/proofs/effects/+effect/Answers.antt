@@ -17,6 +17,7 @@ effects-parts-preserved t c = record {
 
 pub compound-returns-in_ok-parts-in-And : goal.compound-returns-in_ok-parts-in-And
 compound-returns-in_ok-parts-in-And t c =
-    let words = c.args.words.now in let next = c.in_ok-parts-in-And.next in
-    (by_reserved effect_list c.requires c.in-And.is (λ n. refl) ∙ ap (λ r. bind r (λ es w. made (tree.both (effects es)) w)) c.in_ok-parts-in-And.ensures.0 ∙ ap (λ e. made e (from words next)) (sym (effect_of-And c.in_ok-parts-in-And.parts)),
-    (omega (arith, c.in_ok-parts-in-And.ensures.1), c.in_ok-parts-in-And.ensures.1.1))
+    let words = c.args.words.now in let next = c.in_ok-parts-in-And.next in (
+      by_reserved effect_list c.requires c.in-And.is (λ n. refl) ∙ ap (λ r. bind r (λ es w. made (tree.both (effects es)) w)) c.in_ok-parts-in-And.ensures.0 ∙ ap (λ e. made e (from words next)) (sym (effect_of-And c.in_ok-parts-in-And.parts)),
+      (omega (arith, c.in_ok-parts-in-And.ensures.1), c.in_ok-parts-in-And.ensures.1.1),
+    )

@@ -17,12 +17,14 @@ formulas-parts-preserved t c = record {
 
 pub compound-returns-in_ok-parts-in-And : goal.compound-returns-in_ok-parts-in-And
 compound-returns-in_ok-parts-in-And t c =
-    let words = c.args.words.now in let next = c.in_ok-parts-in-And.next in
-    (by_reserved formula c.requires c.in-And.is (λ n. refl) ∙ ap (λ r. bind r (λ fs w. made (tree.and (formulas fs)) w)) c.in_ok-parts-in-And.ensures.0 ∙ ap (λ f. made f (from words next)) (sym (formula_of-And c.in_ok-parts-in-And.parts)),
-    (omega (arith, c.in_ok-parts-in-And.ensures.1), c.in_ok-parts-in-And.ensures.1.1))
+    let words = c.args.words.now in let next = c.in_ok-parts-in-And.next in (
+      by_reserved formula c.requires c.in-And.is (λ n. refl) ∙ ap (λ r. bind r (λ fs w. made (tree.and (formulas fs)) w)) c.in_ok-parts-in-And.ensures.0 ∙ ap (λ f. made f (from words next)) (sym (formula_of-And c.in_ok-parts-in-And.parts)),
+      (omega (arith, c.in_ok-parts-in-And.ensures.1), c.in_ok-parts-in-And.ensures.1.1),
+    )
 
 pub compound-returns-in_ok-parts-in-Or : goal.compound-returns-in_ok-parts-in-Or
 compound-returns-in_ok-parts-in-Or t c =
-    let words = c.args.words.now in let next = c.in_ok-parts-in-Or.next in
-    (by_reserved formula c.requires c.in-Or.is (λ n. refl) ∙ ap (λ r. bind r (λ fs w. made (tree.or (formulas fs)) w)) c.in_ok-parts-in-Or.ensures.0 ∙ ap (λ f. made f (from words next)) (sym (formula_of-Or c.in_ok-parts-in-Or.parts)),
-    (omega (arith, c.in_ok-parts-in-Or.ensures.1), c.in_ok-parts-in-Or.ensures.1.1))
+    let words = c.args.words.now in let next = c.in_ok-parts-in-Or.next in (
+      by_reserved formula c.requires c.in-Or.is (λ n. refl) ∙ ap (λ r. bind r (λ fs w. made (tree.or (formulas fs)) w)) c.in_ok-parts-in-Or.ensures.0 ∙ ap (λ f. made f (from words next)) (sym (formula_of-Or c.in_ok-parts-in-Or.parts)),
+      (omega (arith, c.in_ok-parts-in-Or.ensures.1), c.in_ok-parts-in-Or.ensures.1.1),
+    )

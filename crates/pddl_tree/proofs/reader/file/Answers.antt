@@ -1,6 +1,6 @@
 use Rattle.std.proofs.Common.{[], ◌∙◌, sym, ap, subst, rules}
 use Rattle.faults.specs.declared.refused.Refused.TheVariants.{At}
-use Rattle.model.specs.Grammar.{no_contents, tree_from}
+use Rattle.model.specs.Grammar.{tree_from}
 use Rattle.pddl_words.specs.Name.{name_of}
 use Rattle.pddl_words.specs.Refusal.{told}
 use Rattle.pddl_words.specs.Token.{from}

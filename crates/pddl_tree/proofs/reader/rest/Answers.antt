@@ -1,5 +1,4 @@
 use Rattle.std.proofs.Common.{[], ◌∙◌, ap}
-use Rattle.faults.specs.declared.refused.Refused.TheVariants.{At}
 use Rattle.pddl_words.specs.Token.{from}
 use Rattle.syntax_tree.specs.Tree.{file_of}
 use Rattle.pddl_tree.specs.Reading.{bind, phrase}

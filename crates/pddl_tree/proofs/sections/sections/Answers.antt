@@ -1,4 +1,4 @@
-use Rattle.std.proofs.Common.{[], ◌∙◌, map, sym, ap, arith, rules}
+use Rattle.std.proofs.Common.{◌∙◌, map, sym, ap, arith, rules}
 use Rattle.model.specs.Grammar.{required_of}
 use Rattle.model.specs.Grammar as grammar
 use Rattle.pddl_words.specs.Token.{from, section_view}

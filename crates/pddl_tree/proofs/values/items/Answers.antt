@@ -20,7 +20,8 @@ items-preserved c = record {
 
 pub returns : goal.returns
 returns c =
-    let words = c.args.words.now in let within = c.is_close.ensures.within (search rules) in
-    (items_end c.items.invariant.read (sym c.is_close.ensures.first ∙ c.items-test.false)
-    ∙ (λ i. made (record { effect = sym (effect_of-And c.items.entries.changes) i; increases = map increase_of c.items.entries.increases.items }) (from words (c.items.next + 1))),
-    (omega (arith, c.items.invariant.moved), omega (arith, within)))
+    let words = c.args.words.now in let within = c.is_close.ensures.within (search rules) in (
+      items_end c.items.invariant.read (sym c.is_close.ensures.first ∙ c.items-test.false)
+          ∙ (λ i. made (record { effect = sym (effect_of-And c.items.entries.changes) i; increases = map increase_of c.items.entries.increases.items }) (from words (c.items.next + 1))),
+      (omega (arith, c.items.invariant.moved), omega (arith, within)),
+    )
