@@ -276,6 +276,12 @@ module _ (task : Task) (claim : Claim) (most : ℕ) (p : PotentialFunction) (sta
               (ap (λ width. rise width 0 (numbers_in s)) (sym (long 0 s refl)) ∙ numbers_rise s))
               (all_pass ss ns (λ k. long (suc k)) (λ k. low (suc k)) (λ k. cheap (suc k)))
 
+pub found_widths : (task : Task) (claim : Claim) (most : ℕ) (p : PotentialFunction) (states : List (List Bool)) (nodes : List Node) (known : List Atom) → known ≡ numbered_atoms task []
+    → AreFound (ground_system task known) (value p) claim most states nodes → All (λ (bits : List Bool). length bits ≡ length known) states
+found_widths task claim most p states nodes known numbered found k d below =
+    found_width task claim most p states nodes (subst (λ (l : List Atom). AreFound (ground_system task l) (value p) claim most states nodes) numbered found) k (get_or states k d) (slice_get-get_or states k d below)
+    ∙ ap length (sym numbered)
+
 -- ---- for a certificate of these parts
 
 -- what is shown with so many states is shown with more
@@ -299,10 +305,6 @@ module _ (task : Task) (claim : Claim) (most : ℕ) (p : PotentialFunction) (sta
 
   pub settled_or_high : AreSettledOrHigh task known p → HasSettledOrHigh task certificate
   settled_or_high given = subst (HasSettledOrHigh task) (sym is) given
-
-  pub found_widths : All (λ (bits : List Bool). length bits ≡ length known) states
-  found_widths k d below =
-      found_width task claim most p states nodes same_found k (get_or states k d) (slice_get-get_or states k d below) ∙ ap length (sym numbered)
 
   pub within_limits : AreInRange p → length p.weights ≡ length known → is_claim claim ≡ true → length known ≤ 1048576 → most ≤ 16777216 → keeps_limits certificate ≡ true
   within_limits range width small few_atoms few =

@@ -13,17 +13,3 @@ improve-requires-clause-width c = zero-width (potentials_of c.in_ok-zero.zero) (
 
 pub new-requires : goal.new-requires
 new-requires c = c.in_ok-potentials.ensures.as_many ∙ zero-width (potentials_of c.in_ok-zero.zero) (length (atoms_in c.args.ground.now)) c.in_ok-zero.ensures.zero
-
-pub unreachable-requires : goal.unreachable-requires
-unreachable-requires c = c.in-None.ensures c.in_ok-potentials.ensures.fair
-
-pub returns-in-Some : goal.returns-in-Some
-returns-in-Some c =
-    let g = c.args.ground.now in
-    let given = c.in-Some.ensures in
-    let same = given.potentials in
-    record {
-      fair = record { potentials = refl; ground = given.ground; bounds = subst (AreLowerBounds (task_in g) (atoms_in g)) (sym same) given.bounds };
-      improved = subst (AreSettledOrHigh (task_in g) (atoms_in g)) (sym same)
-          (improved_end (task_in g) (atoms_in g) (potentials_of c.in_ok-zero.zero) (potentials_of c.in_ok-potentials.potentials) c.in_ok-potentials.ensures);
-    }
