@@ -89,7 +89,7 @@ fn solve_ground(alloc: Global, ground: &Ground<'_>, limits: Limits) -> Result<An
     let system = GroundSystem(ground);
     let estimate = improved_potentials(alloc, ground)?;
     let store = PooledStore::new(alloc, ground.width())?;
-    match best_first(alloc, &system, &search::NoEstimate(&system), store, limits.states())? {
+    match best_first(alloc, &system, &estimate, store, limits.states())? {
         Outcome::Found {
             steps,
             cost,
