@@ -1,11 +1,7 @@
-use Rattle.std.proofs.Common.{◌∙◌, sym, ap, subst, length}
-use Rattle.grounding.specs.Ground.{task_in, atoms_in}
-use Rattle.potential_functions.specs.PotentialFunctions.{PotentialFunction}
-use Rattle.potential_functions.specs.Laws.{AreLowerBounds}
+use Rattle.std.proofs.Common.{◌∙◌, length}
+use Rattle.grounding.specs.Ground.{atoms_in}
 use Rattle.potentials.specs.Potentials.{potentials_of}
-use Rattle.potentials.specs.FairPotentials.{potentials_in}
-use Rattle.solver.specs.Improved.{AreSettledOrHigh}
-use Rattle.solver.proofs.PotentialLemmas.{improved_end, zero-width}
+use Rattle.solver.proofs.PotentialLemmas.{zero-width}
 use Rattle.solver.proofs.estimate.improved_potentials.Goals as goal
 
 pub improve-requires-clause-width : goal.improve-requires-clause-width

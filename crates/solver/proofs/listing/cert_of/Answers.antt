@@ -1,4 +1,4 @@
-use Rattle.std.proofs.Common.{◌≡◌, ◌∙◌, ◌≤◌, Bool, List, length, sym, ap, subst, map, arith, rules, to_z, of_z, w64}
+use Rattle.std.proofs.Common.{◌≡◌, ◌∙◌, Bool, List, length, sym, ap, subst, map, arith, rules, to_z, of_z, w64}
 use Rattle.std.specs.Prelude.{All}
 use Rattle.std.proofs.lemmas.Bool.{false≢true}
 use Rattle.typing.specs.TaskParts.{atom_of}
@@ -7,10 +7,9 @@ use Rattle.search.specs.Outcome as search
 use Rattle.certificate_lines.specs.Lines.{claim_of}
 use Rattle.certificate.specs.CertificateParts.{certificate_of_parts}
 use Rattle.potential_functions.specs.PotentialFunctions.{PotentialFunction, value}
-use Rattle.potentials.specs.Potentials.{potentials_of}
 use Rattle.potentials.specs.FairPotentials.{potentials_in, ground_in}
 use Rattle.grounding.specs.Ground.{task_in, atoms_in}
-use Rattle.solver.specs.Listing.{state_line, found_certificate}
+use Rattle.solver.specs.Listing.{state_line}
 use Rattle.solver.proofs.ListingLemmas.{found_widths, within_limits}
 use Rattle.solver.proofs.listing.cert_of.Goals as goal
 
