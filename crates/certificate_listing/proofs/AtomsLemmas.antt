@@ -15,7 +15,8 @@ use Rattle.model.specs.WellTyped.{is_atom}
 use Rattle.model.specs.Fluents.{is_fluent}
 use Rattle.model.specs.Claims.{Claim}
 use Rattle.model.proofs.ListLemmas.{Contains-map, map-Contains}
-use Rattle.certificate_text.specs.CertificateText.{NamedAtom, TextLine, atom}
+use Rattle.potential_functions.specs.PotentialFunctions.{PotentialFunction}
+use Rattle.certificate_text.specs.CertificateText.{WeightedAtom, TextLine, atom}
 use Rattle.certificate_text.specs.CertificateNames.{Names}
 use Rattle.certificate_text.specs.CertificateChecking.{IsWrongAfter}
 use Rattle.certificate_listing.specs.Told.{HaveTold}
@@ -34,17 +35,18 @@ was_new : (is_new old : Bool) → is_new ≡ not old → is_new ≡ true → old
 was_new is_new true is holds = absurd (false≢true (sym is ∙ holds))
 was_new is_new false is holds = refl
 
-module _ (task : Task) (before : List TextLine) (claim : Claim) (keys : List code.Atom) (told : HaveTold task before claim (map atom_of keys)) (name : NamedAtom) (a : code.Atom)
-    (names : Names task name (atom_of a)) (typed : IsTrue (is_atom task (atom_of a))) (changes : IsTrue (is_fluent task (atom_of a).predicate))
+module _ (task : Task) (before : List TextLine) (claim : Claim) (keys : List code.Atom) (potentials : PotentialFunction)
+    (told : HaveTold task before claim (map atom_of keys) potentials) (said : WeightedAtom) (a : code.Atom) (names : Names task said.atom (atom_of a)) (typed : IsTrue (is_atom task (atom_of a))) (changes : IsTrue (is_fluent task (atom_of a).predicate))
     (is_new : Bool) (added : is_new ≡ not (list_any (atom_eq a) keys)) where
-  pub new_is_told : is_new ≡ true → (after : List code.Atom) → after ≡ insert_key atom_eq keys a → HaveTold task (before ++ atom name ∷ []) claim (map atom_of after)
+  pub new_is_told : is_new ≡ true → (after : List code.Atom) → after ≡ insert_key atom_eq keys a
+      → HaveTold task (before ++ atom said ∷ []) claim (map atom_of after) (record { constant = potentials.constant; weights = potentials.weights ++ said.weight ∷ [] })
   new_is_told holds after is =
       let absent = was_new is_new (list_any (atom_eq a) keys) added holds in
-      subst (λ atoms. HaveTold task (before ++ atom name ∷ []) claim atoms)
+      subst (λ atoms. HaveTold task (before ++ atom said ∷ []) claim atoms (record { constant = potentials.constant; weights = potentials.weights ++ said.weight ∷ [] }))
       (sym (ap (map atom_of) (is ∙ ap (λ b. if b then keys else keys ++ a ∷ []) absent) ∙ map-append atom_of keys (a ∷ [])))
-      (told_new_atom task before claim (map atom_of keys) told name (atom_of a) names typed changes (λ among. false≢true (sym absent ∙ any_there a keys among)))
+      (told_new_atom task before claim (map atom_of keys) potentials told said (atom_of a) names typed changes (λ among. false≢true (sym absent ∙ any_there a keys among)))
 
-  pub again_is_wrong : is_new ≡ false → IsWrongAfter task before (atom name) 44
+  pub again_is_wrong : is_new ≡ false → IsWrongAfter task before (atom said) 44
   again_is_wrong fails =
-      wrong_again task before claim (map atom_of keys) told name (atom_of a) names typed changes
+      wrong_again task before claim (map atom_of keys) potentials told said (atom_of a) names typed changes
       (Contains-map atom_of keys a (Contains-from_any (λ a b alike. one_atom a b (equal_atoms a b alike)) a keys (was_there is_new (list_any (atom_eq a) keys) added fails)))

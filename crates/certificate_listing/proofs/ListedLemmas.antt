@@ -1,6 +1,6 @@
 -- States that are taken, and states that stood before.
 use Rattle.std.proofs.Common.{◌≡◌, ℕ, Bool, true, false, List, [], ◌∷◌, ◌++◌, map, Option, None, Some, refl, sym, ap, ◌∙◌, subst}
-use Rattle.std.specs.Prelude.{IsSome, ◌&&◌, All, Contains}
+use Rattle.std.specs.Prelude.{IsSome, ◌&&◌, All, Contains, OnOk, Result, Ok, Err}
 use Rattle.std.specs.List.{list_all}
 use Rattle.std.proofs.lemmas.List.{map-append}
 use Rattle.std.proofs.lemmas.List.Elements.{All-push, filter_map-append}
@@ -12,6 +12,7 @@ use Rattle.model.specs.Claims.{Claim, none}
 use Rattle.certificate_text.specs.Certificates.{StateLine, rise}
 use Rattle.model.proofs.ListLemmas.{Contains-filter_map, filter_map-Contains, Contains-got, Contains-map, Contains-place, map-Contains}
 use Rattle.model.proofs.Tests.{passes_got}
+use Rattle.potential_functions.specs.PotentialFunctions.{PotentialFunction}
 use Rattle.certificate_text.specs.CertificateText.{TextLine, version, claims, constant, atom, listed, last}
 use Rattle.certificate_text.specs.CertificateChecking.{IsWrongAfter, ListsAtoms, not_fluent, repeated_atom, repeated_state, cut_not_allowed}
 use Rattle.certificate_listing.specs.Sets.{Marked, marked}
@@ -19,6 +20,11 @@ use Rattle.certificate_listing.specs.Told.{HaveTold, state_in, states_told}
 use Rattle.certificate_listing.specs.Listed.{HaveListed, IsAdded}
 use Rattle.certificate_listing.proofs.SetsLemmas.{one_set}
 use Rattle.certificate_listing.proofs.ToldLemmas.{told_else}
+
+-- what two clauses of one call say together
+pub both_told : {T E A B C : Type 0} (r : Result T E) → (A → B → C) → OnOk r A → OnOk r B → OnOk r C
+both_told (Ok x) joined a b = joined a b
+both_told (Err e) joined a b = tt
 
 -- what was put into the store, or found there
 pub added_there : {X : Type 0} (old new : List X) (x y : X) (place : ℕ) (is_new : Bool) → x ≡ y → IsPlaced old new x place is_new → IsAdded old new y is_new
@@ -36,7 +42,7 @@ told_state lines l told = let (line, there, is) = filter_map-Contains state_in l
     line_is : (line : TextLine) → state_in line ≡ Some l → line ≡ listed l
     line_is version is = absurd (cc is)
     line_is (claims claim) is = absurd (cc is)
-    line_is constant is = absurd (cc is)
+    line_is (constant k) is = absurd (cc is)
     line_is (atom a) is = absurd (cc is)
     line_is (listed m) is = let same : m ≡ l = cc in ap (λ l. listed l) same
     line_is (last count) is = absurd (cc is)
@@ -76,7 +82,7 @@ module _ (before : List TextLine) (claim : Claim) (width : ℕ) (marks : List Ma
             ∙ ap (map (λ (l : StateLine). set_of width l.atoms)) (sym states);
       }
 
-  module _ (task : Task) (atoms : List Atom) (told : HaveTold task before claim atoms) where
+  module _ (task : Task) (atoms : List Atom) (potentials : PotentialFunction) (told : HaveTold task before claim atoms potentials) where
     -- the line is not wrong where its set is new, and it is no cut that is not allowed
     right_state : (Contains sets (set_of width l.atoms) → ⊥) → ((claim ≡ none) × IsSome l.cut → ⊥) → (line : TextLine) (number : ℕ) → IsWrongAfter task before line number → line ≡ listed l → ⊥
     right_state new allowed line number (not_fluent b none_is) same = absurd (cc same)
@@ -86,8 +92,8 @@ module _ (before : List TextLine) (claim : Claim) (width : ℕ) (marks : List Ma
     right_state new allowed line number (cut_not_allowed m first cut there) same =
         let is : m ≡ l = cc in allowed (told.one_claim none there, subst (λ (m : StateLine). IsSome m.cut) is cut)
 
-    pub state_told_more : (Contains sets (set_of width l.atoms) → ⊥) → ((claim ≡ none) × IsSome l.cut → ⊥) → HaveTold task (before ++ listed l ∷ []) claim atoms
-    state_told_more new allowed = told_else task before claim atoms told (listed l) (λ d same. cc same) refl (λ number wrong. right_state new allowed (listed l) number wrong refl)
+    pub state_told_more : (Contains sets (set_of width l.atoms) → ⊥) → ((claim ≡ none) × IsSome l.cut → ⊥) → HaveTold task (before ++ listed l ∷ []) claim atoms potentials
+    state_told_more new allowed = told_else task before claim atoms potentials told (listed l) (λ d same. cc same) (λ k same. cc same) refl (λ number wrong. right_state new allowed (listed l) number wrong refl)
 
     pub state_again : Contains sets (set_of width l.atoms) → IsWrongAfter task before (listed l) 44
     state_again there = repeated_state l (set_was_listed there)

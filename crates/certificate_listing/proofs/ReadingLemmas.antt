@@ -18,7 +18,7 @@ use Rattle.certificate_reader.proofs.ReaderLemmas.{few_lines}
 use Rattle.certificate_listing.specs.declared.refusal.Refusal.{Refusal}
 use Rattle.certificate_listing.specs.declared.refusal.Refusal.TheVariants as refusal
 use Rattle.certificate_listing.specs.declared.refusal.RefusalCode.{RefusalCode}
-use Rattle.certificate_listing.specs.declared.refusal.RefusalCode.TheVariants.{CertForm, CertVersion, Truncated as CutShort, NotFluent, Repeated, NoInitial, GoalOpen, SuccessorMissing, SuccessorDearer, CutWeak, CutNotAllowed, PlanInvalid, PlanDearer, Limit as Exceeded}
+use Rattle.certificate_listing.specs.declared.refusal.RefusalCode.TheVariants.{CertForm, CertVersion, Truncated as CutShort, NotFluent, Repeated, NoInitial, Unfair, UnfairGoal, GoalOpen, SuccessorMissing, SuccessorDearer, CutWeak, CutNotAllowed, PlanInvalid, PlanDearer, Limit as Exceeded}
 use Rattle.certificate_listing.specs.RefusalCode.{number_of}
 use Rattle.certificate_listing.proofs.ToldLemmas.{begin_front}
 use Rattle.certificate_listing.specs.CertFaults.{refusal_of}
@@ -150,6 +150,8 @@ module _ {R : Type 0} (remaining : R → Option (List ℕ)) (first now : CertRea
   wrong_here NotFluent wrong = (at.bytes, at.consumed, line_fault_here 43 wrong)
   wrong_here Repeated wrong = (at.bytes, at.consumed, line_fault_here 44 wrong)
   wrong_here NoInitial wrong = (at.bytes, at.consumed, line_fault_here 45 wrong)
+  wrong_here Unfair wrong = (at.bytes, at.consumed, line_fault_here 46 wrong)
+  wrong_here UnfairGoal wrong = (at.bytes, at.consumed, line_fault_here 47 wrong)
   wrong_here GoalOpen wrong = (at.bytes, at.consumed, line_fault_here 48 wrong)
   wrong_here SuccessorMissing wrong = (at.bytes, at.consumed, line_fault_here 49 wrong)
   wrong_here SuccessorDearer wrong = (at.bytes, at.consumed, line_fault_here 50 wrong)
@@ -161,6 +163,7 @@ module _ {R : Type 0} (remaining : R → Option (List ℕ)) (first now : CertRea
 
   pub wrong_told : (r : Refusal) → IsWrongNow task before line r → IsLineRefusal remaining task first now r
   wrong_told (refusal.Line code number) (number_is, wrong) = subst (IsToldAt remaining task first now code) (sym number_is) (wrong_here code wrong)
+  wrong_told (refusal.Unfair i) wrong = absurd wrong
   wrong_told (refusal.Plain code) wrong = absurd wrong
   wrong_told refusal.NoMemory wrong = tt
   wrong_told refusal.Device wrong = absurd wrong
@@ -169,6 +172,7 @@ module _ {R : Type 0} (remaining : R → Option (List ℕ)) (first now : CertRea
 -- a wrong line counts no failure of the device
 counts_none : (T : Type 0) (task : Task) (before : List TextLine) (line : TextLine) (failed now : ℕ) (x : Refusal) → IsWrongNow task before line x → now ≡ failed → CountsRefusal {T = T} failed now (Err x)
 counts_none T task before line failed now (refusal.Line code number) wrong same = same
+counts_none T task before line failed now (refusal.Unfair i) wrong same = absurd wrong
 counts_none T task before line failed now (refusal.Plain code) wrong same = absurd wrong
 counts_none T task before line failed now refusal.NoMemory wrong same = same
 counts_none T task before line failed now refusal.Device wrong same = absurd wrong

@@ -1,35 +1,37 @@
 -- What one line more tells.
-use Rattle.std.proofs.Common.{◌≡◌, ◌≢◌, ℕ, ◌⊎◌, inl, inr, ⊎_elim, Bool, true, false, List, [], ◌∷◌, ◌++◌, None, Some, refl, sym, ap, ◌∙◌, subst, append_assoc, append-nil, true≢false, arith}
-use Rattle.std.specs.Prelude.{IsTrue, ◌&&◌, Contains}
+use Rattle.std.proofs.Common.{◌≡◌, ◌≢◌, ℕ, ◌⊎◌, inl, inr, ⊎_elim, Bool, true, false, List, [], ◌∷◌, ◌++◌, map, None, Some, refl, sym, ap, ◌∙◌, subst, append_assoc, append-nil, true≢false, arith}
+use Rattle.std.specs.Prelude.{IsTrue, ◌&&◌, Contains, ℤ, pos}
+use Rattle.std.proofs.lemmas.List.{map-append}
 use Rattle.std.proofs.lemmas.List.Elements.{All-nil, All-push, Contains-push, Contains-push_cases, Contains-append_left, Contains-get_or}
 use Rattle.std.proofs.lemmas.List.Elements.{filter_map-append}
 use Rattle.std.proofs.lemmas.List.Quantifiers.{all_pairs_push}
-use Rattle.model.proofs.ListLemmas.{Contains-cases, Contains-here, Contains-there, Contains-none, Contains-filter_map, filter_map-Contains}
+use Rattle.model.proofs.ListLemmas.{Contains-cases, Contains-here, Contains-map, Contains-there, Contains-none, Contains-filter_map, filter_map-Contains, map-Contains}
 use Rattle.model.specs.Task.{Atom, Task}
 use Rattle.model.specs.WellTyped.{is_atom}
 use Rattle.model.specs.Fluents.{is_fluent}
 use Rattle.model.specs.Claims.{Claim, bound, none}
-use Rattle.certificate_text.specs.CertificateText.{NamedAtom, TextLine, version, claims, constant, atom, listed, last, BeginCertificate, AreWhole}
+use Rattle.potential_functions.specs.PotentialFunctions.{PotentialFunction}
+use Rattle.certificate_text.specs.CertificateText.{NamedAtom, WeightedAtom, TextLine, version, claims, constant, atom, listed, last, BeginCertificate, AreWhole}
 use Rattle.certificate_text.specs.CertificateNames.{AllName, Names}
 use Rattle.certificate_text.specs.CertificateMachine.{Place, at_version, at_claim, at_constant, in_body, ended, next_place, place_after}
 use Rattle.certificate_text.specs.CertificateChecking.{AreRight, IsWrongAfter, not_fluent, repeated_atom, repeated_state, cut_not_allowed}
 use Rattle.certificate_text.proofs.Machine.{StandsBefore, never, stands, followed, place_of_beginning}
-use Rattle.certificate_listing.specs.Told.{HaveTold, atom_in, atoms_told, state_in, states_told}
+use Rattle.certificate_listing.specs.Told.{HaveTold, atom_in, atoms_told, names_told, state_in, states_told, weights_told}
 use Rattle.certificate_listing.proofs.NamesLemmas.{one_named, same_names}
 
 -- ---- lists of lines
 
 -- an atom that stands in the lines is told, and one that is told stands there
-pub atom_told : (lines : List TextLine) (a : NamedAtom) → Contains lines (atom a) → Contains (atoms_told lines) a
+pub atom_told : (lines : List TextLine) (a : WeightedAtom) → Contains lines (atom a) → Contains (atoms_told lines) a
 atom_told lines a there = Contains-filter_map atom_in lines (atom a) a there refl
 
-pub told_atom : (lines : List TextLine) (a : NamedAtom) → Contains (atoms_told lines) a → Contains lines (atom a)
+pub told_atom : (lines : List TextLine) (a : WeightedAtom) → Contains (atoms_told lines) a → Contains lines (atom a)
 told_atom lines a told = let (line, there, is) = filter_map-Contains atom_in lines a told in subst (Contains lines) (line_is line is) there
   where
     line_is : (line : TextLine) → atom_in line ≡ Some a → line ≡ atom a
     line_is version is = absurd (cc is)
     line_is (claims claim) is = absurd (cc is)
-    line_is constant is = absurd (cc is)
+    line_is (constant k) is = absurd (cc is)
     line_is (atom b) is = let same : b ≡ a = cc in ap (λ a. atom a) same
     line_is (listed l) is = absurd (cc is)
     line_is (last count) is = absurd (cc is)
@@ -66,6 +68,23 @@ only_claim before c d begun there = let at = placed before (claims c) begun in b
     by_place (in_body n m) are next leads = never next leads
     by_place ended are next leads = never next leads
 
+-- before the constant none stands
+only_constant : (before : List TextLine) (k d : ℤ) → BeginCertificate (before ++ constant k ∷ []) → Contains before (constant d) → ⊥
+only_constant before k d begun there = let at = placed before (constant k) begun in by_place at.place at.stands at.next at.leads
+  where
+    no_constant : (claim : Claim) → Contains (version ∷ claims claim ∷ []) (constant d) → ⊥
+    no_constant claim there =
+        ⊎_elim (λ same. absurd (cc same))
+        (λ later. ⊎_elim (λ same. absurd (cc same)) (λ none. Contains-none (constant d) none) (Contains-cases (claims claim) [] (constant d) later))
+        (Contains-cases version (claims claim ∷ []) (constant d) there)
+
+    by_place : (place : Place) → StandsBefore place before → (next : Place) → next_place place (constant k) ≡ Some next → ⊥
+    by_place at_version are next leads = never next leads
+    by_place at_claim are next leads = never next leads
+    by_place at_constant (claim, is, are) next leads = no_constant claim (subst (λ lines. Contains lines (constant d)) are there)
+    by_place (in_body n m) are next leads = never next leads
+    by_place ended are next leads = never next leads
+
 -- ---- one line more
 
 nothing_before : (front : List TextLine) (other : TextLine) (rest : List TextLine) → [] ≡ front ++ other ∷ rest → ⊥
@@ -96,7 +115,7 @@ right_more task before line right not_wrong front rest other number splits wrong
 abbrev pub is_plain : TextLine → Bool
 is_plain version = true
 is_plain (claims claim) = true
-is_plain constant = true
+is_plain (constant k) = true
 is_plain (atom a) = false
 is_plain (listed l) = false
 is_plain (last count) = true
@@ -131,34 +150,52 @@ name_of_atom task (n ∷ names) (b ∷ atoms) a (here, are) there =
     ⊎_elim (λ same. (n, Contains-here n names, subst (Names task n) same here))
     (λ later. let (name, stands, is) = name_of_atom task names atoms a are later in (name, Contains-there n names name stands, is)) (Contains-cases b atoms a there)
 
+-- the names and the weights of some lines and one atom more
+names_more : (before : List TextLine) (a : WeightedAtom) → names_told (before ++ atom a ∷ []) ≡ names_told before ++ a.atom ∷ []
+names_more before a = ap (map (λ (a : WeightedAtom). a.atom)) (filter_map-append atom_in before (atom a ∷ [])) ∙ map-append (λ (a : WeightedAtom). a.atom) (atoms_told before) (a ∷ [])
+
+weights_more : (before : List TextLine) (a : WeightedAtom) → weights_told (before ++ atom a ∷ []) ≡ weights_told before ++ a.weight ∷ []
+weights_more before a = ap (map (λ (a : WeightedAtom). a.weight)) (filter_map-append atom_in before (atom a ∷ [])) ∙ map-append (λ (a : WeightedAtom). a.weight) (atoms_told before) (a ∷ [])
+
 -- no lines tell nothing
-pub told_nothing : (task : Task) → HaveTold task [] (bound 0) []
+pub told_nothing : (task : Task) → HaveTold task [] (bound 0) [] (record { constant = pos 0; weights = [] })
 told_nothing task = record {
   one_claim = λ c there. absurd (Contains-none (claims c) there);
   none_stands = λ same. absurd (cc same);
+  one_constant = λ k there. absurd (Contains-none (constant k) there);
   named = tt;
+  weighed = refl;
   fluent = All-nil (λ (a : Atom). IsTrue (is_atom task a && is_fluent task a.predicate));
   distinct = λ i j d below within. absurd (omega (arith, within));
   right = λ front rest line number splits wrong. nothing_before front line rest splits;
 }
 
-module _ (task : Task) (before : List TextLine) (claim : Claim) (atoms : List Atom) (told : HaveTold task before claim atoms) where
+module _ (task : Task) (before : List TextLine) (claim : Claim) (atoms : List Atom) (potentials : PotentialFunction)
+    (told : HaveTold task before claim atoms potentials) where
   no_atom_more : (line : TextLine) → atom_in line ≡ None → atoms_told (before ++ line ∷ []) ≡ atoms_told before
   no_atom_more line none_in = filter_map-append atom_in before (line ∷ []) ∙ ap (λ more. atoms_told before ++ more) (none_more line none_in) ∙ append-nil (atoms_told before)
     where
       none_more : (line : TextLine) → atom_in line ≡ None → atoms_told (line ∷ []) ≡ []
       none_more version is = refl
       none_more (claims claim) is = refl
-      none_more constant is = refl
+      none_more (constant k) is = refl
       none_more (atom a) is = absurd (cc is)
       none_more (listed l) is = refl
       none_more (last count) is = refl
 
-  pub told_claim : (c : Claim) → BeginCertificate (before ++ claims c ∷ []) → HaveTold task (before ++ claims c ∷ []) c atoms
+  named_still : (line : TextLine) → atom_in line ≡ None → AllName task (names_told (before ++ line ∷ [])) atoms
+  named_still line none_in = subst (λ (told : List WeightedAtom). AllName task (map (λ a. a.atom) told) atoms) (sym (no_atom_more line none_in)) told.named
+
+  weighed_still : (line : TextLine) → atom_in line ≡ None → potentials.weights ≡ weights_told (before ++ line ∷ [])
+  weighed_still line none_in = told.weighed ∙ ap (map (λ (a : WeightedAtom). a.weight)) (sym (no_atom_more line none_in))
+
+  pub told_claim : (c : Claim) → BeginCertificate (before ++ claims c ∷ []) → HaveTold task (before ++ claims c ∷ []) c atoms potentials
   told_claim c begun = record {
     one_claim = λ d there. ⊎_elim (λ earlier. absurd (only_claim before c d begun earlier)) (λ same. claim_same d same) (Contains-push_cases before (claims c) (claims d) there);
     none_stands = λ none_is. subst (λ d. Contains (before ++ claims c ∷ []) (claims d)) none_is (Contains-push before (claims c));
-    named = subst (λ names. AllName task names atoms) (sym (no_atom_more (claims c) refl)) told.named;
+    one_constant = λ k there. ⊎_elim (λ earlier. told.one_constant k earlier) (λ same. absurd (cc same)) (Contains-push_cases before (claims c) (constant k) there);
+    named = named_still (claims c) refl;
+    weighed = weighed_still (claims c) refl;
     fluent = told.fluent;
     distinct = told.distinct;
     right = right_more task before (claims c) told.right (λ number wrong. plain_is_right task before (claims c) number wrong refl);
@@ -167,53 +204,72 @@ module _ (task : Task) (before : List TextLine) (claim : Claim) (atoms : List At
       claim_same : (d : Claim) → claims c ≡ claims d → c ≡ d
       claim_same d same = cc same
 
-  -- a line that tells neither the claim nor an atom
-  pub told_else : (line : TextLine) → ((d : Claim) → line ≡ claims d → ⊥) → atom_in line ≡ None → ((number : ℕ) → IsWrongAfter task before line number → ⊥)
-      → HaveTold task (before ++ line ∷ []) claim atoms
-  told_else line no_claim no_atom is_right = record {
+  pub told_constant : (k : ℤ) → BeginCertificate (before ++ constant k ∷ []) → HaveTold task (before ++ constant k ∷ []) claim atoms (record { constant = k; weights = potentials.weights })
+  told_constant k begun = record {
+    one_claim = λ d there. ⊎_elim (λ earlier. told.one_claim d earlier) (λ same. absurd (cc same)) (Contains-push_cases before (constant k) (claims d) there);
+    none_stands = λ none_is. Contains-append_left before (constant k ∷ []) (claims none) (told.none_stands none_is);
+    one_constant = λ d there. ⊎_elim (λ earlier. absurd (only_constant before k d begun earlier)) (λ same. constant_same d same) (Contains-push_cases before (constant k) (constant d) there);
+    named = named_still (constant k) refl;
+    weighed = weighed_still (constant k) refl;
+    fluent = told.fluent;
+    distinct = told.distinct;
+    right = right_more task before (constant k) told.right (λ number wrong. plain_is_right task before (constant k) number wrong refl);
+  }
+    where
+      constant_same : (d : ℤ) → constant k ≡ constant d → k ≡ d
+      constant_same d same = cc same
+
+  -- a line that tells neither the claim, nor the constant, nor an atom
+  pub told_else : (line : TextLine) → ((d : Claim) → line ≡ claims d → ⊥) → ((k : ℤ) → line ≡ constant k → ⊥) → atom_in line ≡ None
+      → ((number : ℕ) → IsWrongAfter task before line number → ⊥) → HaveTold task (before ++ line ∷ []) claim atoms potentials
+  told_else line no_claim no_constant no_atom is_right = record {
     one_claim = λ d there. ⊎_elim (λ earlier. told.one_claim d earlier) (λ same. absurd (no_claim d same)) (Contains-push_cases before line (claims d) there);
     none_stands = λ none_is. Contains-append_left before (line ∷ []) (claims none) (told.none_stands none_is);
-    named = subst (λ names. AllName task names atoms) (sym (no_atom_more line no_atom)) told.named;
+    one_constant = λ k there. ⊎_elim (λ earlier. told.one_constant k earlier) (λ same. absurd (no_constant k same)) (Contains-push_cases before line (constant k) there);
+    named = named_still line no_atom;
+    weighed = weighed_still line no_atom;
     fluent = told.fluent;
     distinct = told.distinct;
     right = right_more task before line told.right is_right;
   }
 
-  pub told_version : HaveTold task (before ++ version ∷ []) claim atoms
-  told_version = told_else version (λ d same. cc same) refl (λ number wrong. plain_is_right task before version number wrong refl)
+  pub told_version : HaveTold task (before ++ version ∷ []) claim atoms potentials
+  told_version = told_else version (λ d same. cc same) (λ k same. cc same) refl (λ number wrong. plain_is_right task before version number wrong refl)
 
-  pub told_constant : HaveTold task (before ++ constant ∷ []) claim atoms
-  told_constant = told_else constant (λ d same. cc same) refl (λ number wrong. plain_is_right task before constant number wrong refl)
+  pub told_last : (count : ℕ) → HaveTold task (before ++ last count ∷ []) claim atoms potentials
+  told_last count = told_else (last count) (λ d same. cc same) (λ k same. cc same) refl (λ number wrong. plain_is_right task before (last count) number wrong refl)
 
-  pub told_last : (count : ℕ) → HaveTold task (before ++ last count ∷ []) claim atoms
-  told_last count = told_else (last count) (λ d same. cc same) refl (λ number wrong. plain_is_right task before (last count) number wrong refl)
-
-  module _ (name : NamedAtom) (a : Atom) (names : Names task name a) (typed : IsTrue (is_atom task a)) (changes : IsTrue (is_fluent task a.predicate)) where
-    right_atom : (Contains atoms a → ⊥) → (line : TextLine) (number : ℕ) → IsWrongAfter task before line number → line ≡ atom name → ⊥
+  module _ (said : WeightedAtom) (a : Atom) (names : Names task said.atom a) (typed : IsTrue (is_atom task a)) (changes : IsTrue (is_fluent task a.predicate)) where
+    right_atom : (Contains atoms a → ⊥) → (line : TextLine) (number : ℕ) → IsWrongAfter task before line number → line ≡ atom said → ⊥
     right_atom new line number (not_fluent b none_is) same =
-        let is : b ≡ name = cc in absurd (none_is (a, subst (λ name. Names task name a) (sym is) names, typed, changes))
-    right_atom new line number (repeated_atom b is there) same =
-        let here : b ≡ name = cc in
-        let (other, stands, other_is) = atom_of_name task (atoms_told before) atoms b told.named (atom_told before b there) in
-        absurd (new (subst (Contains atoms) (one_named task name other a (subst (λ name. Names task name other) here other_is) names) stands))
+        let here : b ≡ said = cc in absurd (none_is (a, subst (λ (b : WeightedAtom). Names task b.atom a) (sym here) names, typed, changes))
+    right_atom new line number (repeated_atom b is (earlier, there, earlier_is)) same =
+        let here : b ≡ said = cc in
+        let same_name : earlier.atom ≡ said.atom = earlier_is ∙ ap (λ (b : WeightedAtom). b.atom) here in
+        let (other, stands, other_is) = atom_of_name task (names_told before) atoms earlier.atom told.named
+        (Contains-map (λ (a : WeightedAtom). a.atom) (atoms_told before) earlier (atom_told before earlier there)) in
+        absurd (new (subst (Contains atoms) (one_named task said.atom other a (subst (λ name. Names task name other) same_name other_is) names) stands))
     right_atom new line number (repeated_state l there) same = absurd (cc same)
     right_atom new line number (cut_not_allowed l first cut there) same = absurd (cc same)
 
-    pub told_new_atom : (Contains atoms a → ⊥) → HaveTold task (before ++ atom name ∷ []) claim (atoms ++ a ∷ [])
+    pub told_new_atom : (Contains atoms a → ⊥)
+        → HaveTold task (before ++ atom said ∷ []) claim (atoms ++ a ∷ []) (record { constant = potentials.constant; weights = potentials.weights ++ said.weight ∷ [] })
     told_new_atom new = record {
-      one_claim = λ d there. ⊎_elim (λ earlier. told.one_claim d earlier) (λ same. absurd (cc same)) (Contains-push_cases before (atom name) (claims d) there);
-      none_stands = λ none_is. Contains-append_left before (atom name ∷ []) (claims none) (told.none_stands none_is);
-      named = subst (λ names. AllName task names (atoms ++ a ∷ [])) (sym (filter_map-append atom_in before (atom name ∷ [])))
-          (named_push task (atoms_told before) atoms name a told.named names);
+      one_claim = λ d there. ⊎_elim (λ earlier. told.one_claim d earlier) (λ same. absurd (cc same)) (Contains-push_cases before (atom said) (claims d) there);
+      none_stands = λ none_is. Contains-append_left before (atom said ∷ []) (claims none) (told.none_stands none_is);
+      one_constant = λ k there. ⊎_elim (λ earlier. told.one_constant k earlier) (λ same. absurd (cc same)) (Contains-push_cases before (atom said) (constant k) there);
+      named = subst (λ names. AllName task names (atoms ++ a ∷ [])) (sym (names_more before said)) (named_push task (names_told before) atoms said.atom a told.named names);
+      weighed = ap (λ weights. weights ++ said.weight ∷ []) told.weighed ∙ sym (weights_more before said);
       fluent = All-push (λ (a : Atom). IsTrue (is_atom task a && is_fluent task a.predicate)) atoms a told.fluent (λ i. typed i && changes i);
       distinct = all_pairs_push (λ (a b : Atom). a ≢ b) atoms a told.distinct (λ k d within same. new (subst (Contains atoms) same (Contains-get_or atoms k d within)));
-      right = right_more task before (atom name) told.right (λ number wrong. right_atom new (atom name) number wrong refl);
+      right = right_more task before (atom said) told.right (λ number wrong. right_atom new (atom said) number wrong refl);
     }
 
-    pub wrong_again : Contains atoms a → IsWrongAfter task before (atom name) 44
+    pub wrong_again : Contains atoms a → IsWrongAfter task before (atom said) 44
     wrong_again stands =
-        let (other, there, is) = name_of_atom task (atoms_told before) atoms a told.named stands in
-        repeated_atom name (a, names, typed, changes) (told_atom before name (subst (Contains (atoms_told before)) (same_names task other name a is names) there))
+        let (name, among, is) = name_of_atom task (names_told before) atoms a told.named stands in
+        let (other, there, other_is) = map-Contains (λ (a : WeightedAtom). a.atom) (atoms_told before) name among in
+        repeated_atom said (a, names, typed, changes) (other, told_atom before other there, other_is ∙ same_names task name said.atom a is names)
 
 -- a line that lists no state adds none
 pub states_same : (lines : List TextLine) (line : TextLine) → state_in line ≡ None → states_told (lines ++ line ∷ []) ≡ states_told lines
@@ -222,7 +278,7 @@ states_same lines line is = filter_map-append state_in lines (line ∷ []) ∙ a
     alone : (line : TextLine) → state_in line ≡ None → states_told (line ∷ []) ≡ []
     alone version is = refl
     alone (claims claim) is = refl
-    alone constant is = refl
+    alone (constant k) is = refl
     alone (atom a) is = refl
     alone (listed l) is = absurd (cc is)
     alone (last count) is = refl

@@ -3,7 +3,7 @@ pub mod CertFaults
 pub mod Sets
 pub mod Told
 pub mod Listed
+pub mod Parts
 pub mod Taking
 pub mod Reading
-pub mod Parts
 pub mod Listing

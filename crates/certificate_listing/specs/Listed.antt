@@ -28,7 +28,7 @@ IsAdded old new x is_new = MatchBool is_new ((¬ Contains old x) × (new ≡ old
 abbrev pub IsFit : ℕ → List (List Bool) → TextLine → Type 0
 IsFit width sets version = Unit {0}
 IsFit width sets (claims claim) = Unit {0}
-IsFit width sets constant = Unit {0}
+IsFit width sets (constant k) = Unit {0}
 IsFit width sets (atom a) = Unit {0}
 IsFit width sets (listed l) = IsTrue (rise width 0 l.atoms) × (length sets < 16777216)
 IsFit width sets (last count) = Unit {0}

@@ -5,7 +5,7 @@ use Rattle.certificate_listing.specs.declared.listing.Listing.{Listing}
 use Rattle.certificate_listing.specs.Parts.{certificate_with}
 
 abbrev pub certificate_in : Listing → Certificate
-certificate_in listing = certificate_with listing.claim listing.atoms.keys listing.states.marks.items listing.states.sets
+certificate_in listing = certificate_with listing.beginning listing.states
 
 -- the sets that its states are, and what they are of
 abbrev pub store_in : Listing → PooledStore

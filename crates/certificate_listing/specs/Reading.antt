@@ -5,23 +5,25 @@ use Rattle.devices.specs.Devices.{one_more}
 use Rattle.model.specs.Task.{Atom, Task}
 use Rattle.model.specs.WellTyped.{is_atom}
 use Rattle.model.specs.Fluents.{is_fluent}
-use Rattle.model.specs.Claims.{Claim, none}
+use Rattle.model.specs.Claims.{none}
 use Rattle.certificate_text.specs.Certificates.{Certificate, StateLine}
 use Rattle.certificate_text.specs.CertificateNames.{IsTextOf}
 use Rattle.certificate_lines.specs.declared.line.CertLine.{CertLine}
-use Rattle.certificate_lines.specs.Lines.{text_line_of}
+use Rattle.certificate_lines.specs.Lines.{claim_of, text_line_of}
 use Rattle.certificate_text.specs.CertificateText.{TextLine, AreWhole, text_of}
 use Rattle.certificate_text.specs.CertificateChecking.{AreRight, IsLineFault}
 use Rattle.certificate_reader.specs.declared.reader.CertReader.{CertReader}
 use Rattle.certificate_reader.specs.Reader.{HasRead, has_failed, source_of, waits_in}
+use Rattle.certificate_listing.specs.declared.beginning.Beginning.{Beginning}
 use Rattle.certificate_listing.specs.declared.refusal.RefusalCode.{RefusalCode}
 use Rattle.certificate_listing.specs.declared.refusal.RefusalCode.TheVariants.{Truncated}
 use Rattle.certificate_listing.specs.declared.refusal.Refusal.{Refusal}
 use Rattle.certificate_listing.specs.declared.refusal.Refusal.TheVariants as refusal
 use Rattle.certificate_listing.specs.RefusalCode.{number_of}
-use Rattle.certificate_listing.specs.Told.{HaveTold, is_body, states_told}
+use Rattle.certificate_listing.specs.Told.{is_body, states_told}
 use Rattle.certificate_listing.specs.Sets.{Marked}
 use Rattle.certificate_listing.specs.Listed.{HaveListed}
+use Rattle.certificate_listing.specs.Taking.{HasTaken}
 
 -- a reader that has handed out nothing, and holds nothing
 pub record IsFresh {R : Type 0} (reader : CertReader R) : Type 0 where
@@ -53,35 +55,37 @@ IsToldAt remaining task first now code line =
 -- the refusal is that of a line; or memory was refused, or the device failed
 abbrev pub IsLineRefusal : {R : Type 0} → (remaining : R → Option (List ℕ)) → Task → (first now : CertReader R) → Refusal → Type 0
 IsLineRefusal remaining task first now (refusal.Line code line) = IsToldAt remaining task first now code line
+IsLineRefusal remaining task first now (refusal.Unfair i) = ⊥
 IsLineRefusal remaining task first now (refusal.Plain code) = ⊥
 IsLineRefusal remaining task first now refusal.NoMemory = Unit {0}
 IsLineRefusal remaining task first now refusal.Device = Unit {0}
 IsLineRefusal remaining task first now refusal.Failed = ⊥
 
 -- The lines up to the next one have told this; the next one lists a state, or is the last, or the text has ended.
-abbrev pub IsBegun : {R : Type 0} → (remaining : R → Option (List ℕ)) → Task → (first now : CertReader R) → Claim → List Atom → Option CertLine → Type 0
-IsBegun remaining task first now claim atoms (Some line) =
-    (before : List TextLine) × IsAt remaining first now (before ++ text_line_of line ∷ []) × HaveTold task before claim atoms
+abbrev pub IsBegun : {R : Type 0} → (remaining : R → Option (List ℕ)) → Task → (first now : CertReader R) → Beginning → Option CertLine → Type 0
+IsBegun remaining task first now beginning (Some line) =
+    (before : List TextLine) × IsAt remaining first now (before ++ text_line_of line ∷ []) × HasTaken task before beginning
     × (states_told before ≡ []) × (is_body (text_line_of line) ≡ true)
-IsBegun remaining task first now claim atoms None =
-    (lines : List TextLine) × IsAtLast remaining first now lines × HaveTold task lines claim atoms × (states_told lines ≡ [])
+IsBegun remaining task first now beginning None =
+    (lines : List TextLine) × IsAtLast remaining first now lines × HasTaken task lines beginning × (states_told lines ≡ [])
 
 -- the failure of a device counts one failure, another answer none
 abbrev pub CountsRefusal : {T : Type 0} → (before after : ℕ) → Result T Refusal → Type 0
 CountsRefusal before after (Ok read) = after ≡ before
 CountsRefusal before after (Err (refusal.Line code line)) = after ≡ before
+CountsRefusal before after (Err (refusal.Unfair i)) = after ≡ before
 CountsRefusal before after (Err (refusal.Plain code)) = after ≡ before
 CountsRefusal before after (Err refusal.NoMemory) = after ≡ before
 CountsRefusal before after (Err refusal.Device) = after ≡ one_more before
 CountsRefusal before after (Err refusal.Failed) = after ≡ before
 
 -- The lines up to the next one have told and listed this; the next one lists a state, or is the last, or the text has ended.
-abbrev pub IsListedSoFar : {R : Type 0} → (remaining : R → Option (List ℕ)) → Task → (first now : CertReader R) → Claim → List Atom → (width : ℕ) → List Marked → List (List Bool) → Option CertLine → Type 0
-IsListedSoFar remaining task first now claim atoms width marks sets (Some line) =
-    (before : List TextLine) × IsAt remaining first now (before ++ text_line_of line ∷ []) × HaveTold task before claim atoms × HaveListed before claim width marks sets
-    × (is_body (text_line_of line) ≡ true)
-IsListedSoFar remaining task first now claim atoms width marks sets None =
-    (lines : List TextLine) × IsAtLast remaining first now lines × HaveTold task lines claim atoms × HaveListed lines claim width marks sets
+abbrev pub IsListedSoFar : {R : Type 0} → (remaining : R → Option (List ℕ)) → Task → (first now : CertReader R) → Beginning → (width : ℕ) → List Marked → List (List Bool) → Option CertLine → Type 0
+IsListedSoFar remaining task first now beginning width marks sets (Some line) =
+    (before : List TextLine) × IsAt remaining first now (before ++ text_line_of line ∷ []) × HasTaken task before beginning
+    × HaveListed before (claim_of beginning.claim) width marks sets × (is_body (text_line_of line) ≡ true)
+IsListedSoFar remaining task first now beginning width marks sets None =
+    (lines : List TextLine) × IsAtLast remaining first now lines × HasTaken task lines beginning × HaveListed lines (claim_of beginning.claim) width marks sets
 
 -- What came to the end is the text of this certificate of the task, and nothing is wrong with any of its lines.
 pub record IsRead {R : Type 0} (remaining : R → Option (List ℕ)) (task : Task) (first now : CertReader R) (c : Certificate) : Type 0 where

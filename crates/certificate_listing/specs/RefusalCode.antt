@@ -3,7 +3,7 @@ use Rattle.std.specs.Prelude.{ℕ, List, codes}
 use Rattle.certificate_reader.specs.declared.next.TextFault.{TextFault}
 use Rattle.certificate_reader.specs.declared.next.TextFault.TheVariants as text
 use Rattle.certificate_listing.specs.declared.refusal.RefusalCode.{RefusalCode}
-use Rattle.certificate_listing.specs.declared.refusal.RefusalCode.TheVariants.{CertForm, CertVersion, Truncated, NotFluent, Repeated, NoInitial, GoalOpen, SuccessorMissing, SuccessorDearer, CutWeak, CutNotAllowed, PlanInvalid, PlanDearer, Limit}
+use Rattle.certificate_listing.specs.declared.refusal.RefusalCode.TheVariants.{CertForm, CertVersion, Truncated, NotFluent, Repeated, NoInitial, Unfair, UnfairGoal, GoalOpen, SuccessorMissing, SuccessorDearer, CutWeak, CutNotAllowed, PlanInvalid, PlanDearer, Limit}
 
 -- the number that the program prints
 abbrev pub number_of : RefusalCode → ℕ
@@ -13,6 +13,8 @@ number_of Truncated = 42
 number_of NotFluent = 43
 number_of Repeated = 44
 number_of NoInitial = 45
+number_of Unfair = 46
+number_of UnfairGoal = 47
 number_of GoalOpen = 48
 number_of SuccessorMissing = 49
 number_of SuccessorDearer = 50
@@ -30,6 +32,8 @@ name_of Truncated = codes "Truncated"
 name_of NotFluent = codes "NotFluent"
 name_of Repeated = codes "Repeated"
 name_of NoInitial = codes "NoInitial"
+name_of Unfair = codes "Unfair"
+name_of UnfairGoal = codes "UnfairGoal"
 name_of GoalOpen = codes "GoalOpen"
 name_of SuccessorMissing = codes "SuccessorMissing"
 name_of SuccessorDearer = codes "SuccessorDearer"

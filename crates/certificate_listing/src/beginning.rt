@@ -1,12 +1,10 @@
-//! The claim and the atoms of a certificate, read line by line.
-ghost use Rattle.std.specs.Prelude.{◌≡◌, ℕ, ◌+◌, ◌++◌, ◌∷◌, [], IfErr, IfOk, List, OnOk, length, map};
+//! What a certificate says before its states, read line by line.
+ghost use Rattle.std.specs.Prelude.{◌≡◌, ◌+◌, ◌++◌, ◌∷◌, [], IfErr, IfOk, List, OnOk, length};
 ghost use Rattle.typing.specs.Task.{task_of};
-ghost use Rattle.typing.specs.TaskParts.{atom_of};
-ghost use Rattle.model.specs.Claims as claims;
-ghost use Rattle.certificate_lines.specs.Lines.{claim_of, named_atom_of, text_line_of};
+ghost use Rattle.model.specs.Task as model;
+ghost use Rattle.certificate_lines.specs.Lines.{named_atom_of, text_line_of};
 ghost use Rattle.certificate_text.specs.CertificateText.{TextLine, BeginCertificate, atom};
-ghost use Rattle.certificate_listing.specs.Told.{HaveTold};
-ghost use Rattle.certificate_listing.specs.Taking.{IsTaken, IsWrongNow};
+ghost use Rattle.certificate_listing.specs.Taking.{HasTaken, IsTaken, IsWrongNow};
 ghost use Rattle.certificate_reader.specs.Reader.{source_of};
 ghost use Rattle.certificate_listing.specs.Reading.{CountsRefusal, IsBegun, IsFresh, IsLineRefusal};
 
@@ -19,24 +17,29 @@ use indexmap::IndexSet;
 use std::alloc::Global;
 use typing::{Atom, Task};
 
-/// The claim and the atoms, as far as the lines have told them.
+/// The claim, the potential function and the atoms, as far as the lines have told them.
 #[derive(Drop)]
 pub(crate) struct Beginning {
     /// The claim; a bound of 0, which is always true, until its line comes.
     pub(crate) claim: Claim,
+    /// The constant of the potential function; 0 until its line comes.
+    pub(crate) constant: i64,
     /// The atoms, in order.
     pub(crate) atoms: IndexSet<Atom>,
+    /// Their weights.
+    pub(crate) weights: Vec<i64>,
 }
 
 impl Beginning {
     /// What no lines have told.
     pub(crate) fn new(alloc: Global) -> Beginning
-        ensures claim { claim_of result.claim ≡ claims.bound 0 }
-        ensures atoms { result.atoms.keys ≡ [] }
+        ensures { (task : model.Task) → HasTaken task [] result }
     {
         Beginning {
             claim: Claim::Bound(0),
+            constant: 0,
             atoms: IndexSet::new(alloc),
+            weights: Vec::new(alloc),
         }
     }
 
@@ -48,64 +51,66 @@ impl Beginning {
         number: u64,
     ) -> Result<Option<CertLine>, Refusal>
         ensures taken { IfOk result (λ back. (before : List TextLine) → BeginCertificate (before ++ text_line_of line ∷ [])
-            → HaveTold (task_of task.now) before (claim_of self.old.claim) (map atom_of self.old.atoms.keys)
-            → IsTaken (task_of task.now) before (text_line_of line) (claim_of self.new.claim) (map atom_of self.new.atoms.keys) back) }
+            → HasTaken (task_of task.now) before self.old → IsTaken (task_of task.now) before (text_line_of line) self.new back) }
         ensures wrong { IfErr result (λ refusal. (before : List TextLine) → number ≡ length before + 1
-            → HaveTold (task_of task.now) before (claim_of self.old.claim) (map atom_of self.old.atoms.keys)
-            → IsWrongNow (task_of task.now) before (text_line_of line) refusal) }
+            → HasTaken (task_of task.now) before self.old → IsWrongNow (task_of task.now) before (text_line_of line) refusal) }
     {
         match line {
-            CertLine::Head | CertLine::Constant => Ok(None),
+            CertLine::Head => Ok(None),
             CertLine::Claim(claim) => {
                 self.claim = claim;
                 Ok(None)
             }
-            CertLine::Weight(name) => {
-                add_atom(task, &mut self.atoms, &name, number)?;
+            CertLine::Constant(constant) => {
+                self.constant = constant;
+                Ok(None)
+            }
+            CertLine::Weight { weight, atom } => {
+                self.add_atom(task, &atom, weight, number)?;
                 Ok(None)
             }
             CertLine::Listed(_) | CertLine::Last { .. } => Ok(Some(line)),
         }
     }
-}
 
-/// Puts the atom of these names, which the line of this number gives, behind the others.
-fn add_atom(
-    task: &Task,
-    atoms: &mut IndexSet<Atom>,
-    name: &NamedAtom,
-    number: u64,
-) -> Result<(), Refusal>
-    ensures told { OnOk result ((before : List TextLine) (claim : claims.Claim) → HaveTold (task_of task.now) before claim (map atom_of atoms.old.keys)
-        → HaveTold (task_of task.now) (before ++ atom (named_atom_of name.now) ∷ []) claim (map atom_of atoms.new.keys)) }
-    ensures wrong { IfErr result (λ refusal. (before : List TextLine) (claim : claims.Claim) → number ≡ length before + 1
-        → HaveTold (task_of task.now) before claim (map atom_of atoms.old.keys)
-        → IsWrongNow (task_of task.now) before (atom (named_atom_of name.now)) refusal) }
-{
-    let Some(atom) = fluent_atom_named(task, name) else {
-        return Err(Refusal::Line {
-            code: RefusalCode::NotFluent,
-            line: number,
-        });
-    };
-    if atoms.insert(atom)? {
+    /// Puts the atom of these names, which the line of this number gives, and its weight behind the others.
+    fn add_atom(
+        &mut self,
+        task: &Task,
+        name: &NamedAtom,
+        weight: i64,
+        number: u64,
+    ) -> Result<(), Refusal>
+        ensures told { OnOk result ((before : List TextLine) → HasTaken (task_of task.now) before self.old
+            → HasTaken (task_of task.now) (before ++ atom (record { weight = weight; atom = named_atom_of name.now }) ∷ []) self.new) }
+        ensures wrong { IfErr result (λ refusal. (before : List TextLine) → number ≡ length before + 1 → HasTaken (task_of task.now) before self.old
+            → IsWrongNow (task_of task.now) before (atom (record { weight = weight; atom = named_atom_of name.now })) refusal) }
+    {
+        let Some(atom) = fluent_atom_named(task, name) else {
+            return Err(Refusal::Line {
+                code: RefusalCode::NotFluent,
+                line: number,
+            });
+        };
+        if !self.atoms.insert(atom)? {
+            return Err(Refusal::Line {
+                code: RefusalCode::Repeated,
+                line: number,
+            });
+        }
+        self.weights.push(weight)?;
         Ok(())
-    } else {
-        Err(Refusal::Line {
-            code: RefusalCode::Repeated,
-            line: number,
-        })
     }
 }
 
-/// Reads the claim and the atoms, and the line behind them; `None` where the text has ended before it.
+/// Reads what stands before the states, and the line behind it; `None` where the text has ended before it.
 pub(crate) fn read_beginning<R: Source>(
     alloc: Global,
     task: &Task,
     reader: &mut CertReader<R>,
 ) -> Result<(Beginning, Option<CertLine>), Refusal>
     requires { IsFresh reader.old }
-    ensures begun { IfOk result (λ read. IsBegun R.remaining (task_of task.now) reader.old reader.new (claim_of read.0.claim) (map atom_of read.0.atoms.keys) read.1) }
+    ensures begun { IfOk result (λ read. IsBegun R.remaining (task_of task.now) reader.old reader.new read.0 read.1) }
     ensures refused { IfErr result (IsLineRefusal R.remaining (task_of task.now) reader.old reader.new) }
     ensures failures { CountsRefusal (R.failures (source_of reader.old)) (R.failures (source_of reader.new)) result }
 {

@@ -4,61 +4,75 @@ ghost use Rattle.certificate_text.specs.Certificates.{keeps_limits};
 ghost use Rattle.packed_state.specs.PooledView.{pooled_states};
 ghost use Rattle.certificate_listing.specs.Parts.{certificate_with};
 
+use crate::beginning::Beginning;
 use crate::states::{Mark, States};
 use crate::widening::widened;
 use certificate_lines::Claim;
 use faults::NoMemory;
-use indexmap::IndexSet;
 use packed_state::{PooledStore, StateStore};
 use std::alloc::Global;
 use typing::Atom;
 
-/// A certificate of a task, within the limits of a certificate's text: its claim, its atoms, and the states that it lists,
-/// as sets of the numbers of its atoms.
+/// A certificate of a task, within the limits of a certificate's text: its claim, its potential function, its atoms, and the
+/// states that it lists, as sets of the numbers of its atoms.
 #[derive(Drop)]
 pub struct Listing {
-    claim: Claim,
-    atoms: IndexSet<Atom>,
+    beginning: Beginning,
     states: States,
-    ghost within_limits: { IsTrue (keeps_limits (certificate_with claim atoms.keys states.marks.items states.sets)) },
+    ghost within_limits: { IsTrue (keeps_limits (certificate_with beginning states)) },
     ghost marked: { length states.marks.items ≡ length (pooled_states states.sets) },
 }
 
 impl Listing {
     ghost use Rattle.std.specs.Prelude.{◌≤◌, IfOk, map};
+    ghost use Rattle.std.specs.List.{list_all};
     ghost use Rattle.typing.specs.TaskParts.{atom_of};
     ghost use Rattle.packed_state.specs.PooledView.{pooled_width};
+    ghost use Rattle.certificate_text.specs.Certificates.{is_weight};
     ghost use Rattle.certificate_lines.specs.Lines.{claim_of};
     ghost use Rattle.certificate_listing.specs.Listed.{mark_of};
     ghost use Rattle.certificate_listing.specs.Sets.{marked};
     ghost use Rattle.certificate_listing.specs.Listing.{certificate_in, store_in};
 
     /// The certificate of these parts.
-    pub(crate) fn new(claim: Claim, atoms: IndexSet<Atom>, states: States) -> Listing
-        requires limits { IsTrue (keeps_limits (certificate_with claim atoms.keys states.marks.items states.sets)) }
+    pub(crate) fn new(beginning: Beginning, states: States) -> Listing
+        requires limits { IsTrue (keeps_limits (certificate_with beginning states)) }
         requires marked { length states.marks.items ≡ length (pooled_states states.sets) }
-        ensures certificate { certificate_in result ≡ certificate_with claim atoms.keys states.marks.items states.sets }
+        ensures certificate { certificate_in result ≡ certificate_with beginning states }
         ensures sets { store_in result ≡ states.sets }
     {
-        Listing {
-            claim,
-            atoms,
-            states,
-        }
+        Listing { beginning, states }
     }
 
     /// What it claims of all plans.
     pub fn claim(&self) -> Claim
         ensures { claim_of result ≡ (certificate_in self.now).claim }
     {
-        self.claim
+        self.beginning.claim
+    }
+
+    /// The constant of its potential function.
+    pub fn constant(&self) -> i64
+        ensures constant { result ≡ (certificate_in self.now).potentials.constant }
+        ensures within_limits { IsTrue (is_weight result) }
+    {
+        self.beginning.constant
+    }
+
+    /// The weights of its atoms, in their order.
+    pub fn weights(&self) -> &[i64]
+        ensures weights { result.now ≡ (certificate_in self.now).potentials.weights }
+        ensures one_for_each { length result.now ≡ length (certificate_in self.now).atoms }
+        ensures within_limits { IsTrue (list_all is_weight result.now) }
+    {
+        self.beginning.weights.as_slice()
     }
 
     /// Its atoms, which its states name by their places here, from 0.
     pub fn atoms(&self) -> &[Atom]
         ensures { map atom_of result.now ≡ (certificate_in self.now).atoms }
     {
-        self.atoms.as_slice()
+        self.beginning.atoms.as_slice()
     }
 
     /// The costs and the cuts of its states, in the order of their lines.
@@ -88,16 +102,12 @@ impl Listing {
         if self.states.sets.width() == width {
             return Ok(self);
         }
-        let Listing {
-            claim,
-            atoms,
-            states,
-        } = self;
+        let Listing { beginning, states } = self;
         let sets = widened(alloc, &states.sets, width)?;
         let states = States {
             marks: states.marks,
             sets,
         };
-        Ok(Listing::new(claim, atoms, states))
+        Ok(Listing::new(beginning, states))
     }
 }

@@ -37,5 +37,5 @@ pub fn read_listing<R: Source>(
         states.take_line(alloc, beginning.claim, line, reader.lines())?;
         next = reader.next_line()?;
     }
-    Ok(Listing::new(beginning.claim, beginning.atoms, states))
+    Ok(Listing::new(beginning, states))
 }

@@ -4,6 +4,7 @@ ghost use Rattle.certificate_listing.specs.RefusalCode.{code_of};
 
 use certificate_reader::{CertFault, TextFault};
 use faults::NoMemory;
+use formulas::Instance;
 use std::alloc::{AllocError, AllocFailed};
 use std::fmt;
 
@@ -23,6 +24,10 @@ pub enum RefusalCode {
     Repeated = 44,
     /// The initial state is not listed at cost 0.
     NoInitial = 45,
+    /// An instance may make the potential function fall by more than it costs.
+    Unfair = 46,
+    /// The potential function may be more than 0 at a goal.
+    UnfairGoal = 47,
     /// An open state meets the goal at a cost that the claim does not allow.
     GoalOpen = 48,
     /// A successor of an open state is not listed.
@@ -64,6 +69,8 @@ impl RefusalCode {
             RefusalCode::NotFluent => "NotFluent",
             RefusalCode::Repeated => "Repeated",
             RefusalCode::NoInitial => "NoInitial",
+            RefusalCode::Unfair => "Unfair",
+            RefusalCode::UnfairGoal => "UnfairGoal",
             RefusalCode::GoalOpen => "GoalOpen",
             RefusalCode::SuccessorMissing => "SuccessorMissing",
             RefusalCode::SuccessorDearer => "SuccessorDearer",
@@ -83,7 +90,7 @@ impl fmt::Display for RefusalCode {
 }
 
 /// Why a certificate, or the plan that was handed in with it, is refused.
-#[derive(Clone, Copy, Debug, PartialEq, Eq)]
+#[derive(Drop)]
 pub enum Refusal {
     /// This is wrong with a line of the certificate.
     Line {
@@ -92,6 +99,8 @@ pub enum Refusal {
         /// The line of the text, counted from 1.
         line: u64,
     },
+    /// This instance, the first such one, may lose more than it costs.
+    Unfair(Instance),
     /// This is wrong, and not with one line.
     Plain(RefusalCode),
     /// Memory that was asked for was refused.

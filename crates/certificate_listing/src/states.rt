@@ -4,6 +4,7 @@ ghost use Rattle.packed_state.specs.PooledView.{pooled_width, pooled_states};
 ghost use Rattle.packed_state.specs.Sets.{set_of};
 ghost use Rattle.model.specs.Task as model;
 ghost use Rattle.model.specs.Claims as claims;
+ghost use Rattle.potential_functions.specs.PotentialFunctions.{PotentialFunction};
 ghost use Rattle.certificate_text.specs.Certificates.{rise};
 ghost use Rattle.certificate_lines.specs.Lines.{claim_of, line_of, text_line_of};
 ghost use Rattle.certificate_text.specs.CertificateText.{TextLine, listed};
@@ -59,14 +60,14 @@ impl States {
         requires rising { IsTrue (rise (pooled_width self.old.sets) 0 line.now.atoms.items) }
         requires room { length (pooled_states self.old.sets) < 16777216 }
         ensures width { pooled_width self.new.sets ≡ pooled_width self.old.sets }
-        ensures told { OnOk result ((task : model.Task) (before : List TextLine) (atoms : List model.Atom) → HaveTold task before (claim_of claim) atoms
+        ensures told { OnOk result ((task : model.Task) (before : List TextLine) (atoms : List model.Atom) (potentials : PotentialFunction) → HaveTold task before (claim_of claim) atoms potentials
             → HaveListed before (claim_of claim) (pooled_width self.old.sets) (map mark_of self.old.marks.items) (pooled_states self.old.sets)
-            → HaveTold task (before ++ listed (line_of line.now) ∷ []) (claim_of claim) atoms) }
+            → HaveTold task (before ++ listed (line_of line.now) ∷ []) (claim_of claim) atoms potentials) }
         ensures listed { OnOk result ((before : List TextLine)
             → HaveListed before (claim_of claim) (pooled_width self.old.sets) (map mark_of self.old.marks.items) (pooled_states self.old.sets)
             → HaveListed (before ++ listed (line_of line.now) ∷ []) (claim_of claim) (pooled_width self.old.sets) (map mark_of self.new.marks.items) (pooled_states self.new.sets)) }
-        ensures wrong { IfErr result (λ refusal. (task : model.Task) (before : List TextLine) (atoms : List model.Atom) → number ≡ length before + 1
-            → HaveTold task before (claim_of claim) atoms
+        ensures wrong { IfErr result (λ refusal. (task : model.Task) (before : List TextLine) (atoms : List model.Atom) (potentials : PotentialFunction) → number ≡ length before + 1
+            → HaveTold task before (claim_of claim) atoms potentials
             → HaveListed before (claim_of claim) (pooled_width self.old.sets) (map mark_of self.old.marks.items) (pooled_states self.old.sets)
             → IsWrongNow task before (listed (line_of line.now)) refusal) }
     {
@@ -99,13 +100,13 @@ impl States {
     ) -> Result<(), Refusal>
         requires fit { IsFit (pooled_width self.old.sets) (pooled_states self.old.sets) (text_line_of line) }
         ensures width { pooled_width self.new.sets ≡ pooled_width self.old.sets }
-        ensures taken { OnOk result ((task : model.Task) (before : List TextLine) (atoms : List model.Atom) → IsTrue (is_body (text_line_of line))
-            → HaveTold task before (claim_of claim) atoms
+        ensures taken { OnOk result ((task : model.Task) (before : List TextLine) (atoms : List model.Atom) (potentials : PotentialFunction) → IsTrue (is_body (text_line_of line))
+            → HaveTold task before (claim_of claim) atoms potentials
             → HaveListed before (claim_of claim) (pooled_width self.old.sets) (map mark_of self.old.marks.items) (pooled_states self.old.sets)
-            → HaveTold task (before ++ text_line_of line ∷ []) (claim_of claim) atoms
+            → HaveTold task (before ++ text_line_of line ∷ []) (claim_of claim) atoms potentials
             × HaveListed (before ++ text_line_of line ∷ []) (claim_of claim) (pooled_width self.old.sets) (map mark_of self.new.marks.items) (pooled_states self.new.sets)) }
-        ensures wrong { IfErr result (λ refusal. (task : model.Task) (before : List TextLine) (atoms : List model.Atom) → number ≡ length before + 1
-            → HaveTold task before (claim_of claim) atoms
+        ensures wrong { IfErr result (λ refusal. (task : model.Task) (before : List TextLine) (atoms : List model.Atom) (potentials : PotentialFunction) → number ≡ length before + 1
+            → HaveTold task before (claim_of claim) atoms potentials
             → HaveListed before (claim_of claim) (pooled_width self.old.sets) (map mark_of self.old.marks.items) (pooled_states self.old.sets)
             → IsWrongNow task before (text_line_of line) refusal) }
     {
