@@ -17,9 +17,11 @@ use Rattle.cert_checker.proofs.RefusalsLemmas.{AreApart}
 use Rattle.model.specs.Task.{Task, Instance}
 use Rattle.model.specs.Meaning.{State, system_of}
 use Rattle.model.specs.Instances.{successors_of}
+use Rattle.model.specs.NumberedAtoms.{numbered_atoms}
 use Rattle.model.specs.Limits.{max_numbered_atoms}
 use Rattle.model.specs.Grounding.{limit_told}
 use Rattle.model.specs.Claims.{none, Line, IsListedWithin}
+use Rattle.potential_functions.specs.Fair.{AreFair}
 use Rattle.certificate_text.specs.Certificates.{Certificate, StateLine, lines_of, IsClosedFor}
 use Rattle.certificate_text.specs.CertificateRefusals.{Reason, state_line, IsFirst}
 use Rattle.certificate_text.proofs.CertificateRefusalsLemmas.{apart}
@@ -70,12 +72,14 @@ cuts_allowed task c all place l rest below at cut claim =
 
 -- all is right up to the first state line
 pub right_from : (task : Task) (c : Certificate) (most : ℕ) → AreApart task c → AreFluent task c.atoms → CutsAreAllowed task c (length (lines_of task c))
-    → limit_told most max_numbered_atoms task c.atoms ≡ None → IsListedWithin (lines_of task c) (system_of task).initial 0 → IsRightUpTo task c most 0
-right_from task c most apart atoms allowed few initial = record {
+    → limit_told most max_numbered_atoms task c.atoms ≡ None → AreFair task (numbered_atoms task c.atoms) c.potentials → IsListedWithin (lines_of task c) (system_of task).initial 0
+    → IsRightUpTo task c most 0
+right_from task c most apart atoms allowed few fair initial = record {
   atoms = atoms;
   distinct = apart;
   allowed = allowed;
   within = few;
+  fair = fair;
   initial = initial;
   lines = λ k l lt at. absurd (omega arith);
 }
@@ -87,6 +91,7 @@ right_to_line task c most place right lines = record {
   distinct = right.distinct;
   allowed = right.allowed;
   within = right.within;
+  fair = right.fair;
   initial = right.initial;
   lines = lines;
 }
