@@ -15,20 +15,21 @@ import sys
 MOST_ATOMS, MOST_STATES, LONGEST_LINE = 1048576, 16777216, 16777216
 NAME = r"[a-z][a-z0-9_-]{0,254}"
 NAMES = {40: "CertForm", 41: "CertVersion", 42: "Truncated", 43: "NotFluent", 44: "Repeated", 45: "NoInitial",
-         48: "GoalOpen", 49: "SuccessorMissing", 50: "SuccessorDearer", 51: "CutWeak", 52: "CutNotAllowed",
+         46: "Unfair", 47: "UnfairGoal", 48: "GoalOpen", 49: "SuccessorMissing", 50: "SuccessorDearer", 51: "CutWeak", 52: "CutNotAllowed",
          53: "PlanInvalid", 54: "PlanDearer", 55: "Limit"}
 
 
 class Refused(Exception):
-    """What is wrong with a certificate: its number, and the line, counted from 1, or None."""
+    """What is wrong with a certificate: its number, and the line, counted from 1, or the instance, or neither."""
 
-    def __init__(self, number, line=None):
+    def __init__(self, number, line=None, instance=None):
         super().__init__(number)
-        self.number, self.line = number, line
+        self.number, self.line, self.instance = number, line, instance
 
     def __str__(self):
         line = "" if self.line is None else f" line {self.line}"
-        return f"not accepted {self.number} {NAMES[self.number]}{line}"
+        instance = "" if self.instance is None else f" ({' '.join(self.instance)})"
+        return f"not accepted {self.number} {NAMES[self.number]}{line}{instance}"
 
 
 # ---- reading PDDL
@@ -150,6 +151,22 @@ class Task:
                 if not self.is_closed_off(action["precondition"], bound):
                     yield action, bound
 
+    def sure(self, formula, bound, wanted=True):
+        """The literals of fluent atoms that the formula says outright: each an atom, and whether it is true."""
+        head, *rest = formula
+        if head == "and" and wanted:
+            return {it for part in rest for it in self.sure(part, bound)}
+        if head == "forall" and wanted:
+            return {it for more in self.bindings(typed(rest[0])) for it in self.sure(rest[1], {**bound, **more})}
+        if head == "not" and wanted:
+            return self.sure(rest[0], bound, False) if rest[0][0] not in ("and", "or", "not", "imply", "forall", "exists") else set()
+        return {(ground(formula, bound), wanted)} if head in self.fluent else set()
+
+    def counting(self, effect, bound):
+        """The changes that count: each an atom, whether it becomes true, and whether it is under no `when`."""
+        return [(atom, adds, condition == ["and"]) for atom, adds, condition, objects in self.changes(effect, bound)
+                if not self.is_closed_off(condition, objects)]
+
     def changes(self, effect, bound):
         """The changes of an effect: an atom, whether it becomes true, the condition and its variables' objects."""
         head, *rest = effect
@@ -199,7 +216,50 @@ def increase_of(effect):
     return sum(int(part[2]) for part in parts if part[0] == "increase")
 
 
+# ---- potential functions
+
+def worst(weight, atom, literals, changes):
+    """The most that is lost by an atom of this weight, over what it may be before and after."""
+    made = {(adds, outright) for it, adds, outright in changes if it == atom}
+    losses = []
+    for before in (0, 1):
+        if (atom, before == 0) in literals:
+            continue
+        if (True, True) in made:
+            afters = {1}
+        else:
+            afters = {0 if (False, True) in made else before}
+            afters |= {1} if (True, False) in made else set()
+            afters |= {0} if (False, False) in made and (False, True) not in made else set()
+        losses += [weight * (before - after) for after in afters]
+    return max(losses, default=0)
+
+
+def look_whether_fair(task, constant, weights, instances):
+    """Refused(46) or Refused(47) where the potential function is not fair."""
+    for action, bound in instances:
+        literals, changes = task.sure(action["precondition"], bound), task.counting(action["effect"], bound)
+        loss = sum(worst(weights.get(atom, 0), atom, literals, changes) for atom in {it for it, _, _ in changes})
+        if loss > task.cost(action):
+            raise Refused(46, instance=[action["name"]] + [bound[name] for name, _ in action["parameters"]])
+    literals = task.sure(task.goal, {})
+    given = lambda atom, weight: 0 if (atom, False) in literals else weight if (atom, True) in literals else max(0, weight)
+    if constant + sum(given(atom, weight) for atom, weight in weights.items()) > 0:
+        raise Refused(47)
+
+
+def value(constant, weights, state):
+    return max(0, constant + sum(weights.get(atom, 0) for atom in state))
+
+
 # ---- reading a certificate
+
+def weight_of(word):
+    """A constant or a weight."""
+    if not re.fullmatch(r"0|-?[1-9][0-9]{0,9}", word) or abs(int(word)) > 2147483647:
+        raise ValueError
+    return int(word)
+
 
 def number(word):
     if not re.fullmatch(r"0|[1-9][0-9]{0,18}", word) or int(word) >= 2 ** 60:
@@ -219,9 +279,9 @@ def lines_of(data):
 
 
 def read_certificate(task, data):
-    """The claim, None for `claim none`, and the listed states: (line, cost, rest or None, atoms)."""
-    atoms, places, states, listed, lines = [], {}, [], {}, lines_of(data)
-    claim = None
+    """The claim, None for `claim none`, the constant, each atom's weight, and the states: (line, cost, rest or None, atoms)."""
+    atoms, weights, states, listed, lines = [], {}, [], {}, lines_of(data)
+    claim = constant = None
     for count, text, behind in lines:
         try:
             words = text.split(" ")
@@ -233,18 +293,18 @@ def read_certificate(task, data):
             elif count == 2:
                 claim = None if text == "claim none" else number(re.fullmatch("claim bound (.*)", text)[1])
             elif count == 3:
-                if text != "constant 0":
-                    raise ValueError
+                constant = weight_of(re.fullmatch("constant (.*)", text)[1])
             elif words[0] == "atom" and not states:
-                name = re.fullmatch(rf"atom 0 \(({NAME}(?: {NAME})*)\)", text)[1]
+                weight, name = re.fullmatch(rf"atom (\S+) \(({NAME}(?: {NAME})*)\)", text).groups()
+                weight = weight_of(weight)
                 if len(atoms) == MOST_ATOMS:
                     raise Refused(55)
                 atom = tuple(name.split(" "))
                 if not task.is_fluent_atom(atom):
                     raise Refused(43, count)
-                if atom in places:
+                if atom in weights:
                     raise Refused(44, count)
-                places[atom] = len(atoms)
+                weights[atom] = weight
                 atoms.append(atom)
             elif words[0] in ("open", "cut"):
                 numbers = [number(word) for word in words[1:]]
@@ -268,7 +328,7 @@ def read_certificate(task, data):
                     raise ValueError
                 if behind:
                     raise Refused(40, count + 1)
-                return claim, atoms, states, listed
+                return claim, constant, weights, states, listed
             else:
                 raise ValueError
         except (ValueError, TypeError, IndexError):
@@ -278,19 +338,20 @@ def read_certificate(task, data):
 # ---- checking
 
 def check(task, data, plan, limit):
-    claim, atoms, states, listed = read_certificate(task, data)
+    claim, constant, weights, states, listed = read_certificate(task, data)
     instances = list(itertools.islice(task.instances(), limit + 1))
-    touched = set(atoms) | task.initial
+    touched = set(weights) | task.initial
     for action, bound in instances:
         touched |= {atom for atom, _, condition, objects in task.changes(action["effect"], bound)
                     if not task.is_closed_off(condition, objects)}
     if len(instances) > limit or len(touched) > MOST_ATOMS:
         raise Refused(55)
+    look_whether_fair(task, constant, weights, instances)
     if listed.get(task.initial) != 0:
         raise Refused(45)
     for line, cost, rest, state in states:
         if rest is not None:
-            if rest > 0 or cost + rest < claim:
+            if rest > value(constant, weights, state) or cost + rest < claim:
                 raise Refused(51, line)
             continue
         if task.holds(task.goal, state, {}) and (claim is None or cost < claim):

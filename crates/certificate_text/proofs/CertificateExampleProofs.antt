@@ -147,6 +147,7 @@ the_one_line P l line at of_l = by_first (Contains-cases l [] line at)
 
 cut_closed : IsClosedFor tie_task (weighs (bound 1) (pos 1) (negsuc 0) (cut 0 1 [] ∷ []))
 cut_closed = record {
+  one_weight_an_atom = refl;
   potentials_are_fair = worth_one;
   atoms_are_fluent = All-cons (λ (a : Atom). IsTrue (is_atom tie_task a && is_fluent tie_task a.predicate)) tied [] refl (All-nil (λ (a : Atom). IsTrue (is_atom tie_task a && is_fluent tie_task a.predicate)));
   atoms_are_distinct = λ i j d before within. absurd (omega (arith, before, within));
@@ -184,6 +185,7 @@ are_judged = record {
   tied_is_fluent = refl;
   static_at_start = refl;
   closed = record {
+    one_weight_an_atom = refl;
     potentials_are_fair = zero_is_fair;
     atoms_are_fluent = All-cons (λ (a : Atom). IsTrue (is_atom tie_task a && is_fluent tie_task a.predicate)) tied [] refl (All-nil (λ (a : Atom). IsTrue (is_atom tie_task a && is_fluent tie_task a.predicate)));
     atoms_are_distinct = λ i j d before within. absurd (omega (arith, before, within));
@@ -220,4 +222,5 @@ are_judged = record {
   numbers_rise = refl;
   weights_are_limited = refl;
   least_weight = refl;
+  weight_missing = refl;
 }

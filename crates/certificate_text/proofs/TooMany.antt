@@ -1,12 +1,11 @@
 -- What is one line too many, by the place where it stands.
-use Rattle.std.proofs.Common.{◌≡◌, ℕ, suc, ◌+◌, ◌*◌, ◌<◌, ◌≤◌, ◌⊎◌, inl, inr, List, [], ◌∷◌, ◌++◌, map, length, Option, Some, refl, sym, ap, ◌∙◌, subst, append-nil, arith}
+use Rattle.std.proofs.Common.{◌≡◌, ℕ, ◌+◌, ◌⊎◌, inl, inr, List, [], ◌∷◌, ◌++◌, map, length, Some, refl, sym, ap, ◌∙◌, subst, arith}
 use Rattle.std.specs.Prelude.{ℤ, IsTrue}
-use Rattle.std.specs.List.{list_all}
-use Rattle.model.specs.Claims.{Claim, bound, none}
+use Rattle.model.specs.Claims.{Claim}
 use Rattle.certificate_text.specs.Certificates.{StateLine}
-use Rattle.certificate_text.specs.CertificateText.{WeightedAtom, NamedCertificate, TextLine, version, claims, constant, atom, listed, last, is_line, line_text, most_atoms, most_states, text_lines, AreWhole, IsOneTooMany, atoms, states, head_lines}
+use Rattle.certificate_text.specs.CertificateText.{WeightedAtom, TextLine, version, claims, constant, atom, listed, last, is_line, line_text, most_atoms, most_states, IsOneTooMany, atoms, states, head_lines}
 use Rattle.certificate_text.specs.CertificateMachine.{Place, at_version, at_claim, at_constant, in_body, ended, place_after}
-use Rattle.certificate_text.proofs.Machine.{IsBody, StandsBefore, stands}
+use Rattle.certificate_text.proofs.Machine.{StandsBefore, stands}
 
 -- The bytes are a line that may not stand at this place for the limit alone.
 abbrev pub IsTooManyAt : Place → List ℕ → Type 0

@@ -65,3 +65,4 @@ pub record AreJudged : Type 0 where
   pub numbers_rise : keeps_limits (claims (bound 1) (tied ∷ []) (opened 0 (0 ∷ 0 ∷ []) ∷ [])) ≡ false
   pub weights_are_limited : keeps_limits (weighs (bound 1) (pos 0) (pos 2147483648) []) ≡ false
   pub least_weight : keeps_limits (weighs (bound 1) (pos 2147483647) (negsuc 2147483646) []) ≡ true
+  pub weight_missing : keeps_limits (record { claim = bound 1; atoms = tied ∷ []; potentials = record { constant = pos 0; weights = [] }; lines = [] }) ≡ false

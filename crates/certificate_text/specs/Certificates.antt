@@ -1,5 +1,5 @@
 -- Certificates, and when one is closed for a task.
-use Rattle.std.specs.Prelude.{◌≢◌, ℕ, ◌+◌, ◌==◌, Bool, true, ◌&&◌, nat_lt, nat_le, ℤ, pos, negsuc, IsTrue, List, [], ◌∷◌, ◌++◌, map, length, All, AllPairs, slice_get, Option}
+use Rattle.std.specs.Prelude.{◌≡◌, ◌≢◌, ℕ, ◌+◌, ◌==◌, Bool, true, ◌&&◌, nat_lt, nat_le, ℤ, pos, negsuc, IsTrue, List, [], ◌∷◌, ◌++◌, map, length, All, AllPairs, slice_get, Option}
 use Rattle.std.specs.Option.{option_map_or}
 use Rattle.std.specs.List.{list_all, filter_map}
 use Rattle.std.specs.FinSet.{from_list}
@@ -70,9 +70,10 @@ lines_of task certificate =
 abbrev pub value_of : Certificate → State → ℕ
 value_of certificate state = value_of_state certificate.atoms certificate.potentials state
 
--- The certificate is closed for the task: its potential function is fair for the ground task in which its atoms have the
--- first numbers, and its listing is closed by the values that it gives to states.
+-- The certificate is closed for the task: its potential function, which has a weight for each of its atoms, is fair for the
+-- ground task in which they have the first numbers, and its listing is closed by the values that it gives to states.
 pub record IsClosedFor (task : Task) (certificate : Certificate) : Type 0 where
+  pub one_weight_an_atom : length certificate.potentials.weights ≡ length certificate.atoms
   pub potentials_are_fair : AreFair task (numbered_atoms task certificate.atoms) certificate.potentials
   pub atoms_are_fluent : All (λ (a : Atom). IsTrue (is_atom task a && is_fluent task a.predicate)) certificate.atoms
   pub atoms_are_distinct : AllPairs (λ (a b : Atom). a ≢ b) certificate.atoms
