@@ -28,6 +28,7 @@ on_ok (Err e) p = tt
 -- where all is right to the last line, the certificate is closed
 pub closed_for : (task : Task) (c : Certificate) (most : ℕ) → IsRightUpTo task c most (length (lines_of task c)) → IsClosedFor task c
 closed_for task c most right = record {
+  one_weight_an_atom = right.weighed;
   potentials_are_fair = right.fair;
   atoms_are_fluent = right.atoms.fluent;
   atoms_are_distinct = right.atoms.distinct;

@@ -71,10 +71,11 @@ cuts_allowed task c all place l rest below at cut claim =
 -- ---- the lines so far
 
 -- all is right up to the first state line
-pub right_from : (task : Task) (c : Certificate) (most : ℕ) → AreApart task c → AreFluent task c.atoms → CutsAreAllowed task c (length (lines_of task c))
+pub right_from : (task : Task) (c : Certificate) (most : ℕ) → length c.potentials.weights ≡ length c.atoms → AreApart task c → AreFluent task c.atoms → CutsAreAllowed task c (length (lines_of task c))
     → limit_told most max_numbered_atoms task c.atoms ≡ None → AreFair task (numbered_atoms task c.atoms) c.potentials → IsListedWithin (lines_of task c) (system_of task).initial 0
     → IsRightUpTo task c most 0
-right_from task c most apart atoms allowed few fair initial = record {
+right_from task c most weighed apart atoms allowed few fair initial = record {
+  weighed = weighed;
   atoms = atoms;
   distinct = apart;
   allowed = allowed;
@@ -87,6 +88,7 @@ right_from task c most apart atoms allowed few fair initial = record {
 pub right_to_line : (task : Task) (c : Certificate) (most place : ℕ) → IsRightUpTo task c most 0
     → ((k : ℕ) (l : Line State) → k < place → slice_get (lines_of task c) k ≡ Some l → IsLineClosed task c l) → IsRightUpTo task c most place
 right_to_line task c most place right lines = record {
+  weighed = right.weighed;
   atoms = right.atoms;
   distinct = right.distinct;
   allowed = right.allowed;

@@ -127,16 +127,16 @@ module _ (task : Task) (c : Certificate) (closed : IsClosedFor task c) where
   }
 
   -- what is still to pay from a reachable state on does not fall short of the value that the certificate gives to it
-  value_below : length c.potentials.weights ≡ length c.atoms → IsLowerBound (system_of task) (value_of c)
-  value_below each s end plan reached runs goal =
+  value_below : IsLowerBound (system_of task) (value_of c)
+  value_below s end plan reached runs goal =
       let atoms = numbered_atoms task c.atoms in
       let (others, first) = (are_numbered task c.atoms).more_first (distinct-from_pairs c.atoms closed.atoms_are_distinct) in
-      let same = value-numbered c.potentials c.potentials (alike_itself c.potentials) atoms c.atoms others s first (omega (arith, each)) in
+      let same = value-numbered c.potentials c.potentials (alike_itself c.potentials) atoms c.atoms others s first (omega (arith, closed.one_weight_an_atom)) in
       let lower = (fair_ones_are_lower_bounds task atoms c.potentials numberable closed.potentials_are_fair).bound s end plan (λ q static. contains-reachable task s q static reached) runs goal in
       omega (arith, same, lower)
 
-pub closed_holds : (task : Task) (c : Certificate) → length c.potentials.weights ≡ length c.atoms → IsClosedFor task c → ClaimHolds (system_of task) c.claim
-closed_holds task c each closed = claim-of_closed (system_of task) (value_of c) c.claim (lines_of task c) (value_below task c closed each) closed.listing_is_closed
+pub closed_holds : (task : Task) (c : Certificate) → IsClosedFor task c → ClaimHolds (system_of task) c.claim
+closed_holds task c closed = claim-of_closed (system_of task) (value_of c) c.claim (lines_of task c) (value_below task c closed) closed.listing_is_closed
 
 pub solving_stays : (task : Task) (c : Certificate) (plan : List Instance) → IsClosedFor task c → Solves (system_of task) plan → StaysListed (system_of task) (lines_of task c) plan
 solving_stays task c plan closed = stays_listed (system_of task) (value_of c) c.claim (lines_of task c) closed.listing_is_closed plan

@@ -7,7 +7,7 @@ use Rattle.std.specs.List.{list_all}
 use Rattle.std.specs.FinSet.{contains}
 use Rattle.std.proofs.lemmas.Int.{ints}
 use Rattle.std.proofs.lemmas.Bool.{and_parts, eqb-true, leb-true, ltb-true}
-use Rattle.std.proofs.lemmas.List.{length-append, length-map, length-replicate, map-append, get_or_append_left, get_or_past, get_or-replicate, take_all}
+use Rattle.std.proofs.lemmas.List.{length-append, length-map, length-replicate, map-append, get_or_append_left, get_or_default, get_or_past, take_all}
 use Rattle.std.proofs.lemmas.Option.{same_Some}
 use Rattle.model.specs.Task.{Atom, Task, Instance}
 use Rattle.model.specs.Meaning.{State, cost_of}
@@ -152,13 +152,8 @@ in_range : (z : ℤ) → is_weight z ≡ true → IsInRange z
 in_range (pos n) is = let most = leb-true n 2147483647 is in record { least = omega (arith, ints); most = omega (arith, ints) }
 in_range (negsuc n) is = let least = ltb-true n 2147483647 is in record { least = omega (arith, ints); most = omega (arith, ints) }
 
-all_in_range : (v : List ℤ) → ((n : ℕ) → n < length v → IsInRange (weight v n)) → All IsInRange v
-all_in_range [] each = λ k d below. absurd (omega arith)
-all_in_range (w ∷ v) each = at
-  where
-    at : All IsInRange (w ∷ v)
-    at zero d below = each 0 (omega arith)
-    at (suc k) d below = all_in_range v (λ n lt. each (suc n) (omega arith)) k d (omega arith)
+all_in_range : (v : List ℤ) → ((n : ℕ) → IsInRange (weight v n)) → All IsInRange v
+all_in_range v each place d below = subst IsInRange (get_or_default v place (pos 0) d below) (each place)
 
 weight_in_range : (v : List ℤ) (n : ℕ) → list_all is_weight v ≡ true → IsInRange (weight v n)
 weight_in_range [] n all = zero-range
@@ -171,7 +166,7 @@ are_in_range c width p keeps has =
     let both = and_parts (is_weight q.constant && (length q.weights == length c.atoms)) (list_all is_weight q.weights) (potentials_within c keeps) in
     record {
       constant = subst IsInRange (sym has.constant) (in_range q.constant (and_parts (is_weight q.constant) (length q.weights == length c.atoms) both.0).0);
-      weights = all_in_range p.weights (λ n below. subst IsInRange (sym (has.weights n)) (weight_in_range q.weights n both.1));
+      weights = all_in_range p.weights (λ n. subst IsInRange (sym (has.weights n)) (weight_in_range q.weights n both.1));
     }
 
 -- ---- what is told of them is told of the certificate
@@ -200,7 +195,7 @@ module _ (task : Task) (c : Certificate) (atoms : List Atom) (p : PotentialFunct
       }
 
       is : there.instance ≡ i
-      is = same_Some i (sym first.named ∙ at)
+      is = same_Some first.instance i (sym first.named ∙ at)
 
 -- the first one that is unfair is one
 pub unfair_one : (task : Task) (c : Certificate) (i : Instance) → IsFirstToLose task c i → IsUnfair task c i

@@ -58,6 +58,7 @@ pub record IsLineClosed (task : Task) (c : Certificate) (line : Line State) : Ty
 -- All is right up to the state line at this place: the reading of the certificate, the limits of its ground task, its
 -- potential function, the initial state, and the state lines before.
 pub record IsRightUpTo (task : Task) (c : Certificate) (most place : ℕ) : Type 0 where
+  pub weighed : length c.potentials.weights ≡ length c.atoms
   pub atoms : AreFluent task c.atoms
   pub distinct : AllPairs (λ (k l : Line State). k.state ≢ l.state) (lines_of task c)
   pub allowed : CutsAreAllowed task c (length (lines_of task c))

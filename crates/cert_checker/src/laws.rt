@@ -1,5 +1,5 @@
 //! Laws of certificates, over all tasks and all certificates. They are proved; the calls do nothing.
-ghost use Rattle.std.specs.Prelude.{◌≡◌, List, length};
+ghost use Rattle.std.specs.Prelude.{List};
 ghost use Rattle.model.specs.Task.{Task, Instance};
 ghost use Rattle.model.specs.Runs.{Solves};
 ghost use Rattle.model.specs.Meaning.{system_of};
@@ -8,10 +8,9 @@ ghost use Rattle.certificate_text.specs.CertificateExamples.{AreJudged};
 ghost use Rattle.certificate_text.specs.Certificates.{Certificate, lines_of, IsClosedFor};
 ghost use Rattle.cert_checker.specs.OnListing.{StaysListed};
 
-/// What a certificate that has a weight for each of its atoms, and is closed for a task, claims is true of all lists of
-/// instances, whatever their length.
+/// What a certificate that is closed for a task claims is true of all lists of instances, whatever their length.
 pub fn closed_claim_holds()
-    ensures { (task : Task) (c : Certificate) → length c.potentials.weights ≡ length c.atoms → IsClosedFor task c → ClaimHolds (system_of task) c.claim }
+    ensures { (task : Task) (c : Certificate) → IsClosedFor task c → ClaimHolds (system_of task) c.claim }
 {}
 
 /// Why it is: a list that solves stays on open states that are listed at no more than its cost so far, to its end or
