@@ -3,9 +3,9 @@ use Rattle.std.proofs.Common.{◌≡◌, ◌≢◌, ℕ, suc, ◌+◌, inl, inr,
 use Rattle.std.specs.Prelude.{◌&&◌, ◌==◌, nat_lt, IsTrue, IsSome, All, AllPairs, Contains, nat_le}
 use Rattle.std.specs.Fmt.{decimal}
 use Rattle.std.specs.List.{list_all}
-use Rattle.std.proofs.lemmas.Bool.{and_parts, ltb-true}
+use Rattle.std.proofs.lemmas.Bool.{and_parts, eq-eqb, ltb-true}
 use Rattle.std.proofs.lemmas.Fmt.{decimal_digit}
-use Rattle.std.proofs.lemmas.List.{append_cancel_left, map-append}
+use Rattle.std.proofs.lemmas.List.{append_cancel_left, length-map, map-append}
 use Rattle.std.proofs.lemmas.List.Elements.{Contains-append_left, Contains-append_right, Contains-append_cases, filter_map-append}
 use Rattle.std.proofs.lemmas.List.Folds.{list_all-append, list_all-map}
 use Rattle.model.specs.Task.{Atom, Task, Instance}
@@ -13,16 +13,18 @@ use Rattle.model.specs.WellTyped.{is_atom}
 use Rattle.model.specs.Fluents.{is_fluent}
 use Rattle.model.specs.Meaning.{State}
 use Rattle.model.specs.Claims.{Claim, Allows, Line, none}
-use Rattle.certificate_text.specs.Certificates.{Certificate, IsClosedFor, StateLine, is_claim, keeps_limits, state_of_line}
+use Rattle.potential_functions.specs.PotentialFunctions.{PotentialFunction}
+use Rattle.certificate_text.specs.Certificates.{Certificate, IsClosedFor, StateLine, are_potentials, is_claim, is_weight, keeps_limits, state_of_line}
 use Rattle.model.proofs.ListLemmas.{Contains-cases, Contains-filter_map, Contains-here, Contains-map, Contains-none, Contains-there, map-Contains}
-use Rattle.certificate_text.specs.CertificateText.{NamedAtom, NamedCertificate, TextLine, version, claims, constant, atom, listed, last, AreWhole, BeginCertificate, HasLine, IsFaultAfter, IsOneTooMany, IsOtherVersion, other_version, malformed, too_long, trailing, cut_short, too_many, is_line, keeps_text_limits, line_text, most_atoms, most_states, text_lines, text_of, whole_line}
+use Rattle.certificate_text.specs.CertificateText.{NamedAtom, WeightedAtom, NamedCertificate, TextLine, version, claims, constant, atom, listed, last, AreWhole, BeginCertificate, HasLine, IsFaultAfter, IsOneTooMany, IsOtherVersion, other_version, malformed, too_long, trailing, cut_short, too_many, is_line, keeps_text_limits, line_text, longest_line, most_atoms, most_states, text_lines, text_of, whole_line}
 use Rattle.certificate_text.specs.CertificateNames.{AllName, IsTextOf, Names}
-use Rattle.certificate_text.specs.CertificateChecking.{IsAccepted, IsLineFault, IsWrongAfter, IsWrongHere, not_fluent, repeated_atom, repeated_state, cut_not_allowed}
+use Rattle.certificate_text.specs.CertificateChecking.{HasAtom, IsAccepted, IsLineFault, IsWrongAfter, IsWrongHere, not_fluent, repeated_atom, repeated_state, cut_not_allowed}
 use Rattle.certificate_text.specs.CertificateMachine.{Place, at_version, at_claim, at_constant, in_body, ended, next_place}
 use Rattle.certificate_text.proofs.Machine.{StandsBefore, end_of_whole, followed, never, only_where, place_of_beginning, stands}
 use Rattle.certificate_text.proofs.TooMany.{IsTooManyAt, too_many_at}
+use Rattle.certificate_reader.specs.Words.{are_lower}
 use Rattle.certificate_reader.proofs.OneText as one_text
-use Rattle.certificate_listing.specs.Told.{atom_in, atoms_told, state_in, states_told}
+use Rattle.certificate_listing.specs.Told.{atom_in, atoms_told, names_told, state_in, states_told}
 use Rattle.certificate_listing.proofs.NamesLemmas.{one_named}
 use Rattle.certificate_listing.proofs.PlacedLemmas.{atoms_of_text, named_length, states_of_text}
 use Rattle.certificate_listing.proofs.SplitLemmas.{begun_kept, end_within, first_line, kept_lines, line_is_first, line_more, line_short, nothing_there, split_off, text_push}
@@ -31,26 +33,45 @@ use Rattle.certificate_reader.proofs.OneLine.{one_line}
 
 -- ---- the limits
 
-keeps_by_parts : (said : NamedCertificate) (c : Certificate) → IsTrue (keeps_text_limits said) → said.claim ≡ c.claim → length said.atoms ≡ length c.atoms → said.lines ≡ c.lines
-    → IsTrue (keeps_limits c)
-keeps_by_parts said c keeps claim_is count lines_are =
+weights_kept : (count : ℕ) (atoms : List WeightedAtom) → list_all (is_line count) (map (λ a. atom a) atoms) ≡ true → list_all is_weight (map (λ (a : WeightedAtom). a.weight) atoms) ≡ true
+weights_kept count [] all = refl
+weights_kept count (a ∷ atoms) all =
+    let (here, more) = and_parts (is_line count (atom a)) (list_all (is_line count) (map (λ a. atom a) atoms)) all in
+    let (first, _) = and_parts (is_weight a.weight && are_lower a.atom) (nat_le (length (line_text (atom a))) longest_line) here in
+    let weight = (and_parts (is_weight a.weight) (are_lower a.atom) first).0 in
+    λ i. weight i && weights_kept count atoms more i
+
+-- the potential function that is said
+abbrev potentials_said : NamedCertificate → PotentialFunction
+potentials_said said = record { constant = said.constant; weights = map (λ (a : WeightedAtom). a.weight) said.atoms }
+
+keeps_by_parts : (said : NamedCertificate) (c : Certificate) → IsTrue (keeps_text_limits said) → said.claim ≡ c.claim → length said.atoms ≡ length c.atoms → c.potentials ≡ potentials_said said
+    → said.lines ≡ c.lines → IsTrue (keeps_limits c)
+keeps_by_parts said c keeps claim_is count potentials_are lines_are =
     let k : ℕ = length said.atoms in
     let (counts, each) = and_parts (nat_le k most_atoms && nat_le (length said.lines) most_states) (list_all (is_line k) (text_lines said)) keeps in
     let (few, few_states) = and_parts (nat_le k most_atoms) (nat_le (length said.lines) most_states) counts in
     let atom_lines : List TextLine = map (λ a. atom a) said.atoms in
     let state_lines : List TextLine = map (λ l. listed l) said.lines in
     let end : List TextLine = last (length said.lines) ∷ [] in
-    let (claim, behind) = and_parts (is_claim said.claim) (list_all (is_line k) ((atom_lines ++ state_lines) ++ end)) each in
+    let (claim, others) = and_parts (is_claim said.claim) (is_weight said.constant && list_all (is_line k) ((atom_lines ++ state_lines) ++ end)) each in
+    let (constant, behind) = and_parts (is_weight said.constant) (list_all (is_line k) ((atom_lines ++ state_lines) ++ end)) others in
     let (body, _) = and_parts (list_all (is_line k) (atom_lines ++ state_lines)) (list_all (is_line k) end) (sym (list_all-append (is_line k) (atom_lines ++ state_lines) end) ∙ behind) in
-    let (_, states) = and_parts (list_all (is_line k) atom_lines) (list_all (is_line k) state_lines) (sym (list_all-append (is_line k) atom_lines state_lines) ∙ body) in
+    let (atoms, states) = and_parts (list_all (is_line k) atom_lines) (list_all (is_line k) state_lines) (sym (list_all-append (is_line k) atom_lines state_lines) ∙ body) in
     let states_are : list_all (λ l. is_line k (listed l)) said.lines ≡ true = sym (list_all-map (is_line k) (λ l. listed l) said.lines) ∙ states in
-    let all : ((is_claim said.claim && nat_le k most_atoms) && nat_le (length said.lines) most_states) && list_all (λ l. is_line k (listed l)) said.lines ≡ true =
-    λ i. ((claim i && few i) && few_states i) && states_are i in
-    (λ i. ((is_claim (sym claim_is i) && nat_le (sym count i) most_atoms) && nat_le (length (sym lines_are i)) most_states) && list_all (λ l. is_line (sym count i) (listed l)) (sym lines_are i)) ∙ all
+    let many = eq-eqb (length (potentials_said said).weights) k (length-map said.atoms (λ (a : WeightedAtom). a.weight)) in
+    let weights = weights_kept k said.atoms atoms in
+    let potentials : are_potentials k (potentials_said said) ≡ true = λ i. (constant i && many i) && weights i in
+    let all : (((is_claim said.claim && nat_le k most_atoms) && nat_le (length said.lines) most_states) && list_all (λ l. is_line k (listed l)) said.lines) && are_potentials k (potentials_said said) ≡ true =
+    λ i. (((claim i && few i) && few_states i) && states_are i) && potentials i in
+    (λ i. (((is_claim (sym claim_is i) && nat_le (sym count i) most_atoms) && nat_le (length (sym lines_are i)) most_states) && list_all (λ l. is_line (sym count i) (listed l)) (sym lines_are i))
+    && are_potentials (sym count i) (potentials_are i)) ∙ all
 
 -- the certificate of a text keeps the limits
 pub limits_kept : (task : Task) (text : List ℕ) (c : Certificate) → IsTextOf task text c → IsTrue (keeps_limits c)
-limits_kept task text c is = keeps_by_parts is.said c is.text.within is.claim (named_length task is.said.atoms c.atoms is.atoms) is.lines
+limits_kept task text c is =
+    let count = sym (length-map is.said.atoms (λ (a : WeightedAtom). a.atom)) ∙ named_length task (map (λ (a : WeightedAtom). a.atom) is.said.atoms) c.atoms is.atoms in
+    keeps_by_parts is.said c is.text.within is.claim count is.potentials is.lines
 
 -- ---- one certificate for a text
 
@@ -71,8 +92,10 @@ one_certificate task text c d is other =
     let said : is.said ≡ other.said = one_text.one_certificate text is.said other.said is.text other.text in
     let claim : c.claim ≡ d.claim = sym is.claim ∙ ap (λ (n : NamedCertificate). n.claim) said ∙ other.claim in
     let lines : c.lines ≡ d.lines = sym is.lines ∙ ap (λ (n : NamedCertificate). n.lines) said ∙ other.lines in
-    let atoms : c.atoms ≡ d.atoms = same_atoms task other.said.atoms c.atoms d.atoms (subst (λ (n : NamedCertificate). AllName task n.atoms c.atoms) said is.atoms) other.atoms in
-    λ i. record { claim = claim i; atoms = atoms i; lines = lines i }
+    let potentials : c.potentials ≡ d.potentials = is.potentials ∙ ap potentials_said said ∙ sym other.potentials in
+    let atoms : c.atoms ≡ d.atoms = same_atoms task (map (λ (a : WeightedAtom). a.atom) other.said.atoms) c.atoms d.atoms
+    (subst (λ (n : NamedCertificate). AllName task (map (λ (a : WeightedAtom). a.atom) n.atoms) c.atoms) said is.atoms) other.atoms in
+    λ i. record { claim = claim i; atoms = atoms i; potentials = potentials i; lines = lines i }
 
 -- ---- no line says what is wrong of the task
 
@@ -126,9 +149,9 @@ claim_there : (said : NamedCertificate) (d : Claim) → Contains (text_lines sai
 claim_there said d there =
     ⊎_elim (λ same. absurd (cc same))
     (λ later. ⊎_elim (λ same. claims_same said.claim d same)
-    (λ others. ⊎_elim (λ same. absurd (cc same)) (λ body. absurd (no_claim body)) (Contains-cases constant ((atom_lines ++ state_lines) ++ end) (claims d) others))
-    (Contains-cases (claims said.claim) (constant ∷ (atom_lines ++ state_lines) ++ end) (claims d) later))
-    (Contains-cases version (claims said.claim ∷ constant ∷ (atom_lines ++ state_lines) ++ end) (claims d) there)
+    (λ others. ⊎_elim (λ same. absurd (cc same)) (λ body. absurd (no_claim body)) (Contains-cases (constant said.constant) ((atom_lines ++ state_lines) ++ end) (claims d) others))
+    (Contains-cases (claims said.claim) (constant said.constant ∷ (atom_lines ++ state_lines) ++ end) (claims d) later))
+    (Contains-cases version (claims said.claim ∷ constant said.constant ∷ (atom_lines ++ state_lines) ++ end) (claims d) there)
   where
     atom_lines : List TextLine
     atom_lines = map (λ a. atom a) said.atoms
@@ -144,7 +167,7 @@ claim_there said d there =
 
     no_claim : Contains ((atom_lines ++ state_lines) ++ end) (claims d) → ⊥
     no_claim there =
-        ⊎_elim (λ body. ⊎_elim (λ among. let (a, _, is) = map-Contains (λ (a : NamedAtom). atom a) said.atoms (claims d) among in absurd (cc is))
+        ⊎_elim (λ body. ⊎_elim (λ among. let (a, _, is) = map-Contains (λ (a : WeightedAtom). atom a) said.atoms (claims d) among in absurd (cc is))
         (λ among. let (l, _, is) = map-Contains (λ (l : StateLine). listed l) said.lines (claims d) among in absurd (cc is)) (Contains-append_cases atom_lines state_lines (claims d) body))
         (λ among. ⊎_elim (λ same. absurd (cc same)) (λ nowhere. Contains-none (claims d) nowhere) (Contains-cases (last (length said.lines)) [] (claims d) among))
         (Contains-append_cases (atom_lines ++ state_lines) end (claims d) there)
@@ -156,19 +179,23 @@ some_there (Some x) is = (x, refl)
 abbrev line_at : Task → Certificate → StateLine → Line State
 line_at task c l = record { state = state_of_line task c l; cost = l.cost; cut = l.cut }
 
-module _ (task : Task) (c : Certificate) (closed : IsClosedFor task c) (said : NamedCertificate) (claim_is : said.claim ≡ c.claim) (named : AllName task said.atoms c.atoms)
+module _ (task : Task) (c : Certificate) (closed : IsClosedFor task c) (said : NamedCertificate) (claim_is : said.claim ≡ c.claim) (named : AllName task (map (λ (a : WeightedAtom). a.atom) said.atoms) c.atoms)
     (lines_are : said.lines ≡ c.lines) where
   module _ (before after : List TextLine) where
-    atom_behind : (a : NamedAtom) → text_lines said ≡ before ++ atom a ∷ after → IsNamedBehind task (atoms_told before) a c.atoms
+    atom_behind : (a : WeightedAtom) → text_lines said ≡ before ++ atom a ∷ after → IsNamedBehind task (names_told before) a.atom c.atoms
     atom_behind a splits =
-        named_behind task (atoms_told before) (atoms_told after) a c.atoms
-        (subst (λ names. AllName task names c.atoms) (sym (atoms_of_text said) ∙ ap atoms_told splits ∙ filter_map-append atom_in before (atom a ∷ after)) named)
+        named_behind task (names_told before) (names_told after) a.atom c.atoms
+        (subst (λ names. AllName task names c.atoms)
+        (ap (map (λ (a : WeightedAtom). a.atom)) (sym (atoms_of_text said) ∙ ap atoms_told splits ∙ filter_map-append atom_in before (atom a ∷ after))
+        ∙ map-append (λ (a : WeightedAtom). a.atom) (atoms_told before) (a ∷ atoms_told after)) named)
 
-    no_repeat : (a : NamedAtom) → text_lines said ≡ before ++ atom a ∷ after → Contains before (atom a) → ⊥
-    no_repeat a splits there =
+    no_repeat : (a : WeightedAtom) → text_lines said ≡ before ++ atom a ∷ after → HasAtom before a.atom → ⊥
+    no_repeat a splits (earlier, there, same) =
         let at = atom_behind a splits in
-        let (b, among, is) = named_among task (atoms_told before) at.front a at.named (Contains-filter_map atom_in before (atom a) a there refl) in
-        apart (λ (a b : Atom). a ≢ b) at.front at.behind b at.here (subst (AllPairs (λ (a b : Atom). a ≢ b)) at.are closed.atoms_are_distinct) among (one_named task a b at.here is at.is)
+        let told : Contains (names_told before) a.atom = subst (Contains (names_told before)) same
+        (Contains-map (λ (a : WeightedAtom). a.atom) (atoms_told before) earlier (Contains-filter_map atom_in before (atom earlier) earlier there refl)) in
+        let (b, among, is) = named_among task (names_told before) at.front a.atom at.named told in
+        apart (λ (a b : Atom). a ≢ b) at.front at.behind b at.here (subst (AllPairs (λ (a b : Atom). a ≢ b)) at.are closed.atoms_are_distinct) among (one_named task a.atom b at.here is at.is)
 
     lines_behind : (l : StateLine) → text_lines said ≡ before ++ listed l ∷ after → c.lines ≡ states_told before ++ l ∷ states_told after
     lines_behind l splits = sym lines_are ∙ sym (states_of_text said) ∙ ap states_told splits ∙ filter_map-append state_in before (listed l ∷ after)
@@ -209,7 +236,7 @@ no_line bytes line nothing (behind, splits, one, few) = nothing_there line behin
 nothing_behind : (line : TextLine) (next : Place) → next_place ended line ≡ Some next → ⊥
 nothing_behind version next leads = never next leads
 nothing_behind (claims claim) next leads = never next leads
-nothing_behind constant next leads = never next leads
+nothing_behind (constant k) next leads = never next leads
 nothing_behind (atom a) next leads = never next leads
 nothing_behind (listed l) next leads = never next leads
 nothing_behind (last count) next leads = never next leads
@@ -257,7 +284,7 @@ module _ (said : NamedCertificate) (keeps : IsTrue (keeps_text_limits said)) (be
 
     this_version : IsOtherVersion before (line_text l) → ⊥
     this_version (empty, n, is, differs, same) =
-        let here : version ≡ l = first_same version l (claims said.claim ∷ constant ∷ (map (λ a. atom a) said.atoms ++ map (λ l. listed l) said.lines) ++ last (length said.lines) ∷ []) more
+        let here : version ≡ l = first_same version l (claims said.claim ∷ constant said.constant ∷ (map (λ a. atom a) said.atoms ++ map (λ l. listed l) said.lines) ++ last (length said.lines) ∷ []) more
         (splits ∙ ap (λ lines. lines ++ l ∷ more) empty) in
         let digits : codes "1" ≡ decimal n = append_cancel_left (codes "pddl-cert ") (codes "1") (decimal n) (ap line_text here ∙ same) in
         differs (same_number n 1 is refl (sym digits ∙ sym (decimal_digit 1 (omega arith))))

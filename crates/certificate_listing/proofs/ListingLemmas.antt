@@ -6,25 +6,33 @@ use Rattle.std.specs.Option.{option_map_or}
 use Rattle.std.proofs.lemmas.Bool.{and_parts}
 use Rattle.std.proofs.lemmas.List.{length-map}
 use Rattle.packed_state.specs.Sets.{set_of}
+use Rattle.typing.specs.TaskParts.{atom_of}
 use Rattle.model.specs.Task.{Atom, Task}
 use Rattle.model.specs.Claims.{Claim}
 use Rattle.certificate_text.specs.Certificates.{StateLine, rise}
 use Rattle.certificate_lines.specs.declared.line.CertLine.{CertLine}
-use Rattle.certificate_lines.specs.Lines.{text_line_of}
-use Rattle.certificate_text.specs.CertificateText.{NamedCertificate, TextLine, AreWhole, BeginCertificate, atom, claims, constant, last, listed, most_atoms, text_lines, text_of, version}
+use Rattle.certificate_lines.specs.Lines.{claim_of, text_line_of}
+use Rattle.certificate_text.specs.CertificateText.{WeightedAtom, NamedCertificate, TextLine, AreWhole, BeginCertificate, atom, claims, constant, last, listed, most_atoms, text_lines, text_of, version}
 use Rattle.certificate_text.specs.CertificateNames.{AllName}
 use Rattle.certificate_reader.specs.declared.reader.CertReader.{CertReader}
 use Rattle.certificate_reader.specs.Reader.{IsAnswer, has_failed, lines_read}
 use Rattle.model.proofs.ListLemmas.{Contains-here, Contains-there}
 use Rattle.certificate_listing.specs.Sets.{Marked, line_with, lines_with, marked}
-use Rattle.certificate_listing.specs.Told.{HaveTold, atoms_told, is_body, states_told}
+use Rattle.certificate_listing.specs.Told.{atoms_told, is_body, names_told, states_told}
 use Rattle.certificate_listing.specs.declared.states.Mark.{Mark}
 use Rattle.certificate_listing.specs.Listed.{HaveListed, IsFit, mark_of}
+use Rattle.certificate_listing.specs.declared.beginning.Beginning.{Beginning}
+use Rattle.certificate_listing.specs.Parts.{potentials_in}
+use Rattle.certificate_listing.specs.Taking.{HasTaken}
 use Rattle.certificate_listing.specs.Reading.{IsAt, IsBegun, IsListedSoFar, IsRead}
 use Rattle.certificate_listing.proofs.SetsLemmas.{numbers_back}
 use Rattle.certificate_listing.proofs.ToldLemmas.{begin_front}
 use Rattle.certificate_listing.proofs.PlacedLemmas.{atoms_of_text, body_follows, few_atoms_told, fit_there, named_length, states_of_text}
 use Rattle.certificate_listing.proofs.ReadingLemmas.{at_last, at_next, few_read, have_begun}
+
+-- there are as many atoms as lines that give one
+names_length : (task : Task) (lines : List TextLine) (atoms : List Atom) → AllName task (names_told lines) atoms → length (atoms_told lines) ≡ length atoms
+names_length task lines atoms named = sym (length-map (atoms_told lines) (λ (a : WeightedAtom). a.atom)) ∙ named_length task (names_told lines) atoms named
 
 -- ---- lines, by marks and sets
 
@@ -40,25 +48,37 @@ lines_back width (l ∷ lines) rising =
 claim_stands : (c : NamedCertificate) → Contains (text_lines c) (claims c.claim)
 claim_stands c =
     let body : List TextLine = (map (λ a. atom a) c.atoms ++ map (λ l. listed l) c.lines) ++ last (length c.lines) ∷ [] in
-    Contains-there version (claims c.claim ∷ constant ∷ body) (claims c.claim) (Contains-here (claims c.claim) (constant ∷ body))
+    Contains-there version (claims c.claim ∷ constant c.constant ∷ body) (claims c.claim) (Contains-here (claims c.claim) (constant c.constant ∷ body))
 
-module _ {R : Type 0} (remaining : R → Option (List ℕ)) (task : Task) (first now : CertReader R) (claim : Claim) (atoms : List Atom) where
+constant_stands : (c : NamedCertificate) → Contains (text_lines c) (constant c.constant)
+constant_stands c =
+    let body : List TextLine = (map (λ a. atom a) c.atoms ++ map (λ l. listed l) c.lines) ++ last (length c.lines) ∷ [] in
+    Contains-there version (claims c.claim ∷ constant c.constant ∷ body) (constant c.constant)
+    (Contains-there (claims c.claim) (constant c.constant ∷ body) (constant c.constant) (Contains-here (constant c.constant) body))
+
+module _ {R : Type 0} (remaining : R → Option (List ℕ)) (task : Task) (first now : CertReader R) (beginning : Beginning) where
+  abbrev claim : Claim
+  claim = claim_of beginning.claim
+
+  abbrev atoms : List Atom
+  atoms = map atom_of beginning.atoms.keys
+
   whole_begins : (lines : List TextLine) → AreWhole lines → BeginCertificate lines
   whole_begins lines whole = ([], subst AreWhole (sym (append-nil lines)) whole)
 
-  pub few_begun : (next : Option CertLine) → IsBegun remaining task first now claim atoms next → length atoms ≤ most_atoms
+  pub few_begun : (next : Option CertLine) → IsBegun remaining task first now beginning next → length atoms ≤ most_atoms
   few_begun (Some line) (before, at, told, no_state, body) =
       let few = few_atoms_told before (begin_front before (text_line_of line) (have_begun remaining first now (before ++ text_line_of line ∷ []) at)) in
-      let same = named_length task (atoms_told before) atoms told.named in
+      let same = names_length task before atoms told.named in
       omega (arith, few, same)
   few_begun None (lines, over, told, no_state) =
       let few = few_atoms_told lines (whole_begins lines over.whole) in
-      let same = named_length task (atoms_told lines) atoms told.named in
+      let same = names_length task lines atoms told.named in
       omega (arith, few, same)
 
   module _ (width : ℕ) (marks : List Marked) (sets : List (List Bool)) where
     -- nothing is listed yet
-    pub none_listed : marks ≡ [] → sets ≡ [] → (next : Option CertLine) → IsBegun remaining task first now claim atoms next → IsListedSoFar remaining task first now claim atoms width marks sets next
+    pub none_listed : marks ≡ [] → sets ≡ [] → (next : Option CertLine) → IsBegun remaining task first now beginning next → IsListedSoFar remaining task first now beginning width marks sets next
     none_listed no_marks no_sets (Some line) (before, at, told, no_state, body) = (before, at, told, nothing before no_state, body)
       where
         nothing : (lines : List TextLine) → states_told lines ≡ [] → HaveListed lines claim width marks sets
@@ -79,21 +99,21 @@ module _ {R : Type 0} (remaining : R → Option (List ℕ)) (task : Task) (first
         }
 
     -- the next line is fit to be listed
-    pub fit_next : (line : CertLine) → width ≡ length atoms → IsListedSoFar remaining task first now claim atoms width marks sets (Some line) → IsFit width sets (text_line_of line)
+    pub fit_next : (line : CertLine) → width ≡ length atoms → IsListedSoFar remaining task first now beginning width marks sets (Some line) → IsFit width sets (text_line_of line)
     fit_next line wide (before, at, told, have, body) =
-        subst (λ n. IsFit n sets (text_line_of line)) (named_length task (atoms_told before) atoms told.named ∙ sym wide)
+        subst (λ n. IsFit n sets (text_line_of line)) (names_length task before atoms told.named ∙ sym wide)
         (fit_there before (text_line_of line) (have_begun remaining first now (before ++ text_line_of line ∷ []) at) sets
         (ap length have.sets_are ∙ length-map (states_told before) (λ (l : StateLine). set_of width l.atoms)))
 
     -- the text is read to its end
-    pub read_whole : IsListedSoFar remaining task first now claim atoms width marks sets None
-        → IsRead remaining task first now (record { claim = claim; atoms = atoms; lines = lines_with marks sets })
+    pub read_whole : IsListedSoFar remaining task first now beginning width marks sets None
+        → IsRead remaining task first now (record { claim = claim; atoms = atoms; potentials = potentials_in beginning; lines = lines_with marks sets })
     read_whole (lines, over, told, have) = by_certificate over.whole
       where
         states_are : lines_with marks sets ≡ states_told lines
         states_are = (λ i. lines_with (have.marks_are i) (have.sets_are i)) ∙ lines_back width (states_told lines) have.rising
 
-        by_certificate : AreWhole lines → IsRead remaining task first now (record { claim = claim; atoms = atoms; lines = lines_with marks sets })
+        by_certificate : AreWhole lines → IsRead remaining task first now (record { claim = claim; atoms = atoms; potentials = potentials_in beginning; lines = lines_with marks sets })
         by_certificate (c, keeps, are) = record {
           text = text_of lines;
           consumed = over.consumed;
@@ -102,7 +122,11 @@ module _ {R : Type 0} (remaining : R → Option (List ℕ)) (task : Task) (first
             said = c;
             text = record { within = keeps; lines = ap text_of (sym are) };
             claim = sym (told.one_claim c.claim (subst (λ lines. Contains lines (claims c.claim)) are (claim_stands c)));
-            atoms = subst (λ names. AllName task names atoms) (ap atoms_told (sym are) ∙ atoms_of_text c) told.named;
+            atoms = subst (λ (said : List WeightedAtom). AllName task (map (λ a. a.atom) said) atoms) (ap atoms_told (sym are) ∙ atoms_of_text c) told.named;
+            potentials =
+                let constant_is = told.one_constant c.constant (subst (λ lines. Contains lines (constant c.constant)) are (constant_stands c)) in
+                let weights_are = told.weighed ∙ ap (map (λ (a : WeightedAtom). a.weight)) (ap atoms_told (sym are) ∙ atoms_of_text c) in
+                λ i. record { constant = constant_is i; weights = weights_are i };
             lines = sym (states_are ∙ ap states_told (sym are) ∙ states_of_text c);
           };
           lines = lines;
@@ -114,9 +138,9 @@ module _ {R : Type 0} (remaining : R → Option (List ℕ)) (task : Task) (first
         }
 
     -- what comes behind a line that was taken
-    module _ (before : List TextLine) (line : TextLine) (at : IsAt remaining first now (before ++ line ∷ [])) (told : HaveTold task (before ++ line ∷ []) claim atoms)
+    module _ (before : List TextLine) (line : TextLine) (at : IsAt remaining first now (before ++ line ∷ [])) (told : HasTaken task (before ++ line ∷ []) beginning)
         (have : HaveListed (before ++ line ∷ []) claim width marks sets) (body : is_body line ≡ true) (next : CertReader R) (going : has_failed next ≡ false) where
-      pub so_far_next : (answer : Option CertLine) → IsAnswer remaining now next (before ++ line ∷ []) (Ok answer) → IsListedSoFar remaining task first next claim atoms width marks sets answer
+      pub so_far_next : (answer : Option CertLine) → IsAnswer remaining now next (before ++ line ∷ []) (Ok answer) → IsListedSoFar remaining task first next beginning width marks sets answer
       so_far_next (Some other) handed =
           let there = at_next remaining first now (before ++ line ∷ []) at next (text_line_of other) handed going in (
             before ++ line ∷ [],
@@ -134,8 +158,8 @@ module _ {R : Type 0} (remaining : R → Option (List ℕ)) (task : Task) (first
       fewer_left None over = omega (arith, at.read.count, over.read.count, few_read remaining first now (before ++ line ∷ []) at)
 
 -- there is a mark for each set
-pub as_many_listed : {R : Type 0} (remaining : R → Option (List ℕ)) (task : Task) (first now : CertReader R) (claim : Claim) (atoms : List Atom) (width : ℕ) (marks : List Mark)
-    (sets : List (List Bool)) → IsListedSoFar remaining task first now claim atoms width (map mark_of marks) sets None → length marks ≡ length sets
-as_many_listed remaining task first now claim atoms width marks sets (lines, over, told, have) =
+pub as_many_listed : {R : Type 0} (remaining : R → Option (List ℕ)) (task : Task) (first now : CertReader R) (beginning : Beginning) (width : ℕ) (marks : List Mark)
+    (sets : List (List Bool)) → IsListedSoFar remaining task first now beginning width (map mark_of marks) sets None → length marks ≡ length sets
+as_many_listed remaining task first now beginning width marks sets (lines, over, told, have) =
     sym (length-map marks mark_of) ∙ ap length have.marks_are ∙ length-map (states_told lines) marked
     ∙ sym (length-map (states_told lines) (λ (l : StateLine). set_of width l.atoms)) ∙ sym (ap length have.sets_are)

@@ -14,12 +14,14 @@ use Rattle.packed_state.specs.PooledView.{pooled_states, pooled_width}
 use Rattle.packed_state.specs.Store.{sets_in}
 use Rattle.packed_state.specs.Words.{bits_in}
 use Rattle.packed_state.proofs.PackedLemmas.{length-bits}
-use Rattle.certificate_text.specs.Certificates.{StateLine, is_claim, is_number, is_state_line, rise}
+use Rattle.potential_functions.specs.PotentialFunctions.{PotentialFunction}
+use Rattle.certificate_text.specs.Certificates.{StateLine, are_potentials, is_claim, is_number, is_state_line, is_weight, rise}
 use Rattle.model.proofs.ListLemmas.{Contains-cases, Contains-filter, Contains-here, Contains-none, Contains-range, Contains-there, filter-Contains}
 use Rattle.certificate_listing.specs.Sets.{Marked, line_with, lines_with, marked, numbers_of}
 use Rattle.certificate_listing.specs.declared.listing.Listing.{Listing}
 use Rattle.certificate_listing.specs.Listed.{mark_of}
-use Rattle.certificate_listing.specs.Parts.{certificate_with}
+use Rattle.certificate_listing.specs.declared.states.States.{States}
+use Rattle.certificate_listing.specs.Parts.{certificate_with, potentials_in}
 use Rattle.certificate_listing.specs.Listing.{certificate_in, store_in}
 use Rattle.certificate_listing.proofs.SetsLemmas.{numbers_back, rise_below}
 use Rattle.certificate_listing.proofs.WideningLemmas.{IsBelow, has-at_width, length-at_width}
@@ -129,6 +131,14 @@ set_lengths : (store : PooledStore) → All (λ (set : List Bool). length set �
 unfolding sets_in
 set_lengths store = All-map (λ (set : List Bool). length set ≡ store.width) (bits_in store.width) (rows_of store.pool) (λ k d within. length-bits store.width (get_or (rows_of store.pool) k d))
 
+-- what the limits of a potential function say
+pub potential_parts : (count : ℕ) (p : PotentialFunction) → are_potentials count p ≡ true
+    → (is_weight p.constant ≡ true) × (length p.weights ≡ count) × (list_all is_weight p.weights ≡ true)
+potential_parts count p are =
+    let (first, weights) = and_parts (is_weight p.constant && (length p.weights == count)) (list_all is_weight p.weights) are in
+    let (constant, many) = and_parts (is_weight p.constant) (length p.weights == count) first in
+    (constant, eqb-true (length p.weights) count many, weights)
+
 module _ (listing : Listing) where
   abbrev marks : List Marked
   marks = map mark_of listing.states.marks.items
@@ -142,10 +152,22 @@ module _ (listing : Listing) where
   as_many : length marks ≡ length sets
   as_many = length-map listing.states.marks.items mark_of ∙ listing.marked
 
-  rises : All (Rises count) sets
-  rises =
+  -- the limits are those of the lines, and of the potential function
+  limits : (list_all (is_state_line count) (certificate_in listing).lines ≡ true) × (are_potentials count (certificate_in listing).potentials ≡ true)
+  limits =
       let c = certificate_in listing in
-      all_rise count marks sets as_many (and_parts (is_claim c.claim && nat_le (length c.atoms) 1048576 && nat_le (length c.lines) 16777216) (list_all (is_state_line count) c.lines) listing.within_limits).1
+      let most = is_claim c.claim && nat_le (length c.atoms) 1048576 && nat_le (length c.lines) 16777216 in
+      let (first, potentials) = and_parts (most && list_all (is_state_line count) c.lines) (are_potentials count c.potentials) listing.within_limits in
+      ((and_parts most (list_all (is_state_line count) c.lines) first).1, potentials)
+
+  rises : All (Rises count) sets
+  rises = all_rise count marks sets as_many limits.0
+
+  pub constant_within : is_weight listing.beginning.constant ≡ true
+  constant_within = (potential_parts count (potentials_in listing.beginning) limits.1).0
+
+  pub weights_within : (length listing.beginning.weights.items ≡ count) × (list_all is_weight listing.beginning.weights.items ≡ true)
+  weights_within = let (_, many, weights) = potential_parts count (potentials_in listing.beginning) limits.1 in (many, weights)
 
   pub marks_are : map mark_of listing.states.marks.items ≡ map marked (certificate_in listing).lines
   marks_are = sym (marked_back marks sets as_many)
@@ -158,9 +180,9 @@ module _ (listing : Listing) where
     pub all_below : All (IsBelow wide) (pooled_states (store_in listing))
     all_below = λ k d within. is_below count wide (get_or sets k d) enough (rises k d within)
 
-    pub same_certificate : (store : PooledStore) → pooled_states store ≡ map (at_width wide) (pooled_states (store_in listing))
-        → certificate_with listing.claim listing.atoms.keys listing.states.marks.items store ≡ certificate_in listing
-    same_certificate store are =
-        let lines = ap (lines_with marks) are ∙ lines_wide count wide marks sets enough as_many rises in
+    pub same_certificate : (states : States) → states.marks.items ≡ listing.states.marks.items → pooled_states states.sets ≡ map (at_width wide) (pooled_states (store_in listing))
+        → certificate_with listing.beginning states ≡ certificate_in listing
+    same_certificate states same are =
+        let lines = (λ i. lines_with (map mark_of (same i)) (are i)) ∙ lines_wide count wide marks sets enough as_many rises in
         let c = certificate_in listing in
-        λ i. record { claim = c.claim; atoms = c.atoms; lines = lines i }
+        λ i. record { claim = c.claim; atoms = c.atoms; potentials = c.potentials; lines = lines i }

@@ -8,7 +8,8 @@ use Rattle.model.specs.Task.{Atom, Task}
 use Rattle.model.specs.Claims.{Claim}
 use Rattle.certificate_text.specs.Certificates.{StateLine, is_number, rise}
 use Rattle.std.specs.Option.{option_map_or}
-use Rattle.certificate_text.specs.CertificateText.{NamedAtom, NamedCertificate, TextLine, version, claims, constant, atom, listed, last, is_line, most_atoms, most_states, text_lines, AreWhole, BeginCertificate}
+use Rattle.potential_functions.specs.PotentialFunctions.{PotentialFunction}
+use Rattle.certificate_text.specs.CertificateText.{NamedAtom, WeightedAtom, NamedCertificate, TextLine, version, claims, constant, atom, listed, last, is_line, most_atoms, most_states, text_lines, AreWhole, BeginCertificate}
 use Rattle.certificate_text.specs.CertificateNames.{AllName}
 use Rattle.certificate_text.specs.CertificateMachine.{Place, at_version, at_claim, at_constant, in_body, ended, next_place}
 use Rattle.certificate_text.proofs.Machine.{StandsBefore, never, only_where, place_of_beginning, place_same, stands}
@@ -29,7 +30,7 @@ atoms_of_states : (states : List StateLine) → atoms_told (map (λ l. listed l)
 atoms_of_states [] = refl
 atoms_of_states (l ∷ states) = atoms_of_states states
 
-atoms_of_body : (atoms : List NamedAtom) (states : List StateLine) → atoms_told (map (λ a. atom a) atoms ++ map (λ l. listed l) states) ≡ atoms
+atoms_of_body : (atoms : List WeightedAtom) (states : List StateLine) → atoms_told (map (λ a. atom a) atoms ++ map (λ l. listed l) states) ≡ atoms
 atoms_of_body [] states = atoms_of_states states
 atoms_of_body (a ∷ atoms) states = ap (λ atoms. a ∷ atoms) (atoms_of_body atoms states)
 
@@ -37,7 +38,7 @@ states_of_states : (states : List StateLine) → states_told (map (λ l. listed 
 states_of_states [] = refl
 states_of_states (l ∷ states) = ap (λ states. l ∷ states) (states_of_states states)
 
-states_of_body : (atoms : List NamedAtom) (states : List StateLine) → states_told (map (λ a. atom a) atoms ++ map (λ l. listed l) states) ≡ states
+states_of_body : (atoms : List WeightedAtom) (states : List StateLine) → states_told (map (λ a. atom a) atoms ++ map (λ l. listed l) states) ≡ states
 states_of_body [] states = states_of_states states
 states_of_body (a ∷ atoms) states = states_of_body atoms states
 
@@ -68,7 +69,7 @@ fit_there before line begun sets = let at = placed before line begun in by_line 
         → IsFit (length (atoms_told before)) sets line
     by_line version place stands next leads count = tt
     by_line (claims claim) place stands next leads count = tt
-    by_line constant place stands next leads count = tt
+    by_line (constant k) place stands next leads count = tt
     by_line (atom a) place stands next leads count = tt
     by_line (last n) place stands next leads count = tt
     by_line (listed l) at_version stands next leads count = never next leads
@@ -93,7 +94,7 @@ body_follows before line next begun body =
     behind_state : (n m : ℕ) (next : TextLine) (after : Place) → next_place (in_body n (m + 1)) next ≡ Some after → is_body next ≡ true
     behind_state n m version after leads = never after leads
     behind_state n m (claims claim) after leads = never after leads
-    behind_state n m constant after leads = never after leads
+    behind_state n m (constant k) after leads = never after leads
     behind_state n m (atom a) after leads =
         let holds = (only_where (((m + 1) == 0) && nat_lt n most_atoms && is_line n (atom a)) (in_body (n + 1) (m + 1)) after leads).0 in
         let none = (and_parts ((m + 1) == 0) (nat_lt n most_atoms) (and_parts (((m + 1) == 0) && nat_lt n most_atoms) (is_line n (atom a)) holds).0).0 in
@@ -104,7 +105,7 @@ body_follows before line next begun body =
     behind_last : (next : TextLine) (after : Place) → next_place ended next ≡ Some after → is_body next ≡ true
     behind_last version after leads = never after leads
     behind_last (claims claim) after leads = never after leads
-    behind_last constant after leads = never after leads
+    behind_last (constant k) after leads = never after leads
     behind_last (atom a) after leads = never after leads
     behind_last (listed l) after leads = never after leads
     behind_last (last count) after leads = never after leads
@@ -112,7 +113,7 @@ body_follows before line next begun body =
     by_line : (line : TextLine) (place then : Place) → next_place place line ≡ Some then → is_body line ≡ true → (next : TextLine) (after : Place) → next_place then next ≡ Some after → is_body next ≡ true
     by_line version place then leads body next after leads_on = absurd (true≢false (sym body))
     by_line (claims claim) place then leads body next after leads_on = absurd (true≢false (sym body))
-    by_line constant place then leads body next after leads_on = absurd (true≢false (sym body))
+    by_line (constant k) place then leads body next after leads_on = absurd (true≢false (sym body))
     by_line (atom a) place then leads body next after leads_on = absurd (true≢false (sym body))
     by_line (listed l) at_version then leads body next after leads_on = never then leads
     by_line (listed l) at_claim then leads body next after leads_on = never then leads
@@ -130,17 +131,17 @@ body_follows before line next begun body =
     by_line (last count) ended then leads body next after leads_on = never then leads
 
 -- a line of the body that lists no state tells nothing
-pub last_tells : (task : Task) (before : List TextLine) (claim : Claim) (atoms : List Atom) (width : ℕ) (marks : List Marked) (sets : List (List Bool)) (line : CertLine)
-    → ((l : StateLine_) → line ≡ code.Listed l → ⊥) → is_body (text_line_of line) ≡ true → HaveTold task before claim atoms → HaveListed before claim width marks sets
-    → HaveTold task (before ++ text_line_of line ∷ []) claim atoms × HaveListed (before ++ text_line_of line ∷ []) claim width marks sets
-last_tells task before claim atoms width marks sets code.Head other body told have = absurd (true≢false (sym body))
-last_tells task before claim atoms width marks sets (code.Claim c) other body told have = absurd (true≢false (sym body))
-last_tells task before claim atoms width marks sets code.Constant other body told have = absurd (true≢false (sym body))
-last_tells task before claim atoms width marks sets (code.Weight a) other body told have = absurd (true≢false (sym body))
-last_tells task before claim atoms width marks sets (code.Listed l) other body told have = absurd (other l refl)
-last_tells task before claim atoms width marks sets (code.Last n) other body told have =
+pub last_tells : (task : Task) (before : List TextLine) (claim : Claim) (atoms : List Atom) (potentials : PotentialFunction) (width : ℕ) (marks : List Marked) (sets : List (List Bool)) (line : CertLine)
+    → ((l : StateLine_) → line ≡ code.Listed l → ⊥) → is_body (text_line_of line) ≡ true → HaveTold task before claim atoms potentials → HaveListed before claim width marks sets
+    → HaveTold task (before ++ text_line_of line ∷ []) claim atoms potentials × HaveListed (before ++ text_line_of line ∷ []) claim width marks sets
+last_tells task before claim atoms potentials width marks sets code.Head other body told have = absurd (true≢false (sym body))
+last_tells task before claim atoms potentials width marks sets (code.Claim c) other body told have = absurd (true≢false (sym body))
+last_tells task before claim atoms potentials width marks sets (code.Constant k) other body told have = absurd (true≢false (sym body))
+last_tells task before claim atoms potentials width marks sets (code.Weight weight a) other body told have = absurd (true≢false (sym body))
+last_tells task before claim atoms potentials width marks sets (code.Listed l) other body told have = absurd (other l refl)
+last_tells task before claim atoms potentials width marks sets (code.Last n) other body told have =
     let same : states_told (before ++ last n ∷ []) ≡ states_told before = states_same before (last n) refl in (
-      told_last task before claim atoms told n,
+      told_last task before claim atoms potentials told n,
       record {
         rising = subst (λ states. list_all (λ (l : StateLine). rise width 0 l.atoms) states ≡ true) (sym same) have.rising;
         marks_are = have.marks_are ∙ ap (map marked) (sym same);

@@ -18,7 +18,7 @@ use Rattle.certificate_reader.proofs.ReaderLemmas.{few_lines}
 use Rattle.certificate_listing.specs.declared.refusal.Refusal.{Refusal}
 use Rattle.certificate_listing.specs.declared.refusal.Refusal.TheVariants as refusal
 use Rattle.certificate_listing.specs.declared.refusal.RefusalCode.{RefusalCode}
-use Rattle.certificate_listing.specs.declared.refusal.RefusalCode.TheVariants.{CertForm, CertVersion, Truncated as CutShort, NotFluent, Repeated, NoInitial, GoalOpen, SuccessorMissing, SuccessorDearer, CutWeak, CutNotAllowed, PlanInvalid, PlanDearer, Limit as Exceeded}
+use Rattle.certificate_listing.specs.declared.refusal.RefusalCode.TheVariants.{CertForm, CertVersion, Truncated as CutShort, NotFluent, Repeated, NoInitial, Unfair, UnfairGoal, GoalOpen, SuccessorMissing, SuccessorDearer, CutWeak, CutNotAllowed, PlanInvalid, PlanDearer, Limit as Exceeded}
 use Rattle.certificate_listing.specs.RefusalCode.{number_of}
 use Rattle.certificate_listing.proofs.ToldLemmas.{begin_front}
 use Rattle.certificate_listing.specs.CertFaults.{refusal_of}
@@ -150,6 +150,8 @@ module _ {R : Type 0} (remaining : R → Option (List ℕ)) (first now : CertRea
   wrong_here NotFluent wrong = (at.bytes, at.consumed, line_fault_here 43 wrong)
   wrong_here Repeated wrong = (at.bytes, at.consumed, line_fault_here 44 wrong)
   wrong_here NoInitial wrong = (at.bytes, at.consumed, line_fault_here 45 wrong)
+  wrong_here Unfair wrong = (at.bytes, at.consumed, line_fault_here 46 wrong)
+  wrong_here UnfairGoal wrong = (at.bytes, at.consumed, line_fault_here 47 wrong)
   wrong_here GoalOpen wrong = (at.bytes, at.consumed, line_fault_here 48 wrong)
   wrong_here SuccessorMissing wrong = (at.bytes, at.consumed, line_fault_here 49 wrong)
   wrong_here SuccessorDearer wrong = (at.bytes, at.consumed, line_fault_here 50 wrong)

@@ -1,14 +1,14 @@
 -- A certificate's text behind some of its lines: what is left are the lines behind them, each no longer than a line may be.
-use Rattle.std.proofs.Common.{◌≡◌, ℕ, ◌+◌, ◌*◌, ◌<◌, ◌≤◌, true, not, List, [], ◌∷◌, ◌++◌, codes, length, length-append, Option, None, Some, refl, sym, ap, ◌∙◌, subst, append_assoc, append-nil, arith}
-use Rattle.std.specs.Prelude.{◌&&◌, Contains, IsTrue, nat_le}
-use Rattle.std.specs.Fmt.{decimal}
+use Rattle.std.proofs.Common.{◌≡◌, ℕ, suc, ◌+◌, ◌*◌, ◌<◌, ◌≤◌, true, not, List, [], ◌∷◌, ◌++◌, codes, length, length-append, Option, None, Some, refl, sym, ap, ◌∙◌, subst, append_assoc, append-nil, arith}
+use Rattle.std.specs.Prelude.{◌&&◌, Contains, IsTrue, nat_le, ℤ, pos, negsuc}
+use Rattle.std.specs.Fmt.{decimal, signed_decimal}
 use Rattle.std.specs.List.{flat_map, list_all}
 use Rattle.std.specs.Option.{option_map_or}
-use Rattle.std.proofs.lemmas.Bool.{and_parts, leb-true, le-leb, lt-ltb, ne_eqb}
+use Rattle.std.proofs.lemmas.Bool.{and_parts, leb-true, le-leb, lt-ltb, ltb-true, ne_eqb}
 use Rattle.std.proofs.lemmas.Fmt.{length-decimal-le}
 use Rattle.std.proofs.lemmas.List.Folds.{list_all-append}
 use Rattle.model.specs.Claims.{bound, none}
-use Rattle.certificate_text.specs.Certificates.{is_number, rise}
+use Rattle.certificate_text.specs.Certificates.{is_number, is_weight, rise}
 use Rattle.model.proofs.ListLemmas.{Contains-here, Contains-there}
 use Rattle.certificate_text.specs.CertificateText.{NamedCertificate, TextLine, version, claims, constant, atom, listed, last, BeginCertificate, HasLine, IsInOneLine, after_blank, is_line, keeps_text_limits, line_text, longest_line, most_atoms, most_states, text_lines, text_of, whole_line}
 use Rattle.certificate_reader.specs.Words.{are_lower}
@@ -29,7 +29,7 @@ rise_more count more least (n ∷ numbers) few all =
 pub line_more : (count : ℕ) → count ≤ most_atoms → (line : TextLine) → IsTrue (is_line count line) → IsTrue (is_line most_atoms line)
 line_more count few version is = refl
 line_more count few (claims claim) is = is
-line_more count few constant is = refl
+line_more count few (constant k) is = is
 line_more count few (atom a) is = is
 line_more count few (listed l) is =
     let (first, rising) = and_parts (is_number l.cost && option_map_or is_number l.cut true) (rise count 0 l.atoms) is in
@@ -58,6 +58,13 @@ begun_kept lines (rest, (c, keeps, are)) =
 
 number_short : (n : ℕ) → IsTrue (is_number n) → length (decimal n) ≤ 19
 number_short n is = let below = is_below n is in length-decimal-le 19 n (omega arith) (omega (arith, below)) (omega (arith, below))
+
+pub weight_short : (w : ℤ) → IsTrue (is_weight w) → length (signed_decimal w) ≤ 11
+weight_short (pos n) is = let most = leb-true n 2147483647 is in let digits = length-decimal-le 10 n (omega arith) (omega (arith, most)) (omega (arith, most)) in omega (arith, digits)
+weight_short (negsuc n) is =
+    let most = ltb-true n 2147483647 is in
+    let digits = length-decimal-le 10 (suc n) (omega arith) (omega (arith, most)) (omega (arith, most)) in
+    omega (arith, digits)
 
 numbers_short : (count least : ℕ) (numbers : List ℕ) → count ≤ most_atoms → least ≤ count → rise count least numbers ≡ true
     → length (flat_map (λ (number : ℕ). after_blank (decimal number)) numbers) + 8 * least ≤ 8 * count
@@ -97,8 +104,12 @@ line_short (claims (bound n)) is =
     let long : length (codes "claim bound " ++ decimal n) ≡ 12 + length (decimal n) = omega arith in
     omega (arith, digits, long)
 line_short (claims none) is = let long : length (line_text (claims none)) ≡ 10 = refl in omega (arith, long)
-line_short constant is = let long : length (line_text constant) ≡ 10 = refl in omega (arith, long)
-line_short (atom a) is = leb-true (length (line_text (atom a))) longest_line (and_parts (are_lower a) (nat_le (length (line_text (atom a))) longest_line) is).1
+line_short (constant k) is =
+    let digits = weight_short k is in
+    let long : length (codes "constant " ++ signed_decimal k) ≡ 9 + length (signed_decimal k) = omega arith in
+    omega (arith, digits, long)
+line_short (atom a) is =
+    leb-true (length (line_text (atom a))) longest_line (and_parts (is_weight a.weight && are_lower a.atom) (nat_le (length (line_text (atom a))) longest_line) is).1
 line_short (listed l) is = state_short most_atoms (omega arith) l.cost l.cut l.atoms is
 line_short (last n) is =
     let digits = number_short n is in

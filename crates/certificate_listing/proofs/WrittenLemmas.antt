@@ -1,6 +1,7 @@
 -- What is written of a certificate within the limits is a text that says it.
 use Rattle.std.proofs.Common.{◌≡◌, ℕ, zero, suc, ◌+◌, ◌*◌, ◌≤◌, Bool, true, false, not, cond, List, [], ◌∷◌, ◌++◌, codes, map, length, length-append, Option, None, Some, refl, sym, ap, ◌∙◌, subst, true≢false, arith}
-use Rattle.std.specs.Prelude.{◌&&◌, IsTrue, All, nat_le, nat_lt, slice_get}
+use Rattle.std.specs.Prelude.{◌&&◌, ℤ, IsTrue, All, nat_le, nat_lt, slice_get, zip}
+use Rattle.std.specs.Fmt.{signed_decimal}
 use Rattle.std.specs.Char.{to_ascii_lowercase}
 use Rattle.std.specs.Cmp.Lexicographic.{pointwise, same_text}
 use Rattle.std.specs.List.{flat_map, list_all, list_any, position_or_len}
@@ -18,13 +19,15 @@ use Rattle.model.specs.Resolution.{is_same}
 use Rattle.model.specs.PlanText.{object_names}
 use Rattle.model.specs.PlanWriting.{are_lower_names, differ, is_lower_name, object_name}
 use Rattle.model.specs.Fluents.{is_fluent}
-use Rattle.certificate_text.specs.Certificates.{Certificate, IsClosedFor, is_claim, is_number, is_state_line, keeps_limits}
+use Rattle.certificate_text.specs.Certificates.{Certificate, IsClosedFor, are_potentials, is_claim, is_number, is_state_line, is_weight, keeps_limits}
 use Rattle.certificate_text.specs.CertificateRefusals.{IsPlanWithin}
 use Rattle.model.proofs.Tests.{passes_got}
-use Rattle.certificate_text.specs.CertificateText.{TextLine, atom, listed, last, after_blank, is_line, line_text, longest_line, most_atoms, most_states, text_lines}
-use Rattle.certificate_text.specs.CertificateNames.{AllName, AreNumbersOf, IsNumberOf, IsTextOf, Names, are_atoms_of, certificate_text, has_atom_names, named, named_atom, predicate_name, predicate_names}
+use Rattle.certificate_text.specs.CertificateText.{WeightedAtom, TextLine, atom, listed, last, after_blank, is_line, line_text, longest_line, most_atoms, most_states, text_lines}
+use Rattle.certificate_text.specs.CertificateNames.{AllName, AreNumbersOf, IsNumberOf, IsTextOf, Names, are_atoms_of, certificate_text, has_atom_names, named, named_atom, predicate_name, predicate_names, weighted_atom}
 use Rattle.certificate_text.specs.CertificateChecking.{IsAccepted}
 use Rattle.certificate_listing.proofs.NamesLemmas.{few_objects}
+use Rattle.certificate_listing.proofs.NumbersLemmas.{potential_parts}
+use Rattle.certificate_listing.proofs.SplitLemmas.{weight_short}
 
 -- ---- the number of a name
 
@@ -95,20 +98,43 @@ names_short (name ∷ names) lower =
     let rest = names_short names others in
     omega (arith, few, rest, length-append (after_blank name) (flat_map after_blank names))
 
-atom_short : (predicate : Name) (objects : List Name) → is_lower_name predicate ≡ true → list_all is_lower_name objects ≡ true → length objects ≤ 8
-    → length (line_text (atom (record { predicate = predicate; objects = objects }))) ≤ longest_line
-atom_short predicate objects lower lowers few =
+atom_short : (weight : ℤ) (predicate : Name) (objects : List Name) → IsTrue (is_weight weight) → is_lower_name predicate ≡ true → list_all is_lower_name objects ≡ true → length objects ≤ 8
+    → length (line_text (atom (record { weight = weight; atom = record { predicate = predicate; objects = objects } }))) ≤ longest_line
+atom_short weight predicate objects is lower lowers few =
+    let digits = weight_short weight is in
     let short = lower_short predicate lower in
     let rest = names_short objects lowers in
+    let front : List ℕ = codes "atom " ++ signed_decimal weight in
     let words = flat_map after_blank objects in
     omega (
       arith,
+      digits,
       few,
       short,
       rest,
-      length-append (codes "atom 0 (" ++ predicate) words,
-      length-append ((codes "atom 0 (" ++ predicate) ++ words) (codes ")"),
+      length-append (codes "atom ") (signed_decimal weight),
+      length-append front (codes " ("),
+      length-append (front ++ codes " (") predicate,
+      length-append ((front ++ codes " (") ++ predicate) words,
+      length-append (((front ++ codes " (") ++ predicate) ++ words) (codes ")"),
     )
+
+-- ---- atoms and their weights
+
+module _ (task : Task) where
+  -- of atoms with a weight each the names are those of the atoms, and the weights are these
+  names_of_zip : (atoms : List Atom) (weights : List ℤ) → length weights ≡ length atoms
+      → map (λ (a : WeightedAtom). a.atom) (map (weighted_atom task) (zip atoms weights)) ≡ map (named_atom task) atoms
+  names_of_zip [] weights same = refl
+  names_of_zip (a ∷ atoms) [] same = absurd (omega (arith, same))
+  names_of_zip (a ∷ atoms) (w ∷ weights) same = ap (λ names. named_atom task a ∷ names) (names_of_zip atoms weights (omega (arith, same)))
+
+  weights_of_zip : (atoms : List Atom) (weights : List ℤ) → length weights ≡ length atoms
+      → map (λ (a : WeightedAtom). a.weight) (map (weighted_atom task) (zip atoms weights)) ≡ weights
+  weights_of_zip [] [] same = refl
+  weights_of_zip [] (w ∷ weights) same = absurd (omega (arith, same))
+  weights_of_zip (a ∷ atoms) [] same = absurd (omega (arith, same))
+  weights_of_zip (a ∷ atoms) (w ∷ weights) same = ap (λ weights. w ∷ weights) (weights_of_zip atoms weights (omega (arith, same)))
 
 -- ---- the atoms
 
@@ -154,18 +180,22 @@ module _ (task : Task) (predicates_named : are_lower_names (predicate_names task
 
   -- and their lines keep the limits
   module _ (well : is_task task ≡ true) (count : ℕ) where
-    atom_line : (a : Atom) → is_atom task a ≡ true → is_line count (atom (named_atom task a)) ≡ true
-    atom_line a typed =
+    atom_line : (a : Atom) (weight : ℤ) → is_atom task a ≡ true → IsTrue (is_weight weight) → is_line count (atom (weighted_atom task (a, weight))) ≡ true
+    atom_line a weight typed within =
         let is = atom_named a typed in
         let few : length (map (object_name task) a.objects) ≤ 8 = subst (λ n. n ≤ 8) (sym (length-map a.objects (object_name task))) (few_objects task a well typed) in
-        let short = le-leb (length (line_text (atom (named_atom task a)))) longest_line (atom_short (predicate_name task a.predicate) (map (object_name task) a.objects) is.lower is.lowers few) in
-        λ i. (is.lower i && is.lowers i) && short i
+        let short = le-leb (length (line_text (atom (weighted_atom task (a, weight))))) longest_line
+        (atom_short weight (predicate_name task a.predicate) (map (object_name task) a.objects) within is.lower is.lowers few) in
+        λ i. (within i && (is.lower i && is.lowers i)) && short i
 
-    atom_lines : (atoms : List Atom) → list_all (is_atom task) atoms ≡ true → list_all (is_line count) (map (λ a. atom a) (map (named_atom task) atoms)) ≡ true
-    atom_lines [] typed = refl
-    atom_lines (a ∷ atoms) typed =
+    atom_lines : (atoms : List Atom) (weights : List ℤ) → list_all (is_atom task) atoms ≡ true → list_all is_weight weights ≡ true
+        → list_all (is_line count) (map (λ a. atom a) (map (weighted_atom task) (zip atoms weights))) ≡ true
+    atom_lines [] weights typed within = refl
+    atom_lines (a ∷ atoms) [] typed within = refl
+    atom_lines (a ∷ atoms) (w ∷ weights) typed within =
         let (here, more) = and_parts (is_atom task a) (list_all (is_atom task) atoms) typed in
-        λ i. atom_line a here i && atom_lines atoms more i
+        let (first, others) = and_parts (is_weight w) (list_all is_weight weights) within in
+        λ i. atom_line a w here first i && atom_lines atoms weights more others i
 
 -- ---- the text
 
@@ -173,20 +203,39 @@ module _ (task : Task) (c : Certificate) (well : IsTrue (is_task task)) (has_nam
   names_both : (are_lower_names (predicate_names task) ≡ true) × (are_lower_names (object_names task) ≡ true)
   names_both = and_parts (are_lower_names (predicate_names task)) (are_lower_names (object_names task)) has_names
 
+  -- the limits are those of the claim and the counts, of the lines, and of the potential function
+  limits : ((is_claim c.claim && nat_le (length c.atoms) most_atoms && nat_le (length c.lines) most_states) ≡ true) × (list_all (is_state_line (length c.atoms)) c.lines ≡ true)
+      × (are_potentials (length c.atoms) c.potentials ≡ true)
+  limits =
+      let most = is_claim c.claim && nat_le (length c.atoms) most_atoms && nat_le (length c.lines) most_states in
+      let (first, potentials) = and_parts (most && list_all (is_state_line (length c.atoms)) c.lines) (are_potentials (length c.atoms) c.potentials) keeps in
+      let (counts, states) = and_parts most (list_all (is_state_line (length c.atoms)) c.lines) first in
+      (counts, states, potentials)
+
+  as_many : length c.potentials.weights ≡ length c.atoms
+  as_many = (potential_parts (length c.atoms) c.potentials limits.2).1
+
+  names_are : map (λ (a : WeightedAtom). a.atom) (named task c).atoms ≡ map (named_atom task) c.atoms
+  names_are = names_of_zip task c.atoms c.potentials.weights as_many
+
+  weights_are : map (λ (a : WeightedAtom). a.weight) (named task c).atoms ≡ c.potentials.weights
+  weights_are = weights_of_zip task c.atoms c.potentials.weights as_many
+
   names_count : length (named task c).atoms ≡ length c.atoms
-  names_count = length-map c.atoms (named_atom task)
+  names_count = sym (length-map (named task c).atoms (λ (a : WeightedAtom). a.weight)) ∙ ap length weights_are ∙ as_many
 
   within_limits : (count : ℕ) → count ≡ length c.atoms
       → (nat_le count most_atoms && nat_le (length c.lines) most_states && list_all (is_line count) (text_lines (named task c))) ≡ true
   within_limits count same =
-      let (counts, states) = and_parts (is_claim c.claim && nat_le (length c.atoms) most_atoms && nat_le (length c.lines) most_states) (list_all (is_state_line (length c.atoms)) c.lines) keeps in
+      let (counts, states, potentials) = limits in
       let (first, few_states) = and_parts (is_claim c.claim && nat_le (length c.atoms) most_atoms) (nat_le (length c.lines) most_states) counts in
       let (claim, few) = and_parts (is_claim c.claim) (nat_le (length c.atoms) most_atoms) first in
+      let (constant_is, _, weights_within) = potential_parts (length c.atoms) c.potentials potentials in
       let (predicates, objects) = names_both in
       let atoms : List TextLine = map (λ a. atom a) (named task c).atoms in
       let lines : List TextLine = map (λ l. listed l) c.lines in
       let end : List TextLine = last (length c.lines) ∷ [] in
-      let atoms_are : list_all (is_line count) atoms ≡ true = atom_lines task predicates objects well count c.atoms typed in
+      let atoms_are : list_all (is_line count) atoms ≡ true = atom_lines task predicates objects well count c.atoms c.potentials.weights typed weights_within in
       let lines_are : list_all (is_line count) lines ≡ true =
       list_all-map (is_line count) (λ l. listed l) c.lines ∙ ap (λ n. list_all (is_state_line n) c.lines) same ∙ states in
       let below = leb-true (length c.lines) most_states few_states in
@@ -195,14 +244,15 @@ module _ (task : Task) (c : Certificate) (well : IsTrue (is_task task)) (has_nam
       let body : list_all (is_line count) (atoms ++ lines) ≡ true = list_all-append (is_line count) atoms lines ∙ (λ i. atoms_are i && lines_are i) in
       let behind : list_all (is_line count) ((atoms ++ lines) ++ end) ≡ true = list_all-append (is_line count) (atoms ++ lines) end ∙ (λ i. body i && end_is i) in
       let few_atoms : nat_le count most_atoms ≡ true = ap (λ n. nat_le n most_atoms) same ∙ few in
-      λ i. (few_atoms i && few_states i) && (claim i && behind i)
+      λ i. (few_atoms i && few_states i) && (claim i && (constant_is i && behind i))
 
   pub written_reads_back : IsTextOf task (certificate_text task c) c
   written_reads_back = record {
     said = named task c;
     text = record { within = within_limits (length (named task c).atoms) names_count; lines = refl };
     claim = refl;
-    atoms = atoms_named task names_both.0 names_both.1 c.atoms typed;
+    atoms = subst (λ names. AllName task names c.atoms) (sym names_are) (atoms_named task names_both.0 names_both.1 c.atoms typed);
+    potentials = λ i. record { constant = c.potentials.constant; weights = sym weights_are i };
     lines = refl;
   }
 
