@@ -55,13 +55,13 @@ keeps_by_parts said c keeps claim_is count potentials_are lines_are =
     let state_lines : List TextLine = map (λ l. listed l) said.lines in
     let end : List TextLine = last (length said.lines) ∷ [] in
     let (claim, others) = and_parts (is_claim said.claim) (is_weight said.constant && list_all (is_line k) ((atom_lines ++ state_lines) ++ end)) each in
-    let (constant, behind) = and_parts (is_weight said.constant) (list_all (is_line k) ((atom_lines ++ state_lines) ++ end)) others in
+    let (constant_is, behind) = and_parts (is_weight said.constant) (list_all (is_line k) ((atom_lines ++ state_lines) ++ end)) others in
     let (body, _) = and_parts (list_all (is_line k) (atom_lines ++ state_lines)) (list_all (is_line k) end) (sym (list_all-append (is_line k) (atom_lines ++ state_lines) end) ∙ behind) in
     let (atoms, states) = and_parts (list_all (is_line k) atom_lines) (list_all (is_line k) state_lines) (sym (list_all-append (is_line k) atom_lines state_lines) ∙ body) in
     let states_are : list_all (λ l. is_line k (listed l)) said.lines ≡ true = sym (list_all-map (is_line k) (λ l. listed l) said.lines) ∙ states in
     let many = eq-eqb (length (potentials_said said).weights) k (length-map said.atoms (λ (a : WeightedAtom). a.weight)) in
     let weights = weights_kept k said.atoms atoms in
-    let potentials : are_potentials k (potentials_said said) ≡ true = λ i. (constant i && many i) && weights i in
+    let potentials : are_potentials k (potentials_said said) ≡ true = λ i. (constant_is i && many i) && weights i in
     let all : (((is_claim said.claim && nat_le k most_atoms) && nat_le (length said.lines) most_states) && list_all (λ l. is_line k (listed l)) said.lines) && are_potentials k (potentials_said said) ≡ true =
     λ i. (((claim i && few i) && few_states i) && states_are i) && potentials i in
     (λ i. (((is_claim (sym claim_is i) && nat_le (sym count i) most_atoms) && nat_le (length (sym lines_are i)) most_states) && list_all (λ l. is_line (sym count i) (listed l)) (sym lines_are i))

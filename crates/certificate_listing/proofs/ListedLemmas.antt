@@ -1,6 +1,6 @@
 -- States that are taken, and states that stood before.
 use Rattle.std.proofs.Common.{◌≡◌, ℕ, Bool, true, false, List, [], ◌∷◌, ◌++◌, map, Option, None, Some, refl, sym, ap, ◌∙◌, subst}
-use Rattle.std.specs.Prelude.{IsSome, ◌&&◌, All, Contains}
+use Rattle.std.specs.Prelude.{IsSome, ◌&&◌, All, Contains, OnOk, Result, Ok, Err}
 use Rattle.std.specs.List.{list_all}
 use Rattle.std.proofs.lemmas.List.{map-append}
 use Rattle.std.proofs.lemmas.List.Elements.{All-push, filter_map-append}
@@ -20,6 +20,11 @@ use Rattle.certificate_listing.specs.Told.{HaveTold, state_in, states_told}
 use Rattle.certificate_listing.specs.Listed.{HaveListed, IsAdded}
 use Rattle.certificate_listing.proofs.SetsLemmas.{one_set}
 use Rattle.certificate_listing.proofs.ToldLemmas.{told_else}
+
+-- what two clauses of one call say together
+pub both_told : {T E A B C : Type 0} (r : Result T E) → (A → B → C) → OnOk r A → OnOk r B → OnOk r C
+both_told (Ok x) joined a b = joined a b
+both_told (Err e) joined a b = tt
 
 -- what was put into the store, or found there
 pub added_there : {X : Type 0} (old new : List X) (x y : X) (place : ℕ) (is_new : Bool) → x ≡ y → IsPlaced old new x place is_new → IsAdded old new y is_new

@@ -136,8 +136,8 @@ pub potential_parts : (count : ℕ) (p : PotentialFunction) → are_potentials c
     → (is_weight p.constant ≡ true) × (length p.weights ≡ count) × (list_all is_weight p.weights ≡ true)
 potential_parts count p are =
     let (first, weights) = and_parts (is_weight p.constant && (length p.weights == count)) (list_all is_weight p.weights) are in
-    let (constant, many) = and_parts (is_weight p.constant) (length p.weights == count) first in
-    (constant, eqb-true (length p.weights) count many, weights)
+    let (constant_is, many) = and_parts (is_weight p.constant) (length p.weights == count) first in
+    (constant_is, eqb-true (length p.weights) count many, weights)
 
 module _ (listing : Listing) where
   abbrev marks : List Marked

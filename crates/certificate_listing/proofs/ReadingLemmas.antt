@@ -163,6 +163,7 @@ module _ {R : Type 0} (remaining : R → Option (List ℕ)) (first now : CertRea
 
   pub wrong_told : (r : Refusal) → IsWrongNow task before line r → IsLineRefusal remaining task first now r
   wrong_told (refusal.Line code number) (number_is, wrong) = subst (IsToldAt remaining task first now code) (sym number_is) (wrong_here code wrong)
+  wrong_told (refusal.Unfair i) wrong = absurd wrong
   wrong_told (refusal.Plain code) wrong = absurd wrong
   wrong_told refusal.NoMemory wrong = tt
   wrong_told refusal.Device wrong = absurd wrong
@@ -171,6 +172,7 @@ module _ {R : Type 0} (remaining : R → Option (List ℕ)) (first now : CertRea
 -- a wrong line counts no failure of the device
 counts_none : (T : Type 0) (task : Task) (before : List TextLine) (line : TextLine) (failed now : ℕ) (x : Refusal) → IsWrongNow task before line x → now ≡ failed → CountsRefusal {T = T} failed now (Err x)
 counts_none T task before line failed now (refusal.Line code number) wrong same = same
+counts_none T task before line failed now (refusal.Unfair i) wrong same = absurd wrong
 counts_none T task before line failed now (refusal.Plain code) wrong same = absurd wrong
 counts_none T task before line failed now refusal.NoMemory wrong same = same
 counts_none T task before line failed now refusal.Device wrong same = absurd wrong

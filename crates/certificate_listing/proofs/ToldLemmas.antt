@@ -183,13 +183,19 @@ module _ (task : Task) (before : List TextLine) (claim : Claim) (atoms : List At
       none_more (listed l) is = refl
       none_more (last count) is = refl
 
+  named_still : (line : TextLine) → atom_in line ≡ None → AllName task (names_told (before ++ line ∷ [])) atoms
+  named_still line none_in = subst (λ (told : List WeightedAtom). AllName task (map (λ a. a.atom) told) atoms) (sym (no_atom_more line none_in)) told.named
+
+  weighed_still : (line : TextLine) → atom_in line ≡ None → potentials.weights ≡ weights_told (before ++ line ∷ [])
+  weighed_still line none_in = told.weighed ∙ ap (map (λ (a : WeightedAtom). a.weight)) (sym (no_atom_more line none_in))
+
   pub told_claim : (c : Claim) → BeginCertificate (before ++ claims c ∷ []) → HaveTold task (before ++ claims c ∷ []) c atoms potentials
   told_claim c begun = record {
     one_claim = λ d there. ⊎_elim (λ earlier. absurd (only_claim before c d begun earlier)) (λ same. claim_same d same) (Contains-push_cases before (claims c) (claims d) there);
     none_stands = λ none_is. subst (λ d. Contains (before ++ claims c ∷ []) (claims d)) none_is (Contains-push before (claims c));
     one_constant = λ k there. ⊎_elim (λ earlier. told.one_constant k earlier) (λ same. absurd (cc same)) (Contains-push_cases before (claims c) (constant k) there);
-    named = subst (λ (told : List WeightedAtom). AllName task (map (λ a. a.atom) told) atoms) (sym (no_atom_more (claims c) refl)) told.named;
-    weighed = told.weighed ∙ ap (map (λ (a : WeightedAtom). a.weight)) (sym (no_atom_more (claims c) refl));
+    named = named_still (claims c) refl;
+    weighed = weighed_still (claims c) refl;
     fluent = told.fluent;
     distinct = told.distinct;
     right = right_more task before (claims c) told.right (λ number wrong. plain_is_right task before (claims c) number wrong refl);
@@ -203,8 +209,8 @@ module _ (task : Task) (before : List TextLine) (claim : Claim) (atoms : List At
     one_claim = λ d there. ⊎_elim (λ earlier. told.one_claim d earlier) (λ same. absurd (cc same)) (Contains-push_cases before (constant k) (claims d) there);
     none_stands = λ none_is. Contains-append_left before (constant k ∷ []) (claims none) (told.none_stands none_is);
     one_constant = λ d there. ⊎_elim (λ earlier. absurd (only_constant before k d begun earlier)) (λ same. constant_same d same) (Contains-push_cases before (constant k) (constant d) there);
-    named = subst (λ (told : List WeightedAtom). AllName task (map (λ a. a.atom) told) atoms) (sym (no_atom_more (constant k) refl)) told.named;
-    weighed = told.weighed ∙ ap (map (λ (a : WeightedAtom). a.weight)) (sym (no_atom_more (constant k) refl));
+    named = named_still (constant k) refl;
+    weighed = weighed_still (constant k) refl;
     fluent = told.fluent;
     distinct = told.distinct;
     right = right_more task before (constant k) told.right (λ number wrong. plain_is_right task before (constant k) number wrong refl);
@@ -220,8 +226,8 @@ module _ (task : Task) (before : List TextLine) (claim : Claim) (atoms : List At
     one_claim = λ d there. ⊎_elim (λ earlier. told.one_claim d earlier) (λ same. absurd (no_claim d same)) (Contains-push_cases before line (claims d) there);
     none_stands = λ none_is. Contains-append_left before (line ∷ []) (claims none) (told.none_stands none_is);
     one_constant = λ k there. ⊎_elim (λ earlier. told.one_constant k earlier) (λ same. absurd (no_constant k same)) (Contains-push_cases before line (constant k) there);
-    named = subst (λ (told : List WeightedAtom). AllName task (map (λ a. a.atom) told) atoms) (sym (no_atom_more line no_atom)) told.named;
-    weighed = told.weighed ∙ ap (map (λ (a : WeightedAtom). a.weight)) (sym (no_atom_more line no_atom));
+    named = named_still line no_atom;
+    weighed = weighed_still line no_atom;
     fluent = told.fluent;
     distinct = told.distinct;
     right = right_more task before line told.right is_right;

@@ -55,6 +55,7 @@ IsToldAt remaining task first now code line =
 -- the refusal is that of a line; or memory was refused, or the device failed
 abbrev pub IsLineRefusal : {R : Type 0} → (remaining : R → Option (List ℕ)) → Task → (first now : CertReader R) → Refusal → Type 0
 IsLineRefusal remaining task first now (refusal.Line code line) = IsToldAt remaining task first now code line
+IsLineRefusal remaining task first now (refusal.Unfair i) = ⊥
 IsLineRefusal remaining task first now (refusal.Plain code) = ⊥
 IsLineRefusal remaining task first now refusal.NoMemory = Unit {0}
 IsLineRefusal remaining task first now refusal.Device = Unit {0}
@@ -72,6 +73,7 @@ IsBegun remaining task first now beginning None =
 abbrev pub CountsRefusal : {T : Type 0} → (before after : ℕ) → Result T Refusal → Type 0
 CountsRefusal before after (Ok read) = after ≡ before
 CountsRefusal before after (Err (refusal.Line code line)) = after ≡ before
+CountsRefusal before after (Err (refusal.Unfair i)) = after ≡ before
 CountsRefusal before after (Err (refusal.Plain code)) = after ≡ before
 CountsRefusal before after (Err refusal.NoMemory) = after ≡ before
 CountsRefusal before after (Err refusal.Device) = after ≡ one_more before

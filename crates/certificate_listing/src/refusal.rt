@@ -4,6 +4,7 @@ ghost use Rattle.certificate_listing.specs.RefusalCode.{code_of};
 
 use certificate_reader::{CertFault, TextFault};
 use faults::NoMemory;
+use formulas::Instance;
 use std::alloc::{AllocError, AllocFailed};
 use std::fmt;
 
@@ -89,7 +90,7 @@ impl fmt::Display for RefusalCode {
 }
 
 /// Why a certificate, or the plan that was handed in with it, is refused.
-#[derive(Clone, Copy, Debug, PartialEq, Eq)]
+#[derive(Drop)]
 pub enum Refusal {
     /// This is wrong with a line of the certificate.
     Line {
@@ -98,6 +99,8 @@ pub enum Refusal {
         /// The line of the text, counted from 1.
         line: u64,
     },
+    /// This instance, the first such one, may lose more than it costs.
+    Unfair(Instance),
     /// This is wrong, and not with one line.
     Plain(RefusalCode),
     /// Memory that was asked for was refused.

@@ -5,8 +5,6 @@ use Rattle.pddl_tree.specs.declared.refusal.Place.TheVariants as place
 use Rattle.syntax_tree.specs.Tree.{file_of}
 use Rattle.pddl_tree.specs.declared.refusal.Listed.{Listed}
 use Rattle.pddl_tree.specs.declared.refusal.Listed.TheVariants as listed
-use Rattle.pddl_tree.specs.declared.refusal.Literals.{Literals}
-use Rattle.pddl_tree.specs.declared.refusal.Literals.TheVariants as literals
 use Rattle.pddl_words.specs.Token.{part_view}
 use Rattle.model.specs.GrammarWords.{requirements}
 use Rattle.model.specs.Grammar.{Sort, close, key, define_word, parts, value, section, type, conditional, total_cost, minimize_word, amount}
@@ -29,8 +27,3 @@ wanted place.TotalCost = total_cost
 wanted place.Metric = minimize_word
 wanted place.Amount = amount
 wanted place.Elsewhere = close
-
--- where the predicate of an atom is wanted
-abbrev pub place_of : Literals → Sort
-place_of literals.Plain = close
-place_of literals.UnderWhen = conditional

@@ -1,16 +1,14 @@
 //! What is told of a word that may not stand where it does: the table of refusals, by what is wanted at the place.
-ghost use Rattle.std.specs.Prelude.{◌≡◌, Some, map};
-ghost use Rattle.faults.specs.declared.refused.Refused.TheVariants.{At};
+ghost use Rattle.std.specs.Prelude.{◌≡◌, map};
 ghost use Rattle.faults.specs.Fault.{number_of};
 ghost use Rattle.pddl_words.specs.Token.{from, first, seen, free_view, reserved_view, keyword_view, part_view, section_view};
-ghost use Rattle.pddl_words.specs.Refusal.{told};
 ghost use Rattle.model.specs.Trees.{Name};
 ghost use Rattle.model.specs.Grammar as grammar;
 ghost use Rattle.model.specs.GrammarWords as model_words;
 ghost use Rattle.model.specs.Refusals.{number_at, number_of_keyword, number_in_file, number_in_action, number_at_value};
 ghost use Rattle.pddl_tree.specs.Reading.{number_seen};
 ghost use Rattle.syntax_tree.specs.Tree.{file_of};
-ghost use Rattle.pddl_tree.specs.Place.{wanted, place_of};
+ghost use Rattle.pddl_tree.specs.Place.{wanted};
 
 use faults::Code;
 use pddl_words::{
@@ -75,18 +73,6 @@ pub(crate) enum Literals {
     UnderWhen,
 }
 
-impl Literals {
-    /// The place of an atom's predicate.
-    pub(crate) fn place(self) -> Place<'static>
-        ensures { wanted result ≡ place_of self }
-    {
-        match self {
-            Literals::Plain => Place::Elsewhere,
-            Literals::UnderWhen => Place::UnderWhen,
-        }
-    }
-}
-
 /// A place in a file, as far as it decides what is told of a word that may not stand there.
 #[derive(Clone, Copy)]
 pub(crate) enum Place<'s> {
@@ -130,7 +116,8 @@ pub(crate) fn has_section(sections: &[SectionKeyword], section: SectionKeyword) 
 
 /// The refusal of the word at an index.
 pub(crate) fn refusal(words: &[Word], at: usize, place: Place) -> WordRefusal
-    ensures { told (At result) ≡ Some (number_seen (wanted place.entry) (first (from words.now at)), at) }
+    ensures number { number_of result.code ≡ number_seen (wanted place.entry) (first (from words.now at)) }
+    ensures at { result.at ≡ at }
 {
     WordRefusal {
         code: code_of(token_at(words, at), place),

@@ -5,3 +5,5 @@ mod GroundLemmas
 mod FairLemmas
 mod ClimbLemmas
 mod TouchingLemmas
+mod WordLemmas
+mod EstimateLemmas

@@ -4,3 +4,4 @@ pub mod Fairness
 pub mod FairPotentials
 pub mod Climb
 pub mod Touching
+pub mod Words

@@ -2,6 +2,9 @@
 ghost use Rattle.std.specs.Prelude.{◌≡◌, length};
 ghost use Rattle.std.proofs.Props.{props};
 ghost use Rattle.grounding.specs.Ground.{task_in, atoms_in};
+ghost use Rattle.model.specs.Grounding.{ground_system};
+ghost use Rattle.search.specs.Estimates.{IsConsistent, value_by};
+ghost use Rattle.potential_functions.specs.PotentialFunctions as potential;
 ghost use Rattle.potential_functions.specs.Fair.{AreFair};
 ghost use Rattle.potentials.specs.Potentials.{potentials_of};
 
@@ -20,14 +23,13 @@ pub struct Fair<'g, 't> {
     ground: &'g Ground<'t>,
     ghost width: { length (potentials_of potentials).weights ≡ length (atoms_in ground.now) } by { Prim.hlevel props },
     ghost fair: { AreFair (task_in ground.now) (atoms_in ground.now) (potentials_of potentials) } by { Prim.hlevel props },
+    ghost consistent: { IsConsistent (ground_system (task_in ground.now) (atoms_in ground.now)) (value_by (potential.score (potentials_of potentials))) } by { Prim.hlevel props },
 }
 
 impl<'g, 't> Fair<'g, 't> {
     ghost use Rattle.std.specs.Prelude.{◌≤◌, ℕ, Bool, List, Some, IfOk, MatchOption, IsTrue};
     ghost use Rattle.packed_state.specs.Packed.{bits_of};
     ghost use Rattle.model.specs.Runs.{run, cost_of_all};
-    ghost use Rattle.model.specs.Grounding.{ground_system};
-    ghost use Rattle.potential_functions.specs.PotentialFunctions as potential;
     ghost use Rattle.potential_functions.specs.Laws.{AreLowerBounds};
     ghost use Rattle.potentials.specs.FairPotentials.{potentials_in, ground_in, AreOf};
 

@@ -3,6 +3,7 @@
 #![tactic(auto)]
 
 mod climb;
+mod estimate;
 mod fair_potentials;
 mod fairness;
 mod goals;
@@ -12,6 +13,7 @@ mod potentials;
 mod range;
 mod swing;
 mod touching;
+mod words;
 
 pub use fair_potentials::Fair;
 pub use fairness::Fairness;

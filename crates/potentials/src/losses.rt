@@ -16,7 +16,16 @@ pub(crate) fn weight_of(weights: &[i64], atom: u32) -> i64
     ensures value { result ≡ weight weights.now atom }
     ensures range { IsInRange result }
 {
-    match weights.get(atom as usize) {
+    weight_at(weights, atom as usize)
+}
+
+/// The weight at this place, and 0 past the last.
+pub(crate) fn weight_at(weights: &[i64], place: usize) -> i64
+    requires { All IsInRange weights.now }
+    ensures value { result ≡ weight weights.now place }
+    ensures range { IsInRange result }
+{
+    match weights.get(place) {
         Some(weight) => *weight,
         None => 0,
     }

@@ -4,7 +4,8 @@ ghost use Rattle.std.proofs.Props.{props};
 ghost use Rattle.potential_functions.specs.PotentialFunctions as potential;
 ghost use Rattle.potential_functions.specs.PotentialFunctions.{IsInRange};
 
-use crate::range::{are_in_range, gained, given, is_in_range};
+use crate::range::{are_in_range, is_in_range};
+use crate::words::gained_in_word;
 use faults::NoMemory;
 use grounding::Ground;
 use packed_state::Packed;
@@ -81,9 +82,12 @@ impl Potentials {
         requires { length (bits_of state.now) ≡ length (potentials_of self.now).weights }
         ensures { result ≡ potential.score (potentials_of self.now) (bits_of state.now) }
     {
+        prove!(self.weights.len() == state.width() as usize); // so that each sum fits
+        let words = state.words();
         let mut total = self.constant;
-        for number in 0..state.width() {
-            total += given(state.has(number), self.weight(number));
+        'words: for place in 0..words.len() {
+            let word = words[place];
+            total += gained_in_word(&self.weights, place * 64, word, word);
         }
         total
     }
@@ -96,11 +100,12 @@ impl Potentials {
         requires score { score ≡ potential.score (potentials_of self.now) (bits_of before.now) }
         ensures { result ≡ potential.score (potentials_of self.now) (bits_of after.now) }
     {
+        prove!(self.weights.len() == before.width() as usize); // so that each sum fits
+        let was = before.words();
+        let is = after.words();
         let mut total = score;
-        for number in 0..before.width() {
-            let was_true = before.has(number);
-            let is_true = after.has(number);
-            total += gained(was_true, is_true, self.weight(number));
+        'words: for place in 0..was.len() {
+            total += gained_in_word(&self.weights, place * 64, was[place] ^ is[place], is[place]);
         }
         total
     }

@@ -1,5 +1,5 @@
 //! The range of constants and weights.
-ghost use Rattle.std.specs.Prelude.{◌≡◌, ◌↔◌, All, IsTrue, if◌then◌else◌, pos, ◌+ℤ◌, neg_ℤ};
+ghost use Rattle.std.specs.Prelude.{◌≡◌, ◌↔◌, All, IsTrue, if◌then◌else◌, pos};
 ghost use Rattle.potential_functions.specs.PotentialFunctions.{IsInRange};
 
 /// The greatest constant and the greatest weight; the least ones are as far below 0.
@@ -26,17 +26,4 @@ pub(crate) fn given(is_true: bool, weight: i64) -> i64
     ensures range { IsInRange result }
 {
     if is_true { weight } else { 0 }
-}
-
-/// What an atom of this weight gives after, less what it gave before.
-pub(crate) fn gained(before: bool, after: bool, weight: i64) -> i64
-    requires { IsInRange weight }
-    ensures value { result ≡ ((if after then weight else pos 0) +ℤ neg_ℤ (if before then weight else pos 0)) }
-    ensures range { IsInRange result }
-{
-    match (before, after) {
-        (false, true) => weight,
-        (true, false) => -weight,
-        _ => 0,
-    }
 }

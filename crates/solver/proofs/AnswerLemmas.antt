@@ -1,31 +1,37 @@
 -- What the answer to the ground task says of its task, and what a list of instances that solves says of them.
-use Rattle.std.proofs.Common.{◌≡◌, ℕ, suc, ◌<◌, ◌≤◌, ◌*◌, Bool, true, false, List, [], ◌∷◌, length, map, ◌∙◌, None, Some, inl, inr, refl, sym, ap, subst, arith}
+use Rattle.std.proofs.Common.{◌≡◌, ℕ, ◌+◌, ◌<◌, ◌≤◌, ◌*◌, Bool, true, false, List, [], ◌∷◌, length, map, ◌∙◌, None, Some, refl, sym, ap, subst, arith}
 use Rattle.std.specs.Prelude.{nat_le, slice_get, Contains, All, IsTrue}
 use Rattle.std.specs.Option.{option_and_then}
 use Rattle.std.specs.List.{list_all, AllZip}
 use Rattle.std.proofs.lemmas.Bool.{and_parts, and_from, lt-ltb, leb-true}
 use Rattle.std.proofs.lemmas.Bool.Decides.{nat_tests}
 use Rattle.std.proofs.lemmas.List.{length-map}
+use Rattle.std.proofs.lemmas.Option.{slice_get_within}
 use Rattle.std.proofs.lemmas.Slice.Zip.{AllZip-long}
 use Rattle.formulas.specs.declared.instance.Instance as code
 use Rattle.formulas.specs.State.{instance_of}
 use Rattle.search.specs.declared.nodes.Node.{Node}
 use Rattle.search.specs.Outcome as search
-use Rattle.search.specs.Outcome.{line_of, lines_of, AreFound}
+use Rattle.search.specs.declared.best.Outcome.{Outcome}
+use Rattle.search.specs.Estimates.{value_by}
+use Rattle.search.specs.Outcome.{lines_of, AreFound, IsTrueOutcome}
 use Rattle.solver.specs.Reachable.{AreMoreReachable}
 use Rattle.solver.specs.Limit.{is_limit}
 use Rattle.solver.proofs.ByCost.{more_by_cost}
-use Rattle.solver.proofs.GroundLemmas.{more_reachable, numbers_named, one_named}
+use Rattle.solver.proofs.GroundLemmas.{length-reachable, more_reachable, numbers_named, one_named}
+use Rattle.solver.proofs.PotentialLemmas.{estimate-value, most_value, value-most, lower_bound}
+use Rattle.solver.proofs.ListingLemmas.{found_line, node_at}
 use Rattle.model.specs.Task.{Task, Atom, Instance}
 use Rattle.model.specs.Runs.{System, run, cost_of_all, Solves, IsOptimal, IsUnsolvable}
-use Rattle.model.specs.Claims.{bound, none, Line, IsClosed}
+use Rattle.model.specs.Claims.{Claim, bound, none, Line, IsLowerBound, IsClosed}
 use Rattle.model.specs.Meaning.{State, step, is_instance, system_of}
 use Rattle.certificate_text.specs.Certificates.{is_claim}
+use Rattle.potential_functions.specs.PotentialFunctions.{PotentialFunction, score, value, AreInRange}
+use Rattle.potential_functions.specs.Laws.{AreLowerBounds}
 use Rattle.model.specs.Fluents.{is_fluent}
 use Rattle.model.specs.ClosedOff.{kept_instances}
 use Rattle.model.specs.NumberedAtoms.{numbered_atoms}
 use Rattle.model.specs.Grounding.{ground_system, StandsFor, NamesKept}
-use Rattle.model.proofs.ListLemmas.{Contains-cases, Contains-none}
 use Rattle.model.proofs.ClaimsLemmas.{claim-of_closed}
 use Rattle.model.proofs.InstancesLemmas.{is_instance-of_step}
 use Rattle.model.proofs.BisimulationLemmas.{same_cost}
@@ -47,6 +53,26 @@ all_instances_of_plan task plan solves = all_instances_run task plan (system_of 
 pub most_of_limit : (limit : ℕ) → is_limit limit ≡ true → limit ≤ 16777216
 most_of_limit limit within = leb-true limit 16777216 (and_parts (nat_le 1 limit) (nat_le limit 16777216) within).1
 
+-- ---- an outcome
+
+-- what is found by the estimate is found by the values
+pub outcome_by : {Store : Type 0} (t : System (List Bool) ℕ) (p : PotentialFunction) (states_of : Store → List (List Bool)) (max_states : ℕ) (outcome told : Outcome Store) → outcome ≡ told
+    → IsTrueOutcome t (value_by (score p)) states_of max_states outcome → IsTrueOutcome t (value p) states_of max_states told
+outcome_by t p states_of max_states outcome told is true_outcome =
+    subst (IsTrueOutcome t (value p) states_of max_states) is (subst (λ (v : List Bool → ℕ). IsTrueOutcome t v states_of max_states outcome) (estimate-value p) true_outcome)
+
+pub found_among_more : {S A : Type 0} {t : System S A} {value : S → ℕ} {claim : Claim} {count most : ℕ} {states : List S} {nodes : List Node} → AreFound t value claim count states nodes → count ≤ most
+    → AreFound t value claim most states nodes
+found_among_more found le = record {
+  one_for_each = found.one_for_each;
+  within_limit = omega (arith, found.within_limit, le);
+  distinct = found.distinct;
+  reachable = found.reachable;
+  cheap = found.cheap;
+  expanded_cheapest = found.expanded_cheapest;
+  closed = found.closed;
+}
+
 -- ---- the bound of a closed listing
 
 beyond : (a b : ℕ) → nat_le a b ≡ false → b < a
@@ -55,49 +81,45 @@ beyond a b not_within = grind (arith, nat_tests)
 never : (least most cost : ℕ) → most < least → least ≤ cost → cost ≤ most → ⊥
 never least most cost more reached within = omega (arith, more, reached, within)
 
--- a line costs what a found state does
-found_cost : {S : Type 0} (states : List S) (nodes : List Node) (line : Line S) → Contains (lines_of (λ _. 0) states nodes) line → (k : ℕ) × (n : Node) × (slice_get nodes k ≡ Some n) × (line.cost ≡ n.cost)
-found_cost [] nodes line at = absurd (Contains-none line at)
-found_cost (s ∷ states) [] line at = absurd (Contains-none line at)
-found_cost {S} (s ∷ states) (n ∷ nodes) line at =
-    elim (Contains-cases (line_of (λ _. 0) s n) (lines_of (λ _. 0) states nodes) line at) [
-      | inl is ↦ (0, n, refl, ap (λ (l : Line S). l.cost) (sym is))
-      | inr later ↦ let (k, n', there, is) = found_cost states nodes line later in (suc k, n', there, is)
-    ]
-
--- Where some list solves, the claim of a listing is at most what its dearest line costs: else it would show that none does.
-module _ {S A : Type 0} (t : System S A) (cost : ℕ) (states : List S) (nodes : List Node) (max_states : ℕ) (found : AreFound t (λ _. 0) (bound cost) max_states states nodes) where
+-- Where some list solves, the claim of a listing is at most what its dearest line costs with the greatest value: else it
+-- would show that none does.
+module _ {S A : Type 0} (t : System S A) (value : S → ℕ) (cost : ℕ) (states : List S) (nodes : List Node) (max_states : ℕ) (found : AreFound t value (bound cost) max_states states nodes)
+    (low : (k : ℕ) (s : S) → slice_get states k ≡ Some s → value s ≤ most_value) where
   abbrev most : ℕ
   most = length states * 4294967295
 
-  within : (line : Line S) → Contains (lines_of (λ _. 0) states nodes) line → line.cost ≤ most
+  within : (line : Line S) → Contains (lines_of value states nodes) line → (line.cost ≤ most) × (value line.state ≤ most_value)
   within line at =
-      let (k, node, there, is) = found_cost states nodes line at in
-      subst (λ n. n ≤ most) (sym is) (found.cheap k node there)
+      let (k, s, node, there, here, is) = found_line value states nodes line at in (
+        subst (λ n. n ≤ most) (ap (λ (l : Line S). l.cost) (sym is)) (found.cheap k node here),
+        subst (λ n. n ≤ most_value) (ap (λ (l : Line S). value l.state) (sym is)) (low k s there),
+      )
 
-  none_solves : most < cost → IsClosed t (λ _. 0) none (lines_of (λ _. 0) states nodes)
+  none_solves : most + most_value < cost → IsClosed t value none (lines_of value states nodes)
   none_solves more = record {
     initial_listed = found.closed.initial_listed;
     successors_listed = found.closed.successors_listed;
-    open_goals_allowed = λ line at is_open goal. never cost most line.cost more (found.closed.open_goals_allowed line at is_open goal) (within line at);
+    open_goals_allowed = λ line at is_open goal.
+        never cost (most + most_value) line.cost more (found.closed.open_goals_allowed line at is_open goal) (omega (arith, (within line at).0));
     cuts_allowed = λ line rest at cut.
         let allowed = found.closed.cuts_allowed line rest at cut in
-        (allowed.0, never cost most line.cost more (omega (arith, allowed.0, allowed.1)) (within line at));
+        (allowed.0, never cost (most + most_value) (line.cost + rest) more allowed.1 (omega (arith, allowed.0, (within line at).0, (within line at).1)));
   }
 
-  bound_within : (plan : List A) → Solves t plan → cost ≤ most
-  bound_within plan solves =
-      elim (nat_le cost most) as (λ v. nat_le cost most ≡ v → cost ≤ most) [
-        | true ↦ λ is. leb-true cost most is
-        | false ↦ λ is_not. absurd (claim-of_closed t (λ _. 0) none (lines_of (λ _. 0) states nodes) (λ s end rest runs goal. omega arith) (none_solves (beyond cost most is_not)) plan solves)
+  bound_within : IsLowerBound t value → (plan : List A) → Solves t plan → cost ≤ most + most_value
+  bound_within lower plan solves =
+      elim (nat_le cost (most + most_value)) as (λ v. nat_le cost (most + most_value) ≡ v → cost ≤ most + most_value) [
+        | true ↦ λ is. leb-true cost (most + most_value) is
+        | false ↦ λ is_not. absurd (claim-of_closed t value none (lines_of value states nodes) lower (none_solves (beyond cost (most + most_value) is_not)) plan solves)
       ] refl
 
 -- so what is found among so few states is cheap
-pub cheap_plan : {S A : Type 0} (t : System S A) (cost max_states : ℕ) (states : List S) (nodes : List Node) (plan : List A) → Solves t plan → AreFound t (λ _. 0) (bound cost) max_states states nodes
-    → max_states ≤ 16777216 → is_claim (bound cost) ≡ true
-cheap_plan t cost max_states states nodes plan solves found few =
+cheap_plan : {S A : Type 0} (t : System S A) (value : S → ℕ) (cost max_states : ℕ) (states : List S) (nodes : List Node) (plan : List A) → Solves t plan
+    → AreFound t value (bound cost) max_states states nodes → ((k : ℕ) (s : S) → slice_get states k ≡ Some s → value s ≤ most_value) → IsLowerBound t value → max_states ≤ 16777216
+    → is_claim (bound cost) ≡ true
+cheap_plan t value cost max_states states nodes plan solves found low lower few =
     let few_found : length states ≤ 16777216 = omega (arith, found.within_limit, few) in
-    let cheap = bound_within t cost states nodes max_states found plan solves in
+    let cheap = bound_within t value cost states nodes max_states found low lower plan solves in
     lt-ltb cost 1152921504606846976 (omega (arith, cheap, few_found))
 
 -- ---- what the ground task's answer says of its task
@@ -127,6 +149,20 @@ module _ (task : Task) (atoms : List Atom) (numbered : atoms ≡ numbered_atoms 
 
   pub task_unsolvable : IsUnsolvable (ground_system task atoms) → IsUnsolvable (system_of task)
   task_unsolvable unsolvable = (ground_task_solves_alike task [] none_more).unsolvable (subst (λ (l : List Atom). IsUnsolvable (ground_system task l)) numbered unsolvable)
+
+  -- a claim that is shown by potentials of so few atoms is a certificate's
+  pub claim_allowed : (p : PotentialFunction) (cost max_states : ℕ) (states : List (List Bool)) (nodes : List Node) (plan : List ℕ) → Solves (ground_system task atoms) plan
+      → AreFound (ground_system task atoms) (value p) (bound cost) max_states states nodes → AreInRange p → AreLowerBounds task atoms p → length atoms ≤ 1048576 → max_states ≤ 16777216
+      → is_claim (bound cost) ≡ true
+  claim_allowed p cost max_states states nodes plan solves found range bounds few_atoms few =
+      cheap_plan (ground_system task atoms) (value p) cost max_states states nodes plan solves found
+      (λ k bits at. value-most p bits range (omega (arith, few_atoms, width_at k bits at))) (lower_bound task atoms p bounds) few
+    where
+      width_at : (k : ℕ) (bits : List Bool) → slice_get states k ≡ Some bits → length bits ≡ length atoms
+      width_at k bits at =
+          let (node, there) = node_at nodes k (omega (arith, slice_get_within states k bits at, found.one_for_each)) in
+          let reached = found.reachable k bits node at there in
+          length-reachable task atoms bits (reached.0, reached.1)
 
   pub more_of_task : (value : List Bool → ℕ) (max_states : ℕ) → search.AreMoreReachable (ground_system task atoms) value max_states → AreMoreReachable (system_of task) max_states
   more_of_task value max_states more =

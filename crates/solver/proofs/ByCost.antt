@@ -1,5 +1,5 @@
 -- What a search by an estimate may have to find, one by cost alone may have to find too.
-use Rattle.std.proofs.Common.{◌≡◌, ℕ, ◌+◌, ◌≤◌, arith}
+use Rattle.std.proofs.Common.{ℕ, arith}
 use Rattle.model.specs.Runs.{System}
 use Rattle.search.specs.Outcome as search
 use Rattle.solver.specs.Reachable.{PrecedesPlans, is_initial, is_next, AreMoreReachable}

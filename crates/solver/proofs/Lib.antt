@@ -1,5 +1,6 @@
 pub mod TypedLemmas
 pub mod GroundLemmas
+pub mod PotentialLemmas
 pub mod ListingLemmas
 pub mod AnswerLemmas
 pub mod ByCost

@@ -1,29 +1,36 @@
 -- The lines of the found states make a closed certificate.
-use Rattle.std.proofs.Common.{◌≡◌, ◌∙◌, ◌≢◌, ℕ, zero, suc, ◌+◌, ◌<◌, ◌≤◌, Bool, true, false, not, ◌&&◌, List, [], ◌∷◌, ◌++◌, length, map, get_or, cond, None, Some, refl, sym, ap, subst, arith}
-use Rattle.std.specs.Prelude.{nat_le, nat_lt, slice_get, All, AllPairs, IsTrue, filter, if◌then◌else◌}
+use Rattle.std.proofs.Common.{◌≡◌, ◌∙◌, ◌≢◌, ℕ, zero, suc, ◌+◌, ◌<◌, ◌≤◌, Bool, true, false, not, ◌&&◌, List, [], ◌∷◌, ◌++◌, length, map, get_or, cond, None, Some, inl, inr, refl, sym, ap, subst, arith}
+use Rattle.std.specs.Prelude.{nat_le, nat_lt, slice_get, Contains, All, AllPairs, IsTrue, filter, if◌then◌else◌}
 use Rattle.std.specs.List.{list_all, filter_map, range_with_len, cons_option}
-use Rattle.std.specs.Option.{option_map_or}
+use Rattle.std.specs.Option.{option_map, option_map_or}
 use Rattle.std.specs.FinSet.{from_list}
 use Rattle.std.proofs.lemmas.Bool.{and_parts, and_from, not-true, true≢false, lt-ltb, le-leb}
 use Rattle.std.proofs.lemmas.List.{length-map}
 use Rattle.std.proofs.lemmas.Simd.{map-map}
-use Rattle.std.proofs.lemmas.Option.{slice_get-get_or, slice_get_within}
+use Rattle.std.proofs.lemmas.Option.{slice_get-get_or, slice_get_within, slice_get-map}
 use Rattle.packed_state.specs.Sets.{has}
 use Rattle.packed_state.specs.Store.{AreDistinct}
 use Rattle.search.specs.declared.nodes.Node.{Node}
 use Rattle.search.specs.Outcome as search
-use Rattle.search.specs.Outcome.{AreFound}
-use Rattle.solver.specs.Listing.{numbers_in, state_line, IsShownBy}
+use Rattle.search.specs.Outcome.{AreFound, AreExpandedWithin}
+use Rattle.solver.specs.Improved.{AreSettledOrHigh, HasSettledOrHigh}
+use Rattle.solver.specs.Listing.{numbers_in, state_line, found_certificate, IsShownBy, AreOpenWithin}
 use Rattle.solver.proofs.TypedLemmas.{numbered_typed}
 use Rattle.solver.proofs.GroundLemmas.{length-reachable, distinct_states}
+use Rattle.solver.proofs.PotentialLemmas.{most_value, value-most, potentials-pass, value-packed}
 use Rattle.model.specs.Task.{Task, Atom}
 use Rattle.model.specs.WellTyped.{is_task, is_atom}
+use Rattle.model.specs.Runs.{System}
 use Rattle.model.specs.Claims.{Claim, Line, IsClosed}
 use Rattle.model.specs.Meaning.{State, system_of}
 use Rattle.model.specs.Fluents.{is_fluent, static_atoms}
 use Rattle.model.specs.NumberedAtoms.{stands_in, are_distinct, numbered_atoms}
 use Rattle.model.specs.Grounding.{chosen, state_of_bits, ground_system, NamesKept}
-use Rattle.certificate_text.specs.Certificates.{Certificate, StateLine, is_number, is_claim, is_state_line, keeps_limits, rise, state_of_line, lines_of, value_of}
+use Rattle.certificate_text.specs.Certificates.{Certificate, StateLine, is_number, is_claim, is_state_line, are_potentials, keeps_limits, rise, state_of_line, lines_of, value_of}
+use Rattle.potential_functions.specs.PotentialFunctions.{PotentialFunction, value, AreInRange}
+use Rattle.potential_functions.specs.Fair.{AreFair}
+use Rattle.model.proofs.ListLemmas.{Contains-cases, Contains-none, map-Contains}
+use Rattle.model.proofs.LimitsLemmas.{numbered_again}
 use Rattle.model.proofs.NumberingLemmas.{stands_in-got}
 use Rattle.model.proofs.GroundTaskLemmas.{numbered-distinct, numbered-fluent, ground_task_is_bisimilar}
 use Rattle.model.proofs.BisimilarListings.{closed_forth}
@@ -95,36 +102,53 @@ numbers_rise bits = rise_filter (has bits) (length bits) 0 0 (length bits) (omeg
 
 -- ---- the lines
 
-line_at : {S : Type 0} (states : List S) (nodes : List Node) (k : ℕ) (d : Line S) → length nodes ≡ length states → k < length (search.lines_of (λ _. 0) states nodes)
-    → (s : S) × (slice_get states k ≡ Some s) × ((get_or (search.lines_of (λ _. 0) states nodes) k d).state ≡ s)
-line_at [] nodes k d one below = absurd (omega (arith, below))
-line_at (s ∷ states) [] k d one below = absurd (omega (arith, one))
-line_at (s ∷ states) (node ∷ nodes) zero d one below = (s, refl, refl)
-line_at (s ∷ states) (node ∷ nodes) (suc k) d one below = line_at states nodes k d (omega (arith, one)) (omega (arith, below))
+-- a line is that of a found state
+pub found_line : {S : Type 0} (value : S → ℕ) (states : List S) (nodes : List Node) (line : Line S) → Contains (search.lines_of value states nodes) line
+    → (k : ℕ) × (s : S) × (n : Node) × (slice_get states k ≡ Some s) × (slice_get nodes k ≡ Some n) × (line ≡ search.line_of value s n)
+found_line value [] nodes line at = absurd (Contains-none line at)
+found_line value (s ∷ states) [] line at = absurd (Contains-none line at)
+found_line value (s ∷ states) (n ∷ nodes) line at =
+    elim (Contains-cases (search.line_of value s n) (search.lines_of value states nodes) line at) [
+      | inl is ↦ (0, s, n, refl, refl, sym is)
+      | inr later ↦ let (k, s', n', there, here, is) = found_line value states nodes line later in (suc k, s', n', there, here, is)
+    ]
 
-states_apart : {S : Type 0} (states : List S) (nodes : List Node) → length nodes ≡ length states → AreDistinct states → AllPairs (λ (k l : Line S). k.state ≢ l.state) (search.lines_of (λ _. 0) states nodes)
-states_apart states nodes one distinct i j d before within is =
-    let (s, at_i, is_i) = line_at states nodes i d one (omega (arith, before, within)) in
-    let (t, at_j, is_j) = line_at states nodes j d one within in
-    let same : t ≡ s = sym is_j ∙ sym is ∙ is_i in
-    let place = distinct i j s at_i (at_j ∙ ap Some same) in
+-- an open line is that of an expanded state
+pub open_line : (value : ℕ) (node : Node) → (if node.is_expanded then None else Some value) ≡ None → node.is_expanded ≡ true
+open_line value node is_open = of_flag node.is_expanded is_open
+  where
+    of_flag : (b : Bool) → (if b then None else Some value) ≡ None → b ≡ true
+    of_flag true is = refl
+    of_flag false is = absurd (cc)
+
+-- lines of distinct states
+states_apart : {S : Type 0} (lines : List (Line S)) → AreDistinct (map (λ (l : Line S). l.state) lines) → AllPairs (λ (k l : Line S). k.state ≢ l.state) lines
+states_apart {S} lines distinct i j d before within is =
+    let place = distinct i j (get_or lines i d).state (state_at i (omega (arith, before, within))) (state_at j within ∙ ap Some (sym is)) in
     absurd (omega (arith, before, place))
+  where
+    state_at : (k : ℕ) → k < length lines → slice_get (map (λ (l : Line S). l.state) lines) k ≡ Some (get_or lines k d).state
+    state_at k below = slice_get-map (λ (l : Line S). l.state) lines k ∙ ap (option_map (λ (l : Line S). l.state)) (slice_get-get_or lines k d below)
 
-lines_mapped : {S T : Type 0} (f : S → T) (states : List S) (nodes : List Node)
-    → map (λ (l : Line S). record { state = f l.state; cost = l.cost; cut = l.cut }) (search.lines_of (λ _. 0) states nodes) ≡ search.lines_of (λ _. 0) (map f states) nodes
-lines_mapped f [] nodes = refl
-lines_mapped f (s ∷ states) [] = refl
-lines_mapped f (s ∷ states) (node ∷ nodes) = ap (λ l. search.line_of (λ _. 0) (f s) node ∷ l) (lines_mapped f states nodes)
-
-node_at : (nodes : List Node) (k : ℕ) → k < length nodes → (node : Node) × (slice_get nodes k ≡ Some node)
+pub node_at : (nodes : List Node) (k : ℕ) → k < length nodes → (node : Node) × (slice_get nodes k ≡ Some node)
 node_at [] k below = absurd (omega (arith, below))
 node_at (node ∷ nodes) zero below = (node, refl)
 node_at (n ∷ nodes) (suc k) below = node_at nodes k (omega (arith, below))
 
-pub length-lines : {S : Type 0} (states : List S) (nodes : List Node) → length nodes ≡ length states → length (search.lines_of (λ _. 0) states nodes) ≡ length states
-length-lines [] nodes one = refl
-length-lines (s ∷ states) [] one = absurd (omega (arith, one))
-length-lines (s ∷ states) (node ∷ nodes) one = ap suc (length-lines states nodes (omega (arith, one)))
+pub length-lines : {S : Type 0} (value : S → ℕ) (states : List S) (nodes : List Node) → length nodes ≡ length states → length (search.lines_of value states nodes) ≡ length states
+length-lines value [] nodes one = refl
+length-lines value (s ∷ states) [] one = absurd (omega (arith, one))
+length-lines value (s ∷ states) (node ∷ nodes) one = ap suc (length-lines value states nodes (omega (arith, one)))
+
+-- a listing closed by some values is closed by others that are no lower at its cuts
+closed_higher : {S A : Type 0} (t : System S A) (value value' : S → ℕ) (claim : Claim) (lines : List (Line S)) → ((line : Line S) → Contains lines line → value line.state ≤ value' line.state)
+    → IsClosed t value claim lines → IsClosed t value' claim lines
+closed_higher t value value' claim lines higher closed = record {
+  initial_listed = closed.initial_listed;
+  successors_listed = closed.successors_listed;
+  open_goals_allowed = closed.open_goals_allowed;
+  cuts_allowed = λ line rest among cut. let allowed = closed.cuts_allowed line rest among cut in (omega (arith, allowed.0, higher line among), allowed.1);
+}
 
 pairs_apart : (atoms : List Atom) → are_distinct atoms ≡ true → AllPairs (λ (a b : Atom). a ≢ b) atoms
 pairs_apart [] distinct i j d before within = absurd (omega (arith, within))
@@ -140,7 +164,7 @@ pairs_apart (a ∷ atoms) distinct (suc i) (suc j) d before within =
 
 -- ---- the certificate
 
-module _ (task : Task) (claim : Claim) (most : ℕ) (states : List (List Bool)) (nodes : List Node) where
+module _ (task : Task) (claim : Claim) (most : ℕ) (p : PotentialFunction) (states : List (List Bool)) (nodes : List Node) where
   abbrev atoms : List Atom
   atoms = numbered_atoms task []
 
@@ -150,87 +174,139 @@ module _ (task : Task) (claim : Claim) (most : ℕ) (states : List (List Bool)) 
   abbrev view : Line (List Bool) → Line State
   view line = record { state = state_of_bits task atoms line.state; cost = line.cost; cut = line.cut }
 
+  abbrev lines : List (Line (List Bool))
+  lines = search.lines_of (value p) states nodes
+
   abbrev made : Certificate
-  made = record { claim = claim; atoms = atoms; lines = map state_line (search.lines_of (λ _. 0) states nodes) }
+  made = found_certificate claim atoms p states nodes
 
   abbrev entry : StateLine → Line State
   entry l = record { state = state_of_line task made l; cost = l.cost; cut = l.cut }
 
-  listing : lines_of task made ≡ map view (search.lines_of (λ _. 0) states nodes)
-  listing = map-map entry state_line (search.lines_of (λ _. 0) states nodes) ∙ each (search.lines_of (λ _. 0) states nodes)
+  listing : lines_of task made ≡ map view lines
+  listing = map-map entry state_line lines ∙ each lines
     where
-      each : (lines : List (Line (List Bool))) → map (λ l. entry (state_line l)) lines ≡ map view lines
+      each : (ls : List (Line (List Bool))) → map (λ l. entry (state_line l)) ls ≡ map view ls
       each [] = refl
-      each (l ∷ lines) = λ i. record { state = from_list (named_chosen atoms l.state i ++ static_atoms task); cost = l.cost; cut = l.cut } ∷ each lines i
+      each (l ∷ ls) = λ i. record { state = from_list (named_chosen atoms l.state i ++ static_atoms task); cost = l.cost; cut = l.cut } ∷ each ls i
 
-  module _ (found : AreFound (ground_system task atoms) (λ _. 0) claim most states nodes) where
+  -- the states of the listing, in their order
+  listed_states : (ss : List (List Bool)) (ns : List Node) → length ns ≡ length ss
+      → map (λ (l : Line State). l.state) (map view (search.lines_of (value p) ss ns)) ≡ map (state_of_bits task atoms) ss
+  listed_states [] ns one = refl
+  listed_states (s ∷ ss) [] one = absurd (omega (arith, one))
+  listed_states (s ∷ ss) (n ∷ ns) one = ap (λ later. state_of_bits task atoms s ∷ later) (listed_states ss ns (omega (arith, one)))
+
+  module _ (found : AreFound (ground_system task atoms) (value p) claim most states nodes) where
     pub found_width : (k : ℕ) (bits : List Bool) → slice_get states k ≡ Some bits → length bits ≡ length atoms
     found_width k bits at =
         let (node, there) = node_at nodes k (omega (arith, slice_get_within states k bits at, found.one_for_each)) in
         let reached = found.reachable k bits node at there in
         length-reachable task atoms bits (reached.0, reached.1)
 
-    pub shown_by : is_task task ≡ true → IsShownBy task claim (length states) made
-    shown_by well = record {
+    -- the certificate gives a listed state the value by which it was found
+    same_value : (line : Line (List Bool)) → Contains lines line → value_of made (state_of_bits task atoms line.state) ≡ value p line.state
+    same_value line among =
+        let (k, s, n, there, here, is) = found_line (value p) states nodes line among in
+        let long : length line.state ≡ length atoms = ap (λ (l : Line (List Bool)). length l.state) is ∙ found_width k s there in
+        value-packed task p line.state long
+
+    pub shown_by : is_task task ≡ true → AreFair task atoms p → IsShownBy task claim (length states) made
+    shown_by well fair = record {
       claims = refl;
       closed = record {
+        potentials_are_fair = subst (λ (l : List Atom). AreFair task l p) (sym (numbered_again task)) fair;
         atoms_are_fluent = λ k d below.
             let a = get_or atoms k d in
             let there = stands_in-got atoms k a (slice_get-get_or atoms k d below) in
             and_from (is_atom task a) (is_fluent task a.predicate) (numbered_typed task a well there) (numbered-fluent task [] none_more a there);
         atoms_are_distinct = pairs_apart atoms (numbered-distinct task []);
-        states_are_distinct = subst (AllPairs (λ (k l : Line State). k.state ≢ l.state)) (sym (listing ∙ lines_mapped (state_of_bits task atoms) states nodes))
-            (states_apart (map (state_of_bits task atoms) states) nodes (omega (arith, found.one_for_each, length-map states (state_of_bits task atoms))) (distinct_states task states found_width found.distinct));
+        states_are_distinct = subst (AllPairs (λ (k l : Line State). k.state ≢ l.state)) (sym listing)
+            (states_apart (map view lines) (subst (λ (ss : List State). AreDistinct ss) (sym (listed_states states nodes found.one_for_each)) (distinct_states task states found_width found.distinct)));
         listing_is_closed = subst (IsClosed (system_of task) (value_of made) claim) (sym listing)
             (closed_forth (ground_system task atoms) (system_of task) (state_of_bits task atoms) (NamesKept task) (ground_task_is_bisimilar task [] none_more)
-            (λ _. 0) (λ _. 0) (λ s. omega arith) claim (search.lines_of (λ _. 0) states nodes) found.closed);
+            (λ bits. value_of made (state_of_bits task atoms bits)) (value_of made) (λ s. omega arith) claim lines
+            (closed_higher (ground_system task atoms) (value p) (λ bits. value_of made (state_of_bits task atoms bits)) claim lines (λ line among. omega (arith, same_value line among)) found.closed));
       };
-      within_limit = omega (arith, length-map (search.lines_of (λ _. 0) states nodes) state_line, length-lines states nodes found.one_for_each);
+      within_limit = omega (arith, length-map lines state_line, length-lines (value p) states nodes found.one_for_each);
       atoms = refl;
     }
 
-    pub keeps : is_claim claim ≡ true → length atoms ≤ 1048576 → most ≤ 16777216 → keeps_limits made ≡ true
-    keeps small few_atoms few =
-        and_from (is_claim claim && nat_le (length atoms) 1048576 && nat_le (length made.lines) 16777216) (list_all (is_state_line (length atoms)) made.lines)
-        (and_from (is_claim claim && nat_le (length atoms) 1048576) (nat_le (length made.lines) 16777216)
-        (and_from (is_claim claim) (nat_le (length atoms) 1048576) small (le-leb (length atoms) 1048576 few_atoms))
-        (le-leb (length made.lines) 16777216 (omega (arith, length-map (search.lines_of (λ _. 0) states nodes) state_line, length-lines states nodes found.one_for_each, found.within_limit, few))))
-        (all_pass states nodes found_width (λ k node at. omega (arith, found.cheap k node at, found.within_limit, few)))
-      where
-        small_cut : (b : Bool) → option_map_or is_number (if b then None else Some 0) true ≡ true
-        small_cut true = refl
-        small_cut false = refl
+    pub open_within : (cost : ℕ) → AreExpandedWithin (value p) cost states nodes → AreOpenWithin task cost made
+    open_within cost within line' among' is_open =
+        let (line, among, is) = map-Contains view lines line' (subst (λ (ls : List (Line State)). Contains ls line') listing among') in
+        let (k, s, n, there, here, from) = found_line (value p) states nodes line among in
+        let cut : (if n.is_expanded then None else Some (value p s)) ≡ None = ap (λ (l : Line (List Bool)). l.cut) (sym from) ∙ ap (λ (l : Line State). l.cut) is ∙ is_open in
+        let cheap = within k s n there here (open_line (value p s) n cut) in
+        let same = same_value line among in
+        let value_same : value_of made line'.state ≡ value_of made (state_of_bits task atoms line.state) = ap (λ (l : Line State). value_of made l.state) (sym is) in
+        let cost_same : line'.cost ≡ line.cost = ap (λ (l : Line State). l.cost) (sym is) in
+        let cost_found : line.cost ≡ n.cost = ap (λ (l : Line (List Bool)). l.cost) from in
+        let value_found : value p line.state ≡ value p s = ap (λ (l : Line (List Bool)). value p l.state) from in
+        omega (arith, cheap, same, value_same, cost_same, cost_found, value_found)
 
-        all_pass : (ss : List (List Bool)) (ns : List Node) → ((k : ℕ) (bits : List Bool) → slice_get ss k ≡ Some bits → length bits ≡ length atoms)
-            → ((k : ℕ) (node : Node) → slice_get ns k ≡ Some node → node.cost < 1152921504606846976)
-            → list_all (is_state_line (length atoms)) (map state_line (search.lines_of (λ _. 0) ss ns)) ≡ true
-        all_pass [] ns long cheap = refl
-        all_pass (s ∷ ss) [] long cheap = refl
-        all_pass (s ∷ ss) (n ∷ ns) long cheap =
-            and_from (is_state_line (length atoms) (state_line (search.line_of (λ _. 0) s n))) (list_all (is_state_line (length atoms)) (map state_line (search.lines_of (λ _. 0) ss ns)))
-            (and_from (is_number n.cost && option_map_or is_number (if n.is_expanded then None else Some 0) true) (rise (length atoms) 0 (numbers_in s))
-            (and_from (is_number n.cost) (option_map_or is_number (if n.is_expanded then None else Some 0) true) (lt-ltb n.cost 1152921504606846976 (cheap 0 n refl)) (small_cut n.is_expanded))
-            (ap (λ width. rise width 0 (numbers_in s)) (sym (long 0 s refl)) ∙ numbers_rise s))
-            (all_pass ss ns (λ k. long (suc k)) (λ k. cheap (suc k)))
+    module _ (range : AreInRange p) (few_atoms : length atoms ≤ 1048576) where
+      small_value : (k : ℕ) (bits : List Bool) → slice_get states k ≡ Some bits → value p bits ≤ most_value
+      small_value k bits at = value-most p bits range (omega (arith, few_atoms, found_width k bits at))
+
+      pub keeps : is_claim claim ≡ true → length p.weights ≡ length atoms → most ≤ 16777216 → keeps_limits made ≡ true
+      keeps small width few =
+          and_from (is_claim claim && nat_le (length atoms) 1048576 && nat_le (length made.lines) 16777216 && list_all (is_state_line (length atoms)) made.lines) (are_potentials (length atoms) p)
+          (and_from (is_claim claim && nat_le (length atoms) 1048576 && nat_le (length made.lines) 16777216) (list_all (is_state_line (length atoms)) made.lines)
+          (and_from (is_claim claim && nat_le (length atoms) 1048576) (nat_le (length made.lines) 16777216)
+          (and_from (is_claim claim) (nat_le (length atoms) 1048576) small (le-leb (length atoms) 1048576 few_atoms))
+          (le-leb (length made.lines) 16777216 (omega (arith, length-map lines state_line, length-lines (value p) states nodes found.one_for_each, found.within_limit, few))))
+          (all_pass states nodes found_width small_value (λ k node at. omega (arith, found.cheap k node at, found.within_limit, few))))
+          (potentials-pass p (length atoms) range width)
+        where
+          small_cut : (b : Bool) (rest : ℕ) → rest ≤ most_value → option_map_or is_number (if b then None else Some rest) true ≡ true
+          small_cut true rest most = refl
+          small_cut false rest most = lt-ltb rest 1152921504606846976 (omega (arith, most))
+
+          all_pass : (ss : List (List Bool)) (ns : List Node) → ((k : ℕ) (bits : List Bool) → slice_get ss k ≡ Some bits → length bits ≡ length atoms)
+              → ((k : ℕ) (bits : List Bool) → slice_get ss k ≡ Some bits → value p bits ≤ most_value)
+              → ((k : ℕ) (node : Node) → slice_get ns k ≡ Some node → node.cost < 1152921504606846976)
+              → list_all (is_state_line (length atoms)) (map state_line (search.lines_of (value p) ss ns)) ≡ true
+          all_pass [] ns long low cheap = refl
+          all_pass (s ∷ ss) [] long low cheap = refl
+          all_pass (s ∷ ss) (n ∷ ns) long low cheap =
+              and_from (is_state_line (length atoms) (state_line (search.line_of (value p) s n))) (list_all (is_state_line (length atoms)) (map state_line (search.lines_of (value p) ss ns)))
+              (and_from (is_number n.cost && option_map_or is_number (if n.is_expanded then None else Some (value p s)) true) (rise (length atoms) 0 (numbers_in s))
+              (and_from (is_number n.cost) (option_map_or is_number (if n.is_expanded then None else Some (value p s)) true) (lt-ltb n.cost 1152921504606846976 (cheap 0 n refl)) (small_cut n.is_expanded (value p s) (low 0 s refl)))
+              (ap (λ width. rise width 0 (numbers_in s)) (sym (long 0 s refl)) ∙ numbers_rise s))
+              (all_pass ss ns (λ k. long (suc k)) (λ k. low (suc k)) (λ k. cheap (suc k)))
+
+pub found_widths : (task : Task) (claim : Claim) (most : ℕ) (p : PotentialFunction) (states : List (List Bool)) (nodes : List Node) (known : List Atom) → known ≡ numbered_atoms task []
+    → AreFound (ground_system task known) (value p) claim most states nodes → All (λ (bits : List Bool). length bits ≡ length known) states
+found_widths task claim most p states nodes known numbered found k d below =
+    found_width task claim most p states nodes (subst (λ (l : List Atom). AreFound (ground_system task l) (value p) claim most states nodes) numbered found) k (get_or states k d) (slice_get-get_or states k d below)
+    ∙ ap length (sym numbered)
 
 -- ---- for a certificate of these parts
 
-module _ (task : Task) (claim : Claim) (most : ℕ) (states : List (List Bool)) (nodes : List Node) (known : List Atom) (numbered : known ≡ numbered_atoms task [])
-    (found : AreFound (ground_system task known) (λ _. 0) claim most states nodes) (certificate : Certificate)
-    (is : certificate ≡ record { claim = claim; atoms = known; lines = map state_line (search.lines_of (λ _. 0) states nodes) }) where
-  same_found : AreFound (ground_system task (numbered_atoms task [])) (λ _. 0) claim most states nodes
-  same_found = subst (λ (l : List Atom). AreFound (ground_system task l) (λ _. 0) claim most states nodes) numbered found
-
-  is_made : made task claim most states nodes ≡ certificate
-  is_made = sym (is ∙ (λ i. record { claim = claim; atoms = numbered i; lines = map state_line (search.lines_of (λ _. 0) states nodes) }))
-
-  pub shown : is_task task ≡ true → IsShownBy task claim (length states) certificate
-  shown well = subst (IsShownBy task claim (length states)) is_made (shown_by task claim most states nodes same_found well)
-
-  pub within_limits : is_claim claim ≡ true → length known ≤ 1048576 → most ≤ 16777216 → keeps_limits certificate ≡ true
-  within_limits small few_atoms few =
-      ap keeps_limits (sym is_made) ∙ keeps task claim most states nodes same_found small (subst (λ (l : List Atom). length l ≤ 1048576) numbered few_atoms) few
-
 -- what is shown with so many states is shown with more
-pub more_allowed : {task : Task} {claim : Claim} {count most : ℕ} {certificate : Certificate} → IsShownBy task claim count certificate → count ≤ most → IsShownBy task claim most certificate
+more_allowed : {task : Task} {claim : Claim} {count most : ℕ} {certificate : Certificate} → IsShownBy task claim count certificate → count ≤ most → IsShownBy task claim most certificate
 more_allowed given le = record { claims = given.claims; closed = given.closed; within_limit = omega (arith, given.within_limit, le); atoms = given.atoms }
+
+module _ (task : Task) (claim : Claim) (most : ℕ) (p : PotentialFunction) (states : List (List Bool)) (nodes : List Node) (known : List Atom) (numbered : known ≡ numbered_atoms task [])
+    (found : AreFound (ground_system task known) (value p) claim most states nodes) (certificate : Certificate) (is : certificate ≡ found_certificate claim known p states nodes) where
+  same_found : AreFound (ground_system task (numbered_atoms task [])) (value p) claim most states nodes
+  same_found = subst (λ (l : List Atom). AreFound (ground_system task l) (value p) claim most states nodes) numbered found
+
+  is_made : made task claim most p states nodes ≡ certificate
+  is_made = sym (is ∙ ap (λ (l : List Atom). found_certificate claim l p states nodes) numbered)
+
+  pub shown : (max_states : ℕ) → length states ≤ max_states → is_task task ≡ true → AreFair task known p → IsShownBy task claim max_states certificate
+  shown max_states le well fair =
+      more_allowed (subst (IsShownBy task claim (length states)) is_made (shown_by task claim most p states nodes same_found well (subst (λ (l : List Atom). AreFair task l p) numbered fair))) le
+
+  pub opened_within : (cost : ℕ) → AreExpandedWithin (value p) cost states nodes → AreOpenWithin task cost certificate
+  opened_within cost within = subst (AreOpenWithin task cost) is_made (open_within task claim most p states nodes same_found cost within)
+
+  pub settled_or_high : AreSettledOrHigh task known p → HasSettledOrHigh task certificate
+  settled_or_high given = subst (HasSettledOrHigh task) (sym is) given
+
+  pub within_limits : AreInRange p → length p.weights ≡ length known → is_claim claim ≡ true → length known ≤ 1048576 → most ≤ 16777216 → keeps_limits certificate ≡ true
+  within_limits range width small few_atoms few =
+      ap keeps_limits (sym is_made)
+      ∙ keeps task claim most p states nodes same_found range (subst (λ (l : List Atom). length l ≤ 1048576) numbered few_atoms) small (width ∙ ap length numbered) few

@@ -1,8 +1,9 @@
 -- The steps of the loops: one line, one instance or one atom more.
 use Rattle.std.proofs.Common.{◌≡◌, ◌∙◌, ℕ, zero, suc, ◌+◌, ◌<◌, Bool, List, [], ◌∷◌, ◌++◌, length, map, take, get_or, Some, sym, ap, subst, arith}
-use Rattle.std.specs.Prelude.{slice_get}
+use Rattle.std.specs.Prelude.{All, slice_get}
 use Rattle.std.specs.List.{AllZip}
 use Rattle.std.proofs.lemmas.List.{take_more, map-append}
+use Rattle.std.proofs.lemmas.List.Elements.{All-contains}
 use Rattle.typing.specs.declared.atoms.Atom as code_atom
 use Rattle.std.specs.Option.{option_map}
 use Rattle.std.proofs.lemmas.Option.{slice_get-map}
@@ -17,31 +18,36 @@ use Rattle.solver.specs.Listing.{state_line}
 use Rattle.model.specs.Task.{Task, Instance}
 use Rattle.model.specs.ClosedOff.{kept_instances}
 use Rattle.model.specs.Grounding.{NamesKept}
+use Rattle.model.proofs.ListLemmas.{Contains-got}
 
 -- ---- the lines
 
-lines_more : {S : Type 0} (states : List S) (nodes : List Node) (i : ℕ) (s : S) (node : Node) → slice_get states i ≡ Some s → slice_get nodes i ≡ Some node
-    → search.lines_of (λ _. 0) (take (suc i) states) (take (suc i) nodes) ≡ search.lines_of (λ _. 0) (take i states) (take i nodes) ++ search.line_of (λ _. 0) s node ∷ []
-lines_more [] nodes i s node at_s at_n = absurd (cc)
-lines_more (x ∷ states) [] i s node at_s at_n = absurd (cc)
-lines_more (x ∷ states) (n ∷ nodes) zero s node at_s at_n =
+lines_more : {S : Type 0} (value : S → ℕ) (states : List S) (nodes : List Node) (i : ℕ) (s : S) (node : Node) → slice_get states i ≡ Some s → slice_get nodes i ≡ Some node
+    → search.lines_of value (take (suc i) states) (take (suc i) nodes) ≡ search.lines_of value (take i states) (take i nodes) ++ search.line_of value s node ∷ []
+lines_more value [] nodes i s node at_s at_n = absurd (cc)
+lines_more value (x ∷ states) [] i s node at_s at_n = absurd (cc)
+lines_more value (x ∷ states) (n ∷ nodes) zero s node at_s at_n =
     let same_state : x ≡ s = cc in
     let same_node : n ≡ node = cc in
-    λ i. search.line_of (λ _. 0) (same_state i) (same_node i) ∷ []
-lines_more (x ∷ states) (n ∷ nodes) (suc i) s node at_s at_n = ap (λ l. search.line_of (λ _. 0) x n ∷ l) (lines_more states nodes i s node at_s at_n)
+    λ i. search.line_of value (same_state i) (same_node i) ∷ []
+lines_more value (x ∷ states) (n ∷ nodes) (suc i) s node at_s at_n = ap (λ l. search.line_of value x n ∷ l) (lines_more value states nodes i s node at_s at_n)
+
+-- each state is of this width
+pub width_at : (width : ℕ) (states : List (List Bool)) → All (λ (bits : List Bool). length bits ≡ width) states → (k : ℕ) (bits : List Bool) → slice_get states k ≡ Some bits → length bits ≡ width
+width_at width states all k bits at = All-contains (λ (b : List Bool). length b ≡ width) states bits all (Contains-got states k bits at)
 
 plus_one : (k : ℕ) → k + 1 ≡ suc k
 plus_one k = omega arith
 
-pub lines_next : (lines new : List code_line.StateLine) (line : code_line.StateLine) (states : List (List Bool)) (nodes : List Node) (i : ℕ) (s : List Bool) (node : Node)
-    → map line_of lines ≡ map state_line (search.lines_of (λ _. 0) (take i states) (take i nodes)) → new ≡ lines ++ line ∷ [] → line_of line ≡ state_line (search.line_of (λ _. 0) s node)
-    → slice_get states i ≡ Some s → slice_get nodes i ≡ Some node → map line_of new ≡ map state_line (search.lines_of (λ _. 0) (take (i + 1) states) (take (i + 1) nodes))
-lines_next lines new line states nodes i s node so_far pushed is at_s at_n =
+pub lines_next : (value : List Bool → ℕ) (lines new : List code_line.StateLine) (line : code_line.StateLine) (states : List (List Bool)) (nodes : List Node) (i : ℕ) (s : List Bool) (node : Node)
+    → map line_of lines ≡ map state_line (search.lines_of value (take i states) (take i nodes)) → new ≡ lines ++ line ∷ [] → line_of line ≡ state_line (search.line_of value s node)
+    → slice_get states i ≡ Some s → slice_get nodes i ≡ Some node → map line_of new ≡ map state_line (search.lines_of value (take (i + 1) states) (take (i + 1) nodes))
+lines_next value lines new line states nodes i s node so_far pushed is at_s at_n =
     ap (map line_of) pushed ∙ map-append line_of lines (line ∷ [])
     ∙ (λ j. so_far j ++ is j ∷ [])
-    ∙ sym (ap (λ k. map state_line (search.lines_of (λ _. 0) (take k states) (take k nodes))) (plus_one i)
-    ∙ ap (map state_line) (lines_more states nodes i s node at_s at_n)
-    ∙ map-append state_line (search.lines_of (λ _. 0) (take i states) (take i nodes)) (search.line_of (λ _. 0) s node ∷ []))
+    ∙ sym (ap (λ k. map state_line (search.lines_of value (take k states) (take k nodes))) (plus_one i)
+    ∙ ap (map state_line) (lines_more value states nodes i s node at_s at_n)
+    ∙ map-append state_line (search.lines_of value (take i states) (take i nodes)) (search.line_of value s node ∷ []))
 
 -- ---- the instances
 

@@ -1,4 +1,5 @@
 pub mod Limit
+pub mod Improved
 pub mod Listing
 pub mod Reachable
 pub mod Solver

@@ -6,7 +6,8 @@ use Rattle.certificate.specs.Certificate.{certificate_of}
 use Rattle.solver.specs.declared.answer.Answer.{Answer}
 use Rattle.solver.specs.declared.answer.Answer.TheVariants.{Plan, Unsolvable, Unknown}
 use Rattle.solver.specs.declared.answer.Limit.TheVariants.{Instances, Atoms, States}
-use Rattle.solver.specs.Listing.{IsShownBy}
+use Rattle.solver.specs.Improved.{HasSettledOrHigh}
+use Rattle.solver.specs.Listing.{IsShownBy, AreOpenWithin}
 use Rattle.solver.specs.Reachable.{AreMoreReachable}
 use Rattle.model.specs.Task.{Task}
 use Rattle.model.specs.Runs.{cost_of_all, IsOptimal, IsUnsolvable}
@@ -16,7 +17,8 @@ use Rattle.model.specs.Limits.{max_numbered_atoms}
 use Rattle.model.specs.Grounding.{of_instances, of_atoms, limit_told}
 
 -- The answer is true: the steps are instances of the task, solve it at this cost, and no list of whatever length that
--- solves costs less; or no list solves; and the certificate shows it, by at most `states` states. Or a limit is exceeded:
+-- solves costs less; or no list solves; and the certificate shows it, by at most `states` states, with potentials that are
+-- settled or high. Beside a plan no state is open that costs, with its value, more than the plan. Or a limit is exceeded:
 -- that of the instances exactly where more than `instances` of the task's are kept, that of the atoms exactly where no
 -- more are kept and too many atoms have numbers, and else that of the states, where more than `states` are reachable and
 -- may have to be found.
@@ -25,9 +27,12 @@ IsTrueAnswer task states instances (Plan steps cost cert) =
     IsOptimal (system_of task) (plan_of steps) × (cost_of_all (system_of task) (plan_of steps) ≡ cost)
     × IsTrue (list_all (is_instance task) (plan_of steps))
     × IsShownBy task (bound cost) states (certificate_of cert)
+    × HasSettledOrHigh task (certificate_of cert)
+    × AreOpenWithin task cost (certificate_of cert)
     × (limit_told instances max_numbered_atoms task [] ≡ None)
 IsTrueAnswer task states instances (Unsolvable cert) =
-    IsUnsolvable (system_of task) × IsShownBy task none states (certificate_of cert) × (limit_told instances max_numbered_atoms task [] ≡ None)
+    IsUnsolvable (system_of task) × IsShownBy task none states (certificate_of cert) × HasSettledOrHigh task (certificate_of cert)
+    × (limit_told instances max_numbered_atoms task [] ≡ None)
 IsTrueAnswer task states instances (Unknown Instances) = limit_told instances max_numbered_atoms task [] ≡ Some of_instances
 IsTrueAnswer task states instances (Unknown Atoms) = limit_told instances max_numbered_atoms task [] ≡ Some of_atoms
 IsTrueAnswer task states instances (Unknown States) = AreMoreReachable (system_of task) states × (limit_told instances max_numbered_atoms task [] ≡ None)

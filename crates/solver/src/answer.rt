@@ -5,6 +5,7 @@ ghost use Rattle.grounding.specs.Ground.{task_in, IsGroundOf};
 ghost use Rattle.solver.specs.Solver.{IsTrueAnswer};
 ghost use Rattle.model.specs.WellTyped.{is_task};
 
+use crate::estimate::improved_potentials;
 use crate::limits::Limits;
 use crate::listing::cert_of;
 use crate::steps::instances_of;
@@ -14,7 +15,7 @@ use faults::{NoMemory, Refused};
 use formulas::Plan;
 use grounding::{Ground, GroundLimit};
 use packed_state::PooledStore;
-use search::{NoEstimate, Outcome, best_first};
+use search::{Outcome, best_first};
 use std::alloc::Global;
 use typing::Task;
 
@@ -61,7 +62,11 @@ pub enum Limit {
 /// }
 /// ```
 ///
-/// A certificate then lists at most 100,000 states. Two limits are told before any search: `Unknown(Limit::Instances)`
+/// The search goes by fair potentials of the ground task, which are made better first, in at most 8 rounds; the certificate
+/// has them too. Where they are not settled, they give the initial state a value of at least 8. Beside a plan, each state
+/// that the certificate lists as open costs, with its value, no more than the plan.
+///
+/// A certificate then lists at most 100,000 states. Two limits are told before any potentials are looked for: `Unknown(Limit::Instances)`
 /// exactly where the task has more than 10,000 kept instances, which are those that its start does not close off, and
 /// `Unknown(Limit::Atoms)` exactly where it has no more, and more than 1,048,576 atoms would have numbers.
 pub fn solve(alloc: Global, task: &Task, limits: Limits) -> Result<Answer, NoMemory>
@@ -81,22 +86,23 @@ fn solve_ground(alloc: Global, ground: &Ground<'_>, limits: Limits) -> Result<An
     requires ground { IsGroundOf (task_in ground.now) [] limits.instances ground.now }
     ensures { IfOk result (IsTrueAnswer (task_in ground.now) limits.states limits.instances) }
 {
-    let store = PooledStore::new(alloc, ground.width())?;
     let system = GroundSystem(ground);
-    match best_first(alloc, &system, &NoEstimate(&system), store, limits.states())? {
+    let estimate = improved_potentials(alloc, ground)?;
+    let store = PooledStore::new(alloc, ground.width())?;
+    match best_first(alloc, &system, &estimate, store, limits.states())? {
         Outcome::Found {
             steps,
             cost,
             states,
         } => {
-            let cert = cert_of(alloc, ground, Claim::Bound(cost), &states)?;
+            let cert = cert_of(alloc, &estimate, Claim::Bound(cost), &states)?;
             match Plan::new(instances_of(alloc, ground, &steps)?) {
                 Some(steps) => Ok(Answer::Plan { steps, cost, cert }),
                 None => unreachable!(),
             }
         }
         Outcome::Exhausted { states } => {
-            let cert = cert_of(alloc, ground, Claim::Unsolvable, &states)?;
+            let cert = cert_of(alloc, &estimate, Claim::Unsolvable, &states)?;
             Ok(Answer::Unsolvable { cert })
         }
         Outcome::States => Ok(Answer::Unknown(Limit::States)),

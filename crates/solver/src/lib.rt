@@ -2,6 +2,7 @@
 #![tactic(auto)]
 
 mod answer;
+mod estimate;
 mod limits;
 mod listing;
 mod steps;
@@ -9,3 +10,4 @@ mod system;
 
 pub use answer::{Answer, Limit, solve};
 pub use limits::{Limits, MAX_LIMIT};
+pub use system::GroundSystem;

@@ -5,9 +5,16 @@ use packed_state::Packed;
 use search::TransitionSystem;
 use std::alloc::Global;
 
-/// A ground task as a transition system: its packed states, and its kept instances by their numbers.
+/// A ground task as a transition system: its packed states, and its kept instances by their numbers. What it means is the
+/// model's ground system of the task and its numbered atoms, which does what the task does (`GroundTaskIsBisimilar`).
+///
+/// ```text
+/// let system = GroundSystem(&ground);
+/// let store = PooledStore::new(alloc, ground.width())?;
+/// let outcome = best_first(alloc, &system, &NoEstimate(&system), store, 100_000)?;
+/// ```
 #[derive(Clone, Copy)]
-pub(crate) struct GroundSystem<'a, 't>(pub(crate) &'a Ground<'t>);
+pub struct GroundSystem<'a, 't>(pub &'a Ground<'t>);
 
 impl TransitionSystem for GroundSystem<'_, '_> {
     ghost use Rattle.std.specs.Prelude.{length};

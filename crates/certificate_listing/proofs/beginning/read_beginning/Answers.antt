@@ -1,14 +1,12 @@
-use Rattle.std.proofs.Common.{◌≡◌, [], ◌∷◌, ◌++◌, map, true, refl, sym, ◌∙◌, subst, arith}
+use Rattle.std.proofs.Common.{◌≡◌, [], ◌∷◌, ◌++◌, true, refl, sym, ◌∙◌, subst, arith}
 use Rattle.faults.proofs.Results.{passed_on}
 use Rattle.typing.specs.Task.{task_of}
-use Rattle.typing.specs.TaskParts.{atom_of}
-use Rattle.model.specs.Claims.{bound}
 use Rattle.certificate_lines.specs.Lines.{text_line_of}
 use Rattle.certificate_reader.specs.Reader.{IsHandedOut, source_of}
-use Rattle.certificate_listing.specs.Told.{HaveTold, is_body}
+use Rattle.certificate_listing.specs.Told.{is_body}
 use Rattle.certificate_listing.specs.CertFaults.{refusal_of}
 use Rattle.certificate_listing.specs.Reading.{IsAt, IsLineRefusal}
-use Rattle.certificate_listing.proofs.ToldLemmas.{no_state_more, told_nothing}
+use Rattle.certificate_listing.proofs.ToldLemmas.{no_state_more}
 use Rattle.certificate_listing.proofs.ReadingLemmas.{at_next, at_start, fault_told, few_read, have_begun, one_read, wrong_counts, wrong_told}
 use Rattle.certificate_listing.proofs.beginning.read_beginning.Goals as goal
 
@@ -18,8 +16,7 @@ lines-init g c =
     record {
       lines = [];
       at = at_start g.R.Source.remaining c.args.reader.now c.requires;
-      told = subst (λ claim. HaveTold task [] claim (map atom_of c.new-beginning.result.atoms.keys)) (sym c.new-beginning.ensures.claim)
-          (subst (λ keys. HaveTold task [] (bound 0) (map atom_of keys)) (sym c.new-beginning.ensures.atoms) (told_nothing task));
+      told = c.new-beginning.ensures task;
       no_state = refl;
       failures = refl;
     }

@@ -1,11 +1,10 @@
--- some lines were read, and have told the claim and the atoms so far, and no state
-use Rattle.std.proofs.Common.{◌≡◌, ◌-◌, List, [], map}
+-- some lines were read, and have told what is kept of them, and no state
+use Rattle.std.proofs.Common.{◌≡◌, ◌-◌, List, []}
 use Rattle.typing.specs.Task.{task_of}
-use Rattle.typing.specs.TaskParts.{atom_of}
-use Rattle.certificate_lines.specs.Lines.{claim_of}
 use Rattle.certificate_text.specs.CertificateText.{TextLine}
 use Rattle.certificate_reader.specs.Reader.{lines_read, source_of}
-use Rattle.certificate_listing.specs.Told.{HaveTold, states_told}
+use Rattle.certificate_listing.specs.Told.{states_told}
+use Rattle.certificate_listing.specs.Taking.{HasTaken}
 use Rattle.certificate_listing.specs.Reading.{IsAt}
 use Rattle.certificate_listing.proofs.beginning.read_beginning.Given as goal
 
@@ -13,7 +12,7 @@ abbrev pub invariant-lines : goal.invariant-lines
 invariant-lines g l = record {
   lines : List TextLine;
   at : IsAt g.R.Source.remaining l.initial.reader l.reader lines;
-  told : HaveTold (task_of l.task) lines (claim_of l.beginning.claim) (map atom_of l.beginning.atoms.keys);
+  told : HasTaken (task_of l.task) lines l.beginning;
   no_state : states_told lines ≡ [];
   failures : g.R.Source.failures (source_of l.reader) ≡ g.R.Source.failures (source_of l.initial.reader);
 }

@@ -2,9 +2,7 @@
 use Rattle.std.proofs.Common.{◌≡◌, ◌+◌, ◌-◌, map, length}
 use Rattle.std.specs.Option.{option_map_or}
 use Rattle.typing.specs.Task.{task_of}
-use Rattle.typing.specs.TaskParts.{atom_of}
 use Rattle.packed_state.specs.PooledView.{pooled_states, pooled_width}
-use Rattle.certificate_lines.specs.Lines.{claim_of}
 use Rattle.certificate_reader.specs.Reader.{lines_read, source_of}
 use Rattle.certificate_listing.specs.Listed.{mark_of}
 use Rattle.certificate_listing.specs.Reading.{IsListedSoFar}
@@ -12,8 +10,7 @@ use Rattle.certificate_listing.proofs.reading.read_listing.Given as goal
 
 abbrev pub invariant-states : goal.invariant-states
 invariant-states g l = record {
-  so_far : IsListedSoFar g.R.Source.remaining (task_of l.task) l.fn.reader l.reader (claim_of l.beginning.claim) (map atom_of l.beginning.atoms.keys)
-      (pooled_width l.states.sets) (map mark_of l.states.marks.items) (pooled_states l.states.sets) l.next;
+  so_far : IsListedSoFar g.R.Source.remaining (task_of l.task) l.fn.reader l.reader l.beginning (pooled_width l.states.sets) (map mark_of l.states.marks.items) (pooled_states l.states.sets) l.next;
   width : pooled_width l.states.sets ≡ length l.beginning.atoms.keys;
   failures : g.R.Source.failures (source_of l.reader) ≡ g.R.Source.failures (source_of l.fn.reader);
 }

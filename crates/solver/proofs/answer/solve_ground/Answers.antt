@@ -1,70 +1,137 @@
 use Rattle.std.proofs.Common.{◌≡◌, ◌∙◌, ◌<◌, refl, sym, ap, subst, map, length, List, ℕ, arith}
 use Rattle.std.specs.Prelude.{All}
 use Rattle.std.specs.List.{list_all}
+use Rattle.std.proofs.lemmas.List.{length-map}
+use Rattle.typing.specs.TaskParts.{atom_of}
 use Rattle.formulas.specs.State.{instance_of, plan_of}
 use Rattle.packed_state.specs.PooledView.{pooled_states}
-use Rattle.search.specs.Outcome.{AreMoreReachable, IsTrueOutcome}
+use Rattle.search.specs.Outcome.{AreFound, AreMoreReachable}
+use Rattle.certificate.specs.Certificate.{certificate_of}
+use Rattle.grounding.specs.declared.ground.Ground.{Ground}
 use Rattle.grounding.specs.Ground.{task_in, atoms_in}
+use Rattle.potential_functions.specs.PotentialFunctions.{value}
+use Rattle.potential_functions.specs.Fair.{AreFair}
+use Rattle.potentials.specs.FairPotentials.{potentials_in}
 use Rattle.model.specs.Task.{Instance}
 use Rattle.model.specs.Runs.{cost_of_all, IsOptimal}
+use Rattle.model.specs.Claims.{bound, none}
 use Rattle.model.specs.Meaning.{system_of, is_instance}
 use Rattle.model.specs.ClosedOff.{kept_instances}
 use Rattle.model.specs.Grounding.{ground_system}
-use Rattle.solver.proofs.AnswerLemmas.{all_instances_of_plan, most_of_limit, cheap_plan, plan_named, plan_optimal, plan_cost, task_unsolvable, more_of_task, plan_length}
-use Rattle.solver.proofs.ListingLemmas.{more_allowed}
+use Rattle.solver.specs.Listing.{found_certificate}
+use Rattle.solver.proofs.AnswerLemmas.{all_instances_of_plan, most_of_limit, outcome_by, found_among_more, claim_allowed, plan_named, plan_optimal, plan_cost, task_unsolvable, more_of_task, plan_length}
+use Rattle.solver.proofs.ListingLemmas.{shown, opened_within, settled_or_high}
 use Rattle.solver.proofs.answer.solve_ground.Goals as goal
+
+pub best_first-requires-clause-made_for : goal.best_first-requires-clause-made_for
+best_first-requires-clause-made_for c = ap (λ (g : Ground). ground_system (task_in g) (atoms_in g)) c.in_ok-estimate.ensures.fair.ground
+
+pub best_first-requires-clause-estimate_width : goal.best_first-requires-clause-estimate_width
+best_first-requires-clause-estimate_width c = ap (λ (g : Ground). length (atoms_in g)) c.in_ok-estimate.ensures.fair.ground
 
 pub cert_of-requires-clause-claim : goal.cert_of-requires-clause-claim
 cert_of-requires-clause-claim c =
-    let ground = c.args.ground.now in
-    let found = subst (IsTrueOutcome (ground_system (task_in ground) (atoms_in ground)) (λ _. 0) pooled_states c.states.result) c.in-Found.is c.in_ok-steps.ensures in
-    cheap_plan (ground_system (task_in ground) (atoms_in ground)) c.in-Found.cost _ (pooled_states c.in-Found.states.store) c.in-Found.states.nodes.items c.in-Found.steps.items found.0.0 found.2
+    let g = c.args.ground.now in
+    let f = c.in_ok-estimate.estimate in
+    let p = potentials_in f in
+    let found = outcome_by (ground_system (task_in g) (atoms_in g)) p pooled_states c.states.result _ _ c.in-Found.is c.in_ok-steps.ensures in
+    claim_allowed (task_in g) (atoms_in g) c.requires.ground.atoms p c.in-Found.cost c.states.result (pooled_states c.in-Found.states.store) c.in-Found.states.nodes.items c.in-Found.steps.items found.0.0 found.2
+    (record { constant = f.potentials.constant_in_range; weights = f.potentials.weights_in_range }) c.in_ok-estimate.ensures.fair.bounds
+    (omega (arith, g.numbering.few_atoms, length-map g.numbering.atoms.keys atom_of))
     (omega (arith, c.states.ensures, most_of_limit c.args.limits.states c.args.limits.states_within))
+
+pub cert_of-requires-clause-found : goal.cert_of-requires-clause-found
+cert_of-requires-clause-found c =
+    let g = c.args.ground.now in
+    let p = potentials_in c.in_ok-estimate.estimate in
+    let found = outcome_by (ground_system (task_in g) (atoms_in g)) p pooled_states c.states.result _ _ c.in-Found.is c.in_ok-steps.ensures in
+    subst (λ (h : Ground). AreFound (ground_system (task_in h) (atoms_in h)) (value p) (bound c.in-Found.cost) 16777216 (pooled_states c.in-Found.states.store) c.in-Found.states.nodes.items)
+    (sym c.in_ok-estimate.ensures.fair.ground)
+    (found_among_more found.2 (omega (arith, c.states.ensures, most_of_limit c.args.limits.states c.args.limits.states_within)))
 
 pub instances_of-requires : goal.instances_of-requires
 instances_of-requires c =
-    let ground = c.args.ground.now in
-    let found = subst (IsTrueOutcome (ground_system (task_in ground) (atoms_in ground)) (λ _. 0) pooled_states c.states.result) c.in-Found.is c.in_ok-steps.ensures in
-    subst (λ (numbers : List ℕ). All (λ (n : ℕ). n < length (kept_instances (task_in ground))) numbers) (sym c.deref.ensures.value)
-    (plan_named (task_in ground) (atoms_in ground) c.requires.ground.atoms c.in-Found.steps.items found.0)
+    let g = c.args.ground.now in
+    let p = potentials_in c.in_ok-estimate.estimate in
+    let found = outcome_by (ground_system (task_in g) (atoms_in g)) p pooled_states c.states.result _ _ c.in-Found.is c.in_ok-steps.ensures in
+    subst (λ (numbers : List ℕ). All (λ (n : ℕ). n < length (kept_instances (task_in g))) numbers) (sym c.deref.ensures.value)
+    (plan_named (task_in g) (atoms_in g) c.requires.ground.atoms c.in-Found.steps.items found.0)
 
 pub unreachable-requires : goal.unreachable-requires
 unreachable-requires c =
-    let ground = c.args.ground.now in
-    let found = subst (IsTrueOutcome (ground_system (task_in ground) (atoms_in ground)) (λ _. 0) pooled_states c.states.result) c.in-Found.is c.in_ok-steps.ensures in
+    let g = c.args.ground.now in
+    let p = potentials_in c.in_ok-estimate.estimate in
+    let found = outcome_by (ground_system (task_in g) (atoms_in g)) p pooled_states c.states.result _ _ c.in-Found.is c.in_ok-steps.ensures in
     let named = rw c.deref.ensures.value at c.in_ok-instances_of-in-Found.ensures in
-    let long = plan_length (task_in c.args.ground.now) c.in-Found.steps.items c.in_ok-instances_of-in-Found.field-0.items named in
+    let long = plan_length (task_in g) c.in-Found.steps.items c.in_ok-instances_of-in-Found.field-0.items named in
     omega (arith, long, found.3, c.states.ensures, most_of_limit c.args.limits.states c.args.limits.states_within, c.in-None.ensures.too_long.0 refl)
 
 pub returns-in-Some : goal.returns-in-Some
 returns-in-Some c =
-    let ground = c.args.ground.now in
-    let task = task_in ground in
-    let atoms = atoms_in ground in
+    let g = c.args.ground.now in
+    let f = c.in_ok-estimate.estimate in
+    let task = task_in g in
+    let atoms = atoms_in g in
+    let p = potentials_in f in
+    let most = c.states.result in
+    let states = pooled_states c.in-Found.states.store in
+    let nodes = c.in-Found.states.nodes.items in
+    let cost = c.in-Found.cost in
+    let cert = certificate_of c.in_ok-cert-in-Found.cert in
+    let numbered = c.requires.ground.atoms in
     let numbers = c.in-Found.steps.items in
     let plan = map instance_of c.in_ok-instances_of-in-Found.field-0.items in
-    let found = subst (IsTrueOutcome (ground_system (task_in ground) (atoms_in ground)) (λ _. 0) pooled_states c.states.result) c.in-Found.is c.in_ok-steps.ensures in
+    let found = outcome_by (ground_system task atoms) p pooled_states most _ _ c.in-Found.is c.in_ok-steps.ensures in
     let named = rw c.deref.ensures.value at c.in_ok-instances_of-in-Found.ensures in
     let is : plan_of c.in-Some.steps ≡ plan = c.in-Some.ensures.steps in
-    let optimal = plan_optimal task atoms c.requires.ground.atoms numbers plan named found.0 in (
-      subst (λ (p : List Instance). IsOptimal (system_of task) p) (sym is) optimal,
-      ap (cost_of_all (system_of task)) is ∙ plan_cost task atoms c.requires.ground.atoms numbers plan c.in-Found.cost named found.1,
+    let optimal = plan_optimal task atoms numbered numbers plan named found.0 in
+    let fair : AreFair task atoms p = subst (λ (h : Ground). AreFair (task_in h) (atoms_in h) p) c.in_ok-estimate.ensures.fair.ground f.fair in
+    let made : cert ≡ found_certificate (bound cost) atoms p states nodes =
+    c.in_ok-cert-in-Found.ensures ∙ ap (λ (h : Ground). found_certificate (bound cost) (atoms_in h) p states nodes) c.in_ok-estimate.ensures.fair.ground in (
+      subst (λ (l : List Instance). IsOptimal (system_of task) l) (sym is) optimal,
+      ap (cost_of_all (system_of task)) is ∙ plan_cost task atoms numbered numbers plan cost named found.1,
       ap (list_all (is_instance task)) is ∙ all_instances_of_plan task plan optimal.0,
-      more_allowed c.in_ok-cert-in-Found.ensures (omega (arith, found.2.within_limit, c.states.ensures)),
+      shown task (bound cost) most p states nodes atoms numbered found.2 cert made c.args.limits.states (omega (arith, found.2.within_limit, c.states.ensures)) c.requires.typed fair,
+      settled_or_high task (bound cost) most p states nodes atoms numbered found.2 cert made c.in_ok-estimate.ensures.improved,
+      opened_within task (bound cost) most p states nodes atoms numbered found.2 cert made cost found.4,
       c.requires.ground.within,
     )
 
-pub returns-in_ok-cert-in-Exhausted : goal.returns-in_ok-cert-in-Exhausted
-returns-in_ok-cert-in-Exhausted c =
-    let ground = c.args.ground.now in
-    let found = subst (IsTrueOutcome (ground_system (task_in ground) (atoms_in ground)) (λ _. 0) pooled_states c.states.result) c.in-Exhausted.is c.in_ok-steps.ensures in (
-      task_unsolvable (task_in ground) (atoms_in ground) c.requires.ground.atoms found.0,
-      more_allowed c.in_ok-cert-in-Exhausted.ensures (omega (arith, found.1.within_limit, c.states.ensures)),
+pub cert_of-requires-in-Exhausted-clause-found : goal.cert_of-requires-in-Exhausted-clause-found
+cert_of-requires-in-Exhausted-clause-found c =
+    let g = c.args.ground.now in
+    let p = potentials_in c.in_ok-estimate.estimate in
+    let found = outcome_by (ground_system (task_in g) (atoms_in g)) p pooled_states c.states.result _ _ c.in-Exhausted.is c.in_ok-steps.ensures in
+    subst (λ (h : Ground). AreFound (ground_system (task_in h) (atoms_in h)) (value p) none 16777216 (pooled_states c.in-Exhausted.states.store) c.in-Exhausted.states.nodes.items)
+    (sym c.in_ok-estimate.ensures.fair.ground)
+    (found_among_more found.1 (omega (arith, c.states.ensures, most_of_limit c.args.limits.states c.args.limits.states_within)))
+
+pub returns-in-Exhausted : goal.returns-in-Exhausted
+returns-in-Exhausted c =
+    let g = c.args.ground.now in
+    let f = c.in_ok-estimate.estimate in
+    let task = task_in g in
+    let atoms = atoms_in g in
+    let p = potentials_in f in
+    let most = c.states.result in
+    let states = pooled_states c.in-Exhausted.states.store in
+    let nodes = c.in-Exhausted.states.nodes.items in
+    let cert = certificate_of c.in_ok-cert-in-Exhausted.cert in
+    let numbered = c.requires.ground.atoms in
+    let found = outcome_by (ground_system task atoms) p pooled_states most _ _ c.in-Exhausted.is c.in_ok-steps.ensures in
+    let fair : AreFair task atoms p = subst (λ (h : Ground). AreFair (task_in h) (atoms_in h) p) c.in_ok-estimate.ensures.fair.ground f.fair in
+    let made : cert ≡ found_certificate none atoms p states nodes =
+    c.in_ok-cert-in-Exhausted.ensures ∙ ap (λ (h : Ground). found_certificate none (atoms_in h) p states nodes) c.in_ok-estimate.ensures.fair.ground in (
+      task_unsolvable task atoms numbered found.0,
+      shown task none most p states nodes atoms numbered found.1 cert made c.args.limits.states (omega (arith, found.1.within_limit, c.states.ensures)) c.requires.typed fair,
+      settled_or_high task none most p states nodes atoms numbered found.1 cert made c.in_ok-estimate.ensures.improved,
       c.requires.ground.within,
     )
 
-pub returns-in-States : goal.returns-in-States
-returns-in-States c =
-    let ground = c.args.ground.now in
-    let more = subst (λ (most : ℕ). AreMoreReachable (ground_system (task_in ground) (atoms_in ground)) (λ _. 0) most) c.states.ensures (subst (IsTrueOutcome (ground_system (task_in ground) (atoms_in ground)) (λ _. 0) pooled_states c.states.result) c.in-States.is c.in_ok-steps.ensures) in
-    (more_of_task (task_in ground) (atoms_in ground) c.requires.ground.atoms (λ _. 0) c.args.limits.states more, c.requires.ground.within)
+pub returns : goal.returns
+returns c =
+    let g = c.args.ground.now in
+    let p = potentials_in c.in_ok-estimate.estimate in
+    let told = outcome_by (ground_system (task_in g) (atoms_in g)) p pooled_states c.states.result _ _ c.in-States.is c.in_ok-steps.ensures in
+    let more = subst (λ (most : ℕ). AreMoreReachable (ground_system (task_in g) (atoms_in g)) (value p) most) c.states.ensures told in
+    (more_of_task (task_in g) (atoms_in g) c.requires.ground.atoms (value p) c.args.limits.states more, c.requires.ground.within)

@@ -4,7 +4,9 @@ use Rattle.std.proofs.lemmas.List.FromFn.{length-map-range_with_len}
 use Rattle.packed_state.specs.Packed.{bits_of}
 use Rattle.packed_state.specs.PooledView.{pooled_states}
 use Rattle.certificate_lines.specs.Lines.{line_of}
-use Rattle.solver.proofs.LoopLemmas.{lines_next}
+use Rattle.potential_functions.specs.PotentialFunctions.{value}
+use Rattle.potentials.specs.Potentials.{potentials_of}
+use Rattle.solver.proofs.LoopLemmas.{width_at, lines_next}
 use Rattle.solver.proofs.listing.lines.Goals as goal
 
 pub loop-place-init : goal.loop-place-init
@@ -15,9 +17,12 @@ overflow_cast-place c =
     let below : c.loop-place.place < length (pooled_states c.args.found.now.store) = omega (arith, c.loop-place-test.true, c.len-place-end.ensures, c.requires.one_for_each) in
     omega (arith, below, c.requires.few)
 
+pub line_of-requires : goal.line_of-requires
+line_of-requires c = width_at _ (pooled_states c.args.found.now.store) c.requires.width c.loop-place.place (bits_of c.get.new.into) c.get.ensures.set
+
 pub loop-place-preserved : goal.loop-place-preserved
 loop-place-preserved c = (
   c.get.ensures.width,
-  lines_next c.loop-place.lines.items c.push.new.self.items c.in_ok-line_of.field-0 (pooled_states c.args.found.now.store) c.args.found.now.nodes.items c.loop-place.place (bits_of c.get.new.into) c.index.result.now c.loop-place.invariant.1 c.in_ok-push.ensures.items
-      c.in_ok-line_of.ensures c.get.ensures.set (slice_get_read c.args.found.now.nodes.items _ c.loop-place.place c.index.result.now refl (omega (arith, c.loop-place-test.true, c.len-place-end.ensures)) c.index.ensures),
+  lines_next (value (potentials_of c.args.potentials.now)) c.loop-place.lines.items c.push.new.self.items c.in_ok-line_of.field-0 (pooled_states c.args.found.now.store) c.args.found.now.nodes.items c.loop-place.place (bits_of c.get.new.into) c.index.result.now c.loop-place.invariant.1
+      c.in_ok-push.ensures.items c.in_ok-line_of.ensures c.get.ensures.set (slice_get_read c.args.found.now.nodes.items _ c.loop-place.place c.index.result.now refl (omega (arith, c.loop-place-test.true, c.len-place-end.ensures)) c.index.ensures),
 )

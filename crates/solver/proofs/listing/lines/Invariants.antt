@@ -3,6 +3,8 @@ use Rattle.packed_state.specs.Packed.{bits_of}
 use Rattle.packed_state.specs.PooledView.{pooled_width, pooled_states}
 use Rattle.certificate_lines.specs.Lines as parts
 use Rattle.search.specs.Outcome as search
+use Rattle.potential_functions.specs.PotentialFunctions.{value}
+use Rattle.potentials.specs.Potentials.{potentials_of}
 use Rattle.solver.specs.Listing.{state_line}
 use Rattle.solver.proofs.listing.lines.Given as goal
 
@@ -10,4 +12,4 @@ use Rattle.solver.proofs.listing.lines.Given as goal
 abbrev pub invariant-loop-place : goal.invariant-loop-place
 invariant-loop-place l =
     (length (bits_of l.state) ≡ pooled_width l.found.store)
-    × (map parts.line_of l.lines.items ≡ map state_line (search.lines_of (λ _. 0) (take l.place (pooled_states l.found.store)) (take l.place l.found.nodes.items)))
+    × (map parts.line_of l.lines.items ≡ map state_line (search.lines_of (value (potentials_of l.potentials)) (take l.place (pooled_states l.found.store)) (take l.place l.found.nodes.items)))

@@ -1,20 +1,34 @@
+use Rattle.std.proofs.Common.{◌++◌, ◌∷◌, [], map, sym, ap, ◌∙◌, subst}
+use Rattle.std.specs.Int.{w64}
+use Rattle.std.proofs.lemmas.Int.{to_z-of_z}
 use Rattle.typing.specs.Task.{task_of}
-use Rattle.certificate_lines.specs.Lines.{named_atom_of}
+use Rattle.typing.specs.TaskParts.{atom_of}
+use Rattle.certificate_lines.specs.Lines.{claim_of, named_atom_of}
+use Rattle.certificate_text.specs.CertificateText.{WeightedAtom, atom}
 use Rattle.certificate_text.specs.CertificateChecking.{not_fluent}
+use Rattle.certificate_listing.specs.Told.{HaveTold}
+use Rattle.certificate_listing.specs.Parts.{potentials_in}
 use Rattle.certificate_listing.proofs.AtomsLemmas.{new_is_told, again_is_wrong}
-use Rattle.certificate_listing.proofs.beginning.add_atom.Goals as goal
+use Rattle.certificate_listing.proofs.beginning.Beginning.add_atom.Goals as goal
 
 pub returns-in_default-clause-wrong : goal.returns-in_default-clause-wrong
-returns-in_default-clause-wrong c = λ before claim at told. (at, not_fluent (named_atom_of c.args.name.now) c.in_default.ensures.none)
+returns-in_default-clause-wrong c = λ before at told. (at, not_fluent (record { weight = c.args.weight; atom = named_atom_of c.args.name.now }) c.in_default.ensures.none)
 
-pub returns-then-branch-clause-told : goal.returns-then-branch-clause-told
-returns-then-branch-clause-told c = λ before claim told.
-    new_is_told (task_of c.args.task.now) before claim c.args.atoms.now.keys told (named_atom_of c.args.name.now) c.in-Some.atom
-    c.in-Some.ensures.names c.in-Some.ensures.typed c.in-Some.ensures.fluent c.in_ok-insert.field-0 c.in_ok-insert.ensures.added c.if-branch.true c.insert.new.self.keys c.in_ok-insert.ensures.keys
+pub returns-then-not-branch-clause-wrong : goal.returns-then-not-branch-clause-wrong
+returns-then-not-branch-clause-wrong c = λ before at told.
+    let self = c.args.self.now in (
+      at,
+      again_is_wrong (task_of c.args.task.now) before (claim_of self.claim) self.atoms.keys (potentials_in self) told
+          (record { weight = c.args.weight; atom = named_atom_of c.args.name.now }) c.in-Some.atom
+          c.in-Some.ensures.names c.in-Some.ensures.typed c.in-Some.ensures.fluent c.in_ok-insert.field-0 c.in_ok-insert.ensures.added c.if-not-branch.true,
+    )
 
-pub returns-else-branch-clause-wrong : goal.returns-else-branch-clause-wrong
-returns-else-branch-clause-wrong c = λ before claim at told. (
-  at,
-  again_is_wrong (task_of c.args.task.now) before claim c.args.atoms.now.keys told (named_atom_of c.args.name.now) c.in-Some.atom
-      c.in-Some.ensures.names c.in-Some.ensures.typed c.in-Some.ensures.fluent c.in_ok-insert.field-0 c.in_ok-insert.ensures.added c.if-branch.false,
-)
+pub returns-clause-told : goal.returns-clause-told
+returns-clause-told c = λ before told.
+    let task = task_of c.args.task.now in
+    let self = c.args.self.now in
+    let said : WeightedAtom = record { weight = c.args.weight; atom = named_atom_of c.args.name.now } in
+    subst (λ weights. HaveTold task (before ++ atom said ∷ []) (claim_of self.claim) (map atom_of c.insert.new.self.keys) (record { constant = self.constant; weights = weights }))
+    (sym (c.in_ok-push.ensures.items ∙ ap (λ w. self.weights.items ++ w ∷ []) (to_z-of_z w64 c.args.weight c.ranges.weight)))
+    (new_is_told task before (claim_of self.claim) self.atoms.keys (potentials_in self) told said c.in-Some.atom
+    c.in-Some.ensures.names c.in-Some.ensures.typed c.in-Some.ensures.fluent c.in_ok-insert.field-0 c.in_ok-insert.ensures.added c.if-not-branch.false c.insert.new.self.keys c.in_ok-insert.ensures.keys)

@@ -1,50 +1,63 @@
-use Rattle.std.proofs.Common.{◌≡◌, ◌+◌, List, [], ◌∷◌, ◌++◌, map, length, None, refl, sym, subst, ⊎_elim}
+use Rattle.std.proofs.Common.{rules, ◌≡◌, ◌+◌, List, [], ◌∷◌, ◌++◌, map, length, None, refl, sym, subst}
+use Rattle.std.specs.Prelude.{ℤ}
+use Rattle.std.specs.Int.{w64}
+use Rattle.std.proofs.lemmas.Int.{to_z-of_z}
 use Rattle.faults.proofs.Results.{passed_on}
 use Rattle.typing.specs.Task.{task_of}
 use Rattle.typing.specs.TaskParts.{atom_of}
-use Rattle.certificate_lines.specs.declared.line.CertLine.{CertLine}
-use Rattle.certificate_lines.specs.Lines.{claim_of, text_line_of}
-use Rattle.certificate_text.specs.CertificateText.{TextLine, BeginCertificate}
-use Rattle.certificate_listing.specs.Told.{HaveTold, state_in}
-use Rattle.certificate_listing.specs.Taking.{IsWrongNow}
+use Rattle.certificate_lines.specs.Lines.{claim_of, named_atom_of, text_line_of}
+use Rattle.certificate_text.specs.CertificateText.{TextLine, BeginCertificate, atom}
+use Rattle.certificate_listing.specs.declared.beginning.Beginning.{Beginning}
+use Rattle.certificate_listing.specs.Parts.{potentials_in}
+use Rattle.certificate_listing.specs.Taking.{HasTaken, IsTaken, IsWrongNow}
 use Rattle.certificate_listing.proofs.ToldLemmas.{told_version, told_claim, told_constant}
 use Rattle.certificate_listing.proofs.beginning.Beginning.take.Goals as goal
 
 pub returns-in-Head-clause-taken : goal.returns-in-Head-clause-taken
 returns-in-Head-clause-taken c =
     let task = task_of c.args.task.now in
-    let claim = claim_of c.args.self.now.claim in
-    let atoms = map atom_of c.args.self.now.atoms.keys in
-    let Takes : CertLine → Type 0 = λ line. (before : List TextLine) → BeginCertificate (before ++ text_line_of line ∷ []) → HaveTold task before claim atoms
-    → HaveTold task (before ++ text_line_of line ∷ []) claim atoms × (state_in (text_line_of line) ≡ None) in
-    ⊎_elim (λ is. subst Takes (sym is) (λ before begun told. (told_version task before claim atoms told, refl)))
-    (λ is. subst Takes (sym is) (λ before begun told. (told_constant task before claim atoms told, refl))) c.in-Head.is
+    let self = c.args.self.now in
+    subst (λ line. (before : List TextLine) → BeginCertificate (before ++ text_line_of line ∷ []) → HasTaken task before self → IsTaken task before (text_line_of line) self None)
+    (sym c.in-Head.is) (λ before begun told. (told_version task before (claim_of self.claim) (map atom_of self.atoms.keys) (potentials_in self) told, refl))
 
 pub returns-in-Claim-clause-taken : goal.returns-in-Claim-clause-taken
 returns-in-Claim-clause-taken c =
     let task = task_of c.args.task.now in
-    let claim = claim_of c.args.self.now.claim in
-    let atoms = map atom_of c.args.self.now.atoms.keys in
-    subst (λ line. (before : List TextLine) → BeginCertificate (before ++ text_line_of line ∷ []) → HaveTold task before claim atoms
-    → HaveTold task (before ++ text_line_of line ∷ []) (claim_of c.in-Claim.claim) atoms × (state_in (text_line_of line) ≡ None))
-    (sym c.in-Claim.is) (λ before begun told. (told_claim task before claim atoms told (claim_of c.in-Claim.claim) begun, refl))
+    let self = c.args.self.now in
+    let after : Beginning = record { claim = c.in-Claim.claim; constant = self.constant; atoms = self.atoms; weights = self.weights } in
+    subst (λ line. (before : List TextLine) → BeginCertificate (before ++ text_line_of line ∷ []) → HasTaken task before self → IsTaken task before (text_line_of line) after None)
+    (sym c.in-Claim.is) (λ before begun told. (told_claim task before (claim_of self.claim) (map atom_of self.atoms.keys) (potentials_in self) told (claim_of c.in-Claim.claim) begun, refl))
+
+pub returns-in-Constant-clause-taken : goal.returns-in-Constant-clause-taken
+returns-in-Constant-clause-taken c =
+    let task = task_of c.args.task.now in
+    let self = c.args.self.now in
+    let with_constant : ℤ → Beginning = λ k. record { claim = self.claim; constant = k; atoms = self.atoms; weights = self.weights } in
+    subst (λ k. (before : List TextLine) → BeginCertificate (before ++ text_line_of c.args.line ∷ []) → HasTaken task before self → IsTaken task before (text_line_of c.args.line) (with_constant k) None)
+    (sym (to_z-of_z w64 c.in-Constant.constant (search rules)))
+    (subst (λ line. (before : List TextLine) → BeginCertificate (before ++ text_line_of line ∷ []) → HasTaken task before self
+    → IsTaken task before (text_line_of line) (with_constant c.in-Constant.constant) None)
+    (sym c.in-Constant.is) (λ before begun told. (told_constant task before (claim_of self.claim) (map atom_of self.atoms.keys) (potentials_in self) told c.in-Constant.constant begun, refl)))
 
 pub returns-in_ok-add_atom-in-Weight-clause-taken : goal.returns-in_ok-add_atom-in-Weight-clause-taken
 returns-in_ok-add_atom-in-Weight-clause-taken c =
     let task = task_of c.args.task.now in
-    let claim = claim_of c.args.self.now.claim in
-    let atoms = map atom_of c.args.self.now.atoms.keys in
-    let after = map atom_of c.add_atom.new.atoms.keys in
-    subst (λ line. (before : List TextLine) → BeginCertificate (before ++ text_line_of line ∷ []) → HaveTold task before claim atoms
-    → HaveTold task (before ++ text_line_of line ∷ []) claim after × (state_in (text_line_of line) ≡ None))
-    (sym c.in-Weight.is) (λ before begun told. (c.in_ok-add_atom-in-Weight.ensures.told before claim told, refl))
+    let name = named_atom_of c.in-Weight.atom in
+    subst (λ line. (before : List TextLine) → BeginCertificate (before ++ text_line_of line ∷ []) → HasTaken task before c.args.self.now → IsTaken task before (text_line_of line) c.add_atom.new.self None)
+    (sym c.in-Weight.is)
+    (subst (λ weight. (before : List TextLine) → BeginCertificate (before ++ atom (record { weight = c.in-Weight.weight; atom = name }) ∷ []) → HasTaken task before c.args.self.now
+    → IsTaken task before (atom (record { weight = weight; atom = name })) c.add_atom.new.self None)
+    (to_z-of_z w64 c.in-Weight.weight (search rules)) (λ before begun told. (c.in_ok-add_atom-in-Weight.ensures.told before told, refl)))
 
 pub returns-in_err-add_atom-in-Weight-clause-wrong : goal.returns-in_err-add_atom-in-Weight-clause-wrong
 returns-in_err-add_atom-in-Weight-clause-wrong c =
     let task = task_of c.args.task.now in
-    let claim = claim_of c.args.self.now.claim in
-    let atoms = map atom_of c.args.self.now.atoms.keys in
-    passed_on (λ refusal. (before : List TextLine) → c.args.number ≡ length before + 1 → HaveTold task before claim atoms → IsWrongNow task before (text_line_of c.args.line) refusal)
-    c.from_residual.result c.in_err-add_atom-in-Weight.field-0.0 c.from_residual.ensures.1
-    (subst (λ line. (before : List TextLine) → c.args.number ≡ length before + 1 → HaveTold task before claim atoms → IsWrongNow task before (text_line_of line) c.in_err-add_atom-in-Weight.field-0.0)
-    (sym c.in-Weight.is) (λ before at told. c.in_err-add_atom-in-Weight.ensures.wrong before claim at told))
+    let self = c.args.self.now in
+    let name = named_atom_of c.in-Weight.atom in
+    let refusal = c.in_err-add_atom-in-Weight.field-0.0 in
+    passed_on (λ refusal. (before : List TextLine) → c.args.number ≡ length before + 1 → HasTaken task before self → IsWrongNow task before (text_line_of c.args.line) refusal)
+    c.from_residual.result refusal c.from_residual.ensures.1
+    (subst (λ line. (before : List TextLine) → c.args.number ≡ length before + 1 → HasTaken task before self → IsWrongNow task before (text_line_of line) refusal)
+    (sym c.in-Weight.is)
+    (subst (λ weight. (before : List TextLine) → c.args.number ≡ length before + 1 → HasTaken task before self → IsWrongNow task before (atom (record { weight = weight; atom = name })) refusal)
+    (to_z-of_z w64 c.in-Weight.weight (search rules)) c.in_err-add_atom-in-Weight.ensures.wrong))

@@ -8,25 +8,25 @@ use Rattle.certificate_listing.proofs.ListedLemmas.{cut_is_wrong, listed_more, s
 use Rattle.certificate_listing.proofs.states.States.take.Goals as goal
 
 pub returns-then-not-branch-clause-wrong : goal.returns-then-not-branch-clause-wrong
-returns-then-not-branch-clause-wrong c = λ task before atoms at told have.
+returns-then-not-branch-clause-wrong c = λ task before atoms potentials at told have.
     let states = c.args.self.now in
     let added = rw (c.if-not-branch.true, c.deref.ensures.value) at c.in_ok-add_set.ensures.added in
-    (at, state_again before (claim_of c.args.claim) (pooled_width states.sets) (map mark_of states.marks.items) (pooled_states states.sets) have (line_of c.args.line.now) c.requires.rising task atoms told added.0)
+    (at, state_again before (claim_of c.args.claim) (pooled_width states.sets) (map mark_of states.marks.items) (pooled_states states.sets) have (line_of c.args.line.now) c.requires.rising task atoms potentials told added.0)
 
 pub returns-then-is_cut_not_allowed-clause-wrong : goal.returns-then-is_cut_not_allowed-clause-wrong
-returns-then-is_cut_not_allowed-clause-wrong c = λ task before atoms at told have.
+returns-then-is_cut_not_allowed-clause-wrong c = λ task before atoms potentials at told have.
     let states = c.args.self.now in
     let added = rw (c.if-not-branch.false, c.deref.ensures.value) at c.in_ok-add_set.ensures.added in (
       at,
-      cut_is_wrong before (claim_of c.args.claim) (pooled_width states.sets) (map mark_of states.marks.items) (pooled_states states.sets) have (line_of c.args.line.now) c.requires.rising task atoms told
+      cut_is_wrong before (claim_of c.args.claim) (pooled_width states.sets) (map mark_of states.marks.items) (pooled_states states.sets) have (line_of c.args.line.now) c.requires.rising task atoms potentials told
           added.0 (c.if-is_cut_not_allowed.ensures.0 refl),
     )
 
 pub returns-clause-told : goal.returns-clause-told
-returns-clause-told c = λ task before atoms told have.
+returns-clause-told c = λ task before atoms potentials told have.
     let states = c.args.self.now in
     let added = rw (c.if-not-branch.false, c.deref.ensures.value) at c.in_ok-add_set.ensures.added in
-    state_told_more before (claim_of c.args.claim) (pooled_width states.sets) (map mark_of states.marks.items) (pooled_states states.sets) have (line_of c.args.line.now) c.requires.rising task atoms told
+    state_told_more before (claim_of c.args.claim) (pooled_width states.sets) (map mark_of states.marks.items) (pooled_states states.sets) have (line_of c.args.line.now) c.requires.rising task atoms potentials told
     added.0 (λ not_allowed. false≢true (c.if-is_cut_not_allowed.ensures.1 not_allowed))
 
 pub returns-clause-listed : goal.returns-clause-listed

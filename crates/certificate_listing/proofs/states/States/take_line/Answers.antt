@@ -1,8 +1,15 @@
-use Rattle.std.proofs.Common.{map, refl}
+use Rattle.std.proofs.Common.{◌≡◌, ◌+◌, ◌++◌, ◌∷◌, [], List, length, map, refl, sym, subst}
+use Rattle.std.specs.Prelude.{IfErr, IsTrue, OnOk}
 use Rattle.packed_state.specs.PooledView.{pooled_states, pooled_width}
-use Rattle.certificate_lines.specs.Lines.{claim_of}
-use Rattle.certificate_listing.specs.Listed.{mark_of}
+use Rattle.model.specs.Task.{Atom, Task}
+use Rattle.potential_functions.specs.PotentialFunctions.{PotentialFunction}
+use Rattle.certificate_lines.specs.Lines.{claim_of, text_line_of}
+use Rattle.certificate_text.specs.CertificateText.{TextLine}
+use Rattle.certificate_listing.specs.Told.{HaveTold, is_body}
+use Rattle.certificate_listing.specs.Taking.{IsWrongNow}
+use Rattle.certificate_listing.specs.Listed.{HaveListed, mark_of}
 use Rattle.certificate_listing.proofs.SetsLemmas.{rise_below}
+use Rattle.certificate_listing.proofs.ListedLemmas.{both_told}
 use Rattle.certificate_listing.proofs.PlacedLemmas.{last_tells}
 use Rattle.certificate_listing.proofs.states.States.take_line.Goals as goal
 
@@ -11,12 +18,32 @@ take-requires-clause-below c =
     let fit = rw c.in-Listed.is at c.requires.fit in
     rise_below (pooled_width c.args.self.now.sets) 0 c.in-Listed.line.atoms.items fit.0
 
+pub returns-in-Listed-clause-taken : goal.returns-in-Listed-clause-taken
+returns-in-Listed-clause-taken c =
+    let claim = claim_of c.args.claim in
+    let states = c.args.self.now in
+    let after = c.take.new.self in
+    subst (λ line. OnOk c.take.result ((task : Task) (before : List TextLine) (atoms : List Atom) (potentials : PotentialFunction) → IsTrue (is_body (text_line_of line))
+    → HaveTold task before claim atoms potentials → HaveListed before claim (pooled_width states.sets) (map mark_of states.marks.items) (pooled_states states.sets)
+    → HaveTold task (before ++ text_line_of line ∷ []) claim atoms potentials
+    × HaveListed (before ++ text_line_of line ∷ []) claim (pooled_width states.sets) (map mark_of after.marks.items) (pooled_states after.sets)))
+    (sym c.in-Listed.is)
+    (both_told c.take.result (λ told listed task before atoms potentials body first have. (told task before atoms potentials first have, listed before have)) c.take.ensures.told c.take.ensures.listed)
+
+pub returns-in-Listed-clause-wrong : goal.returns-in-Listed-clause-wrong
+returns-in-Listed-clause-wrong c =
+    let claim = claim_of c.args.claim in
+    let states = c.args.self.now in
+    subst (λ line. IfErr c.take.result (λ refusal. (task : Task) (before : List TextLine) (atoms : List Atom) (potentials : PotentialFunction) → c.args.number ≡ length before + 1
+    → HaveTold task before claim atoms potentials → HaveListed before claim (pooled_width states.sets) (map mark_of states.marks.items) (pooled_states states.sets)
+    → IsWrongNow task before (text_line_of line) refusal)) (sym c.in-Listed.is) c.take.ensures.wrong
+
 pub returns : goal.returns
 returns c =
     let states = c.args.self.now in
     record {
       width = refl;
-      taken = λ task before atoms body told have.
-          last_tells task before (claim_of c.args.claim) atoms (pooled_width states.sets) (map mark_of states.marks.items) (pooled_states states.sets) c.args.line c.in_default.not-Listed body told have;
+      taken = λ task before atoms potentials body told have.
+          last_tells task before (claim_of c.args.claim) atoms potentials (pooled_width states.sets) (map mark_of states.marks.items) (pooled_states states.sets) c.args.line c.in_default.not-Listed body told have;
       wrong = tt;
     }

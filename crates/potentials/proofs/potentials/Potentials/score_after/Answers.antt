@@ -1,47 +1,68 @@
-use Rattle.std.proofs.Common.{◌≡◌, ◌+◌, refl, ap, arith, length, ◌+ℤ◌, neg_ℤ}
+use Rattle.std.proofs.Common.{◌≡◌, ◌+◌, ◌*◌, get_or, length, refl, ap, subst, arith}
 use Rattle.std.proofs.lemmas.Int.{ints}
+use Rattle.std.specs.Int.Bits.{bit_xor}
+use Rattle.packed_state.specs.Words.{bits_in, AreWordsOf}
 use Rattle.packed_state.specs.Packed.{bits_of}
 use Rattle.potential_functions.specs.PotentialFunctions.{sum_below, given}
-use Rattle.potential_functions.proofs.Sums.{sum-next}
-use Rattle.potentials.proofs.ScoreLemmas.{gained-is, midway-range}
+use Rattle.potentials.specs.Words.{gained_in_word}
+use Rattle.potentials.proofs.WordLemmas.{word-gained, word-range, given-past, words-range}
 use Rattle.potentials.proofs.potentials.Potentials.score_after.Goals as goal
 
-pub loop-number-init : goal.loop-number-init
-loop-number-init c =
+pub overflow_add-total : goal.overflow_add-total
+overflow_add-total c =
     let p = c.args.self.now in
+    let weights = p.weights.items in
     let before = bits_of c.args.before.now in
     let after = bits_of c.args.after.now in
-    let is = c.requires.score in
-    let range = midway-range p.constant p.weights.items before after 0 (p.constant +ℤ sum_below (length before) (given p.weights.items before)) p.constant_in_range p.weights_in_range (omega arith) (omega (arith, ints)) in
-    let low = range.0 in
-    let high = range.1 in
-    record { so_far = omega (arith, ints); least = omega (arith, ints); most = omega (arith, ints) }
+    let as_long : length after ≡ length before = omega (arith, c.requires.before_width, c.requires.after_width) in
+    let word = get_or c.words-was.result.now c.words.place 0 in
+    let now = get_or c.words-is.result.now c.words.place 0 in
+    let gained = ap (λ l. gained_in_word l (c.words.place * 64) (bit_xor word now) now) c.deref.ensures.value in
+    let are_after = subst (λ n. AreWordsOf n c.words-is.result.now) as_long c.words-is.ensures.packed in
+    let is_after = subst (λ n. bits_in n c.words-is.result.now ≡ after) as_long c.words-is.ensures.bits in
+    let more = word-gained (length before) c.words-was.result.now weights before c.words-was.ensures.packed c.words-was.ensures.bits c.words-is.result.now after are_after is_after c.words.place in
+    let is = c.words.invariant in
+    let small = word-range weights (c.words.place * 64) (bit_xor word now) now p.weights_in_range in
+    let low = small.0 in
+    let high = small.1 in
+    let range = words-range p.constant weights before after (64 * (c.words.place + 1)) _ p.constant_in_range p.weights_in_range as_long refl in
+    let least = range.0 in
+    let most = range.1 in
+    let few = c.width.type_inv in
+    omega (arith, ints, c.width.ensures)
 
-pub loop-number-preserved : goal.loop-number-preserved
-loop-number-preserved c =
+pub words-preserved : goal.words-preserved
+words-preserved c =
     let p = c.args.self.now in
+    let weights = p.weights.items in
     let before = bits_of c.args.before.now in
     let after = bits_of c.args.after.now in
-    let n = c.loop-number.number in
-    let f = gained-is p.weights.items before after n c.has-was_true.result c.has-is_true.result c.weight.result _ c.gained-total.result c.has-was_true.ensures c.has-is_true.ensures c.weight.ensures.value (omega (arith, ints)) c.gained-total.ensures.value in
-    let next_after = sum-next n (given p.weights.items after) in
-    let next_before = sum-next n (given p.weights.items before) in
-    let so_far = c.loop-number.invariant.so_far in
-    let total = (p.constant +ℤ sum_below (length before) (given p.weights.items before)) +ℤ (sum_below (n + 1) (given p.weights.items after) +ℤ neg_ℤ (sum_below (n + 1) (given p.weights.items before))) in
-    let range = midway-range p.constant p.weights.items before after (n + 1) total p.constant_in_range p.weights_in_range (omega (arith, c.width-number-end.ensures)) refl in
-    let low = range.0 in
-    let high = range.1 in
-    record { so_far = omega (arith, ints); least = omega (arith, ints); most = omega (arith, ints) }
+    let as_long : length after ≡ length before = omega (arith, c.requires.before_width, c.requires.after_width) in
+    let word = get_or c.words-was.result.now c.words.place 0 in
+    let now = get_or c.words-is.result.now c.words.place 0 in
+    let gained = ap (λ l. gained_in_word l (c.words.place * 64) (bit_xor word now) now) c.deref.ensures.value in
+    let are_after = subst (λ n. AreWordsOf n c.words-is.result.now) as_long c.words-is.ensures.packed in
+    let is_after = subst (λ n. bits_in n c.words-is.result.now ≡ after) as_long c.words-is.ensures.bits in
+    let more = word-gained (length before) c.words-was.result.now weights before c.words-was.ensures.packed c.words-was.ensures.bits c.words-is.result.now after are_after is_after c.words.place in
+    let is = c.words.invariant in
+    let small = word-range weights (c.words.place * 64) (bit_xor word now) now p.weights_in_range in
+    let low = small.0 in
+    let high = small.1 in
+    let range = words-range p.constant weights before after (64 * (c.words.place + 1)) _ p.constant_in_range p.weights_in_range as_long refl in
+    let least = range.0 in
+    let most = range.1 in
+    let few = c.width.type_inv in
+    omega (arith, ints, c.width.ensures)
 
 pub returns : goal.returns
 returns c =
-    let p = c.args.self.now in
+    let weights = c.args.self.now.weights.items in
     let before = bits_of c.args.before.now in
     let after = bits_of c.args.after.now in
-    let end : c.loop-number.number ≡ length before = omega (arith, c.width-number-end.ensures) in
+    let is = c.words.invariant in
+    let enough = c.words-was.ensures.packed.enough in
     let as_long : length after ≡ length before = omega (arith, c.requires.before_width, c.requires.after_width) in
-    let all_before = ap (λ n. sum_below n (given p.weights.items before)) end in
-    let all_after = ap (λ n. sum_below n (given p.weights.items after)) end in
-    let whole = ap (λ n. sum_below n (given p.weights.items after)) as_long in
-    let so_far = c.loop-number.invariant.so_far in
+    let all_before = given-past weights before (64 * c.words.place) (omega arith) in
+    let all_after = given-past weights after (64 * c.words.place) (omega arith) in
+    let whole = ap (λ n. sum_below n (given weights after)) as_long in
     omega (arith, ints)

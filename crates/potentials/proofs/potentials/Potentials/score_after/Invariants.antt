@@ -1,12 +1,9 @@
-use Rattle.std.proofs.Common.{◌≡◌, ◌+◌, ◌*◌, length, pos, ◌+ℤ◌, neg_ℤ, ◌≤ℤ◌}
+use Rattle.std.proofs.Common.{◌≡◌, ◌*◌, length, ◌+ℤ◌, neg_ℤ}
 use Rattle.packed_state.specs.Packed.{bits_of}
 use Rattle.potential_functions.specs.PotentialFunctions.{sum_below, given}
 use Rattle.potentials.proofs.potentials.Potentials.score_after.Given as goal
 
-abbrev pub invariant-loop-number : goal.invariant-loop-number
-invariant-loop-number l = record {
-  so_far : l.total ≡ ((l.self.constant +ℤ sum_below (length (bits_of l.before)) (given l.self.weights.items (bits_of l.before)))
-      +ℤ (sum_below l.number (given l.self.weights.items (bits_of l.after)) +ℤ neg_ℤ (sum_below l.number (given l.self.weights.items (bits_of l.before)))));
-  least : neg_ℤ (pos (2147483647 * (length (bits_of l.before) + 1))) ≤ℤ l.total;
-  most : l.total ≤ℤ pos (2147483647 * (length (bits_of l.before) + 1));
-}
+abbrev pub invariant-words : goal.invariant-words
+invariant-words l =
+    l.total ≡ ((l.self.constant +ℤ sum_below (length (bits_of l.before)) (given l.self.weights.items (bits_of l.before)))
+    +ℤ (sum_below (64 * l.place) (given l.self.weights.items (bits_of l.after)) +ℤ neg_ℤ (sum_below (64 * l.place) (given l.self.weights.items (bits_of l.before)))))

@@ -1,0 +1,93 @@
+-- The value that fair potentials give is a consistent estimate, whatever bits a state has.
+use Rattle.std.proofs.Common.{◌≡◌, ◌∙◌, ℕ, ◌<◌, inl, inr, Bool, true, false, List, [], length, get_or, sym, ap, subst, arith, ℤ, pos, negsuc, refl, ◌+ℤ◌}
+use Rattle.std.specs.Prelude.{IsTrue, if◌then◌else◌, slice_get}
+use Rattle.std.specs.Option.{option_map, option_and_then}
+use Rattle.std.specs.FinSet.{contains}
+use Rattle.std.proofs.lemmas.Bool.{cases_lt}
+use Rattle.std.proofs.lemmas.List.{length-map, get_or-map, get_or_past}
+use Rattle.std.proofs.lemmas.List.Elements.{All-contains}
+use Rattle.std.proofs.lemmas.Option.{slice_get-get_or}
+use Rattle.model.specs.Task.{Atom, Task, Instance}
+use Rattle.model.specs.Meaning.{State, step, meets_goal}
+use Rattle.model.specs.Fluents.{is_fluent}
+use Rattle.model.specs.ClosedOff.{kept_instances}
+use Rattle.model.specs.NumberedAtoms.{stands_in}
+use Rattle.model.specs.Grounding.{state_of_bits, bits_of_state, ground_step, ground_system}
+use Rattle.model.proofs.NumberingLemmas.{stands_in-Contains}
+use Rattle.model.proofs.PackedStates.{chosen-stands_in, contains-fluent, contains-static, contains-numbered, packed-bits_of_state}
+use Rattle.search.specs.Estimates.{IsConsistent, above_zero, value_by}
+use Rattle.potential_functions.specs.PotentialFunctions.{PotentialFunction, weight, sum_below, given, score, or_zero, value}
+use Rattle.potential_functions.specs.Fair.{AreFair}
+use Rattle.potential_functions.specs.Laws.{AreNumberable}
+use Rattle.potential_functions.proofs.Sums.{sum-alike}
+use Rattle.potential_functions.proofs.LowerBound.{are_lower_bounds}
+use Rattle.potentials.proofs.WordLemmas.{sum-past, given-past}
+
+same-value : (z : ℤ) → above_zero z ≡ or_zero z
+same-value (pos n) = refl
+same-value (negsuc n) = refl
+
+module _ (task : Task) (atoms : List Atom) (numberable : AreNumberable task atoms) where
+  numbered-fluent : (q : Atom) → stands_in atoms q ≡ true → is_fluent task q.predicate ≡ true
+  numbered-fluent q there = All-contains (λ (a : Atom). IsTrue (is_fluent task a.predicate)) atoms q numberable.fluent (stands_in-Contains atoms q there)
+
+  -- the bits of the state that the bits stand for: as many as there are atoms
+  abbrev again : List Bool → List Bool
+  again bits = bits_of_state atoms (state_of_bits task atoms bits)
+
+  again-long : (bits : List Bool) → length (again bits) ≡ length atoms
+  again-long bits = length-map atoms (contains (state_of_bits task atoms bits))
+
+  again-state : (bits : List Bool) → state_of_bits task atoms (again bits) ≡ state_of_bits task atoms bits
+  again-state bits =
+      packed-bits_of_state (is_fluent task) task.init atoms numbered-fluent (state_of_bits task atoms bits)
+      (λ q static. contains-static (is_fluent task) task.init atoms numbered-fluent bits q static)
+      (λ q is there. chosen-stands_in atoms bits q (sym (contains-fluent (is_fluent task) task.init atoms bits q is) ∙ there))
+
+  again-bit : (bits : List Bool) (n : ℕ) → n < length atoms → get_or (again bits) n false ≡ get_or bits n false
+  again-bit bits n below =
+      let anything : Atom = record { predicate = 0; objects = [] } in
+      let a = get_or atoms n anything in
+      get_or-map (contains (state_of_bits task atoms bits)) atoms n anything false below
+      ∙ contains-numbered (is_fluent task) task.init atoms numberable.distinct bits n a (numberable.fluent n anything below) (slice_get-get_or atoms n anything below)
+
+  module _ (p : PotentialFunction) (width : length p.weights ≡ length atoms) where
+    -- more bits than atoms give nothing, and less are as if they were false
+    sum-as-many : (bits : List Bool) → sum_below (length bits) (given p.weights bits) ≡ sum_below (length atoms) (given p.weights bits)
+    sum-as-many bits =
+        elim (cases_lt (length bits) (length atoms)) [
+          | inl fewer ↦ sym (given-past p.weights bits (length atoms) (omega arith))
+          | inr more ↦ sum-past (length atoms) (length bits) (given p.weights bits) more
+              (λ k past. ap (λ w. if get_or bits k false then w else pos 0) (get_or_past p.weights k (pos 0) (omega (arith, width))) ∙ nothing (get_or bits k false))
+        ]
+      where
+        nothing : (b : Bool) → (if b then pos 0 else pos 0) ≡ pos 0
+        nothing true = refl
+        nothing false = refl
+
+    again-score : (bits : List Bool) → score p (again bits) ≡ score p bits
+    again-score bits =
+        ap (λ z. p.constant +ℤ z)
+        (ap (λ n. sum_below n (given p.weights (again bits))) (again-long bits)
+        ∙ sum-alike (length atoms) (given p.weights (again bits)) (given p.weights bits) (λ k below. ap (λ b. if b then weight p.weights k else pos 0) (again-bit bits k below))
+        ∙ sym (sum-as-many bits))
+
+    again-value : (bits : List Bool) → value p (again bits) ≡ value_by (score p) bits
+    again-value bits = ap or_zero (again-score bits) ∙ sym (same-value (score p bits))
+
+    again-step : (bits : List Bool) (number : ℕ) → ground_step task atoms (again bits) number ≡ ground_step task atoms bits number
+    again-step bits number =
+        ap (λ (s : State). option_and_then (λ (i : Instance). option_map (bits_of_state atoms) (step task s i)) (slice_get (kept_instances task) number)) (again-state bits)
+
+    pub fair_is_consistent : AreFair task atoms p → IsConsistent (ground_system task atoms) (value_by (score p))
+    fair_is_consistent fair =
+        let laws = (are_lower_bounds task atoms p numberable fair).ground_consistent in
+        record {
+          zero_at_goals = λ bits goal.
+              sym (again-value bits) ∙ laws.ends (again bits) (again-long bits) (subst (λ (s : State). IsTrue (meets_goal task s)) (sym (again-state bits)) goal);
+          falls_by_no_more = λ bits next number leads.
+              let falls = laws.falls (again bits) next number (again-long bits) (again-step bits number ∙ leads) in
+              let before = again-value bits in
+              let after = same-value (score p next) in
+              omega arith;
+        }

@@ -1,0 +1,91 @@
+-- What is known of potentials in range, and of the values that they give to packed states.
+use Rattle.std.proofs.Common.{◌≡◌, ℕ, suc, ◌≤◌, Bool, true, ◌&&◌, List, [], ◌∷◌, length, inl, inr, refl, ap, ◌∙◌, arith, ℤ, pos, negsuc}
+use Rattle.std.specs.Prelude.{◌==◌, All, IsTrue}
+use Rattle.std.specs.List.{list_all}
+use Rattle.std.proofs.lemmas.Bool.{and_from, lt-ltb, le-leb, eq-eqb}
+use Rattle.std.proofs.lemmas.Int.{ints}
+use Rattle.std.proofs.lemmas.List.{length-replicate}
+use Rattle.model.specs.Task.{Task, Atom}
+use Rattle.model.specs.Claims.{IsLowerBound}
+use Rattle.model.specs.Fluents.{is_fluent}
+use Rattle.model.specs.NumberedAtoms.{numbered_atoms}
+use Rattle.model.specs.Grounding.{state_of_bits, bits_of_state, ground_system}
+use Rattle.model.proofs.GroundTaskLemmas.{packs_states}
+use Rattle.potential_functions.specs.PotentialFunctions.{PotentialFunction, score, or_zero, value, given, IsInRange, AreInRange}
+use Rattle.potential_functions.specs.Laws.{AreLowerBounds}
+use Rattle.potential_functions.specs.Settled.{IsImproved}
+use Rattle.potential_functions.proofs.Zero.{zero_potentials}
+use Rattle.potential_functions.proofs.Falls.{or_zero-most}
+use Rattle.potential_functions.proofs.Sums.{sum-range}
+use Rattle.potential_functions.proofs.Ranges.{given-range}
+use Rattle.search.specs.Estimates.{above_zero, value_by}
+use Rattle.certificate_text.specs.Certificates.{is_weight, are_potentials}
+use Rattle.solver.specs.Improved.{AreSettledOrHigh}
+use Rattle.solver.proofs.GroundLemmas.{length-reachable}
+
+-- ---- the estimate of a search and the value are one
+
+above-or : (z : ℤ) → above_zero z ≡ or_zero z
+above-or (pos n) = refl
+above-or (negsuc n) = refl
+
+pub estimate-value : (p : PotentialFunction) → value_by (score p) ≡ value p
+estimate-value p = λ i bits. above-or (score p bits) i
+
+-- ---- improving
+
+-- what improving gives in 8 rounds
+pub improved_end : (task : Task) (atoms : List Atom) (p q : PotentialFunction) → IsImproved task atoms 8 p q → AreSettledOrHigh task atoms q
+improved_end task atoms p q improved =
+    elim improved.end [
+      | inl settled ↦ inl settled
+      | inr higher ↦ inr (omega (arith, higher))
+    ]
+
+-- there are as many weights as it is begun with
+pub zero-width : (p : PotentialFunction) (count : ℕ) → p ≡ zero_potentials count → length p.weights ≡ count
+zero-width p count is = ap (λ (q : PotentialFunction). length q.weights) is ∙ length-replicate count (pos 0)
+
+-- ---- range
+
+-- the most that potentials of as many atoms as a certificate may have give
+abbrev pub most_value : ℕ
+most_value = 4503599627370496
+
+pub value-most : (p : PotentialFunction) (bits : List Bool) → AreInRange p → length bits ≤ 1048576 → value p bits ≤ most_value
+value-most p bits range few =
+    let sum = (sum-range (length bits) (given p.weights bits) (λ k below. given-range p.weights bits k range.weights)).1 in
+    let most = range.constant.most in
+    or_zero-most (score p bits) most_value (omega (arith, ints))
+
+weight-passes : (w : ℤ) → IsInRange w → is_weight w ≡ true
+weight-passes (pos n) range = let most = range.most in le-leb n 2147483647 (omega (arith, ints))
+weight-passes (negsuc n) range = let least = range.least in lt-ltb n 2147483647 (omega (arith, ints))
+
+weights-pass : (weights : List ℤ) → All IsInRange weights → list_all is_weight weights ≡ true
+weights-pass [] all = refl
+weights-pass (w ∷ weights) all =
+    and_from (is_weight w) (list_all is_weight weights) (weight-passes w (all 0 (pos 0) (omega arith))) (weights-pass weights (λ k d below. all (suc k) d (omega (arith, below))))
+
+-- so they keep the limits of a certificate
+pub potentials-pass : (p : PotentialFunction) (count : ℕ) → AreInRange p → length p.weights ≡ count → are_potentials count p ≡ true
+potentials-pass p count range width =
+    and_from (is_weight p.constant && (length p.weights == count)) (list_all is_weight p.weights)
+    (and_from (is_weight p.constant) (length p.weights == count) (weight-passes p.constant range.constant) (eq-eqb (length p.weights) count width))
+    (weights-pass p.weights range.weights)
+
+-- ---- of the ground task
+
+module _ (task : Task) (p : PotentialFunction) where
+  abbrev atoms : List Atom
+  atoms = numbered_atoms task []
+
+  abbrev none_more : All (λ (a : Atom). IsTrue (is_fluent task a.predicate)) []
+  none_more = λ k d below. absurd (omega (arith, below))
+
+  -- a packed state has the value of the state that it stands for
+  pub value-packed : (bits : List Bool) → length bits ≡ length atoms → value p (bits_of_state atoms (state_of_bits task atoms bits)) ≡ value p bits
+  value-packed bits long = ap (value p) ((packs_states task [] none_more).one_packed bits long)
+
+pub lower_bound : (task : Task) (atoms : List Atom) (p : PotentialFunction) → AreLowerBounds task atoms p → IsLowerBound (ground_system task atoms) (value p)
+lower_bound task atoms p bounds s end plan reached runs goal = bounds.ground_bound s end plan (length-reachable task atoms s reached) runs goal

@@ -1,0 +1,29 @@
+//! The estimate that a search goes by.
+ghost use Rattle.std.specs.Prelude.{IfOk};
+ghost use Rattle.grounding.specs.Ground.{task_in, atoms_in};
+ghost use Rattle.potentials.specs.FairPotentials.{potentials_in, AreOf};
+ghost use Rattle.solver.specs.Improved.{AreSettledOrHigh};
+
+use faults::NoMemory;
+use grounding::Ground;
+use potentials::{Fair, Potentials};
+use std::alloc::Global;
+
+/// In how many rounds potentials are made better, at most. Each raises the initial state's value, or is the last.
+const IMPROVING_ROUNDS: u32 = 8;
+
+/// Fair potentials of the ground task, made better from those that are all 0.
+pub(crate) fn improved_potentials<'g, 't>(
+    alloc: Global,
+    ground: &'g Ground<'t>,
+) -> Result<Fair<'g, 't>, NoMemory>
+    ensures fair { IfOk result (λ f. AreOf ground.now (potentials_in f) f) }
+    ensures improved { IfOk result (λ f. AreSettledOrHigh (task_in ground.now) (atoms_in ground.now) (potentials_in f)) }
+{
+    let zero = Potentials::zero(alloc, ground)?;
+    let potentials = zero.improve(alloc, ground, IMPROVING_ROUNDS)?;
+    match Fair::new(alloc, potentials, ground)? {
+        Some(fair) => Ok(fair),
+        None => unreachable!(),
+    }
+}
