@@ -12,6 +12,8 @@ mod ground_tasks;
 #[cfg(test)]
 mod laws;
 #[cfg(test)]
+mod reports;
+#[cfg(test)]
 mod states;
 #[cfg(test)]
 mod tasks;

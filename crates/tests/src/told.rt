@@ -24,9 +24,9 @@ static CODES: [Code; 30] = [
 
 /// The codes of refused certificates.
 #[rattlefmt::skip]
-static REFUSALS: [RefusalCode; 14] = [
+static REFUSALS: [RefusalCode; 16] = [
     RefusalCode::CertForm, RefusalCode::CertVersion, RefusalCode::Truncated,
-    RefusalCode::NotFluent, RefusalCode::Repeated, RefusalCode::NoInitial, RefusalCode::GoalOpen,
+    RefusalCode::NotFluent, RefusalCode::Repeated, RefusalCode::NoInitial, RefusalCode::Unfair, RefusalCode::UnfairGoal, RefusalCode::GoalOpen,
     RefusalCode::SuccessorMissing, RefusalCode::SuccessorDearer, RefusalCode::CutWeak, RefusalCode::CutNotAllowed,
     RefusalCode::PlanInvalid, RefusalCode::PlanDearer, RefusalCode::Limit,
 ];
@@ -37,7 +37,7 @@ const NAMES: &str = "1 BadByte, 2 BadWord, 3 Unbalanced, 4 TooDeep, 5 TooLong, 6
 12 LeftOut, 13 NumberTooLarge, 14 UnknownType, 15 TypeCycle, 16 Duplicate, 17 UnknownName, 18 WrongArity, \
 19 WrongType, 20 Shadowed, 21 DomainMismatch, 22 BadMetric, 23 BadCost, 24 NegativeInit, 25 TooMany, \
 30 PlanForm, 31 TimedStep, 32 UnknownAction, 33 StepArity, 34 StepType, \
-40 CertForm, 41 CertVersion, 42 Truncated, 43 NotFluent, 44 Repeated, 45 NoInitial, 48 GoalOpen, 49 SuccessorMissing, 50 SuccessorDearer, \
+40 CertForm, 41 CertVersion, 42 Truncated, 43 NotFluent, 44 Repeated, 45 NoInitial, 46 Unfair, 47 UnfairGoal, 48 GoalOpen, 49 SuccessorMissing, 50 SuccessorDearer, \
 51 CutWeak, 52 CutNotAllowed, 53 PlanInvalid, 54 PlanDearer, 55 Limit, ";
 
 /// The numbers and names as they are told.
