@@ -66,6 +66,8 @@ module _ {R : Type 0} (remaining : R → Option (List ℕ)) (task : Task) (first
     told_of_text code.NotFluent line told = told_anyway line 43 told
     told_of_text code.Repeated line told = told_anyway line 44 told
     told_of_text code.NoInitial line told = told_anyway line 45 told
+    told_of_text code.Unfair line told = told_anyway line 46 told
+    told_of_text code.UnfairGoal line told = told_anyway line 47 told
     told_of_text code.GoalOpen line told = told_anyway line 48 told
     told_of_text code.SuccessorMissing line told = told_anyway line 49 told
     told_of_text code.SuccessorDearer line told = told_anyway line 50 told
@@ -78,6 +80,7 @@ module _ {R : Type 0} (remaining : R → Option (List ℕ)) (task : Task) (first
     -- no line of an accepted text is refused
     pub none_at_fault : (plan : Option (List Instance)) → IsAccepted task text plan → (e : Refusal) → IsLineRefusal remaining task first now e → IsNoFault e
     none_at_fault plan accepted (refusal.Line c line) told = accepted_has_no_fault task text plan accepted (number_of c) line (told_of_text c line told)
+    none_at_fault plan accepted (refusal.Unfair i) told = absurd told
     none_at_fault plan accepted (refusal.Plain c) told = absurd told
     none_at_fault plan accepted refusal.NoMemory told = tt
     none_at_fault plan accepted refusal.Device told = tt
@@ -114,6 +117,7 @@ pub counts_judged : (task : Task) (c : Certificate) (plan : Option (List Instanc
     → after ≡ before → CountsRefusal before after r
 counts_judged task c plan most before after (Ok answer) wrong same = same
 counts_judged task c plan most before after (Err (refusal.Line code line)) wrong same = same
+counts_judged task c plan most before after (Err (refusal.Unfair i)) wrong same = same
 counts_judged task c plan most before after (Err (refusal.Plain code)) wrong same = same
 counts_judged task c plan most before after (Err refusal.NoMemory) wrong same = same
 counts_judged task c plan most before after (Err refusal.Device) wrong same = absurd wrong

@@ -2,6 +2,7 @@
 use Rattle.std.proofs.Common.{◌≡◌, ℕ, ◌≤◌, arith, List, length, Option, sym, ap, ◌∙◌, refl}
 use Rattle.std.specs.Prelude.{Contains, IfErr, MatchOption, OnOk, Result, Ok, Err, None, Some}
 use Rattle.std.proofs.lemmas.Option.{slice_get_within}
+use Rattle.formulas.specs.State.{instance_of}
 use Rattle.certificate_listing.specs.declared.refusal.Refusal.{Refusal}
 use Rattle.certificate_listing.specs.declared.refusal.Refusal.TheVariants as refusal
 use Rattle.cert_checker.specs.Reasons.{reason_of}
@@ -16,7 +17,7 @@ use Rattle.model.specs.Runs.{System, cost_of_all, Solves, CostsAtLeast, IsOptima
 use Rattle.model.specs.Meaning.{State}
 use Rattle.model.specs.Claims.{Line}
 use Rattle.certificate_text.specs.Certificates.{Certificate, lines_of, IsClosedFor}
-use Rattle.certificate_text.specs.CertificateRefusals.{Reason, limit, IsPlanWithin, IsWrong, IsWrongLine}
+use Rattle.certificate_text.specs.CertificateRefusals.{Reason, limit, unfair, IsPlanWithin, IsWrong, IsWrongLine}
 use Rattle.model.proofs.ListLemmas.{Contains-place}
 use Rattle.certificate_text.proofs.CertificateRefusalsLemmas.{right, right_line}
 
@@ -27,6 +28,8 @@ on_ok (Err e) p = tt
 -- where all is right to the last line, the certificate is closed
 pub closed_for : (task : Task) (c : Certificate) (most : ℕ) → IsRightUpTo task c most (length (lines_of task c)) → IsClosedFor task c
 closed_for task c most right = record {
+  one_weight_an_atom = right.weighed;
+  potentials_are_fair = right.fair;
   atoms_are_fluent = right.atoms.fluent;
   atoms_are_distinct = right.atoms.distinct;
   states_are_distinct = right.distinct;
@@ -53,10 +56,14 @@ only_limit : (task : Task) (c : Certificate) (plan : Option (List Instance)) (mo
 only_limit task c plan most closed within (Some reason) wrong = ap Some (right task c closed plan most reason within wrong)
 only_limit task c plan most closed within None wrong = absurd wrong
 
+not_limit : unfair ≡ limit → ⊥
+not_limit same = absurd (cc)
+
 -- a true refusal of a closed certificate, with a plan that costs no more than is claimed, is of no fault of theirs
 pub no_fault : (task : Task) (c : Certificate) (plan : Option (List Instance)) (most : ℕ) → IsClosedFor task c → IsPlanWithin task c.claim plan → (e : Refusal) → IsTrueRefusal task c plan most e → IsNoFault e
 no_fault task c plan most closed within (refusal.Line code line) wrong = no_line task c closed line (reason_of code) wrong
 no_fault task c plan most closed within (refusal.Plain code) wrong = only_limit task c plan most closed within (reason_of code) wrong
+no_fault task c plan most closed within (refusal.Unfair i) wrong = absurd (not_limit (right task c closed plan most unfair within (instance_of i, wrong.0, wrong.1)))
 no_fault task c plan most closed within refusal.NoMemory wrong = tt
 no_fault task c plan most closed within refusal.Device wrong = tt
 no_fault task c plan most closed within refusal.Failed wrong = wrong

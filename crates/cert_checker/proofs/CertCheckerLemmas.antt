@@ -13,7 +13,7 @@ use Rattle.model.specs.Task.{Task, Instance}
 use Rattle.model.specs.Meaning.{State, system_of}
 use Rattle.model.specs.Instances.{successors_of}
 use Rattle.model.specs.Claims.{Allows, Line, IsListedWithin}
-use Rattle.certificate_text.specs.Certificates.{Certificate, StateLine, is_claim, is_number, is_state_line, keeps_limits, lines_of, rise, state_of_line}
+use Rattle.certificate_text.specs.Certificates.{Certificate, StateLine, are_potentials, is_claim, is_number, is_state_line, keeps_limits, lines_of, rise, state_of_line}
 use Rattle.certificate_text.specs.CertificateRefusals.{IsListed}
 use Rattle.model.proofs.ListLemmas.{Contains-cases, Contains-none}
 use Rattle.model.proofs.InstancesLemmas.{Contains-successors}
@@ -113,9 +113,15 @@ lines_within task cert k line at = omega (arith, slice_get_within (lines_of task
 
 -- ---- limits
 
+pub lines_within_limits : (c : Certificate) → keeps_limits c ≡ true → list_all (is_state_line (length c.atoms)) c.lines ≡ true
+lines_within_limits c keeps =
+    let counts = is_claim c.claim && nat_le (length c.atoms) 1048576 && nat_le (length c.lines) 16777216 in
+    let states = list_all (is_state_line (length c.atoms)) c.lines in
+    (and_parts counts states (and_parts (counts && states) (are_potentials (length c.atoms) c.potentials) keeps).0).1
+
 small_line : (c : Certificate) (place : ℕ) (l : StateLine) → keeps_limits c ≡ true → slice_get c.lines place ≡ Some l → (is_number l.cost && option_map_or is_number l.cut true) ≡ true
 small_line c place l keeps at =
-    let all = (and_parts (is_claim c.claim && nat_le (length c.atoms) 1048576 && nat_le (length c.lines) 16777216) (list_all (is_state_line (length c.atoms)) c.lines) keeps).1 in
+    let all = lines_within_limits c keeps in
     (and_parts (is_number l.cost && option_map_or is_number l.cut true) (rise (length c.atoms) 0 l.atoms) (passes_got (is_state_line (length c.atoms)) c.lines place l at all)).0
 
 pub small_cost : (c : Certificate) (place cost : ℕ) (o : Option ℕ) → keeps_limits c ≡ true → HasCost c place cost o → cost < 1152921504606846976

@@ -17,9 +17,11 @@ use Rattle.cert_checker.proofs.RefusalsLemmas.{AreApart}
 use Rattle.model.specs.Task.{Task, Instance}
 use Rattle.model.specs.Meaning.{State, system_of}
 use Rattle.model.specs.Instances.{successors_of}
+use Rattle.model.specs.NumberedAtoms.{numbered_atoms}
 use Rattle.model.specs.Limits.{max_numbered_atoms}
 use Rattle.model.specs.Grounding.{limit_told}
 use Rattle.model.specs.Claims.{none, Line, IsListedWithin}
+use Rattle.potential_functions.specs.Fair.{AreFair}
 use Rattle.certificate_text.specs.Certificates.{Certificate, StateLine, lines_of, IsClosedFor}
 use Rattle.certificate_text.specs.CertificateRefusals.{Reason, state_line, IsFirst}
 use Rattle.certificate_text.proofs.CertificateRefusalsLemmas.{apart}
@@ -69,13 +71,16 @@ cuts_allowed task c all place l rest below at cut claim =
 -- ---- the lines so far
 
 -- all is right up to the first state line
-pub right_from : (task : Task) (c : Certificate) (most : ℕ) → AreApart task c → AreFluent task c.atoms → CutsAreAllowed task c (length (lines_of task c))
-    → limit_told most max_numbered_atoms task c.atoms ≡ None → IsListedWithin (lines_of task c) (system_of task).initial 0 → IsRightUpTo task c most 0
-right_from task c most apart atoms allowed few initial = record {
+pub right_from : (task : Task) (c : Certificate) (most : ℕ) → length c.potentials.weights ≡ length c.atoms → AreApart task c → AreFluent task c.atoms → CutsAreAllowed task c (length (lines_of task c))
+    → limit_told most max_numbered_atoms task c.atoms ≡ None → AreFair task (numbered_atoms task c.atoms) c.potentials → IsListedWithin (lines_of task c) (system_of task).initial 0
+    → IsRightUpTo task c most 0
+right_from task c most weighed apart atoms allowed few fair initial = record {
+  weighed = weighed;
   atoms = atoms;
   distinct = apart;
   allowed = allowed;
   within = few;
+  fair = fair;
   initial = initial;
   lines = λ k l lt at. absurd (omega arith);
 }
@@ -83,10 +88,12 @@ right_from task c most apart atoms allowed few initial = record {
 pub right_to_line : (task : Task) (c : Certificate) (most place : ℕ) → IsRightUpTo task c most 0
     → ((k : ℕ) (l : Line State) → k < place → slice_get (lines_of task c) k ≡ Some l → IsLineClosed task c l) → IsRightUpTo task c most place
 right_to_line task c most place right lines = record {
+  weighed = right.weighed;
   atoms = right.atoms;
   distinct = right.distinct;
   allowed = right.allowed;
   within = right.within;
+  fair = right.fair;
   initial = right.initial;
   lines = lines;
 }

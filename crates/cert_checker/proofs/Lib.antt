@@ -1,5 +1,6 @@
 pub mod CertCheckerLemmas
 pub mod RefusalsLemmas
+pub mod WeightsLemmas
 pub mod AnswerLemmas
 pub mod OrderLemmas
 pub mod FirstLemmas

@@ -3,16 +3,21 @@ use Rattle.std.proofs.Common.{◌≡◌, ◌≢◌, ℕ, ◌<◌, ◌⊎◌, ◌
 use Rattle.std.specs.Prelude.{IsSome, IsTrue, AllPairs, slice_get}
 use Rattle.std.proofs.lemmas.Bool.{cases_eq}
 use Rattle.std.proofs.lemmas.Option.{slice_get_within, get_or_from_slice_get}
+use Rattle.std.proofs.lemmas.List.Elements.{All-contains}
 use Rattle.model.specs.Task.{Atom, Task, Instance}
 use Rattle.model.specs.WellTyped.{is_atom}
 use Rattle.model.specs.Runs.{Solves}
-use Rattle.model.specs.Meaning.{State, system_of, initial_state}
+use Rattle.model.specs.Meaning.{State, cost_of, system_of, initial_state}
+use Rattle.model.specs.ClosedOff.{kept_instances}
+use Rattle.model.specs.NumberedAtoms.{numbered_atoms}
 use Rattle.model.specs.Limits.{max_numbered_atoms}
 use Rattle.model.specs.Grounding.{limit_told}
 use Rattle.model.specs.Claims.{none, Allows, Line, IsListedWithin}
 use Rattle.model.specs.Fluents.{is_fluent}
 use Rattle.certificate_text.specs.Certificates.{Certificate, lines_of, IsClosedFor}
-use Rattle.certificate_text.specs.CertificateRefusals.{Reason, not_fluent, repeated, no_initial, goal_open, successor_missing, successor_dearer, cut_weak, cut_not_allowed, plan_invalid, plan_dearer, limit, IsWrongLine, IsWrong, IsFirst, stage_of, rank_of, state_line}
+use Rattle.certificate_text.specs.CertificateRefusals.{Reason, not_fluent, repeated, no_initial, unfair, unfair_goal, goal_open, successor_missing, successor_dearer, cut_weak, cut_not_allowed, plan_invalid, plan_dearer, limit, IsWrongLine, IsWrong, IsFirst, stage_of, rank_of, state_line}
+use Rattle.potential_functions.specs.Fair.{IsFairAt, AreFair}
+use Rattle.potentials.specs.Fairness.{AreInstancesFair}
 use Rattle.cert_checker.specs.FluentAtoms.{AreFluent}
 use Rattle.cert_checker.specs.CheckedLines.{CutsAreAllowed, IsLineClosed, IsRightUpTo}
 use Rattle.certificate_text.proofs.CertificateRefusalsLemmas.{apart, right_line}
@@ -75,6 +80,8 @@ module _ (task : Task) (c : Certificate) where
   states_right count line plan_invalid atoms right reach stage wrong = wrong
   states_right count line plan_dearer atoms right reach stage wrong = wrong
   states_right count line limit atoms right reach stage wrong = wrong
+  states_right count line unfair atoms right reach stage wrong = wrong
+  states_right count line unfair_goal atoms right reach stage wrong = wrong
 
   -- what is looked for in reading is wrong with a line alone
   of_line : (plan : Option (List Instance)) (most : ℕ) (r : Reason) → stage_of r ≡ 0 → IsWrong task c plan most r → ⊥
@@ -89,6 +96,8 @@ module _ (task : Task) (c : Certificate) where
   of_line plan most plan_invalid stage wrong = absurd (omega arith)
   of_line plan most plan_dearer stage wrong = absurd (omega arith)
   of_line plan most limit stage wrong = absurd (omega arith)
+  of_line plan most unfair stage wrong = absurd (omega arith)
+  of_line plan most unfair_goal stage wrong = absurd (omega arith)
 
   -- ---- after reading
 
@@ -115,31 +124,89 @@ module _ (task : Task) (c : Certificate) where
   in_limit plan most cut_weak l within stage wrong = absurd (omega arith)
   in_limit plan most plan_invalid l within stage wrong = absurd (omega arith)
   in_limit plan most plan_dearer l within stage wrong = absurd (omega arith)
+  in_limit plan most unfair l within stage wrong = absurd (omega arith)
+  in_limit plan most unfair_goal l within stage wrong = absurd (omega arith)
 
-  before_initial : (plan : Option (List Instance)) (most : ℕ) (r : Reason) (l : ℕ) → AtomsAreRight task c (length c.atoms) → StatesAreRight task c (length (lines_of task c)) → limit_told most max_numbered_atoms task c.atoms ≡ None
+  before_fair : (plan : Option (List Instance)) (most : ℕ) (r : Reason) (l : ℕ) → AtomsAreRight task c (length c.atoms) → StatesAreRight task c (length (lines_of task c)) → limit_told most max_numbered_atoms task c.atoms ≡ None
       → stage_of r < 2 → IsWrongLine task c r l ⊎ IsWrong task c plan most r → ⊥
-  before_initial plan most r l atoms states within stage wrong =
+  before_fair plan most r l atoms states within stage wrong =
       elim (cases_eq (stage_of r) 0) [
         | inl reading ↦ read_right plan most r l atoms states reading wrong
         | inr later ↦ in_limit plan most r l within (omega arith) wrong
       ]
 
-  pub first_initial : (plan : Option (List Instance)) (most : ℕ) → AtomsAreRight task c (length c.atoms) → StatesAreRight task c (length (lines_of task c)) → limit_told most max_numbered_atoms task c.atoms ≡ None
-      → IsFirst task c plan most no_initial 0
-  first_initial plan most atoms states within r l (inl before) wrong = before_initial plan most r l atoms states within before wrong
-  first_initial plan most atoms states within r l (inr (same, inl before)) wrong = omega arith
-  first_initial plan most atoms states within r l (inr (same, inr (there, rank))) wrong = no_rank r same rank
-    where
-      no_rank : (r : Reason) → stage_of r ≡ 2 → rank_of r < 0 → ⊥
-      no_rank r same rank = omega arith
+  pub first_unfair : (plan : Option (List Instance)) (most : ℕ) → AtomsAreRight task c (length c.atoms) → StatesAreRight task c (length (lines_of task c)) → limit_told most max_numbered_atoms task c.atoms ≡ None
+      → IsFirst task c plan most unfair 0
+  first_unfair plan most atoms states within r l (inl before) wrong = before_fair plan most r l atoms states within before wrong
+  first_unfair plan most atoms states within r l (inr (same, inl before)) wrong = omega arith
+  first_unfair plan most atoms states within r l (inr (same, inr (there, rank))) wrong = omega arith
 
-  in_initial : (plan : Option (List Instance)) (most : ℕ) (r : Reason) (l : ℕ) → IsListedWithin (lines_of task c) (initial_state task) 0 → stage_of r ≡ 2 → IsWrongLine task c r l ⊎ IsWrong task c plan most r → ⊥
+  all_fair : (plan : Option (List Instance)) (most : ℕ) → AreInstancesFair task (numbered_atoms task c.atoms) c.potentials → IsWrong task c plan most unfair → ⊥
+  all_fair plan most fair (i, kept, wrong) =
+      wrong (All-contains (λ (i : Instance). IsFairAt (cost_of task i) task (numbered_atoms task c.atoms) c.potentials.weights i) (kept_instances task) i fair kept)
+
+  pub first_unfair_goal : (plan : Option (List Instance)) (most : ℕ) → AtomsAreRight task c (length c.atoms) → StatesAreRight task c (length (lines_of task c)) → limit_told most max_numbered_atoms task c.atoms ≡ None
+      → AreInstancesFair task (numbered_atoms task c.atoms) c.potentials → IsFirst task c plan most unfair_goal 0
+  first_unfair_goal plan most atoms states within fair r l (inl before) wrong = before_fair plan most r l atoms states within before wrong
+  first_unfair_goal plan most atoms states within fair r l (inr (same, inl before)) wrong = omega arith
+  first_unfair_goal plan most atoms states within fair r l (inr (same, inr (there, rank))) wrong = before_goal r same rank wrong
+    where
+      before_goal : (r : Reason) → stage_of r ≡ 2 → rank_of r < 1 → IsWrongLine task c r l ⊎ IsWrong task c plan most r → ⊥
+      before_goal unfair stage rank (inl wrong) = wrong
+      before_goal unfair stage rank (inr wrong) = all_fair plan most fair wrong
+      before_goal unfair_goal stage rank wrong = omega arith
+      before_goal not_fluent stage rank wrong = absurd (omega arith)
+      before_goal repeated stage rank wrong = absurd (omega arith)
+      before_goal cut_not_allowed stage rank wrong = absurd (omega arith)
+      before_goal limit stage rank wrong = absurd (omega arith)
+      before_goal no_initial stage rank wrong = absurd (omega arith)
+      before_goal goal_open stage rank wrong = absurd (omega arith)
+      before_goal successor_missing stage rank wrong = absurd (omega arith)
+      before_goal successor_dearer stage rank wrong = absurd (omega arith)
+      before_goal cut_weak stage rank wrong = absurd (omega arith)
+      before_goal plan_invalid stage rank wrong = absurd (omega arith)
+      before_goal plan_dearer stage rank wrong = absurd (omega arith)
+
+  in_fair : (plan : Option (List Instance)) (most : ℕ) (r : Reason) (l : ℕ) → AreFair task (numbered_atoms task c.atoms) c.potentials → stage_of r ≡ 2 → IsWrongLine task c r l ⊎ IsWrong task c plan most r → ⊥
+  in_fair plan most unfair l fair stage (inl wrong) = wrong
+  in_fair plan most unfair l fair stage (inr wrong) = all_fair plan most fair.instances wrong
+  in_fair plan most unfair_goal l fair stage (inl wrong) = wrong
+  in_fair plan most unfair_goal l fair stage (inr wrong) = wrong fair.goals
+  in_fair plan most not_fluent l fair stage wrong = absurd (omega arith)
+  in_fair plan most repeated l fair stage wrong = absurd (omega arith)
+  in_fair plan most cut_not_allowed l fair stage wrong = absurd (omega arith)
+  in_fair plan most limit l fair stage wrong = absurd (omega arith)
+  in_fair plan most no_initial l fair stage wrong = absurd (omega arith)
+  in_fair plan most goal_open l fair stage wrong = absurd (omega arith)
+  in_fair plan most successor_missing l fair stage wrong = absurd (omega arith)
+  in_fair plan most successor_dearer l fair stage wrong = absurd (omega arith)
+  in_fair plan most cut_weak l fair stage wrong = absurd (omega arith)
+  in_fair plan most plan_invalid l fair stage wrong = absurd (omega arith)
+  in_fair plan most plan_dearer l fair stage wrong = absurd (omega arith)
+
+  before_initial : (plan : Option (List Instance)) (most : ℕ) (r : Reason) (l : ℕ) → AtomsAreRight task c (length c.atoms) → StatesAreRight task c (length (lines_of task c)) → limit_told most max_numbered_atoms task c.atoms ≡ None
+      → AreFair task (numbered_atoms task c.atoms) c.potentials → stage_of r < 3 → IsWrongLine task c r l ⊎ IsWrong task c plan most r → ⊥
+  before_initial plan most r l atoms states within fair stage wrong =
+      elim (cases_eq (stage_of r) 2) [
+        | inl unfair_told ↦ in_fair plan most r l fair unfair_told wrong
+        | inr earlier ↦ before_fair plan most r l atoms states within (omega arith) wrong
+      ]
+
+  pub first_initial : (plan : Option (List Instance)) (most : ℕ) → AtomsAreRight task c (length c.atoms) → StatesAreRight task c (length (lines_of task c)) → limit_told most max_numbered_atoms task c.atoms ≡ None
+      → AreFair task (numbered_atoms task c.atoms) c.potentials → IsFirst task c plan most no_initial 0
+  first_initial plan most atoms states within fair r l (inl before) wrong = before_initial plan most r l atoms states within fair before wrong
+  first_initial plan most atoms states within fair r l (inr (same, inl before)) wrong = omega arith
+  first_initial plan most atoms states within fair r l (inr (same, inr (there, rank))) wrong = omega arith
+
+  in_initial : (plan : Option (List Instance)) (most : ℕ) (r : Reason) (l : ℕ) → IsListedWithin (lines_of task c) (initial_state task) 0 → stage_of r ≡ 3 → IsWrongLine task c r l ⊎ IsWrong task c plan most r → ⊥
   in_initial plan most no_initial l listed stage (inl wrong) = wrong
   in_initial plan most no_initial l listed stage (inr wrong) = wrong listed
   in_initial plan most not_fluent l listed stage wrong = absurd (omega arith)
   in_initial plan most repeated l listed stage wrong = absurd (omega arith)
   in_initial plan most cut_not_allowed l listed stage wrong = absurd (omega arith)
   in_initial plan most limit l listed stage wrong = absurd (omega arith)
+  in_initial plan most unfair l listed stage wrong = absurd (omega arith)
+  in_initial plan most unfair_goal l listed stage wrong = absurd (omega arith)
   in_initial plan most goal_open l listed stage wrong = absurd (omega arith)
   in_initial plan most successor_missing l listed stage wrong = absurd (omega arith)
   in_initial plan most successor_dearer l listed stage wrong = absurd (omega arith)
@@ -147,16 +214,16 @@ module _ (task : Task) (c : Certificate) where
   in_initial plan most plan_invalid l listed stage wrong = absurd (omega arith)
   in_initial plan most plan_dearer l listed stage wrong = absurd (omega arith)
 
-  before_lines : (plan : Option (List Instance)) (most place : ℕ) (r : Reason) (l : ℕ) → IsRightUpTo task c most place → stage_of r < 3 → IsWrongLine task c r l ⊎ IsWrong task c plan most r → ⊥
+  before_lines : (plan : Option (List Instance)) (most place : ℕ) (r : Reason) (l : ℕ) → IsRightUpTo task c most place → stage_of r < 4 → IsWrongLine task c r l ⊎ IsWrong task c plan most r → ⊥
   before_lines plan most place r l right stage wrong =
-      elim (cases_eq (stage_of r) 2) [
+      elim (cases_eq (stage_of r) 3) [
         | inl initial ↦ in_initial plan most r l right.initial initial wrong
-        | inr earlier ↦ before_initial plan most r l (atoms_right task c right.atoms) (states_right_all task c right.distinct right.allowed) right.within (omega arith) wrong
+        | inr earlier ↦ before_initial plan most r l (atoms_right task c right.atoms) (states_right_all task c right.distinct right.allowed) right.within right.fair (omega arith) wrong
       ]
 
   -- ---- the state lines
 
-  line_right : (r : Reason) (line place : ℕ) → line < state_line c place → ((k : ℕ) (l : Line State) → k < place → slice_get (lines_of task c) k ≡ Some l → IsLineClosed task c l) → stage_of r ≡ 3
+  line_right : (r : Reason) (line place : ℕ) → line < state_line c place → ((k : ℕ) (l : Line State) → k < place → slice_get (lines_of task c) k ≡ Some l → IsLineClosed task c l) → stage_of r ≡ 4
       → IsWrongLine task c r line → ⊥
   line_right goal_open line place lt right stage (l, (k, told, at), is_open, goal, denied) = denied (((right k l (omega arith) at).is_open is_open).goal_allowed goal)
   line_right successor_missing line place lt right stage (l, i, next, ((k, told, at), is_open, leads), missing) =
@@ -173,10 +240,12 @@ module _ (task : Task) (c : Certificate) where
   line_right cut_not_allowed line place lt right stage wrong = absurd (omega arith)
   line_right no_initial line place lt right stage wrong = wrong
   line_right limit line place lt right stage wrong = wrong
+  line_right unfair line place lt right stage wrong = wrong
+  line_right unfair_goal line place lt right stage wrong = wrong
   line_right plan_invalid line place lt right stage wrong = wrong
   line_right plan_dearer line place lt right stage wrong = wrong
 
-  of_state_line : (plan : Option (List Instance)) (most : ℕ) (r : Reason) → stage_of r ≡ 3 → IsWrong task c plan most r → ⊥
+  of_state_line : (plan : Option (List Instance)) (most : ℕ) (r : Reason) → stage_of r ≡ 4 → IsWrong task c plan most r → ⊥
   of_state_line plan most not_fluent stage wrong = wrong
   of_state_line plan most repeated stage wrong = wrong
   of_state_line plan most cut_not_allowed stage wrong = wrong
@@ -186,11 +255,13 @@ module _ (task : Task) (c : Certificate) where
   of_state_line plan most cut_weak stage wrong = wrong
   of_state_line plan most no_initial stage wrong = absurd (omega arith)
   of_state_line plan most limit stage wrong = absurd (omega arith)
+  of_state_line plan most unfair stage wrong = absurd (omega arith)
+  of_state_line plan most unfair_goal stage wrong = absurd (omega arith)
   of_state_line plan most plan_invalid stage wrong = absurd (omega arith)
   of_state_line plan most plan_dearer stage wrong = absurd (omega arith)
 
-  pub first_in_line : (plan : Option (List Instance)) (most place : ℕ) (reason : Reason) → IsRightUpTo task c most place → stage_of reason ≡ 3
-      → ((r : Reason) → stage_of r ≡ 3 → rank_of r < rank_of reason → IsWrongLine task c r (state_line c place) → ⊥) → IsFirst task c plan most reason (state_line c place)
+  pub first_in_line : (plan : Option (List Instance)) (most place : ℕ) (reason : Reason) → IsRightUpTo task c most place → stage_of reason ≡ 4
+      → ((r : Reason) → stage_of r ≡ 4 → rank_of r < rank_of reason → IsWrongLine task c r (state_line c place) → ⊥) → IsFirst task c plan most reason (state_line c place)
   first_in_line plan most place reason right stage here r l (inl before) wrong = before_lines plan most place r l right (omega arith) wrong
   first_in_line plan most place reason right stage here r l (inr (same, inl before)) (inl wrong) = line_right r l place before right.lines (same ∙ stage) wrong
   first_in_line plan most place reason right stage here r l (inr (same, inl before)) (inr wrong) = of_state_line plan most r (same ∙ stage) wrong
@@ -199,7 +270,7 @@ module _ (task : Task) (c : Certificate) where
 
   -- of an open state whose goal is as it is to be
   pub open_here : (place : ℕ) (l : Line State) → slice_get (lines_of task c) place ≡ Some l → l.cut ≡ None → (IsTrue ((system_of task).meets_goal l.state) → Allows c.claim l.cost)
-      → (r : Reason) → stage_of r ≡ 3 → rank_of r < 1 → IsWrongLine task c r (state_line c place) → ⊥
+      → (r : Reason) → stage_of r ≡ 4 → rank_of r < 1 → IsWrongLine task c r (state_line c place) → ⊥
   open_here place l here is_open allowed goal_open stage rank (other, (k, told, at), cut, goal, denied) =
       let there : k ≡ place = omega arith in
       let same = the_line place k other l there at here in
@@ -216,15 +287,19 @@ module _ (task : Task) (c : Certificate) where
   open_here place l here is_open allowed cut_not_allowed stage rank wrong = absurd (omega arith)
   open_here place l here is_open allowed no_initial stage rank wrong = wrong
   open_here place l here is_open allowed limit stage rank wrong = wrong
+  open_here place l here is_open allowed unfair stage rank wrong = wrong
+  open_here place l here is_open allowed unfair_goal stage rank wrong = wrong
   open_here place l here is_open allowed plan_invalid stage rank wrong = wrong
   open_here place l here is_open allowed plan_dearer stage rank wrong = wrong
 
   -- ---- the plan
 
-  before_plan : (plan : Option (List Instance)) (most : ℕ) (r : Reason) (l : ℕ) → IsClosedFor task c → limit_told most max_numbered_atoms task c.atoms ≡ None → stage_of r < 4 → IsWrongLine task c r l ⊎ IsWrong task c plan most r → ⊥
+  before_plan : (plan : Option (List Instance)) (most : ℕ) (r : Reason) (l : ℕ) → IsClosedFor task c → limit_told most max_numbered_atoms task c.atoms ≡ None → stage_of r < 5 → IsWrongLine task c r l ⊎ IsWrong task c plan most r → ⊥
   before_plan plan most r l closed within stage (inl wrong) = right_line task c closed r l wrong
   before_plan plan most limit l closed within stage (inr wrong) = none_told (limit_told most max_numbered_atoms task c.atoms) within wrong
   before_plan plan most no_initial l closed within stage (inr wrong) = wrong closed.listing_is_closed.initial_listed
+  before_plan plan most unfair l closed within stage (inr wrong) = all_fair plan most closed.potentials_are_fair.instances wrong
+  before_plan plan most unfair_goal l closed within stage (inr wrong) = wrong closed.potentials_are_fair.goals
   before_plan plan most plan_invalid l closed within stage (inr wrong) = omega arith
   before_plan plan most plan_dearer l closed within stage (inr wrong) = omega arith
   before_plan plan most not_fluent l closed within stage (inr wrong) = wrong
@@ -245,7 +320,7 @@ module _ (task : Task) (c : Certificate) where
   first_dearer p most closed within solves r l (inr (same, inl before)) wrong = omega arith
   first_dearer p most closed within solves r l (inr (same, inr (there, rank))) wrong = solving r same rank wrong
     where
-      solving : (r : Reason) → stage_of r ≡ 4 → rank_of r < 1 → IsWrongLine task c r l ⊎ IsWrong task c (Some p) most r → ⊥
+      solving : (r : Reason) → stage_of r ≡ 5 → rank_of r < 1 → IsWrongLine task c r l ⊎ IsWrong task c (Some p) most r → ⊥
       solving plan_invalid stage rank (inl wrong) = wrong
       solving plan_invalid stage rank (inr wrong) = wrong solves
       solving plan_dearer stage rank wrong = omega arith
@@ -258,3 +333,5 @@ module _ (task : Task) (c : Certificate) where
       solving cut_weak stage rank wrong = absurd (omega arith)
       solving no_initial stage rank wrong = absurd (omega arith)
       solving limit stage rank wrong = absurd (omega arith)
+      solving unfair stage rank wrong = absurd (omega arith)
+      solving unfair_goal stage rank wrong = absurd (omega arith)

@@ -14,7 +14,10 @@ use Rattle.std.proofs.lemmas.Bool.{and_parts}
 use Rattle.cert_checker.specs.FluentAtoms.{AreFluent}
 use Rattle.cert_checker.specs.CheckedLines.{HasCost, Stands, IsListedAt}
 use Rattle.cert_checker.specs.PackedLines.{packed_line, HoldsLines, IsPackedListing, NamesAtoms}
-use Rattle.cert_checker.proofs.CertCheckerLemmas.{entry, got_mapped, slice_get-map}
+use Rattle.cert_checker.proofs.CertCheckerLemmas.{entry, got_mapped, lines_within_limits, slice_get-map}
+use Rattle.cert_checker.proofs.WeightsLemmas.{alike, one_for_each, value-numbered}
+use Rattle.cert_checker.specs.Weights.{HasItsWeights}
+use Rattle.potential_functions.specs.PotentialFunctions.{PotentialFunction, value}
 use Rattle.cert_checker.proofs.GroundSuccessors.{leads_by, leads_by-successors}
 use Rattle.cert_checker.proofs.RefusalsLemmas.{AreApart}
 use Rattle.cert_checker.proofs.PackedLinesLemmas.{all_fluent, length-set_of, names_atoms, one_set, state_packed}
@@ -22,7 +25,7 @@ use Rattle.model.specs.Task.{Atom, Task}
 use Rattle.model.specs.Meaning.{State, initial_state}
 use Rattle.model.specs.Instances.{successors_of}
 use Rattle.model.specs.Claims.{Line}
-use Rattle.certificate_text.specs.Certificates.{Certificate, StateLine, is_claim, is_state_line, keeps_limits, state_of_line, lines_of}
+use Rattle.certificate_text.specs.Certificates.{Certificate, StateLine, is_state_line, keeps_limits, state_of_line, lines_of, value_of}
 use Rattle.certificate_text.specs.CertificateRefusals.{IsListed}
 use Rattle.model.specs.NumberedAtoms.{numbered_atoms, HasNumberedFluents}
 use Rattle.model.specs.Grounding.{state_of_bits, bits_of_state, applicable_numbers, PacksStates}
@@ -60,7 +63,7 @@ unlike states distinct i j d before within same =
 
 names_its_atoms : (c : Certificate) → keeps_limits c ≡ true → (l : StateLine) → Contains c.lines l → NamesAtoms c l
 names_its_atoms c keeps l among =
-    let all = (and_parts (is_claim c.claim && nat_le (length c.atoms) 1048576 && nat_le (length c.lines) 16777216) (list_all (is_state_line (length c.atoms)) c.lines) keeps).1 in
+    let all = lines_within_limits c keeps in
     let (place, at) = Contains-place c.lines l among in
     names_atoms (length c.atoms) l (passes_got (is_state_line (length c.atoms)) c.lines place l at all)
 
@@ -137,3 +140,14 @@ module _ (task : Task) (atoms : List Atom) (c : Certificate) (store : PooledStor
       ap (map (leads_by task atoms bits)) is
       ∙ subst (λ those. map (leads_by task those bits) (applicable_numbers task those bits) ≡ successors_of task (state_of_bits task those bits)) (sym listed.numbered)
       (leads_by-successors task c.atoms (all_fluent task c.atoms listed.fluent) bits)
+
+  -- ---- the value
+
+  -- the packed state has the value of the state that it stands for
+  pub value_there : (p : PotentialFunction) (bits : List Bool) → HasItsWeights c (length atoms) p → keeps_limits c ≡ true → length bits ≡ length atoms
+      → value p bits ≡ value_of c (state_of_bits task atoms bits)
+  value_there p bits has keeps long =
+      let first = first_numbered task atoms c listed.fluent listed.numbered in
+      let state = state_of_bits task atoms bits in
+      ap (value p) (sym (packs.one_packed bits long))
+      ∙ value-numbered p c.potentials (alike c (length atoms) p has) atoms c.atoms first.0 state first.1 (omega (arith, one_for_each c keeps))

@@ -1,14 +1,25 @@
 -- A list of actions that runs stays on open states of a closed listing, to its end or until it comes to a cut.
-use Rattle.std.proofs.Common.{◌≡◌, ℕ, zero, suc, ◌+◌, ◌<◌, ◌≤◌, List, [], ◌∷◌, length, take, Option, None, Some, refl, sym, ap, ◌∙◌, subst, arith}
-use Rattle.std.specs.Prelude.{Contains}
+use Rattle.std.proofs.Common.{◌≡◌, ℕ, zero, suc, ◌+◌, ◌<◌, ◌≤◌, List, [], ◌∷◌, length, take, get_or, Option, None, Some, refl, sym, ap, ◌∙◌, subst, arith}
+use Rattle.std.specs.Prelude.{All, Contains, IsTrue}
 use Rattle.std.specs.Option.{option_and_then}
+use Rattle.std.proofs.lemmas.Bool.{and_parts}
+use Rattle.std.proofs.lemmas.List.Elements.{All-contains_itself}
 use Rattle.std.proofs.lemmas.List.Sums.{sum_by-cons}
 use Rattle.model.specs.Runs.{System, run, cost_of_all, Solves}
-use Rattle.model.specs.Task.{Task, Instance}
+use Rattle.model.specs.Task.{Atom, Task, Instance}
+use Rattle.model.specs.WellTyped.{is_atom}
 use Rattle.model.specs.Meaning.{system_of}
+use Rattle.model.specs.Fluents.{is_fluent}
+use Rattle.model.specs.NumberedAtoms.{numbered_atoms}
 use Rattle.model.specs.Claims.{Claim, Line, IsLowerBound, IsClosed, ClaimHolds}
 use Rattle.certificate_text.specs.Certificates.{Certificate, lines_of, value_of, IsClosedFor}
 use Rattle.model.proofs.ClaimsLemmas.{claim-of_closed}
+use Rattle.model.proofs.GroundTaskLemmas.{are_numbered, numbered-distinct, numbered-fluent}
+use Rattle.model.proofs.NumberingLemmas.{distinct-from_pairs, Contains-stands_in}
+use Rattle.model.proofs.StaticLemmas.{contains-reachable}
+use Rattle.potential_functions.specs.Laws.{AreNumberable}
+use Rattle.potential_functions.proofs.LowerBound.{fair_ones_are_lower_bounds}
+use Rattle.cert_checker.proofs.WeightsLemmas.{alike_itself, value-numbered}
 use Rattle.cert_checker.specs.OnListing.{IsOpenWithin, IsCutWithin, StaysListed, to_its_end, to_a_cut}
 
 module _ {S A : Type 0} (t : System S A) (lines : List (Line S)) where
@@ -101,13 +112,31 @@ module _ {S A : Type 0} (t : System S A) (value : S → ℕ) (claim : Claim) (li
       by_stay {cost} low (open_to m within each cut) =
           to_a_cut m within (λ k below. let at = each k below in (at.0, at.1, open_at_more t lines at.0 _ _ at.2 (omega arith))) (cut.0, cut.1, cut_at_more t lines cut.0 _ _ cut.2 (omega arith))
 
--- what is still to pay from a state on does not fall short of the value that a certificate gives to it
-value_below : (task : Task) (c : Certificate) → IsLowerBound (system_of task) (value_of c)
-value_below task c s end plan runs goal = omega arith
+-- ---- a certificate that is closed for a task
 
--- of a certificate that is closed for a task
+module _ (task : Task) (c : Certificate) (closed : IsClosedFor task c) where
+  more_fluent : All (λ (a : Atom). IsTrue (is_fluent task a.predicate)) c.atoms
+  more_fluent = λ place d within. (and_parts (is_atom task (get_or c.atoms place d)) (is_fluent task (get_or c.atoms place d).predicate) (closed.atoms_are_fluent place d within)).1
+
+  numberable : AreNumberable task (numbered_atoms task c.atoms)
+  numberable = record {
+    distinct = numbered-distinct task c.atoms;
+    fluent = λ place d within.
+        let atoms = numbered_atoms task c.atoms in
+        numbered-fluent task c.atoms more_fluent (get_or atoms place d) (Contains-stands_in atoms (get_or atoms place d) (All-contains_itself atoms place d within));
+  }
+
+  -- what is still to pay from a reachable state on does not fall short of the value that the certificate gives to it
+  value_below : IsLowerBound (system_of task) (value_of c)
+  value_below s end plan reached runs goal =
+      let atoms = numbered_atoms task c.atoms in
+      let (others, first) = (are_numbered task c.atoms).more_first (distinct-from_pairs c.atoms closed.atoms_are_distinct) in
+      let same = value-numbered c.potentials c.potentials (alike_itself c.potentials) atoms c.atoms others s first (omega (arith, closed.one_weight_an_atom)) in
+      let lower = (fair_ones_are_lower_bounds task atoms c.potentials numberable closed.potentials_are_fair).bound s end plan (λ q static. contains-reachable task s q static reached) runs goal in
+      omega (arith, same, lower)
+
 pub closed_holds : (task : Task) (c : Certificate) → IsClosedFor task c → ClaimHolds (system_of task) c.claim
-closed_holds task c closed = claim-of_closed (system_of task) (value_of c) c.claim (lines_of task c) (value_below task c) closed.listing_is_closed
+closed_holds task c closed = claim-of_closed (system_of task) (value_of c) c.claim (lines_of task c) (value_below task c closed) closed.listing_is_closed
 
 pub solving_stays : (task : Task) (c : Certificate) (plan : List Instance) → IsClosedFor task c → Solves (system_of task) plan → StaysListed (system_of task) (lines_of task c) plan
 solving_stays task c plan closed = stays_listed (system_of task) (value_of c) c.claim (lines_of task c) closed.listing_is_closed plan

@@ -1,17 +1,21 @@
 -- What the answers of the checker of certificates say.
-use Rattle.std.specs.Prelude.{◌≡◌, ℕ, ◌+◌, ◌<◌, List, slice_get, MatchOption, Option, None, Some, IsSome}
+use Rattle.std.specs.Prelude.{◌≡◌, ℕ, ◌+◌, ◌<◌, List, Contains, slice_get, MatchOption, Option, None, Some, IsSome}
 use Rattle.cert_checker.specs.declared.checker.Accepted.{Accepted}
 use Rattle.cert_checker.specs.declared.checker.Accepted.TheVariants.{Optimal, AtLeast, Unsolvable}
 use Rattle.certificate_listing.specs.declared.refusal.Refusal.{Refusal}
 use Rattle.certificate_listing.specs.declared.refusal.Refusal.TheVariants as refusal
+use Rattle.formulas.specs.State.{instance_of}
 use Rattle.cert_checker.specs.Reasons.{reason_of}
 use Rattle.model.specs.Task.{Task, Instance}
 use Rattle.model.specs.Runs.{cost_of_all, IsOptimal, CostsAtLeast, IsUnsolvable}
-use Rattle.model.specs.Meaning.{State, system_of}
+use Rattle.model.specs.Meaning.{State, cost_of, system_of}
+use Rattle.model.specs.ClosedOff.{kept_instances}
+use Rattle.model.specs.NumberedAtoms.{numbered_atoms}
 use Rattle.model.specs.Instances.{successors_of}
 use Rattle.model.specs.Claims.{Claim, bound, none, Line, IsListedWithin}
+use Rattle.potential_functions.specs.Fair.{IsFairAt, IsFirstUnfair}
 use Rattle.certificate_text.specs.Certificates.{Certificate, lines_of}
-use Rattle.certificate_text.specs.CertificateRefusals.{Reason, limit, successor_missing, successor_dearer, IsFirst, IsListed, HasState, IsWrong, IsWrongLine}
+use Rattle.certificate_text.specs.CertificateRefusals.{Reason, limit, unfair, successor_missing, successor_dearer, IsFirst, IsListed, HasState, IsWrong, IsWrongLine}
 
 -- What an accepted certificate shows is true, of all lists of instances: the plan that was handed in is optimal at
 -- this cost; every list that solves costs at least this; no list solves.
@@ -26,9 +30,18 @@ Answers claim plan (Optimal cost) = (claim ≡ bound cost) × IsSome plan
 Answers claim plan (AtLeast cost) = (claim ≡ bound cost) × (plan ≡ None)
 Answers claim plan Unsolvable = (claim ≡ none) × (plan ≡ None)
 
+-- the instance is kept, and may lose more than it costs
+abbrev pub IsUnfair : Task → Certificate → Instance → Type 0
+IsUnfair task c i = Contains (kept_instances task) i × ¬ IsFairAt (cost_of task i) task (numbered_atoms task c.atoms) c.potentials.weights i
+
+-- no kept instance before it may
+abbrev pub IsFirstToLose : Task → Certificate → Instance → Type 0
+IsFirstToLose task c i = (number : ℕ) × (first : IsFirstUnfair task (numbered_atoms task c.atoms) c.potentials number) × (first.instance ≡ i)
+
 -- The refusal is true of the certificate, the plan that was handed in, if one was, and the limit of kept instances.
 abbrev pub IsTrueRefusal : Task → Certificate → Option (List Instance) → ℕ → Refusal → Type 0
 IsTrueRefusal task c plan most (refusal.Line code line) = MatchOption (reason_of code) ⊥ (λ reason. IsWrongLine task c reason line)
+IsTrueRefusal task c plan most (refusal.Unfair i) = IsUnfair task c (instance_of i)
 IsTrueRefusal task c plan most (refusal.Plain code) = MatchOption (reason_of code) ⊥ (λ reason. IsWrong task c plan most reason)
 IsTrueRefusal task c plan most refusal.NoMemory = Unit {0}
 IsTrueRefusal task c plan most refusal.Device = ⊥
@@ -38,6 +51,7 @@ IsTrueRefusal task c plan most refusal.Failed = ⊥
 -- the device failed.
 abbrev pub IsNoFault : Refusal → Type 0
 IsNoFault (refusal.Line code line) = ⊥
+IsNoFault (refusal.Unfair i) = ⊥
 IsNoFault (refusal.Plain code) = reason_of code ≡ Some limit
 IsNoFault refusal.NoMemory = Unit {0}
 IsNoFault refusal.Device = Unit {0}
@@ -62,10 +76,11 @@ IsFirstSuccessor task c successor_dearer line =
     × ¬ IsListedWithin (lines_of task c) next (l.cost + (system_of task).cost i)
 IsFirstSuccessor task c _ line = Unit {0}
 
--- Nothing that the checker looks for before is wrong, and of a line's successors none before.
+-- Nothing that the checker looks for before is wrong, and of instances and of a line's successors none before.
 abbrev pub IsFirstRefusal : Task → Certificate → Option (List Instance) → ℕ → Refusal → Type 0
 IsFirstRefusal task c plan most (refusal.Line code line) =
     MatchOption (reason_of code) ⊥ (λ reason. IsFirst task c plan most reason line × IsFirstSuccessor task c reason line)
+IsFirstRefusal task c plan most (refusal.Unfair i) = IsFirst task c plan most unfair 0 × IsFirstToLose task c (instance_of i)
 IsFirstRefusal task c plan most (refusal.Plain code) = MatchOption (reason_of code) ⊥ (λ reason. IsFirst task c plan most reason 0)
 IsFirstRefusal task c plan most refusal.NoMemory = Unit {0}
 IsFirstRefusal task c plan most refusal.Device = ⊥

@@ -5,23 +5,28 @@ use Rattle.cert_checker.specs.FluentAtoms.{AreFluent}
 use Rattle.cert_checker.specs.CertChecker.{IsFirstRefusal, IsTrueRefusal}
 use Rattle.model.specs.Task.{Task, Instance}
 use Rattle.model.specs.Meaning.{State, initial_state, step, meets_goal, system_of}
+use Rattle.model.specs.NumberedAtoms.{numbered_atoms}
 use Rattle.model.specs.Limits.{max_numbered_atoms}
 use Rattle.model.specs.Grounding.{limit_told}
 use Rattle.model.specs.Claims.{none, Allows, Line, IsListedWithin}
+use Rattle.potential_functions.specs.Fair.{AreFair}
 use Rattle.certificate_text.specs.Certificates.{Certificate, StateLine, lines_of, value_of}
 
 -- the refusal is true, whatever plan is handed in and whatever the limit of kept instances
 abbrev pub IsTrueAnyway : Task → Certificate → Refusal → Type 0
 IsTrueAnyway task c refusal = (plan : Option (List Instance)) (most : ℕ) → IsTrueRefusal task c plan most refusal
 
--- the refusal is the first, whatever plan is handed in and whatever the limit of kept instances
-abbrev pub IsFirstAnyway : Task → Certificate → Refusal → Type 0
-IsFirstAnyway task c refusal = (plan : Option (List Instance)) (most : ℕ) → IsFirstRefusal task c plan most refusal
-
 -- of the first so many state lines none is cut where it is claimed that no list solves
 abbrev pub CutsAreAllowed : Task → Certificate → ℕ → Type 0
 CutsAreAllowed task c count =
     (place : ℕ) (l : Line State) (rest : ℕ) → place < count → slice_get (lines_of task c) place ≡ Some l → l.cut ≡ Some rest → c.claim ≡ none → ⊥
+
+-- The refusal is the first, where nothing is wrong with what was read and the ground task keeps its limits, whatever plan is
+-- handed in.
+abbrev pub IsFirstGrounded : Task → Certificate → Refusal → Type 0
+IsFirstGrounded task c refusal =
+    AllPairs (λ (k l : Line State). k.state ≢ l.state) (lines_of task c) → CutsAreAllowed task c (length (lines_of task c))
+    → (plan : Option (List Instance)) (most : ℕ) → limit_told most max_numbered_atoms task c.atoms ≡ None → IsFirstRefusal task c plan most refusal
 
 -- the certificate's line at this place has this cost and this cut
 abbrev pub HasCost : Certificate → ℕ → ℕ → Option ℕ → Type 0
@@ -50,12 +55,14 @@ pub record IsLineClosed (task : Task) (c : Certificate) (line : Line State) : Ty
   pub is_open : line.cut ≡ None → IsOpenClosed task c line.state line.cost
   pub is_cut : (rest : ℕ) → line.cut ≡ Some rest → IsCutClosed c line.state line.cost rest
 
--- All is right up to the state line at this place: the reading of the certificate, the limits of its ground task, the
--- initial state, and the state lines before.
+-- All is right up to the state line at this place: the reading of the certificate, the limits of its ground task, its
+-- potential function, the initial state, and the state lines before.
 pub record IsRightUpTo (task : Task) (c : Certificate) (most place : ℕ) : Type 0 where
+  pub weighed : length c.potentials.weights ≡ length c.atoms
   pub atoms : AreFluent task c.atoms
   pub distinct : AllPairs (λ (k l : Line State). k.state ≢ l.state) (lines_of task c)
   pub allowed : CutsAreAllowed task c (length (lines_of task c))
   pub within : limit_told most max_numbered_atoms task c.atoms ≡ None
+  pub fair : AreFair task (numbered_atoms task c.atoms) c.potentials
   pub initial : IsListedWithin (lines_of task c) (initial_state task) 0
   pub lines : (k : ℕ) (l : Line State) → k < place → slice_get (lines_of task c) k ≡ Some l → IsLineClosed task c l

@@ -3,6 +3,7 @@ pub mod CertChecker
 pub mod Checking
 pub mod FluentAtoms
 pub mod CheckedLines
+pub mod Weights
 pub mod PackedLines
 pub mod PackedListing
 pub mod OnListing

@@ -1,10 +1,11 @@
 -- The reasons of the checker's refusals.
 use Rattle.std.specs.Prelude.{Option, Some, None}
 use Rattle.certificate_listing.specs.declared.refusal.RefusalCode.{RefusalCode}
-use Rattle.certificate_listing.specs.declared.refusal.RefusalCode.TheVariants.{CertForm, CertVersion, Truncated, NotFluent, Repeated, NoInitial, GoalOpen, SuccessorMissing, SuccessorDearer, CutWeak, CutNotAllowed, PlanInvalid, PlanDearer, Limit}
-use Rattle.certificate_text.specs.CertificateRefusals.{Reason, not_fluent, repeated, no_initial, goal_open, successor_missing, successor_dearer, cut_weak, cut_not_allowed, plan_invalid, plan_dearer, limit}
+use Rattle.certificate_listing.specs.declared.refusal.RefusalCode.TheVariants.{CertForm, CertVersion, Truncated, NotFluent, Repeated, NoInitial, Unfair, UnfairGoal, GoalOpen, SuccessorMissing, SuccessorDearer, CutWeak, CutNotAllowed, PlanInvalid, PlanDearer, Limit}
+use Rattle.certificate_text.specs.CertificateRefusals.{Reason, not_fluent, repeated, no_initial, unfair_goal, goal_open, successor_missing, successor_dearer, cut_weak, cut_not_allowed, plan_invalid, plan_dearer, limit}
 
--- what is wrong with a certificate; of a text that is none, nothing is said of one
+-- What is wrong with a certificate. Of a text that is none, nothing is said of one; that an instance is not fair is told by a
+-- refusal that carries the instance.
 abbrev pub reason_of : RefusalCode → Option Reason
 reason_of CertForm = None
 reason_of CertVersion = None
@@ -12,6 +13,8 @@ reason_of Truncated = None
 reason_of NotFluent = Some not_fluent
 reason_of Repeated = Some repeated
 reason_of NoInitial = Some no_initial
+reason_of Unfair = None
+reason_of UnfairGoal = Some unfair_goal
 reason_of GoalOpen = Some goal_open
 reason_of SuccessorMissing = Some successor_missing
 reason_of SuccessorDearer = Some successor_dearer

@@ -21,6 +21,7 @@ ghost use Rattle.cert_checker.specs.Checking.{Accepts, Refuses};
 mod answer;
 mod packed;
 mod steps;
+mod weights;
 
 use certificate_listing::{Listing, Refusal, read_listing};
 use certificate_reader::CertReader;
@@ -52,8 +53,9 @@ pub enum Accepted {
 ///
 /// # Errors
 /// The first that applies: the first line at fault, as [`read_listing`] tells it (40 to 44, 52 and 55); 55 where the task
-/// keeps more than `max_instances` instances once it is grounded, or would number more than 1,048,576 atoms; 45 where the
-/// initial state is not listed at 0; what is wrong with the successors or the cost of a listed state, line by line (48 to
+/// keeps more than `max_instances` instances once it is grounded, or would number more than 1,048,576 atoms; the first
+/// instance that may lose more than it costs (46), or 47 where more than 0 may be left at a goal; 45 where the initial
+/// state is not listed at 0; what is wrong with the successors, the cost or the cut of a listed state, line by line (48 to
 /// 51); what is wrong with the plan (53, 54). [`Refusal::Device`] where the device failed; [`Refusal::NoMemory`] where
 /// memory is refused.
 pub fn check<R: Source>(

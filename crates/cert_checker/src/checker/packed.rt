@@ -3,38 +3,53 @@ ghost use Rattle.std.proofs.Props.{props};
 ghost use Rattle.grounding.specs.Ground.{task_in, atoms_in};
 ghost use Rattle.certificate_listing.specs.Listing.{certificate_in, store_in};
 ghost use Rattle.cert_checker.specs.PackedLines.{IsPackedListing};
+ghost use Rattle.cert_checker.specs.Weights.{HasItsWeights};
+ghost use Rattle.potentials.specs.Potentials.{potentials_of};
+ghost use Rattle.std.specs.Prelude.{length};
 
 use certificate_listing::Listing;
 use grounding::Ground;
 use packed_state::{Packed, StateStore};
+use potentials::Potentials;
 
 /// A certificate of a ground task in which the certificate's atoms have the first numbers, with its states packed as the
-/// ground task's are.
+/// ground task's are, and its potentials with a weight for each numbered atom.
 #[derive(Drop)]
 pub(super) struct PackedListing<'a, 't> {
     pub(super) grounded: &'a Ground<'t>,
     pub(super) listing: &'a Listing,
+    potentials: &'a Potentials,
     ghost listed: { IsPackedListing (task_in grounded.now) (atoms_in grounded.now) (certificate_in listing.now) (store_in listing.now) } by { Prim.hlevel props },
+    ghost valued: { HasItsWeights (certificate_in listing.now) (length (atoms_in grounded.now)) (potentials_of potentials.now) } by { Prim.hlevel props },
 }
 
 impl<'a, 't> PackedListing<'a, 't> {
-    ghost use Rattle.std.specs.Prelude.{◌≡◌, ℕ, ◌<◌, MatchOption, Option, length};
+    ghost use Rattle.std.specs.Prelude.{◌≡◌, ℕ, ◌<◌, MatchOption, Option};
     ghost use Rattle.packed_state.specs.PooledView.{pooled_width};
     ghost use Rattle.cert_checker.specs.FluentAtoms.{AreFluent};
     ghost use Rattle.cert_checker.specs.CheckedLines.{HasCost, IsListedAt, Stands};
     ghost use Rattle.cert_checker.specs.PackedListing.{task_at, certificate_at, state_at, IsPacked};
     ghost use Rattle.model.specs.NumberedAtoms.{numbered_atoms};
-    ghost use Rattle.certificate_text.specs.Certificates.{lines_of};
+    ghost use Rattle.certificate_text.specs.Certificates.{lines_of, value_of};
     ghost use Rattle.certificate_text.specs.CertificateRefusals.{IsListed};
 
     /// That of the certificate.
-    pub(super) fn new(grounded: &'a Ground<'t>, listing: &'a Listing) -> PackedListing<'a, 't>
+    pub(super) fn new(
+        grounded: &'a Ground<'t>,
+        listing: &'a Listing,
+        potentials: &'a Potentials,
+    ) -> PackedListing<'a, 't>
         requires fluent { AreFluent (task_in grounded.now) (certificate_in listing.now).atoms }
         requires numbered { atoms_in grounded.now ≡ numbered_atoms (task_in grounded.now) (certificate_in listing.now).atoms }
         requires width { pooled_width (store_in listing.now) ≡ length (atoms_in grounded.now) }
+        requires weights { HasItsWeights (certificate_in listing.now) (length (atoms_in grounded.now)) (potentials_of potentials.now) }
         ensures same { (task_at result ≡ task_in grounded.now) × (certificate_at result ≡ certificate_in listing.now) }
     {
-        PackedListing { grounded, listing }
+        PackedListing {
+            grounded,
+            listing,
+            potentials,
+        }
     }
 
     /// Copies the state that the line at this place lists.
@@ -59,5 +74,13 @@ impl<'a, 't> PackedListing<'a, 't> {
             Some(place) => Some(self.listing.marks()[place as usize].cost),
             None => None,
         }
+    }
+
+    /// The state's value, which what is still to pay from it on does not fall short of.
+    pub(super) fn value(&self, state: &Packed) -> u64
+        requires { IsPacked self.now state.now }
+        ensures { result ≡ value_of (certificate_at self.now) (state_at self.now state.now) }
+    {
+        self.potentials.value(state)
     }
 }

@@ -7,20 +7,22 @@ ghost use Rattle.certificate_lines.specs.Lines.{claim_of};
 ghost use Rattle.certificate_listing.specs.Listing.{certificate_in};
 ghost use Rattle.cert_checker.specs.CertChecker.{IsFirstRefusal, IsTrueRefusal};
 ghost use Rattle.cert_checker.specs.FluentAtoms.{AreFluent};
-ghost use Rattle.cert_checker.specs.CheckedLines.{CutsAreAllowed, IsCutClosed, IsLineClosed, IsOpenClosed, IsRightUpTo, IsTrueAnyway, Stands};
+ghost use Rattle.cert_checker.specs.CheckedLines.{CutsAreAllowed, IsCutClosed, IsFirstGrounded, IsLineClosed, IsOpenClosed, IsRightUpTo, IsTrueAnyway, Stands};
 ghost use Rattle.cert_checker.specs.PackedListing.{task_at, atoms_at, certificate_at, state_at, IsPacked};
 ghost use Rattle.model.specs.Task as model_task;
 ghost use Rattle.model.specs.Meaning.{system_of};
 ghost use Rattle.model.specs.Meaning as meaning;
 ghost use Rattle.model.specs.Claims as claims;
 ghost use Rattle.model.specs.Claims.{Allows, IsListedWithin};
-ghost use Rattle.model.specs.Limits.{max_numbered_atoms};
-ghost use Rattle.model.specs.Grounding.{applicable_numbers, limit_told};
-ghost use Rattle.certificate_text.specs.Certificates.{lines_of, value_of};
+ghost use Rattle.model.specs.NumberedAtoms.{numbered_atoms};
+ghost use Rattle.model.specs.Grounding.{applicable_numbers};
+ghost use Rattle.potential_functions.specs.Fair.{AreFair};
+ghost use Rattle.certificate_text.specs.Certificates.{lines_of};
 ghost use Rattle.certificate_text.specs.CertificateRefusals.{state_line};
 ghost use Rattle.certificate_listing.specs.declared.refusal.Refusal.TheVariants as Refusal;
 
 use crate::checker::packed::PackedListing;
+use crate::checker::weights::fair_potentials;
 use certificate_lines::Claim;
 use certificate_listing::{Listing, Refusal, RefusalCode};
 use grounding::{Ground, GroundFault};
@@ -28,8 +30,8 @@ use packed_state::Packed;
 use std::alloc::Global;
 use typing::Task;
 
-/// Grounds the task, and checks the listing: whether the initial state is listed at cost 0, and the state lines in
-/// order.
+/// Grounds the task, and checks the certificate: whether its potentials are fair, whether the initial state is listed at
+/// cost 0, and the state lines in order.
 pub(super) fn check_listing(
     alloc: Global,
     task: &Task,
@@ -44,8 +46,9 @@ pub(super) fn check_listing(
     ensures first { IfErr result (λ e. (plan : Option (List model_task.Instance)) → IsFirstRefusal (task_of task.now) (certificate_in listing) plan max_instances e) }
 {
     let grounded = ground_task(alloc, task, &listing, max_instances)?;
+    let potentials = fair_potentials(alloc, &listing, &grounded)?;
     let listing = listing.at_width(alloc, grounded.width())?;
-    let listing = PackedListing::new(&grounded, &listing);
+    let listing = PackedListing::new(&grounded, &listing, &potentials);
     check_initial(alloc, &listing)?;
     check_lines(alloc, &listing)
 }
@@ -75,9 +78,8 @@ fn ground_task<'t>(
 fn check_initial(alloc: Global, listing: &PackedListing) -> Result<(), Refusal>
     ensures right { OnOk result (IsListedWithin (lines_of (task_at listing.now) (certificate_at listing.now)) (system_of (task_at listing.now)).initial 0) }
     ensures wrong { IfErr result (IsTrueAnyway (task_at listing.now) (certificate_at listing.now)) }
-    ensures first { IfErr result (λ e. CutsAreAllowed (task_at listing.now) (certificate_at listing.now) (length (lines_of (task_at listing.now) (certificate_at listing.now)))
-        → (plan : Option (List model_task.Instance)) (most : ℕ) → limit_told most max_numbered_atoms (task_at listing.now) (certificate_at listing.now).atoms ≡ None
-        → IsFirstRefusal (task_at listing.now) (certificate_at listing.now) plan most e) }
+    ensures first { AreFair (task_at listing.now) (numbered_atoms (task_at listing.now) (certificate_at listing.now).atoms) (certificate_at listing.now).potentials
+        → IfErr result (IsFirstGrounded (task_at listing.now) (certificate_at listing.now)) }
 {
     let initial = listing.grounded.initial(alloc)?;
     if listing.cost_of(&initial) == Some(0) {
@@ -224,6 +226,7 @@ fn check_cut(
     state: &Packed,
 ) -> Result<(), Refusal>
     requires within { place < length (certificate_at listing.now).lines }
+    requires state { IsPacked listing.now state.now }
     requires listed { Stands (task_at listing.now) (certificate_at listing.now) place (state_at listing.now state.now) cost (Some rest) }
     requires small { (cost < 1152921504606846976) × (rest < 1152921504606846976) }
     ensures right { OnOk result (IsCutClosed (certificate_at listing.now) (state_at listing.now state.now) cost rest) }
@@ -231,18 +234,11 @@ fn check_cut(
     ensures first { IfErr result (λ e. (plan : Option (List model_task.Instance)) (most : ℕ) → IsRightUpTo (task_at listing.now) (certificate_at listing.now) most place
         → IsFirstRefusal (task_at listing.now) (certificate_at listing.now) plan most e) }
 {
-    if rest <= value(listing, state) && allows(listing.listing.claim(), cost + rest) {
+    if rest <= listing.value(state) && allows(listing.listing.claim(), cost + rest) {
         Ok(())
     } else {
         Err(state_line(RefusalCode::CutWeak, listing.listing, place))
     }
-}
-
-/// The value of a state, which what is still to pay from it on does not fall short of: 0 in every state.
-fn value(_listing: &PackedListing, _state: &Packed) -> u64
-    ensures { result ≡ value_of (certificate_at _listing.now) (state_at _listing.now _state.now) }
-{
-    0
 }
 
 /// Whether the claim allows a plan of this cost.

@@ -1,0 +1,17 @@
+use Rattle.std.proofs.Common.{◌∙◌, sym}
+use Rattle.packed_state.specs.Packed.{bits_of}
+use Rattle.potentials.specs.Potentials.{potentials_of}
+use Rattle.certificate_listing.specs.Listing.{store_in}
+use Rattle.cert_checker.specs.PackedListing.{task_at, atoms_at, certificate_at}
+use Rattle.cert_checker.proofs.PackedListingLemmas.{value_there}
+use Rattle.cert_checker.proofs.checker.packed.PackedListing.value.Goals as goal
+
+pub value-requires : goal.value-requires
+value-requires c = c.requires ∙ sym c.args.self.now.valued.as_many
+
+pub returns : goal.returns
+returns c =
+    let listing = c.args.self.now in
+    c.value.ensures
+    ∙ value_there (task_at listing) (atoms_at listing) (certificate_at listing) (store_in listing.listing.now) listing.listed (potentials_of listing.potentials.now) (bits_of c.args.state.now) listing.valued
+    listing.listing.now.within_limits c.requires
