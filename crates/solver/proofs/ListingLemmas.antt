@@ -211,10 +211,11 @@ module _ (task : Task) (claim : Claim) (most : ℕ) (p : PotentialFunction) (sta
         let long : length line.state ≡ length atoms = ap (λ (l : Line (List Bool)). length l.state) is ∙ found_width k s there in
         value-packed task p line.state long
 
-    pub shown_by : is_task task ≡ true → AreFair task atoms p → IsShownBy task claim (length states) made
-    shown_by well fair = record {
+    pub shown_by : is_task task ≡ true → length p.weights ≡ length atoms → AreFair task atoms p → IsShownBy task claim (length states) made
+    shown_by well many fair = record {
       claims = refl;
       closed = record {
+        one_weight_an_atom = many;
         potentials_are_fair = subst (λ (l : List Atom). AreFair task l p) (sym (numbered_again task)) fair;
         atoms_are_fluent = λ k d below.
             let a = get_or atoms k d in
@@ -296,9 +297,10 @@ module _ (task : Task) (claim : Claim) (most : ℕ) (p : PotentialFunction) (sta
   is_made : made task claim most p states nodes ≡ certificate
   is_made = sym (is ∙ ap (λ (l : List Atom). found_certificate claim l p states nodes) numbered)
 
-  pub shown : (max_states : ℕ) → length states ≤ max_states → is_task task ≡ true → AreFair task known p → IsShownBy task claim max_states certificate
-  shown max_states le well fair =
-      more_allowed (subst (IsShownBy task claim (length states)) is_made (shown_by task claim most p states nodes same_found well (subst (λ (l : List Atom). AreFair task l p) numbered fair))) le
+  pub shown : (max_states : ℕ) → length states ≤ max_states → is_task task ≡ true → length p.weights ≡ length known → AreFair task known p
+      → IsShownBy task claim max_states certificate
+  shown max_states le well many fair =
+      more_allowed (subst (IsShownBy task claim (length states)) is_made (shown_by task claim most p states nodes same_found well (many ∙ ap length numbered) (subst (λ (l : List Atom). AreFair task l p) numbered fair))) le
 
   pub opened_within : (cost : ℕ) → AreExpandedWithin (value p) cost states nodes → AreOpenWithin task cost certificate
   opened_within cost within = subst (AreOpenWithin task cost) is_made (open_within task claim most p states nodes same_found cost within)

@@ -85,13 +85,14 @@ returns-in-Some c =
     let named = rw c.deref.ensures.value at c.in_ok-instances_of-in-Found.ensures in
     let is : plan_of c.in-Some.steps ≡ plan = c.in-Some.ensures.steps in
     let optimal = plan_optimal task atoms numbered numbers plan named found.0 in
+    let many : length p.weights ≡ length atoms = subst (λ (h : Ground). length p.weights ≡ length (atoms_in h)) c.in_ok-estimate.ensures.fair.ground f.width in
     let fair : AreFair task atoms p = subst (λ (h : Ground). AreFair (task_in h) (atoms_in h) p) c.in_ok-estimate.ensures.fair.ground f.fair in
     let made : cert ≡ found_certificate (bound cost) atoms p states nodes =
     c.in_ok-cert-in-Found.ensures ∙ ap (λ (h : Ground). found_certificate (bound cost) (atoms_in h) p states nodes) c.in_ok-estimate.ensures.fair.ground in (
       subst (λ (l : List Instance). IsOptimal (system_of task) l) (sym is) optimal,
       ap (cost_of_all (system_of task)) is ∙ plan_cost task atoms numbered numbers plan cost named found.1,
       ap (list_all (is_instance task)) is ∙ all_instances_of_plan task plan optimal.0,
-      shown task (bound cost) most p states nodes atoms numbered found.2 cert made c.args.limits.states (omega (arith, found.2.within_limit, c.states.ensures)) c.requires.typed fair,
+      shown task (bound cost) most p states nodes atoms numbered found.2 cert made c.args.limits.states (omega (arith, found.2.within_limit, c.states.ensures)) c.requires.typed many fair,
       settled_or_high task (bound cost) most p states nodes atoms numbered found.2 cert made c.in_ok-estimate.ensures.improved,
       opened_within task (bound cost) most p states nodes atoms numbered found.2 cert made cost found.4,
       c.requires.ground.within,
@@ -119,11 +120,12 @@ returns-in-Exhausted c =
     let cert = certificate_of c.in_ok-cert-in-Exhausted.cert in
     let numbered = c.requires.ground.atoms in
     let found = outcome_by (ground_system task atoms) p pooled_states most _ _ c.in-Exhausted.is c.in_ok-steps.ensures in
+    let many : length p.weights ≡ length atoms = subst (λ (h : Ground). length p.weights ≡ length (atoms_in h)) c.in_ok-estimate.ensures.fair.ground f.width in
     let fair : AreFair task atoms p = subst (λ (h : Ground). AreFair (task_in h) (atoms_in h) p) c.in_ok-estimate.ensures.fair.ground f.fair in
     let made : cert ≡ found_certificate none atoms p states nodes =
     c.in_ok-cert-in-Exhausted.ensures ∙ ap (λ (h : Ground). found_certificate none (atoms_in h) p states nodes) c.in_ok-estimate.ensures.fair.ground in (
       task_unsolvable task atoms numbered found.0,
-      shown task none most p states nodes atoms numbered found.1 cert made c.args.limits.states (omega (arith, found.1.within_limit, c.states.ensures)) c.requires.typed fair,
+      shown task none most p states nodes atoms numbered found.1 cert made c.args.limits.states (omega (arith, found.1.within_limit, c.states.ensures)) c.requires.typed many fair,
       settled_or_high task none most p states nodes atoms numbered found.1 cert made c.in_ok-estimate.ensures.improved,
       c.requires.ground.within,
     )

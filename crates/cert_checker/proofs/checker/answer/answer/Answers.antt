@@ -8,13 +8,23 @@ use Rattle.model.specs.Runs.{cost_of_all, Solves, IsOptimal, IsVerdict}
 use Rattle.certificate_text.specs.CertificateRefusals.{plan_dearer, IsFirst}
 use Rattle.model.specs.Meaning.{system_of}
 use Rattle.model.specs.Claims.{bound, ClaimHolds}
+use Rattle.certificate_lines.specs.declared.line.Claim.{Claim}
 use Rattle.certificate_lines.specs.Lines.{claim_of}
+use Rattle.cert_checker.specs.CertChecker.{IsShown}
 use Rattle.cert_checker.proofs.AnswerLemmas.{claimed_cost, optimal, unsolved}
 use Rattle.cert_checker.proofs.OrderLemmas.{first_invalid, first_dearer}
 use Rattle.cert_checker.proofs.checker.answer.answer.Goals as goal
+use Rattle.cert_checker.proofs.checker.answer.answer.Goals.{in-Bound, in-Unsolvable}
 
-pub returns-in-Unsolvable-clause-shown : goal.returns-in-Unsolvable-clause-shown
-returns-in-Unsolvable-clause-shown c = subst (λ claim. ClaimHolds (system_of (task_of c.args.task.now)) (claim_of claim)) c.in-Unsolvable.is c.requires.holds
+pub returns-in_default-clause-shown : goal.returns-in_default-clause-shown
+returns-in_default-clause-shown c =
+    let task = task_of c.args.task.now in
+    let shows = IsShown task (option_map (λ p. plan_of p.now) c.args.plan) in
+    let holds : Claim → Type 0 = λ claim. ClaimHolds (system_of task) (claim_of claim) in
+    elim c.match-claim.branch [
+      | in-Bound w ↦ subst shows (sym w.result-is) (subst holds w.in-Bound.is c.requires.holds)
+      | in-Unsolvable w ↦ subst shows (sym w.result-is) (subst holds w.in-Unsolvable.is c.requires.holds)
+    ]
 
 pub returns-in_default-2 : goal.returns-in_default-2
 returns-in_default-2 c = record {
@@ -34,9 +44,6 @@ returns-in-Bound-2-clause-first c =
     let plan = plan_of c.in-Some.plan.now in
     let valid = subst (λ v. IsVerdict (system_of task) plan (verdict_of v)) c.in-Valid.is c.in_ok-cost.ensures in
     subst (λ o. IsFirst task cert (option_map (λ p. plan_of p.now) o) most plan_dearer 0) (sym c.in-Some.is) (first_dearer task cert plan most closed within valid.0)
-
-pub returns-in-Bound-clause-shown : goal.returns-in-Bound-clause-shown
-returns-in-Bound-clause-shown c = subst (λ claim. ClaimHolds (system_of (task_of c.args.task.now)) (claim_of claim)) c.in-Bound.is c.requires.holds
 
 pub returns-in-Bound-claim-clause-shown : goal.returns-in-Bound-claim-clause-shown
 returns-in-Bound-claim-clause-shown c =
