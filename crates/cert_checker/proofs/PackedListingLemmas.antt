@@ -1,6 +1,6 @@
 -- What a packed listing has to do with the certificate's states.
 use Rattle.std.proofs.Common.{◌≡◌, ◌≢◌, ◌∙◌, ℕ, ◌<◌, ◌≤◌, Bool, List, ◌++◌, length, map, get_or, Option, Some, refl, sym, ap, subst, arith, true}
-use Rattle.std.specs.Prelude.{AllPairs, Contains, nat_le, slice_get, ◌&&◌}
+use Rattle.std.specs.Prelude.{AllPairs, Contains, slice_get}
 use Rattle.std.proofs.lemmas.List.{length-append, length-map}
 use Rattle.std.proofs.lemmas.Option.{slice_get_within, slice_get-get_or}
 use Rattle.packed_state.specs.declared.pooled.PooledStore.{PooledStore}
@@ -9,8 +9,6 @@ use Rattle.packed_state.specs.Store.{AreDistinct}
 use Rattle.certificate_listing.specs.declared.listing.Listing.{Listing}
 use Rattle.certificate_listing.specs.Listing.{certificate_in, store_in}
 use Rattle.certificate_listing.proofs.NumbersLemmas.{sets_are}
-use Rattle.std.specs.List.{list_all}
-use Rattle.std.proofs.lemmas.Bool.{and_parts}
 use Rattle.cert_checker.specs.FluentAtoms.{AreFluent}
 use Rattle.cert_checker.specs.CheckedLines.{HasCost, Stands, IsListedAt}
 use Rattle.cert_checker.specs.PackedLines.{packed_line, HoldsLines, IsPackedListing, NamesAtoms}

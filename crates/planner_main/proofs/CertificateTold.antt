@@ -7,7 +7,7 @@ use Rattle.certificate_text.specs.CertificateChecking.{IsLineFault}
 use Rattle.certificate_reader.specs.declared.reader.CertReader.{CertReader}
 use Rattle.certificate_reader.specs.Reader.{source_of}
 use Rattle.certificate_listing.specs.declared.refusal.RefusalCode.{RefusalCode}
-use Rattle.certificate_listing.specs.declared.refusal.RefusalCode.TheVariants.{CertForm, CertVersion, Truncated, NotFluent, Repeated, NoInitial, GoalOpen, SuccessorMissing, SuccessorDearer, CutWeak, CutNotAllowed, PlanInvalid, PlanDearer, Limit}
+use Rattle.certificate_listing.specs.declared.refusal.RefusalCode.TheVariants.{CertForm, CertVersion, Truncated, NotFluent, Repeated, NoInitial, Unfair, UnfairGoal, GoalOpen, SuccessorMissing, SuccessorDearer, CutWeak, CutNotAllowed, PlanInvalid, PlanDearer, Limit}
 use Rattle.certificate_listing.specs.declared.refusal.Refusal.{Refusal}
 use Rattle.certificate_listing.specs.declared.refusal.Refusal.TheVariants as refusal
 use Rattle.certificate_listing.specs.RefusalCode.{number_of}
@@ -51,6 +51,8 @@ module _ {R : Type 0} (remaining : R → Option (List ℕ)) (task : Task) (first
   line_of_text NotFluent line told = of_beginning (number_of NotFluent) line told
   line_of_text Repeated line told = of_beginning (number_of Repeated) line told
   line_of_text NoInitial line told = of_beginning (number_of NoInitial) line told
+  line_of_text Unfair line told = of_beginning (number_of Unfair) line told
+  line_of_text UnfairGoal line told = of_beginning (number_of UnfairGoal) line told
   line_of_text GoalOpen line told = of_beginning (number_of GoalOpen) line told
   line_of_text SuccessorMissing line told = of_beginning (number_of SuccessorMissing) line told
   line_of_text SuccessorDearer line told = of_beginning (number_of SuccessorDearer) line told
@@ -70,7 +72,7 @@ module _ {R : Type 0} (remaining : R → Option (List ℕ)) (task : Task) (first
     )
 
     -- what is true of what came is true of a text that is the whole, where that is known
-    true_of_text : (json : Bool) (answer : Result Accepted Refusal) (line : List ℕ) (status : ℕ) → IsLineOf json answer line status → IfOk answer (IsShown task plan)
+    true_of_text : (json : Bool) (answer : Result Accepted Refusal) (line : List ℕ) (status : ℕ) → IsLineOf json task answer line status → IfOk answer (IsShown task plan)
         → IfOk answer (Accepts remaining task first now plan most) → IfErr answer (Refuses remaining task first now plan most)
         → (text : List ℕ) × IfSome known (λ bytes. text ≡ bytes) × IsTrueCheck task text plan most answer
     true_of_text json (Ok accepted) line status is shown accepts refuses = (
@@ -83,6 +85,9 @@ module _ {R : Type 0} (remaining : R → Option (List ℕ)) (task : Task) (first
         (text, whole, inl fault)
     true_of_text json (Err (refusal.Line code number)) line status is shown accepts (inr (c, read, is_true, is_first)) =
         of_certificate (refusal.Line code number) c read is_true is_first
+    true_of_text json (Err (refusal.Unfair i)) line status is shown accepts (inl told) = absurd told
+    true_of_text json (Err (refusal.Unfair i)) line status is shown accepts (inr (c, read, is_true, is_first)) =
+        of_certificate (refusal.Unfair i) c read is_true is_first
     true_of_text json (Err (refusal.Plain code)) line status is shown accepts (inl told) = absurd told
     true_of_text json (Err (refusal.Plain code)) line status is shown accepts (inr (c, read, is_true, is_first)) =
         of_certificate (refusal.Plain code) c read is_true is_first
@@ -92,7 +97,7 @@ module _ {R : Type 0} (remaining : R → Option (List ℕ)) (task : Task) (first
 
   -- the line of a true answer is one of the texts of the files
   pub checked_in : (domain problem : List ℕ) (plan : Option (List ℕ)) (most : ℕ) (json : Bool) (answer : Result Accepted Refusal) (line : List ℕ) (status : ℕ) → IsTaskOf domain problem task
-      → IsChecked remaining task first now plan most answer → IsLineOf json answer line status → IsCheckedIn known domain problem plan most json line status
+      → IsChecked remaining task first now plan most answer → IsLineOf json task answer line status → IsCheckedIn known domain problem plan most json line status
   checked_in domain problem plan most json answer line status is_task checked is =
       let (text, whole, is_true) = true_of_text checked.plan most json answer line status is checked.shown checked.accepted checked.refused in
       (text, whole, (task, checked.plan, answer, is_task, checked.handed_in, is_true, is))
@@ -100,7 +105,7 @@ module _ {R : Type 0} (remaining : R → Option (List ℕ)) (task : Task) (first
   -- the same of what a call told
   pub checked_in_told : {T : Type 0} (domain problem : List ℕ) (plan : Option (List ℕ)) (most : ℕ) (json : Bool) (answer : Result Accepted Refusal) → IsTaskOf domain problem task
       → IsChecked remaining task first now plan most answer → (line_of : T → List ℕ) (status_of : T → ℕ) (r : Result T Failure)
-      → IfOk r (λ told. IsLineOf json answer (line_of told) (status_of told)) → IfOk r (λ told. IsCheckedIn known domain problem plan most json (line_of told) (status_of told))
+      → IfOk r (λ told. IsLineOf json task answer (line_of told) (status_of told)) → IfOk r (λ told. IsCheckedIn known domain problem plan most json (line_of told) (status_of told))
   checked_in_told domain problem plan most json answer is_task checked line_of status_of (Ok told) is =
       checked_in domain problem plan most json answer (line_of told) (status_of told) is_task checked is
   checked_in_told domain problem plan most json answer is_task checked line_of status_of (Err f) is = tt

@@ -17,6 +17,7 @@ use Rattle.planner_main.specs.Checked.{IsInputFault, IsLineOf}
 use Rattle.certificate_listing.specs.declared.refusal.Refusal.{Refusal}
 use Rattle.certificate_listing.specs.declared.refusal.Refusal.TheVariants as refused
 use Rattle.cert_checker.specs.declared.checker.Accepted.{Accepted}
+use Rattle.model.specs.Task.{Task}
 use Rattle.planner_main.specs.Program.{IsText, IsTextIfNamed, OnTwo, OnThree, OnInputs, IsAnswerTo, Refuses, fault_in, IsFaultFor, IsOneOf, IsToldOn, IsToldOfWords, SaysOfWords, AreKept, NamesInput, HasFailed, HasNotFailed, CountsFailure, CountsEither, device_failure, inputs_of}
 use Rattle.planner_main.specs.declared.task_file.File.{File}
 use Rattle.planner_main.specs.declared.task_file.FileFault as file
@@ -73,13 +74,14 @@ answer_status (Plan steps cost cert) = refl
 answer_status (Unsolvable cert) = refl
 answer_status (Unknown limit) = refl
 
-checked_status : (json : Bool) (answer : Result Accepted Refusal) (text : List ℕ) (status : ℕ) → IsLineOf json answer text status → is_failure status ≡ false
-checked_status json (Ok accepted) text status (is_text, is_status) = ap is_failure is_status
-checked_status json (Err (refused.Line code line)) text status (is_text, is_status) = ap is_failure is_status
-checked_status json (Err (refused.Plain code)) text status (is_text, is_status) = ap is_failure is_status
-checked_status json (Err refused.NoMemory) text status is = absurd is
-checked_status json (Err refused.Device) text status is = absurd is
-checked_status json (Err refused.Failed) text status is = absurd is
+checked_status : (json : Bool) (task : Task) (answer : Result Accepted Refusal) (text : List ℕ) (status : ℕ) → IsLineOf json task answer text status → is_failure status ≡ false
+checked_status json task (Ok accepted) text status (is_text, is_status) = ap is_failure is_status
+checked_status json task (Err (refused.Line code line)) text status (is_text, is_status) = ap is_failure is_status
+checked_status json task (Err (refused.Unfair i)) text status (is_text, is_status) = ap is_failure is_status
+checked_status json task (Err (refused.Plain code)) text status (is_text, is_status) = ap is_failure is_status
+checked_status json task (Err refused.NoMemory) text status is = absurd is
+checked_status json task (Err refused.Device) text status is = absurd is
+checked_status json task (Err refused.Failed) text status is = absurd is
 
 pub answered_status : (contents : List ℕ → Option (List ℕ)) (wanted : Wanted) (text : List ℕ) (status : ℕ) (written : List NamedText)
     → IsAnswerTo contents wanted text status written → is_failure status ≡ false
@@ -88,7 +90,7 @@ answered_status contents (to_validate domain problem plan json) text status writ
 answered_status contents (to_solve domain problem asked) text status written (d, p, d_is, p_is, (task, a, is_task, is_true, (is_text, is_status, files))) =
     ap is_failure is_status ∙ answer_status a
 answered_status contents (to_check domain problem cert asked) text status written ((d, p, l, d_is, p_is, l_is, (c, c_is, (task, steps, answer, is_task, handed, is_true, line))), none) =
-    checked_status asked.json answer text status line
+    checked_status asked.json task answer text status line
 
 pub no_failure : (n status : ℕ) → is_failure status ≡ false → is_failure n ≡ true → status ≡ n → ⊥
 no_failure n status answers fails same = absurd (cc (ap is_failure same))

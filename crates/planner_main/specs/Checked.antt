@@ -8,6 +8,7 @@ use Rattle.certificate_text.specs.CertificateChecking.{AreRight, IsAccepted, IsL
 use Rattle.certificate_reader.specs.declared.reader.CertReader.{CertReader}
 use Rattle.certificate_reader.specs.Reader.{source_of}
 use Rattle.certificate_listing.specs.declared.refusal.RefusalCode.{RefusalCode}
+use Rattle.certificate_listing.specs.declared.refusal.RefusalCode.TheVariants.{Unfair}
 use Rattle.certificate_listing.specs.declared.refusal.Refusal.{Refusal}
 use Rattle.certificate_listing.specs.declared.refusal.Refusal.TheVariants as refusal
 use Rattle.certificate_listing.specs.RefusalCode.{name_of, number_of}
@@ -20,6 +21,8 @@ use Rattle.model.specs.Task.{Task, Instance}
 use Rattle.model.specs.Limits.{max_numbered_atoms}
 use Rattle.model.specs.Grounding.{limit_told}
 use Rattle.model.specs.PlanText.{IsPlanText}
+use Rattle.model.specs.PlanWriting.{step_text}
+use Rattle.formulas.specs.State.{instance_of}
 use Rattle.certificate_text.specs.Certificates.{Certificate}
 use Rattle.model.specs.Files.{FileFault, IsTaskFault, IsFileFault}
 
@@ -62,6 +65,7 @@ pub record IsRightText (task : Task) (text : List ℕ) (c : Certificate) : Type 
 -- the refusal is that of the text's first line at fault
 abbrev pub IsAtLine : Task → (text : List ℕ) → Refusal → Type 0
 IsAtLine task text (refusal.Line code line) = IsLineFault task text (number_of code) line
+IsAtLine task text (refusal.Unfair i) = ⊥
 IsAtLine task text (refusal.Plain code) = ⊥
 IsAtLine task text refusal.NoMemory = ⊥
 IsAtLine task text refusal.Device = ⊥
@@ -93,6 +97,10 @@ line_refused code line =
     if number_of code == 55 then plain_refused code
     else (codes "not accepted " ++ (decimal (number_of code) ++ (codes " " ++ (name_of code ++ (codes " line " ++ (decimal line ++ codes "\n"))))))
 
+-- the line of a potential function under which this instance may lose more than it costs
+abbrev pub unfair_refused : Task → Instance → List ℕ
+unfair_refused task i = codes "not accepted 46 Unfair " ++ (step_text task i ++ codes "\n")
+
 -- the same, or as JSON, which tells neither line nor instance
 abbrev pub told_accepted : (json : Bool) → Accepted → List ℕ
 told_accepted json answer = if json then line_of_members (of_accepted answer) else accepted_line answer
@@ -100,15 +108,19 @@ told_accepted json answer = if json then line_of_members (of_accepted answer) el
 abbrev pub told_line : (json : Bool) → RefusalCode → (line : ℕ) → List ℕ
 told_line json code line = if json then line_of_members (of_refused code) else line_refused code line
 
+abbrev pub told_unfair : (json : Bool) → Task → Instance → List ℕ
+told_unfair json task i = if json then line_of_members (of_refused Unfair) else unfair_refused task i
+
 abbrev pub told_plain : (json : Bool) → RefusalCode → List ℕ
 told_plain json code = if json then line_of_members (of_refused code) else plain_refused code
 
 -- This text tells the answer, and this is its status: 0 where the certificate is accepted, and 12 where it is refused. That
 -- memory was refused, or that the device failed, is told by none.
-abbrev pub IsLineOf : (json : Bool) → Result Accepted Refusal → (text : List ℕ) → (status : ℕ) → Type 0
-IsLineOf json (Ok answer) text status = (text ≡ told_accepted json answer) × (status ≡ 0)
-IsLineOf json (Err (refusal.Line code line)) text status = (text ≡ told_line json code line) × (status ≡ 12)
-IsLineOf json (Err (refusal.Plain code)) text status = (text ≡ told_plain json code) × (status ≡ 12)
-IsLineOf json (Err refusal.NoMemory) text status = ⊥
-IsLineOf json (Err refusal.Device) text status = ⊥
-IsLineOf json (Err refusal.Failed) text status = ⊥
+abbrev pub IsLineOf : (json : Bool) → Task → Result Accepted Refusal → (text : List ℕ) → (status : ℕ) → Type 0
+IsLineOf json task (Ok answer) text status = (text ≡ told_accepted json answer) × (status ≡ 0)
+IsLineOf json task (Err (refusal.Line code line)) text status = (text ≡ told_line json code line) × (status ≡ 12)
+IsLineOf json task (Err (refusal.Unfair i)) text status = (text ≡ told_unfair json task (instance_of i)) × (status ≡ 12)
+IsLineOf json task (Err (refusal.Plain code)) text status = (text ≡ told_plain json code) × (status ≡ 12)
+IsLineOf json task (Err refusal.NoMemory) text status = ⊥
+IsLineOf json task (Err refusal.Device) text status = ⊥
+IsLineOf json task (Err refusal.Failed) text status = ⊥

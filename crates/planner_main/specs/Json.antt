@@ -8,6 +8,7 @@ use Rattle.solver.specs.declared.answer.Answer.TheVariants as answer
 use Rattle.solver.specs.declared.answer.Limit.{Limit}
 use Rattle.solver.specs.declared.answer.Limit.TheVariants as limit
 use Rattle.certificate_listing.specs.declared.refusal.RefusalCode.{RefusalCode}
+use Rattle.certificate_listing.specs.declared.refusal.RefusalCode.TheVariants as code
 use Rattle.certificate_listing.specs.declared.refusal.Refusal.{Refusal}
 use Rattle.certificate_listing.specs.declared.refusal.Refusal.TheVariants as refusal
 use Rattle.certificate_listing.specs.RefusalCode.{name_of, number_of}
@@ -63,6 +64,7 @@ of_refused code =
 abbrev pub of_checked : Result Accepted Refusal → List Member
 of_checked (Ok shown) = of_accepted shown
 of_checked (Err (refusal.Line code line)) = of_refused code
+of_checked (Err (refusal.Unfair i)) = of_refused code.Unfair
 of_checked (Err (refusal.Plain code)) = of_refused code
 of_checked (Err refusal.NoMemory) = []
 of_checked (Err refusal.Device) = []

@@ -87,7 +87,7 @@ IsSolutionText domain problem asked text status files =
 abbrev pub IsCheckedLine : (domain problem : List ℕ) → (plan : Option (List ℕ)) → (cert : List ℕ) → (most : ℕ) → (json : Bool) → (text : List ℕ) → (status : ℕ) → Type 0
 IsCheckedLine domain problem plan cert most json text status =
     (task : Task) × (steps : Option (List Instance)) × (answer : Result Accepted Refusal) × IsTaskOf domain problem task × IsHandedIn task plan steps
-    × IsTrueCheck task cert steps most answer × IsLineOf json answer text status
+    × IsTrueCheck task cert steps most answer × IsLineOf json task answer text status
 
 -- the same of a certificate of which this is known: it is the whole text, where it is known
 abbrev pub IsCheckedIn : (known : Option (List ℕ)) → (domain problem : List ℕ) → (plan : Option (List ℕ)) → (most : ℕ) → (json : Bool) → (text : List ℕ) → (status : ℕ) → Type 0

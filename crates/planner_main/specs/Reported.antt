@@ -21,6 +21,7 @@ of_report (report.Check checked) = of_checked checked.answer
 abbrev pub IsToldRefusal : Result Accepted Refusal → Type 0
 IsToldRefusal (Ok shown) = Unit {0}
 IsToldRefusal (Err (refusal.Line code line)) = Unit {0}
+IsToldRefusal (Err (refusal.Unfair i)) = Unit {0}
 IsToldRefusal (Err (refusal.Plain code)) = Unit {0}
 IsToldRefusal (Err refusal.NoMemory) = ⊥
 IsToldRefusal (Err refusal.Device) = ⊥

@@ -1,5 +1,5 @@
 //! From the bytes of a domain file and a problem file, and the text of a certificate, to what the certificate shows.
-ghost use Rattle.std.specs.Prelude.{◌≡◌, ℕ, List, Option, IfOk, IfErr, IfSome, IsErr, None};
+ghost use Rattle.std.specs.Prelude.{◌≡◌, ℕ, List, Option, IfOk, IfErr, IfSome, IsErr, IsTrue, None};
 ghost use Rattle.typing.specs.Task.{task_of};
 ghost use Rattle.certificate_listing.specs.Reading.{CountsRefusal, IsFresh};
 ghost use Rattle.certificate_reader.specs.Reader.{source_of};
@@ -7,6 +7,7 @@ ghost use Rattle.planner_main.specs.Checked.{IsChecked, IsHandedIn, IsInputFault
 ghost use Rattle.planner_main.specs.Files.{text_in, told_in};
 ghost use Rattle.model.specs.Task as model;
 ghost use Rattle.model.specs.Files.{IsTaskOf};
+ghost use Rattle.model.specs.PlanWriting.{has_names};
 
 mod text;
 
@@ -56,6 +57,7 @@ pub fn check_files<R: Source>(
     // The task is that of the two texts, and the answer is true of it and of what came of the certificate.
     ensures task { IfOk result (λ c. IsTaskOf domain.now problem.now (task_of c.task)) }
     ensures answer { IfOk result (λ c. IsChecked R.remaining (task_of c.task) cert.old cert.new (text_in plan.entry) max_instances c.answer) }
+    ensures names { IfOk result (λ c. IsTrue (has_names (task_of c.task))) }
     ensures failures { IfOk result (λ c. CountsRefusal (R.failures (source_of cert.old)) (R.failures (source_of cert.new)) c.answer) }
     ensures refused { IfErr result (λ fault. IfSome (told_in fault) (IsInputFault domain.now problem.now (text_in plan.entry))) }
     ensures unread { IsErr result → cert.new ≡ cert.old }

@@ -166,6 +166,7 @@ fn checked_object(alloc: Global, answer: &Result<Accepted, Refusal>) -> Result<S
     match answer {
         Ok(accepted) => accepted_object(alloc, *accepted),
         Err(Refusal::Line { code, .. }) => refused_object(alloc, *code),
+        Err(Refusal::Unfair(_)) => refused_object(alloc, RefusalCode::Unfair),
         Err(Refusal::Plain(code)) => refused_object(alloc, *code),
         Err(Refusal::NoMemory | Refusal::Device | Refusal::Failed) => unreachable!(),
     }

@@ -41,7 +41,7 @@ use verdict::tell_verdict;
 /// | the plan solves the task | `valid cost N` | | 0 |
 /// | it does not | `not applicable step N` or `goal missed` | | 12 |
 /// | the certificate is accepted | `optimal cost N`, `at least N` or `unsolvable` | | 0 |
-/// | it is not | `not accepted CODE Name line L` or `not accepted CODE Name` | | 12 |
+/// | it is not | `not accepted CODE Name line L`, `not accepted 46 Unfair (ACTION OBJECT ..)` or `not accepted CODE Name` | | 12 |
 /// | other words, or such as ask for help | | what is wrong, or the help, and `optplan: nothing was done` | 2 |
 /// | a file's text is refused | | `fault CODE Name in FILE at S..E` | 20 |
 /// | a file, or the standard output, fails | | `fault 61 Device` | 21 |

@@ -5,3 +5,4 @@ pub mod FairPotentials
 pub mod Climb
 pub mod Touching
 pub mod Words
+pub mod Drafted

@@ -41,7 +41,7 @@ pub(crate) struct Next {
 }
 
 /// The greatest constant in range of potentials that give this at most at a goal.
-fn greatest_constant(goal: i64) -> i64
+pub(crate) fn greatest_constant(goal: i64) -> i64
     requires { goal ≤ℤ pos 2147483647 }
     ensures range { IsInRange result }
     ensures meets { (result +ℤ goal) ≤ℤ pos 0 }

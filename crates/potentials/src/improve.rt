@@ -15,6 +15,9 @@ use std::alloc::Global;
 impl Potentials {
     /// Fair potentials whose value in the initial state is no lower, and which are settled, or have there a value that is
     /// higher by at least the number of rounds.
+    ///
+    /// Several weights are moved at once first, as long as that is better, and then single ones, a pass over all atoms a
+    /// round.
     pub fn improve(
         self,
         alloc: Global,
@@ -26,8 +29,9 @@ impl Potentials {
         ensures { IfOk result (λ p. IsImproved (task_in ground.now) (atoms_in ground.now) rounds (potentials_of self) (potentials_of p)) }
     {
         let initial = ground.initial(alloc)?;
+        let drafted = self.drafted(alloc, ground, &initial)?;
         let touching = Touching::new(alloc, ground)?;
-        let mut climb = Climb::new(self, ground, &initial);
+        let mut climb = Climb::new(drafted, ground, &initial);
         for _ in 0..rounds {
             if !climb.pass(ground, &touching, &initial) {
                 return Ok(climb.potentials);

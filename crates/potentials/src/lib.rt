@@ -3,6 +3,8 @@
 #![tactic(auto)]
 
 mod climb;
+mod draft;
+mod drafted;
 mod estimate;
 mod fair_potentials;
 mod fairness;
@@ -12,6 +14,7 @@ mod losses;
 mod potentials;
 mod range;
 mod swing;
+mod tables;
 mod touching;
 mod words;
 

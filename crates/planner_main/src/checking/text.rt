@@ -1,15 +1,23 @@
 //! What the checker's answer is told as: a line, and the status.
-ghost use Rattle.std.specs.Prelude.{◌≡◌, ℕ, IfErr, IfOk, None};
+ghost use Rattle.std.specs.Prelude.{◌≡◌, ℕ, IfErr, IfOk, IsTrue, None};
 ghost use Rattle.std.specs.String.{string_bytes};
+ghost use Rattle.typing.specs.Task.{task_of};
+ghost use Rattle.formulas.specs.State.{instance_of};
 ghost use Rattle.certificate_listing.specs.Reading.{CountsRefusal};
-ghost use Rattle.planner_main.specs.Checked.{IsLineOf, accepted_line, line_refused, plain_refused, told_accepted, told_line, told_plain};
+ghost use Rattle.planner_main.specs.Checked.{IsLineOf, accepted_line, line_refused, plain_refused, told_accepted, told_line, told_plain, told_unfair, unfair_refused};
 ghost use Rattle.planner_main.specs.Program.{CountsFailure, fault_in};
+ghost use Rattle.model.specs.PlanWriting.{has_names};
 
+use crate::checking::Checked;
 use crate::json::{accepted_object, line_of, refused_object};
 use crate::report::{Failure, NO, YES};
 use cert_checker::{Accepted, Refusal, RefusalCode};
 use devices::WriteFault;
+use faults::NoMemory;
+use formulas::Instance;
+use plan_file::step_text;
 use std::alloc::{AllocError, Global};
+use typing::Task;
 
 /// The number of a limit, which is told without a line.
 const LIMIT: u8 = 55;
@@ -17,17 +25,19 @@ const LIMIT: u8 = 55;
 /// What the answer is told as, and its status.
 pub(crate) fn checked_text(
     alloc: Global,
-    answer: &Result<Accepted, Refusal>,
+    checked: &Checked,
     json: bool,
 ) -> Result<(Vec<u8>, u8), Failure>
-    ensures line { IfOk result (λ told. IsLineOf json answer.now told.0.items told.1) }
+    requires { IsTrue (has_names (task_of checked.now.task)) }
+    ensures line { IfOk result (λ told. IsLineOf json (task_of checked.now.task) checked.now.answer told.0.items told.1) }
     ensures refused { IfErr result (λ failure. fault_in failure ≡ None) }
-    ensures unfailed { IfOk result (λ _. (before after : ℕ) → CountsRefusal before after answer.now → after ≡ before) }
-    ensures failures { IfErr result (λ failure. (before after : ℕ) → CountsRefusal before after answer.now → CountsFailure before after failure) }
+    ensures unfailed { IfOk result (λ _. (before after : ℕ) → CountsRefusal before after checked.now.answer → after ≡ before) }
+    ensures failures { IfErr result (λ failure. (before after : ℕ) → CountsRefusal before after checked.now.answer → CountsFailure before after failure) }
 {
-    let (line, status) = match answer {
+    let (line, status) = match &checked.answer {
         Ok(accepted) => (tell_accepted(alloc, *accepted, json), YES),
         Err(Refusal::Line { code, line }) => (tell_line(alloc, *code, *line, json), NO),
+        Err(Refusal::Unfair(step)) => (tell_unfair(alloc, &checked.task, step, json), NO),
         Err(Refusal::Plain(code)) => (tell_plain(alloc, *code, json), NO),
         Err(Refusal::Device) => return Err(Failure::Device(WriteFault::Device)),
         // The reader is a new one, which has told no fault.
@@ -63,6 +73,23 @@ fn tell_line(alloc: Global, code: RefusalCode, line: u64, json: bool) -> Result<
     }
 }
 
+/// What is told of a certificate under which a step may lose more than it costs.
+fn tell_unfair(
+    alloc: Global,
+    task: &Task,
+    step: &Instance,
+    json: bool,
+) -> Result<String, AllocError>
+    requires { IsTrue (has_names (task_of task.now)) }
+    ensures { IfOk result (λ told. string_bytes told ≡ told_unfair json (task_of task.now) (instance_of step.now)) }
+{
+    if json {
+        line_of(refused_object(alloc, RefusalCode::Unfair)?)
+    } else {
+        unfair_refused(alloc, task, step)
+    }
+}
+
 /// What is told of a certificate that is refused for another reason.
 fn tell_plain(alloc: Global, code: RefusalCode, json: bool) -> Result<String, AllocError>
     ensures { IfOk result (λ told. string_bytes told ≡ told_plain json code) }
@@ -95,6 +122,17 @@ fn line_refused(alloc: Global, code: RefusalCode, line: u64) -> Result<String, A
     }
     let name = code.name();
     format!(in alloc; "not accepted {number} {name} line {line}\n")
+}
+
+/// The line of a step that may lose more than it costs.
+fn unfair_refused(alloc: Global, task: &Task, step: &Instance) -> Result<String, AllocError>
+    requires { IsTrue (has_names (task_of task.now)) }
+    ensures { IfOk result (λ told. string_bytes told ≡ unfair_refused (task_of task.now) (instance_of step.now)) }
+{
+    match step_text(alloc, task, step) {
+        Ok(step) => format!(in alloc; "not accepted 46 Unfair {step}\n"),
+        Err(NoMemory) => Err(AllocError),
+    }
 }
 
 /// The line of a refusal that is not one of a line.

@@ -125,7 +125,7 @@ fn check_texts<R: Source>(
     let plan = slice_in(&texts.plan);
     let (domain, problem) = (&texts.pair.domain, &texts.pair.problem);
     let checked = check_files(alloc, domain, problem, cert, plan, instances)?;
-    checked_text(alloc, &checked.answer, json)
+    checked_text(alloc, &checked, json)
 }
 
 /// The bytes of a text, if there is one.

@@ -1,4 +1,6 @@
-use Rattle.std.proofs.lemmas.Result.{err_from_is_err_and}
+use Rattle.std.proofs.lemmas.Result.{err_from_is_err_and, IfOk-weaker}
+use Rattle.typing.specs.Task.{task_of}
+use Rattle.model.proofs.TaskNames.{task_has_names}
 use Rattle.planner_main.specs.Files.{text_in}
 use Rattle.planner_main.proofs.CheckedLemmas.{task_input, none_told_of_inputs, none_told_of_inputs_in}
 use Rattle.planner_main.proofs.checking.check_files.Goals as goal
@@ -27,3 +29,8 @@ pub returns-clause-taken : goal.returns-clause-taken
 returns-clause-taken g c = λ task steps is handed.
     none_told_of_inputs_in c.args.domain.now c.args.problem.now (text_in c.args.plan) c.check_task.result
     (c.check_task.ensures.refused c.args.domain.now c.args.problem.now c.in_ok-task.ensures.task) task steps is handed
+
+pub returns-clause-names : goal.returns-clause-names
+returns-clause-names g c =
+    IfOk-weaker c.check_task.result _ _ (λ checked is. task_has_names c.args.domain.now c.args.problem.now (task_of checked.task) is)
+    (c.check_task.ensures.task c.args.domain.now c.args.problem.now c.in_ok-task.ensures.task)

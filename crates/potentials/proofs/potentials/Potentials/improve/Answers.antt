@@ -7,6 +7,7 @@ use Rattle.potentials.proofs.potentials.Potentials.improve.Goals as goal
 
 pub loop-init : goal.loop-init
 loop-init c =
+    let drafted = c.in_ok-drafted.ensures.no_lower in
     let least = c.new-climb.ensures.no_lower in
     record { climb = c.new-climb.ensures.climb; gained = omega arith }
 
