@@ -31,16 +31,23 @@ fn cert_of(
     alloc: Global,
     claim: Claim,
     rows: &[Term],
+    potentials: (i64, &[i64]),
     lines: &[Line],
 ) -> Result<Option<Cert>, NoMemory> {
     let atoms = atoms(alloc, rows)?;
+    let weights = Vec::from_slice(alloc, potentials.1)?;
     let lines = state_lines(alloc, lines)?;
-    Ok(Cert::new(claim, atoms, lines))
+    Ok(Cert::new(claim, potentials.0, atoms, weights, lines))
 }
+
+/// The weights of up to four atoms that say nothing.
+const NO_WEIGHTS: [i64; 4] = [0; 4];
 
 /// What the checker answers to a row of the listings.
 fn answer(alloc: Global, task: &Task, listings: &Listings, row: &Row) -> Result<Answer, Fail> {
-    let cert = cert_of(alloc, row.0, listings.atoms, row.1)?.ok_or("beyond the limits")?;
+    let potentials = (0, &NO_WEIGHTS[..listings.atoms.len()]);
+    let made = cert_of(alloc, row.0, listings.atoms, potentials, row.1)?;
+    let cert = made.ok_or("beyond the limits")?;
     match row.2 {
         None => Ok(check_cert(alloc, task, &cert, None, listings.max_instances)?),
         Some(text) => {
@@ -120,6 +127,9 @@ fn what_no_certificate_says_is_told(rt: HostRuntime) -> Result<(), Fail> {
 /// The largest number that may stand in a certificate.
 const MOST: u64 = 1_152_921_504_606_846_975;
 
+/// The largest constant, and weights of two atoms.
+const POTENTIALS: (i64, &[i64]) = (2_147_483_647, &[-2_147_483_647, 3]);
+
 /// A claim and a line of a certificate with two atoms, and whether they keep the limits.
 #[rattlefmt::skip]
 static WITHIN: [(Claim, Line, bool); 11] = [
@@ -143,6 +153,8 @@ fn has_its_parts(cert: &Cert, claim: Claim, line: &Line) -> bool {
         ([_, second], [only]) => {
             (only.cost, only.cut, only.atoms.as_slice()) == *line
                 && cert.claim() == claim
+                && cert.constant() == POTENTIALS.0
+                && cert.weights() == POTENTIALS.1
                 && *second == atom(1, &[])
         }
         _ => false,
@@ -151,7 +163,7 @@ fn has_its_parts(cert: &Cert, claim: Claim, line: &Line) -> bool {
 
 /// Whether there is a certificate of this claim and this line. If so, it has these parts.
 fn is_made(rt: &impl Abort, alloc: Global, claim: Claim, line: &Line) -> Result<bool, Fail> {
-    let cert = cert_of(alloc, claim, &[(0, &[]), (1, &[])], &[*line])?;
+    let cert = cert_of(alloc, claim, &[(0, &[]), (1, &[])], POTENTIALS, &[*line])?;
     if let Some(cert) = &cert {
         assert!(rt; has_its_parts(cert, claim, line));
     }
@@ -166,6 +178,35 @@ fn certificates_keep_their_limits(rt: HostRuntime) -> Result<(), Fail> {
             *fits,
             "row {number}"
         );
+    }
+    Ok(())
+}
+
+/// Constants and weights of two atoms, and whether a certificate may have them.
+#[rattlefmt::skip]
+static WEIGHTS: [(i64, &[i64], bool); 7] = [
+    (0, &[0, 0], true),
+    (-2_147_483_647, &[2_147_483_647, -2_147_483_647], true),
+    (-2_147_483_648, &[0, 0], false),
+    (0, &[2_147_483_648, 0], false),
+    (0, &[0, -2_147_483_648], false),
+    // one weight too few, and one too many
+    (0, &[0], false),
+    (0, &[0, 0, 0], false),
+];
+
+#[test]
+fn weights_keep_their_limits(rt: HostRuntime) -> Result<(), Fail> {
+    for (number, (constant, weights, fits)) in WEIGHTS.iter().enumerate() {
+        let potentials = (*constant, *weights);
+        let made = cert_of(
+            rt.alloc(),
+            Claim::Bound(0),
+            &[(0, &[]), (1, &[])],
+            potentials,
+            &[],
+        )?;
+        assert_eq!(rt; made.is_some(), *fits, "row {number}");
     }
     Ok(())
 }

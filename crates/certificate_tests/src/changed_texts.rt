@@ -1,6 +1,6 @@
 //! Texts of certificates that are changed in one byte, or cut. What is accepted of them is true.
-use crate::helpers::{Answer, check_text};
-use cert_checker::{Accepted, Refusal, RefusalCode};
+use crate::helpers::{Answer, Told, check_text};
+use cert_checker::{Accepted, RefusalCode};
 use std::alloc::{AllocError, Global};
 use std::process::Abort;
 use std::test::Fail;
@@ -122,7 +122,7 @@ fn what_is_accepted_of_wrong_texts_is_true(rt: HostRuntime) -> Result<(), Fail> 
 /// The text that ends in this line is refused for that.
 fn truncated(line: u64) -> Answer {
     let code = RefusalCode::Truncated;
-    Err(Refusal::Line { code, line })
+    Err(Told::Line { code, line })
 }
 
 /// Each beginning of the text is refused at the line in which it ends.

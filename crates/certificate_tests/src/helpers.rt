@@ -6,17 +6,51 @@ ghost use Rattle.typing.specs.Task.{task_of};
 ghost use Rattle.formulas.specs.State.{plan_of};
 ghost use Rattle.model.specs.Meaning.{is_instance};
 
-use cert_checker::{Accepted, Refusal, check};
+use cert_checker::{Accepted, Refusal, RefusalCode, check};
 use certificate::Cert;
 use certificate_reader::CertReader;
 use certificate_writer::write_cert;
 use devices::{Memory, Source, WriteFault};
 use formulas::Plan;
 use std::alloc::Global;
-use typing::Task;
+use typing::{SchemaId, Task};
+
+/// A [`Refusal`] as tests compare it.
+#[derive(Clone, Copy, Debug, PartialEq, Eq)]
+pub(crate) enum Told {
+    /// What is wrong with a line.
+    Line {
+        /// What is wrong.
+        code: RefusalCode,
+        /// The line, counted from 1.
+        line: u64,
+    },
+    /// The first instance that is not fair is one of this schema.
+    Unfair(SchemaId),
+    /// What is wrong, and not with one line.
+    Plain(RefusalCode),
+    /// Memory was refused.
+    NoMemory,
+    /// The device failed.
+    Device,
+    /// The reader had told a fault before.
+    Failed,
+}
+
+/// The refusal, to be compared.
+fn told(refusal: Refusal) -> Told {
+    match refusal {
+        Refusal::Line { code, line } => Told::Line { code, line },
+        Refusal::Unfair(instance) => Told::Unfair(instance.schema),
+        Refusal::Plain(code) => Told::Plain(code),
+        Refusal::NoMemory => Told::NoMemory,
+        Refusal::Device => Told::Device,
+        Refusal::Failed => Told::Failed,
+    }
+}
 
 /// What the checker answers.
-pub(crate) type Answer = Result<Accepted, Refusal>;
+pub(crate) type Answer = Result<Accepted, Told>;
 
 /// What the checker answers to the certificate whose text the source gives, and to the plan, if one is handed in.
 pub(crate) fn check_source<S: Source + Drop>(
@@ -29,7 +63,10 @@ pub(crate) fn check_source<S: Source + Drop>(
     requires { ForSome plan (λ p. IsTrue (list_all (is_instance (task_of task.now)) (plan_of p.now))) }
 {
     let mut reader = CertReader::new(alloc, source);
-    check(alloc, task, &mut reader, plan, max_instances)
+    match check(alloc, task, &mut reader, plan, max_instances) {
+        Ok(accepted) => Ok(accepted),
+        Err(refusal) => Err(told(refusal)),
+    }
 }
 
 /// What the checker answers to the certificate of this text.

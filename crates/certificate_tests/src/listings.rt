@@ -1,8 +1,8 @@
 //! Listings of small tasks, and what the checker says of each: those that are closed, and those with one condition broken.
 use crate::helpers::Answer;
+use crate::helpers::Told::{Line as At, Plain};
 use cert_checker::Accepted;
 use cert_checker::Accepted::{AtLeast, Optimal};
-use cert_checker::Refusal::{Line as At, Plain};
 use cert_checker::RefusalCode::{
     CertForm, CertVersion, CutNotAllowed, CutWeak, GoalOpen, Limit, NoInitial, NotFluent,
     PlanDearer, PlanInvalid, Repeated, SuccessorDearer, SuccessorMissing, Truncated,

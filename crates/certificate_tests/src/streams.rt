@@ -1,9 +1,9 @@
 //! The checker over sources that give bytes in pieces, that fail, and that never end.
 ghost use Rattle.std.specs.Prelude.{◌<◌, vec_len};
 
+use crate::helpers::Told::{Device, Line as At};
 use crate::helpers::{Answer, check_source};
 use cert_checker::Accepted;
-use cert_checker::Refusal::{Device, Line as At};
 use cert_checker::RefusalCode::{CertForm, Repeated};
 use devices::{Endless, FailsAt, InPieces, Memory};
 use std::alloc::{AllocError, Global};
