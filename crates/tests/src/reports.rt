@@ -41,7 +41,8 @@ fn solved(alloc: Global, texts: &Texts) -> Result<String, Fail> {
 
 #[test]
 fn answers_are_told_as_json(rt: HostRuntime) -> Result<(), Fail> {
-    let plan = "{\"command\":\"solve\",\"cost\":6,\"result\":\"plan\",\"steps\":[\"(hop a b)\",\"(hop b c)\"]}";
+    let plan =
+        "{\"command\":\"solve\",\"cost\":6,\"result\":\"plan\",\"steps\":[\"(hop a b)\",\"(hop b c)\"]}";
     assert_eq!(rt; solved(rt.alloc(), &HOP)?.as_str(), plan);
     let none = "{\"command\":\"solve\",\"result\":\"unsolvable\"}";
     assert_eq!(rt; solved(rt.alloc(), &PAIRS)?.as_str(), none);
