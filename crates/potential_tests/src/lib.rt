@@ -3,3 +3,5 @@
 
 #[cfg(test)]
 mod fairness;
+#[cfg(test)]
+mod scores;

@@ -12,8 +12,8 @@ const MAX_REPAIRS: u32 = 4096;
 /// The most passes over the atoms.
 const MAX_PASSES: u32 = 4096;
 
-/// How many touches of instances all moves may look at together.
-const MAX_WORK: u64 = 16_777_216;
+/// How many atoms and touches of instances may be looked at before no further weight is moved.
+const MAX_WORK: u64 = 8_388_608;
 
 /// The weight of an atom, one more or one less.
 #[derive(Clone, Copy)]
@@ -105,7 +105,7 @@ impl Draft {
     /// Moves weights as long as that is better.
     pub(crate) fn improve(&mut self, tables: &Tables, width: u32) -> Result<(), NoMemory> {
         for _ in 0..MAX_PASSES {
-            if !self.pass(tables, width)? {
+            if !self.pass(tables, width)? || self.work > MAX_WORK {
                 return Ok(());
             }
         }
@@ -114,6 +114,7 @@ impl Draft {
 
     /// Tries each atom once; tells whether one of them was moved.
     fn pass(&mut self, tables: &Tables, width: u32) -> Result<bool, NoMemory> {
+        self.work = self.work.saturating_add(u64::from(width));
         let mut better = false;
         for atom in 0..width {
             better |= self.try_atom(tables, atom)?;
