@@ -1,5 +1,6 @@
 //! A case: the files, the words of the command, and what is wanted of it.
 use crate::files::CaseFiles;
+use crate::follow_up::FollowUp;
 use crate::holdings::Holdings;
 use crate::section::{Section, Turn};
 use crate::stream::Stream;
@@ -70,6 +71,8 @@ pub struct Case<'a> {
     pub err: Stream,
     /// The status that is wanted.
     pub status: u32,
+    /// What is run over the files that are left, if anything.
+    pub then: Option<FollowUp<'a>>,
 }
 
 impl<'a> Case<'a> {
@@ -82,6 +85,7 @@ impl<'a> Case<'a> {
             out: Stream::new(alloc),
             err: Stream::new(alloc),
             status: 0,
+            then: None,
         }
     }
 
@@ -113,6 +117,10 @@ impl<'a> Case<'a> {
             }
             "status" => {
                 self.status = number_of(section.words)?;
+                Ok(())
+            }
+            "then" => {
+                self.then = Some(FollowUp::of(alloc, section, turn)?);
                 Ok(())
             }
             "reads" => {

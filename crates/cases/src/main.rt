@@ -5,6 +5,7 @@
 mod case;
 mod each;
 mod files;
+mod follow_up;
 mod holdings;
 mod outcome;
 mod section;

@@ -28,8 +28,17 @@ fn run(alloc: Global, case: &mut Case<'_>) -> Result<Option<String>, CaseFault> 
         return Ok(Some(status_text(alloc, status, case.status)?));
     }
     match stream_difference(alloc, case, &out, &err)? {
-        None => Ok(case.holdings.difference(alloc, &case.files.table)?),
+        None => Ok(left_difference(alloc, case)?),
         found => Ok(found),
+    }
+}
+
+/// How the files that are left, or what is told of them by a further run, differ, and `None` where they do not.
+fn left_difference(alloc: Global, case: &mut Case<'_>) -> Result<Option<String>, AllocError> {
+    let found = case.holdings.difference(alloc, &case.files.table)?;
+    match &case.then {
+        Some(then) if found.is_none() => then.difference(alloc, &mut case.files),
+        _ => Ok(found),
     }
 }
 

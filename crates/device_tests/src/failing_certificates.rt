@@ -6,10 +6,6 @@ use planner_main::run;
 use std::alloc::Global;
 use std::test::Fail;
 
-/// The certificate of the two hops.
-const CERTIFICATE: &[u8] =
-    b"pddl-cert 1\nclaim bound 6\nconstant 0\natom 0 (at a)\natom 0 (at b)\natom 0 (at c)\nopen 0 0\nopen 3 1\ncut 6 0 2\nend 3\n";
-
 /// A plan and a certificate are asked for, each in a file.
 const SOLVE: [&str; 7] = [
     "solve", "domain", "problem", "--plan", "out", "--cert", "cert",
@@ -35,15 +31,25 @@ fn leaves(
     )
 }
 
+/// What a run in which nothing fails writes to the certificate's file.
+fn certificate(alloc: Global) -> Result<Vec<u8>, Fail> {
+    let mut files = FailingFiles::new(table(alloc)?, Failing::Never);
+    let (mut out, mut err) = (Memory::empty(alloc), Memory::empty(alloc));
+    run(alloc, &SOLVE, &mut files, &mut out, &mut err);
+    let written = files.table.get("cert").ok_or("no certificate")?;
+    Ok(Vec::from_slice(alloc, written)?)
+}
+
 #[test]
 fn a_certificate_that_fails_leaves_the_plan_unwritten(rt: HostRuntime) -> Result<(), Fail> {
-    let writes = CERTIFICATE.len().div_ceil(WRITE_PIECE);
+    let certificate = certificate(rt.alloc())?;
+    let writes = certificate.len().div_ceil(WRITE_PIECE);
     for count in 0..writes {
-        let beginning = CERTIFICATE.get(..count * WRITE_PIECE);
+        let beginning = certificate.get(..count * WRITE_PIECE);
         let left = [beginning, Some(OLDER), Some(b"")];
         assert!(rt; leaves(rt.alloc(), Failing::Write(count as u64), 21, left)?);
     }
-    let whole = [Some(CERTIFICATE), Some(TWO_HOPS), Some(TWO_HOPS)];
+    let whole = [Some(certificate.as_slice()), Some(TWO_HOPS), Some(TWO_HOPS)];
     assert!(rt; leaves(rt.alloc(), Failing::Write(writes as u64), 0, whole)?);
     assert!(rt;
         leaves(
@@ -53,7 +59,7 @@ fn a_certificate_that_fails_leaves_the_plan_unwritten(rt: HostRuntime) -> Result
             [None, Some(OLDER), Some(b"")]
         )?
     );
-    let closed = [Some(CERTIFICATE), Some(OLDER), Some(b"")];
+    let closed = [Some(certificate.as_slice()), Some(OLDER), Some(b"")];
     assert!(rt; leaves(rt.alloc(), Failing::Closing, 21, closed)?);
     Ok(())
 }

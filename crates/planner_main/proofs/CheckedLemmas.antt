@@ -1,5 +1,5 @@
 -- What is told of the inputs of a check, and of the plan that is handed in.
-use Rattle.std.proofs.Common.{◌≡◌, ℕ, List, sym, subst, refl}
+use Rattle.std.proofs.Common.{◌≡◌, ℕ, List, sym, subst}
 use Rattle.std.specs.Prelude.{Option, None, Some, IfSome, Result, Ok, Err, IfErr}
 use Rattle.model.specs.Task.{Task, Instance}
 use Rattle.model.specs.PlanText.{IsPlanText}

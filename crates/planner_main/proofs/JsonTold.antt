@@ -1,5 +1,5 @@
 -- The text of an object whose members are made by calls is that of the members that are meant.
-use Rattle.std.proofs.Common.{◌≡◌, ℕ, List, String, Global, subst}
+use Rattle.std.proofs.Common.{◌≡◌, List, String, Global, subst}
 use Rattle.std.specs.Prelude.{Result, IfOk}
 use Rattle.std.specs.String.{string_bytes}
 use Rattle.answer_json.specs.JsonText.{Member, object_text}

@@ -3,7 +3,7 @@ use Rattle.std.proofs.Common.{◌≡◌, ℕ, Bool, List, ◌∙◌, sym, ap, ap
 use Rattle.std.specs.Prelude.{Option}
 use Rattle.std.specs.Borrow.{Bor}
 use Rattle.solver.specs.declared.limits.Limits.{Limits}
-use Rattle.command_line.specs.Orders.{Asked, Wanted, to_solve, to_check}
+use Rattle.command_line.specs.Orders.{Asked, to_solve, to_check}
 use Rattle.command_line.specs.View.{text_in, wanted_of}
 use Rattle.command_line.specs.declared.limit.Limit.{Limit}
 use Rattle.command_line.specs.declared.order.Order.{Order}

@@ -1,0 +1,43 @@
+//! A further run over the files that a case leaves.
+use crate::case::CaseFault;
+use crate::files::CaseFiles;
+use crate::section::{Section, Turn};
+use devices::Memory;
+use std::alloc::{AllocError, Global};
+
+/// The words of a further run, and what its standard output is to take.
+#[derive(Drop)]
+pub struct FollowUp<'a> {
+    words: Vec<&'a str>,
+    wanted: Vec<u8>,
+}
+
+impl<'a> FollowUp<'a> {
+    /// What a section says of it: its words, and below them what it is to tell.
+    pub fn of(
+        alloc: Global,
+        section: Section<'a>,
+        turn: Turn,
+    ) -> Result<FollowUp<'a>, CaseFault> {
+        Ok(FollowUp {
+            words: section.words.split_whitespace().collect(alloc)?,
+            wanted: section.bytes(alloc, turn)?,
+        })
+    }
+
+    /// How what it tells differs from what is wanted, and `None` where it does not.
+    pub fn difference(
+        &self,
+        alloc: Global,
+        files: &mut CaseFiles,
+    ) -> Result<Option<String>, AllocError> {
+        let (mut out, mut err) = (Memory::empty(alloc), Memory::empty(alloc));
+        let status = planner_main::run(alloc, &self.words, files, &mut out, &mut err);
+        if out.as_slice() == self.wanted.as_slice() {
+            return Ok(None);
+        }
+        let is = String::from_utf8_lossy(alloc, out.as_slice())?;
+        let wanted = String::from_utf8_lossy(alloc, &self.wanted)?;
+        Ok(Some(format!(in alloc; "then stdout is {is:?} with status {status}, and not {wanted:?}")?))
+    }
+}
