@@ -14,11 +14,7 @@ pub struct FollowUp<'a> {
 
 impl<'a> FollowUp<'a> {
     /// What a section says of it: its words, and below them what it is to tell.
-    pub fn of(
-        alloc: Global,
-        section: Section<'a>,
-        turn: Turn,
-    ) -> Result<FollowUp<'a>, CaseFault> {
+    pub fn of(alloc: Global, section: Section<'a>, turn: Turn) -> Result<FollowUp<'a>, CaseFault> {
         Ok(FollowUp {
             words: section.words.split_whitespace().collect(alloc)?,
             wanted: section.bytes(alloc, turn)?,
@@ -38,6 +34,8 @@ impl<'a> FollowUp<'a> {
         }
         let is = String::from_utf8_lossy(alloc, out.as_slice())?;
         let wanted = String::from_utf8_lossy(alloc, &self.wanted)?;
-        Ok(Some(format!(in alloc; "then stdout is {is:?} with status {status}, and not {wanted:?}")?))
+        Ok(Some(format!(in alloc;
+            "then stdout is {is:?} with status {status}, and not {wanted:?}"
+        )?))
     }
 }
