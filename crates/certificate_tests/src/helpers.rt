@@ -38,7 +38,7 @@ pub(crate) enum Told {
 }
 
 /// The refusal, to be compared.
-fn told(refusal: Refusal) -> Told {
+fn as_told(refusal: Refusal) -> Told {
     match refusal {
         Refusal::Line { code, line } => Told::Line { code, line },
         Refusal::Unfair(instance) => Told::Unfair(instance.schema),
@@ -65,7 +65,7 @@ pub(crate) fn check_source<S: Source + Drop>(
     let mut reader = CertReader::new(alloc, source);
     match check(alloc, task, &mut reader, plan, max_instances) {
         Ok(accepted) => Ok(accepted),
-        Err(refusal) => Err(told(refusal)),
+        Err(refusal) => Err(as_told(refusal)),
     }
 }
 
