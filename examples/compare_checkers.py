@@ -13,7 +13,7 @@ import sys
 import tempfile
 
 HERE = os.path.dirname(os.path.realpath(__file__))
-PROGRAM = os.path.join(os.path.dirname(HERE), "optplan")
+PROGRAM = os.environ.get("OPTPLAN", os.path.join(os.path.dirname(HERE), "optplan"))
 OTHER = os.path.join(HERE, "check_certificate.py")
 
 
