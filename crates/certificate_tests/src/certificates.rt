@@ -40,13 +40,10 @@ fn cert_of(
     Ok(Cert::new(claim, potentials.0, atoms, weights, lines))
 }
 
-/// The weights of up to four atoms that say nothing.
-const NO_WEIGHTS: [i64; 4] = [0; 4];
-
 /// What the checker answers to a row of the listings.
 fn answer(alloc: Global, task: &Task, listings: &Listings, row: &Row) -> Result<Answer, Fail> {
-    let potentials = (0, &NO_WEIGHTS[..listings.atoms.len()]);
-    let made = cert_of(alloc, row.0, listings.atoms, potentials, row.1)?;
+    let weights = vec![in alloc; 0; listings.atoms.len()]?;
+    let made = cert_of(alloc, row.0, listings.atoms, (0, &weights), row.1)?;
     let cert = made.ok_or("beyond the limits")?;
     match row.2 {
         None => Ok(check_cert(alloc, task, &cert, None, listings.max_instances)?),

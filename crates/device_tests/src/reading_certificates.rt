@@ -7,7 +7,7 @@ use std::test::Fail;
 
 /// A certificate of ten lines.
 const HOP: &[u8] =
-    b"pddl-cert 1\nclaim bound 6\nconstant 0\natom 0 (at a)\natom 0 (at b)\natom 0 (at c)\nopen 0 0\nopen 3 1\ncut 6 0 2\nend 3\n";
+    b"pddl-cert 1\nclaim bound 6\nconstant 6\natom 0 (at a)\natom -3 (at b)\natom -6 (at c)\nopen 0 0\nopen 3 1\ncut 6 0 2\nend 3\n";
 
 /// What is told at a line.
 const fn at_line(fault: TextFault, line: u64) -> CertFault {
@@ -35,12 +35,13 @@ fn one_by_one(alloc: Global, bytes: &[u8]) -> Result<InPieces<Memory>, AllocErro
     Ok(InPieces::new(Memory::new(bytes.to_vec(alloc)?), 1))
 }
 
-/// An atom of one object.
-fn atom_at(alloc: Global, object: &[u8]) -> Result<CertLine, AllocError> {
-    Ok(CertLine::Weight(NamedAtom {
+/// An atom of one object, with this weight.
+fn atom_at(alloc: Global, weight: i64, object: &[u8]) -> Result<CertLine, AllocError> {
+    let atom = NamedAtom {
         predicate: b"at".to_vec(alloc)?,
         objects: vec![in alloc; object.to_vec(alloc)?]?,
-    }))
+    };
+    Ok(CertLine::Weight { weight, atom })
 }
 
 /// A state of these atoms.
@@ -60,10 +61,10 @@ fn lines_are_what_they_say(rt: HostRuntime) -> Result<(), Fail> {
     let wanted = vec![in alloc;
         CertLine::Head,
         CertLine::Claim(Claim::Bound(6)),
-        CertLine::Constant,
-        atom_at(alloc, b"a")?,
-        atom_at(alloc, b"b")?,
-        atom_at(alloc, b"c")?,
+        CertLine::Constant(6),
+        atom_at(alloc, 0, b"a")?,
+        atom_at(alloc, -3, b"b")?,
+        atom_at(alloc, -6, b"c")?,
         state(alloc, 0, None, &[0])?,
         state(alloc, 3, None, &[1])?,
         state(alloc, 6, Some(0), &[2])?,
