@@ -1,12 +1,16 @@
 -- Members whose keys ascend are put into the library's object one behind the other.
-use Rattle.std.proofs.Common.{◌≡◌, ℕ, zero, suc, ◌+◌, ◌<◌, true, List, [], ◌∷◌, length, take, get_or, Ordering, Less, Equal, Greater, refl, sym, ap, ◌∙◌, arith}
+use Rattle.std.proofs.Common.{◌≡◌, ℕ, zero, suc, ◌+◌, ◌<◌, ◌≤◌, true, List, [], ◌∷◌, length, take, get_or, Ordering, Less, Equal, Greater, String, Global, BTreeMap, refl, sym, ap, ◌∙◌, arith}
 use Rattle.std.proofs.lemmas.Bool.{and_parts}
 use Rattle.std.proofs.lemmas.Cmp.{nat_list_cmp_total}
+use Rattle.std.proofs.lemmas.List.{take_all}
 use Rattle.std.specs.Prelude.{false}
 use Rattle.std.specs.Cmp.Lexicographic.{slice_cmp}
 use Rattle.std.specs.Ordering.{nat_cmp, match_ordering, ordering_reverse}
-use Rattle.serde_json.specs.Data.{put}
+use Rattle.serde_json.specs.Data.{object, put}
 use Rattle.serde_json.specs.Data as built
+use Rattle.serde_json.specs.View.{view, members_view}
+use Rattle.serde_json.specs.declared.value.Value.{Value, Object}
+use Rattle.serde_json.proofs.Views.{view-Object}
 use Rattle.answer_json.specs.JsonText.{comes_before, ascend}
 use Rattle.answer_json.specs.Members.{keys_of, members_of, value_of}
 use Rattle.answer_json.specs.Built.{value_built, members_built}
@@ -48,3 +52,8 @@ put_next members i next within is ascends =
     ap (λ (m : Member). put m.key.now (value_built (value_of m.value)) (members_built (members_of (take i members)))) (sym is)
     ∙ put_at members i next within ascends
     ∙ ap (λ n. members_built (members_of (take n members))) more
+
+-- once each member is put, the object is that of them all
+pub all_put : (members : List Member) (i : ℕ) (m : BTreeMap (String Global) Value) → length members ≤ i → members_view m.entries ≡ members_built (members_of (take i members))
+    → view (Object m) ≡ object (members_built (members_of members))
+all_put members i m end put_so_far = view-Object m ∙ ap object (put_so_far ∙ ap (λ (ms : List Member). members_built (members_of ms)) (take_all i members end))

@@ -5,10 +5,10 @@ ghost use Rattle.std.specs.Prelude.{◌≡◌, IfOk, IsTrue, Some};
 ghost use Rattle.std.specs.String.{string_bytes};
 ghost use Rattle.json.specs.Json.{document, object};
 ghost use Rattle.serde_json.specs.View.{view};
+ghost use Rattle.answer_json.specs.Built.{value_built};
 ghost use Rattle.answer_json.specs.Examples.{AreWritten};
 ghost use Rattle.answer_json.specs.JsonText.{ascend, object_text};
 ghost use Rattle.answer_json.specs.Members.{keys_of, members_of, members_read, value_of};
-ghost use Rattle.answer_json.specs.Built.{value_built};
 
 use serde_json::Map;
 use std::alloc::{AllocError, Global};
@@ -80,8 +80,9 @@ pub fn object_text(alloc: Global, members: &[Member<'_>]) -> Result<String, Allo
 {
     let mut object = Map::new(alloc);
     'members: for member in members {
+        let key = String::from_str(alloc, member.key)?;
         let value = built_value(alloc, member.value)?;
-        serde_json::put(&mut object, alloc, member.key, value)?;
+        object.insert(key, value)?;
     }
     serde_json::Value::Object(object).to_string(alloc)
 }
