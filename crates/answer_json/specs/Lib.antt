@@ -1,4 +1,4 @@
 pub mod JsonText
 pub mod Members
-pub mod Tokens
+pub mod Built
 pub mod Examples

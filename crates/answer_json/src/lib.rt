@@ -1,15 +1,16 @@
 //! The compact text of a JSON object: its members in the order of their keys, no blank, and strings escaped only where they must be.
 #![tactic(auto)]
 
-ghost use Rattle.std.specs.Prelude.{◌≡◌, ◌++◌, IfOk, IsTrue, OnOk, Some};
+ghost use Rattle.std.specs.Prelude.{◌≡◌, IfOk, IsTrue, Some};
 ghost use Rattle.std.specs.String.{string_bytes};
 ghost use Rattle.json.specs.Json.{document, object};
+ghost use Rattle.serde_json.specs.View.{view};
+ghost use Rattle.answer_json.specs.Built.{value_built};
 ghost use Rattle.answer_json.specs.Examples.{AreWritten};
 ghost use Rattle.answer_json.specs.JsonText.{ascend, object_text};
-ghost use Rattle.answer_json.specs.Members.{keys_of, member_of, members_of, members_read, value_of};
-ghost use Rattle.answer_json.specs.Tokens.{member_tokens, value_tokens};
+ghost use Rattle.answer_json.specs.Members.{keys_of, members_of, members_read, value_of};
 
-use json::Writer;
+use serde_json::Map;
 use std::alloc::{AllocError, Global};
 
 /// What a member of an object has.
@@ -77,13 +78,13 @@ pub fn object_text(alloc: Global, members: &[Member<'_>]) -> Result<String, Allo
     // A reader of JSON makes these members of it.
     ensures read { IfOk result (λ text. document (string_bytes text) ≡ Some (object (members_read (members_of members.now)))) }
 {
-    let mut writer = Writer::new(Vec::new(alloc));
-    writer.begin_object()?;
+    let mut object = Map::new(alloc);
     'members: for member in members {
-        write_member(&mut writer, *member)?;
+        let key = String::from_str(alloc, member.key)?;
+        let value = built_value(alloc, member.value)?;
+        object.insert(key, value)?;
     }
-    writer.end_object()?;
-    Ok(String::from_utf8(writer.into_inner()).unwrap())
+    serde_json::Value::Object(object).to_string(alloc)
 }
 
 /// The worked examples of texts. They are proved; the call does nothing.
@@ -91,27 +92,24 @@ pub fn examples_are_written()
     ensures { AreWritten }
 {}
 
-/// Writes a member: its key and its value.
-fn write_member(writer: &mut Writer, member: Member<'_>) -> Result<(), AllocError>
-    ensures written { OnOk result (writer.new.tokens ≡ writer.old.tokens ++ member_tokens (member_of member.entry)) }
-    ensures before { writer.new.before ≡ writer.old.before }
+/// A member's value as a value of JSON.
+fn built_value(alloc: Global, value: Value<'_>) -> Result<serde_json::Value, AllocError>
+    ensures { IfOk result (λ built. view built ≡ value_built (value_of value.entry)) }
 {
-    writer.key(member.key)?;
-    match member.value {
-        Value::Number(number) => writer.u64(number),
-        Value::Text(text) => writer.string(text),
-        Value::Texts(texts) => write_texts(writer, texts),
+    match value {
+        Value::Number(number) => Ok(serde_json::Value::from(number)),
+        Value::Text(text) => serde_json::Value::try_from_str(alloc, text),
+        Value::Texts(texts) => built_texts(alloc, texts),
     }
 }
 
-/// Writes an array of strings.
-fn write_texts(writer: &mut Writer, texts: &[String]) -> Result<(), AllocError>
-    ensures written { OnOk result (writer.new.tokens ≡ writer.old.tokens ++ value_tokens (value_of (Value.Texts texts.entry))) }
-    ensures before { writer.new.before ≡ writer.old.before }
+/// An array of strings as a value of JSON.
+fn built_texts(alloc: Global, texts: &[String]) -> Result<serde_json::Value, AllocError>
+    ensures { IfOk result (λ built. view built ≡ value_built (value_of (Value.Texts texts.entry))) }
 {
-    writer.begin_array()?;
+    let mut array = Vec::with_capacity(alloc, texts.len())?;
     'texts: for text in texts {
-        writer.string(text)?;
+        array.push(serde_json::Value::try_from_str(alloc, text.as_str())?)?;
     }
-    writer.end_array()
+    Ok(serde_json::Value::Array(array))
 }
