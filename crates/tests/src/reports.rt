@@ -1,5 +1,10 @@
 //! What the words of a command line ask for, and what is told as JSON.
-use planner_main::{Order, Report, WordsFault, json_line, read_words, solve_files};
+ghost use Rattle.std.specs.Prelude.{IsTrue};
+ghost use Rattle.model.specs.PlanWriting.{has_names};
+ghost use Rattle.typing.specs.Task.{task_of};
+
+use faults::NoMemory;
+use planner_main::{Order, Report, Solved, WordsFault, json_line, read_words, solve_files};
 use solver::Limits;
 use std::alloc::Global;
 use std::test::Fail;
@@ -31,12 +36,19 @@ fn verdicts_are_told_as_json(rt: HostRuntime) -> Result<(), Fail> {
     Ok(())
 }
 
+/// What is told of an answer.
+fn answer_line(alloc: Global, solved: Solved) -> Result<String, NoMemory>
+    requires { IsTrue (has_names (task_of solved.task)) }
+{
+    json_line(alloc, &Report::Solve(solved))
+}
+
 /// What is told of what is found out of a task.
 fn solved(alloc: Global, texts: &Texts) -> Result<String, Fail> {
     let limits = Limits::new(100, 100).ok_or("no limits")?;
     let (domain, problem) = (texts[0].as_bytes(), texts[1].as_bytes());
     let solved = solve_files(alloc, domain, problem, limits)?;
-    Ok(json_line(alloc, &Report::Solve(solved))?)
+    Ok(answer_line(alloc, solved)?)
 }
 
 #[test]
