@@ -1,24 +1,22 @@
 -- The sections of a file, one after another.
-use Rattle.std.proofs.Common.{◌≡◌, ℕ, ◌+◌, Bool, true, false, cond, ◌||◌, ◌&&◌, List, [], ◌∷◌, map, fold, Option, Some, None, refl, sym, ◌∙◌, ap, arith}
+use Rattle.std.proofs.Common.{◌≡◌, ℕ, ◌+◌, Bool, true, false, cond, ◌||◌, ◌&&◌, List, [], ◌∷◌, map, fold, Option, Some, None, Result, Ok, Err, refl, sym, ◌∙◌, ap, arith}
 use Rattle.std.specs.List.{list_all}
 use Rattle.std.specs.Option.{option_and_then}
 use Rattle.model.proofs.Tests.{passes_map}
 use Rattle.pddl_words.specs.declared.token.SectionKeyword as code
 use Rattle.pddl_words.specs.Token.{section_view}
 use Rattle.tokens.specs.declared.word.Word.{Word}
-use Rattle.faults.specs.declared.refused.Refused.TheVariants.{At}
 use Rattle.pddl_words.specs.declared.refusal.WordRefusal.{WordRefusal}
 use Rattle.pddl_words.specs.Token.{from, first}
-use Rattle.pddl_words.specs.Refusal.{WordFault, told}
-use Rattle.pddl_tree.specs.Reading.{the, IsRead, IsTold, GoesOn, number_seen, closes_first, opens_first}
-use Rattle.pddl_tree.specs.Sections.{sections_on, IsNotNew, IsSection}
-use Rattle.pddl_tree.proofs.Parts.{is_closes}
-use Rattle.pddl_tree.proofs.ReadOn.{taken, told_later, not_there, by_word_told, first_told, IsRefusedAs}
+use Rattle.pddl_words.specs.Refusal.{WordFault}
+use Rattle.pddl_tree.specs.Reading.{made, stops, bind, part, phrase, number_seen, closes_first, opens_first, ReadsInto, GoesOn, Stops}
+use Rattle.pddl_tree.specs.Sections.{sections_on, section_into, IsNotNew}
+use Rattle.pddl_tree.proofs.Read.{taken, phrase_then, read_in_turn}
+use Rattle.pddl_tree.proofs.Looks.{is_closes, refused_here, told_first, told_along}
 use Rattle.model.specs.Trees.{File}
 use Rattle.model.specs.GrammarWords.{Token, opens, closes, keyword, SectionKeyword, of_section, of_part, requirement_key, left_out_keyword, unknown_keyword}
 use Rattle.model.specs.GrammarWords as words
-use Rattle.model.specs.Grammar.{Tree, Section, Contents, Phrase, gives, and_then, after, sections, section, section_of, section_after, define_word, with_section, keyword_in, seen_with, is_section, has_section, has_all, left_of, sections_of, required_of}
-use Rattle.model.specs.GrammarMachine.{run}
+use Rattle.model.specs.Grammar.{Section, Contents, Phrase, gives, ◌>>=◌, and_then, after, sections, section, section_of, section_after, define_word, with_section, keyword_in, seen_with, is_section, has_section, has_all, left_of, sections_of, required_of}
 use Rattle.model.proofs.GrammarBegins.{is_left, same_section}
 
 -- the code's test of all of some sections
@@ -63,68 +61,86 @@ left_is j (k ∷ all) seen e = by_first (has_section seen k) refl (is_section j 
 
 -- ---- one section
 
+-- what follows the keyword of a section has that keyword
+of_kind : (j : SectionKeyword) {B : Type 0} (q : SectionKeyword → Section → Phrase B) → and_then (section_after j) (λ x. q (keyword_in x) x) ≡ and_then (section_after j) (λ x. q j x)
+of_kind words.requirements q = refl
+of_kind words.types q = refl
+of_kind words.constants q = refl
+of_kind words.predicates q = refl
+of_kind words.functions q = refl
+of_kind words.action q = refl
+of_kind words.domain_keyword q = refl
+of_kind words.objects q = refl
+of_kind words.init q = refl
+of_kind words.goal q = refl
+of_kind words.metric q = refl
+
 -- the `(` and the keyword of a section that is new: what follows them
 begun : (f : File) (seen : List SectionKeyword) (j : SectionKeyword) (c : Contents) (list : List Word) (at : ℕ) → first (from list at) ≡ Some opens → first (from list (at + 1)) ≡ Some (keyword (of_section j))
-    → has_section (sections_of f) j ≡ true → has_section seen j ≡ false
-    → (k : Contents → Phrase Tree) → run (from list at) (and_then (sections_on f seen c) k) ≡ run (from list (at + 2)) (and_then (section_after j) (λ x. and_then (sections_on f (seen_with seen (keyword_in x)) (with_section c x)) k))
-begun f seen j c list at o e here new k = by_left (left_of (sections_of f) seen) refl (is_left j (sections_of f) seen here new)
+    → has_section (sections_of f) j ≡ true → has_section seen j ≡ false → phrase (sections_on f seen c) (from list at) ≡ bind (phrase (section_into j c) (from list (at + 2))) (λ d w. phrase (sections_on f (seen_with seen j) d) w)
+begun f seen j c list at o e here new = by_left (left_of (sections_of f) seen) refl (is_left j (sections_of f) seen here new)
   where
-    by_left : (l : List SectionKeyword) → left_of (sections_of f) seen ≡ l → has_section l j ≡ true → run (from list at) (and_then (sections_on f seen c) k) ≡ run (from list (at + 2)) (and_then (section_after j) (λ x. and_then (sections_on f (seen_with seen (keyword_in x)) (with_section c x)) k))
+    by_left : (l : List SectionKeyword) → left_of (sections_of f) seen ≡ l → has_section l j ≡ true → phrase (sections_on f seen c) (from list at) ≡ bind (phrase (section_into j c) (from list (at + 2))) (λ d w. phrase (sections_on f (seen_with seen j) d) w)
     by_left [] are has = absurd (cc)
     by_left (i ∷ others) are has =
-        let rest : Section → Phrase Tree = λ x. and_then (sections_on f (seen_with seen (keyword_in x)) (with_section c x)) k in
-        taken (sections f seen) list at opens o (ap (section_of f seen) are) (λ ss. k (fold with_section c ss))
-        ∙ taken (section f i others) list (at + 1) (keyword (of_section j)) e (ap (λ b. cond b (Some (section_after j)) None) has) rest
-        ∙ ap (λ n. run (from list n) (and_then (section_after j) rest)) (omega arith)
+        ap (λ r. bind r (λ ss w. made (fold with_section c ss) w)) (taken (sections f seen) list at opens o (ap (section_of f seen) are)
+        ∙ ap (λ r. bind r (λ x w. bind (part (sections f (seen_with seen (keyword_in x))) w) (λ xs v. made (x ∷ xs) v))) (taken (section f i others) list (at + 1) (keyword (of_section j)) e (ap (λ b. cond b (Some (section_after j)) None) has))
+        ∙ sym (phrase_then (section_after j) (λ x. sections f (seen_with seen (keyword_in x)) >>= λ xs. gives (x ∷ xs)) (from list (at + 1 + 1))))
+        ∙ read_in_turn (section_after j) (λ x. sections f (seen_with seen (keyword_in x)) >>= λ xs. gives (x ∷ xs)) (λ ss. gives (fold with_section c ss)) (from list (at + 1 + 1))
+        ∙ ap (λ p. phrase p (from list (at + 1 + 1))) (of_kind j (λ k x. sections_on f (seen_with seen k) (with_section c x)))
+        ∙ sym (read_in_turn (section_after j) (λ x. gives (with_section c x)) (λ d. sections_on f (seen_with seen j) d) (from list (at + 1 + 1)))
+        ∙ ap (λ n. bind (phrase (section_into j c) (from list n)) (λ d w. phrase (sections_on f (seen_with seen j) d) w)) (omega arith)
 
-pub section_read : (f : File) (seen : List SectionKeyword) (j : SectionKeyword) {list : List Word} {at next : ℕ} {c d : Contents} → first (from list at) ≡ Some opens → first (from list (at + 1)) ≡ Some (keyword (of_section j))
-    → has_section (sections_of f) j ≡ true → has_section seen j ≡ false → IsSection j list (at + 2) c d next → GoesOn (sections_on f seen c) list at (sections_on f (seen_with seen j) d) next
-section_read f seen j {list} {at} {next} {c} o e here new one =
-    record {
-      goes = λ k. begun f seen j c list at o e here new k ∙ one.read.runs (λ x. and_then (sections_on f (seen_with seen (keyword_in x)) (with_section c x)) k)
-          ∙ (λ i. run (from list next) (and_then (sections_on f (seen_with seen (one.kind i)) (sym one.taken i)) k));
-    }
-
-pub section_told : (f : File) (seen : List SectionKeyword) (j : SectionKeyword) {list : List Word} {at : ℕ} {c : Contents} {refusal : WordFault} → first (from list at) ≡ Some opens → first (from list (at + 1)) ≡ Some (keyword (of_section j))
-    → has_section (sections_of f) j ≡ true → has_section seen j ≡ false → IsTold (section_after j) list (at + 2) refusal → IsTold (sections_on f seen c) list at refusal
-section_told f seen j {list} {at} {c} {refusal} o e here new told =
-    let rest : (Contents → Phrase Tree) → Section → Phrase Tree = λ k x. and_then (sections_on f (seen_with seen (keyword_in x)) (with_section c x)) k in
-    record { stops = λ k. told_later list at (at + 2) (and_then (sections_on f seen c) k) (and_then (section_after j) (rest k)) refusal (begun f seen j c list at o e here new k) (told.stops (rest k)) }
+pub section_answers : (f : File) (seen : List SectionKeyword) (j : SectionKeyword) (c d : Contents) (list : List Word) (at : ℕ) (r : Result ℕ WordFault) → first (from list at) ≡ Some opens → first (from list (at + 1)) ≡ Some (keyword (of_section j))
+    → has_section (sections_of f) j ≡ true → has_section seen j ≡ false → ReadsInto (phrase (section_into j c)) list (at + 2) d r → GoesOn (phrase (sections_on f seen c)) (phrase (sections_on f (seen_with seen j) d)) list at r
+section_answers f seen j c d list at (Ok next) o e here new h = (begun f seen j c list at o e here new ∙ ap (λ r. bind r (λ d w. phrase (sections_on f (seen_with seen j) d) w)) h.0, (omega (arith, h.1.0), h.1.1))
+section_answers f seen j c d list at (Err fault) o e here new h =
+    told_along list _ _ fault (begun f seen j c list at o e here new) (told_first list _ (λ d w. phrase (sections_on f (seen_with seen j) d) w) fault h)
 
 -- `)` after what is required
-pub sections_end : (f : File) (seen : List SectionKeyword) {list : List Word} {at : ℕ} {c : Contents} → closes_first (first (from list at)) ≡ true → has_all (required_of f) seen ≡ true → IsRead (sections_on f seen c) list at c (at + 1)
-sections_end f seen {list} {at} {c} e all =
-    record { runs = λ k. taken (sections f seen) list at closes (is_closes (first (from list at)) e) (ap (λ b. cond b (Some (gives [])) None) all) (λ ss. k (fold with_section c ss)) }
+pub sections_end : (f : File) (seen : List SectionKeyword) (c : Contents) (list : List Word) (at : ℕ) → closes_first (first (from list at)) ≡ true → has_all (required_of f) seen ≡ true → phrase (sections_on f seen c) (from list at) ≡ made c (from list (at + 1))
+sections_end f seen c list at e all =
+    ap (λ r. bind r (λ ss w. made (fold with_section c ss) w)) (taken (sections f seen) list at closes (is_closes (first (from list at)) e) (ap (λ b. cond b (Some (gives [])) None) all))
 
 -- ---- words that may not stand there
 
 -- any word, where all sections stand
-pub sections_full : (f : File) (seen : List SectionKeyword) (o : Option Token) → has_all (sections_of f) seen ≡ true → closes_first o ≡ false → IsRefusedAs (sections f seen) define_word o
-sections_full f seen None all e = (refl, refl)
-sections_full f seen (Some closes) all e = absurd (cc)
-sections_full f seen (Some opens) all e = (ap (section_of f seen) (none_left (sections_of f) seen all), refl)
-sections_full f seen (Some t) all e = (refl, refl)
+pub sections_full : (f : File) (seen : List SectionKeyword) (list : List Word) (at : ℕ) → has_all (sections_of f) seen ≡ true → closes_first (first (from list at)) ≡ false → part (sections f seen) (from list at) ≡ stops (number_seen define_word (first (from list at))) (from list at)
+sections_full f seen list at all e = let h = by_word (first (from list at)) e in refused_here (sections f seen) define_word list at h.0 h.1
+  where
+    by_word : (o : Option Token) → closes_first o ≡ false → (option_and_then (after (sections f seen)) o ≡ None) × (number_seen define_word o ≡ number_seen (sections f seen) o)
+    by_word None e = (refl, refl)
+    by_word (Some closes) e = absurd (cc)
+    by_word (Some opens) e = (ap (section_of f seen) (none_left (sections_of f) seen all), refl)
+    by_word (Some t) e = (refl, refl)
 
 -- a word that is no `(`
-pub sections_not_open : (f : File) (seen : List SectionKeyword) (o : Option Token) → opens_first o ≡ false → closes_first o ≡ false → IsRefusedAs (sections f seen) define_word o
-sections_not_open f seen None n e = (refl, refl)
-sections_not_open f seen (Some closes) n e = absurd (cc)
-sections_not_open f seen (Some opens) n e = absurd (cc)
-sections_not_open f seen (Some t) n e = (refl, refl)
+pub sections_not_open : (f : File) (seen : List SectionKeyword) (list : List Word) (at : ℕ) → opens_first (first (from list at)) ≡ false → closes_first (first (from list at)) ≡ false → part (sections f seen) (from list at) ≡ stops (number_seen define_word (first (from list at))) (from list at)
+sections_not_open f seen list at n e = let h = by_word (first (from list at)) n e in refused_here (sections f seen) define_word list at h.0 h.1
+  where
+    by_word : (o : Option Token) → opens_first o ≡ false → closes_first o ≡ false → (option_and_then (after (sections f seen)) o ≡ None) × (number_seen define_word o ≡ number_seen (sections f seen) o)
+    by_word None n e = (refl, refl)
+    by_word (Some closes) n e = absurd (cc)
+    by_word (Some opens) n e = absurd (cc)
+    by_word (Some t) n e = (refl, refl)
 
 -- `)` before what is required
-pub sections_missing : (f : File) (seen : List SectionKeyword) (o : Option Token) → has_all (required_of f) seen ≡ false → closes_first o ≡ true → IsRefusedAs (sections f seen) define_word o
-sections_missing f seen (Some closes) none e = (ap (λ b. cond b (Some (gives [])) None) none, refl)
-sections_missing f seen o none e = absurd (cc)
+pub sections_missing : (f : File) (seen : List SectionKeyword) (c : Contents) (list : List Word) (at : ℕ) → has_all (required_of f) seen ≡ false → closes_first (first (from list at)) ≡ true → phrase (sections_on f seen c) (from list at) ≡ stops (number_seen define_word (first (from list at))) (from list at)
+sections_missing f seen c list at none e = let h = by_word (first (from list at)) e in ap (λ r. bind r (λ ss w. made (fold with_section c ss) w)) (refused_here (sections f seen) define_word list at h.0 h.1)
+  where
+    by_word : (o : Option Token) → closes_first o ≡ true → (option_and_then (after (sections f seen)) o ≡ None) × (number_seen define_word o ≡ number_seen (sections f seen) o)
+    by_word (Some closes) e = (ap (λ b. cond b (Some (gives [])) None) none, refl)
+    by_word o e = absurd (cc)
 
 -- no keyword of a new section after `(`
-pub no_section : (f : File) (seen : List SectionKeyword) (list : List Word) (at : ℕ) (refusal : WordRefusal) → first (from list at) ≡ Some opens → has_all (sections_of f) seen ≡ false → IsNotNew list (at + 1) f seen refusal → IsTold (the (sections f seen)) list at (At refusal)
+pub no_section : (f : File) (seen : List SectionKeyword) (list : List Word) (at : ℕ) (refusal : WordRefusal) → first (from list at) ≡ Some opens → has_all (sections_of f) seen ≡ false → IsNotNew list (at + 1) f seen refusal → Stops list (part (sections f seen) (from list at)) refusal
 no_section f seen list at refusal o some h = by_left (are_left (sections_of f) seen some)
   where
-    by_left : AreLeft (left_of (sections_of f) seen) → IsTold (the (sections f seen)) list at (At refusal)
+    by_left : AreLeft (left_of (sections_of f) seen) → Stops list (part (sections f seen) (from list at)) refusal
     by_left (some_left k others are) =
-        by_word_told (sections f seen) o (ap (section_of f seen) are)
-        (first_told (section f k others) (not_there (section f k others) list (at + 1) (At refusal) (by_first (first (from list (at + 1))) refl) (h.1 ∙ ap (λ n. Some (n, at + 1)) (number (first (from list (at + 1)))))))
+        taken (sections f seen) list at opens o (ap (section_of f seen) are)
+        ∙ ap (λ r. bind r (λ x w. bind (part (sections f (seen_with seen (keyword_in x))) w) (λ xs v. made (x ∷ xs) v))) (refused_here (section f k others) (section f words.requirements []) list (at + 1) (by_first (first (from list (at + 1))) refl) (number (first (from list (at + 1)))))
+        ∙ (λ i. stops (sym h.1.0 i) (from list (sym h.1.1 i)))
       where
         number : (x : Option Token) → number_seen (section f words.requirements []) x ≡ number_seen (section f k others) x
         number None = refl

@@ -1,19 +1,16 @@
 -- A group of a typed list, name by name.
 use Rattle.std.proofs.Common.{◌≡◌, ℕ, ◌+◌, true, false, List, [], ◌∷◌, ◌++◌, map, Option, Some, None, refl, sym, ◌∙◌, ap}
 use Rattle.std.specs.Option.{option_map, option_and_then}
-use Rattle.std.proofs.lemmas.List.{map-append}
+use Rattle.std.proofs.lemmas.List.{map-append, append-nil}
 use Rattle.tokens.specs.declared.word.Word.{Word}
-use Rattle.pddl_words.specs.declared.token.Token.{Token as CodeToken}
-use Rattle.pddl_words.specs.declared.token.Token.TheVariants as code
-use Rattle.pddl_words.specs.Token.{from, first, seen}
-use Rattle.pddl_words.specs.Refusal.{WordFault}
-use Rattle.pddl_tree.specs.Reading.{the, IsRead, IsTold, closes_first, opens_first}
-use Rattle.pddl_tree.specs.Typed.{IsListed, IsOne, groups, ends_group_first}
-use Rattle.pddl_tree.proofs.ReadOn.{taken, told_later, IsRefusedAs}
+use Rattle.pddl_words.specs.Token.{from, first}
+use Rattle.pddl_tree.specs.Reading.{Reading, made, stops, bind, part, number_seen, one_of, closes_first}
+use Rattle.pddl_tree.specs.Typed.{ends_group_first}
+use Rattle.pddl_tree.proofs.Read.{part_here, taken, bind_bind}
+use Rattle.pddl_tree.proofs.Looks.{is_closes, refused_here}
 use Rattle.model.specs.Trees.{Name, Group}
-use Rattle.model.specs.GrammarWords.{Token, opens, closes, dash}
-use Rattle.model.specs.Grammar.{Tree, Listed, names, variables, listed_in, name_in, Phrase, gives, ◌>>=◌, after, typed, group, group_after, type, close, with_name, ends_group}
-use Rattle.model.specs.GrammarMachine.{run}
+use Rattle.model.specs.GrammarWords.{Token, closes, dash}
+use Rattle.model.specs.Grammar.{Listed, names, variables, listed_in, gives, after, typed, group, group_after, type, close, with_name, ends_group}
 
 -- some names at the head of a typed list's first group
 abbrev with_names : List Name → List Group → List Group
@@ -28,53 +25,71 @@ names_end : (ns ts : List Name) (gs : List Group) → with_names ns (ends_group 
 names_end [] ts gs = refl
 names_end (m ∷ ns) ts gs = ap (with_name m) (names_end ns ts gs)
 
--- these names were read of a group, and it goes on with the words left
-pub record IsGroupOn (l : Listed) (words : List Word) (at : ℕ) (ns : List Name) (next : ℕ) : Type 0 where
-  pub goes : (k : List Group → Phrase Tree) → run (from words at) (typed l >>= k) ≡ run (from words next) (group l >>= λ gs. k (with_names ns gs))
+-- ---- a name of the list, at the head of a group or in one
 
--- a name of the list, at the head of a group or in one
-typed_word : (l : Listed) (t : Token) (n : Name) → listed_in l t ≡ Some n → after (typed l) t ≡ Some (group_after l n)
-typed_word names closes n e = absurd (cc)
-typed_word variables closes n e = absurd (cc)
-typed_word l t n e = ap (option_map (group_after l)) e
+named_here : (l : Listed) (list : List Word) (at : ℕ) (n : Name) → option_and_then (listed_in l) (first (from list at)) ≡ Some n → part (typed l) (from list at) ≡ bind (part (group l) (from list (at + 1))) (λ gs w. made (with_name n gs) w)
+named_here l list at n e = by_word l (first (from list at)) refl e
+  where
+    by_rule : (l : Listed) (t : Token) → listed_in l t ≡ Some n → after (typed l) t ≡ Some (group_after l n)
+    by_rule names closes e = absurd (cc)
+    by_rule variables closes e = absurd (cc)
+    by_rule l t e = ap (option_map (group_after l)) e
 
-group_word : (l : Listed) (t : Token) (n : Name) → listed_in l t ≡ Some n → after (group l) t ≡ Some (group_after l n)
-group_word names closes n e = absurd (cc)
-group_word variables closes n e = absurd (cc)
-group_word names dash n e = absurd (cc)
-group_word variables dash n e = absurd (cc)
-group_word l t n e = ap (option_map (group_after l)) e
+    by_word : (l : Listed) (o : Option Token) → first (from list at) ≡ o → option_and_then (listed_in l) o ≡ Some n → part (typed l) (from list at) ≡ bind (part (group l) (from list (at + 1))) (λ gs w. made (with_name n gs) w)
+    by_word l None is e = absurd (cc)
+    by_word l (Some t) is e = taken (typed l) list at t is (by_rule l t e)
 
-pub group_start : (l : Listed) {words : List Word} {at next : ℕ} {n : Name} → IsListed l words at n next → IsGroupOn l words at (n ∷ []) next
-group_start l {words} {at} {next} {n} w =
-    record { goes = λ k. taken (typed l) words at w.token w.stands (typed_word l w.token n w.taken) k ∙ ap (λ i. run (from words i) (group l >>= λ gs. k (with_name n gs))) (sym w.one) }
+named_inside : (l : Listed) (list : List Word) (at : ℕ) (n : Name) → option_and_then (listed_in l) (first (from list at)) ≡ Some n → part (group l) (from list at) ≡ bind (part (group l) (from list (at + 1))) (λ gs w. made (with_name n gs) w)
+named_inside l list at n e = by_word l (first (from list at)) refl e
+  where
+    by_rule : (l : Listed) (t : Token) → listed_in l t ≡ Some n → after (group l) t ≡ Some (group_after l n)
+    by_rule names closes e = absurd (cc)
+    by_rule variables closes e = absurd (cc)
+    by_rule names dash e = absurd (cc)
+    by_rule variables dash e = absurd (cc)
+    by_rule l t e = ap (option_map (group_after l)) e
 
-pub group_more : {V : Type 0} (l : Listed) (view : V → Name) {words : List Word} {at next end : ℕ} (done done' : List V) {x : V}
-    → IsGroupOn l words at (map view done) next → IsListed l words next (view x) end → done' ≡ done ++ x ∷ [] → IsGroupOn l words at (map view done') end
-group_more l view {words} {at} {next} {end} done done' {x} h w e =
+    by_word : (l : Listed) (o : Option Token) → first (from list at) ≡ o → option_and_then (listed_in l) o ≡ Some n → part (group l) (from list at) ≡ bind (part (group l) (from list (at + 1))) (λ gs w. made (with_name n gs) w)
+    by_word l None is e = absurd (cc)
+    by_word l (Some t) is e = taken (group l) list at t is (by_rule l t e)
+
+-- ---- a word that is no name of the list
+
+pub unnamed_here : (l : Listed) (list : List Word) (at : ℕ) → option_and_then (listed_in l) (first (from list at)) ≡ None → closes_first (first (from list at)) ≡ false → part (typed l) (from list at) ≡ stops (number_seen close (first (from list at))) (from list at)
+unnamed_here l list at none e = let h = by_word (first (from list at)) none e in refused_here (typed l) close list at h.0 h.1
+  where
+    by_word : (o : Option Token) → option_and_then (listed_in l) o ≡ None → closes_first o ≡ false → (option_and_then (after (typed l)) o ≡ None) × (number_seen close o ≡ number_seen (typed l) o)
+    by_word None none e = (refl, refl)
+    by_word (Some closes) none e = absurd (cc)
+    by_word (Some t) none e = (ap (option_map (group_after l)) none, refl)
+
+pub unnamed_inside : (l : Listed) (list : List Word) (at : ℕ) → option_and_then (listed_in l) (first (from list at)) ≡ None → ends_group_first (first (from list at)) ≡ false → part (group l) (from list at) ≡ stops (number_seen close (first (from list at))) (from list at)
+unnamed_inside l list at none e = let h = by_word (first (from list at)) none e in refused_here (group l) close list at h.0 h.1
+  where
+    by_word : (o : Option Token) → option_and_then (listed_in l) o ≡ None → ends_group_first o ≡ false → (option_and_then (after (group l)) o ≡ None) × (number_seen close o ≡ number_seen (group l) o)
+    by_word None none e = (refl, refl)
+    by_word (Some closes) none e = absurd (cc)
+    by_word (Some dash) none e = absurd (cc)
+    by_word (Some t) none e = (ap (option_map (group_after l)) none, refl)
+
+-- ---- these names were read of a group, which goes on with the words left
+
+pub record IsGroupOn (l : Listed) (list : List Word) (at : ℕ) (ns : List Name) (next : ℕ) : Type 0 where
+  pub goes : part (typed l) (from list at) ≡ bind (part (group l) (from list next)) (λ gs w. made (with_names ns gs) w)
+
+pub group_start : (l : Listed) {list : List Word} {at next : ℕ} {n : Name} → option_and_then (listed_in l) (first (from list at)) ≡ Some n → next ≡ at + 1 → IsGroupOn l list at (n ∷ []) next
+group_start l {list} {at} {next} {n} e is = record { goes = named_here l list at n e ∙ ap (λ i. bind (part (group l) (from list i)) (λ gs w. made (with_name n gs) w)) (sym is) }
+
+pub group_more : {V : Type 0} (l : Listed) (view : V → Name) {list : List Word} {at next end : ℕ} (done done' : List V) {x : V}
+    → IsGroupOn l list at (map view done) next → option_and_then (listed_in l) (first (from list next)) ≡ Some (view x) → end ≡ next + 1 → done' ≡ done ++ x ∷ [] → IsGroupOn l list at (map view done') end
+group_more l view {list} {at} {next} {end} done done' {x} h n is e =
     let ns = map view done in
     let same : ns ++ view x ∷ [] ≡ map view done' = sym (ap (map view) e ∙ map-append view done (x ∷ [])) in
     record {
-      goes = λ k. h.goes k ∙ taken (group l) words next w.token w.stands (group_word l w.token (view x) w.taken) (λ gs. k (with_names ns gs)) ∙ ap (λ i. run (from words i) (group l >>= λ gs. k (with_names ns (with_name (view x) gs)))) (sym w.one)
-          ∙ (λ i. run (from words end) (group l >>= λ gs. k (names_more ns (view x) gs i))) ∙ (λ i. run (from words end) (group l >>= λ gs. k (with_names (same i) gs)));
+      goes = h.goes ∙ ap (λ r. bind r (λ gs w. made (with_names ns gs) w)) (named_inside l list next (view x) n ∙ ap (λ i. bind (part (group l) (from list i)) (λ gs w. made (with_name (view x) gs) w)) (sym is))
+          ∙ bind_bind (part (group l) (from list end)) (λ gs w. made (with_name (view x) gs) w) (λ gs w. made (with_names ns gs) w)
+          ∙ (λ i. bind (part (group l) (from list end)) (λ gs w. made (names_more ns (view x) gs i) w)) ∙ (λ i. bind (part (group l) (from list end)) (λ gs w. made (with_names (same i) gs) w));
     }
-
--- the types after its `-`, or none before the `)` of the list
-pub group_typed : (l : Listed) {words : List Word} {at next end : ℕ} {ns ts : List Name} → IsGroupOn l words at ns next → first (from words next) ≡ Some dash → IsRead (the (type l)) words (next + 1) ts end → IsOne (groups l) words at (record { names = ns; types = ts }) end
-group_typed l {words} {next = next} {end} {ns} {ts} h e r =
-    record {
-      goes = λ k. h.goes k ∙ taken (group l) words next dash e refl (λ gs. k (with_names ns gs)) ∙ r.runs (λ us. typed l >>= λ gs. k (with_names ns (ends_group us ∷ gs)))
-          ∙ (λ i. run (from words end) (typed l >>= λ gs. k (names_end ns ts gs i)));
-    }
-
-pub group_untyped : (l : Listed) {words : List Word} {at next : ℕ} {ns : List Name} → IsGroupOn l words at ns next → closes_first (first (from words next)) ≡ true → IsOne (groups l) words at (record { names = ns; types = [] }) next
-group_untyped l {words} {at} {next} {ns} h e = record { goes = λ k. h.goes k ∙ by_first k (first (from words next)) refl e }
-  where
-    by_first : (k : List Group → Phrase Tree) (o : Option Token) → first (from words next) ≡ o → closes_first o ≡ true
-        → run (from words next) (group l >>= λ gs. k (with_names ns gs)) ≡ run (from words next) (typed l >>= λ gs. k (record { names = ns; types = [] } ∷ gs))
-    by_first k (Some closes) is e =
-        taken (group l) words next closes is refl (λ gs. k (with_names ns gs)) ∙ ap (λ gs. run (from words (next + 1)) (k gs)) (names_end ns [] []) ∙ sym (taken (typed l) words next closes is refl (λ gs. k (record { names = ns; types = [] } ∷ gs)))
-    by_first k o is e = absurd (cc)
 
 -- `-` ends a group where `)` does not
 pub is_dash : (o : Option Token) → ends_group_first o ≡ true → closes_first o ≡ false → o ≡ Some dash
@@ -82,43 +97,26 @@ is_dash (Some dash) e n = refl
 is_dash (Some closes) e n = absurd (cc)
 is_dash o e n = absurd (cc)
 
--- a word that is no name of the list, at the head of a group or in one
-pub no_typed : (l : Listed) (o : Option Token) → option_and_then (listed_in l) o ≡ None → closes_first o ≡ false → IsRefusedAs (typed l) close o
-no_typed l None none e = (refl, refl)
-no_typed l (Some closes) none e = absurd (cc)
-no_typed l (Some t) none e = (ap (option_map (group_after l)) none, refl)
+-- the types after its `-`
+pub group_typed : (l : Listed) {list : List Word} {at next end : ℕ} {ns ts : List Name} → IsGroupOn l list at ns next → first (from list next) ≡ Some dash → part (type l) (from list (next + 1)) ≡ made ts (from list end) → part (typed l) (from list at) ≡ one_of (part (typed l)) (record { names = ns; types = ts }) (from list end)
+group_typed l {list} {next = next} {end} {ns} {ts} h e r =
+    h.goes ∙ ap (λ r. bind r (λ gs w. made (with_names ns gs) w)) (taken (group l) list next dash e refl ∙ ap (λ r. bind r (λ us w. bind (part (typed l) w) (λ gs v. made (ends_group us ∷ gs) v))) r)
+    ∙ bind_bind (part (typed l) (from list end)) (λ gs v. made (ends_group ts ∷ gs) v) (λ gs w. made (with_names ns gs) w) ∙ (λ i. bind (part (typed l) (from list end)) (λ gs w. made (names_end ns ts gs i) w))
 
-pub no_group : (l : Listed) (o : Option Token) → option_and_then (listed_in l) o ≡ None → ends_group_first o ≡ false → IsRefusedAs (group l) close o
-no_group l None none e = (refl, refl)
-no_group l (Some closes) none e = absurd (cc)
-no_group l (Some dash) none e = absurd (cc)
-no_group l (Some t) none e = (ap (option_map (group_after l)) none, refl)
+pub dash_told : (l : Listed) (list : List Word) (at : ℕ) → ends_group_first (first (from list at)) ≡ true → closes_first (first (from list at)) ≡ false → part (group l) (from list at) ≡ bind (part (type l) (from list (at + 1))) (λ us w. bind (part (typed l) w) (λ gs v. made (ends_group us ∷ gs) v))
+dash_told l list at e n = taken (group l) list at dash (is_dash (first (from list at)) e n) refl
 
-pub group_told : (l : Listed) {words : List Word} {at next : ℕ} {ns : List Name} {refusal : WordFault} → IsGroupOn l words at ns next → IsTold (the (group l)) words next refusal → IsTold (the (typed l)) words at refusal
-group_told l {words} {at} {next} {ns} {refusal} h t =
-    record { stops = λ k. told_later words at next (typed l >>= k) (group l >>= λ gs. k (with_names ns gs)) refusal (h.goes k) (t.stops (λ gs. k (with_names ns gs))) }
+-- or none before the `)` of the list
+pub group_untyped : (l : Listed) {list : List Word} {at next : ℕ} {ns : List Name} → IsGroupOn l list at ns next → closes_first (first (from list next)) ≡ true → part (typed l) (from list at) ≡ one_of (part (typed l)) (record { names = ns; types = [] }) (from list next)
+group_untyped l {list} {next = next} {ns} h e =
+    let word = is_closes (first (from list next)) e in
+    h.goes ∙ ap (λ r. bind r (λ gs w. made (with_names ns gs) w)) (taken (group l) list next closes word refl) ∙ (λ i. made (names_end ns [] [] i) (from list (next + 1))) ∙ sym (ap (λ r. bind r (λ gs w. made (record { names = ns; types = [] } ∷ gs) w)) (taken (typed l) list next closes word refl))
 
--- a name as the only type
-pub one_type : (l : Listed) (words : List Word) (at : ℕ) (n : Name) → option_and_then name_in (first (from words at)) ≡ Some n → IsRead (the (type l)) words at (n ∷ []) (at + 1)
-one_type l words at n e = by_first (first (from words at)) refl e
-  where
-    is_type : (l : Listed) (t : Token) → name_in t ≡ Some n → after (type l) t ≡ Some (gives (n ∷ []))
-    is_type variables opens e = absurd (cc)
-    is_type names t e = ap (option_map (λ n. gives (n ∷ []))) e
-    is_type variables t e = ap (option_map (λ n. gives (n ∷ []))) e
+pub ruleset of_groups = (unnamed_here, unnamed_inside, dash_told)
 
-    by_first : (o : Option Token) → first (from words at) ≡ o → option_and_then name_in o ≡ Some n → IsRead (the (type l)) words at (n ∷ []) (at + 1)
-    by_first None is e = absurd (cc)
-    by_first (Some t) is e = record { runs = taken (type l) words at t is (is_type l t e) }
+-- ---- a typed list that `)` ends
 
--- a word that is neither a name nor a `(`, as a type
-pub no_type : (l : Listed) (o : Option Token) → opens_first o ≡ false → option_and_then name_in o ≡ None → IsRefusedAs (type l) (type l) o
-no_type l None n e = (refl, refl)
-no_type l (Some opens) n e = absurd (cc)
-no_type names (Some t) n e = (ap (option_map (λ n. gives (n ∷ []))) e, refl)
-no_type variables (Some t) n e = (ap (option_map (λ n. gives (n ∷ []))) e, refl)
+pub typed_end : (l : Listed) (list : List Word) (at : ℕ) → closes_first (first (from list at)) ≡ true → part (typed l) (from list at) ≡ made [] (from list (at + 1))
+typed_end l list at e = taken (typed l) list at closes (is_closes (first (from list at)) e) refl
 
--- a word that the code does not find to be a `(`
-pub no_open : (t : CodeToken) → (t ≡ code.Open → ⊥) → opens_first (seen t) ≡ false
-no_open code.Open n = absurd (n refl)
-no_open t n = refl
+pub ruleset of_typed = (typed_end, append-nil)

@@ -1,68 +1,113 @@
 -- The head of a file, from its words one by one.
-use Rattle.std.proofs.Common.{◌≡◌, ℕ, ◌+◌, suc, inl, inr, List, [], ◌∷◌, map, take, length, Some, refl, sym, ◌∙◌, ap, subst, arith}
+use Rattle.std.proofs.Common.{◌≡◌, ℕ, ◌+◌, suc, inl, inr, List, [], ◌∷◌, map, take, length, false, Option, Some, None, refl, sym, ◌∙◌, ap, subst, arith}
 use Rattle.std.specs.Option.{option_map, option_and_then}
 use Rattle.tokens.specs.declared.word.Word.{Word}
 use Rattle.tokens.specs.Word.{word_of}
 use Rattle.pddl_words.specs.Token.{from, first}
-use Rattle.pddl_tree.specs.Reading.{the, IsRead, IsWord, Opens}
+use Rattle.pddl_tree.specs.Reading.{made, stops, by_rule, part, number_seen, opens_first}
 use Rattle.pddl_tree.specs.Head.{HasHead, HasNoHead, after_head}
-use Rattle.model.specs.Trees.{File, Name}
-use Rattle.model.specs.GrammarWords.{Token, opens, closes, token_of, tokens_of}
-use Rattle.model.specs.Grammar.{Sort, Value, Phrase, gives, ◌>>=◌, and_then, after, define_word, kind_list, kind_word, a_name, close}
-use Rattle.model.specs.Refusals.{Begins, start, after_all}
+use Rattle.model.specs.Trees.{File, Name, domain_file, problem_file}
+use Rattle.model.specs.GrammarWords.{Token, opens, closes, free, reserved, token_of, tokens_of}
+use Rattle.model.specs.GrammarWords as words
+use Rattle.model.specs.Grammar.{Sort, Value, Phrase, gives, ◌>>=◌, and_then, after, file, define_word, kind_list, kind_word, a_name, close}
+use Rattle.model.specs.Refusals.{Begins, start, after_all, number_at}
 use Rattle.model.proofs.GrammarBegins.{begins}
-use Rattle.pddl_tree.proofs.ReadOn.{from_first, taken}
+use Rattle.pddl_tree.proofs.Read.{part_here, part_none, part_of, from_first}
+use Rattle.pddl_tree.proofs.Looks.{refused_here}
 use Rattle.pddl_tree.proofs.Told.{same_tokens}
+
+-- ---- one word
+
+-- a word is taken alone
+abbrev IsAlone : {A : Type 0} → Option (Phrase A) → Type 0
+IsAlone None = Unit {0}
+IsAlone (Some (gives x)) = Unit {0}
+IsAlone (Some (s >>= h)) = ⊥
+
+record IsOneWord (s : Sort) (w : List Token) (x : Value s) (v : List Token) : Type 0 where
+  token : Token
+  whole : w ≡ token ∷ v
+  rule : after s token ≡ Some (gives x)
+
+one_word : (s : Sort) → ((t : Token) → IsAlone (after s t)) → (w : List Token) (x : Value s) (v : List Token) → part s w ≡ made x v → IsOneWord s w x v
+one_word s alone [] x v e = let none = part_none s in absurd (cc)
+one_word s alone (t ∷ w) x v e = by_after (after s t) refl (alone t) (sym (part_of s w t) ∙ e)
+  where
+    by_after : (o : Option (Phrase (Value s))) → after s t ≡ o → IsAlone o → by_rule part o w (stops (number_at s t) (t ∷ w)) ≡ made x v → IsOneWord s (t ∷ w) x v
+    by_after None is alone e = absurd (cc)
+    by_after (Some (gives y)) is alone e =
+        let same : y ≡ x = cc in let left : w ≡ v = cc in
+        record { token = t; whole = ap (λ u. t ∷ u) left; rule = is ∙ ap (λ z. Some (gives z)) same }
+    by_after (Some (u >>= h)) is alone e = absurd alone
+
+define_alone : (t : Token) → IsAlone (after define_word t)
+define_alone (free words.define n) = tt
+define_alone t = tt
+
+kind_alone : (f : File) (t : Token) → IsAlone (after (kind_word f) t)
+kind_alone domain_file (free words.domain n) = tt
+kind_alone problem_file (free words.problem n) = tt
+kind_alone domain_file t = tt
+kind_alone problem_file t = tt
+
+name_alone : (t : Token) → IsAlone (after a_name t)
+name_alone (free f n) = tt
+name_alone (reserved r n) = tt
+name_alone t = tt
+
+close_alone : (t : Token) → IsAlone (after close t)
+close_alone closes = tt
+close_alone t = tt
+
+-- ---- the words of a head
 
 -- one word more
 on_word : {T : Type 0} (s : Sort) (t : Token) (w : List Token) (x : Value s) (k : Value s → Phrase T) → after s t ≡ Some (gives x) → after_all (t ∷ w) (s >>= k) ≡ after_all w (k x)
 on_word s t w x k e = ap (λ o. option_and_then (λ q. after_all w q) (option_map (λ p. and_then p k) o)) e
 
 -- the words of a head lead to what follows it
-head_leads : (f : File) (t1 t3 t4 : Token) (n : Name) → after define_word t1 ≡ Some (gives tt) → after (kind_word f) t3 ≡ Some (gives tt) → after a_name t4 ≡ Some (gives n)
-    → after_all (opens ∷ t1 ∷ opens ∷ t3 ∷ t4 ∷ closes ∷ []) (start f) ≡ Some (after_head f n)
-head_leads f t1 t3 t4 n defines is named =
-    on_word define_word t1 (opens ∷ t3 ∷ t4 ∷ closes ∷ []) tt (λ _. kind_list >>= λ _. kind_word f >>= λ _. a_name >>= λ m. close >>= λ _. after_head f m) defines
-    ∙ on_word (kind_word f) t3 (t4 ∷ closes ∷ []) tt (λ _. a_name >>= λ m. close >>= λ _. after_head f m) is
-    ∙ on_word a_name t4 (closes ∷ []) n (λ m. close >>= λ _. after_head f m) named
+head_leads : (f : File) (t1 t3 t4 t5 : Token) (n : Name) → after define_word t1 ≡ Some (gives tt) → after (kind_word f) t3 ≡ Some (gives tt) → after a_name t4 ≡ Some (gives n) → after close t5 ≡ Some (gives tt)
+    → after_all (opens ∷ t1 ∷ opens ∷ t3 ∷ t4 ∷ t5 ∷ []) (start f) ≡ Some (after_head f n)
+head_leads f t1 t3 t4 t5 n defines is named closed =
+    on_word define_word t1 (opens ∷ t3 ∷ t4 ∷ t5 ∷ []) tt (λ _. kind_list >>= λ _. kind_word f >>= λ _. a_name >>= λ m. close >>= λ _. after_head f m) defines
+    ∙ on_word (kind_word f) t3 (t4 ∷ t5 ∷ []) tt (λ _. a_name >>= λ m. close >>= λ _. after_head f m) is
+    ∙ on_word a_name t4 (t5 ∷ []) n (λ m. close >>= λ _. after_head f m) named
+    ∙ on_word close t5 [] tt (λ _. after_head f n) closed
 
-pub record IsHead (f : File) (words : List Word) (n : Name) : Type 0 where
-  pub t1 : Token
-  pub t3 : Token
-  pub t4 : Token
-  pub whole : from words 0 ≡ opens ∷ t1 ∷ opens ∷ t3 ∷ t4 ∷ closes ∷ from words 6
-  pub led : after_all (opens ∷ t1 ∷ opens ∷ t3 ∷ t4 ∷ closes ∷ []) (start f) ≡ Some (after_head f n)
+pub opened : (list : List Word) (at next : ℕ) → first (from list at) ≡ Some opens → next ≡ at + 1 → from list at ≡ opens ∷ from list next
+opened list at next o is = from_first list at opens o ∙ ap (λ i. opens ∷ from list i) (sym is)
 
-pub is_head : (f : File) (words : List Word) (n : Name) {a b c d e g : ℕ} → Opens words 0 a → IsWord define_word words 1 tt b → Opens words 2 c → IsWord (kind_word f) words 3 tt d → IsWord a_name words 4 n e → IsWord close words 5 tt g → IsHead f words n
-is_head f words n o defines p is named closed =
-    record {
-      t1 = defines.token;
-      t3 = is.token;
-      t4 = named.token;
-      whole = from_first words 0 opens o.0 ∙ ap (λ w. opens ∷ w) (from_first words 1 defines.token defines.stands ∙ ap (λ w. defines.token ∷ w) (from_first words 2 opens p.0 ∙ ap (λ w. opens ∷ w)
-          (from_first words 3 is.token is.stands ∙ ap (λ w. is.token ∷ w) (from_first words 4 named.token named.stands ∙ ap (λ w. named.token ∷ w) (from_first words 5 closes (by_close closed.token closed.stands closed.taken))))));
-      led = head_leads f defines.token is.token named.token n defines.taken is.taken named.taken;
-    }
-  where
-    by_close : (t : Token) → first (from words 5) ≡ Some t → after close t ≡ Some (gives tt) → first (from words 5) ≡ Some closes
-    by_close closes e h = e
-    by_close t e h = absurd (cc)
-
-pub has_head : (f : File) (words : List Word) (n : Name) → IsHead f words n → HasHead f (from words 0)
-has_head f words n h =
-    let size : length (from words 0) ≡ suc (suc (suc (suc (suc (suc (length (from words 6))))))) = ap length h.whole in
-    (omega (arith, size), subst (λ w. Begins f (take 6 w)) (sym h.whole) (begins f (opens ∷ h.t1 ∷ opens ∷ h.t3 ∷ h.t4 ∷ closes ∷ []) (after_head f n) h.led))
+pub has_head : (f : File) (n : Name) {w0 w1 w2 w3 w4 w5 w6 : List Token} → w0 ≡ opens ∷ w1 → part define_word w1 ≡ made tt w2 → w2 ≡ opens ∷ w3 → part (kind_word f) w3 ≡ made tt w4 → part a_name w4 ≡ made n w5 → part close w5 ≡ made tt w6 → HasHead f w0
+has_head f n {w0} {w1} {w2} {w3} {w4} {w5} {w6} o defines p is named closed =
+    let d = one_word define_word define_alone w1 tt w2 defines in let k = one_word (kind_word f) (kind_alone f) w3 tt w4 is in
+    let a = one_word a_name name_alone w4 n w5 named in let c = one_word close close_alone w5 tt w6 closed in
+    let whole : w0 ≡ opens ∷ d.token ∷ opens ∷ k.token ∷ a.token ∷ c.token ∷ w6 =
+    o ∙ ap (λ w. opens ∷ w) (d.whole ∙ ap (λ w. d.token ∷ w) (p ∙ ap (λ w. opens ∷ w) (k.whole ∙ ap (λ w. k.token ∷ w) (a.whole ∙ ap (λ w. a.token ∷ w) c.whole)))) in
+    let size : length w0 ≡ suc (suc (suc (suc (suc (suc (length w6)))))) = ap length whole in
+    (omega (arith, size), subst (λ w. Begins f (take 6 w)) (sym whole) (begins f (opens ∷ d.token ∷ opens ∷ k.token ∷ a.token ∷ c.token ∷ []) (after_head f n) (head_leads f d.token k.token a.token c.token n d.rule k.rule a.rule c.rule)))
 
 -- a head is not missing
-pub no_head : (f : File) (words : List Word) → HasHead f (from words 0) → HasNoHead f (tokens_of (map word_of words)) → ⊥
-no_head f words head (inl short) =
-    let same : length (map (λ w. token_of (word_of w)) words) ≡ length (tokens_of (map word_of words)) = ap length (same_tokens words) in
+pub no_head : (f : File) (list : List Word) → HasHead f (from list 0) → HasNoHead f (tokens_of (map word_of list)) → ⊥
+no_head f list head (inl short) =
+    let same : length (map (λ w. token_of (word_of w)) list) ≡ length (tokens_of (map word_of list)) = ap length (same_tokens list) in
     omega (arith, same, head.0)
-no_head f words head (inr none) = none (subst (λ w. Begins f (take 6 w)) (same_tokens words) head.1)
+no_head f list head (inr none) = none (subst (λ w. Begins f (take 6 w)) (same_tokens list) head.1)
 
--- the words of a head, one by one
-pub read_here : (s : Sort) {words : List Word} {at next : ℕ} {x : Value s} → IsWord s words at x next → IsRead (the s) words at x (at + 1)
-read_here s {words} {at} h = record { runs = λ k. taken s words at h.token h.stands h.taken k }
+-- no `(` where the file's list, or that of its kind, is wanted
+pub file_not_open : (f : File) (list : List Word) (at : ℕ) → opens_first (first (from list at)) ≡ false → part (file f) (from list at) ≡ stops (number_seen close (first (from list at))) (from list at)
+file_not_open f list at e = let h = by_word (first (from list at)) e in refused_here (file f) close list at h.0 h.1
+  where
+    by_word : (o : Option Token) → opens_first o ≡ false → (option_and_then (after (file f)) o ≡ None) × (number_seen close o ≡ number_seen (file f) o)
+    by_word None e = (refl, refl)
+    by_word (Some opens) e = absurd (cc)
+    by_word (Some t) e = (refl, refl)
 
-pub in_head : {words : List Word} {inside : ℕ} → Opens words 2 inside → IsRead (the kind_list) words 2 tt 3
-in_head {words} o = record { runs = λ k. taken kind_list words 2 opens o.0 refl k }
+pub kind_not_open : (list : List Word) (at : ℕ) → opens_first (first (from list at)) ≡ false → part kind_list (from list at) ≡ stops (number_seen define_word (first (from list at))) (from list at)
+kind_not_open list at e = let h = by_word (first (from list at)) e in refused_here kind_list define_word list at h.0 h.1
+  where
+    by_word : (o : Option Token) → opens_first o ≡ false → (option_and_then (after kind_list) o ≡ None) × (number_seen define_word o ≡ number_seen kind_list o)
+    by_word None e = (refl, refl)
+    by_word (Some opens) e = absurd (cc)
+    by_word (Some t) e = (refl, refl)
+
+pub ruleset of_heads = (file_not_open, kind_not_open, part_here)

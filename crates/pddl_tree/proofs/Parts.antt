@@ -1,66 +1,64 @@
 -- The parts of an action, one after another.
-use Rattle.std.proofs.Common.{◌≡◌, ℕ, ◌+◌, true, false, cond, List, [], ◌∷◌, ◌++◌, fold, Option, Some, None, refl, sym, ◌∙◌, ap}
+use Rattle.std.proofs.Common.{◌≡◌, ℕ, ◌+◌, true, false, cond, List, [], ◌∷◌, ◌++◌, fold, Option, Some, None, Result, Ok, Err, refl, sym, ◌∙◌, ap, arith}
+use Rattle.std.specs.Option.{option_and_then}
 use Rattle.tokens.specs.declared.word.Word.{Word}
 use Rattle.pddl_words.specs.Token.{from, first}
-use Rattle.pddl_words.specs.Refusal.{WordFault, told}
-use Rattle.pddl_tree.specs.Reading.{the, IsRead, IsTold, GoesOn, closes_first, Opens}
+use Rattle.pddl_words.specs.Refusal.{WordFault}
+use Rattle.pddl_tree.specs.Reading.{made, stops, bind, part, phrase, number_seen, closes_first, opens_first, ReadsInto, GoesOn}
 use Rattle.pddl_tree.specs.Sections.{parts_on, part_into}
-use Rattle.pddl_tree.proofs.ReadOn.{in_turn, taken, told_later, IsRefusedAs}
-use Rattle.model.specs.Trees.{Action, Formula}
-use Rattle.model.specs.GrammarWords.{Token, opens, closes, keyword, PartKeyword, of_part, of_section, requirement_key, left_out_keyword, unknown_keyword}
+use Rattle.pddl_tree.proofs.Read.{part_here, part_none, part_of, taken, read_in_turn}
+use Rattle.pddl_tree.proofs.Looks.{is_closes, refused_here, told_first, told_along}
+use Rattle.model.specs.Trees.{Action, formulas}
+use Rattle.model.specs.Trees as tree
+use Rattle.model.specs.GrammarWords.{Token, opens, closes, keyword, PartKeyword, of_part}
 use Rattle.model.specs.GrammarWords as words
-use Rattle.model.specs.Grammar.{Tree, Phrase, gives, ◌>>=◌, and_then, value, formula, precondition_list, parts, part_after, parts_after, with_part, has_part}
-use Rattle.model.specs.GrammarMachine.{run}
-
--- `)` stands there
-pub is_closes : (o : Option Token) → closes_first o ≡ true → o ≡ Some closes
-is_closes (Some closes) e = refl
-is_closes o e = absurd (cc)
+use Rattle.model.specs.Grammar.{gives, ◌>>=◌, after, value, formula, precondition_list, parts, part_after, parts_after, with_part, has_part}
 
 -- the keyword of a part that is new: what follows it
 begun : (seen : List PartKeyword) (p : PartKeyword) (a : Action) (list : List Word) (at : ℕ) → first (from list at) ≡ Some (keyword (of_part p)) → has_part seen p ≡ false
-    → (k : Action → Phrase Tree) → run (from list at) (and_then (parts_on seen a) k) ≡ run (from list (at + 1)) (and_then (part_into (seen ++ p ∷ []) p a) (λ b. and_then (parts_on (seen ++ p ∷ []) b) k))
-begun seen p a list at e new k =
+    → phrase (parts_on seen a) (from list at) ≡ bind (phrase (part_into (seen ++ p ∷ []) p a) (from list (at + 1))) (λ b w. phrase (parts_on (seen ++ p ∷ []) b) w)
+begun seen p a list at e new =
     let one = part_after (seen ++ p ∷ []) p in
-    taken (parts seen) list at (keyword (of_part p)) e (ap (λ b. cond b None (Some (parts_after seen p))) new) (λ ps. k (fold with_part a ps))
-    ∙ ap (run (from list (at + 1))) (in_turn one (λ x. parts (seen ++ p ∷ []) >>= λ xs. gives (x ∷ xs)) (λ ps. k (fold with_part a ps)) ∙ sym (in_turn one (λ x. gives (with_part a x)) (λ b. and_then (parts_on (seen ++ p ∷ []) b) k)))
+    ap (λ r. bind r (λ ps w. made (fold with_part a ps) w)) (taken (parts seen) list at (keyword (of_part p)) e (ap (λ b. cond b None (Some (parts_after seen p))) new))
+    ∙ read_in_turn one (λ x. parts (seen ++ p ∷ []) >>= λ xs. gives (x ∷ xs)) (λ ps. gives (fold with_part a ps)) (from list (at + 1))
+    ∙ sym (read_in_turn one (λ x. gives (with_part a x)) (λ b. parts_on (seen ++ p ∷ []) b) (from list (at + 1)))
 
-pub part_read : (seen : List PartKeyword) (p : PartKeyword) {list : List Word} {at next : ℕ} {a b : Action} → first (from list at) ≡ Some (keyword (of_part p)) → has_part seen p ≡ false
-    → IsRead (part_into (seen ++ p ∷ []) p a) list (at + 1) b next → GoesOn (parts_on seen a) list at (parts_on (seen ++ p ∷ []) b) next
-part_read seen p {list} {at} {a = a} e new one =
-    record { goes = λ k. begun seen p a list at e new k ∙ one.runs (λ b. and_then (parts_on (seen ++ p ∷ []) b) k) }
+pub part_answers : (seen : List PartKeyword) (p : PartKeyword) (a b : Action) (list : List Word) (at : ℕ) (r : Result ℕ WordFault) → first (from list at) ≡ Some (keyword (of_part p)) → has_part seen p ≡ false
+    → ReadsInto (phrase (part_into (seen ++ p ∷ []) p a)) list (at + 1) b r → GoesOn (phrase (parts_on seen a)) (phrase (parts_on (seen ++ p ∷ []) b)) list at r
+part_answers seen p a b list at (Ok next) e new h = (begun seen p a list at e new ∙ ap (λ r. bind r (λ b w. phrase (parts_on (seen ++ p ∷ []) b) w)) h.0, (omega (arith, h.1.0), h.1.1))
+part_answers seen p a b list at (Err fault) e new h =
+    told_along list _ _ fault (begun seen p a list at e new) (told_first list _ (λ b w. phrase (parts_on (seen ++ p ∷ []) b) w) fault h)
 
-pub part_told : (seen : List PartKeyword) (p : PartKeyword) {list : List Word} {at : ℕ} {a : Action} {refusal : WordFault} → first (from list at) ≡ Some (keyword (of_part p)) → has_part seen p ≡ false
-    → IsTold (part_into (seen ++ p ∷ []) p a) list (at + 1) refusal → IsTold (parts_on seen a) list at refusal
-part_told seen p {list} {at} {a} {refusal} e new told =
-    let rest : (Action → Phrase Tree) → Action → Phrase Tree = λ k b. and_then (parts_on (seen ++ p ∷ []) b) k in
-    record { stops = λ k. told_later list at (at + 1) (and_then (parts_on seen a) k) (and_then (part_into (seen ++ p ∷ []) p a) (rest k)) refusal (begun seen p a list at e new k) (told.stops (rest k)) }
+-- `)` after the parameters, and where they are missing
+pub parts_end : (seen : List PartKeyword) (a : Action) (list : List Word) (at : ℕ) → closes_first (first (from list at)) ≡ true → has_part seen words.parameters ≡ true → phrase (parts_on seen a) (from list at) ≡ made a (from list (at + 1))
+parts_end seen a list at e all = ap (λ r. bind r (λ ps w. made (fold with_part a ps) w)) (taken (parts seen) list at closes (is_closes (first (from list at)) e) (ap (λ b. cond b (Some (gives [])) None) all))
 
--- `)` after the parameters
-pub parts_end : (seen : List PartKeyword) {list : List Word} {at : ℕ} {a : Action} → closes_first (first (from list at)) ≡ true → has_part seen words.parameters ≡ true → IsRead (parts_on seen a) list at a (at + 1)
-parts_end seen {list} {at} {a} e all =
-    record { runs = λ k. taken (parts seen) list at closes (is_closes (first (from list at)) e) (ap (λ b. cond b (Some (gives [])) None) all) (λ ps. k (fold with_part a ps)) }
-
--- `)` where the parameters are missing
-pub parameters_missing : (seen : List PartKeyword) (o : Option Token) → closes_first o ≡ true → has_part seen words.parameters ≡ false → IsRefusedAs (parts seen) (parts []) o
-parameters_missing seen (Some closes) e none = (ap (λ b. cond b (Some (gives [])) None) none, refl)
-parameters_missing seen o e none = absurd (cc)
+pub parameters_missing : (seen : List PartKeyword) (a : Action) (list : List Word) (at : ℕ) → closes_first (first (from list at)) ≡ true → has_part seen words.parameters ≡ false → phrase (parts_on seen a) (from list at) ≡ stops (number_seen (parts []) (first (from list at))) (from list at)
+parameters_missing seen a list at e none = let h = by_word (first (from list at)) e in ap (λ r. bind r (λ ps w. made (fold with_part a ps) w)) (refused_here (parts seen) (parts []) list at h.0 h.1)
+  where
+    by_word : (o : Option Token) → closes_first o ≡ true → (option_and_then (after (parts seen)) o ≡ None) × (number_seen (parts []) o ≡ number_seen (parts seen) o)
+    by_word (Some closes) e = (ap (λ b. cond b (Some (gives [])) None) none, refl)
+    by_word o e = absurd (cc)
 
 -- the `(` of a value
-pub opened : (seen : List PartKeyword) {list : List Word} {at inside : ℕ} → Opens list at inside → IsRead (the (value seen)) list at tt inside
-opened seen {list} {at} {inside} o = record { runs = λ k. taken (value seen) list at opens o.0 refl k ∙ ap (λ i. run (from list i) (k tt)) (sym o.1) }
+pub value_not_open : (seen : List PartKeyword) (list : List Word) (at : ℕ) → opens_first (first (from list at)) ≡ false → part (value seen) (from list at) ≡ stops (number_seen (value seen) (first (from list at))) (from list at)
+value_not_open seen list at e = refused_here (value seen) (value seen) list at (by_word (first (from list at)) e) refl
+  where
+    by_word : (o : Option Token) → opens_first o ≡ false → option_and_then (after (value seen)) o ≡ None
+    by_word None e = refl
+    by_word (Some opens) e = absurd (cc)
+    by_word (Some t) e = refl
 
--- a word of a formula as a precondition
-some_word : (t : Token) (w : List Token) (k : Formula → Phrase Tree) → closes_first (Some t) ≡ false → run (t ∷ w) (precondition_list >>= k) ≡ run (t ∷ w) (formula >>= k)
-some_word closes w k e = absurd (cc)
-some_word t w k e = refl
+pub ruleset of_value = (value_not_open, part_here)
 
-a_formula : (w : List Token) (k : Formula → Phrase Tree) → closes_first (first w) ≡ false → run w (precondition_list >>= k) ≡ run w (formula >>= k)
-a_formula [] k e = refl
-a_formula (t ∷ w) k e = some_word t w k e
+-- a precondition: `)`, or a word of a formula
+pub no_formula : (list : List Word) (at : ℕ) → closes_first (first (from list at)) ≡ true → part precondition_list (from list at) ≡ made (tree.and (formulas [])) (from list (at + 1))
+no_formula list at e = taken precondition_list list at closes (is_closes (first (from list at)) e) refl
 
-pub formula_read : {list : List Word} {at next : ℕ} {f : Formula} → closes_first (first (from list at)) ≡ false → IsRead (the formula) list at f next → IsRead (the precondition_list) list at f next
-formula_read {list} {at} e a = record { runs = λ k. a_formula (from list at) k e ∙ a.runs k }
-
-pub formula_told : {list : List Word} {at : ℕ} {refusal : WordFault} → closes_first (first (from list at)) ≡ false → IsTold (the formula) list at refusal → IsTold (the precondition_list) list at refusal
-formula_told {list} {at} {refusal} e a = record { stops = λ k. told_later list at at (precondition_list >>= k) (formula >>= k) refusal (a_formula (from list at) k e) (a.stops k) }
+pub formula_here : (list : List Word) (at : ℕ) → closes_first (first (from list at)) ≡ false → part precondition_list (from list at) ≡ part formula (from list at)
+formula_here list at e = by_words (from list at) e
+  where
+    by_words : (w : List Token) → closes_first (first w) ≡ false → part precondition_list w ≡ part formula w
+    by_words [] e = part_none precondition_list ∙ sym (part_none formula)
+    by_words (closes ∷ w) e = absurd (cc)
+    by_words (t ∷ w) e = part_of precondition_list w t ∙ sym (part_of formula w t)

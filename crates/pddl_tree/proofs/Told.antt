@@ -1,5 +1,5 @@
 -- What the machine makes of a whole file, in the terms of the public contracts.
-use Rattle.std.proofs.Common.{◌≡◌, ◌≢◌, ℕ, zero, suc, ◌-◌, ◌<◌, ◌≤◌, List, [], ◌∷◌, map, drop, length, Option, None, Some, refl, sym, ◌∙◌, ap, arith}
+use Rattle.std.proofs.Common.{◌≡◌, ◌≢◌, ℕ, zero, suc, ◌-◌, ◌<◌, ◌≤◌, List, [], ◌∷◌, map, drop, length, fold, Option, None, Some, refl, sym, ◌∙◌, ap, arith}
 use Rattle.std.specs.Prelude.{IfSome, slice_get}
 use Rattle.std.specs.Option.{option_map}
 use Rattle.std.proofs.lemmas.List.{length-drop, length-map}
@@ -7,14 +7,19 @@ use Rattle.std.proofs.lemmas.Option.{slice_get_past, slice_get-map}
 use Rattle.tokens.specs.declared.word.Word.{Word}
 use Rattle.tokens.specs.Word.{word_of}
 use Rattle.pddl_words.specs.Token.{from, first}
-use Rattle.pddl_words.specs.Refusal.{fault_of}
-use Rattle.pddl_tree.specs.Reading.{number_seen}
+use Rattle.faults.specs.Fault.{number_of}
+use Rattle.faults.specs.declared.refused.Refused.TheVariants.{At, NoMemory}
+use Rattle.pddl_words.specs.Refusal.{WordFault, told, fault_of}
+use Rattle.pddl_tree.specs.Reading.{Reading, made, stops, bind, part, phrase, number_seen, Tells}
+use Rattle.pddl_tree.specs.Head.{at_end, no_more, after_head}
+use Rattle.pddl_tree.specs.Sections.{sections_on}
+use Rattle.pddl_tree.proofs.Read.{ends_as, run_part}
 use Rattle.model.specs.Words.{end_of}
 use Rattle.model.specs.Words as text
-use Rattle.model.specs.Grammar.{IsFile, Tree, gives, close}
-use Rattle.model.specs.Trees.{File}
+use Rattle.model.specs.Grammar.{IsFile, Tree, Section, Contents, gives, close, file, sections, tree_from, with_section, no_contents}
+use Rattle.model.specs.Trees.{File, Name}
 use Rattle.model.specs.GrammarWords.{Token, token_of, tokens_of}
-use Rattle.model.specs.Refusals.{IsWhole, IsRefused, end_of_all, span_by, span_of_place, start}
+use Rattle.model.specs.Refusals.{IsWhole, IsRefused, end_of_all, span_by, span_of_place, start, by_word}
 use Rattle.model.specs.GrammarMachine.{run, finished, stopped}
 use Rattle.model.proofs.GrammarMeaning.{run_file, file_run}
 use Rattle.model.proofs.GrammarRefusals.{refused_at}
@@ -26,21 +31,21 @@ pub same_tokens : (words : List Word) → map token words ≡ tokens_of (map wor
 same_tokens [] = refl
 same_tokens (w ∷ words) = ap (λ ts. token w ∷ ts) (same_tokens words)
 
-pub file_read : (file : File) (words : List Word) (t : Tree) → run (from words 0) (start file) ≡ finished t → IsFile file (tokens_of (map word_of words)) t
-file_read file words t e = run_file file (tokens_of (map word_of words)) t (ap (λ w. run w (start file)) (sym (same_tokens words)) ∙ e)
+pub file_read : (f : File) (words : List Word) (t : Tree) → run (from words 0) (start f) ≡ finished t → IsFile f (tokens_of (map word_of words)) t
+file_read f words t e = run_file f (tokens_of (map word_of words)) t (ap (λ w. run w (start f)) (sym (same_tokens words)) ∙ e)
 
-abbrev Stops : File → List Word → Option (ℕ × ℕ) → Type 0
-Stops file words told = IfSome told (λ p. run (from words 0) (start file) ≡ stopped p.0 (from words p.1))
+abbrev StopsAs : File → List Word → Option (ℕ × ℕ) → Type 0
+StopsAs f words o = IfSome o (λ p. run (from words 0) (start f) ≡ stopped p.0 (from words p.1))
 
-pub refused_by : (file : File) (words : List Word) (told : Option (ℕ × ℕ)) → Stops file words told → IfSome (fault_of (map word_of words) told) (IsRefused file (map word_of words))
-refused_by file words None h = tt
-refused_by file words (Some p) h =
-    refused_at file (map word_of words) p.0 p.1 (ap (λ w. run w (start file)) (sym (same_tokens words)) ∙ h ∙ ap (λ w. stopped p.0 (drop p.1 w)) (same_tokens words))
+pub refused_by : (f : File) (words : List Word) (o : Option (ℕ × ℕ)) → StopsAs f words o → IfSome (fault_of (map word_of words) o) (IsRefused f (map word_of words))
+refused_by f words None h = tt
+refused_by f words (Some p) h =
+    refused_at f (map word_of words) p.0 p.1 (ap (λ w. run w (start f)) (sym (same_tokens words)) ∙ h ∙ ap (λ w. stopped p.0 (drop p.1 w)) (same_tokens words))
 
-pub taken_by : (file : File) (words : List Word) (told : Option (ℕ × ℕ)) → Stops file words told → IsWhole file (tokens_of (map word_of words)) → fault_of (map word_of words) told ≡ None
-taken_by file words None h whole = refl
-taken_by file words (Some p) h whole =
-    let same : finished whole.0 ≡ stopped p.0 (from words p.1) = sym (file_run whole.1) ∙ ap (λ w. run w (start file)) (sym (same_tokens words)) ∙ h in
+pub taken_by : (f : File) (words : List Word) (o : Option (ℕ × ℕ)) → StopsAs f words o → IsWhole f (tokens_of (map word_of words)) → fault_of (map word_of words) o ≡ None
+taken_by f words None h whole = refl
+taken_by f words (Some p) h whole =
+    let same : finished whole.0 ≡ stopped p.0 (from words p.1) = sym (file_run whole.1) ∙ ap (λ w. run w (start f)) (sym (same_tokens words)) ∙ h in
     absurd (cc)
 
 -- the end of the last word
@@ -67,9 +72,44 @@ not_past words at h e =
     absurd (omega (arith, simp (length-drop, length-map) at n))
 
 -- a word after a file's last one
-pub trailing : (words : List Word) (at : ℕ) (tree : Tree) → at < length words → run (from words at) (gives tree) ≡ stopped (number_seen close (first (from words at))) (from words at)
-trailing words at tree h = by_words (from words at) (not_past words at h)
+pub trailing : (words : List Word) (at : ℕ) → at < length words → no_more (from words at) ≡ stops (number_seen close (first (from words at))) (from words at)
+trailing words at h = by_words (from words at) (not_past words at h)
   where
-    by_words : (w : List Token) → w ≢ [] → run w (gives tree) ≡ stopped (number_seen close (first w)) w
+    by_words : (w : List Token) → w ≢ [] → no_more w ≡ stops (number_seen close (first w)) w
     by_words [] apart = absurd (apart refl)
     by_words (t ∷ w) apart = refl
+
+-- it is told whatever was read before it
+pub trailing_all : {A : Type 0} (x : A) (w : List Token) (n : ℕ) (v : List Token) → no_more w ≡ stops n v → at_end x w ≡ stops n v
+trailing_all x [] n v e = absurd (cc)
+trailing_all x (t ∷ w) n v e = let number : by_word t ≡ n = cc in let left : t ∷ w ≡ v = cc in λ i. stops (number i) (left i)
+
+-- ---- a file by its sections
+
+pub head_told : (f : File) (w : List Token) (n : ℕ) (v : List Token) → part (file f) w ≡ stops n v → run w (start f) ≡ stopped n v
+head_told f w n v e = run_part (file f) w gives ∙ ap (λ r. ends_as r gives) e
+
+pub all_read : (f : File) (n : Name) (w v : List Token) (c : Contents) → part (file f) w ≡ phrase (after_head f n) v → bind (phrase (sections_on f [] no_contents) v) at_end ≡ made c [] → run w (start f) ≡ finished (tree_from f n c)
+all_read f n w v c e h = run_part (file f) w gives ∙ ap (λ r. ends_as r gives) e ∙ by_sections (part (sections f []) v) h
+  where
+    by_sections : (r : Reading (List Section)) → bind (bind r (λ ss u. made (fold with_section no_contents ss) u)) at_end ≡ made c [] → ends_as (bind r (λ ss u. made (tree_from f n (fold with_section no_contents ss)) u)) gives ≡ finished (tree_from f n c)
+    by_sections (made ss []) h = let same : fold with_section no_contents ss ≡ c = cc in ap (λ c. finished (tree_from f n c)) same
+    by_sections (made ss (t ∷ u)) h = absurd (cc)
+    by_sections (stops m u) h = absurd (cc)
+
+pub all_told : (f : File) (n : Name) (w v : List Token) (m : ℕ) (u : List Token) → part (file f) w ≡ phrase (after_head f n) v → bind (phrase (sections_on f [] no_contents) v) at_end ≡ stops m u → run w (start f) ≡ stopped m u
+all_told f n w v m u e h = run_part (file f) w gives ∙ ap (λ r. ends_as r gives) e ∙ by_sections (part (sections f []) v) h
+  where
+    by_sections : (r : Reading (List Section)) → bind (bind r (λ ss u. made (fold with_section no_contents ss) u)) at_end ≡ stops m u → ends_as (bind r (λ ss u. made (tree_from f n (fold with_section no_contents ss)) u)) gives ≡ stopped m u
+    by_sections (made ss []) h = absurd (cc)
+    by_sections (made ss (t ∷ x)) h = let number : by_word t ≡ m = cc in let left : t ∷ x ≡ u = cc in λ i. stopped (number i) (left i)
+    by_sections (stops k x) h = let number : k ≡ m = cc in let left : x ≡ u = cc in λ i. stopped (number i) (left i)
+
+-- in the terms of what is told
+pub head_stops : (f : File) (words : List Word) (refusal : WordFault) → Tells words (part (file f) (from words 0)) refusal → StopsAs f words (told refusal)
+head_stops f words (At r) h = head_told f (from words 0) (number_of r.code) (from words r.at) h
+head_stops f words NoMemory h = tt
+
+pub all_stop : (f : File) (n : Name) (words : List Word) (at : ℕ) (refusal : WordFault) → part (file f) (from words 0) ≡ phrase (after_head f n) (from words at) → Tells words (bind (phrase (sections_on f [] no_contents) (from words at)) at_end) refusal → StopsAs f words (told refusal)
+all_stop f n words at (At r) e h = all_told f n (from words 0) (from words at) (number_of r.code) (from words r.at) e h
+all_stop f n words at NoMemory e h = tt

@@ -1,85 +1,44 @@
--- The words of action costs.
-use Rattle.std.proofs.Common.{◌≡◌, ℕ, ◌+◌, true, false, List, [], ◌∷◌, ◌++◌, Option, Some, None, refl, ◌∙◌, subst}
+-- The list of `:functions`.
+use Rattle.std.proofs.Common.{◌≡◌, ℕ, ◌+◌, true, false, List, [], ◌∷◌, Option, Some, None, refl, sym, ◌∙◌, ap}
+use Rattle.std.specs.Option.{option_and_then}
+use Rattle.std.proofs.lemmas.List.{append-nil}
 use Rattle.tokens.specs.declared.word.Word.{Word}
-use Rattle.faults.specs.declared.refused.Refused.TheVariants.{At}
-use Rattle.pddl_words.specs.declared.refusal.WordRefusal.{WordRefusal}
 use Rattle.pddl_words.specs.Token.{from, first}
-use Rattle.pddl_words.specs.Refusal.{WordFault}
-use Rattle.pddl_tree.specs.declared.refusal.Place.TheVariants.{Elsewhere}
-use Rattle.pddl_tree.specs.Costs.{IsTotalCost, dash_first, functions_and}
-use Rattle.pddl_tree.specs.Reading.{the, IsRead, IsTold, Opens, IsNotOpen, closes_first, opens_first}
-use Rattle.pddl_tree.specs.Typed.{IsOne}
-use Rattle.pddl_tree.proofs.Items.{IsReadOn}
-use Rattle.pddl_tree.proofs.Items as of_items
-use Rattle.pddl_tree.proofs.ReadOn.{given, then_read, first_told, then_told, by_word, by_word_told, refused_as, IsRefusedAs, taken, told_later}
-use Rattle.model.specs.Trees.{Name, Increase, InitialCost}
+use Rattle.pddl_tree.specs.Costs.{dash_first}
+use Rattle.pddl_tree.specs.Reading.{made, stops, bind, part, number_seen, closes_first, opens_first}
+use Rattle.pddl_tree.proofs.Read.{part_here, part_none, part_of, taken, bind_made}
+use Rattle.pddl_tree.proofs.Looks.{is_closes, refused_here}
 use Rattle.model.specs.GrammarWords.{Token, opens, closes, dash}
-use Rattle.model.specs.Grammar.{Tree, Phrase, ◌>>=◌, total_cost, function_list, function_type, number_type, close}
-use Rattle.model.specs.GrammarMachine.{run}
+use Rattle.model.specs.Grammar.{after, total_cost, function_list, function_type, number_type, close}
 
--- `total-cost` and its `)`
-pub cost_read : {words : List Word} {at next end : ℕ} {n : Name} → IsTotalCost words at n next → IsRead (the close) words next tt end → IsRead (the total_cost) words at n end
-cost_read {words} {end = end} w c = by_word total_cost w.0 refl (then_read close (subst (λ i. IsRead (the close) words i tt end) w.1 c) given)
-
-pub cost_told : {words : List Word} {at next : ℕ} {n : Name} {refusal : WordFault} → IsTotalCost words at n next → IsTold (the close) words next refusal → IsTold (the total_cost) words at refusal
-cost_told {words} {refusal = refusal} w t = by_word_told total_cost w.0 refl (first_told close (subst (λ i. IsTold (the close) words i refusal) w.1 t))
-
--- ---- the list of `:functions`
-
-is_dash : (o : Option Token) → dash_first o ≡ true → o ≡ Some dash
-is_dash (Some dash) e = refl
-is_dash o e = absurd (cc)
+pub functions_end : (list : List Word) (at : ℕ) → closes_first (first (from list at)) ≡ true → part function_list (from list at) ≡ made [] (from list (at + 1))
+functions_end list at e = taken function_list list at closes (is_closes (first (from list at)) e) refl
 
 -- after one that no type follows, as before one
-untyped_word : (t : Token) (w : List Token) (k : List Name → Phrase Tree) → dash_first (Some t) ≡ false → run (t ∷ w) (function_type >>= k) ≡ run (t ∷ w) (function_list >>= k)
-untyped_word dash w k e = absurd (cc)
-untyped_word t w k e = refl
-
-untyped : (w : List Token) (k : List Name → Phrase Tree) → dash_first (first w) ≡ false → run w (function_type >>= k) ≡ run w (function_list >>= k)
-untyped [] k e = refl
-untyped (t ∷ w) k e = untyped_word t w k e
-
--- the `(` of one, and its name
-named : {words : List Word} (at : ℕ) {inside next : ℕ} {n : Name} → Opens words at inside → IsRead (the total_cost) words inside n next → (k : List Name → Phrase Tree) → run (from words at) (function_list >>= k) ≡ run (from words next) (function_type >>= λ ns. k (n ∷ ns))
-named {words} at {inside} {next} {n} o a k =
-    let here : IsRead (the total_cost) words (at + 1) n next = subst (λ i. IsRead (the total_cost) words i n next) o.1 a in
-    taken function_list words at opens o.0 refl k ∙ here.runs (λ n. function_type >>= λ ns. k (n ∷ ns))
-
-pub function_untyped : {words : List Word} {at inside next : ℕ} {n : Name} → Opens words at inside → IsRead (the total_cost) words inside n next → dash_first (first (from words next)) ≡ false → IsOne functions_and words at n next
-function_untyped {words} {at} {next = next} {n} o a e = record { goes = λ k. named at o a k ∙ untyped (from words next) (λ ns. k (n ∷ ns)) e }
-
-pub function_typed : {words : List Word} {at inside next end : ℕ} {n : Name} → Opens words at inside → IsRead (the total_cost) words inside n next → dash_first (first (from words next)) ≡ true → IsRead (the number_type) words (next + 1) tt end → IsOne functions_and words at n end
-function_typed {words} {at} {next = next} {n = n} o a e t =
-    record { goes = λ k. named at o a k ∙ taken function_type words next dash (is_dash (first (from words next)) e) refl (λ ns. k (n ∷ ns)) ∙ t.runs (λ _. function_list >>= λ ns. k (n ∷ ns)) }
-
-pub function_not_open : {words : List Word} {at : ℕ} {refusal : WordRefusal} → closes_first (first (from words at)) ≡ false → IsNotOpen words at Elsewhere refusal → IsTold (the function_list) words at (At refusal)
-function_not_open {words} {at} e h = refused_as function_list close (by_first (first (from words at)) h.0 e) h.1
+pub untyped_here : (list : List Word) (at : ℕ) → dash_first (first (from list at)) ≡ false → part function_type (from list at) ≡ part function_list (from list at)
+untyped_here list at e = by_words (from list at) e
   where
-    by_first : (o : Option Token) → opens_first o ≡ false → closes_first o ≡ false → IsRefusedAs function_list close o
-    by_first None n e = (refl, refl)
-    by_first (Some opens) n e = absurd (cc)
-    by_first (Some closes) n e = absurd (cc)
-    by_first (Some t) n e = (refl, refl)
+    by_words : (w : List Token) → dash_first (first w) ≡ false → part function_type w ≡ part function_list w
+    by_words [] e = part_none function_type ∙ sym (part_none function_list)
+    by_words (dash ∷ w) e = absurd (cc)
+    by_words (t ∷ w) e = part_of function_type w t ∙ sym (part_of function_list w t)
 
-pub function_not_named : {words : List Word} {at inside : ℕ} {refusal : WordFault} → Opens words at inside → IsTold (the total_cost) words inside refusal → IsTold (the function_list) words at refusal
-function_not_named {words} {at} {refusal = refusal} o t = by_word_told function_list o.0 refl (first_told total_cost (subst (λ i. IsTold (the total_cost) words i refusal) o.1 t))
+pub typed_here : (list : List Word) (at : ℕ) → dash_first (first (from list at)) ≡ true → part function_type (from list at) ≡ bind (part number_type (from list (at + 1))) (λ _ w. part function_list w)
+typed_here list at e = taken function_type list at dash (by_word (first (from list at)) e) refl ∙ (λ i. bind (part number_type (from list (at + 1))) (λ _ w. bind_made (part function_list w) i))
+  where
+    by_word : (o : Option Token) → dash_first o ≡ true → o ≡ Some dash
+    by_word (Some dash) e = refl
+    by_word o e = absurd (cc)
 
-pub function_mistyped : {words : List Word} {at inside next : ℕ} {n : Name} {refusal : WordFault} → Opens words at inside → IsRead (the total_cost) words inside n next → dash_first (first (from words next)) ≡ true → IsTold (the number_type) words (next + 1) refusal → IsTold (the function_list) words at refusal
-function_mistyped {words} {at} {inside} {next} {n} {refusal} o a e t =
-    by_word_told function_list o.0 refl
-    (then_told total_cost (subst (λ i. IsRead (the total_cost) words i n next) o.1 a)
-    (first_told function_type (by_word_told function_type (is_dash (first (from words next)) e) refl (first_told number_type t))))
+pub functions_not_open : (list : List Word) (at : ℕ) → closes_first (first (from list at)) ≡ false → opens_first (first (from list at)) ≡ false → part function_list (from list at) ≡ stops (number_seen close (first (from list at))) (from list at)
+functions_not_open list at c o = let h = by_word (first (from list at)) c o in refused_here function_list close list at h.0 h.1
+  where
+    by_word : (w : Option Token) → closes_first w ≡ false → opens_first w ≡ false → (option_and_then (after function_list) w ≡ None) × (number_seen close w ≡ number_seen function_list w)
+    by_word None c o = (refl, refl)
+    by_word (Some closes) c o = absurd (cc)
+    by_word (Some opens) c o = absurd (cc)
+    by_word (Some t) c o = (refl, refl)
 
-pub functions_end : {words : List Word} {at next : ℕ} {done : List Name} → IsReadOn functions_and words at done next → closes_first (first (from words next)) ≡ true → IsRead (the function_list) words at done (next + 1)
-functions_end {words} {at} {next} {done} h e = record { runs = of_items.ended functions_and words at next done (λ is k. taken function_list words next closes is refl k) h e }
+pub ruleset of_functions = (functions_end, append-nil)
 
-pub functions_told : {words : List Word} {at next : ℕ} {done : List Name} {refusal : WordFault} → IsReadOn functions_and words at done next → IsTold (the function_list) words next refusal → IsTold (the function_list) words at refusal
-functions_told {words} {at} {next} {done} {refusal} h t =
-    record { stops = λ k. told_later words at next (function_list >>= k) (function_list >>= λ ns. k (done ++ ns)) refusal (h.goes k) (t.stops (λ ns. k (done ++ ns))) }
-
--- the number with its words, as an increase, and as the cost at the start
-abbrev pub increase_as : Name → Name × (ℕ × Name) → Increase
-increase_as word c = record { word = word; amount = c.1.0 }
-
-abbrev pub initial_as : Name → Name × (ℕ × Name) → InitialCost
-initial_as word c = record { equals = word; function = c.0; amount = c.1.0; number = c.1.1 }
+pub ruleset of_function = (untyped_here, typed_here, functions_not_open, part_here)

@@ -1,17 +1,11 @@
 -- Action costs: what the grammar makes of the words of the total cost.
-use Rattle.std.specs.Prelude.{◌≡◌, ◌+◌, ℕ, Bool, true, false, List, Option, Some, None}
-use Rattle.tokens.specs.declared.word.Word.{Word}
+use Rattle.std.specs.Prelude.{ℕ, Bool, true, false, Option, Some, None}
 use Rattle.pddl_words.specs.Name.{name_of}
-use Rattle.pddl_words.specs.Token.{from, first}
 use Rattle.pddl_tree.specs.declared.costs.CostWords.{CostWords}
 use Rattle.model.specs.Trees.{Name, Increase, InitialCost}
 use Rattle.model.specs.GrammarWords.{Token, dash, reserved}
 use Rattle.model.specs.GrammarWords as words
-use Rattle.model.specs.Grammar.{Tree, Phrase, gives, ◌>>=◌, ◌>>◌, listed, total_cost, amount, close, function_list, minimize_word}
-
--- the word `total-cost` was read
-abbrev pub IsTotalCost : List Word → ℕ → Name → ℕ → Type 0
-IsTotalCost list at n next = (first (from list at) ≡ Some (reserved words.total_cost n)) × (next ≡ at + 1)
+use Rattle.model.specs.Grammar.{Phrase, gives, ◌>>=◌, ◌>>◌, listed, total_cost, amount, close, minimize_word}
 
 -- the word `increase`
 abbrev pub increase_in : Token → Option Name
@@ -22,10 +16,6 @@ increase_in _ = None
 abbrev pub dash_first : Option Token → Bool
 dash_first (Some dash) = true
 dash_first _ = false
-
--- the functions, and what their names say
-abbrev pub functions_and : (List Name → Phrase Tree) → Phrase Tree
-functions_and k = function_list >>= k
 
 -- after `:metric`
 abbrev pub the_metric : Phrase Name

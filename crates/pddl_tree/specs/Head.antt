@@ -1,9 +1,16 @@
--- The head of a file: `( define ( domain NAME )`, or `problem` in place of `domain`.
-use Rattle.std.specs.Prelude.{ℕ, ◌<◌, ◌≤◌, ◌⊎◌, List, [], length, take, fold}
+-- The head of a file: `( define ( domain NAME )`, or `problem` in place of `domain`; and what follows it, up to the end.
+use Rattle.std.specs.Prelude.{◌≡◌, ℕ, ◌<◌, ◌≤◌, ◌⊎◌, List, [], ◌∷◌, length, take, fold, Result, Ok, Err, ⊤}
+use Rattle.tokens.specs.declared.word.Word.{Word}
+use Rattle.pddl_words.specs.declared.name.Name as code
+use Rattle.pddl_words.specs.declared.refusal.WordRefusal.{WordRefusal}
+use Rattle.pddl_words.specs.Name.{name_of}
+use Rattle.pddl_words.specs.Token.{from}
+use Rattle.pddl_words.specs.Refusal.{WordFault}
+use Rattle.pddl_tree.specs.Reading.{Reading, made, stops, bind, part, phrase, Stops, Tells}
 use Rattle.model.specs.GrammarWords.{Token}
 use Rattle.model.specs.Trees.{File, Name}
-use Rattle.model.specs.Grammar.{Tree, Contents, Phrase, gives, ◌>>=◌, sections, tree_from, with_section, no_contents}
-use Rattle.model.specs.Refusals.{Begins}
+use Rattle.model.specs.Grammar.{Tree, Phrase, gives, ◌>>=◌, file, sections, tree_from, with_section, no_contents}
+use Rattle.model.specs.Refusals.{Begins, by_word}
 
 -- the words of a head
 abbrev pub head_length : ℕ
@@ -11,16 +18,31 @@ head_length = 6
 
 -- a file of this kind begins with so many of the words
 abbrev pub HasHead : File → List Token → Type 0
-HasHead file w = (head_length ≤ length w) × Begins file (take head_length w)
+HasHead f w = (head_length ≤ length w) × Begins f (take head_length w)
 
 -- the words end within the head, or no file of this kind begins with so many of them
 abbrev pub HasNoHead : File → List Token → Type 0
-HasNoHead file w = (length w < head_length) ⊎ (Begins file (take head_length w) → ⊥)
-
--- the sections of a file of this name, taken into its contents
-abbrev pub sections_and : File → Name → Contents → Phrase Tree
-sections_and f n c = sections f [] >>= λ ss. gives (tree_from f n (fold with_section c ss))
+HasNoHead f w = (length w < head_length) ⊎ (Begins f (take head_length w) → ⊥)
 
 -- what has to follow the head
 abbrev pub after_head : File → Name → Phrase Tree
-after_head f n = sections_and f n no_contents
+after_head f n = sections f [] >>= λ ss. gives (tree_from f n (fold with_section no_contents ss))
+
+-- the name, and the index after the head, or where the words stop in it
+abbrev pub ReadsHead : File → List Word → Result (code.Name × ℕ) WordRefusal → Type 0
+ReadsHead f words (Ok (n, next)) = part (file f) (from words 0) ≡ phrase (after_head f (name_of n)) (from words next)
+ReadsHead f words (Err refusal) = Stops words (part (file f) (from words 0)) refusal
+
+-- no word follows what was read
+abbrev pub at_end : {A : Type 0} → A → List Token → Reading A
+at_end x [] = made x []
+at_end x (t ∷ w) = stops (by_word t) (t ∷ w)
+
+abbrev pub no_more : List Token → Reading ⊤
+no_more [] = made tt []
+no_more (t ∷ w) = stops (by_word t) (t ∷ w)
+
+-- the words from an index on are all of this tree
+abbrev pub ReadsAll : {A : Type 0} → (List Token → Reading A) → List Word → ℕ → A → Result ⊤ WordFault → Type 0
+ReadsAll read words at tree (Ok _) = bind (read (from words at)) at_end ≡ made tree []
+ReadsAll read words at tree (Err fault) = Tells words (bind (read (from words at)) at_end) fault

@@ -5,14 +5,13 @@ use Rattle.pddl_words.specs.Name.{name_of}
 use Rattle.syntax_tree.specs.Tree.{formula_of, groups_of, predicate_of, action_of, fact_of}
 use Rattle.pddl_tree.specs.declared.sections.Contents.{Contents}
 use Rattle.tokens.specs.declared.word.Word.{Word}
-use Rattle.faults.specs.declared.refused.Refused.TheVariants.{At}
+use Rattle.faults.specs.Fault.{number_of}
 use Rattle.pddl_words.specs.declared.refusal.WordRefusal.{WordRefusal}
 use Rattle.pddl_words.specs.Token.{from, first}
-use Rattle.pddl_words.specs.Refusal.{told}
-use Rattle.pddl_tree.specs.Reading.{IsRead, number_seen}
+use Rattle.pddl_tree.specs.Reading.{number_seen}
 use Rattle.model.specs.Trees.{File, Name, Action}
 use Rattle.model.specs.GrammarWords.{PartKeyword, SectionKeyword, keyword, of_section}
-use Rattle.model.specs.Grammar.{Phrase, gives, ◌>>=◌, ◌>>◌, and_then, a_name, close, action_name, parts, part_after, with_part, action_from, sections, section_after, with_section, keyword_in, has_section, sections_of}
+use Rattle.model.specs.Grammar.{Phrase, gives, ◌>>=◌, ◌>>◌, and_then, a_name, close, action_name, parts, part_after, with_part, action_from, sections, section_after, with_section, has_section, sections_of}
 use Rattle.model.specs.Grammar as grammar
 use Rattle.model.specs.GrammarWords as grammar_words
 
@@ -46,12 +45,9 @@ contents_of c = record {
 abbrev pub sections_on : File → List SectionKeyword → grammar.Contents → Phrase grammar.Contents
 sections_on f seen c = sections f seen >>= λ ss. gives (fold with_section c ss)
 
--- a section of this keyword was read, and taken into the contents
-pub record IsSection (k : SectionKeyword) (words : List Word) (at : ℕ) (before after : grammar.Contents) (next : ℕ) : Type 0 where
-  pub section : grammar.Section
-  pub read : IsRead (section_after k) words at section next
-  pub kind : keyword_in section ≡ k
-  pub taken : after ≡ with_section before section
+-- a section of this keyword, taken into the contents
+abbrev pub section_into : SectionKeyword → grammar.Contents → Phrase grammar.Contents
+section_into k c = and_then (section_after k) (λ x. gives (with_section c x))
 
 -- what follows `:domain`
 abbrev pub the_domain : Phrase Name
@@ -61,4 +57,4 @@ the_domain = a_name >>= λ n. close >> gives n
 abbrev pub IsNotNew : List Word → ℕ → File → List SectionKeyword → WordRefusal → Type 0
 IsNotNew words at f seen refusal =
     ((k : SectionKeyword) → first (from words at) ≡ Some (keyword (of_section k)) → has_section (sections_of f) k ≡ true → has_section seen k ≡ true)
-    × (told (At refusal) ≡ Some (number_seen (grammar.section f grammar_words.requirements []) (first (from words at)), at))
+    × ((number_of refusal.code ≡ number_seen (grammar.section f grammar_words.requirements []) (first (from words at))) × (refusal.at ≡ at))

@@ -1,10 +1,9 @@
 //! Actions, from the word after `:action` on.
 ghost use Rattle.std.specs.Prelude.{◌≡◌, [], IfOk, IfErr, map, Some, false};
-ghost use Rattle.faults.specs.declared.refused.Refused.TheVariants.{At};
 ghost use Rattle.model.specs.GrammarWords.{keyword, of_part};
 ghost use Rattle.model.specs.Grammar as grammar;
 ghost use Rattle.pddl_words.specs.Token.{from, first, part_view};
-ghost use Rattle.pddl_tree.specs.Reading.{the, IsAfter, IsRead, IsTold, GoesOn, closes_first};
+ghost use Rattle.pddl_tree.specs.Reading.{part, phrase, Reads, ReadsInto, GoesOn, Stops, closes_first};
 ghost use Rattle.pddl_words.specs.Name.{name_of};
 ghost use Rattle.syntax_tree.specs.Tree.{action_of, formula_of};
 ghost use Rattle.pddl_tree.specs.Sections.{the_action, parts_on, part_into};
@@ -40,9 +39,7 @@ pub(crate) fn action<'a>(
     words: &[Word<'a>],
     at: usize,
 ) -> Result<(Action<'a>, usize), WordFault>
-    ensures after { IfOk result (λ r. IsAfter words.now at r.1) }
-    ensures read { IfOk result (λ r. IsRead the_action words.now at (action_of r.0) r.1) }
-    ensures told { IfErr result (λ refusal. IsTold the_action words.now at refusal) }
+    ensures { Reads (phrase the_action) words.now at action_of result }
 {
     let (name, next) = action_name(words, at)?;
     // Boxed, since a box is dropped in one step of a proof, and an action in one for each form that its parts may have.
@@ -58,9 +55,7 @@ fn parts<'a>(
     at: usize,
     action: &mut Action<'a>,
 ) -> Result<usize, WordFault>
-    ensures after { IfOk result (λ next. IsAfter words.now at next) }
-    ensures read { IfOk result (λ next. IsRead (parts_on [] (action_of action.old)) words.now at (action_of action.new) next) }
-    ensures told { IfErr result (λ refusal. IsTold (parts_on [] (action_of action.old)) words.now at refusal) }
+    ensures { ReadsInto (phrase (parts_on [] (action_of action.old))) words.now at (action_of action.new) result }
 {
     let mut seen = Vec::new(alloc);
     let mut next = at;
@@ -83,9 +78,7 @@ fn part<'a>(
     seen: &mut Vec<PartKeyword>,
 ) -> Result<usize, WordFault>
     requires { closes_first (first (from words.now at)) ≡ false }
-    ensures after { IfOk result (λ next. IsAfter words.now at next) }
-    ensures read { IfOk result (λ next. GoesOn (parts_on (map part_view seen.old.items) (action_of action.old)) words.now at (parts_on (map part_view seen.new.items) (action_of action.new)) next) }
-    ensures told { IfErr result (λ refusal. IsTold (parts_on (map part_view seen.old.items) (action_of action.old)) words.now at refusal) }
+    ensures { GoesOn (phrase (parts_on (map part_view seen.old.items) (action_of action.old))) (phrase (parts_on (map part_view seen.new.items) (action_of action.new))) words.now at result }
 {
     let keyword = part_keyword(words, at, seen)?;
     seen.push(keyword)?;
@@ -93,10 +86,11 @@ fn part<'a>(
 }
 
 /// The keyword of a part that is not seen yet.
+#[tactic(auto, using(crate::proofs::Read::part_here))]
 fn part_keyword(words: &[Word], at: usize, seen: &[PartKeyword]) -> Result<PartKeyword, WordRefusal>
     ensures word { IfOk result (λ part. first (from words.now at) ≡ Some (keyword (of_part (part_view part)))) }
     ensures new { IfOk result (λ part. grammar.has_part (map part_view seen.now) (part_view part) ≡ false) }
-    ensures told { IfErr result (λ refusal. closes_first (first (from words.now at)) ≡ false → IsTold (the (grammar.parts (map part_view seen.now))) words.now at (At refusal)) }
+    ensures told { IfErr result (λ refusal. closes_first (first (from words.now at)) ≡ false → Stops words.now (part (grammar.parts (map part_view seen.now)) (from words.now at)) refusal) }
 {
     match token_at(words, at) {
         Token::Keyword(Keyword::Part(part)) => {
@@ -111,6 +105,7 @@ fn part_keyword(words: &[Word], at: usize, seen: &[PartKeyword]) -> Result<PartK
 }
 
 /// The value of a part whose keyword was read, which is seen, taken into the action: the index after it.
+#[tactic(auto, using(crate::proofs::Parts::of_value))]
 fn value<'a>(
     alloc: Global,
     words: &[Word<'a>],
@@ -119,9 +114,7 @@ fn value<'a>(
     seen: &[PartKeyword],
     action: &mut Action<'a>,
 ) -> Result<usize, WordFault>
-    ensures after { IfOk result (λ next. IsAfter words.now at next) }
-    ensures read { IfOk result (λ next. IsRead (part_into (map part_view seen.now) (part_view keyword) (action_of action.old)) words.now at (action_of action.new) next) }
-    ensures told { IfErr result (λ refusal. IsTold (part_into (map part_view seen.now) (part_view keyword) (action_of action.old)) words.now at refusal) }
+    ensures { ReadsInto (phrase (part_into (map part_view seen.now) (part_view keyword) (action_of action.old))) words.now at (action_of action.new) result }
 {
     let inside = open(words, at, Place::Value(seen))?;
     match keyword {
@@ -150,9 +143,7 @@ fn precondition<'a>(
     words: &[Word<'a>],
     at: usize,
 ) -> Result<(Formula<'a>, usize), WordFault>
-    ensures after { IfOk result (λ r. IsAfter words.now at r.1) }
-    ensures read { IfOk result (λ r. IsRead (the grammar.precondition_list) words.now at (formula_of r.0) r.1) }
-    ensures told { IfErr result (λ refusal. IsTold (the grammar.precondition_list) words.now at refusal) }
+    ensures { Reads (part grammar.precondition_list) words.now at formula_of result }
 {
     if is_close(words, at) {
         Ok((Formula::And(Vec::new(alloc)), at + 1))

@@ -1,15 +1,13 @@
 //! Action costs: `:functions`, `:metric`, and where the total cost is set or increased.
-ghost use Rattle.std.specs.Prelude.{◌≡◌, IfOk, IfErr, map, false};
-ghost use Rattle.faults.specs.declared.refused.Refused.TheVariants.{At};
+ghost use Rattle.std.specs.Prelude.{◌≡◌, map, false};
 ghost use Rattle.model.specs.Grammar.{function_list, total_cost as wants_total_cost, listed};
 ghost use Rattle.pddl_words.specs.Name.{name_of};
 ghost use Rattle.pddl_words.specs.Token.{from, first};
-ghost use Rattle.pddl_tree.specs.Costs.{functions_and, the_metric, the_cost, the_increase, the_initial_cost, cost_of};
-ghost use Rattle.pddl_tree.specs.Reading.{the, IsAfter, IsRead, IsTold, closes_first};
+ghost use Rattle.pddl_tree.specs.Costs.{the_metric, the_cost, the_increase, the_initial_cost, cost_of};
+ghost use Rattle.pddl_tree.specs.Reading.{part, phrase, Reads, ReadsWords, ReadsOne, closes_first};
 ghost use Rattle.syntax_tree.specs.Tree.{increase_of, initial_cost_of};
-ghost use Rattle.pddl_tree.specs.Typed.{IsOne};
 
-use crate::look::{amount, close, is_close, is_dash, minimize, number_word, open, total_cost_word};
+use crate::look::{amount, close, is_close, is_dash, minimize, number_word, open, total_cost};
 use crate::refusal::Place;
 use pddl_words::{Name, WordFault, WordRefusal};
 use std::alloc::Global;
@@ -27,14 +25,13 @@ struct CostWords<'a> {
 }
 
 /// Functions, and `)`: their names, and the index after the parenthesis.
+#[tactic(auto, using(crate::proofs::TotalCost::of_functions))]
 pub(crate) fn functions<'a>(
     alloc: Global,
     words: &[Word<'a>],
     at: usize,
 ) -> Result<(Vec<Name<'a>>, usize), WordFault>
-    ensures after { IfOk result (λ r. IsAfter words.now at r.1) }
-    ensures read { IfOk result (λ r. IsRead (the function_list) words.now at (map name_of r.0.items) r.1) }
-    ensures told { IfErr result (λ refusal. IsTold (the function_list) words.now at refusal) }
+    ensures { Reads (part function_list) words.now at (λ names. map name_of names.items) result }
 {
     let mut functions = Vec::new(alloc);
     let mut next = at;
@@ -47,11 +44,10 @@ pub(crate) fn functions<'a>(
 }
 
 /// `( total-cost )`, and `- number` where a `-` follows: the function's name, and the index of what follows.
-fn function<'a>(words: &[Word<'a>], at: usize) -> Result<(Name<'a>, usize), WordRefusal>
+#[tactic(auto, using(crate::proofs::TotalCost::of_function))]
+fn function<'a>(words: &[Word<'a>], at: usize) -> Result<(Name<'a>, usize), WordFault>
     requires { closes_first (first (from words.now at)) ≡ false }
-    ensures after { IfOk result (λ r. IsAfter words.now at r.1) }
-    ensures read { IfOk result (λ r. IsOne functions_and words.now at (name_of r.0) r.1) }
-    ensures told { IfErr result (λ refusal. IsTold (the function_list) words.now at (At refusal)) }
+    ensures { ReadsOne (part function_list) words.now at name_of result }
 {
     let inside = open(words, at, Place::Elsewhere)?;
     let (function, next) = total_cost(words, inside)?;
@@ -62,22 +58,10 @@ fn function<'a>(words: &[Word<'a>], at: usize) -> Result<(Name<'a>, usize), Word
     Ok((function, next))
 }
 
-/// `total-cost`, and `)`: its name, and the index after the parenthesis.
-fn total_cost<'a>(words: &[Word<'a>], at: usize) -> Result<(Name<'a>, usize), WordRefusal>
-    ensures after { IfOk result (λ r. IsAfter words.now at r.1) }
-    ensures read { IfOk result (λ r. IsRead (the wants_total_cost) words.now at (name_of r.0) r.1) }
-    ensures told { IfErr result (λ refusal. IsTold (the wants_total_cost) words.now at (At refusal)) }
-{
-    let (function, next) = total_cost_word(words, at)?;
-    let next = close(words, next)?;
-    Ok((function, next))
-}
-
 /// `( total-cost )`: its name, and the index after the parenthesis.
+#[tactic(auto, using(crate::proofs::Looks::of_lists_inside))]
 fn listed_total_cost<'a>(words: &[Word<'a>], at: usize) -> Result<(Name<'a>, usize), WordRefusal>
-    ensures after { IfOk result (λ r. IsAfter words.now at r.1) }
-    ensures read { IfOk result (λ r. IsRead (the (listed wants_total_cost)) words.now at (name_of r.0) r.1) }
-    ensures told { IfErr result (λ refusal. IsTold (the (listed wants_total_cost)) words.now at (At refusal)) }
+    ensures { ReadsWords (part (listed wants_total_cost)) words.now at name_of result }
 {
     let inside = open(words, at, Place::Elsewhere)?;
     total_cost(words, inside)
@@ -85,9 +69,7 @@ fn listed_total_cost<'a>(words: &[Word<'a>], at: usize) -> Result<(Name<'a>, usi
 
 /// `minimize ( total-cost )`, and `)`: the function's name, and the index after the last parenthesis.
 pub(crate) fn metric<'a>(words: &[Word<'a>], at: usize) -> Result<(Name<'a>, usize), WordRefusal>
-    ensures after { IfOk result (λ r. IsAfter words.now at r.1) }
-    ensures read { IfOk result (λ r. IsRead the_metric words.now at (name_of r.0) r.1) }
-    ensures told { IfErr result (λ refusal. IsTold the_metric words.now at (At refusal)) }
+    ensures { ReadsWords (phrase the_metric) words.now at name_of result }
 {
     let next = minimize(words, at)?;
     let (function, next) = listed_total_cost(words, next)?;
@@ -97,21 +79,17 @@ pub(crate) fn metric<'a>(words: &[Word<'a>], at: usize) -> Result<(Name<'a>, usi
 
 /// `( total-cost )`, a number, and `)`: both, and the index after the last parenthesis.
 fn cost<'a>(words: &[Word<'a>], at: usize) -> Result<(CostWords<'a>, usize), WordRefusal>
-    ensures after { IfOk result (λ r. IsAfter words.now at r.1) }
-    ensures read { IfOk result (λ r. IsRead the_cost words.now at (cost_of r.0) r.1) }
-    ensures told { IfErr result (λ refusal. IsTold the_cost words.now at (At refusal)) }
+    ensures { ReadsWords (phrase the_cost) words.now at cost_of result }
 {
     let (function, next) = listed_total_cost(words, at)?;
-    let (amount, number, next) = amount(words, next)?;
+    let ((amount, number), next) = amount(words, next)?;
     let next = close(words, next)?;
-    Ok((
-        CostWords {
-            function,
-            amount,
-            number,
-        },
-        next,
-    ))
+    let cost = CostWords {
+        function,
+        amount,
+        number,
+    };
+    Ok((cost, next))
 }
 
 /// What follows a word `increase`, and `)`: the increase, and the index after the parenthesis.
@@ -120,9 +98,7 @@ pub(crate) fn increase<'a>(
     at: usize,
     word: Name<'a>,
 ) -> Result<(Increase<'a>, usize), WordRefusal>
-    ensures after { IfOk result (λ r. IsAfter words.now at r.1) }
-    ensures read { IfOk result (λ r. IsRead (the_increase (name_of word.entry)) words.now at (increase_of r.0) r.1) }
-    ensures told { IfErr result (λ refusal. IsTold (the_increase (name_of word.entry)) words.now at (At refusal)) }
+    ensures { ReadsWords (phrase (the_increase (name_of word.entry))) words.now at increase_of result }
 {
     let (cost, next) = cost(words, at)?;
     let amount = cost.amount;
@@ -135,9 +111,7 @@ pub(crate) fn initial_cost<'a>(
     at: usize,
     equals: Name<'a>,
 ) -> Result<(InitialCost<'a>, usize), WordRefusal>
-    ensures after { IfOk result (λ r. IsAfter words.now at r.1) }
-    ensures read { IfOk result (λ r. IsRead (the_initial_cost (name_of equals.entry)) words.now at (initial_cost_of r.0) r.1) }
-    ensures told { IfErr result (λ refusal. IsTold (the_initial_cost (name_of equals.entry)) words.now at (At refusal)) }
+    ensures { ReadsWords (phrase (the_initial_cost (name_of equals.entry))) words.now at initial_cost_of result }
 {
     let (cost, next) = cost(words, at)?;
     let initial = InitialCost {

@@ -1,12 +1,11 @@
 //! Declarations of predicates, and the facts of `:init`.
-ghost use Rattle.std.specs.Prelude.{IfOk, IfErr, map};
-ghost use Rattle.model.specs.Grammar.{many, listed, declaration as wants_declaration, fact as wants_fact, ground_atom as wants_ground_atom};
-ghost use Rattle.pddl_tree.specs.Reading.{the, IsAfter, IsRead, IsTold};
+ghost use Rattle.model.specs.Grammar.{listed, declaration, fact as wants_fact, ground_atom as wants_ground_atom};
+ghost use Rattle.pddl_tree.specs.Reading.{part, Reads};
 ghost use Rattle.syntax_tree.specs.Tree.{predicate_of, fact_of, ground_atom_of};
 
 use crate::costs::initial_cost;
-use crate::lists::names;
-use crate::look::{close, is_close, open, predicate};
+use crate::lists::{Item, list};
+use crate::look::{close, open};
 use crate::refusal::{Listed, Place, refusal};
 use crate::typed::typed;
 use faults::Refused;
@@ -15,72 +14,48 @@ use std::alloc::Global;
 use syntax_tree::{Fact, GroundAtom, Predicate};
 use tokens::Word;
 
-/// Declarations of predicates, and `)`: the predicates, and the index after the parenthesis.
-pub(crate) fn declarations<'a>(
-    alloc: Global,
-    words: &[Word<'a>],
-    at: usize,
-) -> Result<(Vec<Predicate<'a>>, usize), WordFault>
-    ensures after { IfOk result (λ r. IsAfter words.now at r.1) }
-    ensures read { IfOk result (λ r. IsRead (the (many (listed wants_declaration))) words.now at (map predicate_of r.0.items) r.1) }
-    ensures told { IfErr result (λ refusal. IsTold (the (many (listed wants_declaration))) words.now at refusal) }
-{
-    let mut declarations = Vec::new(alloc);
-    let mut next = at;
-    'declarations: while !is_close(words, next) {
-        let (declaration, after) = declaration(alloc, words, next)?;
-        declarations.push(declaration)?;
-        next = after;
+impl<'a> Item<'a> for Predicate<'a> {
+    ghost sort = { listed declaration };
+
+    ghost view = { predicate_of };
+
+    #[tactic(auto, using(crate::proofs::Looks::of_lists_inside))]
+    fn read(
+        alloc: Global,
+        words: &[Word<'a>],
+        at: usize,
+    ) -> Result<(Predicate<'a>, usize), WordFault> {
+        let inside = open(words, at, Place::Elsewhere)?;
+        match token_at(words, inside) {
+            Token::Free(_, name) => {
+                let (parameters, next) = typed(alloc, words, inside + 1, Listed::Variables)?;
+                Ok((Predicate { name, parameters }, next))
+            }
+            _ => Err(Refused::At(refusal(words, inside, Place::Elsewhere))),
+        }
     }
-    Ok((declarations, next + 1))
 }
 
-/// The declaration of a predicate in its parentheses, and the index after them.
-fn declaration<'a>(
-    alloc: Global,
-    words: &[Word<'a>],
-    at: usize,
-) -> Result<(Predicate<'a>, usize), WordFault>
-    ensures after { IfOk result (λ r. IsAfter words.now at r.1) }
-    ensures read { IfOk result (λ r. IsRead (the (listed wants_declaration)) words.now at (predicate_of r.0) r.1) }
-    ensures told { IfErr result (λ refusal. IsTold (the (listed wants_declaration)) words.now at refusal) }
-{
-    let inside = open(words, at, Place::Elsewhere)?;
-    let (name, next) = predicate(words, inside, Place::Elsewhere)?;
-    let (parameters, next) = typed(alloc, words, next, Listed::Variables)?;
-    Ok((Predicate { name, parameters }, next))
-}
+impl<'a> Item<'a> for Fact<'a> {
+    ghost sort = { listed wants_fact };
 
-/// Facts, and `)`: the facts, and the index after the parenthesis.
-pub(crate) fn facts<'a>(
-    alloc: Global,
-    words: &[Word<'a>],
-    at: usize,
-) -> Result<(Vec<Fact<'a>>, usize), WordFault>
-    ensures after { IfOk result (λ r. IsAfter words.now at r.1) }
-    ensures read { IfOk result (λ r. IsRead (the (many (listed wants_fact))) words.now at (map fact_of r.0.items) r.1) }
-    ensures told { IfErr result (λ refusal. IsTold (the (many (listed wants_fact))) words.now at refusal) }
-{
-    let mut facts = Vec::new(alloc);
-    let mut next = at;
-    'facts: while !is_close(words, next) {
-        let inside = open(words, next, Place::Elsewhere)?;
-        let (fact, after) = fact(alloc, words, inside)?;
-        facts.push(fact)?;
-        next = after;
+    ghost view = { fact_of };
+
+    #[tactic(auto, using(crate::proofs::Looks::of_lists_inside))]
+    fn read(alloc: Global, words: &[Word<'a>], at: usize) -> Result<(Fact<'a>, usize), WordFault> {
+        let inside = open(words, at, Place::Elsewhere)?;
+        fact(alloc, words, inside)
     }
-    Ok((facts, next + 1))
 }
 
 /// A fact whose `(` was read, and the index after its `)`.
+#[tactic(auto, using(crate::proofs::Read::part_here))]
 fn fact<'a>(alloc: Global, words: &[Word<'a>], at: usize) -> Result<(Fact<'a>, usize), WordFault>
-    ensures after { IfOk result (λ r. IsAfter words.now at r.1) }
-    ensures read { IfOk result (λ r. IsRead (the wants_fact) words.now at (fact_of r.0) r.1) }
-    ensures told { IfErr result (λ refusal. IsTold (the wants_fact) words.now at refusal) }
+    ensures { Reads (part wants_fact) words.now at fact_of result }
 {
     match token_at(words, at) {
         Token::Free(_, predicate) => {
-            let (objects, next) = names(alloc, words, at + 1)?;
+            let (objects, next) = list(alloc, words, at + 1)?;
             Ok((Fact::Atom(GroundAtom { predicate, objects }), next))
         }
         Token::Reserved(ReservedName::Not, word) => {
@@ -97,17 +72,20 @@ fn fact<'a>(alloc: Global, words: &[Word<'a>], at: usize) -> Result<(Fact<'a>, u
 }
 
 /// An atom of objects in its parentheses, and the index after them.
+#[tactic(auto, using(crate::proofs::Looks::of_lists_inside))]
 fn ground_atom<'a>(
     alloc: Global,
     words: &[Word<'a>],
     at: usize,
 ) -> Result<(GroundAtom<'a>, usize), WordFault>
-    ensures after { IfOk result (λ r. IsAfter words.now at r.1) }
-    ensures read { IfOk result (λ r. IsRead (the (listed wants_ground_atom)) words.now at (ground_atom_of r.0) r.1) }
-    ensures told { IfErr result (λ refusal. IsTold (the (listed wants_ground_atom)) words.now at refusal) }
+    ensures { Reads (part (listed wants_ground_atom)) words.now at ground_atom_of result }
 {
     let inside = open(words, at, Place::Elsewhere)?;
-    let (predicate, next) = predicate(words, inside, Place::Elsewhere)?;
-    let (objects, next) = names(alloc, words, next)?;
-    Ok((GroundAtom { predicate, objects }, next))
+    match token_at(words, inside) {
+        Token::Free(_, predicate) => {
+            let (objects, next) = list(alloc, words, inside + 1)?;
+            Ok((GroundAtom { predicate, objects }, next))
+        }
+        _ => Err(Refused::At(refusal(words, inside, Place::Elsewhere))),
+    }
 }

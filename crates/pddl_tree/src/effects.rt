@@ -1,13 +1,13 @@
 //! Effects, from the word after their parenthesis on.
-ghost use Rattle.std.specs.Prelude.{IfOk, IfErr, map};
+ghost use Rattle.std.specs.Prelude.{map};
 ghost use Rattle.model.specs.Grammar.{many, listed, effect_list};
 ghost use Rattle.pddl_tree.specs.Effect.{the_last_effect, the_each, the_when};
 ghost use Rattle.pddl_tree.specs.Formula.{IsReserved};
-ghost use Rattle.pddl_tree.specs.Reading.{the, IsAfter, IsRead, IsTold};
-ghost use Rattle.syntax_tree.specs.Tree.{effect_of, groups_of};
+ghost use Rattle.pddl_tree.specs.Reading.{part, phrase, Reads};
+ghost use Rattle.syntax_tree.specs.Tree.{effect_of};
 
 use crate::formulas::part;
-use crate::lists::terms;
+use crate::lists::list;
 use crate::literals::{conditional, last_atom};
 use crate::look::{close, is_close, open};
 use crate::refusal::{Listed, Literals, Place, refusal};
@@ -20,18 +20,17 @@ use tokens::Word;
 
 /// An effect whose `(` was read, and the index after its `)`.
 #[cycle(effect)]
+#[tactic(auto, using(crate::proofs::Read::part_here))]
 pub(crate) fn effect<'a>(
     alloc: Global,
     words: &[Word<'a>],
     at: usize,
 ) -> Result<(Effect<'a>, usize), WordFault>
-    ensures after { IfOk result (λ r. IsAfter words.now at r.1) }
-    ensures read { IfOk result (λ r. IsRead (the effect_list) words.now at (effect_of r.0) r.1) }
-    ensures told { IfErr result (λ refusal. IsTold (the effect_list) words.now at refusal) }
+    ensures { Reads (part effect_list) words.now at effect_of result }
 {
     match token_at(words, at) {
         Token::Free(_, predicate) => {
-            let (terms, next) = terms(alloc, words, at + 1)?;
+            let (terms, next) = list(alloc, words, at + 1)?;
             let literal = EffectLiteral::Add(Atom { predicate, terms });
             Ok((Effect::Literal(literal), next))
         }
@@ -42,6 +41,7 @@ pub(crate) fn effect<'a>(
 
 /// An effect that begins with this reserved word, and the index after its `)`.
 #[cycle(effect)]
+#[tactic(auto, using(crate::proofs::Read::part_here))]
 fn compound<'a>(
     alloc: Global,
     words: &[Word<'a>],
@@ -49,9 +49,7 @@ fn compound<'a>(
     word: ReservedName,
 ) -> Result<(Effect<'a>, usize), WordFault>
     requires { IsReserved words.now at word }
-    ensures after { IfOk result (λ r. IsAfter words.now at r.1) }
-    ensures read { IfOk result (λ r. IsRead (the effect_list) words.now at (effect_of r.0) r.1) }
-    ensures told { IfErr result (λ refusal. IsTold (the effect_list) words.now at refusal) }
+    ensures { Reads (part effect_list) words.now at effect_of result }
 {
     match word {
         ReservedName::Not => {
@@ -71,10 +69,9 @@ fn compound<'a>(
 /// A typed list of variables in its parentheses, an effect, and `)`: the effect for each of their objects, and the
 /// index after the parenthesis.
 #[cycle(effect)]
+#[tactic(auto, using(crate::proofs::Looks::of_lists_inside))]
 fn each<'a>(alloc: Global, words: &[Word<'a>], at: usize) -> Result<(Effect<'a>, usize), WordFault>
-    ensures after { IfOk result (λ r. IsAfter words.now at r.1) }
-    ensures read { IfOk result (λ r. IsRead the_each words.now at (effect_of r.0) r.1) }
-    ensures told { IfErr result (λ refusal. IsTold the_each words.now at refusal) }
+    ensures { Reads (phrase the_each) words.now at effect_of result }
 {
     let inside = open(words, at, Place::Elsewhere)?;
     let (variables, next) = typed(alloc, words, inside, Listed::Variables)?;
@@ -84,10 +81,9 @@ fn each<'a>(alloc: Global, words: &[Word<'a>], at: usize) -> Result<(Effect<'a>,
 
 /// A formula in its parentheses, literals, and `)`: the literals where the formula holds, and the index after the
 /// parenthesis.
+#[tactic(auto, using(crate::proofs::Looks::of_lists_inside))]
 fn when<'a>(alloc: Global, words: &[Word<'a>], at: usize) -> Result<(Effect<'a>, usize), WordFault>
-    ensures after { IfOk result (λ r. IsAfter words.now at r.1) }
-    ensures read { IfOk result (λ r. IsRead the_when words.now at (effect_of r.0) r.1) }
-    ensures told { IfErr result (λ refusal. IsTold the_when words.now at refusal) }
+    ensures { Reads (phrase the_when) words.now at effect_of result }
 {
     let (condition, next) = part(alloc, words, at)?;
     let inside = open(words, next, Place::Elsewhere)?;
@@ -98,14 +94,13 @@ fn when<'a>(alloc: Global, words: &[Word<'a>], at: usize) -> Result<(Effect<'a>,
 
 /// An effect in its parentheses, and `)`: the effect, and the index after the last parenthesis.
 #[cycle(effect)]
+#[tactic(auto, using(crate::proofs::Looks::of_lists_inside))]
 fn last<'a>(
     alloc: Global,
     words: &[Word<'a>],
     at: usize,
 ) -> Result<(Box<Effect<'a>>, usize), WordFault>
-    ensures after { IfOk result (λ r. IsAfter words.now at r.1) }
-    ensures read { IfOk result (λ r. IsRead the_last_effect words.now at (effect_of r.0.value) r.1) }
-    ensures told { IfErr result (λ refusal. IsTold the_last_effect words.now at refusal) }
+    ensures { Reads (phrase the_last_effect) words.now at (λ e. effect_of e.value) result }
 {
     let inside = open(words, at, Place::Elsewhere)?;
     let (part, next) = effect(alloc, words, inside)?;
@@ -116,14 +111,13 @@ fn last<'a>(
 
 /// Effects, and `)`: the effects, and the index after the parenthesis.
 #[cycle(effect)]
+#[tactic(auto, using(crate::proofs::Looks::of_lists))]
 fn effects<'a>(
     alloc: Global,
     words: &[Word<'a>],
     at: usize,
 ) -> Result<(Vec<Effect<'a>>, usize), WordFault>
-    ensures after { IfOk result (λ r. IsAfter words.now at r.1) }
-    ensures read { IfOk result (λ r. IsRead (the (many (listed effect_list))) words.now at (map effect_of r.0.items) r.1) }
-    ensures told { IfErr result (λ refusal. IsTold (the (many (listed effect_list))) words.now at refusal) }
+    ensures { Reads (part (many (listed effect_list))) words.now at (λ parts. map effect_of parts.items) result }
 {
     let mut parts = Vec::new(alloc);
     let mut next = at;

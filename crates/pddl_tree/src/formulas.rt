@@ -1,11 +1,11 @@
 //! Formulas, from the word after their parenthesis on.
-ghost use Rattle.std.specs.Prelude.{IfOk, IfErr, map};
+ghost use Rattle.std.specs.Prelude.{map};
 ghost use Rattle.model.specs.Grammar.{many, listed, formula as wants_formula};
 ghost use Rattle.pddl_tree.specs.Formula.{IsReserved, the_equality, the_last, the_implication, the_quantified};
-ghost use Rattle.pddl_tree.specs.Reading.{the, IsAfter, IsRead, IsTold};
+ghost use Rattle.pddl_tree.specs.Reading.{part, phrase, Reads};
 ghost use Rattle.syntax_tree.specs.Tree.{formula_of, groups_of};
 
-use crate::lists::terms;
+use crate::lists::list;
 use crate::look::{close, is_close, open, term};
 use crate::refusal::{Listed, Place, refusal};
 use crate::typed::typed;
@@ -17,18 +17,17 @@ use tokens::Word;
 
 /// A formula whose `(` was read, and the index after its `)`.
 #[cycle(formula)]
+#[tactic(auto, using(crate::proofs::Read::part_here))]
 pub(crate) fn formula<'a>(
     alloc: Global,
     words: &[Word<'a>],
     at: usize,
 ) -> Result<(Formula<'a>, usize), WordFault>
-    ensures after { IfOk result (λ r. IsAfter words.now at r.1) }
-    ensures read { IfOk result (λ r. IsRead (the wants_formula) words.now at (formula_of r.0) r.1) }
-    ensures told { IfErr result (λ refusal. IsTold (the wants_formula) words.now at refusal) }
+    ensures { Reads (part wants_formula) words.now at formula_of result }
 {
     match token_at(words, at) {
         Token::Free(_, predicate) => {
-            let (terms, next) = terms(alloc, words, at + 1)?;
+            let (terms, next) = list(alloc, words, at + 1)?;
             Ok((Formula::Atom(Atom { predicate, terms }), next))
         }
         Token::Equals(_) => equality(words, at + 1),
@@ -39,6 +38,7 @@ pub(crate) fn formula<'a>(
 
 /// A formula that begins with this reserved word, and the index after its `)`.
 #[cycle(formula)]
+#[tactic(auto, using(crate::proofs::Read::part_here))]
 fn compound<'a>(
     alloc: Global,
     words: &[Word<'a>],
@@ -46,9 +46,7 @@ fn compound<'a>(
     word: ReservedName,
 ) -> Result<(Formula<'a>, usize), WordFault>
     requires { IsReserved words.now at word }
-    ensures after { IfOk result (λ r. IsAfter words.now at r.1) }
-    ensures read { IfOk result (λ r. IsRead (the wants_formula) words.now at (formula_of r.0) r.1) }
-    ensures told { IfErr result (λ refusal. IsTold (the wants_formula) words.now at refusal) }
+    ensures { Reads (part wants_formula) words.now at formula_of result }
 {
     match word {
         ReservedName::And => {
@@ -65,11 +63,11 @@ fn compound<'a>(
         }
         ReservedName::Imply => implication(alloc, words, at + 1),
         ReservedName::Exists => {
-            let (variables, part, next) = quantified(alloc, words, at + 1)?;
+            let ((variables, part), next) = quantified(alloc, words, at + 1)?;
             Ok((Formula::Exists(variables, part), next))
         }
         ReservedName::Forall => {
-            let (variables, part, next) = quantified(alloc, words, at + 1)?;
+            let ((variables, part), next) = quantified(alloc, words, at + 1)?;
             Ok((Formula::Forall(variables, part), next))
         }
         _ => Err(Refused::At(refusal(words, at, Place::Elsewhere))),
@@ -78,9 +76,7 @@ fn compound<'a>(
 
 /// Two terms, and `)`: that they are one object, and the index after the parenthesis.
 fn equality<'a>(words: &[Word<'a>], at: usize) -> Result<(Formula<'a>, usize), WordFault>
-    ensures after { IfOk result (λ r. IsAfter words.now at r.1) }
-    ensures read { IfOk result (λ r. IsRead the_equality words.now at (formula_of r.0) r.1) }
-    ensures told { IfErr result (λ refusal. IsTold the_equality words.now at refusal) }
+    ensures { Reads (phrase the_equality) words.now at formula_of result }
 {
     let (first, next) = term(words, at)?;
     let (second, next) = term(words, next)?;
@@ -95,9 +91,7 @@ fn implication<'a>(
     words: &[Word<'a>],
     at: usize,
 ) -> Result<(Formula<'a>, usize), WordFault>
-    ensures after { IfOk result (λ r. IsAfter words.now at r.1) }
-    ensures read { IfOk result (λ r. IsRead the_implication words.now at (formula_of r.0) r.1) }
-    ensures told { IfErr result (λ refusal. IsTold the_implication words.now at refusal) }
+    ensures { Reads (phrase the_implication) words.now at formula_of result }
 {
     let (premise, next) = part(alloc, words, at)?;
     let (conclusion, next) = last(alloc, words, next)?;
@@ -106,19 +100,18 @@ fn implication<'a>(
 
 /// A typed list of variables in its parentheses, a formula, and `)`: both, and the index after the parenthesis.
 #[cycle(formula)]
+#[tactic(auto, using(crate::proofs::Looks::of_lists_inside))]
 fn quantified<'a>(
     alloc: Global,
     words: &[Word<'a>],
     at: usize,
-) -> Result<(Vec<Group<'a>>, Box<Formula<'a>>, usize), WordFault>
-    ensures after { IfOk result (λ r. IsAfter words.now at r.2) }
-    ensures read { IfOk result (λ r. IsRead the_quantified words.now at (groups_of r.0, formula_of r.1.value) r.2) }
-    ensures told { IfErr result (λ refusal. IsTold the_quantified words.now at refusal) }
+) -> Result<((Vec<Group<'a>>, Box<Formula<'a>>), usize), WordFault>
+    ensures { Reads (phrase the_quantified) words.now at (λ q. (groups_of q.0, formula_of q.1.value)) result }
 {
     let inside = open(words, at, Place::Elsewhere)?;
     let (variables, next) = typed(alloc, words, inside, Listed::Variables)?;
     let (part, next) = last(alloc, words, next)?;
-    Ok((variables, part, next))
+    Ok(((variables, part), next))
 }
 
 /// A formula in its parentheses, and `)`: the formula, and the index after the last parenthesis.
@@ -128,9 +121,7 @@ pub(crate) fn last<'a>(
     words: &[Word<'a>],
     at: usize,
 ) -> Result<(Box<Formula<'a>>, usize), WordFault>
-    ensures after { IfOk result (λ r. IsAfter words.now at r.1) }
-    ensures read { IfOk result (λ r. IsRead the_last words.now at (formula_of r.0.value) r.1) }
-    ensures told { IfErr result (λ refusal. IsTold the_last words.now at refusal) }
+    ensures { Reads (phrase the_last) words.now at (λ f. formula_of f.value) result }
 {
     let (part, next) = part(alloc, words, at)?;
     let next = close(words, next)?;
@@ -139,14 +130,13 @@ pub(crate) fn last<'a>(
 
 /// A formula in its parentheses, and the index after them.
 #[cycle(formula)]
+#[tactic(auto, using(crate::proofs::Looks::of_lists_inside))]
 pub(crate) fn part<'a>(
     alloc: Global,
     words: &[Word<'a>],
     at: usize,
 ) -> Result<(Box<Formula<'a>>, usize), WordFault>
-    ensures after { IfOk result (λ r. IsAfter words.now at r.1) }
-    ensures read { IfOk result (λ r. IsRead (the (listed wants_formula)) words.now at (formula_of r.0.value) r.1) }
-    ensures told { IfErr result (λ refusal. IsTold (the (listed wants_formula)) words.now at refusal) }
+    ensures { Reads (part (listed wants_formula)) words.now at (λ f. formula_of f.value) result }
 {
     let inside = open(words, at, Place::Elsewhere)?;
     let (part, next) = formula(alloc, words, inside)?;
@@ -156,14 +146,13 @@ pub(crate) fn part<'a>(
 
 /// Formulas, and `)`: the formulas, and the index after the parenthesis.
 #[cycle(formula)]
+#[tactic(auto, using(crate::proofs::Looks::of_lists))]
 fn formulas<'a>(
     alloc: Global,
     words: &[Word<'a>],
     at: usize,
 ) -> Result<(Vec<Formula<'a>>, usize), WordFault>
-    ensures after { IfOk result (λ r. IsAfter words.now at r.1) }
-    ensures read { IfOk result (λ r. IsRead (the (many (listed wants_formula))) words.now at (map formula_of r.0.items) r.1) }
-    ensures told { IfErr result (λ refusal. IsTold (the (many (listed wants_formula))) words.now at refusal) }
+    ensures { Reads (part (many (listed wants_formula))) words.now at (λ parts. map formula_of parts.items) result }
 {
     let mut parts = Vec::new(alloc);
     let mut next = at;

@@ -1,64 +1,82 @@
-//! Lists of names, of terms and of keys, up to the parenthesis that closes them.
-ghost use Rattle.std.specs.Prelude.{IfOk, IfErr, map};
-ghost use Rattle.model.specs.Grammar.{many, a_name, term as wants_term};
+//! Lists up to the parenthesis that closes them, whatever they are of.
+ghost use Rattle.std.specs.Prelude.{map};
+ghost use Rattle.model.specs.Grammar.{Sort, Value, many, a_name, term as wants_term, key as wants_key};
 ghost use Rattle.pddl_words.specs.Name.{name_of, term_of};
-ghost use Rattle.pddl_tree.specs.Reading.{the, IsAfter, IsRead, IsTold, keys_dropped};
-ghost use Rattle.faults.specs.declared.refused.Refused.TheVariants.{At};
+ghost use Rattle.pddl_tree.specs.Reading.{part, Reads};
 
-use crate::look::{is_close, key, name, term};
-use pddl_words::{Name, Term, WordFault, WordRefusal};
+use crate::look::{is_close, name, term};
+use crate::refusal::{Place, refusal};
+use faults::Refused;
+use pddl_words::{Keyword, Name, Term, Token, WordFault, token_at};
 use std::alloc::Global;
 use tokens::Word;
 
-/// Names, and `)`: the names, and the index after the parenthesis.
-pub(crate) fn names<'a>(
+/// What a list may be of.
+pub(crate) trait Item<'a>: Sized + Drop {
+    ghost sort: { Sort };
+
+    ghost view: { Self → Value sort };
+
+    /// One of them, and the index after it.
+    fn read(alloc: Global, words: &[Word<'a>], at: usize) -> Result<(Self, usize), WordFault>
+        ensures { Reads (part sort) words.now at view result };
+}
+
+/// Items, and `)`: the items, and the index after the parenthesis.
+#[tactic(auto, using(crate::proofs::Looks::of_lists))]
+pub(crate) fn list<'a, T: Item<'a>>(
     alloc: Global,
     words: &[Word<'a>],
     at: usize,
-) -> Result<(Vec<Name<'a>>, usize), WordFault>
-    ensures after { IfOk result (λ r. IsAfter words.now at r.1) }
-    ensures read { IfOk result (λ r. IsRead (the (many a_name)) words.now at (map name_of r.0.items) r.1) }
-    ensures told { IfErr result (λ refusal. IsTold (the (many a_name)) words.now at refusal) }
+) -> Result<(Vec<T>, usize), WordFault>
+    ensures { Reads (part (many T.sort)) words.now at (λ items. map T.view items.items) result }
 {
-    let mut names = Vec::new(alloc);
+    let mut items = Vec::new(alloc);
     let mut next = at;
-    'names: while !is_close(words, next) {
-        let (name, after) = name(words, next)?;
-        names.push(name)?;
+    'items: while !is_close(words, next) {
+        let (item, after) = T::read(alloc, words, next)?;
+        items.push(item)?;
         next = after;
     }
-    Ok((names, next + 1))
+    Ok((items, next + 1))
 }
 
-/// Terms, and `)`: the terms, and the index after the parenthesis.
-pub(crate) fn terms<'a>(
-    alloc: Global,
-    words: &[Word<'a>],
-    at: usize,
-) -> Result<(Vec<Term<'a>>, usize), WordFault>
-    ensures after { IfOk result (λ r. IsAfter words.now at r.1) }
-    ensures read { IfOk result (λ r. IsRead (the (many wants_term)) words.now at (map term_of r.0.items) r.1) }
-    ensures told { IfErr result (λ refusal. IsTold (the (many wants_term)) words.now at refusal) }
-{
-    let mut terms = Vec::new(alloc);
-    let mut next = at;
-    'terms: while !is_close(words, next) {
-        let (term, after) = term(words, next)?;
-        terms.push(term)?;
-        next = after;
+impl<'a> Item<'a> for Name<'a> {
+    ghost sort = { a_name };
+
+    ghost view = { name_of };
+
+    fn read(_alloc: Global, words: &[Word<'a>], at: usize) -> Result<(Name<'a>, usize), WordFault> {
+        let read = name(words, at)?;
+        Ok(read)
     }
-    Ok((terms, next + 1))
 }
 
-/// Keys of requirements, and `)`: the index after it. The keys switch nothing on or off.
-pub(crate) fn keys(words: &[Word], at: usize) -> Result<usize, WordRefusal>
-    ensures after { IfOk result (λ next. IsAfter words.now at next) }
-    ensures read { IfOk result (λ next. IsRead keys_dropped words.now at tt next) }
-    ensures told { IfErr result (λ refusal. IsTold keys_dropped words.now at (At refusal)) }
-{
-    let mut next = at;
-    'keys: while !is_close(words, next) {
-        next = key(words, next)?;
+impl<'a> Item<'a> for Term<'a> {
+    ghost sort = { wants_term };
+
+    ghost view = { term_of };
+
+    fn read(_alloc: Global, words: &[Word<'a>], at: usize) -> Result<(Term<'a>, usize), WordFault> {
+        let read = term(words, at)?;
+        Ok(read)
     }
-    Ok(next + 1)
+}
+
+/// A key of `:requirements`, which switches nothing on or off, so that nothing is kept of it.
+#[derive(Clone, Copy)]
+pub(crate) struct Key;
+
+impl<'a> Item<'a> for Key {
+    ghost sort = { wants_key };
+
+    ghost view = { λ _. tt };
+
+    #[tactic(auto, using(crate::proofs::Read::part_here))]
+    fn read(_alloc: Global, words: &[Word<'a>], at: usize) -> Result<(Key, usize), WordFault> {
+        match token_at(words, at) {
+            Token::Keyword(Keyword::Requirement) => Ok((Key, at + 1)),
+            _ => Err(Refused::At(refusal(words, at, Place::Keys))),
+        }
+    }
 }

@@ -1,12 +1,12 @@
 //! Literals of effects, and what stands under a `when`.
-ghost use Rattle.std.specs.Prelude.{IfOk, IfErr, map};
-ghost use Rattle.model.specs.Grammar.{many, listed, conditional as wants_conditional, conditional_literal};
+ghost use Rattle.std.specs.Prelude.{map};
+ghost use Rattle.model.specs.Grammar.{listed, conditional as wants_conditional, conditional_literal};
 ghost use Rattle.pddl_tree.specs.Literals.{the_atom, the_last_atom};
-ghost use Rattle.pddl_tree.specs.Reading.{the, IsAfter, IsRead, IsTold};
+ghost use Rattle.pddl_tree.specs.Reading.{part, phrase, Reads};
 ghost use Rattle.syntax_tree.specs.Tree.{atom_of, effect_literal_of};
 
-use crate::lists::terms;
-use crate::look::{close, is_and, is_close, open, predicate};
+use crate::lists::{Item, list};
+use crate::look::{close, is_and, open};
 use crate::refusal::{Literals, Place, refusal};
 use faults::Refused;
 use pddl_words::{ReservedName, Token, WordFault, token_at};
@@ -15,57 +15,50 @@ use syntax_tree::{Atom, EffectLiteral};
 use tokens::Word;
 
 /// What stands under a `when`, of which the `(` was read, and the index after its `)`: literals.
+#[tactic(auto, using(crate::proofs::Looks::of_conditional))]
 pub(crate) fn conditional<'a>(
     alloc: Global,
     words: &[Word<'a>],
     at: usize,
 ) -> Result<(Vec<EffectLiteral<'a>>, usize), WordFault>
-    ensures after { IfOk result (λ r. IsAfter words.now at r.1) }
-    ensures read { IfOk result (λ r. IsRead (the wants_conditional) words.now at (map effect_literal_of r.0.items) r.1) }
-    ensures told { IfErr result (λ refusal. IsTold (the wants_conditional) words.now at refusal) }
+    ensures { Reads (part wants_conditional) words.now at (λ ls. map effect_literal_of ls.items) result }
 {
     if is_and(words, at) {
-        return literals(alloc, words, at + 1);
+        return list(alloc, words, at + 1);
     }
     let (literal, next) = literal(alloc, words, at)?;
     let literals = vec![in alloc; literal]?;
     Ok((literals, next))
 }
 
-/// Literals under a `when`, and `)`: the literals, and the index after the parenthesis.
-fn literals<'a>(
-    alloc: Global,
-    words: &[Word<'a>],
-    at: usize,
-) -> Result<(Vec<EffectLiteral<'a>>, usize), WordFault>
-    ensures after { IfOk result (λ r. IsAfter words.now at r.1) }
-    ensures read { IfOk result (λ r. IsRead (the (many (listed conditional_literal))) words.now at (map effect_literal_of r.0.items) r.1) }
-    ensures told { IfErr result (λ refusal. IsTold (the (many (listed conditional_literal))) words.now at refusal) }
-{
-    let mut literals = Vec::new(alloc);
-    let mut next = at;
-    'literals: while !is_close(words, next) {
-        let inside = open(words, next, Place::Elsewhere)?;
-        let (literal, after) = literal(alloc, words, inside)?;
-        literals.push(literal)?;
-        next = after;
+impl<'a> Item<'a> for EffectLiteral<'a> {
+    ghost sort = { listed conditional_literal };
+
+    ghost view = { effect_literal_of };
+
+    #[tactic(auto, using(crate::proofs::Looks::of_lists_inside))]
+    fn read(
+        alloc: Global,
+        words: &[Word<'a>],
+        at: usize,
+    ) -> Result<(EffectLiteral<'a>, usize), WordFault> {
+        let inside = open(words, at, Place::Elsewhere)?;
+        literal(alloc, words, inside)
     }
-    Ok((literals, next + 1))
 }
 
 /// A literal under a `when`, of which the `(` was read, and the index after its `)`.
+#[tactic(auto, using(crate::proofs::Read::part_here))]
 fn literal<'a>(
     alloc: Global,
     words: &[Word<'a>],
     at: usize,
 ) -> Result<(EffectLiteral<'a>, usize), WordFault>
-    ensures after { IfOk result (λ r. IsAfter words.now at r.1) }
-    ensures read { IfOk result (λ r. IsRead (the conditional_literal) words.now at (effect_literal_of r.0) r.1) }
-    ensures told { IfErr result (λ refusal. IsTold (the conditional_literal) words.now at refusal) }
+    ensures { Reads (part conditional_literal) words.now at effect_literal_of result }
 {
     match token_at(words, at) {
         Token::Free(_, predicate) => {
-            let (terms, next) = terms(alloc, words, at + 1)?;
+            let (terms, next) = list(alloc, words, at + 1)?;
             Ok((EffectLiteral::Add(Atom { predicate, terms }), next))
         }
         Token::Reserved(ReservedName::Not, _) => {
@@ -77,15 +70,14 @@ fn literal<'a>(
 }
 
 /// An atom in its parentheses, and `)`: the atom, and the index after the last parenthesis.
+#[tactic(auto, using(crate::proofs::Looks::of_lists_inside))]
 pub(crate) fn last_atom<'a>(
     alloc: Global,
     words: &[Word<'a>],
     at: usize,
     literals: Literals,
 ) -> Result<(Atom<'a>, usize), WordFault>
-    ensures after { IfOk result (λ r. IsAfter words.now at r.1) }
-    ensures read { IfOk result (λ r. IsRead (the_last_atom literals) words.now at (atom_of r.0) r.1) }
-    ensures told { IfErr result (λ refusal. IsTold (the_last_atom literals) words.now at refusal) }
+    ensures { Reads (phrase (the_last_atom literals)) words.now at atom_of result }
 {
     let inside = open(words, at, Place::Elsewhere)?;
     let (atom, next) = atom(alloc, words, inside, literals)?;
@@ -94,17 +86,20 @@ pub(crate) fn last_atom<'a>(
 }
 
 /// An atom whose `(` was read, and the index after its `)`.
+#[tactic(auto, using(crate::proofs::Read::part_here))]
 fn atom<'a>(
     alloc: Global,
     words: &[Word<'a>],
     at: usize,
     literals: Literals,
 ) -> Result<(Atom<'a>, usize), WordFault>
-    ensures after { IfOk result (λ r. IsAfter words.now at r.1) }
-    ensures read { IfOk result (λ r. IsRead (the_atom literals) words.now at (atom_of r.0) r.1) }
-    ensures told { IfErr result (λ refusal. IsTold (the_atom literals) words.now at refusal) }
+    ensures { Reads (phrase (the_atom literals)) words.now at atom_of result }
 {
-    let (predicate, next) = predicate(words, at, literals.place())?;
-    let (terms, next) = terms(alloc, words, next)?;
-    Ok((Atom { predicate, terms }, next))
+    match token_at(words, at) {
+        Token::Free(_, predicate) => {
+            let (terms, next) = list(alloc, words, at + 1)?;
+            Ok((Atom { predicate, terms }, next))
+        }
+        _ => Err(Refused::At(refusal(words, at, literals.place()))),
+    }
 }

@@ -1,18 +1,17 @@
 //! Single words: what stands at an index, taken or refused.
-ghost use Rattle.std.specs.Prelude.{◌≡◌, ◌<◌, IfOk, IfErr, IfSome, IsTrue, length};
+ghost use Rattle.std.specs.Prelude.{◌≡◌, ◌<◌, IfSome, IsTrue, length};
 ghost use Rattle.std.specs.Option.{option_map, option_and_then};
-ghost use Rattle.faults.specs.declared.refused.Refused.TheVariants.{At};
-ghost use Rattle.model.specs.Grammar.{a_name, action_name as wants_action_name, term as wants_term, close as wants_close, key as wants_key, either_word as wants_either, define_word, kind_word, total_cost, amount as wants_amount, number_type, minimize_word};
+ghost use Rattle.model.specs.Grammar.{a_name, action_name as wants_action_name, term as wants_term, close as wants_close, either_word as wants_either, define_word, kind_word, total_cost as wants_total_cost, amount as wants_amount, number_type, minimize_word};
 ghost use Rattle.pddl_words.specs.Name.{name_of, term_of};
 ghost use Rattle.pddl_words.specs.Token.{from, first};
 ghost use Rattle.syntax_tree.specs.Tree.{file_of};
 ghost use Rattle.pddl_tree.specs.Place.{listed_view};
-ghost use Rattle.pddl_tree.specs.Reading.{the, IsAfter, IsWord, IsTold, Opens, IsNotOpen, Heads, IsNoPredicate, closes_first, and_first};
-ghost use Rattle.pddl_tree.specs.Costs.{IsTotalCost, dash_first, increase_in};
-ghost use Rattle.pddl_tree.specs.Typed.{IsListed, IsNotListed, ends_group_first};
+ghost use Rattle.pddl_tree.specs.Reading.{part, Passes, ReadsWords, Opens, closes_first, and_first};
+ghost use Rattle.pddl_tree.specs.Costs.{dash_first, increase_in};
+ghost use Rattle.pddl_tree.specs.Typed.{NamesOne, ends_group_first};
 
 use crate::refusal::{Listed, Place, refusal};
-use pddl_words::{FreeName, Keyword, Name, ReservedName, Term, Token, WordRefusal, token_at};
+use pddl_words::{FreeName, Name, ReservedName, Term, Token, WordRefusal, token_at};
 use syntax_tree::TaskFile;
 use tokens::Word;
 
@@ -38,14 +37,14 @@ pub(crate) fn is_and(words: &[Word], at: usize) -> bool
     }
 }
 
-/// The word `increase`, where it stands at an index.
-pub(crate) fn increase_word<'a>(words: &[Word<'a>], at: usize) -> Option<Name<'a>>
-    ensures within { IfSome result (λ _. at < length words.now) }
-    ensures word { option_map name_of result ≡ option_and_then increase_in (first (from words.now at)) }
+/// Whether `-` stands at an index.
+pub(crate) fn is_dash(words: &[Word], at: usize) -> bool
+    ensures within { IsTrue result → at < length words.now }
+    ensures first { result ≡ dash_first (first (from words.now at)) }
 {
     match token_at(words, at) {
-        Token::Reserved(ReservedName::Increase, word) => Some(word),
-        _ => None,
+        Token::Dash => true,
+        _ => false,
     }
 }
 
@@ -61,23 +60,20 @@ pub(crate) fn ends_group(words: &[Word], at: usize) -> bool
     }
 }
 
-/// `)`, and the index after it.
-pub(crate) fn close(words: &[Word], at: usize) -> Result<usize, WordRefusal>
-    ensures after { IfOk result (λ next. IsAfter words.now at next) }
-    ensures word { IfOk result (λ next. IsWord wants_close words.now at tt next) }
-    ensures told { IfErr result (λ refusal. IsTold (the wants_close) words.now at (At refusal)) }
+/// The word `increase`, where it stands at an index.
+pub(crate) fn increase_word<'a>(words: &[Word<'a>], at: usize) -> Option<Name<'a>>
+    ensures within { IfSome result (λ _. at < length words.now) }
+    ensures word { option_map name_of result ≡ option_and_then increase_in (first (from words.now at)) }
 {
     match token_at(words, at) {
-        Token::Close => Ok(at + 1),
-        _ => Err(refusal(words, at, Place::Elsewhere)),
+        Token::Reserved(ReservedName::Increase, word) => Some(word),
+        _ => None,
     }
 }
 
 /// `(`, and the index after it.
 pub(crate) fn open(words: &[Word], at: usize, place: Place) -> Result<usize, WordRefusal>
-    ensures after { IfOk result (λ next. IsAfter words.now at next) }
-    ensures word { IfOk result (λ next. Opens words.now at next) }
-    ensures told { IfErr result (λ refusal. IsNotOpen words.now at place.entry refusal) }
+    ensures { Opens words.now at place.entry result }
 {
     match token_at(words, at) {
         Token::Open => Ok(at + 1),
@@ -85,30 +81,42 @@ pub(crate) fn open(words: &[Word], at: usize, place: Place) -> Result<usize, Wor
     }
 }
 
-/// A name, whichever it is, and the index after it.
-pub(crate) fn name<'a>(words: &[Word<'a>], at: usize) -> Result<(Name<'a>, usize), WordRefusal>
-    ensures after { IfOk result (λ r. IsAfter words.now at r.1) }
-    ensures word { IfOk result (λ r. IsWord a_name words.now at (name_of r.0) r.1) }
-    ensures told { IfErr result (λ refusal. IsTold (the a_name) words.now at (At refusal)) }
+/// `)`, and the index after it.
+#[tactic(auto, using(crate::proofs::Read::part_here))]
+pub(crate) fn close(words: &[Word], at: usize) -> Result<usize, WordRefusal>
+    ensures { Passes (part wants_close) words.now at tt result }
 {
-    match token_at(words, at).name() {
-        Some(name) => Ok((name, at + 1)),
-        None => Err(refusal(words, at, Place::Elsewhere)),
+    match token_at(words, at) {
+        Token::Close => Ok(at + 1),
+        _ => Err(refusal(words, at, Place::Elsewhere)),
+    }
+}
+
+/// A name, whichever it is, and the index after it.
+#[tactic(auto, using(crate::proofs::Read::part_here))]
+pub(crate) fn name<'a>(words: &[Word<'a>], at: usize) -> Result<(Name<'a>, usize), WordRefusal>
+    ensures { ReadsWords (part a_name) words.now at name_of result }
+{
+    match token_at(words, at) {
+        Token::Free(_, name) => Ok((name, at + 1)),
+        Token::Reserved(_, name) => Ok((name, at + 1)),
+        _ => Err(refusal(words, at, Place::Elsewhere)),
     }
 }
 
 /// The name of an action, and the index after it.
+#[tactic(auto, using(crate::proofs::Read::part_here))]
 pub(crate) fn action_name<'a>(
     words: &[Word<'a>],
     at: usize,
 ) -> Result<(Name<'a>, usize), WordRefusal>
-    ensures after { IfOk result (λ r. IsAfter words.now at r.1) }
-    ensures word { IfOk result (λ r. IsWord wants_action_name words.now at (name_of r.0) r.1) }
-    ensures told { IfErr result (λ refusal. IsTold (the wants_action_name) words.now at (At refusal)) }
+    ensures { ReadsWords (part wants_action_name) words.now at name_of result }
 {
-    match token_at(words, at).name() {
-        Some(name) => Ok((name, at + 1)),
-        None => Err(refusal(words, at, Place::Incomplete)),
+    let place = Place::Incomplete;
+    match token_at(words, at) {
+        Token::Free(_, name) => Ok((name, at + 1)),
+        Token::Reserved(_, name) => Ok((name, at + 1)),
+        _ => Err(refusal(words, at, place)),
     }
 }
 
@@ -118,9 +126,7 @@ pub(crate) fn listed_name<'a>(
     at: usize,
     listed: Listed,
 ) -> Result<(Name<'a>, usize), WordRefusal>
-    ensures after { IfOk result (λ r. IsAfter words.now at r.1) }
-    ensures word { IfOk result (λ r. IsListed (listed_view listed) words.now at (name_of r.0) r.1) }
-    ensures told { IfErr result (λ refusal. IsNotListed (listed_view listed) words.now at refusal) }
+    ensures { NamesOne (listed_view listed) words.now at result }
 {
     let token = token_at(words, at);
     let name = match listed {
@@ -134,52 +140,22 @@ pub(crate) fn listed_name<'a>(
 }
 
 /// A term, and the index after it.
+#[tactic(auto, using(crate::proofs::Read::part_here))]
 pub(crate) fn term<'a>(words: &[Word<'a>], at: usize) -> Result<(Term<'a>, usize), WordRefusal>
-    ensures after { IfOk result (λ r. IsAfter words.now at r.1) }
-    ensures word { IfOk result (λ r. IsWord wants_term words.now at (term_of r.0) r.1) }
-    ensures told { IfErr result (λ refusal. IsTold (the wants_term) words.now at (At refusal)) }
+    ensures { ReadsWords (part wants_term) words.now at term_of result }
 {
     match token_at(words, at) {
         Token::Variable(variable) => Ok((Term::Variable(variable), at + 1)),
-        token => match token.name() {
-            Some(object) => Ok((Term::Object(object), at + 1)),
-            None => Err(refusal(words, at, Place::Elsewhere)),
-        },
-    }
-}
-
-/// A key of `:requirements`, and the index after it.
-pub(crate) fn key(words: &[Word], at: usize) -> Result<usize, WordRefusal>
-    ensures after { IfOk result (λ next. IsAfter words.now at next) }
-    ensures word { IfOk result (λ next. IsWord wants_key words.now at tt next) }
-    ensures told { IfErr result (λ refusal. IsTold (the wants_key) words.now at (At refusal)) }
-{
-    match token_at(words, at) {
-        Token::Keyword(Keyword::Requirement) => Ok(at + 1),
-        _ => Err(refusal(words, at, Place::Keys)),
-    }
-}
-
-/// A name that may be a predicate's, which heads its list, and the index after it.
-pub(crate) fn predicate<'a>(
-    words: &[Word<'a>],
-    at: usize,
-    place: Place,
-) -> Result<(Name<'a>, usize), WordRefusal>
-    ensures after { IfOk result (λ r. IsAfter words.now at r.1) }
-    ensures word { IfOk result (λ r. Heads words.now at (name_of r.0) r.1) }
-    ensures told { IfErr result (λ refusal. IsNoPredicate words.now at place.entry refusal) }
-{
-    match token_at(words, at) {
-        Token::Free(_, name) => Ok((name, at + 1)),
-        _ => Err(refusal(words, at, place)),
+        Token::Free(_, object) => Ok((Term::Object(object), at + 1)),
+        Token::Reserved(_, object) => Ok((Term::Object(object), at + 1)),
+        _ => Err(refusal(words, at, Place::Elsewhere)),
     }
 }
 
 /// `define`, and the index after it.
+#[tactic(auto, using(crate::proofs::Read::part_here))]
 pub(crate) fn define(words: &[Word], at: usize) -> Result<usize, WordRefusal>
-    ensures word { IfOk result (λ next. IsWord define_word words.now at tt next) }
-    ensures told { IfErr result (λ refusal. IsTold (the define_word) words.now at (At refusal)) }
+    ensures { Passes (part define_word) words.now at tt result }
 {
     match token_at(words, at) {
         Token::Free(FreeName::Define, _) => Ok(at + 1),
@@ -187,87 +163,10 @@ pub(crate) fn define(words: &[Word], at: usize) -> Result<usize, WordRefusal>
     }
 }
 
-/// `either`, and the index after it.
-pub(crate) fn either_word(words: &[Word], at: usize) -> Result<usize, WordRefusal>
-    ensures after { IfOk result (λ next. IsAfter words.now at next) }
-    ensures word { IfOk result (λ next. IsWord wants_either words.now at tt next) }
-    ensures told { IfErr result (λ refusal. IsTold (the wants_either) words.now at (At refusal)) }
-{
-    match token_at(words, at) {
-        Token::Reserved(ReservedName::Either, _) => Ok(at + 1),
-        _ => Err(refusal(words, at, Place::Elsewhere)),
-    }
-}
-
-/// `total-cost`, and the index after it.
-pub(crate) fn total_cost_word<'a>(
-    words: &[Word<'a>],
-    at: usize,
-) -> Result<(Name<'a>, usize), WordRefusal>
-    ensures after { IfOk result (λ r. IsAfter words.now at r.1) }
-    ensures word { IfOk result (λ r. IsTotalCost words.now at (name_of r.0) r.1) }
-    ensures told { IfErr result (λ refusal. IsTold (the total_cost) words.now at (At refusal)) }
-{
-    match token_at(words, at) {
-        Token::Reserved(ReservedName::TotalCost, name) => Ok((name, at + 1)),
-        _ => Err(refusal(words, at, Place::TotalCost)),
-    }
-}
-
-/// A number with its word, and the index after it.
-pub(crate) fn amount<'a>(
-    words: &[Word<'a>],
-    at: usize,
-) -> Result<(u32, Name<'a>, usize), WordRefusal>
-    ensures after { IfOk result (λ r. IsAfter words.now at r.2) }
-    ensures word { IfOk result (λ r. IsWord wants_amount words.now at (r.0, name_of r.1) r.2) }
-    ensures told { IfErr result (λ refusal. IsTold (the wants_amount) words.now at (At refusal)) }
-{
-    match token_at(words, at) {
-        Token::Number(number, name) => Ok((number, name, at + 1)),
-        _ => Err(refusal(words, at, Place::Amount)),
-    }
-}
-
-/// Whether `-` stands at an index.
-pub(crate) fn is_dash(words: &[Word], at: usize) -> bool
-    ensures within { IsTrue result → at < length words.now }
-    ensures first { result ≡ dash_first (first (from words.now at)) }
-{
-    match token_at(words, at) {
-        Token::Dash => true,
-        _ => false,
-    }
-}
-
-/// `number`, the type of a function, and the index after it.
-pub(crate) fn number_word(words: &[Word], at: usize) -> Result<usize, WordRefusal>
-    ensures after { IfOk result (λ next. IsAfter words.now at next) }
-    ensures word { IfOk result (λ next. IsWord number_type words.now at tt next) }
-    ensures told { IfErr result (λ refusal. IsTold (the number_type) words.now at (At refusal)) }
-{
-    match token_at(words, at) {
-        Token::Free(FreeName::NumberWord, _) => Ok(at + 1),
-        _ => Err(refusal(words, at, Place::Elsewhere)),
-    }
-}
-
-/// `minimize`, and the index after it.
-pub(crate) fn minimize(words: &[Word], at: usize) -> Result<usize, WordRefusal>
-    ensures after { IfOk result (λ next. IsAfter words.now at next) }
-    ensures word { IfOk result (λ next. IsWord minimize_word words.now at tt next) }
-    ensures told { IfErr result (λ refusal. IsTold (the minimize_word) words.now at (At refusal)) }
-{
-    match token_at(words, at) {
-        Token::Free(FreeName::Minimize, _) => Ok(at + 1),
-        _ => Err(refusal(words, at, Place::Metric)),
-    }
-}
-
 /// `domain` or `problem`, as the file is, and the index after it.
+#[tactic(auto, using(crate::proofs::Read::part_here))]
 pub(crate) fn kind(words: &[Word], at: usize, file: TaskFile) -> Result<usize, WordRefusal>
-    ensures word { IfOk result (λ next. IsWord (kind_word (file_of file)) words.now at tt next) }
-    ensures told { IfErr result (λ refusal. IsTold (the (kind_word (file_of file))) words.now at (At refusal)) }
+    ensures { Passes (part (kind_word (file_of file))) words.now at tt result }
 {
     match file {
         TaskFile::Domain => match token_at(words, at) {
@@ -278,5 +177,69 @@ pub(crate) fn kind(words: &[Word], at: usize, file: TaskFile) -> Result<usize, W
             Token::Free(FreeName::Problem, _) => Ok(at + 1),
             _ => Err(refusal(words, at, Place::Elsewhere)),
         },
+    }
+}
+
+/// `either`, and the index after it.
+#[tactic(auto, using(crate::proofs::Read::part_here))]
+pub(crate) fn either_word(words: &[Word], at: usize) -> Result<usize, WordRefusal>
+    ensures { Passes (part wants_either) words.now at tt result }
+{
+    match token_at(words, at) {
+        Token::Reserved(ReservedName::Either, _) => Ok(at + 1),
+        _ => Err(refusal(words, at, Place::Elsewhere)),
+    }
+}
+
+/// `total-cost` and its `)`: the name, and the index after the parenthesis.
+#[tactic(auto, using(crate::proofs::Read::part_here))]
+pub(crate) fn total_cost<'a>(
+    words: &[Word<'a>],
+    at: usize,
+) -> Result<(Name<'a>, usize), WordRefusal>
+    ensures { ReadsWords (part wants_total_cost) words.now at name_of result }
+{
+    match token_at(words, at) {
+        Token::Reserved(ReservedName::TotalCost, name) => {
+            let next = close(words, at + 1)?;
+            Ok((name, next))
+        }
+        _ => Err(refusal(words, at, Place::TotalCost)),
+    }
+}
+
+/// A number with its word, and the index after it.
+#[tactic(auto, using(crate::proofs::Read::part_here))]
+pub(crate) fn amount<'a>(
+    words: &[Word<'a>],
+    at: usize,
+) -> Result<((u32, Name<'a>), usize), WordRefusal>
+    ensures { ReadsWords (part wants_amount) words.now at (λ v. (v.0, name_of v.1)) result }
+{
+    match token_at(words, at) {
+        Token::Number(number, name) => Ok(((number, name), at + 1)),
+        _ => Err(refusal(words, at, Place::Amount)),
+    }
+}
+
+/// `number`, the type of a function, and the index after it.
+#[tactic(auto, using(crate::proofs::Read::part_here))]
+pub(crate) fn number_word(words: &[Word], at: usize) -> Result<usize, WordRefusal>
+    ensures { Passes (part number_type) words.now at tt result }
+{
+    match token_at(words, at) {
+        Token::Free(FreeName::NumberWord, _) => Ok(at + 1),
+        _ => Err(refusal(words, at, Place::Elsewhere)),
+    }
+}
+
+/// `minimize`, and the index after it.
+#[tactic(auto, using(crate::proofs::Read::part_here))]
+pub(crate) fn minimize(words: &[Word], at: usize) -> Result<usize, WordRefusal>
+    ensures { Passes (part minimize_word) words.now at tt result }
+{
+    match token_at(words, at) {
+        Token::Free(FreeName::Minimize, _) => Ok(at + 1),
+        _ => Err(refusal(words, at, Place::Metric)),
     }
 }

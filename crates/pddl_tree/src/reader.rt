@@ -9,22 +9,20 @@
 //! each stands at most once and their order is free. And where it stops, it says by a number why.
 ghost use Rattle.std.specs.Prelude.{◌≡◌, List, map, IfOk, IfErr, IsErrAnd, IfSome, IsSome, None, [], ⊤};
 ghost use Rattle.faults.specs.Fault.{told_by};
-ghost use Rattle.faults.specs.declared.refused.Refused.TheVariants.{At};
 ghost use Rattle.tokens.specs.Word.{word_of};
 ghost use Rattle.model.specs.Fault as model;
 ghost use Rattle.model.specs.Words as text;
 ghost use Rattle.model.specs.Trees.{File, domain_file, problem_file};
 ghost use Rattle.model.specs.GrammarWords.{tokens_of};
-ghost use Rattle.model.specs.Grammar.{EachIsOneDomain, EachIsOneProblem, IsDomain, IsProblem, IsFile, Tree, tree_from, file as wants_file, gives};
-ghost use Rattle.model.specs.Refusals.{IsWhole, IsRefused, span_of_place, start};
+ghost use Rattle.model.specs.Grammar.{EachIsOneDomain, EachIsOneProblem, IsDomain, IsProblem, IsFile, tree_from};
+ghost use Rattle.model.specs.Refusals.{IsWhole, IsRefused, span_of_place};
 ghost use Rattle.model.specs.GrammarExamples.{AreAsTold};
-ghost use Rattle.model.specs.GrammarMachine.{run, finished};
 ghost use Rattle.pddl_words.specs.Name.{name_of};
 ghost use Rattle.pddl_words.specs.Token.{from};
 ghost use Rattle.pddl_words.specs.Refusal.{told, fault_of};
-ghost use Rattle.pddl_tree.specs.Reading.{the, IsTold, StopsAs};
-ghost use Rattle.pddl_tree.specs.Sections.{contents_of};
-ghost use Rattle.pddl_tree.specs.Head.{HasHead, HasNoHead, after_head, sections_and};
+ghost use Rattle.pddl_tree.specs.Reading.{phrase, Stops};
+ghost use Rattle.pddl_tree.specs.Sections.{contents_of, sections_on};
+ghost use Rattle.pddl_tree.specs.Head.{HasHead, HasNoHead, ReadsHead, ReadsAll, no_more};
 ghost use Rattle.syntax_tree.specs.Tree.{file_of, domain_of, problem_of};
 
 use crate::look::{close, define, kind, name, open};
@@ -185,52 +183,51 @@ fn file<'a>(
     ensures taken { IsWhole (file_of file) (tokens_of (map word_of words.now)) → IfErr result (λ fault. told_by fault ≡ None) }
     ensures head { HasNoHead (file_of file) (tokens_of (map word_of words.now)) → IsErrAnd result (λ fault. IsSome (told_by fault)) }
 {
-    let name = match head(words, file) {
-        Ok(name) => name,
+    let (name, at) = match head(words, file) {
+        Ok(head) => head,
         Err(refusal) => return Err(fault(words, Refused::At(refusal))),
     };
     let mut contents = Contents::new(alloc);
-    match rest(alloc, words, file, name, &mut contents) {
+    match rest(alloc, words, at, file, &mut contents) {
         Ok(()) => Ok((name, contents)),
         Err(refusal) => Err(fault(words, refusal)),
     }
 }
 
-/// What follows the head of a file of this name, taken into the contents, or the refused word.
+/// What follows the head of a file, taken into the contents, or the refused word.
 fn rest<'a>(
     alloc: Global,
     words: &[Word<'a>],
+    at: usize,
     file: TaskFile,
-    name: Name<'a>,
     contents: &mut Contents<'a>,
 ) -> Result<(), WordFault>
-    ensures read { IfOk result (λ _. run (from words.now 6) (sections_and (file_of file) (name_of name.entry) (contents_of contents.old)) ≡ finished (tree_from (file_of file) (name_of name.entry) (contents_of contents.new))) }
-    ensures told { IfErr result (λ refusal. StopsAs words.now 6 (sections_and (file_of file) (name_of name.entry) (contents_of contents.old)) refusal) }
+    ensures { ReadsAll (phrase (sections_on (file_of file) [] (contents_of contents.old))) words.now at (contents_of contents.new) result }
 {
-    let next = sections(alloc, words, 6, file, contents)?;
+    let next = sections(alloc, words, at, file, contents)?;
     end(words, next)?;
     Ok(())
 }
 
-/// `( define ( domain NAME )`, or `problem` in place of `domain`: the name.
-fn head<'a>(words: &[Word<'a>], file: TaskFile) -> Result<Name<'a>, WordRefusal>
+/// `( define ( domain NAME )`, or `problem` in place of `domain`: the name, and the index after the parenthesis.
+#[tactic(auto, using(crate::proofs::Heads::of_heads))]
+fn head<'a>(words: &[Word<'a>], file: TaskFile) -> Result<(Name<'a>, usize), WordRefusal>
     ensures head { IfOk result (λ _. HasHead (file_of file) (from words.now 0)) }
-    ensures read { IfOk result (λ name. run (from words.now 0) (start (file_of file)) ≡ run (from words.now 6) (after_head (file_of file) (name_of name))) }
-    ensures told { IfErr result (λ refusal. IsTold (the (wants_file (file_of file))) words.now 0 (At refusal)) }
+    ensures read { ReadsHead (file_of file) words.now result }
 {
-    open(words, 0, Place::Elsewhere)?;
-    define(words, 1)?;
-    open(words, 2, Place::Incomplete)?;
-    kind(words, 3, file)?;
-    let (name, _) = name(words, 4)?;
-    close(words, 5)?;
-    Ok(name)
+    let next = open(words, 0, Place::Elsewhere)?;
+    let next = define(words, next)?;
+    let next = open(words, next, Place::Incomplete)?;
+    let next = kind(words, next, file)?;
+    let (name, next) = name(words, next)?;
+    let next = close(words, next)?;
+    Ok((name, next))
 }
 
 /// No word stands at this index.
 fn end(words: &[Word], at: usize) -> Result<(), WordRefusal>
     ensures none { IfOk result (λ _. from words.now at ≡ []) }
-    ensures told { IfErr result (λ refusal. (tree : Tree) → StopsAs words.now at (gives tree) (At refusal)) }
+    ensures told { IfErr result (λ refusal. Stops words.now (no_more (from words.now at)) refusal) }
 {
     if at < words.len() {
         Err(refusal(words, at, Place::Elsewhere))

@@ -1,9 +1,7 @@
 //! What is told of a word that may not stand where it does: the table of refusals, by what is wanted at the place.
-ghost use Rattle.std.specs.Prelude.{◌≡◌, Some, map};
-ghost use Rattle.faults.specs.declared.refused.Refused.TheVariants.{At};
+ghost use Rattle.std.specs.Prelude.{◌≡◌, map};
 ghost use Rattle.faults.specs.Fault.{number_of};
 ghost use Rattle.pddl_words.specs.Token.{from, first, seen, free_view, reserved_view, keyword_view, part_view, section_view};
-ghost use Rattle.pddl_words.specs.Refusal.{told};
 ghost use Rattle.model.specs.Trees.{Name};
 ghost use Rattle.model.specs.Grammar as grammar;
 ghost use Rattle.model.specs.GrammarWords as model_words;
@@ -130,7 +128,8 @@ pub(crate) fn has_section(sections: &[SectionKeyword], section: SectionKeyword) 
 
 /// The refusal of the word at an index.
 pub(crate) fn refusal(words: &[Word], at: usize, place: Place) -> WordRefusal
-    ensures { told (At result) ≡ Some (number_seen (wanted place.entry) (first (from words.now at)), at) }
+    ensures number { number_of result.code ≡ number_seen (wanted place.entry) (first (from words.now at)) }
+    ensures at { result.at ≡ at }
 {
     WordRefusal {
         code: code_of(token_at(words, at), place),

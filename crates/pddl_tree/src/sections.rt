@@ -1,20 +1,18 @@
 //! The sections of a file, one loop for both kinds.
 ghost use Rattle.std.specs.Prelude.{◌≡◌, ◌+◌, [], IfOk, IfErr, map, Some, true, false};
 ghost use Rattle.std.specs.List.{list_all};
-ghost use Rattle.faults.specs.declared.refused.Refused.TheVariants.{At};
-ghost use Rattle.model.specs.GrammarWords.{keyword, of_section};
+ghost use Rattle.model.specs.GrammarWords.{opens, keyword, of_section};
 ghost use Rattle.model.specs.Grammar as grammar;
 ghost use Rattle.pddl_words.specs.Name.{name_of};
 ghost use Rattle.pddl_words.specs.Token.{from, first, section_view};
-ghost use Rattle.pddl_tree.specs.Reading.{the, IsAfter, IsRead, IsTold, GoesOn, Opens, closes_first};
+ghost use Rattle.pddl_tree.specs.Reading.{part, phrase, ReadsInto, ReadsWords, GoesOn, Stops, closes_first};
 ghost use Rattle.syntax_tree.specs.Tree.{file_of};
-ghost use Rattle.pddl_tree.specs.Sections.{contents_of, sections_on, the_domain, IsNotNew, IsSection};
+ghost use Rattle.pddl_tree.specs.Sections.{contents_of, sections_on, section_into, the_domain, IsNotNew};
 
 use crate::action::action;
 use crate::costs::{functions, metric};
-use crate::declared::{declarations, facts};
 use crate::formulas::last;
-use crate::lists::keys;
+use crate::lists::{Key, list};
 use crate::look::{close, is_close, name, open};
 use crate::put::put;
 use crate::refusal::{Listed, Place, allowed, has_section, refusal, required};
@@ -72,9 +70,7 @@ pub(crate) fn sections<'a>(
     file: TaskFile,
     contents: &mut Contents<'a>,
 ) -> Result<usize, WordFault>
-    ensures after { IfOk result (λ next. IsAfter words.now at next) }
-    ensures read { IfOk result (λ next. IsRead (sections_on (file_of file) [] (contents_of contents.old)) words.now at (contents_of contents.new) next) }
-    ensures told { IfErr result (λ refusal. IsTold (sections_on (file_of file) [] (contents_of contents.old)) words.now at refusal) }
+    ensures { ReadsInto (phrase (sections_on (file_of file) [] (contents_of contents.old))) words.now at (contents_of contents.new) result }
 {
     let mut seen = Vec::new(alloc);
     let mut next = at;
@@ -98,9 +94,7 @@ fn section<'a>(
     seen: &mut Vec<SectionKeyword>,
 ) -> Result<usize, WordFault>
     requires { closes_first (first (from words.now at)) ≡ false }
-    ensures after { IfOk result (λ next. IsAfter words.now at next) }
-    ensures read { IfOk result (λ next. GoesOn (sections_on (file_of file) (map section_view seen.old.items) (contents_of contents.old)) words.now at (sections_on (file_of file) (map section_view seen.new.items) (contents_of contents.new)) next) }
-    ensures told { IfErr result (λ refusal. IsTold (sections_on (file_of file) (map section_view seen.old.items) (contents_of contents.old)) words.now at refusal) }
+    ensures { GoesOn (phrase (sections_on (file_of file) (map section_view seen.old.items) (contents_of contents.old))) (phrase (sections_on (file_of file) (map section_view seen.new.items) (contents_of contents.new))) words.now at result }
 {
     let keyword = section_head(words, at, file, seen)?;
     let next = section_rest(alloc, words, at + 2, keyword, contents)?;
@@ -132,10 +126,10 @@ fn section_head(
     file: TaskFile,
     seen: &[SectionKeyword],
 ) -> Result<SectionKeyword, WordRefusal>
-    ensures opens { IfOk result (λ _. Opens words.now at (at + 1)) }
+    ensures opens { IfOk result (λ _. first (from words.now at) ≡ Some opens) }
     ensures word { IfOk result (λ section. first (from words.now (at + 1)) ≡ Some (keyword (of_section (section_view section)))) }
     ensures new { IfOk result (λ section. (grammar.has_section (grammar.sections_of (file_of file)) (section_view section) ≡ true) × (grammar.has_section (map section_view seen.now) (section_view section) ≡ false)) }
-    ensures told { IfErr result (λ refusal. closes_first (first (from words.now at)) ≡ false → IsTold (the (grammar.sections (file_of file) (map section_view seen.now))) words.now at (At refusal)) }
+    ensures told { IfErr result (λ refusal. closes_first (first (from words.now at)) ≡ false → Stops words.now (part (grammar.sections (file_of file) (map section_view seen.now)) (from words.now at)) refusal) }
 {
     if has_all(seen, allowed(file)) {
         return Err(refusal(words, at, Place::Incomplete));
@@ -175,20 +169,16 @@ fn section_rest<'a>(
     keyword: SectionKeyword,
     contents: &mut Contents<'a>,
 ) -> Result<usize, WordFault>
-    ensures after { IfOk result (λ next. IsAfter words.now at next) }
-    ensures read { IfOk result (λ next. IsSection (section_view keyword) words.now at (contents_of contents.old) (contents_of contents.new) next) }
-    ensures told { IfErr result (λ refusal. IsTold (grammar.section_after (section_view keyword)) words.now at refusal) }
+    ensures { ReadsInto (phrase (section_into (section_view keyword) (contents_of contents.old))) words.now at (contents_of contents.new) result }
 {
     let next;
     match keyword {
-        SectionKeyword::Requirements => next = keys(words, at)?,
+        SectionKeyword::Requirements => (_, next) = list::<Key>(alloc, words, at)?,
         SectionKeyword::Types => (contents.types, next) = typed(alloc, words, at, Listed::Names)?,
         SectionKeyword::Constants => {
             (contents.constants, next) = typed(alloc, words, at, Listed::Names)?
         }
-        SectionKeyword::Predicates => {
-            (contents.predicates, next) = declarations(alloc, words, at)?
-        }
+        SectionKeyword::Predicates => (contents.predicates, next) = list(alloc, words, at)?,
         SectionKeyword::Functions => (contents.functions, next) = functions(alloc, words, at)?,
         SectionKeyword::Action => {
             let (action, end) = action(alloc, words, at)?;
@@ -199,7 +189,7 @@ fn section_rest<'a>(
         SectionKeyword::Objects => {
             (contents.objects, next) = typed(alloc, words, at, Listed::Names)?
         }
-        SectionKeyword::Init => (contents.init, next) = facts(alloc, words, at)?,
+        SectionKeyword::Init => (contents.init, next) = list(alloc, words, at)?,
         SectionKeyword::Goal => {
             let (goal, end) = last(alloc, words, at)?;
             put(&mut contents.goal, Box::into_inner(goal));
@@ -216,9 +206,7 @@ fn section_rest<'a>(
 
 /// A name, and `)`: the name, and the index after the parenthesis.
 fn domain_name<'a>(words: &[Word<'a>], at: usize) -> Result<(Name<'a>, usize), WordRefusal>
-    ensures after { IfOk result (λ r. IsAfter words.now at r.1) }
-    ensures read { IfOk result (λ r. IsRead the_domain words.now at (name_of r.0) r.1) }
-    ensures told { IfErr result (λ refusal. IsTold the_domain words.now at (At refusal)) }
+    ensures { ReadsWords (phrase the_domain) words.now at name_of result }
 {
     let (name, next) = name(words, at)?;
     let next = close(words, next)?;

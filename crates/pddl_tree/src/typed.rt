@@ -1,14 +1,14 @@
 //! Typed lists, up to the parenthesis that closes them: names, or variables, in groups of one type.
-ghost use Rattle.std.specs.Prelude.{◌≡◌, IfOk, IfErr, map, false};
+ghost use Rattle.std.specs.Prelude.{◌≡◌, map, false};
 ghost use Rattle.model.specs.Grammar.{typed as wants_typed, type as wants_type};
 ghost use Rattle.pddl_words.specs.Name.{name_of};
 ghost use Rattle.pddl_words.specs.Token.{from, first};
 ghost use Rattle.pddl_tree.specs.Place.{listed_view};
-ghost use Rattle.pddl_tree.specs.Reading.{the, IsAfter, IsRead, IsTold, closes_first};
+ghost use Rattle.pddl_tree.specs.Reading.{part, phrase, Reads, ReadsOne, closes_first};
 ghost use Rattle.syntax_tree.specs.Tree.{group_of, groups_of};
-ghost use Rattle.pddl_tree.specs.Typed.{IsOne, groups as groups_and, the_either};
+ghost use Rattle.pddl_tree.specs.Typed.{the_either};
 
-use crate::lists::names;
+use crate::lists::list;
 use crate::look::{either_word, ends_group, is_close, listed_name, name};
 use crate::refusal::{Listed, Place, refusal};
 use faults::Refused;
@@ -18,15 +18,14 @@ use syntax_tree::Group;
 use tokens::Word;
 
 /// A typed list, and `)`: its groups, and the index after the parenthesis.
+#[tactic(auto, using(crate::proofs::Groups::of_typed))]
 pub(crate) fn typed<'a>(
     alloc: Global,
     words: &[Word<'a>],
     at: usize,
     listed: Listed,
 ) -> Result<(Vec<Group<'a>>, usize), WordFault>
-    ensures after { IfOk result (λ r. IsAfter words.now at r.1) }
-    ensures read { IfOk result (λ r. IsRead (the (wants_typed (listed_view listed))) words.now at (groups_of r.0) r.1) }
-    ensures told { IfErr result (λ refusal. IsTold (the (wants_typed (listed_view listed))) words.now at refusal) }
+    ensures { Reads (part (wants_typed (listed_view listed))) words.now at groups_of result }
 {
     let mut groups = Vec::new(alloc);
     let mut next = at;
@@ -39,6 +38,7 @@ pub(crate) fn typed<'a>(
 }
 
 /// Names, and their types after a `-`, or none before a `)`: the group, and the index of what follows it.
+#[tactic(auto, using(crate::proofs::Groups::of_groups))]
 fn group<'a>(
     alloc: Global,
     words: &[Word<'a>],
@@ -46,9 +46,7 @@ fn group<'a>(
     listed: Listed,
 ) -> Result<(Group<'a>, usize), WordFault>
     requires { closes_first (first (from words.now at)) ≡ false }
-    ensures after { IfOk result (λ r. IsAfter words.now at r.1) }
-    ensures read { IfOk result (λ r. IsOne (groups_and (listed_view listed)) words.now at (group_of r.0) r.1) }
-    ensures told { IfErr result (λ refusal. IsTold (the (wants_typed (listed_view listed))) words.now at refusal) }
+    ensures { ReadsOne (part (wants_typed (listed_view listed))) words.now at group_of result }
 {
     let (first, mut next) = listed_name(words, at, listed)?;
     let mut names = vec![in alloc; first]?;
@@ -66,25 +64,23 @@ fn group<'a>(
 }
 
 /// The type after a `-`, or the types of an `either`, and the index after it.
+#[tactic(auto, using(crate::proofs::Read::part_here))]
 fn types<'a>(
     alloc: Global,
     words: &[Word<'a>],
     at: usize,
     listed: Listed,
 ) -> Result<(Vec<Name<'a>>, usize), WordFault>
-    ensures after { IfOk result (λ r. IsAfter words.now at r.1) }
-    ensures read { IfOk result (λ r. IsRead (the (wants_type (listed_view listed))) words.now at (map name_of r.0.items) r.1) }
-    ensures told { IfErr result (λ refusal. IsTold (the (wants_type (listed_view listed))) words.now at refusal) }
+    ensures { Reads (part (wants_type (listed_view listed))) words.now at (λ names. map name_of names.items) result }
 {
     match token_at(words, at) {
         Token::Open => match listed {
             Listed::Names => Err(Refused::At(refusal(words, at, Place::Type(listed)))),
             Listed::Variables => either(alloc, words, at + 1),
         },
-        token => match token.name() {
-            Some(name) => Ok((vec![in alloc; name]?, at + 1)),
-            None => Err(Refused::At(refusal(words, at, Place::Type(listed)))),
-        },
+        Token::Free(_, name) => Ok((vec![in alloc; name]?, at + 1)),
+        Token::Reserved(_, name) => Ok((vec![in alloc; name]?, at + 1)),
+        _ => Err(Refused::At(refusal(words, at, Place::Type(listed)))),
     }
 }
 
@@ -94,11 +90,9 @@ fn either<'a>(
     words: &[Word<'a>],
     at: usize,
 ) -> Result<(Vec<Name<'a>>, usize), WordFault>
-    ensures after { IfOk result (λ r. IsAfter words.now at r.1) }
-    ensures read { IfOk result (λ r. IsRead the_either words.now at (map name_of r.0.items) r.1) }
-    ensures told { IfErr result (λ refusal. IsTold the_either words.now at refusal) }
+    ensures { Reads (phrase the_either) words.now at (λ names. map name_of names.items) result }
 {
     let next = either_word(words, at)?;
     let _first = name(words, next)?;
-    names(alloc, words, next)
+    list(alloc, words, next)
 }

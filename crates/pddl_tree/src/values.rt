@@ -1,7 +1,7 @@
 //! The value of an `:effect`: an effect, and increases of the total cost.
-ghost use Rattle.std.specs.Prelude.{◌≡◌, IfOk, IfErr, map};
-ghost use Rattle.model.specs.Grammar.{listed, effect_value as wants_effect_value, item as wants_item, value_of};
-ghost use Rattle.pddl_tree.specs.Reading.{the, IsAfter, IsRead, IsTold};
+ghost use Rattle.std.specs.Prelude.{◌≡◌, IfOk, map};
+ghost use Rattle.model.specs.Grammar.{effect_value as wants_effect_value, item as wants_item, value_of};
+ghost use Rattle.pddl_tree.specs.Reading.{part, phrase, Reads};
 ghost use Rattle.pddl_tree.specs.Values.{item_tree, value_tree, the_items, changes_with, increases_with};
 ghost use Rattle.syntax_tree.specs.Tree.{effect_of, increase_of};
 
@@ -72,14 +72,13 @@ impl<'a> Entries<'a> {
 }
 
 /// The value of an `:effect` whose `(` was read, and the index after its `)`: nothing, which is `(and)`, or some items.
+#[tactic(auto, using(crate::proofs::EffectValues::of_values))]
 pub(crate) fn effect_value<'a>(
     alloc: Global,
     words: &[Word<'a>],
     at: usize,
 ) -> Result<(EffectValue<'a>, usize), WordFault>
-    ensures after { IfOk result (λ r. IsAfter words.now at r.1) }
-    ensures read { IfOk result (λ r. IsRead (the wants_effect_value) words.now at (value_tree r.0) r.1) }
-    ensures told { IfErr result (λ refusal. IsTold (the wants_effect_value) words.now at refusal) }
+    ensures { Reads (part wants_effect_value) words.now at value_tree result }
 {
     if is_close(words, at) {
         let effect = Effect::And(Vec::new(alloc));
@@ -95,14 +94,13 @@ pub(crate) fn effect_value<'a>(
 }
 
 /// Items, and `)`: their value, and the index after the parenthesis.
+#[tactic(auto, using(crate::proofs::EffectValues::of_items))]
 fn items<'a>(
     alloc: Global,
     words: &[Word<'a>],
     at: usize,
 ) -> Result<(EffectValue<'a>, usize), WordFault>
-    ensures after { IfOk result (λ r. IsAfter words.now at r.1) }
-    ensures read { IfOk result (λ r. IsRead the_items words.now at (value_tree r.0) r.1) }
-    ensures told { IfErr result (λ refusal. IsTold the_items words.now at refusal) }
+    ensures { Reads (phrase the_items) words.now at value_tree result }
 {
     let mut entries = Entries {
         changes: Vec::new(alloc),
@@ -123,10 +121,9 @@ fn items<'a>(
 }
 
 /// An item whose `(` was read, and the index after its `)`.
+#[tactic(auto, using(crate::proofs::EffectValues::one_here))]
 fn item<'a>(alloc: Global, words: &[Word<'a>], at: usize) -> Result<(Entry<'a>, usize), WordFault>
-    ensures after { IfOk result (λ r. IsAfter words.now at r.1) }
-    ensures read { IfOk result (λ r. IsRead (the wants_item) words.now at (item_tree r.0) r.1) }
-    ensures told { IfErr result (λ refusal. IsTold (the wants_item) words.now at refusal) }
+    ensures { Reads (part wants_item) words.now at item_tree result }
 {
     match increase_word(words, at) {
         Some(word) => {

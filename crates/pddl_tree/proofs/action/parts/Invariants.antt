@@ -1,14 +1,14 @@
-use Rattle.std.proofs.Common.{◌-◌, ◌≤◌, [], length, map}
-use Rattle.pddl_words.specs.Token.{part_view}
+use Rattle.std.proofs.Common.{◌≡◌, ◌-◌, ◌≤◌, [], length, map}
+use Rattle.pddl_words.specs.Token.{from, part_view}
 use Rattle.syntax_tree.specs.Tree.{action_of}
-use Rattle.pddl_tree.specs.Reading.{GoesOn}
+use Rattle.pddl_tree.specs.Reading.{phrase}
 use Rattle.pddl_tree.specs.Sections.{parts_on}
 use Rattle.pddl_tree.proofs.action.parts.Given as goal
 
 abbrev pub invariant-parts : goal.invariant-parts
 invariant-parts l = record {
   moved : l.at ≤ l.next;
-  read : GoesOn (parts_on [] (action_of l.initial.action)) l.words l.at (parts_on (map part_view l.seen.items) (action_of l.action)) l.next;
+  read : phrase (parts_on [] (action_of l.initial.action)) (from l.words l.at) ≡ phrase (parts_on (map part_view l.seen.items) (action_of l.action)) (from l.words l.next);
 }
 
 abbrev pub decreases-parts : goal.decreases-parts

@@ -1,7 +1,8 @@
 use Rattle.std.proofs.Common.{◌-◌, ◌+◌, ◌*◌, ◌≤◌, length, map}
-use Rattle.model.specs.Grammar.{listed, effect_list}
+use Rattle.model.specs.Grammar.{many, listed, effect_list}
+use Rattle.pddl_tree.specs.Reading.{part}
 use Rattle.syntax_tree.specs.Tree.{effect_of}
-use Rattle.pddl_tree.proofs.Items.{IsReadOn, items}
+use Rattle.pddl_tree.proofs.Looks.{IsReadOn}
 use Rattle.pddl_tree.proofs.effects.+effect.Given as goal
 
 -- twice the words left, and one more where a call takes none of them
@@ -23,7 +24,7 @@ decreases-effects l = 2 * (length l.words.now - l.at)
 abbrev pub invariant-effects-parts : goal.invariant-effects-parts
 invariant-effects-parts l = record {
   moved : l.at ≤ l.next;
-  read : IsReadOn (items (listed effect_list)) l.words l.at (map effect_of l.parts.items) l.next;
+  read : IsReadOn (part (many (listed effect_list))) l.words l.at (map effect_of l.parts.items) l.next;
 }
 
 abbrev pub decreases-effects-parts : goal.decreases-effects-parts

@@ -1,7 +1,8 @@
 use Rattle.std.proofs.Common.{◌-◌, ◌+◌, ◌*◌, ◌≤◌, length, map}
-use Rattle.model.specs.Grammar.{listed, formula}
+use Rattle.model.specs.Grammar.{many, listed, formula}
+use Rattle.pddl_tree.specs.Reading.{part}
 use Rattle.syntax_tree.specs.Tree.{formula_of}
-use Rattle.pddl_tree.proofs.Items.{IsReadOn, items}
+use Rattle.pddl_tree.proofs.Looks.{IsReadOn}
 use Rattle.pddl_tree.proofs.formulas.+formula.Given as goal
 
 -- twice the words left, and one more where a call takes none of them
@@ -29,7 +30,7 @@ decreases-formulas l = 2 * (length l.words.now - l.at)
 abbrev pub invariant-formulas-parts : goal.invariant-formulas-parts
 invariant-formulas-parts l = record {
   moved : l.at ≤ l.next;
-  read : IsReadOn (items (listed formula)) l.words l.at (map formula_of l.parts.items) l.next;
+  read : IsReadOn (part (many (listed formula))) l.words l.at (map formula_of l.parts.items) l.next;
 }
 
 abbrev pub decreases-formulas-parts : goal.decreases-formulas-parts

@@ -1,12 +1,8 @@
-use Rattle.faults.specs.declared.refused.Refused.TheVariants.{At}
-use Rattle.model.specs.Grammar.{gives, close}
-use Rattle.pddl_words.specs.Token.{from, first}
-use Rattle.pddl_tree.specs.Reading.{number_seen}
-use Rattle.pddl_tree.proofs.ReadOn.{told_here}
+use Rattle.std.proofs.Common.{◌∙◌, sym}
+use Rattle.pddl_words.specs.Token.{from}
+use Rattle.pddl_tree.specs.Reading.{stops}
 use Rattle.pddl_tree.proofs.Told.{trailing}
 use Rattle.pddl_tree.proofs.reader.end.Goals as goal
 
 pub returns-then-at-words-clause-told : goal.returns-then-at-words-clause-told
-returns-then-at-words-clause-told c = λ tree.
-    let words = c.args.words.now in let at = c.args.at in
-    told_here words at (gives tree) (At c.refusal.result) (number_seen close (first (from words at))) at c.refusal.ensures (trailing words at tree c.if-at-words.true)
+returns-then-at-words-clause-told c = trailing c.args.words.now c.args.at c.if-at-words.true ∙ (λ i. stops (sym c.refusal.ensures.number i) (from c.args.words.now (sym c.refusal.ensures.at i)))

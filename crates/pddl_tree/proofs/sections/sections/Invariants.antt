@@ -1,14 +1,14 @@
-use Rattle.std.proofs.Common.{◌-◌, ◌≤◌, [], length, map}
-use Rattle.pddl_words.specs.Token.{section_view}
+use Rattle.std.proofs.Common.{◌≡◌, ◌-◌, ◌≤◌, [], length, map}
+use Rattle.pddl_words.specs.Token.{from, section_view}
 use Rattle.syntax_tree.specs.Tree.{file_of}
-use Rattle.pddl_tree.specs.Reading.{GoesOn}
+use Rattle.pddl_tree.specs.Reading.{phrase}
 use Rattle.pddl_tree.specs.Sections.{contents_of, sections_on}
 use Rattle.pddl_tree.proofs.sections.sections.Given as goal
 
 abbrev pub invariant-sections : goal.invariant-sections
 invariant-sections l = record {
   moved : l.at ≤ l.next;
-  read : GoesOn (sections_on (file_of l.file) [] (contents_of l.initial.contents)) l.words l.at (sections_on (file_of l.file) (map section_view l.seen.items) (contents_of l.contents)) l.next;
+  read : phrase (sections_on (file_of l.file) [] (contents_of l.initial.contents)) (from l.words l.at) ≡ phrase (sections_on (file_of l.file) (map section_view l.seen.items) (contents_of l.contents)) (from l.words l.next);
 }
 
 abbrev pub decreases-sections : goal.decreases-sections
