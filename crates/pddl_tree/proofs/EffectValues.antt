@@ -77,9 +77,9 @@ items_start {list} {at} c i = record { done = []; read = record { goes = same (p
 
 pub items_more : {list : List Word} {at next end : ℕ} {cs cs' : List Effect} {is is' : List Increase} (x : Item) → AreItemsOn list at cs is next → part (many (listed item)) (from list next) ≡ one_of (part (many (listed item))) x (from list end) → cs' ≡ changes_with cs x → is' ≡ increases_with is x → AreItemsOn list at cs' is' end
 items_more (change e) h one c i =
-    record { done = h.done ++ change e ∷ []; read = one_more h.read one; changed = c ∙ ap (λ es. es ++ e ∷ []) h.changed ∙ sym (changes-append h.done (change e ∷ [])); increased = i ∙ h.increased ∙ sym (increases-append h.done (change e ∷ []) ∙ append-nil (increases_in h.done)) }
+    record { done = h.done ++ change e ∷ []; read = one_more (change e) h.read one; changed = c ∙ ap (λ es. es ++ e ∷ []) h.changed ∙ sym (changes-append h.done (change e ∷ [])); increased = i ∙ h.increased ∙ sym (increases-append h.done (change e ∷ []) ∙ append-nil (increases_in h.done)) }
 items_more (increase n) h one c i =
-    record { done = h.done ++ increase n ∷ []; read = one_more h.read one; changed = c ∙ h.changed ∙ sym (changes-append h.done (increase n ∷ []) ∙ append-nil (changes_in h.done)); increased = i ∙ ap (λ is. is ++ n ∷ []) h.increased ∙ sym (increases-append h.done (increase n ∷ [])) }
+    record { done = h.done ++ increase n ∷ []; read = one_more (increase n) h.read one; changed = c ∙ h.changed ∙ sym (changes-append h.done (increase n ∷ []) ∙ append-nil (changes_in h.done)); increased = i ∙ ap (λ is. is ++ n ∷ []) h.increased ∙ sym (increases-append h.done (increase n ∷ [])) }
 
 pub items_end : {list : List Word} {at next : ℕ} {cs : List Effect} {is : List Increase} → AreItemsOn list at cs is next → closes_first (first (from list next)) ≡ true → phrase the_items (from list at) ≡ made (record { effect = tree.both (effects cs); increases = is }) (from list (next + 1))
 items_end {list} {at} {next} h e =

@@ -98,8 +98,8 @@ is_dash (Some closes) e n = absurd (cc)
 is_dash o e n = absurd (cc)
 
 -- the types after its `-`
-pub group_typed : (l : Listed) {list : List Word} {at next end : ℕ} {ns ts : List Name} → IsGroupOn l list at ns next → first (from list next) ≡ Some dash → part (type l) (from list (next + 1)) ≡ made ts (from list end) → part (typed l) (from list at) ≡ one_of (part (typed l)) (record { names = ns; types = ts }) (from list end)
-group_typed l {list} {next = next} {end} {ns} {ts} h e r =
+pub group_typed : (l : Listed) {list : List Word} {at next : ℕ} (end : ℕ) {ns ts : List Name} → IsGroupOn l list at ns next → first (from list next) ≡ Some dash → part (type l) (from list (next + 1)) ≡ made ts (from list end) → part (typed l) (from list at) ≡ one_of (part (typed l)) (record { names = ns; types = ts }) (from list end)
+group_typed l {list} {next = next} end {ns} {ts} h e r =
     h.goes ∙ ap (λ r. bind r (λ gs w. made (with_names ns gs) w)) (taken (group l) list next dash e refl ∙ ap (λ r. bind r (λ us w. bind (part (typed l) w) (λ gs v. made (ends_group us ∷ gs) v))) r)
     ∙ bind_bind (part (typed l) (from list end)) (λ gs v. made (ends_group ts ∷ gs) v) (λ gs w. made (with_names ns gs) w) ∙ (λ i. bind (part (typed l) (from list end)) (λ gs w. made (names_end ns ts gs i) w))
 

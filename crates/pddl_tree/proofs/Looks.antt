@@ -116,18 +116,18 @@ pub ruleset of_lists = (item_here, end_here, append-nil, not_open, part_here)
 pub record IsReadOn {X : Type 0} (read : List Token → Reading (List X)) (list : List Word) (at : ℕ) (done : List X) (next : ℕ) : Type 0 where
   pub goes : read (from list at) ≡ bind (read (from list next)) (λ xs w. made (done ++ xs) w)
 
-pub one_more : {X : Type 0} {read : List Token → Reading (List X)} {list : List Word} {at next end : ℕ} {done : List X} {x : X} → IsReadOn read list at done next → read (from list next) ≡ one_of read x (from list end) → IsReadOn read list at (done ++ x ∷ []) end
-one_more {read = read} {list} {end = end} {done} {x} h one =
+pub one_more : {X : Type 0} {read : List Token → Reading (List X)} {list : List Word} {at next end : ℕ} {done : List X} (x : X) → IsReadOn read list at done next → read (from list next) ≡ one_of read x (from list end) → IsReadOn read list at (done ++ x ∷ []) end
+one_more {read = read} {list} {end = end} {done} x h one =
     record {
       goes = h.goes ∙ ap (λ r. bind r (λ xs w. made (done ++ xs) w)) one ∙ bind_bind (read (from list end)) (λ xs w. made (x ∷ xs) w) (λ xs w. made (done ++ xs) w)
           ∙ (λ i. bind (read (from list end)) (λ xs w. made (sym (append_assoc done (x ∷ []) xs) i) w));
     }
 
-pub on_more : {V X : Type 0} {read : List Token → Reading (List X)} (view : V → X) {list : List Word} {at next end : ℕ} (done done' : List V) {x : V} → IsReadOn read list at (map view done) next
+pub on_more : {V X : Type 0} {read : List Token → Reading (List X)} (view : V → X) {list : List Word} {at next end : ℕ} (done done' : List V) (x : V) → IsReadOn read list at (map view done) next
     → read (from list next) ≡ one_of read (view x) (from list end) → done' ≡ done ++ x ∷ [] → IsReadOn read list at (map view done') end
-on_more {X = X} {read} view {list} {at} {end = end} done done' {x} h one e =
+on_more {X = X} {read} view {list} {at} {end = end} done done' x h one e =
     let P : List X → Type 0 = λ xs. IsReadOn read list at xs end in
-    subst P (sym (ap (map view) e ∙ map-append view done (x ∷ []))) (one_more h one)
+    subst P (sym (ap (map view) e ∙ map-append view done (x ∷ []))) (one_more (view x) h one)
 
 -- an item
 pub one_item : (s : Sort) (list : List Word) (at end : ℕ) (x : Value s) → closes_first (first (from list at)) ≡ false → part s (from list at) ≡ made x (from list end) → part (many s) (from list at) ≡ one_of (part (many s)) x (from list end)

@@ -6,5 +6,5 @@ use Rattle.pddl_tree.proofs.costs.functions.Goals as goal
 pub functions-preserved : goal.functions-preserved
 functions-preserved c = record {
   moved = omega (arith, c.in_ok-function.ensures.1);
-  read = on_more name_of c.functions.functions.items _ c.functions.invariant.read c.in_ok-function.ensures.0 c.in_ok-push.ensures.items;
+  read = on_more name_of c.functions.functions.items _ _ c.functions.invariant.read c.in_ok-function.ensures.0 c.in_ok-push.ensures.items;
 }

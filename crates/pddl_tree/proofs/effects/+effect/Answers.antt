@@ -12,7 +12,7 @@ use Rattle.pddl_tree.proofs.effects.+effect.Goals as goal
 pub effects-parts-preserved : goal.effects-parts-preserved
 effects-parts-preserved t c = record {
   moved = omega (arith, c.in_ok-part.ensures.1, c.in_ok-inside.ensures.1);
-  read = on_more effect_of c.parts.parts.items _ c.parts.invariant.read (one_inside effect_list c.args.words.now c.parts.next c.in_ok-inside.inside c.in_ok-part.after _ c.in_ok-inside.ensures.0 c.in_ok-inside.ensures.1.0 c.in_ok-part.ensures.0) c.in_ok-push.ensures.items;
+  read = on_more effect_of c.parts.parts.items _ _ c.parts.invariant.read (one_inside effect_list c.args.words.now c.parts.next c.in_ok-inside.inside c.in_ok-part.after _ c.in_ok-inside.ensures.0 c.in_ok-inside.ensures.1.0 c.in_ok-part.ensures.0) c.in_ok-push.ensures.items;
 }
 
 pub compound-returns-in_ok-parts-in-And : goal.compound-returns-in_ok-parts-in-And

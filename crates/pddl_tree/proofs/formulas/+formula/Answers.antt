@@ -12,7 +12,7 @@ use Rattle.pddl_tree.proofs.formulas.+formula.Goals as goal
 pub formulas-parts-preserved : goal.formulas-parts-preserved
 formulas-parts-preserved t c = record {
   moved = omega (arith, c.in_ok-part.ensures.1, c.in_ok-inside.ensures.1);
-  read = on_more formula_of c.parts.parts.items _ c.parts.invariant.read (one_inside formula c.args.words.now c.parts.next c.in_ok-inside.inside c.in_ok-part.after _ c.in_ok-inside.ensures.0 c.in_ok-inside.ensures.1.0 c.in_ok-part.ensures.0) c.in_ok-push.ensures.items;
+  read = on_more formula_of c.parts.parts.items _ _ c.parts.invariant.read (one_inside formula c.args.words.now c.parts.next c.in_ok-inside.inside c.in_ok-part.after _ c.in_ok-inside.ensures.0 c.in_ok-inside.ensures.1.0 c.in_ok-part.ensures.0) c.in_ok-push.ensures.items;
 }
 
 pub compound-returns-in_ok-parts-in-And : goal.compound-returns-in_ok-parts-in-And

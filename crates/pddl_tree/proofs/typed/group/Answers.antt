@@ -22,4 +22,4 @@ returns-then-is_close c =
 pub returns : goal.returns
 returns c =
     let dash = is_dash (first (from c.args.words.now c.names.next)) (sym c.ends_group.ensures.first ∙ c.names-test.false) (sym c.is_close.ensures.first ∙ c.if-is_close.false) in
-    (group_typed (listed_view c.args.listed) c.names.invariant.read dash c.in_ok-types.ensures.0, (omega (arith, c.names.invariant.moved, c.in_ok-types.ensures.1), c.in_ok-types.ensures.1.1))
+    (group_typed (listed_view c.args.listed) c.in_ok-types.next c.names.invariant.read dash c.in_ok-types.ensures.0, (omega (arith, c.names.invariant.moved, c.in_ok-types.ensures.1), c.in_ok-types.ensures.1.1))

@@ -6,5 +6,5 @@ use Rattle.pddl_tree.proofs.typed.typed.Goals as goal
 pub groups-preserved : goal.groups-preserved
 groups-preserved c = record {
   moved = omega (arith, c.in_ok-group.ensures.1);
-  read = on_more group_of c.groups.groups.items _ c.groups.invariant.read c.in_ok-group.ensures.0 c.in_ok-push.ensures.items;
+  read = on_more group_of c.groups.groups.items _ _ c.groups.invariant.read c.in_ok-group.ensures.0 c.in_ok-push.ensures.items;
 }
