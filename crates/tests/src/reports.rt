@@ -27,10 +27,15 @@ static VERDICTS: [(Verdict, &str); 3] = [
     ),
 ];
 
+/// What is told of a verdict.
+fn verdict_line(alloc: Global, verdict: Verdict) -> Result<String, NoMemory> {
+    json_line(alloc, &Report::Validate(verdict))
+}
+
 #[test]
 fn verdicts_are_told_as_json(rt: HostRuntime) -> Result<(), Fail> {
     for (verdict, wanted) in &VERDICTS {
-        let told = json_line(rt.alloc(), &Report::Validate(*verdict))?;
+        let told = verdict_line(rt.alloc(), *verdict)?;
         assert_eq!(rt; told.as_str(), *wanted);
     }
     Ok(())
