@@ -1,52 +1,14 @@
 //! The search over ground tasks, in either store: what it finds does not depend on how the states are kept.
-ghost use Rattle.std.specs.Prelude.{length};
-ghost use Rattle.grounding.specs.Ground.{task_in, atoms_in};
-ghost use Rattle.model.specs.Grounding.{ground_system};
-
 use crate::answers::{ANSWERS, Found};
 use faults::NoMemory;
 use grounding::{Ground, GroundFault};
 use packed_state::{Packed, PlainStore, PooledStore, StateStore};
-use search::{FoundStates, MAX_STATES, NoEstimate, Outcome, TransitionSystem, best_first};
-use solver::Limit;
+use search::{FoundStates, MAX_STATES, NoEstimate, Outcome, best_first};
+use solver::{GroundSystem, Limit};
 use std::alloc::Global;
 use std::test::Fail;
 use test_texts::on_task;
 use typing::Task;
-
-/// A ground task, as search sees it.
-#[derive(Clone, Copy)]
-struct GroundSystem<'a, 't>(&'a Ground<'t>);
-
-impl TransitionSystem for GroundSystem<'_, '_> {
-    ghost width_of = { λ system. length (atoms_in system.0.now) };
-
-    ghost means = { λ system. ground_system (task_in system.0.now) (atoms_in system.0.now) };
-
-    fn width(&self) -> u32 {
-        self.0.width()
-    }
-
-    fn initial(&self, alloc: Global) -> Result<Packed, NoMemory> {
-        self.0.initial(alloc)
-    }
-
-    fn applicable(&self, state: &Packed, into: &mut Vec<u32>) -> Result<(), NoMemory> {
-        self.0.applicable(state, into)
-    }
-
-    fn successor(&self, action: u32, state: &Packed, into: &mut Packed) {
-        self.0.successor(action, state, into);
-    }
-
-    fn cost(&self, action: u32) -> u32 {
-        self.0.cost(action)
-    }
-
-    fn meets_goal(&self, state: &Packed) -> bool {
-        self.0.meets_goal(state)
-    }
-}
 
 /// What is found out, but for the states.
 fn told<S>(outcome: &Outcome<S>) -> Found {
