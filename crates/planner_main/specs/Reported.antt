@@ -6,7 +6,7 @@ use Rattle.validator.specs.Verdict.{verdict_of}
 use Rattle.certificate_listing.specs.declared.refusal.Refusal.{Refusal}
 use Rattle.certificate_listing.specs.declared.refusal.Refusal.TheVariants as refusal
 use Rattle.cert_checker.specs.declared.checker.Accepted.{Accepted}
-use Rattle.planner_main.specs.Json.{of_answer, of_checked, of_verdict}
+use Rattle.planner_main_output.specs.Json.{of_answer, of_checked, of_verdict}
 use Rattle.planner_main.specs.declared.json.Report.{Report}
 use Rattle.planner_main.specs.declared.json.Report.TheVariants as report
 use Rattle.model.specs.PlanWriting.{has_names}

@@ -6,8 +6,8 @@ use Rattle.solver.specs.declared.answer.Answer.TheVariants.{Plan, Unsolvable, Un
 use Rattle.solver.specs.declared.answer.Limit.TheVariants.{Instances, Atoms, States}
 use Rattle.certificate.specs.Certificate.{certificate_of}
 use Rattle.certificate_text.specs.CertificateNames.{certificate_text}
-use Rattle.planner_main.specs.Json.{line_of_members, of_answer}
-use Rattle.planner_main.specs.Written.{NamedText}
+use Rattle.planner_main_output.specs.Json.{line_of_members, of_answer}
+use Rattle.planner_main_files.specs.Written.{NamedText}
 use Rattle.model.specs.Task.{Task}
 use Rattle.model.specs.PlanWriting.{plan_text}
 

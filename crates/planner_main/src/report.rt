@@ -3,9 +3,10 @@ ghost use Rattle.std.specs.Prelude.{◌≡◌, ◌⊎◌, ◌++◌, ℕ, IfOk, I
 ghost use Rattle.std.specs.String.{string_bytes};
 ghost use Rattle.validator.specs.Verdict.{verdict_of};
 ghost use Rattle.command_line.specs.View.{IsOfWords};
-ghost use Rattle.planner_main.specs.Report.{is_failure, line_of, status_of, told_verdict};
+ghost use Rattle.planner_main.specs.Failures.{is_failure};
+ghost use Rattle.planner_main_output.specs.Verdict.{line_of, status_of, told_verdict};
 ghost use Rattle.planner_main.specs.Failures.{line_of_fault, no_memory_line, nothing_done_line};
-ghost use Rattle.planner_main.specs.Files.{fault_at};
+ghost use Rattle.planner_main_answers.specs.Files.{fault_at};
 ghost use Rattle.planner_main.specs.Program.{IsToldOfWords, IsToldOn};
 ghost use Rattle.devices.specs.Devices.{IsWritten};
 

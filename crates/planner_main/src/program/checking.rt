@@ -2,10 +2,12 @@
 ghost use Rattle.std.specs.Prelude.{◌≡◌, ℕ, IfErr, IfOk, IfSome, IsErr, IsTrue, List, ◌∷◌, Option};
 ghost use Rattle.certificate_listing.specs.Reading.{IsFresh};
 ghost use Rattle.certificate_reader.specs.Reader.{source_of};
-ghost use Rattle.planner_main.specs.Checked.{IsInputFault};
-ghost use Rattle.planner_main.specs.Files.{items_in, text_in};
+ghost use Rattle.planner_main_answers.specs.Checked.{IsInputFault};
+ghost use Rattle.planner_main_answers.specs.Files.{text_in};
+ghost use Rattle.planner_main.specs.Texts.{items_in};
 ghost use Rattle.planner_main.specs.Asked.{asked_of_check};
-ghost use Rattle.planner_main.specs.Program.{AreKept, CountsEither, CountsFailure, HasNotFailed, IsCheckText, IsCheckedIn, IsOneOf, IsTextIfNamed, IsTold, IsToldPartly, IsUnread, OnInputs, fault_in, if_named};
+ghost use Rattle.planner_main.specs.Program.{CountsEither, CountsFailure, HasNotFailed, IsCheckText, IsCheckedIn, IsOneOf, IsTextIfNamed, IsTold, IsToldPartly, IsUnread, OnInputs, fault_in, if_named};
+ghost use Rattle.planner_main_files.specs.Texts.{AreKept};
 ghost use Rattle.devices.specs.Devices.{CountsDevice, IsKept};
 
 use crate::checking::{check_files, checked_text};

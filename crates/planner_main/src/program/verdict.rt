@@ -1,7 +1,8 @@
 //! `validate`: the verdict on a plan, from files to the standard output.
 ghost use Rattle.std.specs.Prelude.{◌≡◌, ℕ, IfErr, IfOk, IfSome, IsTrue, List, [], ◌∷◌};
-ghost use Rattle.planner_main.specs.Files.{told_in};
-ghost use Rattle.planner_main.specs.Program.{AreKept, CountsEither, CountsFailure, HasNotFailed, IsOneOf, IsTold, IsToldPartly, IsUnread, IsVerdictLine, IsVerdictText, OnThree, fault_in};
+ghost use Rattle.planner_main_answers.specs.Files.{told_in};
+ghost use Rattle.planner_main.specs.Program.{CountsEither, CountsFailure, HasNotFailed, IsOneOf, IsTold, IsToldPartly, IsUnread, IsVerdictLine, IsVerdictText, OnThree, fault_in};
+ghost use Rattle.planner_main_files.specs.Texts.{AreKept};
 ghost use Rattle.model.specs.Files.{IsFileFault};
 
 use crate::files::Files;
