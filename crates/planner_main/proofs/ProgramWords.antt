@@ -30,8 +30,8 @@ use Rattle.planner_main_answers.specs.Files.{fault_at}
 use Rattle.devices.specs.declared.device.WriteFault.{WriteFault}
 use Rattle.devices.specs.Devices.{AppendsBeginning, CountsDevice, IsWritten, one_more}
 use Rattle.planner_main.specs.Failures.{is_failure}
-use Rattle.planner_main.specs.Report as verdict
-use Rattle.planner_main.specs.Solution as answer
+use Rattle.planner_main_output.specs.Verdict as verdict
+use Rattle.planner_main_output.specs.Answer as answer
 use Rattle.model.specs.Runs.{Verdict, valid, not_applicable, goal_missed}
 use Rattle.model.specs.Files.{FileFault, IsTaskFault, IsFileFault}
 

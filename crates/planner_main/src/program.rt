@@ -13,11 +13,11 @@ mod inputs;
 mod solution;
 mod verdict;
 
-use crate::files::Files;
 use crate::report::{Failure, tell, tell_words};
 use checking::{Names, tell_check};
 use command_line::{Limit, Order, read_words};
 use devices::Sink;
+use planner_main_files::Files;
 use solution::{Wanted, tell_solution};
 use solver::Limits;
 use std::alloc::Global;

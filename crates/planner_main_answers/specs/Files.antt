@@ -1,9 +1,6 @@
 -- The files, faults and verdicts of the code, in the model's terms.
-use Rattle.std.specs.Prelude.{ℕ, List, Option, None, Some}
+use Rattle.std.specs.Prelude.{ℕ, List, codes, Option, None, Some}
 use Rattle.std.specs.Borrow.{Bor}
-use Rattle.std.specs.Global.{Vec}
-use Rattle.std.specs.String.{string_bytes}
-use Rattle.std.proofs.Common.{String, Global}
 use Rattle.std.specs.Option.{option_map}
 use Rattle.faults.specs.Fault.{number_of}
 use Rattle.faults.specs.declared.code.Code.{Code}
@@ -22,6 +19,12 @@ abbrev pub file_view : File → model.File
 file_view Domain = model.of_task domain_file
 file_view Problem = model.of_task problem_file
 file_view Plan = model.the_plan
+
+-- the name of a file
+abbrev pub name_of_file : model.File → List ℕ
+name_of_file (model.of_task domain_file) = codes "domain"
+name_of_file (model.of_task problem_file) = codes "problem"
+name_of_file model.the_plan = codes "plan"
 
 -- this code, of what stands at this place of this file
 abbrev pub fault_at : File → Code → Span → model.FileFault
@@ -45,11 +48,3 @@ told_of_pair refused.NoMemory = None
 -- the bytes of a text that is lent, where one is
 abbrev pub text_in : Option (Bor (List ℕ)) → Option (List ℕ)
 text_in = option_map (λ (text : Bor (List ℕ)). text.now)
-
--- the bytes of a text, where there is one
-abbrev pub items_in : Option (Vec ℕ) → Option (List ℕ)
-items_in = option_map (λ (text : Vec ℕ). text.items)
-
--- the bytes of a string, where there is one
-abbrev pub string_in : Option (String Global) → Option (List ℕ)
-string_in = option_map string_bytes

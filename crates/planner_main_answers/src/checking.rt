@@ -9,15 +9,12 @@ ghost use Rattle.model.specs.Task as model;
 ghost use Rattle.model.specs.Files.{IsTaskOf};
 ghost use Rattle.model.specs.PlanWriting.{has_names};
 
-mod text;
-
 use crate::task_file::{File, FileFault, read_task};
 use cert_checker::{Accepted, Refusal, check};
 use certificate_reader::CertReader;
 use devices::Source;
 use plan_file::read_plan;
 use std::alloc::Global;
-pub(crate) use text::checked_text;
 use typing::Task;
 
 /// A task with what is told of a certificate for it.

@@ -7,13 +7,10 @@ ghost use Rattle.model.specs.Task as model;
 ghost use Rattle.model.specs.Files.{IsTaskOf, IsTaskFault};
 ghost use Rattle.model.specs.PlanWriting.{has_names};
 
-mod text;
-
 use crate::task_file::{FileFault, read_task};
 use faults::NoMemory;
 use solver::{Answer, Limits, solve};
 use std::alloc::Global;
-pub(crate) use text::{answer_text, json_text, told};
 use typing::Task;
 
 /// A task with what was found out of it.

@@ -1,6 +1,5 @@
--- What stands on the standard output, and the status beside it.
-use Rattle.std.specs.Prelude.{ℕ, ◌==◌, Bool, List, [], ◌∷◌, ◌++◌, codes, if◌then◌else◌}
-use Rattle.std.specs.List.{list_any}
+-- What a verdict is told as, and the status beside it.
+use Rattle.std.specs.Prelude.{ℕ, Bool, List, ◌++◌, codes, if◌then◌else◌}
 use Rattle.std.specs.Fmt.{decimal}
 use Rattle.planner_main_output.specs.Json.{line_of_members, of_verdict}
 use Rattle.model.specs.Runs.{Verdict, valid, not_applicable, goal_missed}
@@ -20,7 +19,3 @@ abbrev pub status_of : Verdict → ℕ
 status_of (valid cost) = 0
 status_of (not_applicable step) = 12
 status_of goal_missed = 12
-
--- the statuses where there is no verdict: words that are no command; a text that is refused; a device; memory
-abbrev pub is_failure : ℕ → Bool
-is_failure status = list_any (λ n. n == status) (2 ∷ 20 ∷ 21 ∷ 22 ∷ [])

@@ -2,9 +2,8 @@
 ghost use Rattle.std.specs.Prelude.{◌≡◌, IfOk, IsTrue, None, Some, if◌then◌else◌, unwrap_or};
 ghost use Rattle.typing.specs.Task.{task_of};
 ghost use Rattle.formulas.specs.State.{plan_of};
-ghost use Rattle.planner_main_output.specs.Answer.{string_in};
+ghost use Rattle.planner_main_output.specs.Answer.{status_of, string_in, text_of};
 ghost use Rattle.planner_main_output.specs.Json.{line_of_members, of_answer};
-ghost use Rattle.planner_main_output.specs.Answer.{text_of, status_of};
 ghost use Rattle.model.specs.PlanWriting.{has_names, plan_text};
 
 use crate::json::{answer_object, line_of};
@@ -24,12 +23,9 @@ const UNSOLVABLE: u8 = 10;
 /// A limit was exceeded.
 const UNKNOWN: u8 = 11;
 
-/// The answer's text, and its status.
-pub(crate) fn answer_text(
-    alloc: Global,
-    task: &Task,
-    answer: &Answer,
-) -> Result<(Vec<u8>, u8), AllocError>
+/// The text that an answer is told as, and its status: the plan and its cost with 0, `unsolvable` with 10, and with 11 that a
+/// limit is exceeded. The error is that memory was refused, as in the calls below.
+pub fn answer_text(alloc: Global, task: &Task, answer: &Answer) -> Result<(Vec<u8>, u8), AllocError>
     ensures text { IfOk result (λ told. told.0.items ≡ text_of (task_of task.now) answer.now) }
     ensures status { IfOk result (λ told. told.1 ≡ status_of answer.now) }
 {
@@ -42,8 +38,8 @@ pub(crate) fn answer_text(
     }
 }
 
-/// The answer as a line of JSON, where that is wanted.
-pub(crate) fn json_text(
+/// The answer as an object of JSON on a line, where that is wanted.
+pub fn json_text(
     alloc: Global,
     task: &Task,
     answer: &Answer,
@@ -59,8 +55,8 @@ pub(crate) fn json_text(
     }
 }
 
-/// What is told: the line of JSON, where there is one, and else the text.
-pub(crate) fn told<'a>(json: &'a Option<String>, text: &'a [u8]) -> &'a [u8]
+/// What the standard output takes: the line of JSON, where there is one, and else the text.
+pub fn told<'a>(json: &'a Option<String>, text: &'a [u8]) -> &'a [u8]
     ensures { result.now ≡ unwrap_or (string_in json.now) text.now }
 {
     match json {

@@ -1,16 +1,15 @@
 //! What the checker's answer is told as: a line, and the status.
-ghost use Rattle.std.specs.Prelude.{◌≡◌, ℕ, IfErr, IfOk, IsTrue, None};
+ghost use Rattle.std.specs.Prelude.{◌≡◌, ℕ, IfOk, IsTrue};
 ghost use Rattle.std.specs.String.{string_bytes};
 ghost use Rattle.typing.specs.Task.{task_of};
 ghost use Rattle.formulas.specs.State.{instance_of};
 ghost use Rattle.certificate_listing.specs.Reading.{CountsRefusal};
 ghost use Rattle.planner_main_output.specs.Check.{IsLineOf, accepted_line, line_refused, plain_refused, told_accepted, told_line, told_plain, told_unfair, unfair_refused};
-ghost use Rattle.planner_main.specs.Program.{CountsFailure, fault_in};
+ghost use Rattle.devices.specs.Devices.{CountsDevice};
 ghost use Rattle.model.specs.PlanWriting.{has_names};
 
-use crate::checking::Checked;
 use crate::json::{accepted_object, line_of, refused_object};
-use crate::report::{Failure, NO, YES};
+use crate::verdict::{NO, YES};
 use cert_checker::{Accepted, Refusal, RefusalCode};
 use devices::WriteFault;
 use faults::NoMemory;
@@ -22,32 +21,31 @@ use typing::Task;
 /// The number of a limit, which is told without a line.
 const LIMIT: u8 = 55;
 
-/// What the answer is told as, and its status.
-pub(crate) fn checked_text(
+/// The line that the checker's answer to a task is told as, or its object of JSON on a line, and its status: 0 where the
+/// certificate is accepted, and 12 where it is refused. Where its device failed, or memory was refused, there is none.
+pub fn checked_text(
     alloc: Global,
-    checked: &Checked,
+    task: &Task,
+    answer: &Result<Accepted, Refusal>,
     json: bool,
-) -> Result<(Vec<u8>, u8), Failure>
-    requires { IsTrue (has_names (task_of checked.now.task)) }
-    ensures line { IfOk result (λ told. IsLineOf json (task_of checked.now.task) checked.now.answer told.0.items told.1) }
-    ensures refused { IfErr result (λ failure. fault_in failure ≡ None) }
-    ensures unfailed { IfOk result (λ _. (before after : ℕ) → CountsRefusal before after checked.now.answer → after ≡ before) }
-    ensures failures { IfErr result (λ failure. (before after : ℕ) → CountsRefusal before after checked.now.answer → CountsFailure before after failure) }
+) -> Result<(Vec<u8>, u8), WriteFault>
+    requires { IsTrue (has_names (task_of task.now)) }
+    ensures line { IfOk result (λ told. IsLineOf json (task_of task.now) answer.now told.0.items told.1) }
+    // A failure of the device that the answer tells of is the one that is counted.
+    ensures failures { (before after : ℕ) → CountsRefusal before after answer.now → CountsDevice before after result }
 {
-    let (line, status) = match &checked.answer {
+    let (line, status) = match answer {
         Ok(accepted) => (tell_accepted(alloc, *accepted, json), YES),
         Err(Refusal::Line { code, line }) => (tell_line(alloc, *code, *line, json), NO),
-        Err(Refusal::Unfair(step)) => (tell_unfair(alloc, &checked.task, step, json), NO),
+        Err(Refusal::Unfair(step)) => (tell_unfair(alloc, task, step, json), NO),
         Err(Refusal::Plain(code)) => (tell_plain(alloc, *code, json), NO),
-        Err(Refusal::Device) => return Err(Failure::Device(WriteFault::Device)),
+        Err(Refusal::Device) => return Err(WriteFault::Device),
         // The reader is a new one, which has told no fault.
-        Err(Refusal::NoMemory | Refusal::Failed) => {
-            return Err(Failure::Device(WriteFault::NoMemory));
-        }
+        Err(Refusal::NoMemory | Refusal::Failed) => return Err(WriteFault::NoMemory),
     };
     match line {
         Ok(line) => Ok((line.into_bytes(), status)),
-        Err(AllocError) => Err(Failure::Device(WriteFault::NoMemory)),
+        Err(AllocError) => Err(WriteFault::NoMemory),
     }
 }
 

@@ -1,17 +1,14 @@
-//! What is told where JSON is asked for: an object on a line.
+//! What is told where JSON is asked for: an object.
 ghost use Rattle.std.specs.Prelude.{◌≡◌, ◌++◌, IfOk, IsTrue, codes, map};
 ghost use Rattle.std.specs.String.{string_bytes};
 ghost use Rattle.answer_json.specs.JsonText.{object_text};
 ghost use Rattle.formulas.specs.State.{plan_of};
 ghost use Rattle.typing.specs.Task.{task_of};
 ghost use Rattle.validator.specs.Verdict.{verdict_of};
-ghost use Rattle.planner_main_output.specs.Json.{limit_name, of_accepted, of_answer, of_checked, of_plan, of_refused, of_verdict};
-ghost use Rattle.planner_main.specs.Reported.{IsTold, of_report};
 ghost use Rattle.planner_main_output.specs.Check.{IsToldRefusal};
+ghost use Rattle.planner_main_output.specs.Json.{limit_name, of_accepted, of_answer, of_checked, of_plan, of_refused, of_verdict};
 ghost use Rattle.model.specs.PlanWriting.{has_names, step_text};
 
-use crate::checking::Checked;
-use crate::solve::Solved;
 use answer_json::{Member, object_text};
 use cert_checker::{Accepted, Refusal, RefusalCode};
 use faults::NoMemory;
@@ -22,41 +19,6 @@ use std::alloc::{AllocError, Global};
 use typing::Task;
 use validator::Verdict;
 
-/// What the program found out.
-#[derive(Drop)]
-pub enum Report {
-    /// Of a task: a cheapest plan, or that there is none.
-    Solve(Solved),
-    /// Of a plan.
-    Validate(Verdict),
-    /// Of a certificate.
-    Check(Checked),
-}
-
-/// What was found out as an object of JSON, in compact text with its keys in the order of bytes. The refusal of a certificate
-/// is neither want of memory nor a device's.
-///
-/// | what was found out | text |
-/// |---|---|
-/// | a cheapest plan | `{"command":"solve","cost":6,"result":"plan","steps":["(hop a b)","(hop b c)"]}` |
-/// | there is no plan | `{"command":"solve","result":"unsolvable"}` |
-/// | a limit is exceeded | `{"command":"solve","reason":"states","result":"unknown"}`, or `"instances"` or `"atoms"` |
-/// | the plan solves the task | `{"command":"validate","cost":6,"result":"valid"}` |
-/// | it does not | `{"command":"validate","result":"not applicable","step":1}`, or `"goal missed"` and no step |
-/// | the certificate is accepted | `{"command":"check","cost":6,"result":"optimal"}`, or `"at least"`, or `"unsolvable"` and no cost |
-/// | it is refused | `{"code":50,"command":"check","name":"SuccessorDearer","result":"not accepted"}` |
-pub fn json_line(alloc: Global, report: &Report) -> Result<String, NoMemory>
-    requires { IsTold report.now }
-    ensures { IfOk result (λ line. string_bytes line ≡ object_text (of_report report.now)) }
-{
-    let text = match report {
-        Report::Solve(solved) => answer_object(alloc, &solved.task, &solved.answer),
-        Report::Validate(verdict) => verdict_object(alloc, *verdict),
-        Report::Check(checked) => checked_object(alloc, &checked.answer),
-    };
-    Ok(text?)
-}
-
 /// The line of an object.
 pub(crate) fn line_of(object: String) -> Result<String, AllocError>
     ensures { IfOk result (λ line. string_bytes line ≡ string_bytes object ++ codes "\n") }
@@ -66,8 +28,8 @@ pub(crate) fn line_of(object: String) -> Result<String, AllocError>
     Ok(line)
 }
 
-/// The object of a verdict.
-pub(crate) fn verdict_object(alloc: Global, verdict: Verdict) -> Result<String, AllocError>
+/// The object of a verdict, in compact text. The error is that memory was refused, as in the calls below.
+pub fn verdict_object(alloc: Global, verdict: Verdict) -> Result<String, AllocError>
     ensures { IfOk result (λ text. string_bytes text ≡ object_text (of_verdict (verdict_of verdict))) }
 {
     let command = Member::text("command", "validate");
@@ -89,12 +51,8 @@ pub(crate) fn verdict_object(alloc: Global, verdict: Verdict) -> Result<String, 
     }
 }
 
-/// The object of what was found out of a task.
-pub(crate) fn answer_object(
-    alloc: Global,
-    task: &Task,
-    answer: &Answer,
-) -> Result<String, AllocError>
+/// The object of what was found out of a task, whose names are names.
+pub fn answer_object(alloc: Global, task: &Task, answer: &Answer) -> Result<String, AllocError>
     requires { IsTrue (has_names (task_of task.now)) }
     ensures { IfOk result (λ text. string_bytes text ≡ object_text (of_answer (task_of task.now) answer.now)) }
 {
@@ -159,8 +117,11 @@ fn limit_name(limit: Limit) -> &'static str
     }
 }
 
-/// The object of what is told of a certificate.
-fn checked_object(alloc: Global, answer: &Result<Accepted, Refusal>) -> Result<String, AllocError>
+/// The object of what is told of a certificate. A refusal is neither want of memory nor a device's.
+pub fn checked_object(
+    alloc: Global,
+    answer: &Result<Accepted, Refusal>,
+) -> Result<String, AllocError>
     requires { IsToldRefusal answer.now }
     ensures { IfOk result (λ text. string_bytes text ≡ object_text (of_checked answer.now)) }
 {

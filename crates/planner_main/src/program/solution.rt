@@ -15,13 +15,14 @@ ghost use Rattle.solver.specs.Solver.{IsTrueAnswer};
 ghost use Rattle.model.specs.Files.{IsTaskFault, IsTaskOf};
 ghost use Rattle.model.specs.PlanWriting.{has_names};
 
-use crate::files::Files;
 use crate::program::inputs::read_pair;
 use crate::report::Failure;
-use crate::solve::{Solved, answer_text, json_text, solve_files, told};
 use certificate::Cert;
 use certificate_writer::write_cert;
 use devices::{Sink, WriteFault, write_all};
+use planner_main_answers::{Solved, solve_files};
+use planner_main_files::{Files, write_file};
+use planner_main_output::{answer_text, json_text, told};
 use solver::{Answer, Limits};
 use std::alloc::Global;
 use typing::Task;
