@@ -1,6 +1,6 @@
 -- The parts of the code's certificates, in the model's terms.
 use Rattle.std.specs.Prelude.{ℤ, List, map}
-use Rattle.typing.specs.declared.atoms.Atom.{Atom}
+use Rattle.typing_formulas.specs.declared.atoms.Atom.{Atom}
 use Rattle.typing.specs.TaskParts.{atom_of}
 use Rattle.certificate_lines.specs.declared.line.Claim.{Claim}
 use Rattle.certificate_lines.specs.declared.line.StateLine.{StateLine}

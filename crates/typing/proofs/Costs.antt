@@ -7,7 +7,7 @@ use Rattle.syntax_tree.specs.Tree.{name_of}
 use Rattle.model.specs.Trees.{File, problem_file}
 use Rattle.model.specs.Trees as tree
 use Rattle.model.specs.Typing.{Placed, TypingFault, placed, refused, refused_word}
-use Rattle.typing.specs.Walk.{found}
+use Rattle.typing_formulas.specs.Walk.{found}
 
 -- a function is declared where the list of them is not empty
 pub declares_some : (words : List Name) → not (length words == 0) ≡ is_some (slice_get (map name_of words) 0)

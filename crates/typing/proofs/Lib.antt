@@ -1,11 +1,5 @@
-pub mod Least
-pub mod Lists
-pub mod Tables
-pub mod Found
-pub mod Trees
+pub mod TableSteps
 pub mod EffectTrees
-pub mod Tells
-pub mod Empty
 pub mod Declaring
 pub mod ParentChains
 pub mod Costs
@@ -13,5 +7,4 @@ pub mod ChainSteps
 pub mod WellTyped
 pub mod Tasks
 pub mod Shapes
-pub mod Arguments
 pub mod TypedTasks

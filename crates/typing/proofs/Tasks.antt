@@ -12,13 +12,14 @@ use Rattle.model.proofs.Tests.{passes_got}
 use Rattle.typing.specs.declared.names.Names.{Names}
 use Rattle.typing.specs.declared.names.Start.{Start}
 use Rattle.typing.specs.Names.{type_faults_of, declared_faults, known_by, stated_faults_in, AreDeclared, Starts}
-use Rattle.typing.specs.TaskParts.{task_of_parts}
+use Rattle.typing_formulas.specs.TaskParts.{task_of_parts}
 use Rattle.typing.specs.Task.{TaskFault, TellsLeastOf, TellsLeastFault}
-use Rattle.typing.specs.Scope.{narrow_atoms_in}
-use Rattle.typing.proofs.Tells.{tells_here, tells_later}
-use Rattle.typing.proofs.Empty.{nil_left, nil_right, not_refused, and_true}
+use Rattle.typing_formulas.specs.Scope.{narrow_atoms_in}
+use Rattle.typing_formulas.proofs.Tells.{tells_here, tells_later}
+use Rattle.typing_formulas.proofs.Empty.{nil_left, nil_right, not_refused, and_true}
 use Rattle.typing.proofs.ParentChains.{all_whole}
-use Rattle.typing.proofs.Declaring.{names_are, parents_low, none_comes_back}
+use Rattle.typing_formulas.proofs.Declared.{names_are}
+use Rattle.typing.proofs.Declaring.{parents_low, none_comes_back}
 use Rattle.typing.proofs.WellTyped.{Fits, declared_count, arities_fit, schemas_fit, facts_fit, formula_fits}
 
 -- ---- objects

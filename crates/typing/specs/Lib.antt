@@ -1,8 +1,6 @@
-pub mod TaskParts
+pub use Rattle.typing_formulas.specs.TaskParts
+pub use Rattle.typing_formulas.specs.Refusals
 pub mod Task
-pub mod Walk
-pub mod TypedLists
-pub mod Scope
 pub mod Chains
 pub mod Objects
 pub mod Names

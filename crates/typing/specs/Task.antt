@@ -1,34 +1,16 @@
 -- The code's task and the faults that it tells, in the model's terms.
-use Rattle.std.specs.Prelude.{List}
-use Rattle.faults.specs.Fault.{number_of}
 use Rattle.typing.specs.declared.task.Task.{Task}
 pub use Rattle.syntax_tree.specs.Tree.{file_of}
-use Rattle.typing.specs.declared.fault.TaskRefusal.{TaskRefusal}
-use Rattle.faults.specs.declared.refused.Refused.{Refused}
+pub use Rattle.typing_formulas.specs.Refusals.{refusal_of, TaskFault, TellsLeastOf}
 use Rattle.faults.specs.declared.refused.Refused.TheVariants.{At, NoMemory}
-use Rattle.typing.specs.TaskParts.{task_of_parts}
+use Rattle.typing_formulas.specs.TaskParts.{task_of_parts}
 use Rattle.model.specs.Task as task
 use Rattle.model.specs.Trees as tree
 use Rattle.model.specs.TypingFaults as typing_faults
-use Rattle.model.specs.Typing.{TypingFault, IsLeastOf, faults_of}
+use Rattle.model.specs.Typing.{faults_of}
 
 abbrev pub task_of : Task → task.Task
 task_of t = task_of_parts t.types.entries t.objects.entries t.predicates.entries t.schemas.entries t.init.items t.goal t.has_metric
-
--- what a refusal tells
-abbrev pub refusal_of : TaskRefusal → TypingFault
-refusal_of r = record {
-  file = file_of r.file;
-  fault = record { code = number_of r.code; span = record { start = r.span.start; end = r.span.end } };
-}
-
-abbrev pub TaskFault : Type 0
-TaskFault = Refused TaskRefusal
-
--- the least of these faults is told; want of memory says nothing of them
-abbrev pub TellsLeastOf : List TypingFault → TaskFault → Type 0
-TellsLeastOf faults NoMemory = Unit {0}
-TellsLeastOf faults (At r) = IsLeastOf faults (refusal_of r)
 
 -- the least fault of the pair is told; want of memory says nothing of the pair
 abbrev pub TellsLeastFault : tree.Domain → tree.Problem → TaskFault → Type 0

@@ -1,28 +1,27 @@
 //! The actions of a domain.
 ghost use Rattle.std.specs.Prelude.{◌≡◌, [], ◌∷◌, ◌++◌, false, if◌then◌else◌, map, IfErr, IfOk, OnOk};
-ghost use Rattle.typing.specs.TaskParts as parts;
-ghost use Rattle.typing.specs.TypedLists.{declared_of};
-ghost use Rattle.typing.specs.Scope.{known_outside, known_over};
+ghost use Rattle.typing_formulas.specs.TaskParts as parts;
+ghost use Rattle.typing_formulas.specs.TypedLists.{declared_of};
+ghost use Rattle.typing_formulas.specs.Scope.{known_outside, known_over};
 ghost use Rattle.typing.specs.Task.{file_of, TellsLeastOf};
-ghost use Rattle.typing.specs.Walk.{Finds};
+ghost use Rattle.typing_formulas.specs.Walk.{Finds};
 ghost use Rattle.syntax_tree.specs.Tree as read;
 ghost use Rattle.model.specs.Trees.{domain_file};
 ghost use Rattle.model.specs.Typing as typing;
 ghost use Rattle.std.specs.List.{flat_map};
 
-use crate::domain::declare;
 use crate::effects::effect;
-use crate::formulas::formula;
 use crate::functions::{check_increases, increase};
-use crate::scope::Globals;
-use crate::typed_lists::{Declared, collect};
-use crate::variables::declare_variables;
-use crate::walk::Walk;
 use crate::{Schema, TaskFault, TaskFile, TypeUnion};
 use faults::NoMemory;
 use indexmap::{IndexMap, IndexSet};
 use std::alloc::Global;
 use syntax_tree::{Action, Domain};
+use typing_formulas::domain::declare;
+use typing_formulas::formulas::formula;
+use typing_formulas::typed_lists::{Declared, collect};
+use typing_formulas::variables::declare_variables;
+use typing_formulas::{Globals, Walk};
 
 /// What an action with these parameters declares, where these variables are in scope.
 fn body(

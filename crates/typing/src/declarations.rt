@@ -1,24 +1,23 @@
 //! The predicates of a domain.
 ghost use Rattle.std.specs.Prelude.{◌≡◌, [], ◌∷◌, ◌++◌, false, if◌then◌else◌, map, IfErr, IfOk, OnOk};
-ghost use Rattle.typing.specs.TaskParts as parts;
-ghost use Rattle.typing.specs.Scope.{names_in};
+ghost use Rattle.typing_formulas.specs.TaskParts as parts;
+ghost use Rattle.typing_formulas.specs.Scope.{names_in};
 ghost use Rattle.typing.specs.Task.{TellsLeastOf};
-ghost use Rattle.typing.specs.Walk.{Finds};
+ghost use Rattle.typing_formulas.specs.Walk.{Finds};
 ghost use Rattle.syntax_tree.specs.Tree as read;
 ghost use Rattle.model.specs.Trees.{domain_file};
 ghost use Rattle.model.specs.Typing as typing;
 ghost use Rattle.std.specs.List.{flat_map};
 
-use crate::domain::refuse_again;
-use crate::type_names::TypeNames;
-use crate::typed_lists::{collect, limit};
-use crate::types::check_all;
-use crate::walk::Walk;
 use crate::{MAX_ARGUMENTS, Predicate, TaskFault, TaskFile, TypeUnion};
 use faults::NoMemory;
 use indexmap::IndexMap;
 use std::alloc::Global;
 use syntax_tree::{Domain, Predicate as Declaration};
+use typing_formulas::domain::refuse_again;
+use typing_formulas::typed_lists::{collect, limit};
+use typing_formulas::types::check_all;
+use typing_formulas::{TypeNames, Walk};
 
 /// What each argument of a declaration has to be.
 fn arguments(

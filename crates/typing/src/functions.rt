@@ -2,16 +2,16 @@
 ghost use Rattle.std.specs.Prelude.{◌≡◌, [], drop, if◌then◌else◌, map, IfErr, IfOk};
 ghost use Rattle.std.specs.Option.{option_map, option_map_or};
 ghost use Rattle.typing.specs.Task.{file_of, TellsLeastOf};
-ghost use Rattle.typing.specs.Walk.{Finds};
+ghost use Rattle.typing_formulas.specs.Walk.{Finds};
 ghost use Rattle.syntax_tree.specs.Tree as read;
 ghost use Rattle.model.specs.Trees.{domain_file, problem_file};
 ghost use Rattle.model.specs.Typing as typing;
 
-use crate::walk::Walk;
 use crate::{TaskFault, TaskFile};
 use faults::Code;
 use std::alloc::Global;
 use syntax_tree::{Action, Domain, Increase, Name, Problem};
+use typing_formulas::Walk;
 
 /// Refuses words that are declared again.
 fn refuse_functions(walk: &mut Walk, words: &[Name<'_>])

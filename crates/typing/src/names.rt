@@ -1,16 +1,15 @@
 //! The names that a domain and a problem declare, and what the problem says in them.
 ghost use Rattle.std.specs.Prelude.{◌≡◌, ◌≤◌, [], length, IfErr, IfOk};
 
-use crate::scope::Globals;
-use crate::type_names::TypeNames;
-use crate::typed_lists::collect;
 use crate::{
     Atom, Formula, Predicate, Schema, TaskFault, TaskFile, TypeId, actions, chains, declarations,
-    domain, functions, objects, statements,
+    functions, objects, statements,
 };
 use indexmap::IndexMap;
 use std::alloc::Global;
 use syntax_tree::{Domain, Problem};
+use typing_formulas::typed_lists::collect;
+use typing_formulas::{Globals, TypeNames, domain};
 
 /// The types of a domain, by name: each in the place of its number.
 #[derive(Drop)]
@@ -163,7 +162,7 @@ impl Names {
 
 impl Start {
     ghost use Rattle.typing.specs.Task.{file_of, TellsLeastOf};
-    ghost use Rattle.typing.specs.Scope.{known_outside};
+    ghost use Rattle.typing_formulas.specs.Scope.{known_outside};
     ghost use Rattle.typing.specs.Names.{stated_faults_in, Starts};
     ghost use Rattle.syntax_tree.specs.Tree.{problem_of};
 

@@ -1,26 +1,25 @@
 //! The domain's constants and the problem's objects, and their types.
 ghost use Rattle.std.specs.Prelude.{◌≡◌, ◌≤◌, [], ◌∷◌, ◌++◌, false, if◌then◌else◌, length, map, List, IfErr, IfOk, OnOk};
-ghost use Rattle.typing.specs.TaskParts as parts;
-ghost use Rattle.typing.specs.TypedLists.{declared_of};
+ghost use Rattle.typing_formulas.specs.TaskParts as parts;
+ghost use Rattle.typing_formulas.specs.TypedLists.{declared_of};
 ghost use Rattle.typing.specs.Objects.{AreMade, AreObjects};
-ghost use Rattle.typing.specs.Scope.{names_in};
+ghost use Rattle.typing_formulas.specs.Scope.{names_in};
 ghost use Rattle.typing.specs.Task.{TellsLeastOf};
-ghost use Rattle.typing.specs.Walk.{Finds};
+ghost use Rattle.typing_formulas.specs.Walk.{Finds};
 ghost use Rattle.syntax_tree.specs.Tree as read;
 ghost use Rattle.model.specs.Trees.{domain_file, problem_file};
 ghost use Rattle.model.specs.Typing as typing;
 
-use crate::domain::refuse_again;
 use crate::names::Objects;
-use crate::type_names::TypeNames;
-use crate::typed_lists::{Declared, add, collect, limit};
-use crate::types::check_all;
-use crate::walk::Walk;
 use crate::{MAX_OBJECTS, TaskFault, TaskFile, TypeId};
 use faults::NoMemory;
 use indexmap::IndexMap;
 use std::alloc::Global;
 use syntax_tree::{Domain, Group, Problem};
+use typing_formulas::domain::refuse_again;
+use typing_formulas::typed_lists::{Declared, add, collect, limit};
+use typing_formulas::types::check_all;
+use typing_formulas::{TypeNames, Walk};
 
 /// Declares an object. One that is declared before is refused.
 fn declare_object(

@@ -1,21 +1,20 @@
 //! What a problem states: its initial state and its goal.
 ghost use Rattle.std.specs.Prelude.{◌≡◌, [], ◌∷◌, ◌++◌, drop, if◌then◌else◌, map, IfErr, IfOk, OnOk};
-ghost use Rattle.typing.specs.TaskParts as parts;
+ghost use Rattle.typing_formulas.specs.TaskParts as parts;
 ghost use Rattle.typing.specs.Task.{file_of, TellsLeastOf};
-ghost use Rattle.typing.specs.Scope.{known_of, known_outside, known_over, narrow_atoms_in};
-ghost use Rattle.typing.specs.Walk.{found, least_of, Finds};
+ghost use Rattle.typing_formulas.specs.Scope.{known_of, known_outside, known_over, narrow_atoms_in};
+ghost use Rattle.typing_formulas.specs.Walk.{found, least_of, Finds};
 ghost use Rattle.syntax_tree.specs.Tree as read;
 ghost use Rattle.model.specs.Typing as typing;
 ghost use Rattle.std.specs.List.{flat_map};
 
-use crate::formulas::formula;
-use crate::scope::{Globals, Scope};
-use crate::walk::Walk;
 use crate::{Atom, Formula, TaskFault, TaskFile, TypeUnion};
 use faults::{Code, NoMemory};
 use indexmap::IndexMap;
 use std::alloc::Global;
 use syntax_tree::{Fact, InitialCost, Problem};
+use typing_formulas::formulas::formula;
+use typing_formulas::{Globals, Scope, Walk};
 
 /// The total cost at the start is refused where it is not declared, and where it is not 0.
 fn check_initial_cost(walk: &mut Walk, scope: &Scope<'_>, cost: &InitialCost<'_>)

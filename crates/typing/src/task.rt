@@ -1,17 +1,18 @@
 //! The task of a domain and a problem.
 ghost use Rattle.std.specs.Prelude.{IsTrue, ◌≤◌, length};
-ghost use Rattle.typing.specs.TaskParts.{task_of_parts};
+ghost use Rattle.typing_formulas.specs.TaskParts.{task_of_parts};
 ghost use Rattle.model.specs.WellTyped.{is_task};
 
-use crate::atoms::{Atom, MAX_VARIABLES, ObjectId, PredicateId, SchemaId, TypeId};
-use crate::fault::TaskFault;
 use crate::names::{Names, Types};
-use crate::schemas::{Formula, Predicate, Schema, TypeUnion};
-use crate::types::{self, is_below};
+use crate::{
+    Atom, Formula, MAX_VARIABLES, ObjectId, Predicate, PredicateId, Schema, SchemaId, TaskFault,
+    TypeId, TypeUnion,
+};
 use faults::NoMemory;
 use indexmap::IndexMap;
 use std::alloc::Global;
 use syntax_tree::{Domain, Problem};
+use typing_formulas::types::{self, is_below};
 
 /// A planning task: a well-typed pair of a domain and a problem, with numbers for names.
 #[derive(Drop)]
@@ -34,7 +35,7 @@ impl Task {
     ghost use Rattle.typing.specs.Task.{task_of, TellsFault, TellsLeastFault};
     ghost use Rattle.model.specs.TypingFaults as typing_faults;
     ghost use Rattle.syntax_tree.specs.Tree.{domain_of, problem_of};
-    ghost use Rattle.typing.specs.TaskParts.{atom_of, formula_of, object_of, predicate_id_of, schema_id_of, shape_of, shape_of_schema, type_of, union_of};
+    ghost use Rattle.typing_formulas.specs.TaskParts.{atom_of, formula_of, object_of, predicate_id_of, schema_id_of, shape_of, shape_of_schema, type_of, union_of};
     ghost use Rattle.model.specs.Meaning.{supertypes_of, is_of, is_below, objects_of};
     ghost use Rattle.model.specs.Typing.{is_same, task_of_trees, IsWellTyped};
 

@@ -1,5 +1,5 @@
 use Rattle.std.proofs.Common.{◌∙◌, ap, map, length, arith}
-use Rattle.typing.specs.declared.atoms.Term.TheVariants.{Variable}
+use Rattle.typing_formulas.specs.declared.atoms.Term.TheVariants.{Variable}
 use Rattle.typing.specs.TaskParts.{object_of, term_of}
 use Rattle.model.specs.Meaning as meaning
 use Rattle.formulas.proofs.Tasks.{bound_at, named_more, named_whole}

@@ -1,11 +1,11 @@
 use Rattle.std.proofs.Common.{◌≡◌, ◌∙◌, ◌++◌, map, ap}
 use Rattle.typing.specs.Task.{file_of}
-use Rattle.typing.specs.TaskParts as parts
-use Rattle.typing.specs.Scope.{known_over}
-use Rattle.typing.specs.Walk.{found, least_of}
+use Rattle.typing_formulas.specs.TaskParts as parts
+use Rattle.typing_formulas.specs.Scope.{known_over}
+use Rattle.typing_formulas.specs.Walk.{found, least_of}
 use Rattle.syntax_tree.specs.Tree as read
 use Rattle.model.specs.Typing as typing
-use Rattle.typing.proofs.Found.{found_after}
+use Rattle.typing_formulas.proofs.Found.{found_after}
 use Rattle.typing.proofs.actions.body.Goals.{In_ok-effect}
 use Rattle.typing.proofs.actions.body.Goals as goal
 

@@ -1,12 +1,12 @@
 use Rattle.std.proofs.Common.{◌≡◌, ◌∙◌, [], ◌∷◌, codes, map, None, ap}
 use Rattle.std.proofs.lemmas.Result.{IfOk-weaker}
-use Rattle.typing.specs.TaskParts as parts
-use Rattle.typing.specs.TypedLists.{declared_of}
-use Rattle.typing.specs.Scope.{names_in}
-use Rattle.typing.specs.Walk.{found, least_of}
+use Rattle.typing_formulas.specs.TaskParts as parts
+use Rattle.typing_formulas.specs.TypedLists.{declared_of}
+use Rattle.typing_formulas.specs.Scope.{names_in}
+use Rattle.typing_formulas.specs.Walk.{found, least_of}
 use Rattle.model.specs.Typing as typing
 use Rattle.typing.specs.Chains.{AreTypes, cycles}
-use Rattle.typing.proofs.Tells as telling
+use Rattle.typing_formulas.proofs.Tells as telling
 use Rattle.typing.proofs.chains.types.Goals as goal
 
 pub returns : goal.returns

@@ -1,11 +1,11 @@
 use Rattle.std.proofs.Common.{◌≡◌, ◌∙◌, ◌++◌, List, map, drop, not, is_some, slice_get, None, ap, sym}
-use Rattle.typing.specs.Walk.{found, least_of}
+use Rattle.typing_formulas.specs.Walk.{found, least_of}
 use Rattle.pddl_words.specs.declared.name.Name.{Name}
 use Rattle.syntax_tree.specs.Tree as read
 use Rattle.model.specs.Trees.{domain_file}
 use Rattle.model.specs.Typing as typing
-use Rattle.typing.proofs.Found as finding
-use Rattle.typing.proofs.Tells as telling
+use Rattle.typing_formulas.proofs.Found as finding
+use Rattle.typing_formulas.proofs.Tells as telling
 use Rattle.typing.proofs.Costs.{declares_some, metric_faults, metric_told}
 use Rattle.typing.proofs.functions.declared.Goals as goal
 

@@ -1,6 +1,6 @@
 use Rattle.std.proofs.Common.{◌∙◌, ◌+◌, ap, sym, map, drop}
 use Rattle.std.proofs.lemmas.List.{drop_more, drop_all}
-use Rattle.typing.specs.Walk.{found, least_of}
+use Rattle.typing_formulas.specs.Walk.{found, least_of}
 use Rattle.pddl_words.specs.declared.name.Name.{Name}
 use Rattle.syntax_tree.specs.Tree as read
 use Rattle.model.specs.Trees.{domain_file}

@@ -1,13 +1,13 @@
 use Rattle.std.proofs.Common.{◌≡◌, ◌≤◌, ◌∙◌, [], ◌++◌, map, length, None, ap, arith}
-use Rattle.typing.specs.Walk.{found, least_of}
-use Rattle.typing.specs.TaskParts as parts
-use Rattle.typing.specs.TypedLists.{declared_of}
-use Rattle.typing.specs.Scope.{names_in}
+use Rattle.typing_formulas.specs.Walk.{found, least_of}
+use Rattle.typing_formulas.specs.TaskParts as parts
+use Rattle.typing_formulas.specs.TypedLists.{declared_of}
+use Rattle.typing_formulas.specs.Scope.{names_in}
 use Rattle.model.specs.Typing as typing
 use Rattle.std.proofs.lemmas.List.{length-map}
-use Rattle.typing.proofs.Found as finding
-use Rattle.typing.proofs.Tells as telling
-use Rattle.typing.proofs.Empty as empty
+use Rattle.typing_formulas.proofs.Found as finding
+use Rattle.typing_formulas.proofs.Tells as telling
+use Rattle.typing_formulas.proofs.Empty as empty
 use Rattle.typing.proofs.objects.all.Goals as goal
 
 pub returns : goal.returns

@@ -1,12 +1,12 @@
 use Rattle.std.proofs.Common.{map, refl}
 use Rattle.typing.specs.Task.{file_of}
-use Rattle.typing.specs.Walk.{least_of}
-use Rattle.typing.specs.TaskParts as parts
-use Rattle.typing.specs.Scope.{known_of, narrow_atoms_in}
+use Rattle.typing_formulas.specs.Walk.{least_of}
+use Rattle.typing_formulas.specs.TaskParts as parts
+use Rattle.typing_formulas.specs.Scope.{known_of, narrow_atoms_in}
 use Rattle.syntax_tree.specs.Tree as read
 use Rattle.model.specs.Typing as typing
 use Rattle.syntax_tree.specs.declared.tree.Fact.{Fact}
-use Rattle.typing.proofs.Found as finding
+use Rattle.typing_formulas.proofs.Found as finding
 use Rattle.typing.proofs.statements.atoms.Goals as goal
 
 pub loop-fact-preserved : goal.loop-fact-preserved

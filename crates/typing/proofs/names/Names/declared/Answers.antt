@@ -4,7 +4,7 @@ use Rattle.syntax_tree.specs.Tree.{domain_of, problem_of}
 use Rattle.typing.specs.Task.{TellsLeastOf}
 use Rattle.typing.specs.Names.{declared_faults, domain_faults, AreDeclared}
 use Rattle.model.specs.Typing.{object_faults, objects_faults, declaration_faults, function_faults, action_faults, declared_objects, declared_constants, known_in_domain, object_in, type_names, first_filled}
-use Rattle.typing.proofs.Tells.{tells_here, tells_later}
+use Rattle.typing_formulas.proofs.Tells.{tells_here, tells_later}
 use Rattle.faults.proofs.Results.{passed_on}
 use Rattle.typing.proofs.names.Names.declared.Goals as goal
 

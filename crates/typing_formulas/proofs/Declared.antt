@@ -1,0 +1,51 @@
+-- What is found of variables that are declared, and the names of types where none is declared twice.
+use Rattle.std.proofs.Common.{◌≡◌, ℕ, ◌+◌, ◌-◌, ◌<◌, ◌≤◌, nat_le, cond, ◌||◌, Bool, true, false, List, [], ◌∷◌, ◌++◌, codes, map, fold, take, length, slice_index, nat_lt, refl, ap, sym, ◌∙◌, arith, zero, suc, if◌then◌else◌}
+use Rattle.std.specs.List.{flat_map}
+use Rattle.std.proofs.lemmas.Bool.Decides.{nat_tests}
+use Rattle.std.proofs.lemmas.List.{map-append, append_assoc, append-nil}
+use Rattle.std.proofs.lemmas.List.Folds.{list_any-append}
+use Rattle.std.specs.Global.{Vec}
+use Rattle.typing_formulas.specs.declared.schemas.TypeUnion.{TypeUnion}
+use Rattle.typing_formulas.specs.Scope.{BeginsWith}
+use Rattle.model.specs.Task as task
+use Rattle.model.specs.Trees as tree
+use Rattle.model.specs.Trees.{File}
+use Rattle.model.specs.Typing.{Declared, Placed, TypingFault, Variable, is_known, is_same, folded, with_name, with_variable, variable_in, variables_after, known_among, one_after, one_too_many, unions_in, names_of, names_of_variables, number_in, type_in, types_from, comes_back, cycle_faults_from, unknown_faults, types_faults, type_faults, words_of, refused, refused_word, repeated, repeated_after}
+use Rattle.typing_formulas.proofs.Empty.{nil_left, nil_right, not_refused, not_repeated, within}
+use Rattle.typing_formulas.proofs.Found.{map-map}
+use Rattle.typing_formulas.proofs.Lists.{list_any-position}
+
+-- the fault of a variable whose name is in scope
+abbrev pub shadow_faults : List task.Name → Declared → List TypingFault
+shadow_faults names x = if is_known names x.name then refused_word x.file 20 x.name else []
+
+-- they are found one after another
+pub among_one_by_one : (names : List task.Name) (xs : List Declared) → flat_map (shadow_faults names) xs ≡ refused 20 (known_among names (words_of xs))
+among_one_by_one names [] = refl
+among_one_by_one names (x ∷ xs) = by (is_known names x.name) (among_one_by_one names xs)
+  where
+    by : (b : Bool) → flat_map (shadow_faults names) xs ≡ refused 20 (known_among names (words_of xs))
+        → (if b then refused_word x.file 20 x.name else []) ++ flat_map (shadow_faults names) xs
+        ≡ refused 20 (cond b (record { file = x.file; word = x.name } ∷ known_among names (words_of xs)) (known_among names (words_of xs)))
+    by true e = ap (λ fs. refused_word x.file 20 x.name ++ fs) e
+    by false e = e
+
+-- lists that begin with one another
+pub begins_further : (before middle after : List (Vec ℕ × TypeUnion)) → BeginsWith before middle → BeginsWith middle after → BeginsWith before after
+begins_further before middle after first second = (first.0 ++ second.0, second.1 ∙ ap (λ vs. vs ++ second.0) first.1 ∙ append_assoc before first.0 second.0)
+
+-- and the first of them again
+pub taken_again : (before after : List (Vec ℕ × TypeUnion)) → BeginsWith before after → take (length before) after ≡ before
+taken_again before after begins = ap (take (length before)) begins.1 ∙ taken before begins.0
+  where
+    taken : {X : Type 0} (xs ys : List X) → take (length xs) (xs ++ ys) ≡ xs
+    taken [] ys = refl
+    taken (x ∷ xs) ys = ap (λ zs. x ∷ zs) (taken xs ys)
+
+-- the names of the types, where none is declared twice
+pub names_are : (xs : List Declared) → repeated_after (codes "object" ∷ []) (words_of xs) ≡ []
+    → fold with_name (codes "object" ∷ []) (names_of xs) ≡ codes "object" ∷ map folded (names_of xs)
+names_are xs e =
+    ap (fold with_name (codes "object" ∷ [])) (sym (map-map (λ (w : Placed). w.word) (λ (x : Declared). record { file = x.file; word = x.name }) xs))
+    ∙ not_repeated (codes "object" ∷ []) (words_of xs) e
+    ∙ ap (λ ns. codes "object" ∷ ns) (map-map (λ (w : Placed). folded w.word) (λ (x : Declared). record { file = x.file; word = x.name }) xs ∙ sym (map-map folded (λ (x : Declared). x.name) xs))

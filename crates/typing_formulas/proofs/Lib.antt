@@ -1,0 +1,9 @@
+pub mod Least
+pub mod Lists
+pub mod Tables
+pub mod Found
+pub mod Trees
+pub mod Tells
+pub mod Empty
+pub mod Declared
+pub mod Arguments

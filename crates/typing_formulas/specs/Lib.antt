@@ -1,0 +1,5 @@
+pub mod TaskParts
+pub mod Refusals
+pub mod Walk
+pub mod TypedLists
+pub mod Scope

@@ -1,0 +1,26 @@
+//! The numbered parts of a task, from atoms to schemas, and the names in formulas, which become numbers by what is
+//! declared: of types, of variables, and of what may be named where an atom stands. The least fault is kept on the way.
+#![tactic(auto)]
+
+mod atoms;
+pub mod domain;
+mod fault;
+pub mod formulas;
+mod schemas;
+mod scope;
+mod type_names;
+pub mod typed_lists;
+pub mod types;
+pub mod variables;
+mod walk;
+
+pub use atoms::{
+    Atom, LiftedAtom, MAX_ARGUMENTS, MAX_OBJECTS, MAX_VARIABLES, ObjectId, PredicateId, SchemaId,
+    Term, TypeId, VariableId,
+};
+pub use fault::{TaskFault, TaskRefusal};
+pub use schemas::{Effect, EffectLiteral, Formula, Predicate, Schema, TypeUnion};
+pub use scope::{Globals, Scope};
+pub use syntax_tree::TaskFile;
+pub use type_names::TypeNames;
+pub use walk::Walk;
