@@ -1,5 +1,5 @@
 -- What the program does: what its words ask for, which texts its files have, and what it tells of them with which status.
-use Rattle.std.specs.Prelude.{◌≡◌, ℕ, ◌⊎◌, Bool, List, [], ◌∷◌, ◌++◌, take, Option, None, Some, IfSome, IsTrue, Result, Ok, Err}
+use Rattle.std.specs.Prelude.{◌≡◌, ℕ, ◌⊎◌, Bool, List, [], ◌∷◌, ◌++◌, Option, None, Some, IfSome, IsTrue, Result, Ok, Err}
 use Rattle.std.specs.Io.KnownBytes.{Appends}
 use Rattle.solver.specs.declared.answer.Answer.{Answer}
 use Rattle.solver.specs.Solver.{IsTrueAnswer}
@@ -17,6 +17,7 @@ use Rattle.command_line.specs.declared.fault.WordsFault.{WordsFault}
 use Rattle.planner_main_answers.specs.Checked.{IsHandedIn, IsInputFault, IsTrueCheck}
 use Rattle.planner_main_output.specs.Check.{IsLineOf}
 use Rattle.planner_main_output.specs.Verdict.{told_verdict, status_of}
+use Rattle.planner_main_files.specs.Texts.{AreKept, IsText}
 use Rattle.planner_main_files.specs.Written.{NamedText, AreWritten, AreWrittenPartly}
 use Rattle.planner_main.specs.Solution.{TellsAnswer}
 use Rattle.model.specs.Runs.{Verdict}
