@@ -1,12 +1,12 @@
 -- The compact text of a JSON object whose members are numbers, strings and lists of strings (RFC 8259): no blank stands in it, and a
 -- string is escaped only where it must be.
-use Rattle.std.specs.Prelude.{◌≡◌, ℕ, ◌/◌, ◌%◌, ◌==◌, ◌||◌, ◌&&◌, nat_lt, Bool, true, false, if◌then◌else◌, List, [], ◌∷◌, ◌++◌, flat_map, map, codes}
+use Rattle.std.specs.Prelude.{ℕ, ◌/◌, ◌%◌, ◌==◌, ◌||◌, ◌&&◌, nat_lt, Bool, true, false, if◌then◌else◌, List, [], ◌∷◌, ◌++◌, flat_map, map, codes}
 use Rattle.std.specs.Fmt.{decimal}
 use Rattle.std.specs.Char.{digit_char}
 use Rattle.std.specs.Cmp.Lexicographic.{slice_cmp}
 use Rattle.std.specs.Ordering.{nat_cmp, match_ordering}
 
--- what a member has
+-- what a member has: a number, a string or an array of strings
 pub data Value : Type 0 where
   number : ℕ → Value
   text : List ℕ → Value
@@ -29,6 +29,7 @@ escaped byte =
     else (if nat_lt byte 32 then codes "\\u00" ++ (digit_char (byte / 16) ∷ digit_char (byte % 16) ∷ [])
     else byte ∷ []))))))
 
+-- a string, between quotation marks
 abbrev pub string_text : List ℕ → List ℕ
 string_text s = codes "\"" ++ (flat_map escaped s ++ codes "\"")
 
@@ -38,14 +39,17 @@ joined [] = []
 joined (first ∷ []) = first
 joined (first ∷ second ∷ rest) = first ++ (codes "," ++ joined (second ∷ rest))
 
+-- a number in decimal digits, a string, or an array between brackets
 abbrev pub value_text : Value → List ℕ
 value_text (number n) = decimal n
 value_text (text s) = string_text s
 value_text (texts list) = codes "[" ++ (joined (map string_text list) ++ codes "]")
 
+-- a key, a colon and the value
 abbrev pub member_text : Member → List ℕ
 member_text member = string_text member.key ++ (codes ":" ++ value_text member.value)
 
+-- the members between braces, with a comma between them
 abbrev pub object_text : List Member → List ℕ
 object_text members = codes "{" ++ (joined (map member_text members) ++ codes "}")
 

@@ -8,6 +8,7 @@ use Rattle.answer_json.specs.declared.Member.{Member}
 use Rattle.answer_json.specs.declared.Value.{Value}
 use Rattle.answer_json.specs.declared.Value.TheVariants.{Number, Text, Texts}
 
+-- the value of the code, and the member
 abbrev pub value_of : Value → text.Value
 value_of (Number n) = text.number n
 value_of (Text s) = text.text s.now
@@ -22,7 +23,7 @@ members_of = map member_of
 abbrev pub keys_of : List Member → List (List ℕ)
 keys_of = map (λ member. member.key.now)
 
--- the values that JSON's grammar knows, as a reader makes them
+-- what a reader of JSON makes of strings, of a value and of members
 abbrev pub strings_read : List (List ℕ) → json.Items
 strings_read [] = json.no_items
 strings_read (s ∷ rest) = json.item (json.string s) (strings_read rest)

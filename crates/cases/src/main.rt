@@ -8,6 +8,7 @@ mod files;
 mod follow_up;
 mod holdings;
 mod outcome;
+mod pages;
 mod section;
 mod stream;
 mod text;
@@ -27,6 +28,7 @@ fn main(rt: HostRuntime) -> io::Result<ExitCode> {
     for name in &case_files(&rt)? {
         differing = differing.saturating_add(run_file(&rt, name.as_str())?);
     }
+    differing = differing.saturating_add(pages::compare_pages(&rt)?);
     Ok(ExitCode::from(u8::from(differing > 0)))
 }
 

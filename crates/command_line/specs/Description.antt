@@ -1,6 +1,6 @@
 -- The command line as it is described to `clap`, whose definitions say what words come to under a description: which words it takes
 -- (`fault_of`), and which values its arguments then have (`subcommand_of`).
-use Rattle.std.specs.Prelude.{ℕ, List, [], ◌∷◌, codes, Some, true, false}
+use Rattle.std.specs.Prelude.{List, [], ◌∷◌, codes, Some, true, false}
 use Rattle.clap.specs.Walk.{Rule, Text}
 use Rattle.clap.specs.Simple.{App, Shape, new_rule, new_shape}
 use Rattle.clap.specs.declared.builder.action.ArgAction.TheVariants.{SetTrue}
@@ -22,9 +22,11 @@ limit name = record (option name) { parser = Some (Unsigned 1 16777216); default
 abbrev pub json : Rule
 json = record (new_rule (codes "json")) { long = Some (codes "json"); action = Some SetTrue }
 
+-- a command of this name with these arguments
 abbrev pub subcommand : Text → List Rule → Shape
 subcommand name rules = record (new_shape name) { rules = rules }
 
+-- the three commands
 abbrev pub solve : Shape
 solve = subcommand (codes "solve")
     (file (codes "DOMAIN") ∷ file (codes "PROBLEM") ∷ option (codes "plan") ∷ option (codes "cert")

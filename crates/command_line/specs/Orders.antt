@@ -1,5 +1,5 @@
 -- What the words of a command line ask for.
-use Rattle.std.specs.Prelude.{◌≡◌, ℕ, Bool, false, List, [], codes, Option, Some, None, if◌then◌else◌, option_and_then, option_map}
+use Rattle.std.specs.Prelude.{◌≡◌, ℕ, Bool, false, List, [], codes, Option, Some, None, if◌then◌else◌, option_and_then}
 use Rattle.std.specs.Option.{option_map_or}
 use Rattle.std.specs.Str.{bytes_eq}
 use Rattle.std.specs.Str.Parse.{without_leading_plus, digits_value}
@@ -38,34 +38,44 @@ limit_of text = if is_unsigned_in 1 16777216 text then Some (digits_value 10 (wi
 abbrev pub limit_in : Text → List Row → Option ℕ
 limit_in name rows = option_and_then limit_of (first_of name rows)
 
--- the option without a value is given
+-- the option without a value is given: `clap` gives it the value `true` then, and else `false`
 abbrev pub is_given : Text → List Row → Bool
 is_given name rows = option_map_or (λ value. bytes_eq value (codes "true")) (first_of name rows) false
 
--- what the values of the arguments of a command ask for
+-- In a `do`, `x ← o` stands for an o whose value is x; where it has none, there is none of the whole.
+infixl 10 ◌>>=◌
+abbrev pub ◌>>=◌ : {A B : Type 0} → Option A → (A → Option B) → Option B
+o >>= f = option_and_then f o
+
+-- what the values of the arguments of a command ask for: its files and limits are there, and the options that are given
 abbrev pub solve_in : List Row → Option Wanted
-solve_in rows =
-    option_and_then (λ domain. option_and_then (λ problem. option_and_then (λ states. option_and_then (λ instances.
-    Some (to_solve domain problem (record {
-      states = states;
-      instances = instances;
-      plan = first_of (codes "plan") rows;
-      cert = first_of (codes "cert") rows;
-      json = is_given (codes "json") rows;
-    })))
-    (limit_in (codes "instances") rows)) (limit_in (codes "states") rows)) (first_of (codes "PROBLEM") rows)) (first_of (codes "DOMAIN") rows)
+solve_in rows = do
+  domain ← first_of (codes "DOMAIN") rows
+  problem ← first_of (codes "PROBLEM") rows
+  states ← limit_in (codes "states") rows
+  instances ← limit_in (codes "instances") rows
+  Some (to_solve domain problem (record {
+    states = states;
+    instances = instances;
+    plan = first_of (codes "plan") rows;
+    cert = first_of (codes "cert") rows;
+    json = is_given (codes "json") rows;
+  }))
 
 abbrev pub validate_in : List Row → Option Wanted
-validate_in rows =
-    option_and_then (λ domain. option_and_then (λ problem. option_and_then (λ plan.
-    Some (to_validate domain problem plan (is_given (codes "json") rows)))
-    (first_of (codes "PLAN") rows)) (first_of (codes "PROBLEM") rows)) (first_of (codes "DOMAIN") rows)
+validate_in rows = do
+  domain ← first_of (codes "DOMAIN") rows
+  problem ← first_of (codes "PROBLEM") rows
+  plan ← first_of (codes "PLAN") rows
+  Some (to_validate domain problem plan (is_given (codes "json") rows))
 
 abbrev pub check_in : List Row → Option Wanted
-check_in rows =
-    option_and_then (λ domain. option_and_then (λ problem. option_and_then (λ cert. option_and_then (λ instances.
-    Some (to_check domain problem cert (record { instances = instances; plan = first_of (codes "plan") rows; json = is_given (codes "json") rows })))
-    (limit_in (codes "instances") rows)) (first_of (codes "CERT") rows)) (first_of (codes "PROBLEM") rows)) (first_of (codes "DOMAIN") rows)
+check_in rows = do
+  domain ← first_of (codes "DOMAIN") rows
+  problem ← first_of (codes "PROBLEM") rows
+  cert ← first_of (codes "CERT") rows
+  instances ← limit_in (codes "instances") rows
+  Some (to_check domain problem cert (record { instances = instances; plan = first_of (codes "plan") rows; json = is_given (codes "json") rows }))
 
 -- what a command with these values asks for
 abbrev pub wanted_in : Text × List Row → Option Wanted

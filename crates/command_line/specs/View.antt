@@ -1,5 +1,5 @@
 -- An order of the code as what is asked for.
-use Rattle.std.specs.Prelude.{ℕ, List, map, Option, Some, None}
+use Rattle.std.specs.Prelude.{List, map, Option}
 use Rattle.std.specs.Borrow.{Bor}
 use Rattle.std.specs.Option.{option_map}
 use Rattle.clap.specs.Walk.{Text}
@@ -13,9 +13,11 @@ use Rattle.command_line.specs.declared.fault.WordsFault.TheVariants.{Words, NoMe
 abbrev pub text_in : Option (Bor Text) → Option Text
 text_in = option_map (λ (text : Bor Text). text.now)
 
+-- the words of the command line
 abbrev pub texts : List (Bor Text) → List Text
 texts = map (λ (word : Bor Text). word.now)
 
+-- what the order asks for
 abbrev pub wanted_of : Order → Wanted
 wanted_of (Solve domain problem plan cert states instances json) =
     to_solve domain.now problem.now (record { states = states.number; instances = instances.number; plan = text_in plan; cert = text_in cert; json = json })

@@ -1,11 +1,6 @@
--- What a file holds once it was made, written and closed.
-use Rattle.std.proofs.Common.{◌≡◌, ◌≢◌, ℕ, inl, inr, List, [], ◌∷◌, ◌++◌, ◌∙◌, refl, sym, ap, subst, Bool, true, false}
-use Rattle.std.proofs.lemmas.List.{append_assoc}
-use Rattle.std.specs.Prelude.{Option, None, Some, IfSome, IsTrue, Result, Ok, Err, OnOk, if◌then◌else◌}
-use Rattle.std.specs.Str.{bytes_eq}
-use Rattle.std.proofs.lemmas.Slice.Eq.{bytes_eq-Decides}
-use Rattle.std.specs.Io.KnownBytes.{Appends}
-use Rattle.devices.specs.Devices.{AppendsBeginning}
+-- Which files are wanted to be written of an answer.
+use Rattle.std.proofs.Common.{◌≡◌, ℕ, List, [], ◌∷◌, sym, ap, subst}
+use Rattle.std.specs.Prelude.{Option, Some}
 use Rattle.std.specs.Borrow.{Bor}
 use Rattle.formulas.specs.declared.plan.Plan.{Plan}
 use Rattle.certificate.specs.declared.cert.Cert.{Cert}
@@ -14,70 +9,10 @@ use Rattle.certificate_text.specs.CertificateNames.{certificate_text}
 use Rattle.solver.specs.declared.answer.Answer.{Answer}
 use Rattle.solver.specs.declared.answer.Answer.TheVariants as answer
 use Rattle.model.specs.Task.{Task}
-use Rattle.planner_main.specs.Files.{text_in}
-use Rattle.planner_main.specs.Solution.{cert_file, plan_file, text_of}
-use Rattle.planner_main.specs.Written.{HoldsBeginning, NamedText, AreWritten, AreWrittenPartly}
-
--- A beginning of what was made and then of what was written is one of what was written.
-still_beginning : (before made after : Option (List ℕ)) (front rest : List ℕ) → HoldsBeginning before made [] → HoldsBeginning made after front
-    → HoldsBeginning before after (front ++ rest)
-still_beginning before made after front rest started (inr (a, b, is, held)) =
-    inr (a, b ++ rest, subst (λ f. f ++ rest ≡ a ++ (b ++ rest)) (sym is) (append_assoc a b rest), held)
-still_beginning before made after front rest (inl same) (inl still) = inl (still ∙ same)
-still_beginning before made after front rest (inr (a, b, is, held)) (inl still) =
-    inr (a, b ++ (front ++ rest), subst (λ f. front ++ rest ≡ f ++ (front ++ rest)) is (search) ∙ append_assoc a b (front ++ rest), still ∙ held)
-
--- what an empty sink took is all that it has
-taken_all : (after : Option (List ℕ)) (bytes : List ℕ) → Appends (Some []) after bytes → after ≡ Some bytes
-taken_all None bytes appended = absurd appended
-taken_all (Some taken) bytes appended = search
-
-module _ (before made after taken taken_after : Option (List ℕ)) (bytes : List ℕ) (empty : taken ≡ Some []) where
-  pub written_partly : AppendsBeginning taken taken_after bytes → HoldsBeginning before made [] → IfSome taken_after (HoldsBeginning made after)
-      → HoldsBeginning before after bytes
-  written_partly (front, rest, split, appended) started closed =
-      let all : taken_after ≡ Some front = taken_all taken_after front (subst (λ t. Appends t taken_after front) empty appended) in
-      subst (HoldsBeginning before after) (sym split)
-      (still_beginning before made after front rest started (subst (λ t. IfSome t (HoldsBeginning made after)) all closed))
-
--- what was written whole is what the file holds
-pub whole_if_written : {E : Type 0} (after taken taken_after : Option (List ℕ)) (bytes : List ℕ) (written : Result (Unit {0}) E) → taken ≡ Some []
-    → OnOk written (Appends taken taken_after bytes) → after ≡ taken_after → OnOk written (after ≡ Some bytes)
-whole_if_written after taken taken_after bytes (Ok done) empty appended closed =
-    closed ∙ taken_all taken_after bytes (subst (λ t. Appends t taken_after bytes) empty appended)
-whole_if_written after taken taken_after bytes (Err fault) empty appended closed = tt
-
--- Each other file is as it was, where the name of the file that was closed is that of the file that was made.
-pub others_kept : (before made after : List ℕ → Option (List ℕ)) (closed name : List ℕ) → closed ≡ name
-    → ((other : List ℕ) → other ≢ name → made other ≡ before other) → ((other : List ℕ) → other ≢ closed → after other ≡ made other)
-    → (other : List ℕ) → other ≢ name → after other ≡ before other
-others_kept before made after closed name same at_making at_closing other differs =
-    at_closing other (λ is. differs (is ∙ same)) ∙ at_making other differs
-
--- One file is written, whole or in part, and each other file is as it was.
-module _ (before after : List ℕ → Option (List ℕ)) (file : NamedText) where
-  one_file : after file.name ≡ Some file.text → ((other : List ℕ) → other ≢ file.name → after other ≡ before other)
-      → (is_it : Bool) (other : List ℕ) → (is_it ≡ true → other ≡ file.name) → (is_it ≡ false → other ≢ file.name)
-      → after other ≡ (if is_it then Some file.text else before other)
-  one_file held kept true other same differs = ap after (same refl) ∙ held
-  one_file held kept false other same differs = kept other (differs refl)
-
-  one_written : after file.name ≡ Some file.text → ((other : List ℕ) → other ≢ file.name → after other ≡ before other)
-      → AreWritten before after (file ∷ [])
-  one_written held kept = λ other.
-      let decides = bytes_eq-Decides other file.name in
-      one_file held kept (bytes_eq other file.name) other decides.0 (λ unlike is. absurd (cc (sym unlike ∙ decides.1 is)))
-
-  module _ (known : Bool) (kept : IsTrue known → (other : List ℕ) → other ≢ file.name → after other ≡ before other) where
-    pub written_alone : {E : Type 0} (files : List NamedText) (r : Result (Unit {0}) E) → files ≡ file ∷ []
-        → (IsTrue known → OnOk r (after file.name ≡ Some file.text)) → OnOk r (IsTrue known → AreWritten before after files)
-    written_alone files (Ok done) is held = λ is_known. subst (AreWritten before after) (sym is) (one_written (held is_known) (kept is_known))
-    written_alone files (Err fault) is held = tt
-
-    pub partly_alone : (files : List NamedText) → files ≡ file ∷ []
-        → (IsTrue known → HoldsBeginning (before file.name) (after file.name) file.text)
-        → (next : NamedText) × (files ≡ next ∷ []) × (IsTrue known → AreWrittenPartly before after [] next)
-    partly_alone files is held = (file, is, λ is_known. record { beginning = held is_known; others = kept is_known })
+use Rattle.planner_main_answers.specs.Files.{text_in}
+use Rattle.planner_main_output.specs.Answer.{text_of}
+use Rattle.planner_main_files.specs.Written.{NamedText}
+use Rattle.planner_main.specs.Solution.{cert_file, plan_file}
 
 -- What is wanted to be written of an answer that is a plan, or that there is none.
 module _ (task : Task) (a : Answer) (name : Option (Bor (List ℕ))) (word : Bor (List ℕ)) (named : name ≡ Some word) where

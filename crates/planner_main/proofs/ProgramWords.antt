@@ -6,30 +6,32 @@ use Rattle.solver.specs.declared.answer.Answer.{Answer}
 use Rattle.solver.specs.declared.answer.Answer.TheVariants.{Plan, Unsolvable, Unknown}
 use Rattle.planner_main.specs.declared.report.Failure.{Failure}
 use Rattle.planner_main.specs.declared.report.Failure.TheVariants as failure
-use Rattle.planner_main.specs.declared.task_file.FileFault.TheVariants as refusal
+use Rattle.planner_main_answers.specs.declared.task_file.FileFault.TheVariants as refusal
 use Rattle.devices.specs.declared.device.WriteFault.TheVariants as device
 use Rattle.command_line.specs.Orders.{Asks, IsCommand, Wanted, to_solve, to_validate, to_check}
 use Rattle.command_line.specs.View.{IsOfWords}
 use Rattle.command_line.specs.declared.fault.WordsFault.{WordsFault}
 use Rattle.command_line.proofs.OrderLemmas.{one_wanted}
-use Rattle.planner_main.specs.Written.{NamedText}
-use Rattle.planner_main.specs.Checked.{IsInputFault, IsLineOf}
+use Rattle.planner_main_files.specs.Written.{NamedText}
+use Rattle.planner_main_answers.specs.Checked.{IsInputFault}
+use Rattle.planner_main_output.specs.Check.{IsLineOf}
 use Rattle.certificate_listing.specs.declared.refusal.Refusal.{Refusal}
 use Rattle.certificate_listing.specs.declared.refusal.Refusal.TheVariants as refused
 use Rattle.cert_checker.specs.declared.checker.Accepted.{Accepted}
 use Rattle.model.specs.Task.{Task}
-use Rattle.planner_main.specs.Program.{IsText, IsTextIfNamed, OnTwo, OnThree, OnInputs, IsAnswerTo, Refuses, fault_in, IsFaultFor, IsOneOf, IsToldOn, IsToldOfWords, SaysOfWords, AreKept, NamesInput, HasFailed, HasNotFailed, CountsFailure, CountsEither, device_failure, inputs_of}
-use Rattle.planner_main.specs.declared.task_file.File.{File}
-use Rattle.planner_main.specs.declared.task_file.FileFault as file
+use Rattle.planner_main.specs.Program.{IsTextIfNamed, OnTwo, OnThree, OnInputs, IsAnswerTo, Refuses, fault_in, IsFaultFor, IsOneOf, IsToldOn, IsToldOfWords, SaysOfWords, NamesInput, HasFailed, HasNotFailed, CountsFailure, CountsEither, device_failure, inputs_of}
+use Rattle.planner_main_files.specs.Texts.{IsText, AreKept}
+use Rattle.planner_main_answers.specs.declared.task_file.File.{File}
+use Rattle.planner_main_answers.specs.declared.task_file.FileFault as file
 use Rattle.faults.specs.declared.code.Code.{Code}
 use Rattle.faults.specs.declared.refused.Span.{Span}
 use Rattle.planner_main.specs.Failures.{device_line, line_of_fault, no_memory_line}
-use Rattle.planner_main.specs.Files.{fault_at}
+use Rattle.planner_main_answers.specs.Files.{fault_at}
 use Rattle.devices.specs.declared.device.WriteFault.{WriteFault}
 use Rattle.devices.specs.Devices.{AppendsBeginning, CountsDevice, IsWritten, one_more}
-use Rattle.planner_main.specs.Report.{is_failure}
-use Rattle.planner_main.specs.Report as verdict
-use Rattle.planner_main.specs.Solution as answer
+use Rattle.planner_main.specs.Failures.{is_failure}
+use Rattle.planner_main_output.specs.Verdict as verdict
+use Rattle.planner_main_output.specs.Answer as answer
 use Rattle.model.specs.Runs.{Verdict, valid, not_applicable, goal_missed}
 use Rattle.model.specs.Files.{FileFault, IsTaskFault, IsFileFault}
 
@@ -183,14 +185,6 @@ module _ (files files_after out out_after : ℕ) where
   others_have_not_failed Says status (failure.Text fault) told counted other = counted
   others_have_not_failed Says status (failure.Device device.Device) told counted other = absurd (other told.0)
   others_have_not_failed Says status (failure.Device device.NoMemory) told counted other = counted
-
--- A failed read of a file that was opened counts once among the failures of the files.
-pub reading_counted : {T : Type 0} (before opened after input input_after : ℕ) (r : Result T WriteFault) → opened ≡ before → input ≡ 0
-    → CountsDevice input input_after r → (input_after ≡ 0 → after ≡ opened) → (0 < input_after → after ≡ one_more opened) → CountsDevice before after r
-reading_counted before opened after input input_after (Ok text) same fresh counted unfailed failed = unfailed (counted ∙ fresh) ∙ same
-reading_counted before opened after input input_after (Err device.Device) same fresh counted unfailed failed =
-    failed (omega (arith, counted, fresh)) ∙ ap one_more same
-reading_counted before opened after input input_after (Err device.NoMemory) same fresh counted unfailed failed = unfailed (counted ∙ fresh) ∙ same
 
 -- What is refused of the texts of files.
 module _ (contents : List ℕ → Option (List ℕ)) where

@@ -1,15 +1,10 @@
--- What stands on the standard error where the program has no answer.
-use Rattle.std.specs.Prelude.{ℕ, List, ◌++◌, codes}
+-- What stands on the standard error where the program has no answer, and the statuses beside it.
+use Rattle.std.specs.Prelude.{ℕ, ◌==◌, Bool, List, [], ◌∷◌, ◌++◌, codes}
+use Rattle.std.specs.List.{list_any}
 use Rattle.std.specs.Fmt.{decimal}
 use Rattle.faults.specs.Fault.{name_in, names}
-use Rattle.model.specs.Trees.{domain_file, problem_file}
-use Rattle.model.specs.Files.{File, of_task, the_plan, FileFault}
-
--- the name of a file
-abbrev pub name_of_file : File → List ℕ
-name_of_file (of_task domain_file) = codes "domain"
-name_of_file (of_task problem_file) = codes "problem"
-name_of_file the_plan = codes "plan"
+use Rattle.planner_main_answers.specs.Files.{name_of_file}
+use Rattle.model.specs.Files.{FileFault}
 
 -- the line of a fault: `fault CODE Name in FILE at S..E`
 abbrev pub line_of_fault : FileFault → List ℕ
@@ -28,3 +23,7 @@ no_memory_line = codes "fault 60 NoMemory\n"
 -- the last line where the words are no command, or ask for help
 abbrev pub nothing_done_line : List ℕ
 nothing_done_line = codes "optplan: nothing was done\n"
+
+-- the statuses where there is no verdict: words that are no command; a text that is refused; a device; memory
+abbrev pub is_failure : ℕ → Bool
+is_failure status = list_any (λ n. n == status) (2 ∷ 20 ∷ 21 ∷ 22 ∷ [])

@@ -1,11 +1,5 @@
-pub mod Report
 pub mod Failures
 pub mod Solution
-pub mod Files
 pub mod Asked
-pub mod Json
 pub mod Reported
 pub mod Program
-pub mod Table
-pub mod Written
-pub mod Checked

@@ -1,22 +1,24 @@
 -- What the program does: what its words ask for, which texts its files have, and what it tells of them with which status.
-use Rattle.std.specs.Prelude.{◌≡◌, ℕ, ◌⊎◌, Bool, List, [], ◌∷◌, ◌++◌, take, Option, None, Some, IfSome, IsTrue, Result, Ok, Err}
+use Rattle.std.specs.Prelude.{◌≡◌, ℕ, ◌⊎◌, Bool, List, [], ◌∷◌, ◌++◌, Option, None, Some, IfSome, IsTrue, Result, Ok, Err}
 use Rattle.std.specs.Io.KnownBytes.{Appends}
 use Rattle.solver.specs.declared.answer.Answer.{Answer}
 use Rattle.solver.specs.Solver.{IsTrueAnswer}
 use Rattle.planner_main.specs.declared.report.Failure.{Failure}
 use Rattle.planner_main.specs.declared.report.Failure.TheVariants as failure
-use Rattle.planner_main.specs.declared.task_file.FileFault.TheVariants as refusal
+use Rattle.planner_main_answers.specs.declared.task_file.FileFault.TheVariants as refusal
 use Rattle.devices.specs.declared.device.WriteFault as device_fault
 use Rattle.devices.specs.declared.device.WriteFault.TheVariants as device
 use Rattle.devices.specs.Devices.{AppendsBeginning, one_more}
 use Rattle.planner_main.specs.Failures.{line_of_fault, device_line, no_memory_line, nothing_done_line}
-use Rattle.planner_main.specs.Files.{fault_at, told_in}
+use Rattle.planner_main_answers.specs.Files.{fault_at, told_in}
 use Rattle.command_line.specs.Orders.{Asks, Asked, AskedOfCheck, Wanted, to_solve, to_validate, to_check}
 use Rattle.command_line.specs.View.{IsOfWords}
 use Rattle.command_line.specs.declared.fault.WordsFault.{WordsFault}
-use Rattle.planner_main.specs.Checked.{IsHandedIn, IsInputFault, IsLineOf, IsTrueCheck}
-use Rattle.planner_main.specs.Report.{told_verdict, status_of}
-use Rattle.planner_main.specs.Written.{NamedText, AreWritten, AreWrittenPartly}
+use Rattle.planner_main_answers.specs.Checked.{IsHandedIn, IsInputFault, IsTrueCheck}
+use Rattle.planner_main_output.specs.Check.{IsLineOf}
+use Rattle.planner_main_output.specs.Verdict.{told_verdict, status_of}
+use Rattle.planner_main_files.specs.Texts.{AreKept, IsText}
+use Rattle.planner_main_files.specs.Written.{NamedText, AreWritten, AreWrittenPartly}
 use Rattle.planner_main.specs.Solution.{TellsAnswer}
 use Rattle.model.specs.Runs.{Verdict}
 use Rattle.certificate_listing.specs.declared.refusal.Refusal.{Refusal}
@@ -43,10 +45,6 @@ inputs_of (to_check domain problem cert asked) = domain ∷ problem ∷ cert ∷
 -- The words are a command that reads the file of this name.
 abbrev pub NamesInput : List (List ℕ) → List ℕ → Type 0
 NamesInput words name = (wanted : Wanted) × Asks words wanted × IsOneOf (inputs_of wanted) name
-
--- the text of the file of this name: where its contents are known, their first 16,777,217 bytes, or all where they are fewer
-abbrev pub IsText : (List ℕ → Option (List ℕ)) → List ℕ → List ℕ → Type 0
-IsText contents name text = IfSome (contents name) (λ bytes. text ≡ take 16777217 bytes)
 
 -- this is true of the texts of a domain file and a problem file
 abbrev pub OnTwo : (List ℕ → Option (List ℕ)) → (domain problem : List ℕ) → (List ℕ → List ℕ → Type 0) → Type 0
@@ -116,10 +114,6 @@ IsAnswerTo contents (to_check domain problem cert asked) text status written = I
 
 abbrev pub IsAnswer : (List ℕ → Option (List ℕ)) → List (List ℕ) → (text : List ℕ) → (status : ℕ) → List NamedText → Type 0
 IsAnswer contents words text status written = (wanted : Wanted) × Asks words wanted × IsAnswerTo contents wanted text status written
-
--- each file is as it was
-abbrev pub AreKept : (before after : List ℕ → Option (List ℕ)) → Type 0
-AreKept before after = (name : List ℕ) → after name ≡ before name
 
 -- A true answer is told: its files hold their texts, where files are known, and the standard output grew by its text.
 abbrev pub IsTold : (IsTrueText : List ℕ → ℕ → List NamedText → Type 0) → (known : Bool)

@@ -1,12 +1,10 @@
 -- What is reported, as the members of its object.
-use Rattle.std.specs.Prelude.{List, IsTrue, Result, Ok, Err}
+use Rattle.std.specs.Prelude.{List, IsTrue}
 use Rattle.answer_json.specs.JsonText.{Member}
 use Rattle.typing.specs.Task.{task_of}
 use Rattle.validator.specs.Verdict.{verdict_of}
-use Rattle.certificate_listing.specs.declared.refusal.Refusal.{Refusal}
-use Rattle.certificate_listing.specs.declared.refusal.Refusal.TheVariants as refusal
-use Rattle.cert_checker.specs.declared.checker.Accepted.{Accepted}
-use Rattle.planner_main.specs.Json.{of_answer, of_checked, of_verdict}
+use Rattle.planner_main_output.specs.Json.{of_answer, of_checked, of_verdict}
+use Rattle.planner_main_output.specs.Check.{IsToldRefusal}
 use Rattle.planner_main.specs.declared.json.Report.{Report}
 use Rattle.planner_main.specs.declared.json.Report.TheVariants as report
 use Rattle.model.specs.PlanWriting.{has_names}
@@ -16,16 +14,6 @@ abbrev pub of_report : Report → List Member
 of_report (report.Solve solved) = of_answer (task_of solved.task) solved.answer
 of_report (report.Validate verdict) = of_verdict (verdict_of verdict)
 of_report (report.Check checked) = of_checked checked.answer
-
--- the refusal is told: it is none of memory or of a device
-abbrev pub IsToldRefusal : Result Accepted Refusal → Type 0
-IsToldRefusal (Ok shown) = Unit {0}
-IsToldRefusal (Err (refusal.Line code line)) = Unit {0}
-IsToldRefusal (Err (refusal.Unfair i)) = Unit {0}
-IsToldRefusal (Err (refusal.Plain code)) = Unit {0}
-IsToldRefusal (Err refusal.NoMemory) = ⊥
-IsToldRefusal (Err refusal.Device) = ⊥
-IsToldRefusal (Err refusal.Failed) = ⊥
 
 -- What is reported can be told: the names of a task that was solved are names, as those of each task of files, and a refusal is told.
 abbrev pub IsTold : Report → Type 0

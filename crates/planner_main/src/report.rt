@@ -1,39 +1,29 @@
-//! What the program says: the lines of its two streams, and the statuses beside them.
+//! What the program says where it has no answer: the lines of the standard error, and the statuses beside them.
 ghost use Rattle.std.specs.Prelude.{◌≡◌, ◌⊎◌, ◌++◌, ℕ, IfOk, IsTrue, List};
 ghost use Rattle.std.specs.String.{string_bytes};
-ghost use Rattle.validator.specs.Verdict.{verdict_of};
 ghost use Rattle.command_line.specs.View.{IsOfWords};
-ghost use Rattle.planner_main.specs.Report.{is_failure, line_of, status_of, told_verdict};
-ghost use Rattle.planner_main.specs.Failures.{line_of_fault, no_memory_line, nothing_done_line};
-ghost use Rattle.planner_main.specs.Files.{fault_at};
+ghost use Rattle.planner_main.specs.Failures.{is_failure, line_of_fault, no_memory_line, nothing_done_line};
+ghost use Rattle.planner_main_answers.specs.Files.{fault_at};
 ghost use Rattle.planner_main.specs.Program.{IsToldOfWords, IsToldOn};
 ghost use Rattle.devices.specs.Devices.{IsWritten};
 
-use crate::json::{line_of, verdict_object};
-use crate::task_file::{File, FileFault};
 use command_line::WordsFault;
 use devices::{Sink, WriteFault, write_all};
 use faults::{Code, Span};
+use planner_main_answers::{File, FileFault};
 use std::alloc::{AllocError, Global};
-use validator::Verdict;
-
-/// The plan solves the task, or the certificate is accepted.
-pub(crate) const YES: u8 = 0;
 
 /// The words are no command.
-pub(crate) const WRONG_WORDS: u8 = 2;
-
-/// The plan does not solve the task, or the certificate is not accepted.
-pub(crate) const NO: u8 = 12;
+const WRONG_WORDS: u8 = 2;
 
 /// A file's text is refused.
-pub(crate) const REFUSED: u8 = 20;
+const REFUSED: u8 = 20;
 
 /// A file or the standard output could not be opened, read or written.
-pub(crate) const DEVICE: u8 = 21;
+const DEVICE: u8 = 21;
 
 /// Memory was refused.
-pub(crate) const NO_MEMORY: u8 = 22;
+const NO_MEMORY: u8 = 22;
 
 /// The last line where the words are no command.
 const NOTHING_DONE: &str = "optplan: nothing was done\n";
@@ -66,50 +56,6 @@ impl From<WriteFault> for Failure {
 
     fn from(fault: WriteFault) -> Failure {
         Failure::Device(fault)
-    }
-}
-
-/// What a verdict is told as, and its status.
-pub(crate) fn answer(
-    alloc: Global,
-    verdict: Verdict,
-    json: bool,
-) -> Result<(String, u8), AllocError>
-    ensures line { IfOk result (λ told. string_bytes told.0 ≡ told_verdict json (verdict_of verdict)) }
-    ensures status { IfOk result (λ told. told.1 ≡ status_of (verdict_of verdict)) }
-{
-    Ok((tell_verdict(alloc, verdict, json)?, status_of(verdict)))
-}
-
-/// What a verdict is told as.
-fn tell_verdict(alloc: Global, verdict: Verdict, json: bool) -> Result<String, AllocError>
-    ensures { IfOk result (λ told. string_bytes told ≡ told_verdict json (verdict_of verdict)) }
-{
-    if json {
-        line_of(verdict_object(alloc, verdict)?)
-    } else {
-        verdict_line(alloc, verdict)
-    }
-}
-
-/// The line of a verdict.
-fn verdict_line(alloc: Global, verdict: Verdict) -> Result<String, AllocError>
-    ensures { IfOk result (λ line. string_bytes line ≡ line_of (verdict_of verdict)) }
-{
-    match verdict {
-        Verdict::Valid { cost } => format!(in alloc; "valid cost {cost}\n"),
-        Verdict::NotApplicable { step } => format!(in alloc; "not applicable step {step}\n"),
-        Verdict::GoalMissed => String::from_str(alloc, "goal missed\n"),
-    }
-}
-
-/// The status beside a verdict.
-fn status_of(verdict: Verdict) -> u8
-    ensures { result ≡ status_of (verdict_of verdict) }
-{
-    match verdict {
-        Verdict::Valid { .. } => YES,
-        Verdict::NotApplicable { .. } | Verdict::GoalMissed => NO,
     }
 }
 

@@ -1,19 +1,25 @@
 //! `check`: what a certificate shows, from files to the standard output.
-ghost use Rattle.std.specs.Prelude.{◌≡◌, ℕ, IfErr, IfOk, IfSome, IsErr, IsTrue, List, ◌∷◌, Option};
-ghost use Rattle.certificate_listing.specs.Reading.{IsFresh};
+ghost use Rattle.std.specs.Prelude.{◌≡◌, ℕ, IfErr, IfOk, IfSome, IsErr, IsTrue, List, ◌∷◌, None, Option};
+ghost use Rattle.certificate_listing.specs.Reading.{CountsRefusal, IsFresh};
+ghost use Rattle.typing.specs.Task.{task_of};
+ghost use Rattle.model.specs.PlanWriting.{has_names};
+ghost use Rattle.planner_main_output.specs.Check.{IsLineOf};
 ghost use Rattle.certificate_reader.specs.Reader.{source_of};
-ghost use Rattle.planner_main.specs.Checked.{IsInputFault};
-ghost use Rattle.planner_main.specs.Files.{items_in, text_in};
+ghost use Rattle.planner_main_answers.specs.Checked.{IsInputFault};
+ghost use Rattle.planner_main_answers.specs.Files.{text_in};
+ghost use Rattle.planner_main_files.specs.Texts.{items_in};
 ghost use Rattle.planner_main.specs.Asked.{asked_of_check};
-ghost use Rattle.planner_main.specs.Program.{AreKept, CountsEither, CountsFailure, HasNotFailed, IsCheckText, IsCheckedIn, IsOneOf, IsTextIfNamed, IsTold, IsToldPartly, IsUnread, OnInputs, fault_in, if_named};
+ghost use Rattle.planner_main.specs.Program.{CountsEither, CountsFailure, HasNotFailed, IsCheckText, IsCheckedIn, IsOneOf, IsTextIfNamed, IsTold, IsToldPartly, IsUnread, OnInputs, fault_in, if_named};
+ghost use Rattle.planner_main_files.specs.Texts.{AreKept};
 ghost use Rattle.devices.specs.Devices.{CountsDevice, IsKept};
 
-use crate::checking::{check_files, checked_text};
-use crate::files::Files;
-use crate::program::inputs::{Pair, read_file, read_pair};
+use crate::program::inputs::{Pair, read_pair};
 use crate::report::Failure;
 use certificate_reader::CertReader;
 use devices::{Sink, Source, WriteFault, write_all};
+use planner_main_answers::{Checked, check_files};
+use planner_main_files::{Files, read_file};
+use planner_main_output::checked_text;
 use std::alloc::Global;
 
 /// The names of the files that are read.
@@ -125,7 +131,18 @@ fn check_texts<R: Source>(
     let plan = slice_in(&texts.plan);
     let (domain, problem) = (&texts.pair.domain, &texts.pair.problem);
     let checked = check_files(alloc, domain, problem, cert, plan, instances)?;
-    checked_text(alloc, &checked, json)
+    told_of_check(alloc, &checked, json)
+}
+
+/// The line of what was told of a certificate, and its status.
+fn told_of_check(alloc: Global, checked: &Checked, json: bool) -> Result<(Vec<u8>, u8), Failure>
+    requires { IsTrue (has_names (task_of checked.now.task)) }
+    ensures line { IfOk result (λ told. IsLineOf json (task_of checked.now.task) checked.now.answer told.0.items told.1) }
+    ensures refused { IfErr result (λ failure. fault_in failure ≡ None) }
+    ensures unfailed { IfOk result (λ _. (before after : ℕ) → CountsRefusal before after checked.now.answer → after ≡ before) }
+    ensures failures { IfErr result (λ failure. (before after : ℕ) → CountsRefusal before after checked.now.answer → CountsFailure before after failure) }
+{
+    Ok(checked_text(alloc, &checked.task, &checked.answer, json)?)
 }
 
 /// The bytes of a text, if there is one.

@@ -1,10 +1,12 @@
 //! `solve`: a cheapest plan, from files to the standard output, and to files.
 ghost use Rattle.std.specs.Prelude.{◌≡◌, ◌≢◌, ℕ, IfErr, IfOk, IfSome, IsErr, IsTrue, List, [], ◌∷◌, OnOk, Some};
 ghost use Rattle.planner_main.specs.Asked.{asked_of};
-ghost use Rattle.planner_main.specs.Program.{AreKept, CountsEither, CountsFailure, HasNotFailed, IsAnswerText, IsOneOf, IsTold, IsToldPartly, IsUnread, OnTwo, fault_in, of_device};
-ghost use Rattle.planner_main.specs.Files.{text_in};
-ghost use Rattle.planner_main.specs.Solution.{TellsAnswer, cert_file, plan_file, text_of};
-ghost use Rattle.planner_main.specs.Written.{AreWritten, AreWrittenPartly, HoldsBeginning, NamedText};
+ghost use Rattle.planner_main.specs.Program.{CountsEither, CountsFailure, HasNotFailed, IsAnswerText, IsOneOf, IsTold, IsToldPartly, IsUnread, OnTwo, fault_in, of_device};
+ghost use Rattle.planner_main_files.specs.Texts.{AreKept};
+ghost use Rattle.planner_main_answers.specs.Files.{text_in};
+ghost use Rattle.planner_main.specs.Solution.{TellsAnswer, cert_file, plan_file};
+ghost use Rattle.planner_main_output.specs.Answer.{text_of};
+ghost use Rattle.planner_main_files.specs.Written.{AreWritten, AreWrittenPartly, HoldsBeginning, NamedText};
 ghost use Rattle.devices.specs.Devices.{CountsDevice};
 ghost use Rattle.typing.specs.Task.{task_of};
 ghost use Rattle.certificate.specs.Certificate.{certificate_of};
@@ -13,13 +15,14 @@ ghost use Rattle.solver.specs.Solver.{IsTrueAnswer};
 ghost use Rattle.model.specs.Files.{IsTaskFault, IsTaskOf};
 ghost use Rattle.model.specs.PlanWriting.{has_names};
 
-use crate::files::Files;
 use crate::program::inputs::read_pair;
 use crate::report::Failure;
-use crate::solve::{Solved, answer_text, json_text, solve_files, told};
 use certificate::Cert;
 use certificate_writer::write_cert;
 use devices::{Sink, WriteFault, write_all};
+use planner_main_answers::{Solved, solve_files};
+use planner_main_files::{Files, write_file};
+use planner_main_output::{answer_text, json_text, told};
 use solver::{Answer, Limits};
 use std::alloc::Global;
 use typing::Task;
@@ -163,20 +166,6 @@ fn write_cert_file<F: Files>(
 {
     let mut output = files.create(name)?;
     let written = write_cert(alloc, task, cert, &mut output);
-    // It is closed first, since a closing counts a write that failed.
-    files.close(output)?;
-    written
-}
-
-/// Writes these bytes to the file of this name, in place of what it had.
-fn write_file<F: Files>(files: &mut F, name: &str, bytes: &[u8]) -> Result<(), WriteFault>
-    ensures held { IsTrue F.is_known → OnOk result (F.contents files.new name.now ≡ Some bytes.now) }
-    ensures partly { IsTrue F.is_known → HoldsBeginning (F.contents files.old name.now) (F.contents files.new name.now) bytes.now }
-    ensures kept { IsTrue F.is_known → (other : List ℕ) → other ≢ name.now → F.contents files.new other ≡ F.contents files.old other }
-    ensures failures { CountsDevice (F.failures files.old) (F.failures files.new) result }
-{
-    let mut output = files.create(name)?;
-    let written = write_all(&mut output, bytes);
     // It is closed first, since a closing counts a write that failed.
     files.close(output)?;
     written

@@ -1,15 +1,16 @@
 //! `validate`: the verdict on a plan, from files to the standard output.
 ghost use Rattle.std.specs.Prelude.{◌≡◌, ℕ, IfErr, IfOk, IfSome, IsTrue, List, [], ◌∷◌};
-ghost use Rattle.planner_main.specs.Files.{told_in};
-ghost use Rattle.planner_main.specs.Program.{AreKept, CountsEither, CountsFailure, HasNotFailed, IsOneOf, IsTold, IsToldPartly, IsUnread, IsVerdictLine, IsVerdictText, OnThree, fault_in};
+ghost use Rattle.planner_main_answers.specs.Files.{told_in};
+ghost use Rattle.planner_main.specs.Program.{CountsEither, CountsFailure, HasNotFailed, IsOneOf, IsTold, IsToldPartly, IsUnread, IsVerdictLine, IsVerdictText, OnThree, fault_in};
+ghost use Rattle.planner_main_files.specs.Texts.{AreKept};
 ghost use Rattle.model.specs.Files.{IsFileFault};
 
-use crate::files::Files;
-use crate::program::inputs::{read_file, read_pair};
-use crate::report::{Failure, answer};
-use crate::task_file::FileFault;
-use crate::verdict::validate_files;
+use crate::program::inputs::read_pair;
+use crate::report::Failure;
 use devices::{Sink, write_all};
+use planner_main_answers::{FileFault, validate_files};
+use planner_main_files::{Files, read_file};
+use planner_main_output::told_verdict;
 use std::alloc::Global;
 
 /// Tells whether the plan of a file solves the task of two files: the status.
@@ -72,6 +73,6 @@ fn verdict_text(
     ensures refused { IfErr result (λ fault. IfSome (told_in fault) (IsFileFault domain.now problem.now plan.now)) }
 {
     let verdict = validate_files(alloc, domain, problem, plan)?;
-    let (line, status) = answer(alloc, verdict, json)?;
+    let (line, status) = told_verdict(alloc, verdict, json)?;
     Ok((line.into_bytes(), status))
 }

@@ -2,7 +2,7 @@ use Rattle.std.proofs.Common.{ℕ, sym, subst, ◌∙◌}
 use Rattle.std.specs.Global.{Vec}
 use Rattle.devices.specs.Devices.{IsKept}
 use Rattle.certificate_reader.specs.Reader.{source_of}
-use Rattle.planner_main.specs.Files.{text_in}
+use Rattle.planner_main_answers.specs.Files.{text_in}
 use Rattle.planner_main.specs.Program.{IsCheckedIn}
 use Rattle.planner_main.proofs.ProgramWords.{text_if_named_kept, told_on_inputs}
 use Rattle.planner_main.proofs.program.checking.checked_line.Goals as goal

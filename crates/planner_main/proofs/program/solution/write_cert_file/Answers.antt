@@ -1,7 +1,7 @@
 use Rattle.std.proofs.Common.{◌≡◌, ◌∙◌, subst}
 use Rattle.std.specs.Prelude.{IfSome}
-use Rattle.planner_main.specs.Written.{HoldsBeginning}
-use Rattle.planner_main.proofs.PlanFiles.{written_partly, whole_if_written, others_kept}
+use Rattle.planner_main_files.specs.Written.{HoldsBeginning}
+use Rattle.planner_main_files.proofs.WrittenFiles.{written_partly, whole_if_written, others_kept}
 use Rattle.planner_main.proofs.program.solution.write_cert_file.Goals as goal
 
 -- what the file of this name holds is said of the file that is closed

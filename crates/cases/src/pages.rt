@@ -1,0 +1,178 @@
+//! The completions and the manual page, held against the program's help: each command and each option that the help names is
+//! to stand in each of them.
+use crate::Tally;
+use devices::Memory;
+use planner_main::files::Table;
+use std::alloc::{AllocError, Global};
+use std::{fs, io};
+
+/// A file that tells of the commands, and how.
+#[derive(Clone, Copy)]
+struct Page {
+    name: &'static str,
+    // what stands before and behind a command's name where its part begins, and what ends the part
+    before: &'static str,
+    behind: &'static str,
+    ends: &'static str,
+    // what stands before an option's name
+    dashes: &'static str,
+}
+
+const BASH: Page = Page {
+    name: "completions/optplan.bash",
+    before: "\n        ",
+    behind: ") ",
+    ends: ";;",
+    dashes: "--",
+};
+
+const ZSH: Page = Page {
+    name: "completions/_optplan",
+    before: "\n        ",
+    behind: ")\n",
+    ends: ";;",
+    dashes: "--",
+};
+
+const FISH: Page = Page {
+    name: "completions/optplan.fish",
+    before: "'__fish_seen_subcommand_from ",
+    behind: "'",
+    ends: "\n\n",
+    dashes: "-l ",
+};
+
+const MANUAL: Page = Page {
+    name: "optplan.1",
+    before: "\n.B optplan ",
+    behind: "\n",
+    ends: "\n.B",
+    dashes: "\\-\\-",
+};
+
+/// Looks in each page for the commands and options of the help, with a line for each that it lacks and one that counts them:
+/// how many are lacking.
+pub fn compare_pages(rt: &HostRuntime) -> io::Result<u64> {
+    let program = help(rt.alloc(), &["help"])?;
+    let mut tally = Tally::default();
+    for page in [BASH, ZSH, FISH, MANUAL] {
+        let text = fs::read_to_string(rt, page.name)?;
+        compare(rt, page, text.as_str(), program.as_str(), &mut tally)?;
+    }
+    let Tally { cases, differing } = tally;
+    println!(rt; "completions and manual page: {cases} names, {differing} missing")?;
+    Ok(differing)
+}
+
+/// Looks in the text of a page for what the program's help names.
+fn compare(
+    rt: &HostRuntime,
+    page: Page,
+    text: &str,
+    program: &str,
+    tally: &mut Tally,
+) -> io::Result<()> {
+    let shared = options(rt.alloc(), program)?;
+    for option in &shared {
+        look(rt, page, text, "optplan", option, tally)?;
+    }
+    for command in &commands(rt.alloc(), program)? {
+        compare_command(rt, page, text, command, &shared, tally)?;
+    }
+    Ok(())
+}
+
+/// Looks for the part of a command, and in it for the options of the command's help; those of the program itself are looked for
+/// in the whole text.
+fn compare_command(
+    rt: &HostRuntime,
+    page: Page,
+    text: &str,
+    command: &str,
+    shared: &[&str],
+    tally: &mut Tally,
+) -> io::Result<()> {
+    let part = part_of(rt.alloc(), page, text, command)?;
+    tally.count(part.is_some());
+    if part.is_none() {
+        println!(rt; "{}: no part for {command}", page.name)?;
+    }
+    let own = help(rt.alloc(), &["help", command])?;
+    for option in &options(rt.alloc(), own.as_str())? {
+        if !shared.contains(option) {
+            look(rt, page, part.unwrap_or(""), command, option, tally)?;
+        }
+    }
+    Ok(())
+}
+
+/// Looks for an option in a text, and tells where it is missing.
+fn look(
+    rt: &HostRuntime,
+    page: Page,
+    text: &str,
+    command: &str,
+    option: &str,
+    tally: &mut Tally,
+) -> io::Result<()> {
+    let is_there = has_word(
+        text,
+        format!(in rt.alloc(); "{}{option}", page.dashes)?.as_str(),
+    );
+    tally.count(is_there);
+    if !is_there {
+        println!(rt; "{}: --{option} of {command} is missing", page.name)?;
+    }
+    Ok(())
+}
+
+/// The part of a text that is the command's, if it has one.
+fn part_of<'a>(
+    alloc: Global,
+    page: Page,
+    text: &'a str,
+    command: &str,
+) -> Result<Option<&'a str>, AllocError> {
+    let begins = format!(in alloc; "{}{command}{}", page.before, page.behind)?;
+    match text.split_once(begins.as_str()) {
+        Some((_, below)) => Ok(below.split(page.ends).next()),
+        None => Ok(None),
+    }
+}
+
+/// Whether the word stands in the text, and is not only the beginning of a longer one.
+fn has_word(text: &str, word: &str) -> bool {
+    text.split(word).skip(1).any(|rest| !rest.starts_with(|next: char| next == '-'
+        || next.is_ascii_alphanumeric()))
+}
+
+/// What the program says on the standard error for these words.
+fn help(alloc: Global, words: &[&str]) -> Result<String, AllocError> {
+    let mut files = Table::new(alloc);
+    let (mut out, mut err) = (Memory::empty(alloc), Memory::empty(alloc));
+    planner_main::run(alloc, words, &mut files, &mut out, &mut err);
+    String::from_utf8_lossy(alloc, err.as_slice())
+}
+
+/// The commands that the program's help lists.
+fn commands<'a>(alloc: Global, help: &'a str) -> Result<Vec<&'a str>, AllocError> {
+    let mut names = Vec::new(alloc);
+    let (_, listed) = help.split_once("\nCommands:\n").unwrap_or(("", ""));
+    for line in listed.lines().take_while(|line| !line.is_empty()) {
+        names.push(line.split_whitespace().next().unwrap_or(""))?;
+    }
+    Ok(names)
+}
+
+/// The names of the options that a help lists, each on a line that begins with hyphens.
+fn options<'a>(alloc: Global, help: &'a str) -> Result<Vec<&'a str>, AllocError> {
+    let mut names = Vec::new(alloc);
+    for line in help.lines() {
+        let mut words = line.split_whitespace();
+        if line.trim_start().starts_with('-') {
+            let name = words.find_map(|word| word.strip_prefix("--"));
+            names.push(name.unwrap_or(""))?;
+        }
+    }
+    Ok(names)
+}

@@ -1,0 +1,76 @@
+-- What is true of a certificate for the task of two texts, and for the plan of a third one if that is handed in: by what came
+-- of the certificate to a reader, and by its whole text.
+use Rattle.std.specs.Prelude.{◌≡◌, ℕ, ◌⊎◌, List, Option, None, Some, Result, Ok, Err, IfOk, IfErr}
+use Rattle.certificate_text.specs.CertificateText.{TextLine, text_of}
+use Rattle.certificate_text.specs.CertificateNames.{IsTextOf}
+use Rattle.certificate_text.specs.CertificateChecking.{AreRight, IsAccepted, IsLineFault}
+use Rattle.certificate_reader.specs.declared.reader.CertReader.{CertReader}
+use Rattle.certificate_reader.specs.Reader.{source_of}
+use Rattle.certificate_listing.specs.declared.refusal.Refusal.{Refusal}
+use Rattle.certificate_listing.specs.declared.refusal.Refusal.TheVariants as refusal
+use Rattle.certificate_listing.specs.RefusalCode.{number_of}
+use Rattle.cert_checker.specs.declared.checker.Accepted.{Accepted}
+use Rattle.cert_checker.specs.CertChecker.{Answers, IsFirstRefusal, IsNoFault, IsShown, IsTrueRefusal}
+use Rattle.cert_checker.specs.Checking.{Accepts, Refuses}
+use Rattle.model.specs.Task.{Task, Instance}
+use Rattle.model.specs.Limits.{max_numbered_atoms}
+use Rattle.model.specs.Grounding.{limit_told}
+use Rattle.model.specs.PlanText.{IsPlanText}
+use Rattle.certificate_text.specs.Certificates.{Certificate}
+use Rattle.model.specs.Files.{FileFault, IsTaskFault, IsFileFault}
+
+-- the text is this plan of the task; where no text is handed in, neither is a plan
+abbrev pub IsHandedIn : Task → (text : Option (List ℕ)) → (plan : Option (List Instance)) → Type 0
+IsHandedIn task None None = Unit {0}
+IsHandedIn task None (Some plan) = ⊥
+IsHandedIn task (Some text) None = ⊥
+IsHandedIn task (Some text) (Some plan) = IsPlanText task text plan
+
+-- what is told of two texts that are no task, or else of a third that is handed in and is no plan for it
+abbrev pub IsInputFault : (domain problem : List ℕ) → (plan : Option (List ℕ)) → FileFault → Type 0
+IsInputFault domain problem None fault = IsTaskFault domain problem fault
+IsInputFault domain problem (Some plan) fault = IsFileFault domain problem plan fault
+
+-- The answer is true of what came to the reader, for this task and the plan that this text is, if one is handed in.
+pub record IsChecked {R : Type 0} (remaining : R → Option (List ℕ)) (task : Task) (first now : CertReader R) (text : Option (List ℕ)) (most : ℕ) (answer : Result Accepted Refusal) : Type 0 where
+  pub plan : Option (List Instance)
+  pub handed_in : IsHandedIn task text plan
+  pub shown : IfOk answer (IsShown task plan)
+  pub accepted : IfOk answer (Accepts remaining task first now plan most)
+  pub accepts : (cert : List ℕ) → remaining (source_of first) ≡ Some cert → IsAccepted task cert plan → IfErr answer IsNoFault
+  pub refused : IfErr answer (Refuses remaining task first now plan most)
+
+-- The text is that of a certificate which is accepted, and the ground task keeps its limits; the answer is the one to the
+-- claim, and what it shows is true.
+pub record IsAcceptedAs (task : Task) (text : List ℕ) (plan : Option (List Instance)) (most : ℕ) (answer : Accepted) : Type 0 where
+  pub accepted : IsAccepted task text plan
+  pub within : limit_told most max_numbered_atoms task accepted.certificate.atoms ≡ None
+  pub answers : Answers accepted.certificate.claim plan answer
+  pub shown : IsShown task plan answer
+
+-- The text is that of this certificate, and nothing is wrong with any of its lines.
+pub record IsRightText (task : Task) (text : List ℕ) (c : Certificate) : Type 0 where
+  pub is_text : IsTextOf task text c
+  pub lines : List TextLine
+  pub text_is : text ≡ text_of lines
+  pub right : AreRight task lines
+
+-- the refusal is that of the text's first line at fault
+abbrev pub IsAtLine : Task → (text : List ℕ) → Refusal → Type 0
+IsAtLine task text (refusal.Line code line) = IsLineFault task text (number_of code) line
+IsAtLine task text (refusal.Unfair i) = ⊥
+IsAtLine task text (refusal.Plain code) = ⊥
+IsAtLine task text refusal.NoMemory = ⊥
+IsAtLine task text refusal.Device = ⊥
+IsAtLine task text refusal.Failed = ⊥
+
+-- The refusal is so; or nothing is wrong with any line, and of the certificate the refusal is true, and the first.
+abbrev pub IsRefusedAs : Task → (text : List ℕ) → Option (List Instance) → (most : ℕ) → Refusal → Type 0
+IsRefusedAs task text plan most refusal =
+    IsAtLine task text refusal
+    ⊎ ((c : Certificate) × IsRightText task text c × IsTrueRefusal task c plan most refusal × IsFirstRefusal task c plan most refusal)
+
+-- the answer is true of this text of a certificate
+abbrev pub IsTrueCheck : Task → (text : List ℕ) → Option (List Instance) → (most : ℕ) → Result Accepted Refusal → Type 0
+IsTrueCheck task text plan most (Ok answer) = IsAcceptedAs task text plan most answer
+IsTrueCheck task text plan most (Err refusal) = IsRefusedAs task text plan most refusal

@@ -1,0 +1,4 @@
+pub mod Json
+pub mod Verdict
+pub mod Answer
+pub mod Check
