@@ -8,15 +8,13 @@ ghost use Rattle.potentials.specs.Potentials.{potentials_of};
 ghost use Rattle.potentials.specs.Drafted.{IsNoWorse};
 
 use crate::climb::greatest_constant;
-use crate::draft::Draft;
 use crate::fairness::Fairness;
-use crate::goals::goal_gives_at_most;
 use crate::potentials::Potentials;
-use crate::range::MAX_WEIGHT;
-use crate::tables::Tables;
 use faults::NoMemory;
 use grounding::Ground;
 use packed_state::Packed;
+use potentials_draft::draft;
+use potentials_losses::{MAX_WEIGHT, goal_gives_at_most};
 use std::alloc::Global;
 
 impl Potentials {
@@ -71,17 +69,4 @@ impl Potentials {
             Fairness::Goal => Ok(None),
         }
     }
-}
-
-/// Weights that may be better than these.
-fn draft(
-    alloc: Global,
-    ground: &Ground<'_>,
-    initial: &Packed,
-    weights: &[i64],
-) -> Result<Vec<i64>, NoMemory> {
-    let tables = Tables::new(alloc, ground, initial)?;
-    let mut draft = Draft::new(alloc, ground, &tables, weights)?;
-    draft.improve(&tables, ground.width())?;
-    Ok(draft.into_weights())
 }
