@@ -1,22 +1,9 @@
 -- A table that is filled along a list, where no name is declared twice.
-use Rattle.std.proofs.Common.{◌==◌, ◌≤◌, arith, slice_get, ◌≡◌, ℕ, ◌+◌, Bool, true, false, cond, List, [], ◌∷◌, ◌++◌, map, length, refl, ap, sym, ◌∙◌, Option, None, Some, if◌then◌else◌, nat_eq, not, is_some, ◌||◌, true≢false, drop, get_or, ◌<◌}
-use Rattle.std.proofs.lemmas.Bool.Decides.{nat_tests}
-use Rattle.std.specs.Option.{option_map, option_map_or}
-use Rattle.std.specs.Global.{Vec}
-use Rattle.std.specs.Cmp.Lexicographic.{pointwise}
-use Rattle.std.specs.List.{list_any, position, position_or_len}
-use Rattle.std.specs.Map.{lookup, keys_of}
-use Rattle.std.proofs.lemmas.List.{map-append, length-map, append_assoc, append-nil, drop_more, drop_all}
-use Rattle.std.proofs.lemmas.Option.{slice_get-map, slice_get_past}
-use Rattle.indexmap.specs.IndexSet.{insert_key}
-use Rattle.indexmap.specs.IndexMap.{insert_entry}
+use Rattle.std.proofs.Common.{◌≤◌, ◌≡◌, ℕ, ◌+◌, Bool, true, false, List, [], ◌∷◌, ◌++◌, map, length, refl, ap, sym, ◌∙◌, if◌then◌else◌, drop, get_or, ◌<◌}
+use Rattle.std.proofs.lemmas.List.{append_assoc, append-nil, drop_more, drop_all}
 use Rattle.model.specs.Task as task
-use Rattle.model.specs.Trees as tree
-use Rattle.model.specs.Trees.{File}
-use Rattle.model.specs.Typing.{Placed, folded, is_same, is_known, number_in, with_name, names_of_predicates, refused_word, faults_against, repeated_after}
-use Rattle.typing_formulas.specs.Scope.{keys_in, names_in}
+use Rattle.model.specs.Typing.{Placed, is_known, with_name, repeated_after}
 use Rattle.typing_formulas.proofs.Found.{got_twice}
-use Rattle.typing_formulas.proofs.Lists.{position_or_len-map, position_or_len-le, list_any-map, position-found, position-map, position-missing}
 
 -- a name that is not declared again: so are those after it, and it is new
 pub not_again : (before : List task.Name) (w : Placed) (rest : List Placed) → repeated_after before (w ∷ rest) ≡ []

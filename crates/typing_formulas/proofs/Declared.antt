@@ -1,19 +1,14 @@
 -- What is found of variables that are declared, and the names of types where none is declared twice.
-use Rattle.std.proofs.Common.{◌≡◌, ℕ, ◌+◌, ◌-◌, ◌<◌, ◌≤◌, nat_le, cond, ◌||◌, Bool, true, false, List, [], ◌∷◌, ◌++◌, codes, map, fold, take, length, slice_index, nat_lt, refl, ap, sym, ◌∙◌, arith, zero, suc, if◌then◌else◌}
+use Rattle.std.proofs.Common.{◌≡◌, ℕ, cond, Bool, true, false, List, [], ◌∷◌, ◌++◌, codes, map, fold, take, length, refl, ap, sym, ◌∙◌, if◌then◌else◌}
 use Rattle.std.specs.List.{flat_map}
-use Rattle.std.proofs.lemmas.Bool.Decides.{nat_tests}
-use Rattle.std.proofs.lemmas.List.{map-append, append_assoc, append-nil}
-use Rattle.std.proofs.lemmas.List.Folds.{list_any-append}
+use Rattle.std.proofs.lemmas.List.{append_assoc}
 use Rattle.std.specs.Global.{Vec}
 use Rattle.typing_formulas.specs.declared.schemas.TypeUnion.{TypeUnion}
 use Rattle.typing_formulas.specs.Scope.{BeginsWith}
 use Rattle.model.specs.Task as task
-use Rattle.model.specs.Trees as tree
-use Rattle.model.specs.Trees.{File}
-use Rattle.model.specs.Typing.{Declared, Placed, TypingFault, Variable, is_known, is_same, folded, with_name, with_variable, variable_in, variables_after, known_among, one_after, one_too_many, unions_in, names_of, names_of_variables, number_in, type_in, types_from, comes_back, cycle_faults_from, unknown_faults, types_faults, type_faults, words_of, refused, refused_word, repeated, repeated_after}
-use Rattle.typing_formulas.proofs.Empty.{nil_left, nil_right, not_refused, not_repeated, within}
+use Rattle.model.specs.Typing.{Declared, Placed, TypingFault, is_known, folded, with_name, known_among, names_of, words_of, refused, refused_word, repeated_after}
+use Rattle.typing_formulas.proofs.Empty.{not_repeated}
 use Rattle.typing_formulas.proofs.Found.{map-map}
-use Rattle.typing_formulas.proofs.Lists.{list_any-position}
 
 -- the fault of a variable whose name is in scope
 abbrev pub shadow_faults : List task.Name → Declared → List TypingFault

@@ -102,7 +102,13 @@ fn checked_names(
     walk.finish(names)
 }
 
-/// The names of the types of a domain, where the problem is for it, as names become numbers by them.
+/// The names of the types of a domain, where the problem is for it, as names become numbers by them. Given is what the
+/// domain declares of types.
+///
+/// # Errors
+/// The least fault of the first phase: a problem that is for another domain, a type that is declared again (`object` is
+/// declared at the start), the name of a parent that is no type, or a type that is one too many;
+/// [`TaskFault::NoMemory`] where memory is refused.
 pub fn names(
     alloc: Global,
     domain: &Domain<'_>,

@@ -177,7 +177,8 @@ fn several(
     Ok(resolved)
 }
 
-/// A precondition or a goal, where these variables are in scope. They are in scope after it again, and no other.
+/// A precondition or a goal, where these variables are in scope. They are in scope after it again, and no other. What is
+/// wrong with it is found on the walk.
 #[cycle(formulas)]
 pub fn formula(
     alloc: Global,

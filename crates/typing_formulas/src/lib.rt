@@ -1,5 +1,5 @@
-//! The numbered parts of a task, from atoms to schemas, and the names in formulas, which become numbers by what is
-//! declared: of types, of variables, and of what may be named where an atom stands. The least fault is kept on the way.
+//! The numbered parts of a task, from atoms to schemas, and the names in formulas, which become their numbers: the names of
+//! types, the variables in scope, and what may be named where an atom stands. The least fault is kept on the way.
 #![tactic(auto)]
 
 mod atoms;

@@ -79,7 +79,10 @@ impl Walk {
         fold(&mut self.folded, name)
     }
 
-    /// Ends the walk: what was made on it, if no fault was found, and else the least fault.
+    /// Ends the walk: what was made on it, if no fault was found.
+    ///
+    /// # Errors
+    /// The least fault that was found, where one was.
     pub fn finish<T: Drop>(self, made: T) -> Result<T, TaskFault>
         ensures none { IfOk result (λ t. (t ≡ made) × (least_of self ≡ None)) }
         ensures some { IfErr result (TellsFound (least_of self)) }
