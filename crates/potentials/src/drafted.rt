@@ -13,7 +13,7 @@ use crate::potentials::Potentials;
 use faults::NoMemory;
 use grounding::Ground;
 use packed_state::Packed;
-use potentials_draft::draft;
+use potentials_draft::drafted_weights;
 use potentials_losses::{MAX_WEIGHT, goal_gives_at_most};
 use std::alloc::Global;
 
@@ -30,7 +30,7 @@ impl Potentials {
         requires initial { bits_of initial.now ≡ (ground_system (task_in ground.now) (atoms_in ground.now)).initial }
         ensures { IfOk result (λ p. IsNoWorse (task_in ground.now) (atoms_in ground.now) (potentials_of self) (potentials_of p)) }
     {
-        let weights = draft(alloc, ground, initial, self.weights())?;
+        let weights = drafted_weights(alloc, ground, initial, self.weights())?;
         match self.if_no_worse(alloc, ground, initial, weights)? {
             Some(better) => Ok(better),
             None => Ok(self),

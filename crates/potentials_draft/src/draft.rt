@@ -15,7 +15,7 @@ const MAX_REPAIRS: u32 = 4096;
 const MAX_PASSES: u32 = 4096;
 
 /// How many atoms and touches of instances may be looked at before no further weight is moved.
-const MAX_WORK: u64 = 8_388_608;
+const MAX_WORK: u64 = 2_097_152;
 
 /// How a joint move stands.
 enum Stand {

@@ -12,7 +12,7 @@ use std::alloc::Global;
 /// states on the way from it, where that of the initial state gets no lower.
 ///
 /// Both aims are from Seipp, Pommerening & Helmert 2015, "New Optimization Functions for Potential Heuristics".
-pub fn draft(
+pub fn drafted_weights(
     alloc: Global,
     ground: &Ground<'_>,
     initial: &Packed,

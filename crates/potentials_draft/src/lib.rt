@@ -10,4 +10,4 @@ mod repairs;
 mod samples;
 mod tables;
 
-pub use drafts::draft;
+pub use drafts::drafted_weights;
