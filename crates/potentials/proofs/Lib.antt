@@ -1,7 +1,4 @@
-mod ListLemmas
 mod ScoreLemmas
-mod LossLemmas
-mod GroundLemmas
 mod FairLemmas
 mod ClimbLemmas
 mod TouchingLemmas

@@ -1,5 +1,4 @@
 pub mod Potentials
-pub mod Swing
 pub mod Fairness
 pub mod FairPotentials
 pub mod Climb

@@ -15,13 +15,11 @@ ghost use Rattle.potentials.specs.Potentials.{potentials_of};
 ghost use Rattle.potentials.specs.Touching.{IsTouching};
 ghost use Rattle.potentials.specs.Climb.{IsClimb, IsNext, IsWeightTried, IsAtomTried, IsPass, worth};
 
-use crate::goals::{goal_gives, goal_gives_at_most};
 use crate::potentials::{Potentials, or_zero};
-use crate::range::{MAX_WEIGHT, given, is_in_range};
-use crate::swing::says;
 use crate::touching::Touching;
 use grounding::Ground;
 use packed_state::Packed;
+use potentials_losses::{MAX_WEIGHT, given, goal_gives, goal_gives_at_most, is_in_range, says};
 
 /// Fair potentials of the greatest constant, with what they give at most at a goal, and with their score in the initial
 /// state.

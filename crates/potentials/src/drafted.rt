@@ -8,15 +8,13 @@ ghost use Rattle.potentials.specs.Potentials.{potentials_of};
 ghost use Rattle.potentials.specs.Drafted.{IsNoWorse};
 
 use crate::climb::greatest_constant;
-use crate::draft::Draft;
 use crate::fairness::Fairness;
-use crate::goals::goal_gives_at_most;
 use crate::potentials::Potentials;
-use crate::range::MAX_WEIGHT;
-use crate::tables::Tables;
 use faults::NoMemory;
 use grounding::Ground;
 use packed_state::Packed;
+use potentials_draft::drafted_weights;
+use potentials_losses::{MAX_WEIGHT, goal_gives_at_most};
 use std::alloc::Global;
 
 impl Potentials {
@@ -32,7 +30,7 @@ impl Potentials {
         requires initial { bits_of initial.now ≡ (ground_system (task_in ground.now) (atoms_in ground.now)).initial }
         ensures { IfOk result (λ p. IsNoWorse (task_in ground.now) (atoms_in ground.now) (potentials_of self) (potentials_of p)) }
     {
-        let weights = draft(alloc, ground, initial, self.weights())?;
+        let weights = drafted_weights(alloc, ground, initial, self.weights())?;
         match self.if_no_worse(alloc, ground, initial, weights)? {
             Some(better) => Ok(better),
             None => Ok(self),
@@ -71,17 +69,4 @@ impl Potentials {
             Fairness::Goal => Ok(None),
         }
     }
-}
-
-/// Weights that may be better than these.
-fn draft(
-    alloc: Global,
-    ground: &Ground<'_>,
-    initial: &Packed,
-    weights: &[i64],
-) -> Result<Vec<i64>, NoMemory> {
-    let tables = Tables::new(alloc, ground, initial)?;
-    let mut draft = Draft::new(alloc, ground, &tables, weights)?;
-    draft.improve(&tables, ground.width())?;
-    Ok(draft.into_weights())
 }

@@ -8,11 +8,10 @@ ghost use Rattle.potential_functions.specs.Fair.{IsFairAt, IsFairAtGoals, IsFirs
 ghost use Rattle.potentials.specs.Potentials.{potentials_of};
 ghost use Rattle.potentials.specs.Fairness.{AreInstancesFair, AreFairAt, Tells};
 
-use crate::goals::goal_gives_at_most;
-use crate::losses::loses_at_most;
 use crate::potentials::Potentials;
 use faults::NoMemory;
 use grounding::Ground;
+use potentials_losses::{goal_gives_at_most, instance_count, loses_at_most};
 use std::alloc::Global;
 
 /// Whether potentials are fair for a ground task, or what of them is not.
@@ -103,11 +102,4 @@ fn is_at_most(number: i64, cost: u32) -> bool
     ensures { IsTrue result ↔ (number ≤ℤ pos cost) }
 {
     number <= i64::from(cost)
-}
-
-/// How many instances the ground task keeps.
-pub(crate) fn instance_count(ground: &Ground<'_>) -> u32
-    ensures { result ≡ length (kept_instances (task_in ground.now)) }
-{
-    ground.instances().len() as u32
 }

@@ -3,18 +3,12 @@
 #![tactic(auto)]
 
 mod climb;
-mod draft;
 mod drafted;
 mod estimate;
 mod fair_potentials;
 mod fairness;
-mod goals;
 mod improve;
-mod losses;
 mod potentials;
-mod range;
-mod swing;
-mod tables;
 mod touching;
 mod words;
 

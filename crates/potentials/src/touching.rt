@@ -6,9 +6,9 @@ ghost use Rattle.model.specs.ClosedOff.{kept_instances};
 ghost use Rattle.model.specs.NumberedLiterals.{NumberedChange};
 ghost use Rattle.potentials.specs.Touching.{row_of, IsAdded, IsTouching};
 
-use crate::fairness::instance_count;
 use faults::NoMemory;
 use grounding::{CountingChange, Ground};
+use potentials_losses::instance_count;
 use std::alloc::Global;
 
 /// For each numbered atom the numbers of the instances that touch it.
