@@ -11,7 +11,7 @@ use Rattle.tokens.specs.declared.word.Word.{Word}
 use Rattle.pddl_words.specs.Token.{from, first, reserved_view}
 use Rattle.pddl_words.specs.declared.token.ReservedName.{ReservedName}
 use Rattle.pddl_tree.specs.Formula.{IsReserved}
-use Rattle.pddl_tree.specs.Reading.{Reading, made, stops, bind, by_rule, part, phrase, number_seen, one_of, Tells, Reads, closes_first, and_first, opens_first}
+use Rattle.pddl_tree.specs.Reading.{Reading, made, stops, bind, by_rule, part, phrase, number_seen, one_of, Tells, Reads, ReadsInto, IsPut, closes_first, and_first, opens_first}
 use Rattle.pddl_tree.specs.Typed.{the_either}
 use Rattle.pddl_tree.proofs.Read.{by_first, part_none, part_of, part_here, taken, bind_bind, phrase_then}
 use Rattle.model.specs.Trees.{Name}
@@ -46,6 +46,12 @@ told_along list r q e is h = subst (λ r. Tells list r e) (sym is) h
 pub read_later : {T A : Type 0} (f g : List Token → Reading A) (list : List Word) (at next : ℕ) (view : T → A) (r : Result (T × ℕ) WordFault) → at ≤ next → f (from list at) ≡ g (from list next) → Reads g list next view r → Reads f list at view r
 read_later f g list at next view (Ok (x, i)) less e h = (e ∙ h.0, (omega (arith, h.1.0), h.1.1))
 read_later f g list at next view (Err fault) less e h = told_along list _ _ fault e h
+
+-- what was read, and put in its place
+pub put_in : {T A B : Type 0} (read : List Token → Reading A) (list : List Word) (at : ℕ) (view : T → A) (k : A → B) (r : Result (T × ℕ) WordFault) (placed : T) (result : Result ℕ WordFault) → Reads read list at view r → IsPut r placed result → ReadsInto (λ w. bind (read w) (λ x v. made (k x) v)) list at (k (view placed)) result
+put_in {A = A} {B} read list at view k (Ok (x, next)) placed result h is =
+    subst (ReadsInto (λ w. bind (read w) (λ x v. made (k x) v)) list at (k (view placed))) (sym is.1) (ap (λ r. bind r (λ x v. made (k x) v)) h.0 ∙ ap (λ x. made (k (view x)) (from list next)) (sym is.0), h.1)
+put_in {A = A} {B} read list at view k (Err fault) placed result h is = subst (ReadsInto (λ w. bind (read w) (λ x v. made (k x) v)) list at (k (view placed))) (sym is) (told_first list (read (from list at)) (λ x v. made (k x) v) fault h)
 
 -- ---- words
 

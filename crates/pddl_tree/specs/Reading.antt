@@ -82,6 +82,11 @@ abbrev pub Passes : {A : Type 0} → (List Token → Reading A) → List Word �
 Passes read words at tree (Ok next) = (read (from words at) ≡ made tree (from words next)) × IsAfter words at next
 Passes read words at tree (Err refusal) = Stops words (read (from words at)) refusal
 
+-- what was read stands in its place, if it was read
+abbrev pub IsPut : {T : Type 0} → Result (T × ℕ) WordFault → T → Result ℕ WordFault → Type 0
+IsPut (Ok (x, next)) placed result = (placed ≡ x) × (result ≡ Ok next)
+IsPut (Err fault) placed result = result ≡ Err fault
+
 -- the index from which on it is read as this other thing
 abbrev pub GoesOn : {A : Type 0} → (List Token → Reading A) → (List Token → Reading A) → List Word → ℕ → Result ℕ WordFault → Type 0
 GoesOn read other words at (Ok next) = (read (from words at) ≡ other (from words next)) × IsAfter words at next

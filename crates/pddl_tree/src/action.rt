@@ -9,8 +9,8 @@ ghost use Rattle.syntax_tree.specs.Tree.{action_of, formula_of};
 ghost use Rattle.pddl_tree.specs.Sections.{the_action, parts_on, part_into};
 
 use crate::formulas::formula;
-use crate::look::{action_name, is_close, open};
-use crate::put::put;
+use crate::look::{Parsed, action_name, is_close, open};
+use crate::put::{put, replace};
 use crate::refusal::{Listed, Place, has_part, refusal};
 use crate::typed::typed;
 use crate::values::effect_value;
@@ -34,11 +34,7 @@ fn bare(alloc: Global, name: Name<'_>) -> Action<'_>
 }
 
 /// An action whose `:action` was read, and the index after its `)`.
-pub(crate) fn action<'a>(
-    alloc: Global,
-    words: &[Word<'a>],
-    at: usize,
-) -> Result<(Action<'a>, usize), WordFault>
+pub(crate) fn action<'a>(alloc: Global, words: &[Word<'a>], at: usize) -> Parsed<Action<'a>>
     ensures { Reads (phrase the_action) words.now at action_of result }
 {
     let (name, next) = action_name(words, at)?;
@@ -119,18 +115,17 @@ fn value<'a>(
     let inside = open(words, at, Place::Value(seen))?;
     match keyword {
         PartKeyword::Parameters => {
-            let (parameters, next) = typed(alloc, words, inside, Listed::Variables)?;
-            action.parameters = parameters;
-            Ok(next)
+            put(
+                &mut action.parameters,
+                typed(alloc, words, inside, Listed::Variables),
+            )
         }
         PartKeyword::Precondition => {
-            let (precondition, next) = precondition(alloc, words, inside)?;
-            put(&mut action.precondition, precondition);
-            Ok(next)
+            put(&mut action.precondition, precondition(alloc, words, inside))
         }
         PartKeyword::Effect => {
             let (value, next) = effect_value(alloc, words, inside)?;
-            put(&mut action.effect, value.effect);
+            replace(&mut action.effect, value.effect);
             action.increases = value.increases;
             Ok(next)
         }
@@ -138,11 +133,7 @@ fn value<'a>(
 }
 
 /// A precondition whose `(` was read, and the index after its `)`: a formula, or nothing, which is `(and)`.
-fn precondition<'a>(
-    alloc: Global,
-    words: &[Word<'a>],
-    at: usize,
-) -> Result<(Formula<'a>, usize), WordFault>
+fn precondition<'a>(alloc: Global, words: &[Word<'a>], at: usize) -> Parsed<Formula<'a>>
     ensures { Reads (part grammar.precondition_list) words.now at formula_of result }
 {
     if is_close(words, at) {

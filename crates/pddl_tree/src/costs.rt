@@ -7,7 +7,9 @@ ghost use Rattle.pddl_tree.specs.Costs.{the_metric, the_cost, the_increase, the_
 ghost use Rattle.pddl_tree.specs.Reading.{part, phrase, Reads, ReadsWords, ReadsOne, closes_first};
 ghost use Rattle.syntax_tree.specs.Tree.{increase_of, initial_cost_of};
 
-use crate::look::{amount, close, is_close, is_dash, minimize, number_word, open, total_cost};
+use crate::look::{
+    Parsed, amount, close, is_close, is_dash, minimize, number_word, open, total_cost,
+};
 use crate::refusal::Place;
 use pddl_words::{Name, WordFault, WordRefusal};
 use std::alloc::Global;
@@ -26,11 +28,7 @@ struct CostWords<'a> {
 
 /// Functions, and `)`: their names, and the index after the parenthesis.
 #[tactic(auto, using(crate::proofs::TotalCost::of_functions))]
-pub(crate) fn functions<'a>(
-    alloc: Global,
-    words: &[Word<'a>],
-    at: usize,
-) -> Result<(Vec<Name<'a>>, usize), WordFault>
+pub(crate) fn functions<'a>(alloc: Global, words: &[Word<'a>], at: usize) -> Parsed<Vec<Name<'a>>>
     ensures { Reads (part function_list) words.now at (λ names. map name_of names.items) result }
 {
     let mut functions = Vec::new(alloc);
@@ -45,7 +43,7 @@ pub(crate) fn functions<'a>(
 
 /// `( total-cost )`, and `- number` where a `-` follows: the function's name, and the index of what follows.
 #[tactic(auto, using(crate::proofs::TotalCost::of_function))]
-fn function<'a>(words: &[Word<'a>], at: usize) -> Result<(Name<'a>, usize), WordFault>
+fn function<'a>(words: &[Word<'a>], at: usize) -> Parsed<Name<'a>>
     requires { closes_first (first (from words.now at)) ≡ false }
     ensures { ReadsOne (part function_list) words.now at name_of result }
 {

@@ -5,7 +5,7 @@ ghost use Rattle.syntax_tree.specs.Tree.{predicate_of, fact_of, ground_atom_of};
 
 use crate::costs::initial_cost;
 use crate::lists::{Item, list};
-use crate::look::{close, open};
+use crate::look::{Parsed, close, open};
 use crate::refusal::{Listed, Place, refusal};
 use crate::typed::typed;
 use faults::Refused;
@@ -20,11 +20,7 @@ impl<'a> Item<'a> for Predicate<'a> {
     ghost view = { predicate_of };
 
     #[tactic(auto, using(crate::proofs::Looks::of_lists_inside))]
-    fn read(
-        alloc: Global,
-        words: &[Word<'a>],
-        at: usize,
-    ) -> Result<(Predicate<'a>, usize), WordFault> {
+    fn read(alloc: Global, words: &[Word<'a>], at: usize) -> Parsed<Predicate<'a>> {
         let inside = open(words, at, Place::Elsewhere)?;
         match token_at(words, inside) {
             Token::Free(_, name) => {
@@ -42,7 +38,7 @@ impl<'a> Item<'a> for Fact<'a> {
     ghost view = { fact_of };
 
     #[tactic(auto, using(crate::proofs::Looks::of_lists_inside))]
-    fn read(alloc: Global, words: &[Word<'a>], at: usize) -> Result<(Fact<'a>, usize), WordFault> {
+    fn read(alloc: Global, words: &[Word<'a>], at: usize) -> Parsed<Fact<'a>> {
         let inside = open(words, at, Place::Elsewhere)?;
         fact(alloc, words, inside)
     }
@@ -50,7 +46,7 @@ impl<'a> Item<'a> for Fact<'a> {
 
 /// A fact whose `(` was read, and the index after its `)`.
 #[tactic(auto, using(crate::proofs::Read::part_here))]
-fn fact<'a>(alloc: Global, words: &[Word<'a>], at: usize) -> Result<(Fact<'a>, usize), WordFault>
+fn fact<'a>(alloc: Global, words: &[Word<'a>], at: usize) -> Parsed<Fact<'a>>
     ensures { Reads (part wants_fact) words.now at fact_of result }
 {
     match token_at(words, at) {
@@ -73,11 +69,7 @@ fn fact<'a>(alloc: Global, words: &[Word<'a>], at: usize) -> Result<(Fact<'a>, u
 
 /// An atom of objects in its parentheses, and the index after them.
 #[tactic(auto, using(crate::proofs::Looks::of_lists_inside))]
-fn ground_atom<'a>(
-    alloc: Global,
-    words: &[Word<'a>],
-    at: usize,
-) -> Result<(GroundAtom<'a>, usize), WordFault>
+fn ground_atom<'a>(alloc: Global, words: &[Word<'a>], at: usize) -> Parsed<GroundAtom<'a>>
     ensures { Reads (part (listed wants_ground_atom)) words.now at ground_atom_of result }
 {
     let inside = open(words, at, Place::Elsewhere)?;

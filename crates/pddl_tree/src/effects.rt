@@ -9,7 +9,7 @@ ghost use Rattle.syntax_tree.specs.Tree.{effect_of};
 use crate::formulas::part;
 use crate::lists::list;
 use crate::literals::{conditional, last_atom};
-use crate::look::{close, is_close, open};
+use crate::look::{Parsed, close, is_close, open};
 use crate::refusal::{Listed, Literals, Place, refusal};
 use crate::typed::typed;
 use faults::Refused;
@@ -21,11 +21,7 @@ use tokens::Word;
 /// An effect whose `(` was read, and the index after its `)`.
 #[cycle(effect)]
 #[tactic(auto, using(crate::proofs::Read::part_here))]
-pub(crate) fn effect<'a>(
-    alloc: Global,
-    words: &[Word<'a>],
-    at: usize,
-) -> Result<(Effect<'a>, usize), WordFault>
+pub(crate) fn effect<'a>(alloc: Global, words: &[Word<'a>], at: usize) -> Parsed<Effect<'a>>
     ensures { Reads (part effect_list) words.now at effect_of result }
 {
     match token_at(words, at) {
@@ -47,7 +43,7 @@ fn compound<'a>(
     words: &[Word<'a>],
     at: usize,
     word: ReservedName,
-) -> Result<(Effect<'a>, usize), WordFault>
+) -> Parsed<Effect<'a>>
     requires { IsReserved words.now at word }
     ensures { Reads (part effect_list) words.now at effect_of result }
 {
@@ -70,7 +66,7 @@ fn compound<'a>(
 /// index after the parenthesis.
 #[cycle(effect)]
 #[tactic(auto, using(crate::proofs::Looks::of_lists_inside))]
-fn each<'a>(alloc: Global, words: &[Word<'a>], at: usize) -> Result<(Effect<'a>, usize), WordFault>
+fn each<'a>(alloc: Global, words: &[Word<'a>], at: usize) -> Parsed<Effect<'a>>
     ensures { Reads (phrase the_each) words.now at effect_of result }
 {
     let inside = open(words, at, Place::Elsewhere)?;
@@ -82,7 +78,7 @@ fn each<'a>(alloc: Global, words: &[Word<'a>], at: usize) -> Result<(Effect<'a>,
 /// A formula in its parentheses, literals, and `)`: the literals where the formula holds, and the index after the
 /// parenthesis.
 #[tactic(auto, using(crate::proofs::Looks::of_lists_inside))]
-fn when<'a>(alloc: Global, words: &[Word<'a>], at: usize) -> Result<(Effect<'a>, usize), WordFault>
+fn when<'a>(alloc: Global, words: &[Word<'a>], at: usize) -> Parsed<Effect<'a>>
     ensures { Reads (phrase the_when) words.now at effect_of result }
 {
     let (condition, next) = part(alloc, words, at)?;
@@ -95,11 +91,7 @@ fn when<'a>(alloc: Global, words: &[Word<'a>], at: usize) -> Result<(Effect<'a>,
 /// An effect in its parentheses, and `)`: the effect, and the index after the last parenthesis.
 #[cycle(effect)]
 #[tactic(auto, using(crate::proofs::Looks::of_lists_inside))]
-fn last<'a>(
-    alloc: Global,
-    words: &[Word<'a>],
-    at: usize,
-) -> Result<(Box<Effect<'a>>, usize), WordFault>
+fn last<'a>(alloc: Global, words: &[Word<'a>], at: usize) -> Parsed<Box<Effect<'a>>>
     ensures { Reads (phrase the_last_effect) words.now at (λ e. effect_of e.value) result }
 {
     let inside = open(words, at, Place::Elsewhere)?;
@@ -112,11 +104,7 @@ fn last<'a>(
 /// Effects, and `)`: the effects, and the index after the parenthesis.
 #[cycle(effect)]
 #[tactic(auto, using(crate::proofs::Looks::of_lists))]
-fn effects<'a>(
-    alloc: Global,
-    words: &[Word<'a>],
-    at: usize,
-) -> Result<(Vec<Effect<'a>>, usize), WordFault>
+fn effects<'a>(alloc: Global, words: &[Word<'a>], at: usize) -> Parsed<Vec<Effect<'a>>>
     ensures { Reads (part (many (listed effect_list))) words.now at (λ parts. map effect_of parts.items) result }
 {
     let mut parts = Vec::new(alloc);

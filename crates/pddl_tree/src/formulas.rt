@@ -6,7 +6,7 @@ ghost use Rattle.pddl_tree.specs.Reading.{part, phrase, Reads};
 ghost use Rattle.syntax_tree.specs.Tree.{formula_of, groups_of};
 
 use crate::lists::list;
-use crate::look::{close, is_close, open, term};
+use crate::look::{Parsed, close, is_close, open, term};
 use crate::refusal::{Listed, Place, refusal};
 use crate::typed::typed;
 use faults::Refused;
@@ -18,11 +18,7 @@ use tokens::Word;
 /// A formula whose `(` was read, and the index after its `)`.
 #[cycle(formula)]
 #[tactic(auto, using(crate::proofs::Read::part_here))]
-pub(crate) fn formula<'a>(
-    alloc: Global,
-    words: &[Word<'a>],
-    at: usize,
-) -> Result<(Formula<'a>, usize), WordFault>
+pub(crate) fn formula<'a>(alloc: Global, words: &[Word<'a>], at: usize) -> Parsed<Formula<'a>>
     ensures { Reads (part wants_formula) words.now at formula_of result }
 {
     match token_at(words, at) {
@@ -44,7 +40,7 @@ fn compound<'a>(
     words: &[Word<'a>],
     at: usize,
     word: ReservedName,
-) -> Result<(Formula<'a>, usize), WordFault>
+) -> Parsed<Formula<'a>>
     requires { IsReserved words.now at word }
     ensures { Reads (part wants_formula) words.now at formula_of result }
 {
@@ -75,7 +71,7 @@ fn compound<'a>(
 }
 
 /// Two terms, and `)`: that they are one object, and the index after the parenthesis.
-fn equality<'a>(words: &[Word<'a>], at: usize) -> Result<(Formula<'a>, usize), WordFault>
+fn equality<'a>(words: &[Word<'a>], at: usize) -> Parsed<Formula<'a>>
     ensures { Reads (phrase the_equality) words.now at formula_of result }
 {
     let (first, next) = term(words, at)?;
@@ -86,11 +82,7 @@ fn equality<'a>(words: &[Word<'a>], at: usize) -> Result<(Formula<'a>, usize), W
 
 /// Two formulas, and `)`: that the first implies the second, and the index after the parenthesis.
 #[cycle(formula)]
-fn implication<'a>(
-    alloc: Global,
-    words: &[Word<'a>],
-    at: usize,
-) -> Result<(Formula<'a>, usize), WordFault>
+fn implication<'a>(alloc: Global, words: &[Word<'a>], at: usize) -> Parsed<Formula<'a>>
     ensures { Reads (phrase the_implication) words.now at formula_of result }
 {
     let (premise, next) = part(alloc, words, at)?;
@@ -105,7 +97,7 @@ fn quantified<'a>(
     alloc: Global,
     words: &[Word<'a>],
     at: usize,
-) -> Result<((Vec<Group<'a>>, Box<Formula<'a>>), usize), WordFault>
+) -> Parsed<(Vec<Group<'a>>, Box<Formula<'a>>)>
     ensures { Reads (phrase the_quantified) words.now at (λ q. (groups_of q.0, formula_of q.1.value)) result }
 {
     let inside = open(words, at, Place::Elsewhere)?;
@@ -116,11 +108,7 @@ fn quantified<'a>(
 
 /// A formula in its parentheses, and `)`: the formula, and the index after the last parenthesis.
 #[cycle(formula)]
-pub(crate) fn last<'a>(
-    alloc: Global,
-    words: &[Word<'a>],
-    at: usize,
-) -> Result<(Box<Formula<'a>>, usize), WordFault>
+pub(crate) fn last<'a>(alloc: Global, words: &[Word<'a>], at: usize) -> Parsed<Box<Formula<'a>>>
     ensures { Reads (phrase the_last) words.now at (λ f. formula_of f.value) result }
 {
     let (part, next) = part(alloc, words, at)?;
@@ -131,11 +119,7 @@ pub(crate) fn last<'a>(
 /// A formula in its parentheses, and the index after them.
 #[cycle(formula)]
 #[tactic(auto, using(crate::proofs::Looks::of_lists_inside))]
-pub(crate) fn part<'a>(
-    alloc: Global,
-    words: &[Word<'a>],
-    at: usize,
-) -> Result<(Box<Formula<'a>>, usize), WordFault>
+pub(crate) fn part<'a>(alloc: Global, words: &[Word<'a>], at: usize) -> Parsed<Box<Formula<'a>>>
     ensures { Reads (part (listed wants_formula)) words.now at (λ f. formula_of f.value) result }
 {
     let inside = open(words, at, Place::Elsewhere)?;
@@ -147,11 +131,7 @@ pub(crate) fn part<'a>(
 /// Formulas, and `)`: the formulas, and the index after the parenthesis.
 #[cycle(formula)]
 #[tactic(auto, using(crate::proofs::Looks::of_lists))]
-fn formulas<'a>(
-    alloc: Global,
-    words: &[Word<'a>],
-    at: usize,
-) -> Result<(Vec<Formula<'a>>, usize), WordFault>
+fn formulas<'a>(alloc: Global, words: &[Word<'a>], at: usize) -> Parsed<Vec<Formula<'a>>>
     ensures { Reads (part (many (listed wants_formula))) words.now at (λ parts. map formula_of parts.items) result }
 {
     let mut parts = Vec::new(alloc);

@@ -4,7 +4,7 @@ ghost use Rattle.model.specs.Grammar.{Sort, Value, many, a_name, term as wants_t
 ghost use Rattle.pddl_words.specs.Name.{name_of, term_of};
 ghost use Rattle.pddl_tree.specs.Reading.{part, Reads};
 
-use crate::look::{is_close, name, term};
+use crate::look::{Parsed, is_close, name, term};
 use crate::refusal::{Place, refusal};
 use faults::Refused;
 use pddl_words::{Keyword, Name, Term, Token, WordFault, token_at};
@@ -18,17 +18,13 @@ pub(crate) trait Item<'a>: Sized + Drop {
     ghost view: { Self → Value sort };
 
     /// One of them, and the index after it.
-    fn read(alloc: Global, words: &[Word<'a>], at: usize) -> Result<(Self, usize), WordFault>
+    fn read(alloc: Global, words: &[Word<'a>], at: usize) -> Parsed<Self>
         ensures { Reads (part sort) words.now at view result };
 }
 
 /// Items, and `)`: the items, and the index after the parenthesis.
 #[tactic(auto, using(crate::proofs::Looks::of_lists))]
-pub(crate) fn list<'a, T: Item<'a>>(
-    alloc: Global,
-    words: &[Word<'a>],
-    at: usize,
-) -> Result<(Vec<T>, usize), WordFault>
+pub(crate) fn list<'a, T: Item<'a>>(alloc: Global, words: &[Word<'a>], at: usize) -> Parsed<Vec<T>>
     ensures { Reads (part (many T.sort)) words.now at (λ items. map T.view items.items) result }
 {
     let mut items = Vec::new(alloc);
@@ -46,7 +42,7 @@ impl<'a> Item<'a> for Name<'a> {
 
     ghost view = { name_of };
 
-    fn read(_alloc: Global, words: &[Word<'a>], at: usize) -> Result<(Name<'a>, usize), WordFault> {
+    fn read(_alloc: Global, words: &[Word<'a>], at: usize) -> Parsed<Name<'a>> {
         let read = name(words, at)?;
         Ok(read)
     }
@@ -57,7 +53,7 @@ impl<'a> Item<'a> for Term<'a> {
 
     ghost view = { term_of };
 
-    fn read(_alloc: Global, words: &[Word<'a>], at: usize) -> Result<(Term<'a>, usize), WordFault> {
+    fn read(_alloc: Global, words: &[Word<'a>], at: usize) -> Parsed<Term<'a>> {
         let read = term(words, at)?;
         Ok(read)
     }
@@ -73,7 +69,7 @@ impl<'a> Item<'a> for Key {
     ghost view = { λ _. tt };
 
     #[tactic(auto, using(crate::proofs::Read::part_here))]
-    fn read(_alloc: Global, words: &[Word<'a>], at: usize) -> Result<(Key, usize), WordFault> {
+    fn read(_alloc: Global, words: &[Word<'a>], at: usize) -> Parsed<Key> {
         match token_at(words, at) {
             Token::Keyword(Keyword::Requirement) => Ok((Key, at + 1)),
             _ => Err(Refused::At(refusal(words, at, Place::Keys))),

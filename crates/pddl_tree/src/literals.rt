@@ -6,7 +6,7 @@ ghost use Rattle.pddl_tree.specs.Reading.{part, phrase, Reads};
 ghost use Rattle.syntax_tree.specs.Tree.{atom_of, effect_literal_of};
 
 use crate::lists::{Item, list};
-use crate::look::{close, is_and, open};
+use crate::look::{Parsed, close, is_and, open};
 use crate::refusal::{Literals, Place, refusal};
 use faults::Refused;
 use pddl_words::{ReservedName, Token, WordFault, token_at};
@@ -20,7 +20,7 @@ pub(crate) fn conditional<'a>(
     alloc: Global,
     words: &[Word<'a>],
     at: usize,
-) -> Result<(Vec<EffectLiteral<'a>>, usize), WordFault>
+) -> Parsed<Vec<EffectLiteral<'a>>>
     ensures { Reads (part wants_conditional) words.now at (λ ls. map effect_literal_of ls.items) result }
 {
     if is_and(words, at) {
@@ -37,11 +37,7 @@ impl<'a> Item<'a> for EffectLiteral<'a> {
     ghost view = { effect_literal_of };
 
     #[tactic(auto, using(crate::proofs::Looks::of_lists_inside))]
-    fn read(
-        alloc: Global,
-        words: &[Word<'a>],
-        at: usize,
-    ) -> Result<(EffectLiteral<'a>, usize), WordFault> {
+    fn read(alloc: Global, words: &[Word<'a>], at: usize) -> Parsed<EffectLiteral<'a>> {
         let inside = open(words, at, Place::Elsewhere)?;
         literal(alloc, words, inside)
     }
@@ -49,11 +45,7 @@ impl<'a> Item<'a> for EffectLiteral<'a> {
 
 /// A literal under a `when`, of which the `(` was read, and the index after its `)`.
 #[tactic(auto, using(crate::proofs::Read::part_here))]
-fn literal<'a>(
-    alloc: Global,
-    words: &[Word<'a>],
-    at: usize,
-) -> Result<(EffectLiteral<'a>, usize), WordFault>
+fn literal<'a>(alloc: Global, words: &[Word<'a>], at: usize) -> Parsed<EffectLiteral<'a>>
     ensures { Reads (part conditional_literal) words.now at effect_literal_of result }
 {
     match token_at(words, at) {
@@ -76,7 +68,7 @@ pub(crate) fn last_atom<'a>(
     words: &[Word<'a>],
     at: usize,
     literals: Literals,
-) -> Result<(Atom<'a>, usize), WordFault>
+) -> Parsed<Atom<'a>>
     ensures { Reads (phrase (the_last_atom literals)) words.now at atom_of result }
 {
     let inside = open(words, at, Place::Elsewhere)?;
@@ -87,12 +79,7 @@ pub(crate) fn last_atom<'a>(
 
 /// An atom whose `(` was read, and the index after its `)`.
 #[tactic(auto, using(crate::proofs::Read::part_here))]
-fn atom<'a>(
-    alloc: Global,
-    words: &[Word<'a>],
-    at: usize,
-    literals: Literals,
-) -> Result<(Atom<'a>, usize), WordFault>
+fn atom<'a>(alloc: Global, words: &[Word<'a>], at: usize, literals: Literals) -> Parsed<Atom<'a>>
     ensures { Reads (phrase (the_atom literals)) words.now at atom_of result }
 {
     match token_at(words, at) {

@@ -11,9 +11,12 @@ ghost use Rattle.pddl_tree.specs.Costs.{dash_first, increase_in};
 ghost use Rattle.pddl_tree.specs.Typed.{NamesOne, ends_group_first};
 
 use crate::refusal::{Listed, Place, refusal};
-use pddl_words::{FreeName, Name, ReservedName, Term, Token, WordRefusal, token_at};
+use pddl_words::{FreeName, Name, ReservedName, Term, Token, WordFault, WordRefusal, token_at};
 use syntax_tree::TaskFile;
 use tokens::Word;
+
+/// Something that was read, and the index of the word after it.
+pub(crate) type Parsed<T> = Result<(T, usize), WordFault>;
 
 /// Whether `)` stands at an index.
 pub(crate) fn is_close(words: &[Word], at: usize) -> bool

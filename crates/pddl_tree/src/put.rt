@@ -1,10 +1,27 @@
-//! A value in the place of another.
+//! A value in the place of another, which is dropped. Both are of any type, so that the proofs of the callers need not
+//! take them apart.
 ghost use Rattle.std.specs.Prelude.{◌≡◌};
+ghost use Rattle.pddl_tree.specs.Reading.{IsPut};
 
-/// Puts a value where another stands, which is dropped. It is of any type, so that the proofs of its callers need not
-/// take the other apart.
-pub(crate) fn put<T: Drop>(place: &mut T, value: T)
+use crate::look::Parsed;
+use pddl_words::WordFault;
+
+/// Puts a value where another stands.
+pub(crate) fn replace<T: Drop>(place: &mut T, value: T)
     ensures { place.new ≡ value }
 {
     *place = value;
+}
+
+/// Puts what was read where another value stands: the index after it.
+pub(crate) fn put<T: Drop>(place: &mut T, read: Parsed<T>) -> Result<usize, WordFault>
+    ensures { IsPut read place.new result }
+{
+    match read {
+        Ok((value, next)) => {
+            *place = value;
+            Ok(next)
+        }
+        Err(fault) => Err(fault),
+    }
 }

@@ -1,11 +1,8 @@
 //! What is told of a word that may not stand where it does: the table of refusals, by what is wanted at the place.
 ghost use Rattle.std.specs.Prelude.{◌≡◌, map};
 ghost use Rattle.faults.specs.Fault.{number_of};
-ghost use Rattle.pddl_words.specs.Token.{from, first, seen, free_view, reserved_view, keyword_view, part_view, section_view};
-ghost use Rattle.model.specs.Trees.{Name};
+ghost use Rattle.pddl_words.specs.Token.{from, first, seen, part_view, section_view};
 ghost use Rattle.model.specs.Grammar as grammar;
-ghost use Rattle.model.specs.GrammarWords as model_words;
-ghost use Rattle.model.specs.Refusals.{number_at, number_of_keyword, number_in_file, number_in_action, number_at_value};
 ghost use Rattle.pddl_tree.specs.Reading.{number_seen};
 ghost use Rattle.syntax_tree.specs.Tree.{file_of};
 ghost use Rattle.pddl_tree.specs.Place.{wanted};
@@ -125,154 +122,33 @@ pub(crate) fn refusal(words: &[Word], at: usize, place: Place) -> WordRefusal
     }
 }
 
-/// What is told of a word, or of none.
+/// What is told of a word, or of none: the first line that fits. A keyword that may not stand where one is wanted stands
+/// already or is none; an `(either ..)` is left out as the type of a name, and so are other functions and other metrics.
 fn code_of(token: Token, place: Place) -> Code
     ensures { number_of result ≡ number_seen (wanted place.entry) (seen token.entry) }
 {
-    match token {
-        Token::Open => code_of_open(place),
-        Token::Close => code_of_close(place),
-        Token::Keyword(keyword) => code_of_keyword(keyword, place),
-        Token::Reserved(word, _) => code_of_reserved(word, place),
-        Token::Free(word, _) => code_of_free(word, place),
-        Token::LargeNumber => code_of_large_number(place),
-        _ => Code::BadForm,
-    }
-}
-
-/// What is told of a reserved word: one of a form that is left out, there or anywhere.
-fn code_of_reserved(word: ReservedName, place: Place) -> Code
-    ensures { (name : Name) → number_of result ≡ number_at (wanted place.entry) (model_words.reserved (reserved_view word) name) }
-{
-    match word {
-        ReservedName::LeftOut => Code::LeftOut,
-        ReservedName::When | ReservedName::Forall => match place {
-            Place::UnderWhen | Place::TotalCost => Code::LeftOut,
-            _ => Code::BadForm,
-        },
-        _ => match place {
-            Place::TotalCost => Code::LeftOut,
-            _ => Code::BadForm,
-        },
-    }
-}
-
-/// What is told of any other name: other functions and other metrics are left out.
-fn code_of_free(word: FreeName, place: Place) -> Code
-    ensures { (name : Name) → number_of result ≡ number_at (wanted place.entry) (model_words.free (free_view word) name) }
-{
-    match place {
-        Place::TotalCost => Code::LeftOut,
-        Place::Metric => match word {
-            FreeName::Maximize => Code::LeftOut,
-            _ => Code::BadForm,
-        },
-        _ => Code::BadForm,
-    }
-}
-
-/// What is told of a number that is too large.
-fn code_of_large_number(place: Place) -> Code
-    ensures { number_of result ≡ number_at (wanted place.entry) model_words.large_number }
-{
-    match place {
-        Place::Amount => Code::NumberTooLarge,
-        _ => Code::BadForm,
-    }
-}
-
-/// What is told of `(`: an `(either ..)` is left out as the type of a name.
-fn code_of_open(place: Place) -> Code
-    ensures { number_of result ≡ number_at (wanted place.entry) model_words.opens }
-{
-    match place {
-        Place::Type(Listed::Names) => Code::LeftOut,
-        _ => Code::BadForm,
-    }
-}
-
-/// What is told of `)`.
-fn code_of_close(place: Place) -> Code
-    ensures { number_of result ≡ number_at (wanted place.entry) model_words.closes }
-{
-    match place {
-        Place::Incomplete | Place::Parts => Code::MissingSection,
-        Place::Value(seen) => {
-            if has_part(seen, PartKeyword::Parameters) {
-                Code::BadForm
-            } else {
-                Code::MissingSection
-            }
+    match (token, place) {
+        (Token::Reserved(ReservedName::LeftOut, _), _) => Code::LeftOut,
+        (Token::Close, Place::Incomplete | Place::Parts) => Code::MissingSection,
+        (Token::Close, Place::Value(seen)) if !has_part(seen, PartKeyword::Parameters) => {
+            Code::MissingSection
         }
+        (Token::Keyword(Keyword::Part(_)), Place::Parts) => Code::RepeatedSection,
+        (Token::Keyword(Keyword::Part(part)), Place::Value(seen)) if has_part(seen, part) => {
+            Code::RepeatedSection
+        }
+        (Token::Keyword(Keyword::Section(section)), Place::Section(file))
+            if has_section(allowed(file), section) => { Code::RepeatedSection }
+        (Token::Keyword(Keyword::LeftOut), Place::Parts | Place::Section(_)) => Code::LeftOut,
+        (Token::Keyword(_), Place::Parts | Place::Section(_)) => Code::UnknownSection,
+        (Token::Keyword(_), Place::Keys) => Code::UnknownRequirement,
+        (Token::Open, Place::Type(Listed::Names)) => Code::LeftOut,
+        (Token::Reserved(ReservedName::When | ReservedName::Forall, _), Place::UnderWhen) => {
+            Code::LeftOut
+        }
+        (Token::Reserved(_, _) | Token::Free(_, _), Place::TotalCost) => Code::LeftOut,
+        (Token::Free(FreeName::Maximize, _), Place::Metric) => Code::LeftOut,
+        (Token::LargeNumber, Place::Amount) => Code::NumberTooLarge,
         _ => Code::BadForm,
-    }
-}
-
-/// What is told of a keyword.
-fn code_of_keyword(keyword: Keyword, place: Place) -> Code
-    ensures { number_of result ≡ number_at (wanted place.entry) (model_words.keyword (keyword_view keyword)) }
-{
-    match place {
-        Place::Parts => code_in_action(keyword),
-        Place::Value(seen) => code_at_value(keyword, seen),
-        Place::Section(file) => code_in_file(keyword, file),
-        Place::Keys => Code::UnknownRequirement,
-        _ => Code::BadForm,
-    }
-}
-
-/// What is told of a keyword where a section's is wanted: one that stands already, or that is none of the file's.
-fn code_in_file(keyword: Keyword, file: TaskFile) -> Code
-    ensures { number_of result ≡ number_in_file (file_of file) (keyword_view keyword) }
-{
-    match keyword {
-        Keyword::Section(section) => {
-            if has_section(allowed(file), section) {
-                Code::RepeatedSection
-            } else {
-                Code::UnknownSection
-            }
-        }
-        Keyword::Part(_) | Keyword::Requirement | Keyword::LeftOut | Keyword::Unknown => {
-            code_of_unknown(keyword)
-        }
-    }
-}
-
-/// What is told of a keyword where a part's is wanted: one that stands already, or that is none.
-fn code_in_action(keyword: Keyword) -> Code
-    ensures { number_of result ≡ number_in_action (keyword_view keyword) }
-{
-    match keyword {
-        Keyword::Part(_) => Code::RepeatedSection,
-        Keyword::Section(_) | Keyword::Requirement | Keyword::LeftOut | Keyword::Unknown => {
-            code_of_unknown(keyword)
-        }
-    }
-}
-
-/// What is told of a keyword where the value of a part is wanted: one of those that are seen, or any other word.
-fn code_at_value(keyword: Keyword, seen: &[PartKeyword]) -> Code
-    ensures { number_of result ≡ number_at_value (map part_view seen.now) (keyword_view keyword) }
-{
-    match keyword {
-        Keyword::Part(part) => {
-            if has_part(seen, part) {
-                Code::RepeatedSection
-            } else {
-                Code::BadForm
-            }
-        }
-        _ => Code::BadForm,
-    }
-}
-
-/// What is told of a keyword that is none of the language's, where that of a section or part is wanted.
-fn code_of_unknown(keyword: Keyword) -> Code
-    ensures { number_of result ≡ number_of_keyword (keyword_view keyword) }
-{
-    match keyword {
-        Keyword::LeftOut => Code::LeftOut,
-        _ => Code::UnknownSection,
     }
 }

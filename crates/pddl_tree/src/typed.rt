@@ -9,7 +9,7 @@ ghost use Rattle.syntax_tree.specs.Tree.{group_of, groups_of};
 ghost use Rattle.pddl_tree.specs.Typed.{the_either};
 
 use crate::lists::list;
-use crate::look::{either_word, ends_group, is_close, listed_name, name};
+use crate::look::{Parsed, either_word, ends_group, is_close, listed_name, name};
 use crate::refusal::{Listed, Place, refusal};
 use faults::Refused;
 use pddl_words::{Name, Token, WordFault, token_at};
@@ -24,7 +24,7 @@ pub(crate) fn typed<'a>(
     words: &[Word<'a>],
     at: usize,
     listed: Listed,
-) -> Result<(Vec<Group<'a>>, usize), WordFault>
+) -> Parsed<Vec<Group<'a>>>
     ensures { Reads (part (wants_typed (listed_view listed))) words.now at groups_of result }
 {
     let mut groups = Vec::new(alloc);
@@ -39,12 +39,7 @@ pub(crate) fn typed<'a>(
 
 /// Names, and their types after a `-`, or none before a `)`: the group, and the index of what follows it.
 #[tactic(auto, using(crate::proofs::Groups::of_groups))]
-fn group<'a>(
-    alloc: Global,
-    words: &[Word<'a>],
-    at: usize,
-    listed: Listed,
-) -> Result<(Group<'a>, usize), WordFault>
+fn group<'a>(alloc: Global, words: &[Word<'a>], at: usize, listed: Listed) -> Parsed<Group<'a>>
     requires { closes_first (first (from words.now at)) ≡ false }
     ensures { ReadsOne (part (wants_typed (listed_view listed))) words.now at group_of result }
 {
@@ -65,12 +60,7 @@ fn group<'a>(
 
 /// The type after a `-`, or the types of an `either`, and the index after it.
 #[tactic(auto, using(crate::proofs::Groups::type_here))]
-fn types<'a>(
-    alloc: Global,
-    words: &[Word<'a>],
-    at: usize,
-    listed: Listed,
-) -> Result<(Vec<Name<'a>>, usize), WordFault>
+fn types<'a>(alloc: Global, words: &[Word<'a>], at: usize, listed: Listed) -> Parsed<Vec<Name<'a>>>
     ensures { Reads (part (wants_type (listed_view listed))) words.now at (λ names. map name_of names.items) result }
 {
     match token_at(words, at) {
@@ -85,11 +75,7 @@ fn types<'a>(
 }
 
 /// `either`, one name or more, and `)`: the names, and the index after the parenthesis.
-fn either<'a>(
-    alloc: Global,
-    words: &[Word<'a>],
-    at: usize,
-) -> Result<(Vec<Name<'a>>, usize), WordFault>
+fn either<'a>(alloc: Global, words: &[Word<'a>], at: usize) -> Parsed<Vec<Name<'a>>>
     ensures { Reads (phrase the_either) words.now at (λ names. map name_of names.items) result }
 {
     let next = either_word(words, at)?;

@@ -7,7 +7,7 @@ ghost use Rattle.syntax_tree.specs.Tree.{effect_of, increase_of};
 
 use crate::costs::increase;
 use crate::effects::effect;
-use crate::look::{increase_word, is_and, is_close, open};
+use crate::look::{Parsed, increase_word, is_and, is_close, open};
 use crate::refusal::Place;
 use faults::NoMemory;
 use pddl_words::WordFault;
@@ -77,7 +77,7 @@ pub(crate) fn effect_value<'a>(
     alloc: Global,
     words: &[Word<'a>],
     at: usize,
-) -> Result<(EffectValue<'a>, usize), WordFault>
+) -> Parsed<EffectValue<'a>>
     ensures { Reads (part wants_effect_value) words.now at value_tree result }
 {
     if is_close(words, at) {
@@ -95,11 +95,7 @@ pub(crate) fn effect_value<'a>(
 
 /// Items, and `)`: their value, and the index after the parenthesis.
 #[tactic(auto, using(crate::proofs::EffectValues::of_items))]
-fn items<'a>(
-    alloc: Global,
-    words: &[Word<'a>],
-    at: usize,
-) -> Result<(EffectValue<'a>, usize), WordFault>
+fn items<'a>(alloc: Global, words: &[Word<'a>], at: usize) -> Parsed<EffectValue<'a>>
     ensures { Reads (phrase the_items) words.now at value_tree result }
 {
     let mut entries = Entries {
@@ -122,7 +118,7 @@ fn items<'a>(
 
 /// An item whose `(` was read, and the index after its `)`.
 #[tactic(auto, using(crate::proofs::EffectValues::one_here))]
-fn item<'a>(alloc: Global, words: &[Word<'a>], at: usize) -> Result<(Entry<'a>, usize), WordFault>
+fn item<'a>(alloc: Global, words: &[Word<'a>], at: usize) -> Parsed<Entry<'a>>
     ensures { Reads (part wants_item) words.now at item_tree result }
 {
     match increase_word(words, at) {
