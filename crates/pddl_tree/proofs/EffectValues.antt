@@ -1,38 +1,38 @@
 -- The value of an `:effect`: nothing, one item, or an `and` of several.
-use Rattle.std.proofs.Common.{◌≡◌, ℕ, ◌+◌, false, true, List, [], ◌∷◌, ◌++◌, Option, Some, None, refl, sym, ◌∙◌, ap, subst}
+use Rattle.std.proofs.Common.{◌≡◌, ℕ, ◌+◌, true, List, [], ◌∷◌, ◌++◌, map, Option, Some, None, refl, sym, ◌∙◌, ap, subst}
 use Rattle.std.specs.Option.{option_and_then}
-use Rattle.std.proofs.lemmas.List.{append-nil}
+use Rattle.std.proofs.lemmas.List.{append-nil, map-append}
 use Rattle.tokens.specs.declared.word.Word.{Word}
 use Rattle.pddl_words.specs.Token.{from, first}
 use Rattle.pddl_tree.specs.Costs.{increase_in, the_increase}
-use Rattle.pddl_tree.specs.Reading.{Reading, made, stops, bind, part, phrase, one_of, closes_first, and_first}
-use Rattle.pddl_tree.specs.Values.{the_items, changes_with, increases_with}
-use Rattle.pddl_tree.proofs.Read.{part_here, taken, phrase_then}
-use Rattle.pddl_tree.proofs.Looks.{IsReadOn, one_more, is_closes, is_and, as_other, other_of, end_here, item_here, not_open}
+use Rattle.pddl_tree.specs.Reading.{Reading, made, stops, bind, part, phrase, one_of, closes_first}
+use Rattle.pddl_tree.specs.Values.{the_items}
+use Rattle.pddl_tree.proofs.Read.{taken, phrase_then}
+use Rattle.pddl_tree.proofs.Looks.{IsReadOn, one_more, as_other, other_of, end_here, item_here, not_open, open_here}
 use Rattle.model.specs.Trees.{Name, Effect, Increase, effects}
 use Rattle.model.specs.Trees as tree
 use Rattle.model.specs.GrammarWords.{Token, closes, reserved}
 use Rattle.model.specs.GrammarWords as words
-use Rattle.model.specs.Grammar.{gives, effect_value, item, Item, change, increase, value_of, effect_list, listed, many, changes_in, increases_in, value_of_all}
+use Rattle.model.specs.Grammar.{gives, effect_value, item, Item, EffectValue, change, increase, value_of, effect_list, listed, many, changes_in, increases_in, value_of_all}
 
 -- ---- the value
 
-pub nothing_here : (list : List Word) (at : ℕ) → closes_first (first (from list at)) ≡ true → part effect_value (from list at) ≡ made (value_of_all []) (from list (at + 1))
-nothing_here list at e = taken effect_value list at closes (is_closes (first (from list at)) e) refl
+-- by its first word
+abbrev pub by_value : Option Token → List Token → List Token → Reading EffectValue
+by_value (Some closes) w here = made (value_of_all []) w
+by_value (Some (reserved words.and n)) w here = phrase the_items w
+by_value (Some (reserved words.increase n)) w here = bind (phrase (the_increase n) w) (λ i v. made (value_of (increase i)) v)
+by_value o w here = bind (part effect_list here) (λ e v. made (value_of (change e)) v)
 
-pub items_here : (list : List Word) (at : ℕ) → and_first (first (from list at)) ≡ true → part effect_value (from list at) ≡ phrase the_items (from list (at + 1))
-items_here list at e = let word = is_and (first (from list at)) e in taken effect_value list at (reserved words.and word.0) word.1 refl
-
-pub value_here : (list : List Word) (at : ℕ) → closes_first (first (from list at)) ≡ false → and_first (first (from list at)) ≡ false → part effect_value (from list at) ≡ bind (part item (from list at)) (λ x w. made (value_of x) w)
-value_here list at c e = other_of effect_value item value_of (from list at) (by_word (first (from list at)) c e)
+pub value_here : (list : List Word) (at : ℕ) → part effect_value (from list at) ≡ by_value (first (from list at)) (from list (at + 1)) (from list at)
+value_here list at = by_word (first (from list at)) refl
   where
-    by_word : (o : Option Token) → closes_first o ≡ false → and_first o ≡ false → as_other effect_value item value_of o
-    by_word None c e = tt
-    by_word (Some closes) c e = absurd (cc)
-    by_word (Some (reserved words.and n)) c e = absurd (cc)
-    by_word (Some t) c e = (refl, refl)
-
-pub ruleset of_values = (nothing_here, items_here, value_here)
+    by_word : (o : Option Token) → first (from list at) ≡ o → part effect_value (from list at) ≡ by_value o (from list (at + 1)) (from list at)
+    by_word (Some closes) is = taken effect_value list at closes is refl
+    by_word (Some (reserved words.and n)) is = taken effect_value list at (reserved words.and n) is refl
+    by_word (Some (reserved words.increase n)) is = taken effect_value list at (reserved words.increase n) is refl ∙ phrase_then (the_increase n) (λ i. gives (value_of (increase i))) (from list (at + 1))
+    by_word None is = other_of effect_value effect_list (λ e. value_of (change e)) (from list at) (subst (as_other effect_value effect_list (λ e. value_of (change e))) (sym is) tt)
+    by_word (Some t) is = other_of effect_value effect_list (λ e. value_of (change e)) (from list at) (subst (as_other effect_value effect_list (λ e. value_of (change e))) (sym is) (refl, refl))
 
 -- ---- one item
 
@@ -48,6 +48,12 @@ one_here list at = by_word (first (from list at)) refl
     by_word (Some (reserved words.increase n)) is = taken item list at (reserved words.increase n) is refl ∙ phrase_then (the_increase n) (λ i. gives (increase i)) (from list (at + 1))
     by_word None is = other_of item effect_list change (from list at) (subst (as_other item effect_list change) (sym is) tt)
     by_word (Some t) is = other_of item effect_list change (from list at) (subst (as_other item effect_list change) (sym is) (refl, refl))
+
+pub increase_here : (list : List Word) (at end : ℕ) (n : Name) (i : Increase) → Some n ≡ option_and_then increase_in (first (from list at)) → phrase (the_increase n) (from list (at + 1)) ≡ made i (from list end) → part item (from list at) ≡ made (increase i) (from list end)
+increase_here list at end n i is read = one_here list at ∙ ap (λ o. by_increase o (from list (at + 1)) (from list at)) (sym is) ∙ ap (λ r. bind r (λ i v. made (increase i) v)) read
+
+pub effect_here : (list : List Word) (at end : ℕ) (e : Effect) → None ≡ option_and_then increase_in (first (from list at)) → part effect_list (from list at) ≡ made e (from list end) → part item (from list at) ≡ made (change e) (from list end)
+effect_here list at end e is read = one_here list at ∙ ap (λ o. by_increase o (from list (at + 1)) (from list at)) (sym is) ∙ ap (λ r. bind r (λ e v. made (change e) v)) read
 
 -- ---- items, by what was read of them
 
@@ -75,15 +81,19 @@ items_start {list} {at} c i = record { done = []; read = record { goes = same (p
     same (made xs w) = refl
     same (stops n w) = refl
 
-pub items_more : {list : List Word} {at next end : ℕ} {cs cs' : List Effect} {is is' : List Increase} (x : Item) → AreItemsOn list at cs is next → part (many (listed item)) (from list next) ≡ one_of (part (many (listed item))) x (from list end) → cs' ≡ changes_with cs x → is' ≡ increases_with is x → AreItemsOn list at cs' is' end
-items_more (change e) h one c i =
-    record { done = h.done ++ change e ∷ []; read = one_more (change e) h.read one; changed = c ∙ ap (λ es. es ++ e ∷ []) h.changed ∙ sym (changes-append h.done (change e ∷ [])); increased = i ∙ h.increased ∙ sym (increases-append h.done (change e ∷ []) ∙ append-nil (increases_in h.done)) }
-items_more (increase n) h one c i =
-    record { done = h.done ++ increase n ∷ []; read = one_more (increase n) h.read one; changed = c ∙ h.changed ∙ sym (changes-append h.done (increase n ∷ []) ∙ append-nil (changes_in h.done)); increased = i ∙ ap (λ is. is ++ n ∷ []) h.increased ∙ sym (increases-append h.done (increase n ∷ [])) }
+pub changes_more : {V : Type 0} (view : V → Effect) {list : List Word} {at next end : ℕ} (old new : List V) {is : List Increase} (x : V) → AreItemsOn list at (map view old) is next → part (many (listed item)) (from list next) ≡ one_of (part (many (listed item))) (change (view x)) (from list end) → new ≡ old ++ x ∷ [] → AreItemsOn list at (map view new) is end
+changes_more view old new x h one same =
+    let e = view x in
+    record { done = h.done ++ change e ∷ []; read = one_more (change e) h.read one; changed = ap (map view) same ∙ map-append view old (x ∷ []) ∙ ap (λ es. es ++ e ∷ []) h.changed ∙ sym (changes-append h.done (change e ∷ [])); increased = h.increased ∙ sym (increases-append h.done (change e ∷ []) ∙ append-nil (increases_in h.done)) }
+
+pub increases_more : {V : Type 0} (view : V → Increase) {list : List Word} {at next end : ℕ} {cs : List Effect} (old new : List V) (x : V) → AreItemsOn list at cs (map view old) next → part (many (listed item)) (from list next) ≡ one_of (part (many (listed item))) (increase (view x)) (from list end) → new ≡ old ++ x ∷ [] → AreItemsOn list at cs (map view new) end
+increases_more view old new x h one same =
+    let n = view x in
+    record { done = h.done ++ increase n ∷ []; read = one_more (increase n) h.read one; changed = h.changed ∙ sym (changes-append h.done (increase n ∷ []) ∙ append-nil (changes_in h.done)); increased = ap (map view) same ∙ map-append view old (x ∷ []) ∙ ap (λ is. is ++ n ∷ []) h.increased ∙ sym (increases-append h.done (increase n ∷ [])) }
 
 pub items_end : {list : List Word} {at next : ℕ} {cs : List Effect} {is : List Increase} → AreItemsOn list at cs is next → closes_first (first (from list next)) ≡ true → phrase the_items (from list at) ≡ made (record { effect = tree.both (effects cs); increases = is }) (from list (next + 1))
 items_end {list} {at} {next} h e =
     ap (λ r. bind r (λ xs w. made (value_of_all xs) w)) (h.read.goes ∙ ap (λ r. bind r (λ xs w. made (h.done ++ xs) w)) (end_here (listed item) list next e))
     ∙ (λ i. made (value_of_all (append-nil h.done i)) (from list (next + 1))) ∙ (λ i. made (record { effect = tree.both (effects (sym h.changed i)); increases = sym h.increased i }) (from list (next + 1)))
 
-pub ruleset of_items = (item_here, not_open, part_here)
+pub ruleset of_items = (item_here, not_open, open_here, one_here)

@@ -10,10 +10,9 @@ use Rattle.std.proofs.lemmas.List.{map-append, append_assoc, append-nil}
 use Rattle.tokens.specs.declared.word.Word.{Word}
 use Rattle.pddl_words.specs.Token.{from, first, reserved_view}
 use Rattle.pddl_words.specs.declared.token.ReservedName.{ReservedName}
-use Rattle.pddl_tree.specs.Formula.{IsReserved}
 use Rattle.pddl_tree.specs.Reading.{Reading, made, stops, bind, by_rule, part, phrase, number_seen, one_of, Tells, Reads, ReadsInto, IsPut, closes_first, and_first, opens_first}
 use Rattle.pddl_tree.specs.Typed.{the_either}
-use Rattle.pddl_tree.proofs.Read.{by_first, part_none, part_of, part_here, taken, bind_bind, phrase_then}
+use Rattle.pddl_tree.proofs.Read.{by_first, part_none, part_of, part_here, taken, bind_bind, bind_made, phrase_then}
 use Rattle.model.specs.Trees.{Name}
 use Rattle.model.specs.GrammarWords.{Token, opens, closes, reserved}
 use Rattle.model.specs.GrammarWords as words
@@ -64,8 +63,8 @@ refused_here s u list at none same = part_here s list at ∙ by_word (first (fro
     by_word (Some t) e = ap (λ p. by_rule part p (from list (at + 1)) (stops (number_at s t) (from list at))) e
 
 -- a reserved word that may stand there
-pub by_reserved : (s : Sort) {p : Phrase (Value s)} {list : List Word} {at : ℕ} {word q : ReservedName} → IsReserved list at word → word ≡ q → ((n : Name) → after s (reserved (reserved_view q) n) ≡ Some p) → part s (from list at) ≡ phrase p (from list (at + 1))
-by_reserved s {list = list} {at} {q = q} h is rule = taken s list at (reserved (reserved_view q) h.name) (h.stands ∙ ap (λ r. Some (reserved (reserved_view r) h.name)) is) (rule h.name)
+pub by_reserved : (s : Sort) {p : Phrase (Value s)} (list : List Word) (at : ℕ) {word q : ReservedName} (n : Name) → Some (reserved (reserved_view word) n) ≡ first (from list at) → word ≡ q → after s (reserved (reserved_view q) n) ≡ Some p → part s (from list at) ≡ phrase p (from list (at + 1))
+by_reserved s list at {q = q} n stands is rule = taken s list at (reserved (reserved_view q) n) (sym stands ∙ ap (λ r. Some (reserved (reserved_view r) n)) is) rule
 
 -- no `(` where a list is wanted
 pub not_open : (s : Sort) (list : List Word) (at : ℕ) → opens_first (first (from list at)) ≡ false → part (listed s) (from list at) ≡ stops (number_seen close (first (from list at))) (from list at)
@@ -76,7 +75,12 @@ not_open s list at e = let h = by_word (first (from list at)) e in refused_here 
     by_word (Some opens) e = absurd (cc)
     by_word (Some t) e = (refl, refl)
 
-pub ruleset of_lists_inside = (part_here, not_open)
+pub open_here : (s : Sort) (list : List Word) (at : ℕ) → first (from list at) ≡ Some opens → part (listed s) (from list at) ≡ part s (from list (at + 1))
+open_here s list at o = taken (listed s) list at opens o refl ∙ bind_made (part s (from list (at + 1)))
+
+pub ruleset of_lists_inside = (open_here, not_open)
+
+pub ruleset of_words_inside = (part_here, not_open)
 
 -- ---- what is wanted is another thing, by its next word
 
@@ -115,7 +119,7 @@ item_here s list at e = item_of s (from list at) e
 pub end_here : (s : Sort) (list : List Word) (at : ℕ) → closes_first (first (from list at)) ≡ true → part (many s) (from list at) ≡ made [] (from list (at + 1))
 end_here s list at e = taken (many s) list at closes (is_closes (first (from list at)) e) refl
 
-pub ruleset of_lists = (item_here, end_here, append-nil, not_open, part_here)
+pub ruleset of_lists = (item_here, end_here, append-nil, not_open, open_here)
 
 -- these were read of a list, which goes on with the words left
 pub record IsReadOn {X : Type 0} (read : List Token → Reading (List X)) (list : List Word) (at : ℕ) (done : List X) (next : ℕ) : Type 0 where
@@ -141,7 +145,7 @@ one_item s list at end x e one = item_of s (from list at) e ∙ ap (λ r. bind r
 -- an item in its parentheses
 pub one_inside : (s : Sort) (list : List Word) (at inside end : ℕ) (x : Value s) → first (from list at) ≡ Some opens → inside ≡ at + 1 → part s (from list inside) ≡ made x (from list end) → part (many (listed s)) (from list at) ≡ one_of (part (many (listed s))) x (from list end)
 one_inside s list at inside end x o is one =
-    one_item (listed s) list at end x (ap closes_first o) (taken (listed s) list at opens o refl ∙ ap (λ i. phrase (s >>= gives) (from list i)) (sym is) ∙ ap (λ r. bind r (λ x w. made x w)) one)
+    one_item (listed s) list at end x (ap closes_first o) (open_here s list at o ∙ ap (λ i. part s (from list i)) (sym is) ∙ one)
 
 -- names, of which there is one at least
 pub some_names : (list : List Word) (at end : ℕ) (n : Name) → part a_name (from list at) ≡ made n (from list end) → bind (part a_name (from list at)) (one_of (part (many a_name))) ≡ part (many a_name) (from list at)

@@ -62,3 +62,5 @@ formula_here list at e = by_words (from list at) e
     by_words [] e = part_none precondition_list ∙ sym (part_none formula)
     by_words (closes ∷ w) e = absurd (cc)
     by_words (t ∷ w) e = part_of precondition_list w t ∙ sym (part_of formula w t)
+
+pub ruleset of_precondition = (no_formula, formula_here)

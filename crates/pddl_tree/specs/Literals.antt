@@ -4,11 +4,6 @@ use Rattle.pddl_tree.specs.declared.refusal.Literals.TheVariants as literals
 use Rattle.model.specs.Trees.{Atom}
 use Rattle.model.specs.Grammar.{Phrase, gives, ◌>>=◌, ◌>>◌, listed, atom, conditional_atom, close}
 
--- an atom whose `(` was read
-abbrev pub the_atom : Literals → Phrase Atom
-the_atom literals.Plain = atom >>= gives
-the_atom literals.UnderWhen = conditional_atom >>= gives
-
 -- an atom in its parentheses, and the `)` of what it stands in
 abbrev pub the_last_atom : Literals → Phrase Atom
 the_last_atom literals.Plain = listed atom >>= λ a. close >> gives a

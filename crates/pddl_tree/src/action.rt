@@ -8,7 +8,8 @@ ghost use Rattle.pddl_words.specs.Name.{name_of};
 ghost use Rattle.syntax_tree.specs.Tree.{action_of, formula_of};
 ghost use Rattle.pddl_tree.specs.Sections.{the_action, parts_on, part_into};
 
-use crate::formulas::formula;
+use crate::effects::no_effect;
+use crate::formulas::{formula, no_condition};
 use crate::look::{Parsed, action_name, is_close, open};
 use crate::put::{put, replace};
 use crate::refusal::{Listed, Place, has_part, refusal};
@@ -17,7 +18,7 @@ use crate::values::effect_value;
 use faults::Refused;
 use pddl_words::{Keyword, Name, PartKeyword, Token, WordFault, WordRefusal, token_at};
 use std::alloc::Global;
-use syntax_tree::{Action, Effect, Formula, Group};
+use syntax_tree::{Action, Formula};
 use tokens::Word;
 
 /// An action of which no part was read: what may be left out is `(and)`.
@@ -27,8 +28,8 @@ fn bare(alloc: Global, name: Name<'_>) -> Action<'_>
     Action {
         name,
         parameters: Vec::new(alloc),
-        precondition: Formula::And(Vec::new(alloc)),
-        effect: Effect::And(Vec::new(alloc)),
+        precondition: no_condition(alloc),
+        effect: no_effect(alloc),
         increases: Vec::new(alloc),
     }
 }
@@ -133,11 +134,12 @@ fn value<'a>(
 }
 
 /// A precondition whose `(` was read, and the index after its `)`: a formula, or nothing, which is `(and)`.
+#[tactic(auto, using(crate::proofs::Parts::of_precondition))]
 fn precondition<'a>(alloc: Global, words: &[Word<'a>], at: usize) -> Parsed<Formula<'a>>
     ensures { Reads (part grammar.precondition_list) words.now at formula_of result }
 {
     if is_close(words, at) {
-        Ok((Formula::And(Vec::new(alloc)), at + 1))
+        Ok((no_condition(alloc), at + 1))
     } else {
         formula(alloc, words, at)
     }

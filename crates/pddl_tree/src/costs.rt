@@ -91,12 +91,8 @@ fn cost<'a>(words: &[Word<'a>], at: usize) -> Result<(CostWords<'a>, usize), Wor
 }
 
 /// What follows a word `increase`, and `)`: the increase, and the index after the parenthesis.
-pub(crate) fn increase<'a>(
-    words: &[Word<'a>],
-    at: usize,
-    word: Name<'a>,
-) -> Result<(Increase<'a>, usize), WordRefusal>
-    ensures { ReadsWords (phrase (the_increase (name_of word.entry))) words.now at increase_of result }
+pub(crate) fn increase<'a>(words: &[Word<'a>], at: usize, word: Name<'a>) -> Parsed<Increase<'a>>
+    ensures { Reads (phrase (the_increase (name_of word.entry))) words.now at increase_of result }
 {
     let (cost, next) = cost(words, at)?;
     let amount = cost.amount;

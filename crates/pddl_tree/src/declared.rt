@@ -19,7 +19,7 @@ impl<'a> Item<'a> for Predicate<'a> {
 
     ghost view = { predicate_of };
 
-    #[tactic(auto, using(crate::proofs::Looks::of_lists_inside))]
+    #[tactic(auto, using(crate::proofs::Looks::of_words_inside))]
     fn read(alloc: Global, words: &[Word<'a>], at: usize) -> Parsed<Predicate<'a>> {
         let inside = open(words, at, Place::Elsewhere)?;
         match token_at(words, inside) {
@@ -68,7 +68,7 @@ fn fact<'a>(alloc: Global, words: &[Word<'a>], at: usize) -> Parsed<Fact<'a>>
 }
 
 /// An atom of objects in its parentheses, and the index after them.
-#[tactic(auto, using(crate::proofs::Looks::of_lists_inside))]
+#[tactic(auto, using(crate::proofs::Looks::of_words_inside))]
 fn ground_atom<'a>(alloc: Global, words: &[Word<'a>], at: usize) -> Parsed<GroundAtom<'a>>
     ensures { Reads (part (listed wants_ground_atom)) words.now at ground_atom_of result }
 {

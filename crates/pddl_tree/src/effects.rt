@@ -1,8 +1,9 @@
 //! Effects, from the word after their parenthesis on.
-ghost use Rattle.std.specs.Prelude.{map};
+ghost use Rattle.std.specs.Prelude.{◌≡◌, [], map};
+ghost use Rattle.model.specs.Trees as tree;
+ghost use Rattle.model.specs.Trees.{both};
 ghost use Rattle.model.specs.Grammar.{many, listed, effect_list};
-ghost use Rattle.pddl_tree.specs.Effect.{the_last_effect, the_each, the_when};
-ghost use Rattle.pddl_tree.specs.Formula.{IsReserved};
+ghost use Rattle.pddl_tree.specs.Effect.{the_last_effect, the_when};
 ghost use Rattle.pddl_tree.specs.Reading.{part, phrase, Reads};
 ghost use Rattle.syntax_tree.specs.Tree.{effect_of};
 
@@ -10,13 +11,20 @@ use crate::formulas::part;
 use crate::lists::list;
 use crate::literals::{conditional, last_atom};
 use crate::look::{Parsed, close, is_close, open};
-use crate::refusal::{Listed, Literals, Place, refusal};
-use crate::typed::typed;
+use crate::refusal::{Literals, Place, refusal};
+use crate::typed::variables;
 use faults::Refused;
 use pddl_words::{ReservedName, Token, WordFault, token_at};
 use std::alloc::Global;
 use syntax_tree::{Atom, Effect, EffectLiteral};
 use tokens::Word;
+
+/// `(and)`, which changes nothing.
+pub(crate) fn no_effect<'a>(alloc: Global) -> Effect<'a>
+    ensures { effect_of result ≡ both (tree.effects []) }
+{
+    Effect::And(Vec::new(alloc))
+}
 
 /// An effect whose `(` was read, and the index after its `)`.
 #[cycle(effect)]
@@ -30,49 +38,22 @@ pub(crate) fn effect<'a>(alloc: Global, words: &[Word<'a>], at: usize) -> Parsed
             let literal = EffectLiteral::Add(Atom { predicate, terms });
             Ok((Effect::Literal(literal), next))
         }
-        Token::Reserved(word, _) => compound(alloc, words, at, word),
-        _ => Err(Refused::At(refusal(words, at, Place::Elsewhere))),
-    }
-}
-
-/// An effect that begins with this reserved word, and the index after its `)`.
-#[cycle(effect)]
-#[tactic(auto, using(crate::proofs::Read::part_here))]
-fn compound<'a>(
-    alloc: Global,
-    words: &[Word<'a>],
-    at: usize,
-    word: ReservedName,
-) -> Parsed<Effect<'a>>
-    requires { IsReserved words.now at word }
-    ensures { Reads (part effect_list) words.now at effect_of result }
-{
-    match word {
-        ReservedName::Not => {
+        Token::Reserved(ReservedName::Not, _) => {
             let (atom, next) = last_atom(alloc, words, at + 1, Literals::Plain)?;
             Ok((Effect::Literal(EffectLiteral::Delete(atom)), next))
         }
-        ReservedName::And => {
+        Token::Reserved(ReservedName::And, _) => {
             let (parts, next) = effects(alloc, words, at + 1)?;
             Ok((Effect::And(parts), next))
         }
-        ReservedName::Forall => each(alloc, words, at + 1),
-        ReservedName::When => when(alloc, words, at + 1),
+        Token::Reserved(ReservedName::Forall, _) => {
+            let (variables, next) = variables(alloc, words, at + 1)?;
+            let (part, next) = last(alloc, words, next)?;
+            Ok((Effect::Forall(variables, part), next))
+        }
+        Token::Reserved(ReservedName::When, _) => when(alloc, words, at + 1),
         _ => Err(Refused::At(refusal(words, at, Place::Elsewhere))),
     }
-}
-
-/// A typed list of variables in its parentheses, an effect, and `)`: the effect for each of their objects, and the
-/// index after the parenthesis.
-#[cycle(effect)]
-#[tactic(auto, using(crate::proofs::Looks::of_lists_inside))]
-fn each<'a>(alloc: Global, words: &[Word<'a>], at: usize) -> Parsed<Effect<'a>>
-    ensures { Reads (phrase the_each) words.now at effect_of result }
-{
-    let inside = open(words, at, Place::Elsewhere)?;
-    let (variables, next) = typed(alloc, words, inside, Listed::Variables)?;
-    let (part, next) = last(alloc, words, next)?;
-    Ok((Effect::Forall(variables, part), next))
 }
 
 /// A formula in its parentheses, literals, and `)`: the literals where the formula holds, and the index after the

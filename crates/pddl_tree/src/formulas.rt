@@ -1,19 +1,27 @@
 //! Formulas, from the word after their parenthesis on.
-ghost use Rattle.std.specs.Prelude.{map};
+ghost use Rattle.std.specs.Prelude.{◌≡◌, [], map};
+ghost use Rattle.model.specs.Trees as tree;
 ghost use Rattle.model.specs.Grammar.{many, listed, formula as wants_formula};
-ghost use Rattle.pddl_tree.specs.Formula.{IsReserved, the_equality, the_last, the_implication, the_quantified};
+ghost use Rattle.pddl_tree.specs.Formula.{the_equality, the_last, the_implication};
 ghost use Rattle.pddl_tree.specs.Reading.{part, phrase, Reads};
-ghost use Rattle.syntax_tree.specs.Tree.{formula_of, groups_of};
+ghost use Rattle.syntax_tree.specs.Tree.{formula_of};
 
 use crate::lists::list;
 use crate::look::{Parsed, close, is_close, open, term};
-use crate::refusal::{Listed, Place, refusal};
-use crate::typed::typed;
+use crate::refusal::{Place, refusal};
+use crate::typed::variables;
 use faults::Refused;
 use pddl_words::{ReservedName, Token, WordFault, token_at};
 use std::alloc::Global;
-use syntax_tree::{Atom, Formula, Group};
+use syntax_tree::{Atom, Formula};
 use tokens::Word;
+
+/// `(and)`, which always holds.
+pub(crate) fn no_condition<'a>(alloc: Global) -> Formula<'a>
+    ensures { formula_of result ≡ tree.and (tree.formulas []) }
+{
+    Formula::And(Vec::new(alloc))
+}
 
 /// A formula whose `(` was read, and the index after its `)`.
 #[cycle(formula)]
@@ -27,43 +35,27 @@ pub(crate) fn formula<'a>(alloc: Global, words: &[Word<'a>], at: usize) -> Parse
             Ok((Formula::Atom(Atom { predicate, terms }), next))
         }
         Token::Equals(_) => equality(words, at + 1),
-        Token::Reserved(word, _) => compound(alloc, words, at, word),
-        _ => Err(Refused::At(refusal(words, at, Place::Elsewhere))),
-    }
-}
-
-/// A formula that begins with this reserved word, and the index after its `)`.
-#[cycle(formula)]
-#[tactic(auto, using(crate::proofs::Read::part_here))]
-fn compound<'a>(
-    alloc: Global,
-    words: &[Word<'a>],
-    at: usize,
-    word: ReservedName,
-) -> Parsed<Formula<'a>>
-    requires { IsReserved words.now at word }
-    ensures { Reads (part wants_formula) words.now at formula_of result }
-{
-    match word {
-        ReservedName::And => {
+        Token::Reserved(ReservedName::And, _) => {
             let (parts, next) = formulas(alloc, words, at + 1)?;
             Ok((Formula::And(parts), next))
         }
-        ReservedName::Or => {
+        Token::Reserved(ReservedName::Or, _) => {
             let (parts, next) = formulas(alloc, words, at + 1)?;
             Ok((Formula::Or(parts), next))
         }
-        ReservedName::Not => {
+        Token::Reserved(ReservedName::Not, _) => {
             let (part, next) = last(alloc, words, at + 1)?;
             Ok((Formula::Not(part), next))
         }
-        ReservedName::Imply => implication(alloc, words, at + 1),
-        ReservedName::Exists => {
-            let ((variables, part), next) = quantified(alloc, words, at + 1)?;
+        Token::Reserved(ReservedName::Imply, _) => implication(alloc, words, at + 1),
+        Token::Reserved(ReservedName::Exists, _) => {
+            let (variables, next) = variables(alloc, words, at + 1)?;
+            let (part, next) = last(alloc, words, next)?;
             Ok((Formula::Exists(variables, part), next))
         }
-        ReservedName::Forall => {
-            let ((variables, part), next) = quantified(alloc, words, at + 1)?;
+        Token::Reserved(ReservedName::Forall, _) => {
+            let (variables, next) = variables(alloc, words, at + 1)?;
+            let (part, next) = last(alloc, words, next)?;
             Ok((Formula::Forall(variables, part), next))
         }
         _ => Err(Refused::At(refusal(words, at, Place::Elsewhere))),
@@ -88,22 +80,6 @@ fn implication<'a>(alloc: Global, words: &[Word<'a>], at: usize) -> Parsed<Formu
     let (premise, next) = part(alloc, words, at)?;
     let (conclusion, next) = last(alloc, words, next)?;
     Ok((Formula::Imply(premise, conclusion), next))
-}
-
-/// A typed list of variables in its parentheses, a formula, and `)`: both, and the index after the parenthesis.
-#[cycle(formula)]
-#[tactic(auto, using(crate::proofs::Looks::of_lists_inside))]
-fn quantified<'a>(
-    alloc: Global,
-    words: &[Word<'a>],
-    at: usize,
-) -> Parsed<(Vec<Group<'a>>, Box<Formula<'a>>)>
-    ensures { Reads (phrase the_quantified) words.now at (λ q. (groups_of q.0, formula_of q.1.value)) result }
-{
-    let inside = open(words, at, Place::Elsewhere)?;
-    let (variables, next) = typed(alloc, words, inside, Listed::Variables)?;
-    let (part, next) = last(alloc, words, next)?;
-    Ok(((variables, part), next))
 }
 
 /// A formula in its parentheses, and `)`: the formula, and the index after the last parenthesis.

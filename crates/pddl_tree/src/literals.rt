@@ -1,7 +1,7 @@
 //! Literals of effects, and what stands under a `when`.
 ghost use Rattle.std.specs.Prelude.{map};
 ghost use Rattle.model.specs.Grammar.{listed, conditional as wants_conditional, conditional_literal};
-ghost use Rattle.pddl_tree.specs.Literals.{the_atom, the_last_atom};
+ghost use Rattle.pddl_tree.specs.Literals.{the_last_atom};
 ghost use Rattle.pddl_tree.specs.Reading.{part, phrase, Reads};
 ghost use Rattle.syntax_tree.specs.Tree.{atom_of, effect_literal_of};
 
@@ -62,7 +62,7 @@ fn literal<'a>(alloc: Global, words: &[Word<'a>], at: usize) -> Parsed<EffectLit
 }
 
 /// An atom in its parentheses, and `)`: the atom, and the index after the last parenthesis.
-#[tactic(auto, using(crate::proofs::Looks::of_lists_inside))]
+#[tactic(auto, using(crate::proofs::Looks::of_words_inside))]
 pub(crate) fn last_atom<'a>(
     alloc: Global,
     words: &[Word<'a>],
@@ -72,24 +72,15 @@ pub(crate) fn last_atom<'a>(
     ensures { Reads (phrase (the_last_atom literals)) words.now at atom_of result }
 {
     let inside = open(words, at, Place::Elsewhere)?;
-    let (atom, next) = atom(alloc, words, inside, literals)?;
-    let next = close(words, next)?;
-    Ok((atom, next))
-}
-
-/// An atom whose `(` was read, and the index after its `)`.
-#[tactic(auto, using(crate::proofs::Read::part_here))]
-fn atom<'a>(alloc: Global, words: &[Word<'a>], at: usize, literals: Literals) -> Parsed<Atom<'a>>
-    ensures { Reads (phrase (the_atom literals)) words.now at atom_of result }
-{
-    match token_at(words, at) {
+    match token_at(words, inside) {
         Token::Free(_, predicate) => {
-            let (terms, next) = list(alloc, words, at + 1)?;
+            let (terms, next) = list(alloc, words, inside + 1)?;
+            let next = close(words, next)?;
             Ok((Atom { predicate, terms }, next))
         }
         _ => match literals {
-            Literals::Plain => Err(Refused::At(refusal(words, at, Place::Elsewhere))),
-            Literals::UnderWhen => Err(Refused::At(refusal(words, at, Place::UnderWhen))),
+            Literals::Plain => Err(Refused::At(refusal(words, inside, Place::Elsewhere))),
+            Literals::UnderWhen => Err(Refused::At(refusal(words, inside, Place::UnderWhen))),
         },
     }
 }

@@ -23,10 +23,7 @@ pub(crate) fn is_close(words: &[Word], at: usize) -> bool
     ensures within { IsTrue result → at < length words.now }
     ensures first { result ≡ closes_first (first (from words.now at)) }
 {
-    match token_at(words, at) {
-        Token::Close => true,
-        _ => false,
-    }
+    matches!(token_at(words, at), Token::Close)
 }
 
 /// Whether `and` stands at an index.
@@ -34,10 +31,7 @@ pub(crate) fn is_and(words: &[Word], at: usize) -> bool
     ensures within { IsTrue result → at < length words.now }
     ensures first { result ≡ and_first (first (from words.now at)) }
 {
-    match token_at(words, at) {
-        Token::Reserved(ReservedName::And, _) => true,
-        _ => false,
-    }
+    matches!(token_at(words, at), Token::Reserved(ReservedName::And, _))
 }
 
 /// Whether `-` stands at an index.
@@ -45,10 +39,7 @@ pub(crate) fn is_dash(words: &[Word], at: usize) -> bool
     ensures within { IsTrue result → at < length words.now }
     ensures first { result ≡ dash_first (first (from words.now at)) }
 {
-    match token_at(words, at) {
-        Token::Dash => true,
-        _ => false,
-    }
+    matches!(token_at(words, at), Token::Dash)
 }
 
 /// Whether `-` or `)` stands at an index, which end a group of a typed list.
@@ -56,11 +47,7 @@ pub(crate) fn ends_group(words: &[Word], at: usize) -> bool
     ensures within { IsTrue result → at < length words.now }
     ensures first { result ≡ ends_group_first (first (from words.now at)) }
 {
-    match token_at(words, at) {
-        Token::Dash => true,
-        Token::Close => true,
-        _ => false,
-    }
+    matches!(token_at(words, at), Token::Dash | Token::Close)
 }
 
 /// The word `increase`, where it stands at an index.

@@ -73,10 +73,7 @@ pub fn domain<'a>(alloc: Global, words: &[Word<'a>]) -> Result<Domain<'a>, Fault
     // Words that stop within the head are refused for that, and never for want of memory.
     ensures head { HasNoHead domain_file (tokens_of (map word_of words.now)) → IsErrAnd result (λ fault. IsSome (told_by fault)) }
 {
-    let (name, contents) = match file(alloc, words, TaskFile::Domain) {
-        Ok(read) => read,
-        Err(fault) => return Err(fault),
-    };
+    let (name, contents) = file(alloc, words, TaskFile::Domain)?;
     Ok(Domain {
         name,
         types: contents.types,
@@ -111,10 +108,7 @@ pub fn problem<'a>(alloc: Global, words: &[Word<'a>]) -> Result<Problem<'a>, Fau
     // Words that stop within the head are refused for that, and never for want of memory.
     ensures head { HasNoHead problem_file (tokens_of (map word_of words.now)) → IsErrAnd result (λ fault. IsSome (told_by fault)) }
 {
-    let (name, contents) = match file(alloc, words, TaskFile::Problem) {
-        Ok(read) => read,
-        Err(fault) => return Err(fault),
-    };
+    let (name, contents) = file(alloc, words, TaskFile::Problem)?;
     Ok(Problem {
         name,
         domain: contents.domain,

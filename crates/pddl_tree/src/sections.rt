@@ -11,7 +11,7 @@ ghost use Rattle.pddl_tree.specs.Sections.{contents_of, sections_on, section_int
 
 use crate::action::action;
 use crate::costs::{functions, metric};
-use crate::formulas::last;
+use crate::formulas::{last, no_condition};
 use crate::lists::{Key, list};
 use crate::look::{Parsed, close, is_close, name, open};
 use crate::put::{put, replace};
@@ -55,7 +55,7 @@ impl<'a> Contents<'a> {
             },
             objects: Vec::new(alloc),
             init: Vec::new(alloc),
-            goal: Formula::And(Vec::new(alloc)),
+            goal: no_condition(alloc),
             metric: None,
         }
     }

@@ -1,6 +1,6 @@
 //! Typed lists, up to the parenthesis that closes them: names, or variables, in groups of one type.
 ghost use Rattle.std.specs.Prelude.{◌≡◌, map, false};
-ghost use Rattle.model.specs.Grammar.{typed as wants_typed, type as wants_type};
+ghost use Rattle.model.specs.Grammar.{listed, typed as wants_typed, type as wants_type, variables};
 ghost use Rattle.pddl_words.specs.Name.{name_of};
 ghost use Rattle.pddl_words.specs.Token.{from, first};
 ghost use Rattle.pddl_tree.specs.Place.{listed_view};
@@ -9,7 +9,7 @@ ghost use Rattle.syntax_tree.specs.Tree.{group_of, groups_of};
 ghost use Rattle.pddl_tree.specs.Typed.{the_either};
 
 use crate::lists::list;
-use crate::look::{Parsed, either_word, ends_group, is_close, listed_name, name};
+use crate::look::{Parsed, either_word, ends_group, is_close, listed_name, name, open};
 use crate::refusal::{Listed, Place, refusal};
 use faults::Refused;
 use pddl_words::{Name, Token, WordFault, token_at};
@@ -35,6 +35,15 @@ pub(crate) fn typed<'a>(
         next = after;
     }
     Ok((groups, next + 1))
+}
+
+/// A typed list of variables in its parentheses: its groups, and the index after them.
+#[tactic(auto, using(crate::proofs::Looks::of_lists_inside))]
+pub(crate) fn variables<'a>(alloc: Global, words: &[Word<'a>], at: usize) -> Parsed<Vec<Group<'a>>>
+    ensures { Reads (part (listed (wants_typed variables))) words.now at groups_of result }
+{
+    let inside = open(words, at, Place::Elsewhere)?;
+    typed(alloc, words, inside, Listed::Variables)
 }
 
 /// Names, and their types after a `-`, or none before a `)`: the group, and the index of what follows it.

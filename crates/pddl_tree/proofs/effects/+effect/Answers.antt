@@ -3,6 +3,7 @@ use Rattle.syntax_tree.specs.Tree.{effect_of}
 use Rattle.model.specs.Trees as tree
 use Rattle.model.specs.Trees.{effects}
 use Rattle.model.specs.Grammar.{effect_list}
+use Rattle.pddl_words.specs.Name.{name_of}
 use Rattle.pddl_words.specs.Token.{from}
 use Rattle.syntax_tree.proofs.Rows.{effect_of-And}
 use Rattle.pddl_tree.specs.Reading.{made, bind}
@@ -15,9 +16,9 @@ effects-parts-preserved t c = record {
   read = on_more effect_of c.parts.parts.items _ _ c.parts.invariant.read (one_inside effect_list c.args.words.now c.parts.next c.in_ok-inside.inside c.in_ok-part.after _ c.in_ok-inside.ensures.0 c.in_ok-inside.ensures.1.0 c.in_ok-part.ensures.0) c.in_ok-push.ensures.items;
 }
 
-pub compound-returns-in_ok-parts-in-And : goal.compound-returns-in_ok-parts-in-And
-compound-returns-in_ok-parts-in-And t c =
-    let words = c.args.words.now in let next = c.in_ok-parts-in-And.next in (
-      by_reserved effect_list c.requires c.in-And.is (λ n. refl) ∙ ap (λ r. bind r (λ es w. made (tree.both (effects es)) w)) c.in_ok-parts-in-And.ensures.0 ∙ ap (λ e. made e (from words next)) (sym (effect_of-And c.in_ok-parts-in-And.parts)),
-      (omega (arith, c.in_ok-parts-in-And.ensures.1), c.in_ok-parts-in-And.ensures.1.1),
+pub effect-returns-in_ok-parts-in-Reserved-And-default : goal.effect-returns-in_ok-parts-in-Reserved-And-default
+effect-returns-in_ok-parts-in-Reserved-And-default t c =
+    let words = c.args.words.now in let word = c.in-Reserved-And-default in let read = c.in_ok-parts-in-Reserved-And-default in (
+      by_reserved effect_list words c.args.at (name_of word.field-1) word.ensures.first word.field-0-is refl ∙ ap (λ r. bind r (λ es w. made (tree.both (effects es)) w)) read.ensures.0 ∙ ap (λ e. made e (from words read.next)) (sym (effect_of-And read.parts)),
+      (omega (arith, read.ensures.1), read.ensures.1.1),
     )

@@ -1,25 +1,18 @@
-use Rattle.std.proofs.Common.{◌-◌, ◌+◌, ◌*◌, ◌≤◌, length, map}
+use Rattle.std.proofs.Common.{◌-◌, ◌≤◌, length, map}
 use Rattle.model.specs.Grammar.{many, listed, effect_list}
 use Rattle.pddl_tree.specs.Reading.{part}
 use Rattle.syntax_tree.specs.Tree.{effect_of}
 use Rattle.pddl_tree.proofs.Looks.{IsReadOn}
 use Rattle.pddl_tree.proofs.effects.+effect.Given as goal
 
--- twice the words left, and one more where a call takes none of them
 abbrev pub decreases-effect : goal.decreases-effect
-decreases-effect l = 2 * (length l.words.now - l.at) + 1
-
-abbrev pub decreases-compound : goal.decreases-compound
-decreases-compound l = 2 * (length l.words.now - l.at)
-
-abbrev pub decreases-each : goal.decreases-each
-decreases-each l = 2 * (length l.words.now - l.at) + 1
+decreases-effect l = length l.words.now - l.at
 
 abbrev pub decreases-last : goal.decreases-last
-decreases-last l = 2 * (length l.words.now - l.at) + 1
+decreases-last l = length l.words.now - l.at
 
 abbrev pub decreases-effects : goal.decreases-effects
-decreases-effects l = 2 * (length l.words.now - l.at)
+decreases-effects l = length l.words.now - l.at
 
 abbrev pub invariant-effects-parts : goal.invariant-effects-parts
 invariant-effects-parts l = record {

@@ -3,6 +3,7 @@ use Rattle.syntax_tree.specs.Tree.{formula_of}
 use Rattle.model.specs.Trees as tree
 use Rattle.model.specs.Trees.{formulas}
 use Rattle.model.specs.Grammar.{formula}
+use Rattle.pddl_words.specs.Name.{name_of}
 use Rattle.pddl_words.specs.Token.{from}
 use Rattle.syntax_tree.proofs.Rows.{formula_of-And, formula_of-Or}
 use Rattle.pddl_tree.specs.Reading.{made, bind}
@@ -15,16 +16,16 @@ formulas-parts-preserved t c = record {
   read = on_more formula_of c.parts.parts.items _ _ c.parts.invariant.read (one_inside formula c.args.words.now c.parts.next c.in_ok-inside.inside c.in_ok-part.after _ c.in_ok-inside.ensures.0 c.in_ok-inside.ensures.1.0 c.in_ok-part.ensures.0) c.in_ok-push.ensures.items;
 }
 
-pub compound-returns-in_ok-parts-in-And : goal.compound-returns-in_ok-parts-in-And
-compound-returns-in_ok-parts-in-And t c =
-    let words = c.args.words.now in let next = c.in_ok-parts-in-And.next in (
-      by_reserved formula c.requires c.in-And.is (λ n. refl) ∙ ap (λ r. bind r (λ fs w. made (tree.and (formulas fs)) w)) c.in_ok-parts-in-And.ensures.0 ∙ ap (λ f. made f (from words next)) (sym (formula_of-And c.in_ok-parts-in-And.parts)),
-      (omega (arith, c.in_ok-parts-in-And.ensures.1), c.in_ok-parts-in-And.ensures.1.1),
+pub formula-returns-in_ok-parts-in-Reserved-And-default : goal.formula-returns-in_ok-parts-in-Reserved-And-default
+formula-returns-in_ok-parts-in-Reserved-And-default t c =
+    let words = c.args.words.now in let word = c.in-Reserved-And-default in let read = c.in_ok-parts-in-Reserved-And-default in (
+      by_reserved formula words c.args.at (name_of word.field-1) word.ensures.first word.field-0-is refl ∙ ap (λ r. bind r (λ fs w. made (tree.and (formulas fs)) w)) read.ensures.0 ∙ ap (λ f. made f (from words read.next)) (sym (formula_of-And read.parts)),
+      (omega (arith, read.ensures.1), read.ensures.1.1),
     )
 
-pub compound-returns-in_ok-parts-in-Or : goal.compound-returns-in_ok-parts-in-Or
-compound-returns-in_ok-parts-in-Or t c =
-    let words = c.args.words.now in let next = c.in_ok-parts-in-Or.next in (
-      by_reserved formula c.requires c.in-Or.is (λ n. refl) ∙ ap (λ r. bind r (λ fs w. made (tree.or (formulas fs)) w)) c.in_ok-parts-in-Or.ensures.0 ∙ ap (λ f. made f (from words next)) (sym (formula_of-Or c.in_ok-parts-in-Or.parts)),
-      (omega (arith, c.in_ok-parts-in-Or.ensures.1), c.in_ok-parts-in-Or.ensures.1.1),
+pub formula-returns-in_ok-parts-in-Reserved-Or-default : goal.formula-returns-in_ok-parts-in-Reserved-Or-default
+formula-returns-in_ok-parts-in-Reserved-Or-default t c =
+    let words = c.args.words.now in let word = c.in-Reserved-Or-default in let read = c.in_ok-parts-in-Reserved-Or-default in (
+      by_reserved formula words c.args.at (name_of word.field-1) word.ensures.first word.field-0-is refl ∙ ap (λ r. bind r (λ fs w. made (tree.or (formulas fs)) w)) read.ensures.0 ∙ ap (λ f. made f (from words read.next)) (sym (formula_of-Or read.parts)),
+      (omega (arith, read.ensures.1), read.ensures.1.1),
     )

@@ -9,14 +9,8 @@ use Rattle.pddl_tree.proofs.formulas.+formula.Given as goal
 abbrev pub decreases-formula : goal.decreases-formula
 decreases-formula l = 2 * (length l.words.now - l.at) + 1
 
-abbrev pub decreases-compound : goal.decreases-compound
-decreases-compound l = 2 * (length l.words.now - l.at)
-
 abbrev pub decreases-implication : goal.decreases-implication
 decreases-implication l = 2 * (length l.words.now - l.at) + 1
-
-abbrev pub decreases-quantified : goal.decreases-quantified
-decreases-quantified l = 2 * (length l.words.now - l.at) + 1
 
 abbrev pub decreases-last : goal.decreases-last
 decreases-last l = 2 * (length l.words.now - l.at) + 1

@@ -6,7 +6,7 @@ use Rattle.pddl_tree.proofs.values.items.Given as goal
 abbrev pub invariant-items : goal.invariant-items
 invariant-items l = record {
   moved : l.at ≤ l.next;
-  read : AreItemsOn l.words l.at (map effect_of l.entries.changes.items) (map increase_of l.entries.increases.items) l.next;
+  read : AreItemsOn l.words l.at (map effect_of l.effects.items) (map increase_of l.increases.items) l.next;
 }
 
 abbrev pub decreases-items : goal.decreases-items
