@@ -3,19 +3,16 @@ ghost use Rattle.std.specs.Prelude.{◌≡◌, [], IfOk, IfErr, map, Some, false
 ghost use Rattle.model.specs.GrammarWords.{keyword, of_part};
 ghost use Rattle.model.specs.Grammar as grammar;
 ghost use Rattle.pddl_words.specs.Token.{from, first, part_view};
-ghost use Rattle.pddl_tree.specs.Reading.{part, phrase, Reads, ReadsInto, GoesOn, Stops, closes_first};
+ghost use Rattle.pddl_tree_values.specs.Reading.{part, phrase, Reads, ReadsInto, GoesOn, Stops, closes_first};
 ghost use Rattle.pddl_words.specs.Name.{name_of};
 ghost use Rattle.syntax_tree.specs.Tree.{action_of, formula_of};
 ghost use Rattle.pddl_tree.specs.Sections.{the_action, parts_on, part_into};
 
-use crate::effects::no_effect;
-use crate::formulas::{formula, no_condition};
-use crate::look::{Parsed, action_name, is_close, open};
-use crate::put::{put, replace};
-use crate::refusal::{Listed, Place, has_part, refusal};
-use crate::typed::typed;
-use crate::values::effect_value;
 use faults::Refused;
+use pddl_tree_values::{
+    Listed, Parsed, Place, action_name, effect_value, formula, has_part, is_close, no_condition,
+    no_effect, open, put, refusal, replace, typed,
+};
 use pddl_words::{Keyword, Name, PartKeyword, Token, WordFault, WordRefusal, token_at};
 use std::alloc::Global;
 use syntax_tree::{Action, Formula};
@@ -83,7 +80,7 @@ fn part<'a>(
 }
 
 /// The keyword of a part that is not seen yet.
-#[tactic(auto, using(crate::proofs::Read::part_here))]
+#[tactic(auto, using(pddl_tree_values::proofs::Read::part_here))]
 fn part_keyword(words: &[Word], at: usize, seen: &[PartKeyword]) -> Result<PartKeyword, WordRefusal>
     ensures word { IfOk result (λ part. first (from words.now at) ≡ Some (keyword (of_part (part_view part)))) }
     ensures new { IfOk result (λ part. grammar.has_part (map part_view seen.now) (part_view part) ≡ false) }

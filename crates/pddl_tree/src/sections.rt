@@ -5,19 +5,16 @@ ghost use Rattle.model.specs.GrammarWords.{opens, keyword, of_section};
 ghost use Rattle.model.specs.Grammar as grammar;
 ghost use Rattle.pddl_words.specs.Name.{name_of};
 ghost use Rattle.pddl_words.specs.Token.{from, first, section_view};
-ghost use Rattle.pddl_tree.specs.Reading.{part, phrase, Reads, ReadsInto, GoesOn, Stops, closes_first};
+ghost use Rattle.pddl_tree_values.specs.Reading.{part, phrase, Reads, ReadsInto, GoesOn, Stops, closes_first};
 ghost use Rattle.syntax_tree.specs.Tree.{file_of};
 ghost use Rattle.pddl_tree.specs.Sections.{contents_of, sections_on, section_into, the_domain, IsNotNew};
 
 use crate::action::action;
-use crate::costs::{functions, metric};
-use crate::formulas::{last, no_condition};
-use crate::lists::{Key, list};
-use crate::look::{Parsed, close, is_close, name, open};
-use crate::put::{put, replace};
-use crate::refusal::{Listed, Place, allowed, has_section, refusal, required};
-use crate::typed::typed;
 use faults::{NoMemory, Refused, Span};
+use pddl_tree_values::{
+    Key, Listed, Parsed, Place, allowed, close, functions, has_section, is_close, last, list,
+    metric, name, no_condition, open, put, refusal, replace, required, typed,
+};
 use pddl_words::{Keyword, Name, SectionKeyword, Token, WordFault, WordRefusal, token_at};
 use std::alloc::Global;
 use syntax_tree::{Action, Fact, Formula, Group, Predicate, TaskFile};
@@ -97,9 +94,8 @@ fn section<'a>(
     ensures { GoesOn (phrase (sections_on (file_of file) (map section_view seen.old.items) (contents_of contents.old))) (phrase (sections_on (file_of file) (map section_view seen.new.items) (contents_of contents.new))) words.now at result }
 {
     let keyword = section_head(words, at, file, seen)?;
-    let next = section_rest(alloc, words, at + 2, keyword, contents)?;
     see(seen, keyword)?;
-    Ok(next)
+    section_rest(alloc, words, at + 2, keyword, contents)
 }
 
 /// Whether all of some sections are seen.
@@ -162,7 +158,7 @@ fn section_keyword(
 }
 
 /// A section whose keyword was read, taken into the contents: the index after it.
-#[tactic(auto, using(crate::proofs::Looks::put_in))]
+#[tactic(auto, using(pddl_tree_values::proofs::Looks::put_in))]
 fn section_rest<'a>(
     alloc: Global,
     words: &[Word<'a>],

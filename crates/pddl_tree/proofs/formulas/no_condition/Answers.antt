@@ -1,9 +1,0 @@
-use Rattle.std.proofs.Common.{map, ◌∙◌, ap}
-use Rattle.model.specs.Trees.{formulas}
-use Rattle.model.specs.Trees as tree
-use Rattle.syntax_tree.specs.Tree.{formula_of}
-use Rattle.syntax_tree.proofs.Rows.{formula_of-And}
-use Rattle.pddl_tree.proofs.formulas.no_condition.Goals as goal
-
-pub returns : goal.returns
-returns c = formula_of-And c.new.result ∙ ap (λ fs. tree.and (formulas (map formula_of fs))) c.new.ensures.items
