@@ -1,22 +1,16 @@
 -- The sections of a file, one after another.
-use Rattle.std.proofs.Common.{◌≡◌, ℕ, ◌+◌, Bool, true, false, cond, ◌||◌, ◌&&◌, List, [], ◌∷◌, map, fold, Option, Some, None, Result, Ok, Err, refl, sym, ◌∙◌, ap, arith}
+use Rattle.pddl_tree_values.proofs.Names.{◌≡◌, ℕ, ◌+◌, true, false, cond, ◌||◌, List, [], ◌∷◌, map, fold, Option, Some, None, Result, Ok, Err, refl, sym, ◌∙◌, ap, arith, option_and_then, section_view, Word, from, first, WordFault, made, stops, bind, part, phrase, number_seen, closes_first, opens_first, ReadsInto, GoesOn, Stops, File, Token, opens, closes, keyword, of_section, of_part, Section, Contents, Phrase, gives, ◌>>=◌, and_then, after, sections, define_word, with_section, is_section, has_section, sections_of, required_of}
+use Rattle.std.proofs.Common.{Bool, ◌&&◌}
 use Rattle.std.specs.List.{list_all}
-use Rattle.std.specs.Option.{option_and_then}
 use Rattle.model.proofs.Tests.{passes_map}
 use Rattle.pddl_words.specs.declared.token.SectionKeyword as code
-use Rattle.pddl_words.specs.Token.{section_view}
-use Rattle.tokens.specs.declared.word.Word.{Word}
 use Rattle.pddl_words.specs.declared.refusal.WordRefusal.{WordRefusal}
-use Rattle.pddl_words.specs.Token.{from, first}
-use Rattle.pddl_words.specs.Refusal.{WordFault}
-use Rattle.pddl_tree.specs.Reading.{made, stops, bind, part, phrase, number_seen, closes_first, opens_first, ReadsInto, GoesOn, Stops}
 use Rattle.pddl_tree.specs.Sections.{sections_on, section_into, IsNotNew}
-use Rattle.pddl_tree.proofs.Read.{taken, phrase_then, read_in_turn}
-use Rattle.pddl_tree.proofs.Looks.{is_closes, refused_here, told_first, told_along}
-use Rattle.model.specs.Trees.{File}
-use Rattle.model.specs.GrammarWords.{Token, opens, closes, keyword, SectionKeyword, of_section, of_part, requirement_key, left_out_keyword, unknown_keyword}
+use Rattle.pddl_tree_values.proofs.Read.{taken, phrase_then, read_in_turn}
+use Rattle.pddl_tree_values.proofs.Looks.{is_closes, refused_here, told_first, told_along}
+use Rattle.model.specs.GrammarWords.{SectionKeyword, requirement_key, left_out_keyword, unknown_keyword}
 use Rattle.model.specs.GrammarWords as words
-use Rattle.model.specs.Grammar.{Section, Contents, Phrase, gives, ◌>>=◌, and_then, after, sections, section, section_of, section_after, define_word, with_section, keyword_in, seen_with, is_section, has_section, has_all, left_of, sections_of, required_of}
+use Rattle.model.specs.Grammar.{section, section_of, section_after, keyword_in, seen_with, has_all, left_of}
 use Rattle.model.proofs.GrammarBegins.{is_left, same_section}
 
 -- the code's test of all of some sections

@@ -1,10 +1,4 @@
-pub mod Read
-pub mod Looks
-pub mod Groups
-pub mod TotalCost
-pub mod EffectValues
 pub mod Parts
 pub mod Files
 pub mod Heads
 pub mod Told
-pub mod Seen

@@ -1,18 +1,13 @@
 -- The parts of an action, one after another.
-use Rattle.std.proofs.Common.{◌≡◌, ℕ, ◌+◌, true, false, cond, List, [], ◌∷◌, ◌++◌, fold, Option, Some, None, Result, Ok, Err, refl, sym, ◌∙◌, ap, arith}
-use Rattle.std.specs.Option.{option_and_then}
-use Rattle.tokens.specs.declared.word.Word.{Word}
-use Rattle.pddl_words.specs.Token.{from, first}
-use Rattle.pddl_words.specs.Refusal.{WordFault}
-use Rattle.pddl_tree.specs.Reading.{made, stops, bind, part, phrase, number_seen, closes_first, opens_first, ReadsInto, GoesOn}
+use Rattle.pddl_tree_values.proofs.Names.{◌≡◌, ℕ, ◌+◌, true, false, cond, List, [], ◌∷◌, ◌++◌, fold, Option, Some, None, Result, Ok, Err, refl, sym, ◌∙◌, ap, arith, option_and_then, Word, from, first, WordFault, made, stops, bind, part, phrase, number_seen, closes_first, opens_first, ReadsInto, GoesOn, formulas, Token, opens, closes, keyword, of_part, gives, ◌>>=◌, after, formula, has_part}
 use Rattle.pddl_tree.specs.Sections.{parts_on, part_into}
-use Rattle.pddl_tree.proofs.Read.{part_here, part_none, part_of, taken, read_in_turn}
-use Rattle.pddl_tree.proofs.Looks.{is_closes, refused_here, told_first, told_along}
-use Rattle.model.specs.Trees.{Action, formulas}
+use Rattle.pddl_tree_values.proofs.Read.{part_here, part_none, part_of, taken, read_in_turn}
+use Rattle.pddl_tree_values.proofs.Looks.{is_closes, refused_here, told_first, told_along}
+use Rattle.model.specs.Trees.{Action}
 use Rattle.model.specs.Trees as tree
-use Rattle.model.specs.GrammarWords.{Token, opens, closes, keyword, PartKeyword, of_part}
+use Rattle.model.specs.GrammarWords.{PartKeyword}
 use Rattle.model.specs.GrammarWords as words
-use Rattle.model.specs.Grammar.{gives, ◌>>=◌, after, value, formula, precondition_list, parts, part_after, parts_after, with_part, has_part}
+use Rattle.model.specs.Grammar.{value, precondition_list, parts, part_after, parts_after, with_part}
 
 -- the keyword of a part that is new: what follows it
 begun : (seen : List PartKeyword) (p : PartKeyword) (a : Action) (list : List Word) (at : ℕ) → first (from list at) ≡ Some (keyword (of_part p)) → has_part seen p ≡ false
@@ -62,3 +57,5 @@ formula_here list at e = by_words (from list at) e
     by_words [] e = part_none precondition_list ∙ sym (part_none formula)
     by_words (closes ∷ w) e = absurd (cc)
     by_words (t ∷ w) e = part_of precondition_list w t ∙ sym (part_of formula w t)
+
+pub ruleset of_precondition = (no_formula, formula_here)

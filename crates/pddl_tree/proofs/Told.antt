@@ -1,26 +1,19 @@
 -- What the machine makes of a whole file, in the terms of the public contracts.
-use Rattle.std.proofs.Common.{◌≡◌, ◌≢◌, ℕ, zero, suc, ◌-◌, ◌<◌, ◌≤◌, List, [], ◌∷◌, map, drop, length, fold, Option, None, Some, refl, sym, ◌∙◌, ap, arith}
+use Rattle.pddl_tree_values.proofs.Names.{◌≡◌, ℕ, zero, suc, ◌-◌, ◌<◌, ◌≤◌, List, [], ◌∷◌, map, drop, length, fold, Option, None, Some, refl, sym, ◌∙◌, ap, arith, option_map, Word, word_of, from, first, At, NoMemory, WordFault, told, Reading, made, stops, bind, part, phrase, number_seen, Tells, Tree, Section, Contents, gives, close, file, sections, tree_from, with_section, File, Name, Token, token_of, tokens_of, start, Outcome, run, stopped}
+use Rattle.std.proofs.Common.{◌≢◌}
 use Rattle.std.specs.Prelude.{IfSome, slice_get}
-use Rattle.std.specs.Option.{option_map}
 use Rattle.std.proofs.lemmas.List.{length-drop, length-map}
 use Rattle.std.proofs.lemmas.Option.{slice_get_past, slice_get-map}
-use Rattle.tokens.specs.declared.word.Word.{Word}
-use Rattle.tokens.specs.Word.{word_of}
-use Rattle.pddl_words.specs.Token.{from, first}
-use Rattle.faults.specs.Fault.{number_of}
-use Rattle.faults.specs.declared.refused.Refused.TheVariants.{At, NoMemory}
-use Rattle.pddl_words.specs.Refusal.{WordFault, told, fault_of}
-use Rattle.pddl_tree.specs.Reading.{Reading, made, stops, bind, part, phrase, number_seen, Tells}
+use Rattle.pddl_words.specs.Refusal.{fault_of}
 use Rattle.pddl_tree.specs.Head.{at_end, no_more, after_head}
 use Rattle.pddl_tree.specs.Sections.{sections_on}
-use Rattle.pddl_tree.proofs.Read.{ends_as, run_part}
+use Rattle.pddl_tree_values.proofs.Read.{ends_as, run_part}
+use Rattle.pddl_tree_values.proofs.Looks.{told_first}
 use Rattle.model.specs.Words.{end_of}
 use Rattle.model.specs.Words as text
-use Rattle.model.specs.Grammar.{IsFile, Tree, Section, Contents, gives, close, file, sections, tree_from, with_section, no_contents}
-use Rattle.model.specs.Trees.{File, Name}
-use Rattle.model.specs.GrammarWords.{Token, token_of, tokens_of}
-use Rattle.model.specs.Refusals.{IsWhole, IsRefused, end_of_all, span_by, span_of_place, start, by_word}
-use Rattle.model.specs.GrammarMachine.{run, finished, stopped}
+use Rattle.model.specs.Grammar.{IsFile, no_contents}
+use Rattle.model.specs.Refusals.{IsWhole, IsRefused, end_of_all, span_by, span_of_place, by_word}
+use Rattle.model.specs.GrammarMachine.{finished}
 use Rattle.model.proofs.GrammarMeaning.{run_file, file_run}
 use Rattle.model.proofs.GrammarRefusals.{refused_at}
 
@@ -84,32 +77,28 @@ pub trailing_all : {A : Type 0} (x : A) (w : List Token) (n : ℕ) (v : List Tok
 trailing_all x [] n v e = absurd (cc)
 trailing_all x (t ∷ w) n v e = let number : by_word t ≡ n = cc in let left : t ∷ w ≡ v = cc in λ i. stops (number i) (left i)
 
+pub ruleset of_rest = (told_first, trailing_all)
+
 -- ---- a file by its sections
 
-pub head_told : (f : File) (w : List Token) (n : ℕ) (v : List Token) → part (file f) w ≡ stops n v → run w (start f) ≡ stopped n v
-head_told f w n v e = run_part (file f) w gives ∙ ap (λ r. ends_as r gives) e
+-- how the machine ends, by what is read after the head
+abbrev pub outcome : File → Name → Reading Contents → Outcome Tree
+outcome f n (made c w) = finished (tree_from f n c)
+outcome f n (stops m w) = stopped m w
 
-pub all_read : (f : File) (n : Name) (w v : List Token) (c : Contents) → part (file f) w ≡ phrase (after_head f n) v → bind (phrase (sections_on f [] no_contents) v) at_end ≡ made c [] → run w (start f) ≡ finished (tree_from f n c)
-all_read f n w v c e h = run_part (file f) w gives ∙ ap (λ r. ends_as r gives) e ∙ by_sections (part (sections f []) v) h
+pub file_ends : (f : File) (n : Name) (w v : List Token) → part (file f) w ≡ phrase (after_head f n) v → run w (start f) ≡ outcome f n (bind (phrase (sections_on f [] no_contents) v) at_end)
+file_ends f n w v e = run_part (file f) w gives ∙ ap (λ r. ends_as r gives) e ∙ by_sections (part (sections f []) v)
   where
-    by_sections : (r : Reading (List Section)) → bind (bind r (λ ss u. made (fold with_section no_contents ss) u)) at_end ≡ made c [] → ends_as (bind r (λ ss u. made (tree_from f n (fold with_section no_contents ss)) u)) gives ≡ finished (tree_from f n c)
-    by_sections (made ss []) h = let same : fold with_section no_contents ss ≡ c = cc in ap (λ c. finished (tree_from f n c)) same
-    by_sections (made ss (t ∷ u)) h = absurd (cc)
-    by_sections (stops m u) h = absurd (cc)
-
-pub all_told : (f : File) (n : Name) (w v : List Token) (m : ℕ) (u : List Token) → part (file f) w ≡ phrase (after_head f n) v → bind (phrase (sections_on f [] no_contents) v) at_end ≡ stops m u → run w (start f) ≡ stopped m u
-all_told f n w v m u e h = run_part (file f) w gives ∙ ap (λ r. ends_as r gives) e ∙ by_sections (part (sections f []) v) h
-  where
-    by_sections : (r : Reading (List Section)) → bind (bind r (λ ss u. made (fold with_section no_contents ss) u)) at_end ≡ stops m u → ends_as (bind r (λ ss u. made (tree_from f n (fold with_section no_contents ss)) u)) gives ≡ stopped m u
-    by_sections (made ss []) h = absurd (cc)
-    by_sections (made ss (t ∷ x)) h = let number : by_word t ≡ m = cc in let left : t ∷ x ≡ u = cc in λ i. stopped (number i) (left i)
-    by_sections (stops k x) h = let number : k ≡ m = cc in let left : x ≡ u = cc in λ i. stopped (number i) (left i)
+    by_sections : (r : Reading (List Section)) → ends_as (bind r (λ ss u. made (tree_from f n (fold with_section no_contents ss)) u)) gives ≡ outcome f n (bind (bind r (λ ss u. made (fold with_section no_contents ss) u)) at_end)
+    by_sections (made ss []) = refl
+    by_sections (made ss (t ∷ u)) = refl
+    by_sections (stops m u) = refl
 
 -- in the terms of what is told
 pub head_stops : (f : File) (words : List Word) (refusal : WordFault) → Tells words (part (file f) (from words 0)) refusal → StopsAs f words (told refusal)
-head_stops f words (At r) h = head_told f (from words 0) (number_of r.code) (from words r.at) h
+head_stops f words (At r) h = run_part (file f) (from words 0) gives ∙ ap (λ r. ends_as r gives) h
 head_stops f words NoMemory h = tt
 
 pub all_stop : (f : File) (n : Name) (words : List Word) (at : ℕ) (refusal : WordFault) → part (file f) (from words 0) ≡ phrase (after_head f n) (from words at) → Tells words (bind (phrase (sections_on f [] no_contents) (from words at)) at_end) refusal → StopsAs f words (told refusal)
-all_stop f n words at (At r) e h = all_told f n (from words 0) (from words at) (number_of r.code) (from words r.at) e h
+all_stop f n words at (At r) e h = file_ends f n (from words 0) (from words at) e ∙ ap (outcome f n) h
 all_stop f n words at NoMemory e h = tt

@@ -6,7 +6,7 @@ use Rattle.pddl_words.specs.declared.refusal.WordRefusal.{WordRefusal}
 use Rattle.pddl_words.specs.Name.{name_of}
 use Rattle.pddl_words.specs.Token.{from}
 use Rattle.pddl_words.specs.Refusal.{WordFault}
-use Rattle.pddl_tree.specs.Reading.{Reading, made, stops, bind, part, phrase, Stops, Tells}
+use Rattle.pddl_tree_values.specs.Reading.{Reading, made, stops, bind, part, phrase, Stops, Tells}
 use Rattle.model.specs.GrammarWords.{Token}
 use Rattle.model.specs.Trees.{File, Name}
 use Rattle.model.specs.Grammar.{Tree, Phrase, gives, ◌>>=◌, file, sections, tree_from, with_section, no_contents}

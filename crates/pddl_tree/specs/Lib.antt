@@ -1,10 +1,2 @@
-pub mod Reading
-pub mod Place
 pub mod Sections
 pub mod Head
-pub mod Typed
-pub mod Formula
-pub mod Costs
-pub mod Literals
-pub mod Effect
-pub mod Values

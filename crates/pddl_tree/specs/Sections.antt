@@ -8,7 +8,7 @@ use Rattle.tokens.specs.declared.word.Word.{Word}
 use Rattle.faults.specs.Fault.{number_of}
 use Rattle.pddl_words.specs.declared.refusal.WordRefusal.{WordRefusal}
 use Rattle.pddl_words.specs.Token.{from, first}
-use Rattle.pddl_tree.specs.Reading.{number_seen}
+use Rattle.pddl_tree_values.specs.Reading.{number_seen}
 use Rattle.model.specs.Trees.{File, Name, Action}
 use Rattle.model.specs.GrammarWords.{PartKeyword, SectionKeyword, keyword, of_section}
 use Rattle.model.specs.Grammar.{Phrase, gives, ◌>>=◌, ◌>>◌, and_then, a_name, close, action_name, parts, part_after, with_part, action_from, sections, section_after, with_section, has_section, sections_of}

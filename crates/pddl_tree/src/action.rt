@@ -3,21 +3,19 @@ ghost use Rattle.std.specs.Prelude.{◌≡◌, [], IfOk, IfErr, map, Some, false
 ghost use Rattle.model.specs.GrammarWords.{keyword, of_part};
 ghost use Rattle.model.specs.Grammar as grammar;
 ghost use Rattle.pddl_words.specs.Token.{from, first, part_view};
-ghost use Rattle.pddl_tree.specs.Reading.{part, phrase, Reads, ReadsInto, GoesOn, Stops, closes_first};
+ghost use Rattle.pddl_tree_values.specs.Reading.{part, phrase, Reads, ReadsInto, GoesOn, Stops, closes_first};
 ghost use Rattle.pddl_words.specs.Name.{name_of};
 ghost use Rattle.syntax_tree.specs.Tree.{action_of, formula_of};
 ghost use Rattle.pddl_tree.specs.Sections.{the_action, parts_on, part_into};
 
-use crate::formulas::formula;
-use crate::look::{action_name, is_close, open};
-use crate::put::put;
-use crate::refusal::{Listed, Place, has_part, refusal};
-use crate::typed::typed;
-use crate::values::effect_value;
 use faults::Refused;
+use pddl_tree_values::{
+    Listed, Parsed, Place, action_name, effect_value, formula, has_part, is_close, no_condition,
+    no_effect, open, put, refusal, replace, typed,
+};
 use pddl_words::{Keyword, Name, PartKeyword, Token, WordFault, WordRefusal, token_at};
 use std::alloc::Global;
-use syntax_tree::{Action, Effect, Formula, Group};
+use syntax_tree::{Action, Formula};
 use tokens::Word;
 
 /// An action of which no part was read: what may be left out is `(and)`.
@@ -27,18 +25,14 @@ fn bare(alloc: Global, name: Name<'_>) -> Action<'_>
     Action {
         name,
         parameters: Vec::new(alloc),
-        precondition: Formula::And(Vec::new(alloc)),
-        effect: Effect::And(Vec::new(alloc)),
+        precondition: no_condition(alloc),
+        effect: no_effect(alloc),
         increases: Vec::new(alloc),
     }
 }
 
 /// An action whose `:action` was read, and the index after its `)`.
-pub(crate) fn action<'a>(
-    alloc: Global,
-    words: &[Word<'a>],
-    at: usize,
-) -> Result<(Action<'a>, usize), WordFault>
+pub(crate) fn action<'a>(alloc: Global, words: &[Word<'a>], at: usize) -> Parsed<Action<'a>>
     ensures { Reads (phrase the_action) words.now at action_of result }
 {
     let (name, next) = action_name(words, at)?;
@@ -86,7 +80,7 @@ fn part<'a>(
 }
 
 /// The keyword of a part that is not seen yet.
-#[tactic(auto, using(crate::proofs::Read::part_here))]
+#[tactic(auto, using(pddl_tree_values::proofs::Read::part_here))]
 fn part_keyword(words: &[Word], at: usize, seen: &[PartKeyword]) -> Result<PartKeyword, WordRefusal>
     ensures word { IfOk result (λ part. first (from words.now at) ≡ Some (keyword (of_part (part_view part)))) }
     ensures new { IfOk result (λ part. grammar.has_part (map part_view seen.now) (part_view part) ≡ false) }
@@ -119,18 +113,17 @@ fn value<'a>(
     let inside = open(words, at, Place::Value(seen))?;
     match keyword {
         PartKeyword::Parameters => {
-            let (parameters, next) = typed(alloc, words, inside, Listed::Variables)?;
-            action.parameters = parameters;
-            Ok(next)
+            put(
+                &mut action.parameters,
+                typed(alloc, words, inside, Listed::Variables),
+            )
         }
         PartKeyword::Precondition => {
-            let (precondition, next) = precondition(alloc, words, inside)?;
-            put(&mut action.precondition, precondition);
-            Ok(next)
+            put(&mut action.precondition, precondition(alloc, words, inside))
         }
         PartKeyword::Effect => {
             let (value, next) = effect_value(alloc, words, inside)?;
-            put(&mut action.effect, value.effect);
+            replace(&mut action.effect, value.effect);
             action.increases = value.increases;
             Ok(next)
         }
@@ -138,15 +131,12 @@ fn value<'a>(
 }
 
 /// A precondition whose `(` was read, and the index after its `)`: a formula, or nothing, which is `(and)`.
-fn precondition<'a>(
-    alloc: Global,
-    words: &[Word<'a>],
-    at: usize,
-) -> Result<(Formula<'a>, usize), WordFault>
+#[tactic(auto, using(crate::proofs::Parts::of_precondition))]
+fn precondition<'a>(alloc: Global, words: &[Word<'a>], at: usize) -> Parsed<Formula<'a>>
     ensures { Reads (part grammar.precondition_list) words.now at formula_of result }
 {
     if is_close(words, at) {
-        Ok((Formula::And(Vec::new(alloc)), at + 1))
+        Ok((no_condition(alloc), at + 1))
     } else {
         formula(alloc, words, at)
     }

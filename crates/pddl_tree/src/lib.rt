@@ -2,19 +2,8 @@
 #![tactic(auto)]
 
 mod action;
-mod costs;
-mod declared;
-mod effects;
-mod formulas;
-mod lists;
-mod literals;
-mod look;
-mod put;
 mod reader;
-mod refusal;
 mod sections;
-mod typed;
-mod values;
 
 pub use pddl_words::{Name, Term};
 pub use reader::{domain, examples_are_as_told, one_fault, one_reading, problem};

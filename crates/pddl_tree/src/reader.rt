@@ -7,7 +7,7 @@
 //! from the textbook's in three things. A state is a function from the tree that comes next to the state after it, so
 //! that a run ends in the file's tree and not in a yes. Which sections and parts stand already belongs to the state, since
 //! each stands at most once and their order is free. And where it stops, it says by a number why.
-ghost use Rattle.std.specs.Prelude.{◌≡◌, List, map, IfOk, IfErr, IsErrAnd, IfSome, IsSome, None, [], ⊤};
+ghost use Rattle.std.specs.Prelude.{◌≡◌, List, map, IfOk, IfErr, IsErrAnd, IfSome, IsSome, None, []};
 ghost use Rattle.faults.specs.Fault.{told_by};
 ghost use Rattle.tokens.specs.Word.{word_of};
 ghost use Rattle.model.specs.Fault as model;
@@ -20,15 +20,14 @@ ghost use Rattle.model.specs.GrammarExamples.{AreAsTold};
 ghost use Rattle.pddl_words.specs.Name.{name_of};
 ghost use Rattle.pddl_words.specs.Token.{from};
 ghost use Rattle.pddl_words.specs.Refusal.{told, fault_of};
-ghost use Rattle.pddl_tree.specs.Reading.{phrase, Stops};
+ghost use Rattle.pddl_tree_values.specs.Reading.{phrase, Stops};
 ghost use Rattle.pddl_tree.specs.Sections.{contents_of, sections_on};
 ghost use Rattle.pddl_tree.specs.Head.{HasHead, HasNoHead, ReadsHead, ReadsAll, no_more};
 ghost use Rattle.syntax_tree.specs.Tree.{file_of, domain_of, problem_of};
 
-use crate::look::{close, define, kind, name, open};
-use crate::refusal::{Place, refusal};
 use crate::sections::{Contents, sections};
 use faults::{Fault, Refusal, Refused, Span};
+use pddl_tree_values::{Place, close, define, kind, name, open, refusal};
 use pddl_words::{Name, WordFault, WordRefusal};
 use std::alloc::Global;
 use syntax_tree::{Domain, Problem, TaskFile};
@@ -73,10 +72,7 @@ pub fn domain<'a>(alloc: Global, words: &[Word<'a>]) -> Result<Domain<'a>, Fault
     // Words that stop within the head are refused for that, and never for want of memory.
     ensures head { HasNoHead domain_file (tokens_of (map word_of words.now)) → IsErrAnd result (λ fault. IsSome (told_by fault)) }
 {
-    let (name, contents) = match file(alloc, words, TaskFile::Domain) {
-        Ok(read) => read,
-        Err(fault) => return Err(fault),
-    };
+    let (name, contents) = file(alloc, words, TaskFile::Domain)?;
     Ok(Domain {
         name,
         types: contents.types,
@@ -111,10 +107,7 @@ pub fn problem<'a>(alloc: Global, words: &[Word<'a>]) -> Result<Problem<'a>, Fau
     // Words that stop within the head are refused for that, and never for want of memory.
     ensures head { HasNoHead problem_file (tokens_of (map word_of words.now)) → IsErrAnd result (λ fault. IsSome (told_by fault)) }
 {
-    let (name, contents) = match file(alloc, words, TaskFile::Problem) {
-        Ok(read) => read,
-        Err(fault) => return Err(fault),
-    };
+    let (name, contents) = file(alloc, words, TaskFile::Problem)?;
     Ok(Problem {
         name,
         domain: contents.domain,
@@ -195,6 +188,7 @@ fn file<'a>(
 }
 
 /// What follows the head of a file, taken into the contents, or the refused word.
+#[tactic(auto, using(crate::proofs::Told::of_rest))]
 fn rest<'a>(
     alloc: Global,
     words: &[Word<'a>],

@@ -5,19 +5,16 @@ ghost use Rattle.model.specs.GrammarWords.{opens, keyword, of_section};
 ghost use Rattle.model.specs.Grammar as grammar;
 ghost use Rattle.pddl_words.specs.Name.{name_of};
 ghost use Rattle.pddl_words.specs.Token.{from, first, section_view};
-ghost use Rattle.pddl_tree.specs.Reading.{part, phrase, ReadsInto, ReadsWords, GoesOn, Stops, closes_first};
+ghost use Rattle.pddl_tree_values.specs.Reading.{part, phrase, Reads, ReadsInto, GoesOn, Stops, closes_first};
 ghost use Rattle.syntax_tree.specs.Tree.{file_of};
 ghost use Rattle.pddl_tree.specs.Sections.{contents_of, sections_on, section_into, the_domain, IsNotNew};
 
 use crate::action::action;
-use crate::costs::{functions, metric};
-use crate::formulas::last;
-use crate::lists::{Key, list};
-use crate::look::{close, is_close, name, open};
-use crate::put::put;
-use crate::refusal::{Listed, Place, allowed, has_section, refusal, required};
-use crate::typed::typed;
 use faults::{NoMemory, Refused, Span};
+use pddl_tree_values::{
+    Key, Listed, Parsed, Place, allowed, close, functions, has_section, is_close, last, list,
+    metric, name, no_condition, open, put, refusal, replace, required, typed,
+};
 use pddl_words::{Keyword, Name, SectionKeyword, Token, WordFault, WordRefusal, token_at};
 use std::alloc::Global;
 use syntax_tree::{Action, Fact, Formula, Group, Predicate, TaskFile};
@@ -55,7 +52,7 @@ impl<'a> Contents<'a> {
             },
             objects: Vec::new(alloc),
             init: Vec::new(alloc),
-            goal: Formula::And(Vec::new(alloc)),
+            goal: no_condition(alloc),
             metric: None,
         }
     }
@@ -97,9 +94,8 @@ fn section<'a>(
     ensures { GoesOn (phrase (sections_on (file_of file) (map section_view seen.old.items) (contents_of contents.old))) (phrase (sections_on (file_of file) (map section_view seen.new.items) (contents_of contents.new))) words.now at result }
 {
     let keyword = section_head(words, at, file, seen)?;
-    let next = section_rest(alloc, words, at + 2, keyword, contents)?;
     see(seen, keyword)?;
-    Ok(next)
+    section_rest(alloc, words, at + 2, keyword, contents)
 }
 
 /// Whether all of some sections are seen.
@@ -162,6 +158,7 @@ fn section_keyword(
 }
 
 /// A section whose keyword was read, taken into the contents: the index after it.
+#[tactic(auto, using(pddl_tree_values::proofs::Looks::put_in))]
 fn section_rest<'a>(
     alloc: Global,
     words: &[Word<'a>],
@@ -171,42 +168,49 @@ fn section_rest<'a>(
 ) -> Result<usize, WordFault>
     ensures { ReadsInto (phrase (section_into (section_view keyword) (contents_of contents.old))) words.now at (contents_of contents.new) result }
 {
-    let next;
     match keyword {
-        SectionKeyword::Requirements => (_, next) = list::<Key>(alloc, words, at)?,
-        SectionKeyword::Types => (contents.types, next) = typed(alloc, words, at, Listed::Names)?,
+        SectionKeyword::Requirements => {
+            let (_, next) = list::<Key>(alloc, words, at)?;
+            Ok(next)
+        }
+        SectionKeyword::Types => put(&mut contents.types, typed(alloc, words, at, Listed::Names)),
         SectionKeyword::Constants => {
-            (contents.constants, next) = typed(alloc, words, at, Listed::Names)?
+            put(
+                &mut contents.constants,
+                typed(alloc, words, at, Listed::Names),
+            )
         }
-        SectionKeyword::Predicates => (contents.predicates, next) = list(alloc, words, at)?,
-        SectionKeyword::Functions => (contents.functions, next) = functions(alloc, words, at)?,
+        SectionKeyword::Predicates => put(&mut contents.predicates, list(alloc, words, at)),
+        SectionKeyword::Functions => put(&mut contents.functions, functions(alloc, words, at)),
         SectionKeyword::Action => {
-            let (action, end) = action(alloc, words, at)?;
+            let (action, next) = action(alloc, words, at)?;
             contents.actions.push(action)?;
-            next = end;
+            Ok(next)
         }
-        SectionKeyword::Domain => (contents.domain, next) = domain_name(words, at)?,
+        SectionKeyword::Domain => put(&mut contents.domain, domain_name(words, at)),
         SectionKeyword::Objects => {
-            (contents.objects, next) = typed(alloc, words, at, Listed::Names)?
+            put(
+                &mut contents.objects,
+                typed(alloc, words, at, Listed::Names),
+            )
         }
-        SectionKeyword::Init => (contents.init, next) = list(alloc, words, at)?,
+        SectionKeyword::Init => put(&mut contents.init, list(alloc, words, at)),
         SectionKeyword::Goal => {
-            let (goal, end) = last(alloc, words, at)?;
-            put(&mut contents.goal, Box::into_inner(goal));
-            next = end;
+            let (goal, next) = last(alloc, words, at)?;
+            replace(&mut contents.goal, Box::into_inner(goal));
+            Ok(next)
         }
         SectionKeyword::Metric => {
-            let (metric, end) = metric(words, at)?;
+            let (metric, next) = metric(words, at)?;
             contents.metric = Some(metric);
-            next = end;
+            Ok(next)
         }
     }
-    Ok(next)
 }
 
 /// A name, and `)`: the name, and the index after the parenthesis.
-fn domain_name<'a>(words: &[Word<'a>], at: usize) -> Result<(Name<'a>, usize), WordRefusal>
-    ensures { ReadsWords (phrase the_domain) words.now at name_of result }
+fn domain_name<'a>(words: &[Word<'a>], at: usize) -> Parsed<Name<'a>>
+    ensures { Reads (phrase the_domain) words.now at name_of result }
 {
     let (name, next) = name(words, at)?;
     let next = close(words, next)?;

@@ -1,10 +1,7 @@
-use Rattle.std.proofs.Common.{[], ◌∙◌, sym, ap, arith}
+use Rattle.pddl_tree_values.proofs.Names.{[], ◌∙◌, sym, ap, arith, from, action_of, made, bind, phrase, Reads}
 use Rattle.model.specs.Grammar.{bare_action}
-use Rattle.pddl_words.specs.Token.{from}
-use Rattle.syntax_tree.specs.Tree.{action_of}
-use Rattle.pddl_tree.specs.Reading.{made, bind, phrase, Reads}
 use Rattle.pddl_tree.specs.Sections.{the_action, parts_on}
-use Rattle.pddl_tree.proofs.Looks.{passed, told_along}
+use Rattle.pddl_tree_values.proofs.Looks.{passed, told_along}
 use Rattle.pddl_tree.proofs.action.action.Goals as goal
 
 pub returns : goal.returns

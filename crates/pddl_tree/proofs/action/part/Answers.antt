@@ -1,9 +1,5 @@
-use Rattle.std.proofs.Common.{◌∙◌, ◌≡◌, ◌+◌, ◌++◌, ◌∷◌, [], map, sym, ap, subst, false}
+use Rattle.pddl_tree_values.proofs.Names.{◌∙◌, ◌≡◌, ◌+◌, ◌++◌, ◌∷◌, [], map, sym, ap, subst, false, has_part, part_view, action_of, phrase, ReadsInto, GoesOn}
 use Rattle.std.proofs.lemmas.List.{map-append}
-use Rattle.model.specs.Grammar.{has_part}
-use Rattle.pddl_words.specs.Token.{part_view}
-use Rattle.syntax_tree.specs.Tree.{action_of}
-use Rattle.pddl_tree.specs.Reading.{phrase, ReadsInto, GoesOn}
 use Rattle.pddl_tree.specs.Sections.{parts_on, part_into}
 use Rattle.pddl_tree.proofs.Parts.{part_answers}
 use Rattle.pddl_tree.proofs.action.part.Goals as goal

@@ -1,9 +1,5 @@
-use Rattle.std.proofs.Common.{◌∙◌, map, sym, ap, arith, rules}
-use Rattle.pddl_words.specs.Token.{from, part_view}
+use Rattle.pddl_tree_values.proofs.Names.{◌∙◌, map, sym, ap, arith, rules, from, part_view, has_part, action_of, phrase, stops}
 use Rattle.model.specs.GrammarWords.{parameters}
-use Rattle.model.specs.Grammar.{has_part}
-use Rattle.syntax_tree.specs.Tree.{action_of}
-use Rattle.pddl_tree.specs.Reading.{phrase, stops}
 use Rattle.pddl_tree.specs.Sections.{parts_on}
 use Rattle.pddl_tree.proofs.Parts.{parts_end, parameters_missing}
 use Rattle.pddl_tree.proofs.action.parts.Goals as goal

@@ -1,7 +1,4 @@
-use Rattle.std.proofs.Common.{◌≡◌, ◌-◌, ◌≤◌, [], length, map}
-use Rattle.pddl_words.specs.Token.{from, part_view}
-use Rattle.syntax_tree.specs.Tree.{action_of}
-use Rattle.pddl_tree.specs.Reading.{phrase}
+use Rattle.pddl_tree_values.proofs.Names.{◌≡◌, ◌-◌, ◌≤◌, [], length, map, from, part_view, action_of, phrase}
 use Rattle.pddl_tree.specs.Sections.{parts_on}
 use Rattle.pddl_tree.proofs.action.parts.Given as goal
 

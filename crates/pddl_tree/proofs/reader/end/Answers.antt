@@ -1,6 +1,4 @@
-use Rattle.std.proofs.Common.{◌∙◌, sym}
-use Rattle.pddl_words.specs.Token.{from}
-use Rattle.pddl_tree.specs.Reading.{stops}
+use Rattle.pddl_tree_values.proofs.Names.{◌∙◌, sym, from, stops}
 use Rattle.pddl_tree.proofs.Told.{trailing}
 use Rattle.pddl_tree.proofs.reader.end.Goals as goal
 

@@ -1,14 +1,7 @@
-use Rattle.std.proofs.Common.{[], ◌∙◌, sym, ap, subst, rules}
-use Rattle.faults.specs.declared.refused.Refused.TheVariants.{At}
-use Rattle.model.specs.Grammar.{tree_from}
-use Rattle.pddl_words.specs.Name.{name_of}
-use Rattle.pddl_words.specs.Refusal.{told}
-use Rattle.pddl_words.specs.Token.{from}
-use Rattle.pddl_tree.specs.Reading.{bind, phrase, Tells}
+use Rattle.pddl_tree_values.proofs.Names.{[], ◌∙◌, sym, ap, subst, rules, At, tree_from, name_of, told, from, bind, phrase, Tells, file_of}
 use Rattle.pddl_tree.specs.Head.{at_end}
-use Rattle.syntax_tree.specs.Tree.{file_of}
 use Rattle.pddl_tree.specs.Sections.{contents_of, sections_on}
-use Rattle.pddl_tree.proofs.Told.{file_read, refused_by, taken_by, head_stops, all_read, all_stop}
+use Rattle.pddl_tree.proofs.Told.{file_read, refused_by, taken_by, head_stops, outcome, file_ends, all_stop}
 use Rattle.pddl_tree.proofs.Heads.{no_head}
 use Rattle.pddl_tree.proofs.reader.file.Goals as goal
 
@@ -28,7 +21,7 @@ returns-in-Err-clause-head c = λ none. rw c.fault.ensures (search rules)
 pub returns-in-Ok-rest-clause-read : goal.returns-in-Ok-rest-clause-read
 returns-in-Ok-rest-clause-read c =
     let f = file_of c.args.file in let words = c.args.words.now in let n = name_of c.in-Ok.head.0 in let read = contents_of c.rest.new.contents in
-    file_read f words (tree_from f n read) (all_read f n (from words 0) (from words c.in-Ok.head.1) read c.in-Ok.ensures.read (ap (λ d. bind (phrase (sections_on f [] d) (from words c.in-Ok.head.1)) at_end) (sym c.new-contents.ensures) ∙ c.in-Ok-rest.ensures))
+    file_read f words (tree_from f n read) (file_ends f n (from words 0) (from words c.in-Ok.head.1) c.in-Ok.ensures.read ∙ ap (outcome f n) (ap (λ d. bind (phrase (sections_on f [] d) (from words c.in-Ok.head.1)) at_end) (sym c.new-contents.ensures) ∙ c.in-Ok-rest.ensures))
 
 pub returns-in-Ok-rest-clause-head : goal.returns-in-Ok-rest-clause-head
 returns-in-Ok-rest-clause-head c = λ none. absurd (no_head (file_of c.args.file) c.args.words.now c.in-Ok.ensures.head none)

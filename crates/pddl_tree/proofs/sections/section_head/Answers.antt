@@ -1,11 +1,6 @@
-use Rattle.std.proofs.Common.{◌≡◌, Some, false, ◌∙◌, map, sym, subst}
-use Rattle.model.specs.Grammar.{sections_of}
+use Rattle.pddl_tree_values.proofs.Names.{◌≡◌, Some, false, ◌∙◌, map, sym, subst, sections_of, keyword, of_section, from, first, section_view, file_of, part, stops, closes_first, Stops}
 use Rattle.model.specs.Grammar as grammar
-use Rattle.model.specs.GrammarWords.{keyword, of_section}
 use Rattle.faults.proofs.Results.{passed_on, if_ok, if_err}
-use Rattle.pddl_words.specs.Token.{from, first, section_view}
-use Rattle.syntax_tree.specs.Tree.{file_of}
-use Rattle.pddl_tree.specs.Reading.{part, stops, closes_first, Stops}
 use Rattle.pddl_tree.specs.Sections.{IsNotNew}
 use Rattle.pddl_tree.proofs.Files.{all_seen, sections_full, sections_not_open, no_section}
 use Rattle.pddl_tree.proofs.sections.section_head.Goals as goal

@@ -1,9 +1,5 @@
-use Rattle.std.proofs.Common.{◌∙◌, map, sym, ap, arith, rules}
-use Rattle.model.specs.Grammar.{required_of}
+use Rattle.pddl_tree_values.proofs.Names.{◌∙◌, map, sym, ap, arith, rules, required_of, from, section_view, file_of, phrase, stops}
 use Rattle.model.specs.Grammar as grammar
-use Rattle.pddl_words.specs.Token.{from, section_view}
-use Rattle.syntax_tree.specs.Tree.{file_of}
-use Rattle.pddl_tree.specs.Reading.{phrase, stops}
 use Rattle.pddl_tree.specs.Sections.{contents_of, sections_on}
 use Rattle.pddl_tree.proofs.Files.{sections_end, sections_missing, all_seen}
 use Rattle.pddl_tree.proofs.sections.sections.Goals as goal

@@ -1,7 +1,4 @@
-use Rattle.std.proofs.Common.{◌≡◌, ◌-◌, ◌≤◌, [], length, map}
-use Rattle.pddl_words.specs.Token.{from, section_view}
-use Rattle.syntax_tree.specs.Tree.{file_of}
-use Rattle.pddl_tree.specs.Reading.{phrase}
+use Rattle.pddl_tree_values.proofs.Names.{◌≡◌, ◌-◌, ◌≤◌, [], length, map, from, section_view, file_of, phrase}
 use Rattle.pddl_tree.specs.Sections.{contents_of, sections_on}
 use Rattle.pddl_tree.proofs.sections.sections.Given as goal
 

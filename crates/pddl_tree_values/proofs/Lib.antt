@@ -1,0 +1,7 @@
+pub mod Names
+pub mod Read
+pub mod Looks
+pub mod Groups
+pub mod TotalCost
+pub mod EffectValues
+pub mod Seen

@@ -1,0 +1,5 @@
+pub mod Reading
+pub mod Place
+pub mod Typed
+pub mod Costs
+pub mod Phrases

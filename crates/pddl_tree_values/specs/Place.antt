@@ -1,0 +1,29 @@
+-- Places of the code, and what the model wants there.
+use Rattle.std.specs.Prelude.{[], map}
+use Rattle.pddl_tree_values.specs.declared.refusals.Place.{Place}
+use Rattle.pddl_tree_values.specs.declared.refusals.Place.TheVariants as place
+use Rattle.syntax_tree.specs.Tree.{file_of}
+use Rattle.pddl_tree_values.specs.declared.refusals.Listed.{Listed}
+use Rattle.pddl_tree_values.specs.declared.refusals.Listed.TheVariants as listed
+use Rattle.pddl_words.specs.Token.{part_view}
+use Rattle.model.specs.GrammarWords.{requirements}
+use Rattle.model.specs.Grammar.{Sort, close, key, define_word, parts, value, section, type, conditional, total_cost, minimize_word, amount}
+use Rattle.model.specs.Grammar as grammar
+
+abbrev pub listed_view : Listed → grammar.Listed
+listed_view listed.Names = grammar.names
+listed_view listed.Variables = grammar.variables
+
+-- something that is wanted there, whose numbers are the place's
+abbrev pub wanted : Place → Sort
+wanted place.Incomplete = define_word
+wanted place.Parts = parts []
+wanted (place.Value seen) = value (map part_view seen.now)
+wanted (place.Section f) = section (file_of f) requirements []
+wanted place.Keys = key
+wanted (place.Type l) = type (listed_view l)
+wanted place.UnderWhen = conditional
+wanted place.TotalCost = total_cost
+wanted place.Metric = minimize_word
+wanted place.Amount = amount
+wanted place.Elsewhere = close

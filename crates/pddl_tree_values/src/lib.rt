@@ -1,0 +1,24 @@
+//! The values that stand in domain and problem files, read from their words: typed lists, formulas, effects, costs,
+//! predicates and facts; and what is told of a word that may not stand where it does.
+#![tactic(auto)]
+
+mod costs;
+mod declared;
+mod effects;
+mod formulas;
+mod lists;
+mod look;
+mod placing;
+mod refusals;
+mod typed_lists;
+mod values;
+
+pub use costs::{functions, metric};
+pub use effects::no_effect;
+pub use formulas::{formula, last, no_condition};
+pub use lists::{Item, Key, list};
+pub use look::{Parsed, action_name, close, define, is_close, kind, name, open};
+pub use placing::{put, replace};
+pub use refusals::{Listed, Place, allowed, has_part, has_section, refusal, required};
+pub use typed_lists::typed;
+pub use values::{EffectValue, effect_value};

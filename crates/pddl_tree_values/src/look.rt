@@ -1,0 +1,233 @@
+//! Single words: what stands at an index, taken or refused.
+ghost use Rattle.std.specs.Prelude.{◌≡◌, ◌<◌, IfSome, IsTrue, length};
+ghost use Rattle.std.specs.Option.{option_map, option_and_then};
+ghost use Rattle.model.specs.Grammar.{a_name, action_name as wants_action_name, term as wants_term, close as wants_close, either_word as wants_either, define_word, kind_word, total_cost as wants_total_cost, amount as wants_amount, number_type, minimize_word};
+ghost use Rattle.pddl_words.specs.Name.{name_of, term_of};
+ghost use Rattle.pddl_words.specs.Token.{from, first};
+ghost use Rattle.syntax_tree.specs.Tree.{file_of};
+ghost use Rattle.pddl_tree_values.specs.Place.{listed_view};
+ghost use Rattle.pddl_tree_values.specs.Reading.{part, Passes, ReadsWords, Opens, closes_first, and_first};
+ghost use Rattle.pddl_tree_values.specs.Costs.{dash_first, increase_in};
+ghost use Rattle.pddl_tree_values.specs.Typed.{NamesOne, ends_group_first};
+
+use crate::refusals::{Listed, Place, refusal};
+use pddl_words::{FreeName, Name, ReservedName, Term, Token, WordFault, WordRefusal, token_at};
+use syntax_tree::TaskFile;
+use tokens::Word;
+
+/// Something that was read, and the index of the word after it; else the first word that may not stand there, by its
+/// code and index, or want of memory, which says nothing about the words.
+pub type Parsed<T> = Result<(T, usize), WordFault>;
+
+/// Whether `)` stands at an index.
+pub fn is_close(words: &[Word], at: usize) -> bool
+    ensures within { IsTrue result → at < length words.now }
+    ensures first { result ≡ closes_first (first (from words.now at)) }
+{
+    matches!(token_at(words, at), Token::Close)
+}
+
+/// Whether `and` stands at an index.
+pub(crate) fn is_and(words: &[Word], at: usize) -> bool
+    ensures within { IsTrue result → at < length words.now }
+    ensures first { result ≡ and_first (first (from words.now at)) }
+{
+    matches!(token_at(words, at), Token::Reserved(ReservedName::And, _))
+}
+
+/// Whether `-` stands at an index.
+pub(crate) fn is_dash(words: &[Word], at: usize) -> bool
+    ensures within { IsTrue result → at < length words.now }
+    ensures first { result ≡ dash_first (first (from words.now at)) }
+{
+    matches!(token_at(words, at), Token::Dash)
+}
+
+/// Whether `-` or `)` stands at an index, which end a group of a typed list.
+pub(crate) fn ends_group(words: &[Word], at: usize) -> bool
+    ensures within { IsTrue result → at < length words.now }
+    ensures first { result ≡ ends_group_first (first (from words.now at)) }
+{
+    matches!(token_at(words, at), Token::Dash | Token::Close)
+}
+
+/// The word `increase`, where it stands at an index.
+pub(crate) fn increase_word<'a>(words: &[Word<'a>], at: usize) -> Option<Name<'a>>
+    ensures within { IfSome result (λ _. at < length words.now) }
+    ensures word { option_map name_of result ≡ option_and_then increase_in (first (from words.now at)) }
+{
+    match token_at(words, at) {
+        Token::Reserved(ReservedName::Increase, word) => Some(word),
+        _ => None,
+    }
+}
+
+/// `(`, and the index after it.
+pub fn open(words: &[Word], at: usize, place: Place) -> Result<usize, WordRefusal>
+    ensures { Opens words.now at place.entry result }
+{
+    match token_at(words, at) {
+        Token::Open => Ok(at + 1),
+        _ => Err(refusal(words, at, place)),
+    }
+}
+
+/// `)`, and the index after it.
+#[tactic(auto, using(crate::proofs::Read::part_here))]
+pub fn close(words: &[Word], at: usize) -> Result<usize, WordRefusal>
+    ensures { Passes (part wants_close) words.now at tt result }
+{
+    match token_at(words, at) {
+        Token::Close => Ok(at + 1),
+        _ => Err(refusal(words, at, Place::Elsewhere)),
+    }
+}
+
+/// A name, whichever it is, and the index after it.
+#[tactic(auto, using(crate::proofs::Read::part_here))]
+pub fn name<'a>(words: &[Word<'a>], at: usize) -> Result<(Name<'a>, usize), WordRefusal>
+    ensures { ReadsWords (part a_name) words.now at name_of result }
+{
+    match token_at(words, at) {
+        Token::Free(_, name) => Ok((name, at + 1)),
+        Token::Reserved(_, name) => Ok((name, at + 1)),
+        _ => Err(refusal(words, at, Place::Elsewhere)),
+    }
+}
+
+/// The name of an action, and the index after it.
+#[tactic(auto, using(crate::proofs::Read::part_here))]
+pub fn action_name<'a>(words: &[Word<'a>], at: usize) -> Result<(Name<'a>, usize), WordRefusal>
+    ensures { ReadsWords (part wants_action_name) words.now at name_of result }
+{
+    let place = Place::Incomplete;
+    match token_at(words, at) {
+        Token::Free(_, name) => Ok((name, at + 1)),
+        Token::Reserved(_, name) => Ok((name, at + 1)),
+        _ => Err(refusal(words, at, place)),
+    }
+}
+
+/// A name, or a variable, of a typed list, and the index after it.
+pub(crate) fn listed_name<'a>(
+    words: &[Word<'a>],
+    at: usize,
+    listed: Listed,
+) -> Result<(Name<'a>, usize), WordRefusal>
+    ensures { NamesOne (listed_view listed) words.now at result }
+{
+    let token = token_at(words, at);
+    let name = match listed {
+        Listed::Names => token.name(),
+        Listed::Variables => token.variable(),
+    };
+    match name {
+        Some(name) => Ok((name, at + 1)),
+        None => Err(refusal(words, at, Place::Elsewhere)),
+    }
+}
+
+/// A term, and the index after it.
+#[tactic(auto, using(crate::proofs::Read::part_here))]
+pub(crate) fn term<'a>(words: &[Word<'a>], at: usize) -> Result<(Term<'a>, usize), WordRefusal>
+    ensures { ReadsWords (part wants_term) words.now at term_of result }
+{
+    match token_at(words, at) {
+        Token::Variable(variable) => Ok((Term::Variable(variable), at + 1)),
+        Token::Free(_, object) => Ok((Term::Object(object), at + 1)),
+        Token::Reserved(_, object) => Ok((Term::Object(object), at + 1)),
+        _ => Err(refusal(words, at, Place::Elsewhere)),
+    }
+}
+
+/// `define`, and the index after it.
+#[tactic(auto, using(crate::proofs::Read::part_here))]
+pub fn define(words: &[Word], at: usize) -> Result<usize, WordRefusal>
+    ensures { Passes (part define_word) words.now at tt result }
+{
+    match token_at(words, at) {
+        Token::Free(FreeName::Define, _) => Ok(at + 1),
+        _ => Err(refusal(words, at, Place::Incomplete)),
+    }
+}
+
+/// `domain` or `problem`, as the file is, and the index after it.
+#[tactic(auto, using(crate::proofs::Read::part_here))]
+pub fn kind(words: &[Word], at: usize, file: TaskFile) -> Result<usize, WordRefusal>
+    ensures { Passes (part (kind_word (file_of file))) words.now at tt result }
+{
+    match file {
+        TaskFile::Domain => match token_at(words, at) {
+            Token::Free(FreeName::Domain, _) => Ok(at + 1),
+            _ => Err(refusal(words, at, Place::Elsewhere)),
+        },
+        TaskFile::Problem => match token_at(words, at) {
+            Token::Free(FreeName::Problem, _) => Ok(at + 1),
+            _ => Err(refusal(words, at, Place::Elsewhere)),
+        },
+    }
+}
+
+/// `either`, and the index after it.
+#[tactic(auto, using(crate::proofs::Read::part_here))]
+pub(crate) fn either_word(words: &[Word], at: usize) -> Result<usize, WordRefusal>
+    ensures { Passes (part wants_either) words.now at tt result }
+{
+    match token_at(words, at) {
+        Token::Reserved(ReservedName::Either, _) => Ok(at + 1),
+        _ => Err(refusal(words, at, Place::Elsewhere)),
+    }
+}
+
+/// `total-cost` and its `)`: the name, and the index after the parenthesis.
+#[tactic(auto, using(crate::proofs::Read::part_here))]
+pub(crate) fn total_cost<'a>(
+    words: &[Word<'a>],
+    at: usize,
+) -> Result<(Name<'a>, usize), WordRefusal>
+    ensures { ReadsWords (part wants_total_cost) words.now at name_of result }
+{
+    match token_at(words, at) {
+        Token::Reserved(ReservedName::TotalCost, name) => {
+            let next = close(words, at + 1)?;
+            Ok((name, next))
+        }
+        _ => Err(refusal(words, at, Place::TotalCost)),
+    }
+}
+
+/// A number with its word, and the index after it.
+#[tactic(auto, using(crate::proofs::Read::part_here))]
+pub(crate) fn amount<'a>(
+    words: &[Word<'a>],
+    at: usize,
+) -> Result<((u32, Name<'a>), usize), WordRefusal>
+    ensures { ReadsWords (part wants_amount) words.now at (λ v. (v.0, name_of v.1)) result }
+{
+    match token_at(words, at) {
+        Token::Number(number, name) => Ok(((number, name), at + 1)),
+        _ => Err(refusal(words, at, Place::Amount)),
+    }
+}
+
+/// `number`, the type of a function, and the index after it.
+#[tactic(auto, using(crate::proofs::Read::part_here))]
+pub(crate) fn number_word(words: &[Word], at: usize) -> Result<usize, WordRefusal>
+    ensures { Passes (part number_type) words.now at tt result }
+{
+    match token_at(words, at) {
+        Token::Free(FreeName::NumberWord, _) => Ok(at + 1),
+        _ => Err(refusal(words, at, Place::Elsewhere)),
+    }
+}
+
+/// `minimize`, and the index after it.
+#[tactic(auto, using(crate::proofs::Read::part_here))]
+pub(crate) fn minimize(words: &[Word], at: usize) -> Result<usize, WordRefusal>
+    ensures { Passes (part minimize_word) words.now at tt result }
+{
+    match token_at(words, at) {
+        Token::Free(FreeName::Minimize, _) => Ok(at + 1),
+        _ => Err(refusal(words, at, Place::Metric)),
+    }
+}

@@ -1,0 +1,27 @@
+//! A value in the place of another, which is dropped. Both are of any type, so that the proofs of the callers need not
+//! take them apart.
+ghost use Rattle.std.specs.Prelude.{◌≡◌};
+ghost use Rattle.pddl_tree_values.specs.Reading.{IsPut};
+
+use crate::look::Parsed;
+use pddl_words::WordFault;
+
+/// Puts a value where another stands.
+pub fn replace<T: Drop>(place: &mut T, value: T)
+    ensures { place.new ≡ value }
+{
+    *place = value;
+}
+
+/// Puts what was read where another value stands: the index after it.
+pub fn put<T: Drop>(place: &mut T, read: Parsed<T>) -> Result<usize, WordFault>
+    ensures { IsPut read place.new result }
+{
+    match read {
+        Ok((value, next)) => {
+            *place = value;
+            Ok(next)
+        }
+        Err(fault) => Err(fault),
+    }
+}

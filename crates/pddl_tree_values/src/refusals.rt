@@ -1,0 +1,154 @@
+//! What is told of a word that may not stand where it does: the table of refusals, by what is wanted at the place.
+ghost use Rattle.std.specs.Prelude.{◌≡◌, map};
+ghost use Rattle.faults.specs.Fault.{number_of};
+ghost use Rattle.pddl_words.specs.Token.{from, first, seen, part_view, section_view};
+ghost use Rattle.model.specs.Grammar as grammar;
+ghost use Rattle.pddl_tree_values.specs.Reading.{number_seen};
+ghost use Rattle.syntax_tree.specs.Tree.{file_of};
+ghost use Rattle.pddl_tree_values.specs.Place.{wanted};
+
+use faults::Code;
+use pddl_words::{
+    FreeName, Keyword, PartKeyword, ReservedName, SectionKeyword, Token, WordRefusal, token_at,
+};
+use syntax_tree::TaskFile;
+use tokens::Word;
+
+/// The sections that may stand in a file.
+pub fn allowed(file: TaskFile) -> &'static [SectionKeyword]
+    ensures { map section_view result.now ≡ grammar.sections_of (file_of file) }
+{
+    match file {
+        TaskFile::Domain => &[
+            SectionKeyword::Requirements,
+            SectionKeyword::Types,
+            SectionKeyword::Constants,
+            SectionKeyword::Predicates,
+            SectionKeyword::Functions,
+            SectionKeyword::Action,
+        ],
+        TaskFile::Problem => &[
+            SectionKeyword::Domain,
+            SectionKeyword::Requirements,
+            SectionKeyword::Objects,
+            SectionKeyword::Init,
+            SectionKeyword::Goal,
+            SectionKeyword::Metric,
+        ],
+    }
+}
+
+/// The sections that a file has to have.
+pub fn required(file: TaskFile) -> &'static [SectionKeyword]
+    ensures { map section_view result.now ≡ grammar.required_of (file_of file) }
+{
+    match file {
+        TaskFile::Domain => &[SectionKeyword::Predicates],
+        TaskFile::Problem => &[
+            SectionKeyword::Domain,
+            SectionKeyword::Init,
+            SectionKeyword::Goal,
+        ],
+    }
+}
+
+/// What a typed list is of.
+#[derive(Clone, Copy)]
+pub enum Listed {
+    /// Names, each group of one type.
+    Names,
+    /// Variables, which may be of several types.
+    Variables,
+}
+
+/// Which literals an atom is of.
+#[derive(Clone, Copy)]
+pub(crate) enum Literals {
+    /// Those of an effect.
+    Plain,
+    /// Those under a `when`.
+    UnderWhen,
+}
+
+/// A place in a file, as far as it decides what is told of a word that may not stand there.
+#[derive(Clone, Copy)]
+pub enum Place<'s> {
+    /// In a list that lacks what is required, where its `)` is no other list's.
+    Incomplete,
+    /// Where the keyword of a part of an action may stand, or its `)`.
+    Parts,
+    /// Where the value of a part is wanted; these parts are seen.
+    Value(&'s [PartKeyword]),
+    /// After the `(` of a section.
+    Section(TaskFile),
+    /// In `:requirements`.
+    Keys,
+    /// After the `-` of a typed list.
+    Type(Listed),
+    /// At the head of a list under a `when`.
+    UnderWhen,
+    /// Where `total-cost` is wanted.
+    TotalCost,
+    /// After `:metric`.
+    Metric,
+    /// Where a number is wanted.
+    Amount,
+    /// Anywhere else.
+    Elsewhere,
+}
+
+/// Whether a part is among those that are seen.
+pub fn has_part(seen: &[PartKeyword], part: PartKeyword) -> bool
+    ensures { result ≡ grammar.has_part (map part_view seen.now) (part_view part) }
+{
+    seen.contains(&part)
+}
+
+/// Whether a section is among these.
+pub fn has_section(sections: &[SectionKeyword], section: SectionKeyword) -> bool
+    ensures { result ≡ grammar.has_section (map section_view sections.now) (section_view section) }
+{
+    sections.contains(&section)
+}
+
+/// The refusal of the word at an index.
+pub fn refusal(words: &[Word], at: usize, place: Place) -> WordRefusal
+    ensures number { number_of result.code ≡ number_seen (wanted place.entry) (first (from words.now at)) }
+    ensures at { result.at ≡ at }
+{
+    WordRefusal {
+        code: code_of(token_at(words, at), place),
+        at,
+    }
+}
+
+/// What is told of a word, or of none: the first line that fits. A keyword that may not stand where one is wanted stands
+/// already or is none; an `(either ..)` is left out as the type of a name, and so are other functions and other metrics.
+fn code_of(token: Token, place: Place) -> Code
+    ensures { number_of result ≡ number_seen (wanted place.entry) (seen token.entry) }
+{
+    match (token, place) {
+        (Token::Reserved(ReservedName::LeftOut, _), _) => Code::LeftOut,
+        (Token::Close, Place::Incomplete | Place::Parts) => Code::MissingSection,
+        (Token::Close, Place::Value(seen)) if !has_part(seen, PartKeyword::Parameters) => {
+            Code::MissingSection
+        }
+        (Token::Keyword(Keyword::Part(_)), Place::Parts) => Code::RepeatedSection,
+        (Token::Keyword(Keyword::Part(part)), Place::Value(seen)) if has_part(seen, part) => {
+            Code::RepeatedSection
+        }
+        (Token::Keyword(Keyword::Section(section)), Place::Section(file))
+            if has_section(allowed(file), section) => { Code::RepeatedSection }
+        (Token::Keyword(Keyword::LeftOut), Place::Parts | Place::Section(_)) => Code::LeftOut,
+        (Token::Keyword(_), Place::Parts | Place::Section(_)) => Code::UnknownSection,
+        (Token::Keyword(_), Place::Keys) => Code::UnknownRequirement,
+        (Token::Open, Place::Type(Listed::Names)) => Code::LeftOut,
+        (Token::Reserved(ReservedName::When | ReservedName::Forall, _), Place::UnderWhen) => {
+            Code::LeftOut
+        }
+        (Token::Reserved(_, _) | Token::Free(_, _), Place::TotalCost) => Code::LeftOut,
+        (Token::Free(FreeName::Maximize, _), Place::Metric) => Code::LeftOut,
+        (Token::LargeNumber, Place::Amount) => Code::NumberTooLarge,
+        _ => Code::BadForm,
+    }
+}
