@@ -1,3 +1,3 @@
 pub mod ListLemmas
 pub mod GroundLemmas
-mod LossLemmas
+pub mod LossLemmas
