@@ -93,15 +93,33 @@ fn compare_command(
     tally: &mut Tally,
 ) -> io::Result<()> {
     let part = part_of(rt.alloc(), page, text, command)?;
-    tally.count(part.is_some());
-    if part.is_none() {
-        println!(rt; "{}: no part for {command}", page.name)?;
-    }
+    count_part(rt, page, command, part.is_some(), tally)?;
     let own = help_of(rt.alloc(), command)?;
+    let part = part.unwrap_or("");
     for option in &options(rt.alloc(), own.as_str())? {
-        if !shared.contains(option) {
-            look(rt, page, part.unwrap_or(""), command, option, tally)?;
+        if !is_among(option, shared) {
+            look(rt, page, part, command, option, tally)?;
         }
+    }
+    Ok(())
+}
+
+/// Whether the name is one of these.
+fn is_among(name: &str, names: &[&str]) -> bool {
+    names.iter().any(|&other| other == name)
+}
+
+/// Counts the part of a command, and tells where it is missing.
+fn count_part(
+    rt: &HostRuntime,
+    page: Page,
+    command: &str,
+    is_there: bool,
+    tally: &mut Tally,
+) -> io::Result<()> {
+    tally.count(is_there);
+    if !is_there {
+        println!(rt; "{}: no part for {command}", page.name)?;
     }
     Ok(())
 }
