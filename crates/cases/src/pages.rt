@@ -53,7 +53,7 @@ const MANUAL: Page = Page {
 /// Looks in each page for the commands and options of the help, with a line for each that it lacks and one that counts them:
 /// how many are lacking.
 pub fn compare_pages(rt: &HostRuntime) -> io::Result<u64> {
-    let program = help(rt.alloc(), &["help"])?;
+    let program = said(rt.alloc(), &["help"])?;
     let mut tally = Tally::default();
     for page in [BASH, ZSH, FISH, MANUAL] {
         let text = fs::read_to_string(rt, page.name)?;
@@ -93,15 +93,33 @@ fn compare_command(
     tally: &mut Tally,
 ) -> io::Result<()> {
     let part = part_of(rt.alloc(), page, text, command)?;
-    tally.count(part.is_some());
-    if part.is_none() {
-        println!(rt; "{}: no part for {command}", page.name)?;
-    }
-    let own = help(rt.alloc(), &["help", command])?;
+    count_part(rt, page, command, part.is_some(), tally)?;
+    let own = help_of(rt.alloc(), command)?;
+    let part = part.unwrap_or("");
     for option in &options(rt.alloc(), own.as_str())? {
-        if !shared.contains(option) {
-            look(rt, page, part.unwrap_or(""), command, option, tally)?;
+        if !is_among(option, shared) {
+            look(rt, page, part, command, option, tally)?;
         }
+    }
+    Ok(())
+}
+
+/// Whether the name is one of these.
+fn is_among(name: &str, names: &[&str]) -> bool {
+    names.iter().any(|&other| other == name)
+}
+
+/// Counts the part of a command, and tells where it is missing.
+fn count_part(
+    rt: &HostRuntime,
+    page: Page,
+    command: &str,
+    is_there: bool,
+    tally: &mut Tally,
+) -> io::Result<()> {
+    tally.count(is_there);
+    if !is_there {
+        println!(rt; "{}: no part for {command}", page.name)?;
     }
     Ok(())
 }
@@ -146,8 +164,14 @@ fn has_word(text: &str, word: &str) -> bool {
         || next.is_ascii_alphanumeric()))
 }
 
+/// The help of a command.
+fn help_of(alloc: Global, command: &str) -> Result<String, AllocError> {
+    let words = ["help", command];
+    said(alloc, &words)
+}
+
 /// What the program says on the standard error for these words.
-fn help(alloc: Global, words: &[&str]) -> Result<String, AllocError> {
+fn said(alloc: Global, words: &[&str]) -> Result<String, AllocError> {
     let mut files = Table::new(alloc);
     let (mut out, mut err) = (Memory::empty(alloc), Memory::empty(alloc));
     planner_main::run(alloc, words, &mut files, &mut out, &mut err);
