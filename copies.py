@@ -1,0 +1,39 @@
+"""Copies of a crate with all that it stands on, in which `rt` works while others work elsewhere: it lets nobody else into the
+crates below the one that it works on."""
+import os, shutil
+
+ROOT = os.path.dirname(os.path.realpath(__file__))
+PARTS = ("src", "specs", "proofs")
+
+
+def rows():
+    """The rows of crates.txt, by the names of their crates."""
+    with open(f"{ROOT}/crates.txt", encoding="utf-8") as text:
+        return {it.partition(":")[0].strip(): it for it in text if ":" in it.partition("#")[0]}
+
+
+def rows_below(crate):
+    """The rows of a crate and of those that it stands on, all the way down."""
+    known, found, left = rows(), {}, [crate]
+    while left:
+        name = left.pop()
+        if name in known and name not in found:
+            found[name] = known[name]
+            left += known[name].partition("#")[0].partition(":")[2].split()
+    return found
+
+
+def put_copy(copy, crate):
+    """Copies a crate with what its checks kept, and the libraries below it as they are built, which no check changes."""
+    found = rows_below(crate)
+    shutil.copy(f"{ROOT}/HANDLES", copy)
+    with open(f"{copy}/crates.txt", "w", encoding="utf-8") as text:
+        text.writelines(found.values())
+    for it in found:
+        for part in PARTS:
+            if os.path.isdir(f"{ROOT}/crates/{it}/{part}"):
+                shutil.copytree(f"{ROOT}/crates/{it}/{part}", f"{copy}/crates/{it}/{part}")
+        if os.path.isdir(f"{ROOT}/crates/{it}/out/rlib"):
+            shutil.copytree(f"{ROOT}/crates/{it}/out/rlib", f"{copy}/crates/{it}/out/rlib", copy_function=os.link)
+    if os.path.isdir(f"{ROOT}/crates/{crate}/out/incremental"):
+        shutil.copytree(f"{ROOT}/crates/{crate}/out/incremental", f"{copy}/crates/{crate}/out/incremental")
