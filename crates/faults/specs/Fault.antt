@@ -1,11 +1,7 @@
--- The codes' numbers, and what a fault tells in the model's terms.
-use Rattle.std.specs.Prelude.{ℕ, ◌==◌, if◌then◌else◌, List, [], ◌∷◌, codes, Option, None, Some}
+-- The codes' numbers and names.
+use Rattle.std.specs.Prelude.{ℕ, ◌==◌, if◌then◌else◌, List, [], ◌∷◌, codes}
 use Rattle.faults.specs.declared.code.Code.{Code}
 use Rattle.faults.specs.declared.code.Code.TheVariants.{BadByte, BadWord, Unbalanced, TooDeep, TooLong, Trailing, BadForm, UnknownSection, RepeatedSection, MissingSection, UnknownRequirement, LeftOut, NumberTooLarge, UnknownType, TypeCycle, Duplicate, UnknownName, WrongArity, WrongType, Shadowed, DomainMismatch, BadMetric, BadCost, NegativeInit, TooMany, PlanForm, TimedStep, UnknownAction, StepArity, StepType}
-use Rattle.faults.specs.declared.refused.Refusal.{Refusal}
-use Rattle.faults.specs.declared.refused.Refused.{Refused}
-use Rattle.faults.specs.declared.refused.Refused.TheVariants.{At, NoMemory}
-use Rattle.model.specs.Fault as told
 
 abbrev pub number_of : Code → ℕ
 number_of BadByte = 1
@@ -78,15 +74,3 @@ names =
 abbrev pub name_in : List (ℕ × List ℕ) → ℕ → List ℕ
 name_in [] number = codes ""
 name_in ((n, name) ∷ rest) number = if n == number then name else name_in rest number
-
--- what a refusal tells
-abbrev pub refusal_of : Refusal → told.Fault
-refusal_of r = record { code = number_of r.code; span = record { start = r.span.start; end = r.span.end } }
-
-abbrev pub Fault : Type 0
-Fault = Refused Refusal
-
--- the fault that is told of the text, and None where it is want of memory
-abbrev pub told_by : Fault → Option told.Fault
-told_by (At r) = Some (refusal_of r)
-told_by NoMemory = None

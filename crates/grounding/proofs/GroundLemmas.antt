@@ -6,8 +6,8 @@ use Rattle.std.specs.List.{cons_option}
 use Rattle.std.specs.Option.{option_map, option_map_or}
 use Rattle.std.proofs.lemmas.List.{map_push, take_more}
 use Rattle.std.proofs.lemmas.Option.{slice_get-get_or, slice_get_read, slice_get-map, slice_get_within, get_or_from_slice_get}
-use Rattle.grounding_conditions.specs.declared.condition.Condition.{Condition}
-use Rattle.grounding_conditions.specs.Conditions.{literals_in}
+use Rattle.grounding.specs.declared.condition.Condition.{Condition}
+use Rattle.grounding.specs.Conditions.{literals_in}
 use Rattle.model.specs.Task.{Atom, Schema, Task, Instance}
 use Rattle.model.specs.Meaning.{is_instance, fits, Change, changes_of_instance}
 use Rattle.model.specs.ClosedOff.{kept_instances}
@@ -17,7 +17,7 @@ use Rattle.grounding.specs.declared.changes.CountingChange.{CountingChange}
 use Rattle.grounding.specs.declared.changes.ChangeCondition.{ChangeCondition}
 use Rattle.grounding.specs.NumberedEffects.{NumberedEffect, counted_effect, counted_effects, change_of_effect}
 use Rattle.grounding.specs.Changes.{counting_of, guard_in, effect_in, AreCompiled, AreChangesOf}
-use Rattle.grounding.specs.Conditions.{IsPrecondition}
+use Rattle.grounding.specs.Preconditions.{IsPrecondition}
 use Rattle.grounding.proofs.EffectLemmas.{changes-of_effects}
 use Rattle.grounding.proofs.StepLemmas.{kept-is_instance}
 

@@ -1,3 +1,7 @@
+pub mod OutrightLemmas
+pub mod PackedTruth
+pub mod LiteralLists
+pub mod Conditions
 pub mod ChangedBitsLemmas
 pub mod StepLemmas
 pub mod EffectLemmas

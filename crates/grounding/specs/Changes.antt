@@ -4,7 +4,7 @@ use Rattle.std.specs.Global.{Box, Vec}
 use Rattle.std.specs.Option.{option_map}
 use Rattle.typing.specs.TaskParts.{object_of, formula_of}
 use Rattle.formulas.specs.State.{FitsFormula}
-use Rattle.grounding_conditions.specs.Conditions.{IsConditionOf}
+use Rattle.grounding.specs.Conditions.{IsConditionOf}
 use Rattle.grounding.specs.declared.changes.CountingChange.{CountingChange}
 use Rattle.grounding.specs.declared.changes.ChangeCondition.{ChangeCondition}
 use Rattle.grounding.specs.NumberedEffects.{Guard, NumberedEffect, effects_of_instance}

@@ -1,9 +1,38 @@
--- The conditions of preconditions.
-use Rattle.std.specs.Prelude.{◌≡◌, List, slice_get, Some}
-use Rattle.grounding_conditions.specs.declared.condition.Condition.{Condition}
-use Rattle.grounding_conditions.specs.Conditions.{IsConditionOf}
-use Rattle.model.specs.Task.{Atom, Schema, Task, Instance}
+-- Conditions of the code, in the model's terms.
+use Rattle.std.specs.Prelude.{◌≡◌, ℕ, Bool, true, false, List, map, length, Option, None, Some}
+use Rattle.std.specs.List.{list_all}
+use Rattle.grounding_kept.specs.Numbers.{numbered_of}
+use Rattle.grounding.specs.declared.condition.Condition.{Condition}
+use Rattle.grounding.specs.declared.condition.Beyond.{Beyond}
+use Rattle.grounding.specs.declared.condition.Beyond.TheVariants as beyond
+use Rattle.model.specs.Task.{Task, Atom, Formula}
+use Rattle.model.specs.Meaning.{holds}
+use Rattle.model.specs.NumberedLiterals as model
+use Rattle.model.specs.NumberedLiterals.{agrees, numbered_literals}
+use Rattle.model.specs.Grounding.{state_of_bits}
 
--- the condition is that of the instance's precondition
-abbrev pub IsPrecondition : Task → List Atom → Instance → Condition → Type 0
-IsPrecondition t atoms i c = (schema : Schema) → slice_get t.schemas i.schema ≡ Some schema → IsConditionOf t atoms schema.precondition i.objects c
+abbrev pub literals_in : Condition → List model.NumberedLiteral
+literals_in c = map numbered_of c.literals.items
+
+-- what is to be asked beyond the literals, by whether all those without a number may hold, and whether the formula says
+-- all outright
+abbrev pub beyond_of : Bool → Bool → Beyond
+beyond_of false outright = beyond.Never
+beyond_of true true = beyond.Nothing
+beyond_of true false = beyond.Formula
+
+-- what is decided, by whether the literals are true
+abbrev pub decided_by : Beyond → Bool → Option Bool
+decided_by beyond.Nothing agreed = Some agreed
+decided_by beyond.Never agreed = Some false
+decided_by beyond.Formula true = None
+decided_by beyond.Formula false = Some false
+
+abbrev pub decided_in : Condition → List Bool → Option Bool
+decided_in c bits = decided_by c.beyond (list_all (agrees bits) (literals_in c))
+
+-- It has the formula's literals that are of numbered atoms, where these objects stand for the variables, and what it
+-- decides is whether the formula holds.
+pub record IsConditionOf (t : Task) (atoms : List Atom) (formula : Formula) (binding : List ℕ) (c : Condition) : Type 0 where
+  pub literals : literals_in c ≡ numbered_literals t atoms formula binding
+  pub decided : (bits : List Bool) (answer : Bool) → length bits ≡ length atoms → decided_in c bits ≡ Some answer → holds t formula binding (state_of_bits t atoms bits) ≡ answer

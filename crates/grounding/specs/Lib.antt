@@ -1,7 +1,12 @@
+pub mod Views
+pub mod Outright
+pub mod Unnumbered
+pub mod StateView
+pub mod Conditions
 pub mod ChangedBits
 pub mod NumberedEffects
 pub mod FormulaSet
 pub mod Changes
 pub mod InPlace
-pub mod Conditions
+pub mod Preconditions
 pub mod Ground

@@ -13,7 +13,7 @@ ghost use Rattle.grounding.specs.Changes.{counting_of, effect_in, guard_in, IsCo
 
 use faults::NoMemory;
 use formulas::{Binding, Change, GroundLiteral, Instance, changes, copied};
-use grounding_conditions::Condition;
+use crate::condition::Condition;
 use grounding_kept::Numbering;
 use std::alloc::Global;
 use typing::{Atom, Formula};

@@ -2,18 +2,18 @@
 ghost use Rattle.std.specs.Prelude.{◌≡◌, ◌<◌, ◌^◌, [], length, map};
 ghost use Rattle.std.proofs.Props.{props};
 ghost use Rattle.grounding_kept.specs.Numbering as numbering_views;
-ghost use Rattle.grounding_conditions.specs.Conditions.{IsConditionOf};
+ghost use Rattle.grounding.specs.Conditions.{IsConditionOf};
 ghost use Rattle.grounding.specs.InPlace.{AreInPlace};
 ghost use Rattle.grounding.specs.FormulaSet.{formula-set};
 ghost use Rattle.grounding.specs.Changes.{AreChangesOf};
-ghost use Rattle.grounding.specs.Conditions.{IsPrecondition};
+ghost use Rattle.grounding.specs.Preconditions.{IsPrecondition};
 ghost use Rattle.model.specs.Meaning.{cost_of};
 
 use crate::changes::CountingChange;
 use crate::parts::{changes_of_all, costs, goal_condition, preconditions};
 use faults::NoMemory;
 use formulas::Instance;
-use grounding_conditions::Condition;
+use crate::condition::Condition;
 use grounding_kept::{GroundFault, NumberedLiteral, Numbering};
 use indexmap::IndexSet;
 use std::alloc::Global;

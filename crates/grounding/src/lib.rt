@@ -1,11 +1,16 @@
-//! Grounding: a task by the numbers of its kept instances and of its atoms, over states that are bits.
+//! Grounding: a task by the numbers of its kept instances and of its atoms, over states that are bits. What a formula asks
+//! of the numbered atoms is decided without a look at the formula where its sure literals decide it.
 #![tactic(auto)]
 
 mod changes;
+mod condition;
 mod ground;
 mod laws;
+mod outright;
 mod parts;
+mod state_view;
 mod steps;
+mod unnumbered;
 
 pub use changes::CountingChange;
 pub use ground::Ground;

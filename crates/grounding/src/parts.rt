@@ -3,15 +3,15 @@ ghost use Rattle.std.specs.Prelude.{◌≡◌, [], map, IfOk, IsTrue};
 ghost use Rattle.formulas.specs.State.{instance_of};
 ghost use Rattle.model.specs.Meaning.{is_instance, cost_of};
 ghost use Rattle.grounding_kept.specs.Numbering.{task_in, atoms_in, instances_in};
-ghost use Rattle.grounding_conditions.specs.Conditions.{IsConditionOf};
+ghost use Rattle.grounding.specs.Conditions.{IsConditionOf};
 ghost use Rattle.grounding.specs.InPlace.{AreInPlace};
 ghost use Rattle.grounding.specs.Changes.{AreChangesOf};
-ghost use Rattle.grounding.specs.Conditions.{IsPrecondition};
+ghost use Rattle.grounding.specs.Preconditions.{IsPrecondition};
 
 use crate::changes::{CountingChange, counting_changes};
 use faults::NoMemory;
 use formulas::{Binding, Instance, cost};
-use grounding_conditions::Condition;
+use crate::condition::Condition;
 use grounding_kept::Numbering;
 use std::alloc::Global;
 

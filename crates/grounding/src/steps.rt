@@ -12,7 +12,7 @@ use crate::changes::CountingChange;
 use crate::ground::Ground;
 use faults::NoMemory;
 use formulas::Binding;
-use grounding_conditions::holds_in;
+use crate::condition::holds_in;
 use packed_state::Packed;
 use std::alloc::Global;
 

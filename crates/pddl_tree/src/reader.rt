@@ -8,7 +8,7 @@
 //! that a run ends in the file's tree and not in a yes. Which sections and parts stand already belongs to the state, since
 //! each stands at most once and their order is free. And where it stops, it says by a number why.
 ghost use Rattle.std.specs.Prelude.{◌≡◌, List, map, IfOk, IfErr, IsErrAnd, IfSome, IsSome, None, []};
-ghost use Rattle.faults.specs.Fault.{told_by};
+ghost use Rattle.tokens.specs.Told.{told_by};
 ghost use Rattle.tokens.specs.Word.{word_of};
 ghost use Rattle.model.specs.Fault as model;
 ghost use Rattle.model.specs.Words as text;

@@ -2,7 +2,7 @@
 use Rattle.std.proofs.Common.{◌≡◌, ℕ, ◌≤◌, List, [], ◌∷◌, ◌++◌, length, map, Option, Some, None, IfSome, ap, ◌∙◌, subst, sym, append_assoc, true, false, true≢false}
 use Rattle.std.specs.Prelude.{is_some}
 use Rattle.std.proofs.lemmas.List.{map-append}
-use Rattle.faults.specs.Fault.{told_by}
+use Rattle.tokens.specs.Told.{told_by}
 use Rattle.faults.specs.declared.refused.Refusal.{Refusal}
 use Rattle.faults.specs.declared.refused.Refused.TheVariants.{At}
 use Rattle.model.specs.Fault.{Span, Fault}

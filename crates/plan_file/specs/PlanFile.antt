@@ -8,7 +8,7 @@ use Rattle.plan_file.specs.declared.text.Place.TheVariants.{Outside, Opened, Ins
 use Rattle.plan_file.specs.declared.text.Turn.{Turn}
 use Rattle.plan_file.specs.declared.text.Turn.TheVariants.{Goes, Ends}
 use Rattle.plan_file.specs.declared.steps.Meaning.{Meaning}
-use Rattle.faults.specs.Fault.{told_by}
+use Rattle.tokens.specs.Told.{told_by}
 use Rattle.faults.specs.declared.refused.Refusal.{Refusal}
 use Rattle.faults.specs.declared.refused.Refused.TheVariants.{At}
 use Rattle.formulas.specs.State.{instance_of}

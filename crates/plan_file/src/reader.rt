@@ -2,7 +2,7 @@
 //! first fault of a step's meaning then waits for the end of the text, since a fault of form goes before it.
 ghost use Rattle.std.specs.Prelude.{◌≡◌, ◌<◌, List, IsTrue, IfOk, IfErr, IsErrAnd, IfSome, None, Some, ℕ, length, map};
 ghost use Rattle.std.specs.List.{list_all};
-ghost use Rattle.faults.specs.Fault.{told_by};
+ghost use Rattle.tokens.specs.Told.{told_by};
 ghost use Rattle.typing.specs.Task.{task_of};
 ghost use Rattle.formulas.specs.State.{instance_of, plan_of};
 ghost use Rattle.model.specs.Meaning.{is_instance};

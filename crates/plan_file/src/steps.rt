@@ -2,7 +2,7 @@
 ghost use Rattle.std.specs.Prelude.{◌≡◌, ◌<◌, ◌≤◌, ◌++◌, ◌∷◌, [], ℕ, List, Some, IsTrue, IfOk, IfErr, IfSome, OnOk, length, map, position, slice_get};
 ghost use Rattle.std.specs.Cmp.Lexicographic.{pointwise};
 ghost use Rattle.std.specs.Option.{option_map};
-ghost use Rattle.faults.specs.Fault.{told_by};
+ghost use Rattle.tokens.specs.Told.{told_by};
 ghost use Rattle.typing.specs.Task.{task_of};
 ghost use Rattle.typing.specs.TaskParts.{object_of, schema_id_of, union_of};
 ghost use Rattle.formulas.specs.State as view;

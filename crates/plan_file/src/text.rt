@@ -1,6 +1,6 @@
 //! The form of a plan text.
 ghost use Rattle.std.specs.Prelude.{◌≡◌, IfOk, IfErr, IfSome};
-ghost use Rattle.faults.specs.Fault.{told_by};
+ghost use Rattle.tokens.specs.Told.{told_by};
 ghost use Rattle.plan_file.specs.PlanFile.{place_of, turn_of, sort_of, name_of, span_of, TellsStop};
 ghost use Rattle.model.specs.PlanMachine.{turn};
 

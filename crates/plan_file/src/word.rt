@@ -1,6 +1,7 @@
 //! The words of a plan text.
 ghost use Rattle.std.specs.Prelude.{◌≡◌, ◌+◌, ◌<◌, ◌≤◌, ◌^◌, length, IfSome, Some};
-ghost use Rattle.faults.specs.Fault.{told_by, number_of};
+ghost use Rattle.faults.specs.Fault.{number_of};
+ghost use Rattle.tokens.specs.Told.{told_by};
 ghost use Rattle.tokens.specs.Form.{view};
 ghost use Rattle.model.specs.Words.{is_gap};
 ghost use Rattle.model.specs.PlanText.{is_stamp};

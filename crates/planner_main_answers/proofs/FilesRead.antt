@@ -17,8 +17,8 @@ use Rattle.model.specs.PlanText.{IsPlanText, IsPlanFault}
 use Rattle.model.specs.Files.{of_task, the_plan, FileFault, IsDomainText, IsProblemText, IsTextFault, of_words, of_tree, IsTaskOf, IsTaskFault, in_the_domain, in_the_problem, in_the_pair, IsFileFault, in_the_task, in_the_plan, AreRead}
 use Rattle.model.proofs.GrammarMeaning.{one_domain, one_problem}
 use Rattle.model.proofs.GrammarOneRefusal.{whole_not_refused}
-use Rattle.faults.specs.Fault as code
-use Rattle.faults.specs.Fault.{told_by}
+use Rattle.tokens.specs.Told as code
+use Rattle.tokens.specs.Told.{told_by}
 use Rattle.tokens.proofs.Words.{one_reading_lem}
 use Rattle.tokens.proofs.Order.{read_is_told_nothing}
 use Rattle.faults.specs.declared.refused.Refused.TheVariants.{At, NoMemory}

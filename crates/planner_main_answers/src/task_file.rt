@@ -1,6 +1,6 @@
 //! From the bytes of a domain file and a problem file to their task, and the faults of files.
 ghost use Rattle.std.specs.Prelude.{◌≡◌, ℕ, List, IfOk, IfErr, IfSome};
-ghost use Rattle.faults.specs.Fault.{told_by};
+ghost use Rattle.tokens.specs.Told.{told_by};
 ghost use Rattle.syntax_tree.specs.Tree.{domain_of, problem_of};
 ghost use Rattle.typing.specs.Task.{task_of};
 ghost use Rattle.planner_main_answers.specs.Files.{told_in};
@@ -64,7 +64,7 @@ pub enum FileFault {
 
 impl FileFault {
     ghost use Rattle.std.specs.Prelude.{◌≡◌};
-    ghost use Rattle.faults.specs.Fault.{told_by};
+    ghost use Rattle.tokens.specs.Told.{told_by};
     ghost use Rattle.planner_main_answers.specs.Files.{told_in, in_file};
 
     /// The fault of a file's text.

@@ -8,7 +8,7 @@ use Rattle.std.proofs.lemmas.List.{take_more}
 use Rattle.model.proofs.ListLemmas.{Contains-here, Contains-there, Contains-cases, Contains-none, Contains-got, Contains-map}
 use Rattle.grounding.specs.declared.changes.CountingChange.{CountingChange}
 use Rattle.grounding.specs.Changes.{counting_of}
-use Rattle.potentials_losses.proofs.ListLemmas.{map-take-more}
+use Rattle.potentials_draft.proofs.ListLemmas.{map-take-more}
 use Rattle.model.specs.Task.{Atom, Task, Instance}
 use Rattle.model.specs.Meaning.{cost_of}
 use Rattle.model.specs.ClosedOff.{kept_instances}
@@ -21,7 +21,7 @@ use Rattle.potential_functions.proofs.Numbers.{counting-named, counting-below}
 use Rattle.potentials.specs.Fairness.{AreInstancesFair, AreFairAt}
 use Rattle.potentials.specs.declared.touching.Touching.{Touching}
 use Rattle.potentials.specs.Touching.{row_of, IsTouching, IsAdded}
-use Rattle.potentials_losses.proofs.LossLemmas.{touches-append}
+use Rattle.potentials_draft.proofs.LossLemmas.{touches-append}
 use Rattle.potentials.proofs.FairLemmas.{Decides}
 
 -- what is read of a list stands there

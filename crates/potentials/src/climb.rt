@@ -19,7 +19,7 @@ use crate::potentials::{Potentials, or_zero};
 use crate::touching::Touching;
 use grounding::Ground;
 use packed_state::Packed;
-use potentials_losses::{MAX_WEIGHT, given, goal_gives, goal_gives_at_most, is_in_range, says};
+use potentials_draft::{MAX_WEIGHT, given, goal_gives, goal_gives_at_most, is_in_range, says};
 
 /// Fair potentials of the greatest constant, with what they give at most at a goal, and with their score in the initial
 /// state.

@@ -13,8 +13,7 @@ use crate::potentials::Potentials;
 use faults::NoMemory;
 use grounding::Ground;
 use packed_state::Packed;
-use potentials_draft::drafted_weights;
-use potentials_losses::{MAX_WEIGHT, goal_gives_at_most};
+use potentials_draft::{MAX_WEIGHT, drafted_weights, goal_gives_at_most};
 use std::alloc::Global;
 
 impl Potentials {

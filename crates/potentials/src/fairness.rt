@@ -11,7 +11,7 @@ ghost use Rattle.potentials.specs.Fairness.{AreInstancesFair, AreFairAt, Tells};
 use crate::potentials::Potentials;
 use faults::NoMemory;
 use grounding::Ground;
-use potentials_losses::{goal_gives_at_most, instance_count, loses_at_most};
+use potentials_draft::{goal_gives_at_most, instance_count, loses_at_most};
 use std::alloc::Global;
 
 /// Whether potentials are fair for a ground task, or what of them is not.

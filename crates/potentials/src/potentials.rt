@@ -8,7 +8,7 @@ use crate::words::gained_in_word;
 use faults::NoMemory;
 use grounding::Ground;
 use packed_state::Packed;
-use potentials_losses::{are_in_range, is_in_range};
+use potentials_draft::{are_in_range, is_in_range};
 use std::alloc::Global;
 
 /// A potential function: a constant and a weight for each numbered atom, each from -2147483647 to 2147483647.

@@ -8,7 +8,7 @@ ghost use Rattle.potentials.specs.Touching.{row_of, IsAdded, IsTouching};
 
 use faults::NoMemory;
 use grounding::{CountingChange, Ground};
-use potentials_losses::instance_count;
+use potentials_draft::instance_count;
 use std::alloc::Global;
 
 /// For each numbered atom the numbers of the instances that touch it.

@@ -5,7 +5,7 @@ use crate::tables::{Tables, Touch};
 use faults::NoMemory;
 use grounding::Ground;
 use packed_state::Packed;
-use potentials_losses::instance_count;
+use crate::instances::instance_count;
 use std::alloc::Global;
 
 /// The most instances that one joint move repairs.

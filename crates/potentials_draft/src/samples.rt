@@ -3,7 +3,7 @@ use crate::aims::Aim;
 use faults::NoMemory;
 use grounding::Ground;
 use packed_state::Packed;
-use potentials_losses::instance_count;
+use crate::instances::instance_count;
 use std::alloc::Global;
 
 /// How many walks there are, each of which gives one state.

@@ -1,7 +1,10 @@
 //! What a draft of better potentials reads again and again of a ground task.
 use faults::NoMemory;
 use grounding::{CountingChange, Ground, NumberedLiteral};
-use potentials_losses::{Swing, goal_gives, instance_count, is_in_range, touches};
+use crate::goals::goal_gives;
+use crate::instances::instance_count;
+use crate::range::is_in_range;
+use crate::swing::{Swing, touches};
 use std::alloc::Global;
 
 /// An instance that touches an atom, or an atom that an instance touches, by its number, and what the one may do to the

@@ -1,7 +1,8 @@
 //! From a text to its words.
 ghost use Rattle.std.specs.Prelude.{◌≡◌, ◌+◌, ◌<◌, ◌≤◌, ◌^◌, false, length, map, IfOk, IfErr, IsErrAnd, IfSome, Some, None};
 ghost use Rattle.std.specs.Option.{option_map};
-ghost use Rattle.faults.specs.Fault.{number_of, told_by};
+ghost use Rattle.faults.specs.Fault.{number_of};
+ghost use Rattle.tokens.specs.Told.{told_by};
 ghost use Rattle.tokens.specs.Word.{word_of};
 ghost use Rattle.model.specs.Words.{longest_text, ReadsAs, Reads, IsTold};
 
@@ -108,7 +109,8 @@ struct Nesting {
 
 impl Nesting {
     ghost use Rattle.tokens.specs.Form.{view};
-    ghost use Rattle.faults.specs.Fault.{number_of, told_by};
+    ghost use Rattle.faults.specs.Fault.{number_of};
+    ghost use Rattle.tokens.specs.Told.{told_by};
     ghost use Rattle.tokens.specs.Scanner.{fault_by, closed_with, word_at, fault_at};
     ghost use Rattle.tokens.specs.Word.{kind_of, word_of};
     ghost use Rattle.model.specs.Words.{opening, closing, open_with, kind_by};

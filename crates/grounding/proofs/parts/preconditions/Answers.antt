@@ -3,7 +3,7 @@ use Rattle.std.specs.Prelude.{slice_get}
 use Rattle.std.proofs.lemmas.List.{length-map}
 use Rattle.formulas.specs.State.{instance_of}
 use Rattle.grounding_kept.specs.Numbering.{task_in, atoms_in}
-use Rattle.grounding.specs.Conditions.{IsPrecondition}
+use Rattle.grounding.specs.Preconditions.{IsPrecondition}
 use Rattle.grounding.specs.InPlace.{AreInPlace}
 use Rattle.grounding.proofs.GroundLemmas.{got-mapped}
 use Rattle.grounding.proofs.InPlaceLemmas.{so_far-more, so_far-end}

@@ -2,7 +2,7 @@ use Rattle.std.proofs.Common.{rules, arith, ◌≡◌, ◌++◌, ◌∷◌, [], 
 use Rattle.std.proofs.lemmas.Result.{err_from_is_err_and}
 use Rattle.typing.specs.Task.{task_of}
 use Rattle.formulas.specs.State.{instance_of}
-use Rattle.faults.specs.Fault.{told_by}
+use Rattle.tokens.specs.Told.{told_by}
 use Rattle.faults.proofs.Results.{if_ok, if_err}
 use Rattle.model.specs.PlanMachine.{turn, goes, ends, open_at, at_end, refuses}
 use Rattle.model.specs.PlanText.{Step}

@@ -1,5 +1,5 @@
 use Rattle.std.proofs.Common.{IfSome, sym, ap, subst}
-use Rattle.faults.specs.Fault.{told_by}
+use Rattle.tokens.specs.Told.{told_by}
 use Rattle.planner_main_answers.specs.Checked.{IsInputFault}
 use Rattle.planner_main_answers.specs.Files.{text_in}
 use Rattle.planner_main_answers.proofs.CheckedLemmas.{plan_input}

@@ -1,6 +1,6 @@
 use Rattle.std.proofs.Common.{IfSome, sym, subst}
 use Rattle.std.proofs.lemmas.Result.{err_from_is_err_and}
-use Rattle.faults.specs.Fault.{told_by}
+use Rattle.tokens.specs.Told.{told_by}
 use Rattle.syntax_tree.specs.Tree.{domain_of, problem_of}
 use Rattle.model.specs.Files.{IsTaskFault}
 use Rattle.planner_main_answers.proofs.FilesRead.{domain_told, problem_told, pair_told}

@@ -1,6 +1,6 @@
 use Rattle.std.proofs.Common.{IfSome, sym, subst}
 use Rattle.std.proofs.lemmas.Result.{err_from_is_err_and}
-use Rattle.faults.specs.Fault.{told_by}
+use Rattle.tokens.specs.Told.{told_by}
 use Rattle.formulas.specs.State.{plan_of}
 use Rattle.typing.specs.Task.{task_of}
 use Rattle.model.specs.Files.{IsFileFault}

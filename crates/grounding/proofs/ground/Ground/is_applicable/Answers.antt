@@ -1,7 +1,7 @@
 use Rattle.std.proofs.Common.{◌∙◌, ◌<◌, ap, length, sym, arith}
 use Rattle.std.specs.Prelude.{slice_get}
 use Rattle.packed_state.specs.Packed.{bits_of}
-use Rattle.grounding_conditions.proofs.Conditions.{literals-below}
+use Rattle.grounding.proofs.Conditions.{literals-below}
 use Rattle.grounding.specs.Ground.{task_in, atoms_in}
 use Rattle.grounding.proofs.GroundLemmas.{got, named, schema-of}
 use Rattle.grounding.proofs.StepLemmas.{kept-is_instance, applies}

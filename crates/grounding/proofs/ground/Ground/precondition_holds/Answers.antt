@@ -7,7 +7,7 @@ use Rattle.typing.specs.TaskParts.{object_of, shape_of, shape_of_schema}
 use Rattle.typing.proofs.Shapes.{Shape, found}
 use Rattle.formulas.specs.State.{instance_of}
 use Rattle.formulas.proofs.Instances.{precondition_fits}
-use Rattle.grounding_conditions.specs.Conditions.{IsConditionOf}
+use Rattle.grounding.specs.Conditions.{IsConditionOf}
 use Rattle.model.specs.Task.{Task, Formula}
 use Rattle.model.specs.Meaning.{holds}
 use Rattle.model.specs.ClosedOff.{kept_instances}

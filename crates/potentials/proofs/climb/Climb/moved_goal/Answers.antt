@@ -1,8 +1,8 @@
 use Rattle.std.proofs.Common.{map, arith}
 use Rattle.std.proofs.lemmas.Int.{ints}
-use Rattle.grounding_kept.specs.Numbers.{numbered_of}
+use Rattle.grounding.specs.Views.{numbered_of}
 use Rattle.grounding.specs.Ground.{task_in, atoms_in}
-use Rattle.potentials_losses.proofs.GroundLemmas.{few-atoms}
+use Rattle.potentials_draft.proofs.GroundLemmas.{few-atoms}
 use Rattle.potentials.proofs.ClimbLemmas.{goal-moved, goal-range}
 use Rattle.potentials.proofs.climb.Climb.moved_goal.Goals as goal
 

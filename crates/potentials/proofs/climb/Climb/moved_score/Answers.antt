@@ -3,7 +3,7 @@ use Rattle.std.proofs.lemmas.Int.{ints}
 use Rattle.packed_state.specs.Packed.{bits_of}
 use Rattle.grounding.specs.Ground.{task_in, atoms_in}
 use Rattle.potentials.specs.Potentials.{potentials_of}
-use Rattle.potentials_losses.proofs.GroundLemmas.{few-atoms}
+use Rattle.potentials_draft.proofs.GroundLemmas.{few-atoms}
 use Rattle.potentials.proofs.ClimbLemmas.{score-moved, score-range, initial-long}
 use Rattle.potentials.proofs.climb.Climb.moved_score.Goals as goal
 

@@ -6,7 +6,7 @@ use Rattle.grounding.specs.Ground.{task_in, atoms_in}
 use Rattle.potential_functions.specs.PotentialFunctions.{PotentialFunction, score, IsInRange}
 use Rattle.potential_functions.proofs.Settling.{potentials}
 use Rattle.potentials.specs.Potentials.{potentials_of}
-use Rattle.potentials_losses.proofs.GroundLemmas.{few-atoms}
+use Rattle.potentials_draft.proofs.GroundLemmas.{few-atoms}
 use Rattle.potentials.proofs.FairLemmas.{goal-is}
 use Rattle.potentials.proofs.ClimbLemmas.{initial-long, climb-made, climb-no_lower}
 use Rattle.potentials.proofs.climb.Climb.new.Goals as goal

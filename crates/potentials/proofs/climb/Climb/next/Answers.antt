@@ -8,7 +8,7 @@ use Rattle.potential_functions.specs.PotentialFunctions.{score, or_zero}
 use Rattle.potential_functions.specs.Fair.{goal_gives_at_most}
 use Rattle.potential_functions.proofs.Settling.{potentials}
 use Rattle.potentials.specs.Potentials.{potentials_of}
-use Rattle.potentials_losses.proofs.GroundLemmas.{few-atoms}
+use Rattle.potentials_draft.proofs.GroundLemmas.{few-atoms}
 use Rattle.potentials.proofs.ClimbLemmas.{none-too_high, next-none, next-some, score-range}
 use Rattle.potentials.proofs.climb.Climb.next.Goals as goal
 

@@ -5,7 +5,7 @@ use Rattle.model.specs.Runs.{cost_of_all}
 use Rattle.model.specs.Grounding.{ground_system}
 use Rattle.potential_functions.proofs.LowerBound.{are_lower_bounds}
 use Rattle.potentials.specs.Potentials.{potentials_of}
-use Rattle.potentials_losses.proofs.GroundLemmas.{numberable}
+use Rattle.potentials_draft.proofs.GroundLemmas.{numberable}
 use Rattle.potentials.proofs.fair_potentials.Fair.estimate.Goals as goal
 
 pub value-requires : goal.value-requires

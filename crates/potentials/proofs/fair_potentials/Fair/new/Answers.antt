@@ -3,7 +3,7 @@ use Rattle.grounding.specs.Ground.{task_in, atoms_in}
 use Rattle.potential_functions.proofs.LowerBound.{are_lower_bounds}
 use Rattle.potentials.specs.Potentials.{potentials_of}
 use Rattle.potentials.specs.Fairness.{Tells}
-use Rattle.potentials_losses.proofs.GroundLemmas.{numberable}
+use Rattle.potentials_draft.proofs.GroundLemmas.{numberable}
 use Rattle.potentials.proofs.EstimateLemmas.{fair_is_consistent}
 use Rattle.potentials.proofs.FairLemmas.{unfair-instance}
 use Rattle.potentials.proofs.fair_potentials.Fair.new.Goals as goal

@@ -1,0 +1,145 @@
+//! What a formula asks of a packed state.
+ghost use Rattle.std.specs.Prelude.{◌≡◌, ◌<◌, length, map, IfOk};
+ghost use Rattle.std.specs.List.{All, list_all};
+ghost use Rattle.typing.specs.TaskParts.{object_of, formula_of};
+ghost use Rattle.formulas.specs.State.{FitsFormula};
+ghost use Rattle.formulas.specs.Literals.{literal_of};
+ghost use Rattle.packed_state.specs.Packed.{bits_of};
+ghost use Rattle.grounding_kept.specs.Numbering.{task_in, atoms_in};
+ghost use Rattle.grounding_kept.specs.Numbers.{numbered_of};
+ghost use Rattle.model.specs.Meaning as meaning;
+ghost use Rattle.model.specs.NumberedLiterals as model_literals;
+ghost use Rattle.model.specs.Grounding.{state_of_bits};
+ghost use Rattle.grounding.specs.Outright as outright;
+ghost use Rattle.grounding.specs.Unnumbered as unnumbered;
+ghost use Rattle.grounding.specs.Conditions.{literals_in, decided_in, beyond_of, IsConditionOf};
+
+use crate::outright::is_outright;
+use crate::state_view::StateView;
+use crate::unnumbered::all_may_hold;
+use faults::NoMemory;
+use formulas::{Binding, Literal, holds, sure};
+use grounding_kept::{NumberedLiteral, Numbering};
+use packed_state::Packed;
+use smallvec::SmallVec;
+use std::alloc::Global;
+use typing::Formula;
+
+/// What a formula asks of a packed state, where the variables in scope have some objects: the literals that it says
+/// outright of numbered atoms, and what is to be asked beyond them.
+#[derive(Drop)]
+pub(crate) struct Condition {
+    literals: SmallVec<NumberedLiteral, 4>,
+    beyond: Beyond,
+}
+
+/// What is to be asked beyond the literals.
+#[derive(Clone, Copy, Drop)]
+enum Beyond {
+    /// Nothing: the formula holds where they do.
+    Nothing,
+    /// The formula holds in no packed state.
+    Never,
+    /// The formula itself has to be looked at.
+    Formula,
+}
+
+impl Condition {
+    /// What the formula asks, which is well-typed for variables of some types that the objects are of.
+    pub(crate) fn new(
+        alloc: Global,
+        numbering: &Numbering<'_>,
+        formula: &Formula,
+        binding: &Binding,
+    ) -> Result<Condition, NoMemory>
+        requires { FitsFormula (task_in numbering.now) (formula_of formula.now) (map object_of binding.now.items) }
+        ensures { IfOk result (IsConditionOf (task_in numbering.now) (atoms_in numbering.now) (formula_of formula.now) (map object_of binding.now.items)) }
+    {
+        let outright = sure(alloc, numbering.task(), formula, binding)?;
+        let outright = outright.as_slice();
+        let numbered = numbering.numbered(alloc, outright)?;
+        let beyond = asked_beyond(numbering, formula, outright);
+        let literals = SmallVec::from_slice(alloc, numbered.as_slice())?;
+        Ok(Condition { literals, beyond })
+    }
+
+    /// The literals of numbered atoms that the formula says outright, in order.
+    pub(crate) fn literals(&self) -> &[NumberedLiteral]
+        ensures { map numbered_of result.now ≡ literals_in self.now }
+    {
+        self.literals.as_slice()
+    }
+
+    /// Whether the formula holds in the packed state, where that is decided without a look at the formula. No memory is
+    /// taken, and the first literal that is not true ends it.
+    pub(crate) fn decides(&self, state: &Packed) -> Option<bool>
+        requires { All (λ l. l.atom < length (bits_of state.now)) (literals_in self.now) }
+        ensures { result ≡ decided_in self.now (bits_of state.now) }
+    {
+        if !all_agree(self.literals.as_slice(), state) {
+            return Some(false);
+        }
+        match self.beyond {
+            Beyond::Nothing => Some(true),
+            Beyond::Never => Some(false),
+            Beyond::Formula => None,
+        }
+    }
+}
+
+/// Whether the formula, whose condition this is, holds in the packed state.
+pub(crate) fn holds_in(
+    condition: &Condition,
+    numbering: &Numbering<'_>,
+    formula: &Formula,
+    binding: &Binding,
+    state: &Packed,
+) -> bool
+    requires condition { IsConditionOf (task_in numbering.now) (atoms_in numbering.now) (formula_of formula.now) (map object_of binding.now.items) condition.now }
+    requires fits { FitsFormula (task_in numbering.now) (formula_of formula.now) (map object_of binding.now.items) }
+    requires width { length (bits_of state.now) ≡ length (atoms_in numbering.now) }
+    ensures { result ≡ meaning.holds (task_in numbering.now) (formula_of formula.now) (map object_of binding.now.items)
+        (state_of_bits (task_in numbering.now) (atoms_in numbering.now) (bits_of state.now)) }
+{
+    match condition.decides(state) {
+        Some(decided) => decided,
+        None => {
+            let view = StateView::new(numbering, state);
+            holds(numbering.task(), formula, binding, &view)
+        }
+    }
+}
+
+/// What is to be asked of a formula beyond its numbered literals, where these are its sure literals.
+fn asked_beyond(numbering: &Numbering<'_>, formula: &Formula, literals: &[Literal]) -> Beyond
+    ensures { result ≡ beyond_of (list_all (unnumbered.may_hold (task_in numbering.now) (atoms_in numbering.now)) (map literal_of literals.now)) (outright.is_outright (formula_of formula.now)) }
+{
+    if !all_may_hold(numbering, literals) {
+        return Beyond::Never;
+    }
+    if is_outright(formula) {
+        return Beyond::Nothing;
+    }
+    Beyond::Formula
+}
+
+/// Whether each of the literals is true in the packed state.
+fn all_agree(literals: &[NumberedLiteral], state: &Packed) -> bool
+    requires { All (λ l. l.atom < length (bits_of state.now)) (map numbered_of literals.now) }
+    ensures { result ≡ list_all (model_literals.agrees (bits_of state.now)) (map numbered_of literals.now) }
+{
+    for literal in literals {
+        if !agrees(literal, state) {
+            return false;
+        }
+    }
+    true
+}
+
+/// Whether the literal is true in the packed state.
+fn agrees(literal: &NumberedLiteral, state: &Packed) -> bool
+    requires { literal.now.atom < length (bits_of state.now) }
+    ensures { result ≡ model_literals.agrees (bits_of state.now) (numbered_of literal.now) }
+{
+    state.has(literal.atom) == literal.value
+}

@@ -1,4 +1,0 @@
-pub mod OutrightLemmas
-pub mod PackedTruth
-pub mod LiteralLists
-pub mod Conditions

@@ -1,4 +1,0 @@
-pub mod Outright
-pub mod Unnumbered
-pub mod StateView
-pub mod Conditions
