@@ -1,9 +1,9 @@
 -- The head of a file: `( define ( domain NAME )`, or `problem` in place of `domain`; and what follows it, up to the end.
 use Rattle.std.specs.Prelude.{◌≡◌, ℕ, ◌<◌, ◌≤◌, ◌⊎◌, List, [], ◌∷◌, length, take, fold, Result, Ok, Err, ⊤}
 use Rattle.tokens.specs.declared.word.Word.{Word}
-use Rattle.pddl_words.specs.declared.name.Name as code
+use Rattle.syntax_tree.specs.declared.name.Name as code
 use Rattle.pddl_words.specs.declared.refusal.WordRefusal.{WordRefusal}
-use Rattle.pddl_words.specs.Name.{name_of}
+use Rattle.syntax_tree.specs.Name.{name_of}
 use Rattle.pddl_words.specs.Token.{from}
 use Rattle.pddl_words.specs.Refusal.{WordFault}
 use Rattle.pddl_tree_values.specs.Reading.{Reading, made, stops, bind, part, phrase, Stops, Tells}

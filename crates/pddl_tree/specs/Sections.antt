@@ -1,7 +1,7 @@
 -- The parts of an action and the sections of a file, and what the grammar makes of some of them.
 use Rattle.std.specs.Option.{option_map}
 use Rattle.std.specs.Prelude.{map, fold, [], ◌≡◌, ℕ, List, true, Some}
-use Rattle.pddl_words.specs.Name.{name_of}
+use Rattle.syntax_tree.specs.Name.{name_of}
 use Rattle.syntax_tree.specs.Tree.{formula_of, groups_of, predicate_of, action_of, fact_of}
 use Rattle.pddl_tree.specs.declared.sections.Contents.{Contents}
 use Rattle.tokens.specs.declared.word.Word.{Word}

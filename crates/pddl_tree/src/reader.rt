@@ -17,7 +17,7 @@ ghost use Rattle.model.specs.GrammarWords.{tokens_of};
 ghost use Rattle.model.specs.Grammar.{EachIsOneDomain, EachIsOneProblem, IsDomain, IsProblem, IsFile, tree_from};
 ghost use Rattle.model.specs.Refusals.{IsWhole, IsRefused, span_of_place};
 ghost use Rattle.model.specs.GrammarExamples.{AreAsTold};
-ghost use Rattle.pddl_words.specs.Name.{name_of};
+ghost use Rattle.syntax_tree.specs.Name.{name_of};
 ghost use Rattle.pddl_words.specs.Token.{from};
 ghost use Rattle.pddl_words.specs.Refusal.{told, fault_of};
 ghost use Rattle.pddl_tree_values.specs.Reading.{phrase, Stops};

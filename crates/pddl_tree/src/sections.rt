@@ -3,7 +3,7 @@ ghost use Rattle.std.specs.Prelude.{◌≡◌, ◌+◌, [], IfOk, IfErr, map, So
 ghost use Rattle.std.specs.List.{list_all};
 ghost use Rattle.model.specs.GrammarWords.{opens, keyword, of_section};
 ghost use Rattle.model.specs.Grammar as grammar;
-ghost use Rattle.pddl_words.specs.Name.{name_of};
+ghost use Rattle.syntax_tree.specs.Name.{name_of};
 ghost use Rattle.pddl_words.specs.Token.{from, first, section_view};
 ghost use Rattle.pddl_tree_values.specs.Reading.{part, phrase, Reads, ReadsInto, GoesOn, Stops, closes_first};
 ghost use Rattle.syntax_tree.specs.Tree.{file_of};

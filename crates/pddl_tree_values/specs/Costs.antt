@@ -1,6 +1,6 @@
 -- Action costs: what the grammar makes of the words of the total cost.
 use Rattle.std.specs.Prelude.{ℕ, Bool, true, false, Option, Some, None}
-use Rattle.pddl_words.specs.Name.{name_of}
+use Rattle.syntax_tree.specs.Name.{name_of}
 use Rattle.pddl_tree_values.specs.declared.costs.CostWords.{CostWords}
 use Rattle.model.specs.Trees.{Name, Increase, InitialCost}
 use Rattle.model.specs.GrammarWords.{Token, dash, reserved}

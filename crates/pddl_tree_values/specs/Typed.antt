@@ -3,9 +3,9 @@ use Rattle.std.specs.Prelude.{◌≡◌, ◌+◌, ◌≤◌, ℕ, Bool, true, fa
 use Rattle.std.specs.Option.{option_and_then}
 use Rattle.faults.specs.Fault.{number_of}
 use Rattle.tokens.specs.declared.word.Word.{Word}
-use Rattle.pddl_words.specs.declared.name.Name.{Name}
+use Rattle.syntax_tree.specs.declared.name.Name.{Name}
 use Rattle.pddl_words.specs.declared.refusal.WordRefusal.{WordRefusal}
-use Rattle.pddl_words.specs.Name.{name_of}
+use Rattle.syntax_tree.specs.Name.{name_of}
 use Rattle.pddl_words.specs.Token.{from, first}
 use Rattle.pddl_tree_values.specs.Reading.{number_seen}
 use Rattle.model.specs.Trees as tree

@@ -1,7 +1,7 @@
 //! Action costs: `:functions`, `:metric`, and where the total cost is set or increased.
 ghost use Rattle.std.specs.Prelude.{◌≡◌, map, false};
 ghost use Rattle.model.specs.Grammar.{function_list, total_cost as wants_total_cost, listed};
-ghost use Rattle.pddl_words.specs.Name.{name_of};
+ghost use Rattle.syntax_tree.specs.Name.{name_of};
 ghost use Rattle.pddl_words.specs.Token.{from, first};
 ghost use Rattle.pddl_tree_values.specs.Costs.{the_metric, the_cost, the_increase, the_initial_cost, cost_of};
 ghost use Rattle.pddl_tree_values.specs.Reading.{part, phrase, Reads, ReadsWords, ReadsOne, closes_first};

@@ -1,7 +1,7 @@
 //! Lists up to the parenthesis that closes them, whatever they are of.
 ghost use Rattle.std.specs.Prelude.{map};
 ghost use Rattle.model.specs.Grammar.{Sort, Value, many, a_name, term as wants_term, key as wants_key};
-ghost use Rattle.pddl_words.specs.Name.{name_of, term_of};
+ghost use Rattle.syntax_tree.specs.Name.{name_of, term_of};
 ghost use Rattle.pddl_tree_values.specs.Reading.{part, Reads};
 
 use crate::look::{Parsed, is_close, name, term};

@@ -2,7 +2,7 @@
 ghost use Rattle.std.specs.Prelude.{◌≡◌, ◌<◌, IfSome, IsTrue, length};
 ghost use Rattle.std.specs.Option.{option_map, option_and_then};
 ghost use Rattle.model.specs.Grammar.{a_name, action_name as wants_action_name, term as wants_term, close as wants_close, either_word as wants_either, define_word, kind_word, total_cost as wants_total_cost, amount as wants_amount, number_type, minimize_word};
-ghost use Rattle.pddl_words.specs.Name.{name_of, term_of};
+ghost use Rattle.syntax_tree.specs.Name.{name_of, term_of};
 ghost use Rattle.pddl_words.specs.Token.{from, first};
 ghost use Rattle.syntax_tree.specs.Tree.{file_of};
 ghost use Rattle.pddl_tree_values.specs.Place.{listed_view};

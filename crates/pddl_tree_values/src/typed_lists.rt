@@ -1,7 +1,7 @@
 //! Typed lists, up to the parenthesis that closes them: names, or variables, in groups of one type.
 ghost use Rattle.std.specs.Prelude.{◌≡◌, map, false};
 ghost use Rattle.model.specs.Grammar.{listed, typed as wants_typed, type as wants_type, variables};
-ghost use Rattle.pddl_words.specs.Name.{name_of};
+ghost use Rattle.syntax_tree.specs.Name.{name_of};
 ghost use Rattle.pddl_words.specs.Token.{from, first};
 ghost use Rattle.pddl_tree_values.specs.Place.{listed_view};
 ghost use Rattle.pddl_tree_values.specs.Reading.{part, phrase, Reads, ReadsOne, closes_first};

@@ -1,3 +1,2 @@
-pub mod Name
 pub mod Token
 pub mod Refusal

@@ -14,7 +14,7 @@ use Rattle.pddl_words.specs.declared.token.Keyword.{Keyword}
 use Rattle.pddl_words.specs.declared.token.Keyword.TheVariants as keyword
 use Rattle.pddl_words.specs.declared.token.Token.{Token}
 use Rattle.pddl_words.specs.declared.token.Token.TheVariants as token
-use Rattle.pddl_words.specs.Name.{name_of}
+use Rattle.syntax_tree.specs.Name.{name_of}
 use Rattle.model.specs.Limits.{max_number}
 use Rattle.model.specs.GrammarWords as words
 use Rattle.model.specs.GrammarWords.{token_of}

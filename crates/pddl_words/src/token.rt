@@ -6,10 +6,10 @@ ghost use Rattle.std.specs.Str.{bytes_eq, str_to_ascii_lowercase};
 ghost use Rattle.tokens.specs.Word.{word_of};
 ghost use Rattle.model.specs.GrammarWords as words;
 ghost use Rattle.model.specs.GrammarWords.{is_among, left_out_names, number_of_digits, requirement_keys, left_out_keywords};
-ghost use Rattle.pddl_words.specs.Name.{name_of};
+ghost use Rattle.syntax_tree.specs.Name.{name_of};
 ghost use Rattle.pddl_words.specs.Token.{seen, keyword_view, small, IsToken, first, from};
 
-use crate::name::Name;
+use syntax_tree::Name;
 use tokens::{Kind, Word};
 
 /// The greatest number that a file may write.

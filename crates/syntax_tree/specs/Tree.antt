@@ -22,7 +22,7 @@ use Rattle.syntax_tree.specs.declared.tree.EffectLiteral.TheVariants as literal
 use Rattle.syntax_tree.specs.declared.tree.Effect.{Effect, Row_of-Effect, end_of-Effect, more_of-Effect}
 use Rattle.syntax_tree.specs.declared.tree.Effect as effect
 use Rattle.model.specs.Trees as tree
-pub use Rattle.pddl_words.specs.Name.{name_of, term_of}
+pub use Rattle.syntax_tree.specs.Name.{name_of, term_of}
 
 abbrev pub file_of : TaskFile → tree.File
 file_of file.Domain = tree.domain_file

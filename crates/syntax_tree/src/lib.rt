@@ -1,9 +1,10 @@
 //! The trees of a domain file and of a problem file: what stands in them, name by name, before any name is resolved.
 #![tactic(auto)]
 
+mod name;
 mod tree;
 
-pub use pddl_words::{Name, Term};
+pub use name::{Name, Term};
 pub use tree::{
     Action, Atom, Domain, Effect, EffectLiteral, Fact, Formula, GroundAtom, Group, Increase,
     InitialCost, Predicate, Problem, TaskFile,

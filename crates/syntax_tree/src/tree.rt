@@ -1,5 +1,5 @@
 //! What stands in a domain and in a problem, name by name, before any name is resolved.
-use pddl_words::{Name, Term};
+use crate::name::{Name, Term};
 
 /// One of the two files that a task is read from.
 #[derive(Clone, Copy, Debug, PartialEq, Eq)]

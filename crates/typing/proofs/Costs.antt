@@ -2,7 +2,7 @@
 use Rattle.std.proofs.Common.{◌≡◌, ◌∙◌, Bool, true, false, not, ◌==◌, List, [], ◌∷◌, map, drop, length, slice_get, is_some, Option, None, Some, refl, ap, Bor, arith, if◌then◌else◌}
 use Rattle.std.specs.Option.{option_map, option_map_or, option_copied}
 use Rattle.std.proofs.lemmas.Bool.{eqb-true}
-use Rattle.syntax_tree.specs.Words.{Name}
+use Rattle.syntax_tree.specs.declared.name.Name.{Name}
 use Rattle.syntax_tree.specs.Tree.{name_of}
 use Rattle.model.specs.Trees.{File, problem_file}
 use Rattle.model.specs.Trees as tree

@@ -3,7 +3,7 @@ use Rattle.std.specs.Prelude.{List, map}
 use Rattle.typing_formulas.specs.declared.typed_lists.Declared.{Declared}
 use Rattle.syntax_tree.specs.Tree.{file_of}
 use Rattle.syntax_tree.specs.Tree.{name_of}
-use Rattle.syntax_tree.specs.Words.{Name}
+use Rattle.syntax_tree.specs.declared.name.Name.{Name}
 use Rattle.model.specs.Trees.{File}
 use Rattle.model.specs.Trees as tree
 use Rattle.model.specs.Typing as typing

@@ -1,7 +1,7 @@
 use Rattle.std.proofs.Common.{◌∙◌, ◌+◌, ap, sym, map, drop}
 use Rattle.std.proofs.lemmas.List.{drop_more, drop_all}
 use Rattle.typing_formulas.specs.Walk.{found, least_of}
-use Rattle.syntax_tree.specs.Words.{Name}
+use Rattle.syntax_tree.specs.declared.name.Name.{Name}
 use Rattle.syntax_tree.specs.Tree as read
 use Rattle.model.specs.Trees.{domain_file}
 use Rattle.model.specs.Typing as typing

@@ -3,7 +3,7 @@ use Rattle.typing_formulas.specs.Scope.{names_in}
 use Rattle.syntax_tree.specs.Tree.{file_of}
 use Rattle.typing_formulas.specs.Walk.{least_of}
 use Rattle.syntax_tree.specs.Tree as read
-use Rattle.syntax_tree.specs.Words.{Name}
+use Rattle.syntax_tree.specs.declared.name.Name.{Name}
 use Rattle.model.specs.Typing as typing
 use Rattle.typing_formulas.proofs.Found.{found_at, found_walked}
 use Rattle.typing_formulas.proofs.types.check_types.Goals as goal

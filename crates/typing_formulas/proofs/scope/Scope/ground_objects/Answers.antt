@@ -7,7 +7,7 @@ use Rattle.typing_formulas.specs.TaskParts as parts
 use Rattle.syntax_tree.specs.Tree as read
 use Rattle.model.specs.Trees as tree
 use Rattle.model.specs.Typing as typing
-use Rattle.syntax_tree.specs.Words.{Name}
+use Rattle.syntax_tree.specs.declared.name.Name.{Name}
 use Rattle.typing_formulas.proofs.Lists as lists
 use Rattle.typing_formulas.proofs.Arguments.{argument_step, argument_end}
 use Rattle.typing_formulas.proofs.scope.Scope.ground_objects.Goals.{then-len-lt-MAX_ARGUMENTS, else-len-lt-MAX_ARGUMENTS}

@@ -6,7 +6,7 @@ use Rattle.typing_formulas.specs.Walk.{least_of}
 use Rattle.typing_formulas.specs.TaskParts as parts
 use Rattle.syntax_tree.specs.Tree as read
 use Rattle.model.specs.Typing as typing
-use Rattle.syntax_tree.specs.Words.{Term}
+use Rattle.syntax_tree.specs.declared.name.Term.{Term}
 use Rattle.typing_formulas.proofs.Arguments.{argument_step, argument_end}
 use Rattle.typing_formulas.proofs.scope.Scope.terms.Goals as goal
 

@@ -4,7 +4,7 @@ use Rattle.typing_formulas.specs.TaskParts as parts
 use Rattle.typing_formulas.specs.Scope.{names_in}
 use Rattle.syntax_tree.specs.Tree as read
 use Rattle.model.specs.Typing as typing
-use Rattle.syntax_tree.specs.Words.{Name}
+use Rattle.syntax_tree.specs.declared.name.Name.{Name}
 use Rattle.typing_formulas.proofs.type_names.TypeNames.numbers.Goals as goal
 
 pub loop-name-preserved : goal.loop-name-preserved

@@ -1,7 +1,7 @@
 use Rattle.std.proofs.Common.{◌≡◌, ◌==◌, ◌∙◌, false, List, [], ◌∷◌, map, length, refl, sym, true≢false}
 use Rattle.typing_formulas.specs.Scope.{names_in}
 use Rattle.syntax_tree.specs.Tree as read
-use Rattle.syntax_tree.specs.Words.{Name}
+use Rattle.syntax_tree.specs.declared.name.Name.{Name}
 use Rattle.model.specs.Task as task
 use Rattle.model.specs.Typing as typing
 use Rattle.typing_formulas.proofs.type_names.TypeNames.union.Goals as goal

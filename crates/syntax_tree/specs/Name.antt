@@ -1,7 +1,7 @@
 -- Names and terms of the code, in the model's terms.
-use Rattle.pddl_words.specs.declared.name.Name.{Name}
-use Rattle.pddl_words.specs.declared.name.Term.{Term}
-use Rattle.pddl_words.specs.declared.name.Term.TheVariants.{Variable, Object}
+use Rattle.syntax_tree.specs.declared.name.Name.{Name}
+use Rattle.syntax_tree.specs.declared.name.Term.{Term}
+use Rattle.syntax_tree.specs.declared.name.Term.TheVariants.{Variable, Object}
 use Rattle.model.specs.Trees as tree
 
 abbrev pub name_of : Name → tree.Name
