@@ -1,5 +1,4 @@
-"""Copies of a crate with all that it stands on, in which `rt` works while others work elsewhere: it lets nobody else into the
-crates below the one that it works on."""
+"""The crates of this repository: what each stands on, and copies of them to work in."""
 import os, shutil
 
 ROOT = os.path.dirname(os.path.realpath(__file__))
@@ -12,14 +11,19 @@ def rows():
         return {it.partition(":")[0].strip(): it for it in text if ":" in it.partition("#")[0]}
 
 
+def libraries_of(row):
+    """The names of the libraries that a row lists, those of the toolchain among them."""
+    return row.partition("#")[0].partition(":")[2].split()
+
+
 def rows_below(crate):
-    """The rows of a crate and of those that it stands on, all the way down."""
+    """The rows of a crate and of those of the repository that it stands on, all the way down."""
     known, found, left = rows(), {}, [crate]
     while left:
         name = left.pop()
         if name in known and name not in found:
             found[name] = known[name]
-            left += known[name].partition("#")[0].partition(":")[2].split()
+            left += libraries_of(known[name])
     return found
 
 
