@@ -1,5 +1,7 @@
-"""Copies of a crate with all that it stands on, in which `rt` works while others work elsewhere: it lets nobody else into the
-crates below the one that it works on."""
+"""The crates of this repository: what each stands on, and copies of them to work in.
+
+Run by itself it lists how many paths lead from each crate down to the crates below it, itself counted: `rt` takes a sum of
+sources once for each, so that a graph with many paths makes every check of a crate near the top slow."""
 import os, shutil
 
 ROOT = os.path.dirname(os.path.realpath(__file__))
@@ -12,14 +14,19 @@ def rows():
         return {it.partition(":")[0].strip(): it for it in text if ":" in it.partition("#")[0]}
 
 
+def libraries_of(row):
+    """The names of the libraries that a row lists, those of the toolchain among them."""
+    return row.partition("#")[0].partition(":")[2].split()
+
+
 def rows_below(crate):
-    """The rows of a crate and of those that it stands on, all the way down."""
+    """The rows of a crate and of those of the repository that it stands on, all the way down."""
     known, found, left = rows(), {}, [crate]
     while left:
         name = left.pop()
         if name in known and name not in found:
             found[name] = known[name]
-            left += known[name].partition("#")[0].partition(":")[2].split()
+            left += libraries_of(known[name])
     return found
 
 
@@ -37,3 +44,20 @@ def put_copy(copy, crate):
             shutil.copytree(f"{ROOT}/crates/{it}/out/rlib", f"{copy}/crates/{it}/out/rlib", copy_function=os.link)
     if os.path.isdir(f"{ROOT}/crates/{crate}/out/incremental"):
         shutil.copytree(f"{ROOT}/crates/{crate}/out/incremental", f"{copy}/crates/{crate}/out/incremental")
+
+
+def paths():
+    """How many paths lead from each crate to those below it and to itself."""
+    known, found = rows(), {}
+
+    def count(crate):
+        if crate not in found:
+            found[crate] = 1 + sum(count(it) for it in libraries_of(known[crate]) if it in known)
+        return found[crate]
+
+    return {it: count(it) for it in known}
+
+
+if __name__ == "__main__":
+    for crate, count in sorted(paths().items(), key=lambda it: it[1]):
+        print(f"{count:8,} {crate}")
