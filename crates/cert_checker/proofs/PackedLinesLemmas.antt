@@ -1,17 +1,18 @@
 -- The states of a certificate's lines, as sets of numbers.
-use Rattle.std.proofs.Common.{◌≡◌, ◌∙◌, ℕ, append-nil, zero, suc, ◌+◌, ◌<◌, ◌≤◌, Bool, true, false, ◌&&◌, ◌||◌, inl, inr, List, [], ◌∷◌, ◌++◌, length, get_or, Some, refl, sym, ap, subst, arith, true≢false}
-use Rattle.std.specs.Prelude.{◌==◌, IsTrue, All, Contains, if◌then◌else◌, nat_le, nat_lt, slice_get}
-use Rattle.std.specs.List.{list_any, filter_map}
+use Rattle.std.proofs.Common.{◌≡◌, ◌∙◌, ℕ, append-nil, zero, suc, ◌+◌, ◌<◌, ◌≤◌, Bool, true, false, ◌&&◌, ◌||◌, inl, inr, List, [], ◌∷◌, ◌++◌, length, get_or, Some, refl, sym, ap, arith, true≢false}
+use Rattle.std.specs.Prelude.{IsTrue, All, Contains, if◌then◌else◌, nat_le, nat_lt, slice_get}
+use Rattle.std.specs.List.{filter_map}
 use Rattle.std.specs.Option.{option_map_or}
 use Rattle.std.specs.Ordering.{eq_by_cmp}
 use Rattle.std.specs.FinSet.{contains-from_list}
 use Rattle.std.specs.Cmp.{both_ways}
-use Rattle.std.proofs.lemmas.Bool.{or_cases, or_left, or_right, and_parts, eqb-true, eq-eqb, ltb-true}
+use Rattle.std.proofs.lemmas.Bool.{or_cases, or_left, or_right, and_parts, ltb-true}
 use Rattle.std.proofs.lemmas.List.{length-append, same_lists}
 use Rattle.std.proofs.lemmas.List.FromFn.{get_or-map-range_with_len, length-map-range_with_len}
 use Rattle.std.proofs.lemmas.List.Elements.{All-contains}
 use Rattle.std.proofs.lemmas.Option.{slice_get_within}
 use Rattle.packed_state.specs.Sets.{set_of}
+use Rattle.certificate_listing.proofs.NumbersLemmas.{is_among, among-Contains, Contains-among}
 use Rattle.cert_checker.specs.FluentAtoms.{AreFluent}
 use Rattle.cert_checker.specs.PackedLines.{NamesAtoms}
 use Rattle.model.specs.Task.{Atom, Task}
@@ -22,31 +23,12 @@ use Rattle.certificate_text.specs.Certificates.{Certificate, StateLine, state_of
 use Rattle.model.specs.NumberedAtoms.{stands_in, are_distinct}
 use Rattle.model.specs.Grounding.{chosen, state_of_bits, bits_of_state}
 use Rattle.model.proofs.Atoms.{atoms_total, same_state, stands_in-append}
-use Rattle.model.proofs.ListLemmas.{Contains-here, Contains-there, Contains-cases, Contains-none, Contains-filter_map, filter_map-Contains}
+use Rattle.model.proofs.ListLemmas.{Contains-cases, Contains-none, Contains-filter_map, filter_map-Contains}
 use Rattle.model.proofs.NumberingLemmas.{stands_in-Contains, Contains-stands_in, same_itself, distinct-from_pairs}
 use Rattle.model.proofs.PackedStates.{bits_of-packed_state}
 use Rattle.model.proofs.StaticLemmas.{same_atom}
 
 -- ---- sets of numbers
-
-abbrev is_among : List ℕ → ℕ → Bool
-is_among numbers k = list_any (λ n. n == k) numbers
-
-among-Contains : (numbers : List ℕ) (k : ℕ) → is_among numbers k ≡ true → Contains numbers k
-among-Contains [] k among = absurd (true≢false (sym among))
-among-Contains (n ∷ numbers) k among =
-    elim (or_cases (n == k) (is_among numbers k) among) [
-      | inl here ↦ subst (λ m. Contains (n ∷ numbers) m) (eqb-true n k here) (Contains-here n numbers)
-      | inr later ↦ Contains-there n numbers k (among-Contains numbers k later)
-    ]
-
-Contains-among : (numbers : List ℕ) (k : ℕ) → Contains numbers k → is_among numbers k ≡ true
-Contains-among [] k at = absurd (Contains-none k at)
-Contains-among (n ∷ numbers) k at =
-    elim (Contains-cases n numbers k at) [
-      | inl same ↦ or_left (n == k) (is_among numbers k) (eq-eqb n k same)
-      | inr later ↦ or_right (n == k) (is_among numbers k) (Contains-among numbers k later)
-    ]
 
 pub length-set_of : (width : ℕ) (numbers : List ℕ) → length (set_of width numbers) ≡ width
 length-set_of width numbers = length-map-range_with_len (is_among numbers) 0 width

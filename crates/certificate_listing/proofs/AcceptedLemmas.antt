@@ -27,7 +27,7 @@ use Rattle.certificate_reader.proofs.OneText as one_text
 use Rattle.certificate_listing.specs.Told.{atom_in, atoms_told, names_told, state_in, states_told}
 use Rattle.certificate_listing.proofs.NamesLemmas.{one_named}
 use Rattle.certificate_listing.proofs.PlacedLemmas.{atoms_of_text, named_length, states_of_text}
-use Rattle.certificate_listing.proofs.SplitLemmas.{begun_kept, end_within, first_line, kept_lines, line_is_first, line_more, line_short, nothing_there, split_off, text_push}
+use Rattle.certificate_listing.proofs.SplitLemmas.{begun_kept, end_within, first_line, kept_lines, line_is_first, line_short, nothing_there, split_off, text_push}
 use Rattle.certificate_reader.proofs.NumbersRead.{same_number}
 use Rattle.certificate_reader.proofs.OneLine.{one_line}
 
@@ -250,7 +250,7 @@ within_limits before (in_body n m) next line body is leads (inl (empty, full, (a
     let below = (and_parts (m == 0) (nat_lt n most_atoms) (and_parts ((m == 0) && nat_lt n most_atoms) (is_line n (atom a)) holds).0).1 in
     omega (arith, full, ltb-true n most_atoms below)
 within_limits before (in_body n m) next line body is leads (inr (full, (l, l_is, same))) =
-    let here : line ≡ listed l = one_line most_atoms (omega arith) line (listed l) is (line_more n body.few_atoms (listed l) l_is) same in
+    let here : line ≡ listed l = one_line most_atoms (omega arith) line (listed l) is (one_text.line_more n body.few_atoms (listed l) l_is) same in
     let holds = (only_where (nat_lt m most_states && is_line n (listed l)) (in_body n (m + 1)) next (subst (λ line. next_place (in_body n m) line ≡ Some next) here leads)).0 in
     omega (arith, full, ltb-true m most_states (and_parts (nat_lt m most_states) (is_line n (listed l)) holds).0)
 within_limits before at_version next line body is leads over = over

@@ -78,25 +78,17 @@ module _ {R : Type 0} (remaining : R → Option (List ℕ)) (task : Task) (first
 
   module _ (width : ℕ) (marks : List Marked) (sets : List (List Bool)) where
     -- nothing is listed yet
+    nothing : marks ≡ [] → sets ≡ [] → (lines : List TextLine) → states_told lines ≡ [] → HaveListed lines claim width marks sets
+    nothing no_marks no_sets lines none_told = record {
+      rising = ap (list_all (λ (l : StateLine). rise width 0 l.atoms)) none_told;
+      marks_are = no_marks ∙ ap (map marked) (sym none_told);
+      allowed = λ is_none. subst (All (λ (l : StateLine). l.cut ≡ None)) (sym none_told) (λ k d within. absurd (omega (arith, within)));
+      sets_are = no_sets ∙ ap (map (λ (l : StateLine). set_of width l.atoms)) (sym none_told);
+    }
+
     pub none_listed : marks ≡ [] → sets ≡ [] → (next : Option CertLine) → IsBegun remaining task first now beginning next → IsListedSoFar remaining task first now beginning width marks sets next
-    none_listed no_marks no_sets (Some line) (before, at, told, no_state, body) = (before, at, told, nothing before no_state, body)
-      where
-        nothing : (lines : List TextLine) → states_told lines ≡ [] → HaveListed lines claim width marks sets
-        nothing lines none_told = record {
-          rising = ap (list_all (λ (l : StateLine). rise width 0 l.atoms)) none_told;
-          marks_are = no_marks ∙ ap (map marked) (sym none_told);
-          allowed = λ is_none. subst (All (λ (l : StateLine). l.cut ≡ None)) (sym none_told) (λ k d within. absurd (omega (arith, within)));
-          sets_are = no_sets ∙ ap (map (λ (l : StateLine). set_of width l.atoms)) (sym none_told);
-        }
-    none_listed no_marks no_sets None (lines, over, told, no_state) = (lines, over, told, nothing lines no_state)
-      where
-        nothing : (lines : List TextLine) → states_told lines ≡ [] → HaveListed lines claim width marks sets
-        nothing lines none_told = record {
-          rising = ap (list_all (λ (l : StateLine). rise width 0 l.atoms)) none_told;
-          marks_are = no_marks ∙ ap (map marked) (sym none_told);
-          allowed = λ is_none. subst (All (λ (l : StateLine). l.cut ≡ None)) (sym none_told) (λ k d within. absurd (omega (arith, within)));
-          sets_are = no_sets ∙ ap (map (λ (l : StateLine). set_of width l.atoms)) (sym none_told);
-        }
+    none_listed no_marks no_sets (Some line) (before, at, told, no_state, body) = (before, at, told, nothing no_marks no_sets before no_state, body)
+    none_listed no_marks no_sets None (lines, over, told, no_state) = (lines, over, told, nothing no_marks no_sets lines no_state)
 
     -- the next line is fit to be listed
     pub fit_next : (line : CertLine) → width ≡ length atoms → IsListedSoFar remaining task first now beginning width marks sets (Some line) → IsFit width sets (text_line_of line)

@@ -1,10 +1,10 @@
 -- The numbers of sets, and what they say of a listing.
-use Rattle.std.proofs.Common.{◌≡◌, ℕ, zero, suc, ◌+◌, ◌<◌, ◌≤◌, Bool, true, false, List, [], ◌∷◌, get_or, inl, inr, map, length, refl, sym, ap, ◌∙◌, subst, arith}
-use Rattle.std.specs.Prelude.{◌&&◌, ◌==◌, All, Contains, nat_le, nat_lt}
+use Rattle.std.proofs.Common.{◌≡◌, ℕ, zero, suc, ◌<◌, ◌≤◌, Bool, true, false, List, [], ◌∷◌, get_or, inl, inr, map, length, refl, sym, ap, ◌∙◌, subst, arith}
+use Rattle.std.specs.Prelude.{◌&&◌, ◌==◌, All, Contains, nat_le}
 use Rattle.std.specs.List.{list_all, list_any, range_with_len}
 use Rattle.std.specs.Cmp.{both_ways}
 use Rattle.std.specs.Option.{option_map_or}
-use Rattle.std.proofs.lemmas.Bool.{and_parts, eq-eqb, eqb-true, ltb-true, lt-ltb, or_cases, or_left, or_right}
+use Rattle.std.proofs.lemmas.Bool.{and_parts, eq-eqb, eqb-true, or_cases, or_left, or_right}
 use Rattle.std.proofs.lemmas.List.{ext_get_or, length-map}
 use Rattle.std.proofs.lemmas.List.Elements.{All-cons, All-nil, All-contains, All-map, All-tail}
 use Rattle.packed_state.specs.Sets.{at_width, has, set_of}
@@ -17,6 +17,7 @@ use Rattle.packed_state.proofs.PackedLemmas.{length-bits}
 use Rattle.potential_functions.specs.PotentialFunctions.{PotentialFunction}
 use Rattle.certificate_text.specs.Certificates.{StateLine, are_potentials, is_claim, is_number, is_state_line, is_weight, rise}
 use Rattle.model.proofs.ListLemmas.{Contains-cases, Contains-filter, Contains-here, Contains-none, Contains-range, Contains-there, filter-Contains}
+use Rattle.certificate_reader.proofs.OneText.{rise_more}
 use Rattle.certificate_listing.specs.Sets.{Marked, line_with, lines_with, marked, numbers_of}
 use Rattle.certificate_listing.specs.declared.listing.Listing.{Listing}
 use Rattle.certificate_listing.specs.Listed.{mark_of}
@@ -28,10 +29,10 @@ use Rattle.certificate_listing.proofs.WideningLemmas.{IsBelow, has-at_width, len
 
 -- ---- the numbers of a set
 
-abbrev is_among : List ℕ → ℕ → Bool
+abbrev pub is_among : List ℕ → ℕ → Bool
 is_among numbers k = list_any (λ n. n == k) numbers
 
-among-Contains : (numbers : List ℕ) (k : ℕ) → is_among numbers k ≡ true → Contains numbers k
+pub among-Contains : (numbers : List ℕ) (k : ℕ) → is_among numbers k ≡ true → Contains numbers k
 among-Contains [] k among = absurd (cc)
 among-Contains (n ∷ numbers) k among =
     elim (or_cases (n == k) (is_among numbers k) among) [
@@ -39,7 +40,7 @@ among-Contains (n ∷ numbers) k among =
       | inr later ↦ Contains-there n numbers k (among-Contains numbers k later)
     ]
 
-Contains-among : (numbers : List ℕ) (k : ℕ) → Contains numbers k → is_among numbers k ≡ true
+pub Contains-among : (numbers : List ℕ) (k : ℕ) → Contains numbers k → is_among numbers k ≡ true
 Contains-among [] k at = absurd (Contains-none k at)
 Contains-among (n ∷ numbers) k at =
     elim (Contains-cases n numbers k at) [
@@ -70,13 +71,6 @@ same_width : (set : List Bool) → at_width (length set) set ≡ set
 same_width set = ext_get_or false (at_width (length set) set) set (length-at_width (length set) set) (λ k within. has-at_width (length set) set k (omega (arith, within, length-at_width (length set) set)))
 
 -- ---- rising numbers under another count
-
-rise_more : (count wide least : ℕ) (numbers : List ℕ) → count ≤ wide → rise count least numbers ≡ true → rise wide least numbers ≡ true
-rise_more count wide least [] enough is = refl
-rise_more count wide least (n ∷ numbers) enough is =
-    let (first, more) = and_parts (nat_le least n && nat_lt n count) (rise count (n + 1) numbers) is in
-    let (above, below) = and_parts (nat_le least n) (nat_lt n count) first in
-    λ i. (above i && lt-ltb n wide (omega (arith, enough, ltb-true n count below)) i) && rise_more count wide (n + 1) numbers enough more i
 
 abbrev Rises : ℕ → List Bool → Type 0
 Rises count set = rise count 0 (numbers_of set) ≡ true

@@ -3,8 +3,7 @@ use Rattle.std.proofs.Common.{◌≡◌, ℕ, suc, ◌+◌, ◌*◌, ◌<◌, �
 use Rattle.std.specs.Prelude.{◌&&◌, Contains, IsTrue, nat_le, ℤ, pos, negsuc}
 use Rattle.std.specs.Fmt.{decimal, signed_decimal}
 use Rattle.std.specs.List.{flat_map, list_all}
-use Rattle.std.specs.Option.{option_map_or}
-use Rattle.std.proofs.lemmas.Bool.{and_parts, leb-true, le-leb, lt-ltb, ltb-true, ne_eqb}
+use Rattle.std.proofs.lemmas.Bool.{and_parts, leb-true, ltb-true, ne_eqb}
 use Rattle.std.proofs.lemmas.Fmt.{length-decimal-le}
 use Rattle.std.proofs.lemmas.List.Folds.{list_all-append}
 use Rattle.model.specs.Claims.{bound, none}
@@ -16,31 +15,9 @@ use Rattle.certificate_reader.proofs.NumberLemmas.{is_below}
 use Rattle.certificate_reader.proofs.NumbersRead.{rise_parts}
 use Rattle.certificate_reader.proofs.WordLemmas.{same_head, same_tail}
 use Rattle.certificate_reader.proofs.OneLine.{one_line}
-use Rattle.certificate_reader.proofs.OneText.{is_one_line, line_in_one, one_whole}
+use Rattle.certificate_reader.proofs.OneText.{is_one_line, line_in_one, lines_more, one_whole}
 
 -- ---- lines keep the limits, whatever the count of atoms
-
-rise_more : (count more least : ℕ) (numbers : List ℕ) → count ≤ more → rise count least numbers ≡ true → rise more least numbers ≡ true
-rise_more count more least [] few all = refl
-rise_more count more least (n ∷ numbers) few all =
-    let (above, below, rest) = rise_parts count least n numbers all in
-    λ i. le-leb least n above i && lt-ltb n more (omega (arith, below, few)) i && rise_more count more (n + 1) numbers few rest i
-
-pub line_more : (count : ℕ) → count ≤ most_atoms → (line : TextLine) → IsTrue (is_line count line) → IsTrue (is_line most_atoms line)
-line_more count few version is = refl
-line_more count few (claims claim) is = is
-line_more count few (constant k) is = is
-line_more count few (atom a) is = is
-line_more count few (listed l) is =
-    let (first, rising) = and_parts (is_number l.cost && option_map_or is_number l.cut true) (rise count 0 l.atoms) is in
-    λ i. first i && rise_more count most_atoms 0 l.atoms few rising i
-line_more count few (last n) is = is
-
-lines_more : (count : ℕ) → count ≤ most_atoms → (lines : List TextLine) → IsTrue (list_all (is_line count) lines) → IsTrue (list_all (is_line most_atoms) lines)
-lines_more count few [] all = refl
-lines_more count few (line ∷ lines) all =
-    let (here, more) = and_parts (is_line count line) (list_all (is_line count) lines) all in
-    λ i. line_more count few line here i && lines_more count few lines more i
 
 pub kept_lines : (c : NamedCertificate) → IsTrue (keeps_text_limits c) → IsTrue (list_all (is_line most_atoms) (text_lines c))
 kept_lines c keeps =

@@ -1,16 +1,17 @@
 -- What is written of a certificate within the limits is a text that says it.
 use Rattle.std.proofs.Common.{◌≡◌, ℕ, zero, suc, ◌+◌, ◌*◌, ◌≤◌, Bool, true, false, not, cond, List, [], ◌∷◌, ◌++◌, codes, map, length, length-append, Option, None, Some, refl, sym, ap, ◌∙◌, subst, true≢false, arith}
-use Rattle.std.specs.Prelude.{◌&&◌, ℤ, IsTrue, All, nat_le, nat_lt, slice_get, zip}
+use Rattle.std.specs.Prelude.{◌&&◌, ℤ, IsTrue, All, Contains, nat_le, nat_lt, slice_get, zip}
 use Rattle.std.specs.Fmt.{signed_decimal}
 use Rattle.std.specs.Char.{to_ascii_lowercase}
 use Rattle.std.specs.Cmp.Lexicographic.{pointwise, same_text}
 use Rattle.std.specs.List.{flat_map, list_all, list_any, position_or_len}
-use Rattle.std.specs.Option.{option_map_or}
-use Rattle.std.proofs.lemmas.Bool.{and_parts, leb-true, le-leb, lt-ltb, or_left, or_right}
+use Rattle.std.specs.Option.{option_map, option_map_or}
+use Rattle.std.proofs.lemmas.Bool.{and_parts, leb-true, le-leb, lt-ltb}
 use Rattle.std.proofs.lemmas.Cmp.{nat_list_eq_equiv}
+use Rattle.std.proofs.lemmas.Map.Views.{list_any-from_Contains}
 use Rattle.std.proofs.lemmas.List.{length-map}
 use Rattle.std.proofs.lemmas.List.Folds.{list_all-append, list_all-map}
-use Rattle.std.proofs.lemmas.Option.{slice_get_within}
+use Rattle.std.proofs.lemmas.Option.{slice_get-map, slice_get_within}
 use Rattle.model.specs.Task.{Name, Atom, Object, Predicate, Task, Union, Instance}
 use Rattle.model.specs.Meaning.{is_below, is_of}
 use Rattle.model.specs.WellTyped.{is_atom, is_task}
@@ -21,6 +22,7 @@ use Rattle.model.specs.PlanWriting.{are_lower_names, differ, is_lower_name, obje
 use Rattle.model.specs.Fluents.{is_fluent}
 use Rattle.certificate_text.specs.Certificates.{Certificate, IsClosedFor, are_potentials, is_claim, is_number, is_state_line, is_weight, keeps_limits}
 use Rattle.certificate_text.specs.CertificateRefusals.{IsPlanWithin}
+use Rattle.model.proofs.ListLemmas.{Contains-got}
 use Rattle.model.proofs.Tests.{passes_got}
 use Rattle.certificate_text.specs.CertificateText.{WeightedAtom, TextLine, atom, listed, last, after_blank, is_line, line_text, longest_line, most_atoms, most_states, text_lines}
 use Rattle.certificate_text.specs.CertificateNames.{AllName, AreNumbersOf, IsNumberOf, IsTextOf, Names, are_atoms_of, certificate_text, has_atom_names, named, named_atom, predicate_name, predicate_names, weighted_atom}
@@ -31,12 +33,6 @@ use Rattle.certificate_listing.proofs.SplitLemmas.{weight_short}
 
 -- ---- the number of a name
 
--- a test passes at some place
-passes_somewhere : (test : Name → Bool) (names : List Name) (k : ℕ) (name : Name) → slice_get names k ≡ Some name → test name ≡ true → list_any test names ≡ true
-passes_somewhere test [] k name at passes = absurd (cc)
-passes_somewhere test (first ∷ names) zero name at passes = let same : first ≡ name = cc in or_left (test first) (list_any test names) (ap test same ∙ passes)
-passes_somewhere test (first ∷ names) (suc k) name at passes = or_right (test first) (list_any test names) (passes_somewhere test names k name at passes)
-
 -- the first of names that differ is none of the others
 none_same : (first : Name) (names : List Name) (k : ℕ) (name : Name) → not (list_any (is_same first) names) ≡ true → slice_get names k ≡ Some name → is_same name first ≡ false
 none_same first names k name none at = by_test (is_same name first) refl
@@ -44,8 +40,7 @@ none_same first names k name none at = by_test (is_same name first) refl
     by_test : (t : Bool) → is_same name first ≡ t → t ≡ false
     by_test false e = refl
     by_test true e =
-        let same : name ≡ first = same_text name first (sym e) in
-        let among = passes_somewhere (is_same first) names k name at (ap (λ n. is_same first n) same ∙ nat_list_eq_equiv.refl first) in
+        let among = list_any-from_Contains nat_list_eq_equiv first names (subst (Contains names) (same_text name first (sym e)) (Contains-got names k name at)) in
         absurd (true≢false (sym none ∙ ap not among))
 
 -- of names that differ each is the first that is the same
@@ -66,19 +61,14 @@ record IsNameAt (names : List Name) (name : Name) (k : ℕ) : Type 0 where
 
 name_at : {X : Type 0} (name_of : X → Name) (xs : List X) (k : ℕ) (x : X) → are_lower_names (map name_of xs) ≡ true → slice_get xs k ≡ Some x
     → IsNameAt (map name_of xs) (option_map_or name_of (slice_get xs k) []) k
-name_at {X = X} name_of xs k x names at =
+name_at name_of xs k x names at =
     let (lower, differs) = and_parts (list_all is_lower_name (map name_of xs)) (differ (map name_of xs)) names in
-    let there : slice_get (map name_of xs) k ≡ Some (name_of x) = mapped xs k at in
+    let there : slice_get (map name_of xs) k ≡ Some (name_of x) = slice_get-map name_of xs k ∙ ap (option_map name_of) at in
     let number : IsNumberOf (map name_of xs) (name_of x) k =
     ap (λ j. cond (nat_lt j (length (map name_of xs))) (Some j) None) (first_at (map name_of xs) k (name_of x) differs there)
     ∙ ap (λ b. cond b (Some k) None) (lt-ltb k (length (map name_of xs)) (slice_get_within (map name_of xs) k (name_of x) there)) in
     subst (λ o. IsNameAt (map name_of xs) (option_map_or name_of o []) k) (sym at)
     (record { number = number; lower = passes_got is_lower_name (map name_of xs) k (name_of x) there lower })
-  where
-    mapped : (ys : List X) (j : ℕ) → slice_get ys j ≡ Some x → slice_get (map name_of ys) j ≡ Some (name_of x)
-    mapped [] j there = absurd (cc)
-    mapped (y ∷ ys) zero there = let same : y ≡ x = cc in ap (λ y. Some (name_of y)) same
-    mapped (y ∷ ys) (suc j) there = mapped ys j there
 
 some_got : {X : Type 0} (test : X → Bool) (o : Option X) → option_map_or test o false ≡ true → (x : X) × (o ≡ Some x) × (test x ≡ true)
 some_got test None is = absurd (true≢false (sym is))

@@ -149,13 +149,13 @@ one_list_of_lines (l ∷ lines) (m ∷ others) h g same =
 
 -- ---- certificates
 
-rise_more : (count more least : ℕ) (numbers : List ℕ) → count ≤ more → rise count least numbers ≡ true → rise more least numbers ≡ true
+pub rise_more : (count more least : ℕ) (numbers : List ℕ) → count ≤ more → rise count least numbers ≡ true → rise more least numbers ≡ true
 rise_more count more least [] few all = refl
 rise_more count more least (n ∷ numbers) few all =
     let (above, below, rest) = rise_parts count least n numbers all in
     λ i. le-leb least n above i && lt-ltb n more (omega (arith, below, few)) i && rise_more count more (n + 1) numbers few rest i
 
-line_more : (count : ℕ) → count ≤ most_atoms → (line : TextLine) → is_line count line ≡ true → is_line most_atoms line ≡ true
+pub line_more : (count : ℕ) → count ≤ most_atoms → (line : TextLine) → is_line count line ≡ true → is_line most_atoms line ≡ true
 line_more count few version is = refl
 line_more count few (claims claim) is = is
 line_more count few (constant k) is = is
@@ -165,7 +165,7 @@ line_more count few (listed l) is =
     λ i. first i && rise_more count most_atoms 0 l.atoms few rising i
 line_more count few (last n) is = is
 
-lines_more : (count : ℕ) → count ≤ most_atoms → (lines : List TextLine) → list_all (is_line count) lines ≡ true → list_all (is_line most_atoms) lines ≡ true
+pub lines_more : (count : ℕ) → count ≤ most_atoms → (lines : List TextLine) → list_all (is_line count) lines ≡ true → list_all (is_line most_atoms) lines ≡ true
 lines_more count few [] all = refl
 lines_more count few (line ∷ lines) all =
     let (here, more) = and_parts (is_line count line) (list_all (is_line count) lines) all in

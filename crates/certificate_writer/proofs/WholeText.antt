@@ -39,6 +39,13 @@ module _ (task : Task) (c : Certificate) where
       one_by_one v k z a s l = simp append_assoc
 
 -- What is passed on, and what is a beginning of the text, after each of the parts.
+-- the text up to the last atom, and up to the last state
+abbrev pub to_atoms : Task → Certificate → List ℕ
+to_atoms task c = head c.claim c.potentials.constant ++ flat_map (atom_line task) (zip c.atoms c.potentials.weights)
+
+abbrev pub to_states : Task → Certificate → List ℕ
+to_states task c = to_atoms task c ++ flat_map state_line c.lines
+
 module _ (before now : Option (List ℕ)) (task : Task) (c : Certificate) where
   pub head_held : (held held_after : List ℕ) → held ≡ [] → held_after ≡ held ++ head c.claim c.potentials.constant → IsPassedOn before before [] held_after (head c.claim c.potentials.constant)
   head_held held held_after none is =
@@ -46,7 +53,7 @@ module _ (before now : Option (List ℕ)) (task : Task) (c : Certificate) where
 
   pub atoms_held : (held held_after : List ℕ) → IsPassedOn before before [] held (head c.claim c.potentials.constant)
       → IsPassedOn before now held held_after (flat_map (atom_line task) (zip c.atoms c.potentials.weights))
-      → IsPassedOn before now [] held_after (head c.claim c.potentials.constant ++ flat_map (atom_line task) (zip c.atoms c.potentials.weights))
+      → IsPassedOn before now [] held_after (to_atoms task c)
   atoms_held held held_after first then = passed_then before before [] held (head c.claim c.potentials.constant) first now held_after (flat_map (atom_line task) (zip c.atoms c.potentials.weights)) then
 
   pub atoms_begun : (held : List ℕ) → IsPassedOn before before [] held (head c.claim c.potentials.constant)
@@ -55,28 +62,28 @@ module _ (before now : Option (List ℕ)) (task : Task) (c : Certificate) where
       let later = flat_map state_line c.lines ++ whole_line (last (length c.lines)) in
       subst (AppendsBeginning before now)
       (sym (append_assoc (head c.claim c.potentials.constant) (flat_map (atom_line task) (zip c.atoms c.potentials.weights)) later)
-      ∙ sym (append_assoc (head c.claim c.potentials.constant ++ flat_map (atom_line task) (zip c.atoms c.potentials.weights)) (flat_map state_line c.lines) (whole_line (last (length c.lines)))) ∙ sym (parts task c))
+      ∙ sym (append_assoc (to_atoms task c) (flat_map state_line c.lines) (whole_line (last (length c.lines)))) ∙ sym (parts task c))
       (passed_beginning before before [] held (head c.claim c.potentials.constant) first now (flat_map (atom_line task) (zip c.atoms c.potentials.weights)) later begun)
 
-  pub states_held : (after : Option (List ℕ)) (held held_after : List ℕ) → IsPassedOn before now [] held (head c.claim c.potentials.constant ++ flat_map (atom_line task) (zip c.atoms c.potentials.weights))
+  pub states_held : (after : Option (List ℕ)) (held held_after : List ℕ) → IsPassedOn before now [] held (to_atoms task c)
       → IsPassedOn now after held held_after (flat_map state_line c.lines)
-      → IsPassedOn before after [] held_after ((head c.claim c.potentials.constant ++ flat_map (atom_line task) (zip c.atoms c.potentials.weights)) ++ flat_map state_line c.lines)
+      → IsPassedOn before after [] held_after (to_states task c)
   states_held after held held_after first then = passed_then before now [] held _ first after held_after (flat_map state_line c.lines) then
 
-  pub states_begun : (after : Option (List ℕ)) (held : List ℕ) → IsPassedOn before now [] held (head c.claim c.potentials.constant ++ flat_map (atom_line task) (zip c.atoms c.potentials.weights))
+  pub states_begun : (after : Option (List ℕ)) (held : List ℕ) → IsPassedOn before now [] held (to_atoms task c)
       → AppendsBeginning now after (held ++ flat_map state_line c.lines) → AppendsBeginning before after (certificate_text task c)
   states_begun after held first begun =
       let whole_end = whole_line (last (length c.lines)) in
       subst (AppendsBeginning before after)
-      (sym (append_assoc (head c.claim c.potentials.constant ++ flat_map (atom_line task) (zip c.atoms c.potentials.weights)) (flat_map state_line c.lines) whole_end) ∙ sym (parts task c))
+      (sym (append_assoc (to_atoms task c) (flat_map state_line c.lines) whole_end) ∙ sym (parts task c))
       (passed_beginning before now [] held _ first after (flat_map state_line c.lines) whole_end begun)
 
   -- nothing more is written
-  pub last_begun : (held : List ℕ) → IsPassedOn before now [] held ((head c.claim c.potentials.constant ++ flat_map (atom_line task) (zip c.atoms c.potentials.weights)) ++ flat_map state_line c.lines)
+  pub last_begun : (held : List ℕ) → IsPassedOn before now [] held (to_states task c)
       → AppendsBeginning before now (certificate_text task c)
   last_begun held first = subst (AppendsBeginning before now) (sym (parts task c)) (passed_partly before now [] held _ first (whole_line (last (length c.lines))))
 
-  pub all_held : (held held_after : List ℕ) → IsPassedOn before now [] held ((head c.claim c.potentials.constant ++ flat_map (atom_line task) (zip c.atoms c.potentials.weights)) ++ flat_map state_line c.lines)
+  pub all_held : (held held_after : List ℕ) → IsPassedOn before now [] held (to_states task c)
       → held_after ≡ held ++ whole_line (last (length c.lines)) → IsPassedOn before now [] held_after (certificate_text task c)
   all_held held held_after first is =
       subst (IsPassedOn before now [] held_after) (sym (parts task c)) (passed_held before now [] held _ first held_after (whole_line (last (length c.lines))) is)

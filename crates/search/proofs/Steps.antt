@@ -239,6 +239,17 @@ pub stands_still : {S : Type 0} (states states' : List S) (all all' : List Node)
 stands_still states states' all all' i n s at continues stands =
     (found_of-get states' all' i n (continues.stays n at)).0 ∙ sym (found_of-get states all i n at).0 ∙ stands
 
+-- the state whose turn it is: it waits, and of those that wait none has a lesser sum; the others are in the queue that is left
+pub record IsNext {S : Type 0} (value : S → ℕ) (states : List S) (all : List Node) (queue' : List Waiting) (turn : Turn) : Type 0 where
+  pub found : Found S
+  pub stands : slice_get (found_of states all) turn.id.0 ≡ Some found
+  pub state : slice_get states turn.id.0 ≡ Some found.state
+  pub node : slice_get all turn.id.0 ≡ Some found.node
+  pub waits : found.node.is_expanded ≡ false
+  pub least : (k : ℕ) (n : Found S) → slice_get (found_of states all) k ≡ Some n → n.node.is_expanded ≡ false → found.node.cost + value found.state ≤ n.node.cost + value n.state
+  pub rest : (k : ℕ) (n : Found S) → slice_get (found_of states all) k ≡ Some n → n.node.is_expanded ≡ false → k ≢ turn.id.0 → Contains queue' (entry n.node.cost (value n.state) k)
+  pub estimate : turn.estimate ≡ value found.state
+
 -- whose turn it is
 module _ {S : Type 0} (t : System S ℕ) (value : S → ℕ) (states : List S) (all : List Node) (queue : List Waiting)
     (one_each : length all ≡ length states) (nodes : AreNodes t value (found_of states all) queue) where
@@ -255,11 +266,7 @@ module _ {S : Type 0} (t : System S ℕ) (value : S → ℕ) (states : List S) (
   pub none_waits : ((w : Waiting) → Contains queue w → ¬ IsCurrent all w) → (k : ℕ) (n : Found S) → slice_get (found_of states all) k ≡ Some n → n.node.is_expanded ≡ false → ⊥
   none_waits none k n at waits = none (entry n.node.cost (value n.state) k) (nodes.queued k n at waits) (current_entry k n at waits)
 
-  pub at_turn : (queue' : List Waiting) (turn : Turn) → TakesNext queue queue' all turn
-      → (n : Found S) × (slice_get (found_of states all) turn.id.0 ≡ Some n) × (n.node.is_expanded ≡ false)
-      × ((k : ℕ) (m : Found S) → slice_get (found_of states all) k ≡ Some m → m.node.is_expanded ≡ false → n.node.cost + value n.state ≤ m.node.cost + value m.state)
-      × ((k : ℕ) (m : Found S) → slice_get (found_of states all) k ≡ Some m → m.node.is_expanded ≡ false → k ≢ turn.id.0 → Contains queue' (entry m.node.cost (value m.state) k))
-      × (turn.estimate ≡ value n.state)
+  pub at_turn : (queue' : List Waiting) (turn : Turn) → TakesNext queue queue' all turn → IsNext value states all queue' turn
   at_turn queue' turn takes =
       let i = turn.id.0 in
       let (node, stands, sums, waits) = takes.current in
@@ -269,14 +276,26 @@ module _ {S : Type 0} (t : System S ℕ) (value : S → ℕ) (states : List S) (
       let one : Found S = record { state = s.0; node = node } in
       let at_one : slice_get (found_of states all) i ≡ Some one = get-found_of states all i s.0 node s.1 is_node in
       let same : of.found ≡ one = same_Some of.found one (sym of.stands ∙ ap (slice_get (found_of states all)) takes.stands ∙ at_one) in
-      let estimate : estimate_of takes.next ≡ value one.state = of.estimate ∙ ap (λ (x : Found S). value x.state) same in (
-        one,
-        at_one,
-        waits,
-        (λ k m at waits. omega (arith, sums, estimate, takes.least (entry m.node.cost (value m.state) k) (nodes.queued k m at waits) (current_entry k m at waits))),
-        (λ k m at waits elsewhere. takes.rest (entry m.node.cost (value m.state) k) (nodes.queued k m at waits) (current_entry k m at waits) elsewhere),
-        sym takes.estimate ∙ estimate,
-      )
+      let estimate : estimate_of takes.next ≡ value one.state = of.estimate ∙ ap (λ (x : Found S). value x.state) same in
+      record {
+        found = one;
+        stands = at_one;
+        state = s.1;
+        node = is_node;
+        waits = waits;
+        least = λ k m at waits. omega (arith, sums, estimate, takes.least (entry m.node.cost (value m.state) k) (nodes.queued k m at waits) (current_entry k m at waits));
+        rest = λ k m at waits elsewhere. takes.rest (entry m.node.cost (value m.state) k) (nodes.queued k m at waits) (current_entry k m at waits) elsewhere;
+        estimate = sym takes.estimate ∙ estimate;
+      }
+
+-- what holds where the turn of a state has begun: of what was found, it alone is marked as expanded
+pub record HasBegun {S : Type 0} (t : System S ℕ) (value : S → ℕ) (before : List (Found S)) (states : List S) (all : List Node) (queue : List Waiting) (i : ℕ) (one : Found S) : Type 0 where
+  pub one_each : length all ≡ length states
+  pub nodes : AreNodes t value (found_of states all) queue
+  pub turn : IsTurn (found_of states all) i
+  pub others_open : AreOpenBut t (found_of states all) i
+  pub stands : slice_get (found_of states all) i ≡ Some (marked one)
+  pub count : expanded_count (found_of states all) ≡ expanded_count before + 1
 
 -- a turn begins
 module _ {S : Type 0} (t : System S ℕ) (value : S → ℕ) (consistent : IsConsistent t value) (states : List S) (all : List Node) (queue queue' : List Waiting)
@@ -287,8 +306,7 @@ module _ {S : Type 0} (t : System S ℕ) (value : S → ℕ) (consistent : IsCon
     (entries : All (IsEntryOf value (found_of states all)) queue') where
   pub turn_begins : t.meets_goal one.state ≡ false → AreOpen t (found_of states all) → (states' : List S) (all' : List Node)
       → states' ≡ states → all' ≡ set all i (expanded one.node)
-      → (length all' ≡ length states') × AreNodes t value (found_of states' all') queue' × IsTurn (found_of states' all') i
-      × AreOpenBut t (found_of states' all') i × (slice_get (found_of states' all') i ≡ Some (marked one)) × (expanded_count (found_of states' all') ≡ expanded_count (found_of states all) + 1)
+      → HasBegun t value (found_of states all) states' all' queue' i one
   turn_begins no_goal are_open states' all' is_states is_all =
       let now : Node = expanded one.node in
       let marks : found_of states (set all i now) ≡ set (found_of states all) i (marked one) = found_of-set states all i one now stands in
@@ -301,12 +319,13 @@ module _ {S : Type 0} (t : System S ℕ) (value : S → ℕ) (consistent : IsCon
       let count : expanded_count after ≡ expanded_count (found_of states all) + 1 = ap expanded_count is ∙ count-mark (found_of states all) i one stands waits in
       let count_states : length states' ≡ length states = ap length is_states in
       let count_all : length all' ≡ length all = ap length is_all ∙ length-set all i now in
-      let way = cheapest_way t value consistent (found_of states all) are_open (one.node.cost + value one.state) least queue nodes i one stands (omega arith) in (
-        omega (arith, count_states, count_all, one_each),
-        nodes_marked (found_of states all) after i one stands waits here others count t value queue queue' nodes no_goal
-            (no_plan_cheaper t value states all one_each queue nodes consistent one are_open least) way rest entries,
-        turn_marked (found_of states all) after i one stands waits here others count t value queue queue' nodes,
-        open_but_marked (found_of states all) after i one stands waits here others count t value queue queue' nodes are_open,
-        here,
-        count,
-      )
+      let way = cheapest_way t value consistent (found_of states all) are_open (one.node.cost + value one.state) least queue nodes i one stands (omega arith) in
+      record {
+        one_each = omega (arith, count_states, count_all, one_each);
+        nodes = nodes_marked (found_of states all) after i one stands waits here others count t value queue queue' nodes no_goal
+            (no_plan_cheaper t value states all one_each queue nodes consistent one are_open least) way rest entries;
+        turn = turn_marked (found_of states all) after i one stands waits here others count t value queue queue' nodes;
+        others_open = open_but_marked (found_of states all) after i one stands waits here others count t value queue queue' nodes are_open;
+        stands = here;
+        count = count;
+      }

@@ -10,7 +10,7 @@ use Rattle.model.specs.Runs.{System}
 use Rattle.search.specs.Estimates.{IsConsistent, value_by}
 use Rattle.search.specs.Outcome.{AreFound, AreExpandedWithin}
 use Rattle.search.specs.Nodes.{Found, found_of, expanded_count, IsEntryOf}
-use Rattle.search.proofs.Linked.{found_of-get, length-found_of}
+use Rattle.search.proofs.Linked.{length-found_of}
 use Rattle.search.proofs.Closed.{descending, optimal, unsolvable}
 use Rattle.search.proofs.Queue.{All-among}
 use Rattle.search.proofs.Steps.{entries_of, at_turn, none_waits}
@@ -27,83 +27,50 @@ next_waiting-requires-clause-heap g c =
 pub next_waiting-requires-clause-entries : goal.next_waiting-requires-clause-entries
 next_waiting-requires-clause-entries g c =
     let search = c.loop-turn.invariant.search in
-    let t = g.T.TransitionSystem.means c.args.system.now in
-    let value = value_by (g.E.Estimate.score_of c.args.estimate.now) in
-    let states = g.S.StateStore.states c.loop-turn.progress.store in
-    let all = c.loop-turn.progress.nodes.items in
-    let queue = heap_items c.loop-turn.progress.queue in
-    entries_of t value states all queue search.one_each search.nodes
+    entries_of _ _ _ _ _ search.one_each search.nodes
 
 pub get-requires-clause-there : goal.get-requires-clause-there
 get-requires-clause-there g c =
     let search = c.loop-turn.invariant.search in
-    let t = g.T.TransitionSystem.means c.args.system.now in
-    let value = value_by (g.E.Estimate.score_of c.args.estimate.now) in
-    let states = g.S.StateStore.states c.loop-turn.progress.store in
-    let all = c.loop-turn.progress.nodes.items in
-    let queue = heap_items c.loop-turn.progress.queue in
-    let id = c.in-Some.turn.id.0 in
-    let turn = at_turn t value states all queue search.one_each search.nodes (heap_items c.next_waiting.new.self.queue) c.in-Some.turn c.in-Some.ensures.some in
-    let parts = found_of-get states all id turn.0 turn.1 in
-    rw c.in-Some.ensures.store (slice_get_within states id turn.0.state parts.0)
+    let next = at_turn _ _ _ _ _ search.one_each search.nodes _ c.in-Some.turn c.in-Some.ensures.some in
+    rw c.in-Some.ensures.store (slice_get_within _ _ next.found.state next.state)
 
 pub index-requires : goal.index-requires
 index-requires g c =
     let search = c.loop-turn.invariant.search in
-    let t = g.T.TransitionSystem.means c.args.system.now in
-    let value = value_by (g.E.Estimate.score_of c.args.estimate.now) in
-    let states = g.S.StateStore.states c.loop-turn.progress.store in
-    let all = c.loop-turn.progress.nodes.items in
-    let queue = heap_items c.loop-turn.progress.queue in
-    let id = c.in-Some.turn.id.0 in
-    let turn = at_turn t value states all queue search.one_each search.nodes (heap_items c.next_waiting.new.self.queue) c.in-Some.turn c.in-Some.ensures.some in
-    let parts = found_of-get states all id turn.0 turn.1 in
-    omega (arith, slice_get_within all id turn.0.node parts.1, ap length c.in-Some.ensures.nodes, c.next_waiting.new.self.nodes.ok.0)
+    let next = at_turn _ _ _ _ _ search.one_each search.nodes _ c.in-Some.turn c.in-Some.ensures.some in
+    omega (arith, slice_get_within c.loop-turn.progress.nodes.items _ next.found.node next.node, ap length c.in-Some.ensures.nodes, c.next_waiting.new.self.nodes.ok.0)
 
 pub into_plan-requires-clause-descending : goal.into_plan-requires-clause-descending
 into_plan-requires-clause-descending g c =
     let search = c.loop-turn.invariant.search in
-    let t = g.T.TransitionSystem.means c.args.system.now in
-    let value = value_by (g.E.Estimate.score_of c.args.estimate.now) in
-    let states = g.S.StateStore.states c.loop-turn.progress.store in
-    let all = c.loop-turn.progress.nodes.items in
-    let queue = heap_items c.loop-turn.progress.queue in
-    rw c.in-Some.ensures.nodes (descending t value states all search.one_each queue search.nodes)
+    rw c.in-Some.ensures.nodes (descending _ _ _ _ search.one_each _ search.nodes)
 
 pub into_plan-requires-clause-found : goal.into_plan-requires-clause-found
 into_plan-requires-clause-found g c =
     let search = c.loop-turn.invariant.search in
-    let t = g.T.TransitionSystem.means c.args.system.now in
-    let value = value_by (g.E.Estimate.score_of c.args.estimate.now) in
-    let states = g.S.StateStore.states c.loop-turn.progress.store in
-    let all = c.loop-turn.progress.nodes.items in
-    let queue = heap_items c.loop-turn.progress.queue in
-    let id = c.in-Some.turn.id.0 in
-    let turn = at_turn t value states all queue search.one_each search.nodes (heap_items c.next_waiting.new.self.queue) c.in-Some.turn c.in-Some.ensures.some in
-    let parts = found_of-get states all id turn.0 turn.1 in
-    rw c.in-Some.ensures.nodes (slice_get_within all id turn.0.node parts.1)
+    let next = at_turn _ _ _ _ _ search.one_each search.nodes _ c.in-Some.turn c.in-Some.ensures.some in
+    rw c.in-Some.ensures.nodes (slice_get_within _ _ next.found.node next.node)
 
 pub returns-then-meets_goal : goal.returns-then-meets_goal
 returns-then-meets_goal g c =
     let search = c.loop-turn.invariant.search in
+    let next = at_turn _ _ _ _ _ search.one_each search.nodes _ c.in-Some.turn c.in-Some.ensures.some in
     let t = g.T.TransitionSystem.means c.args.system.now in
     let value = value_by (g.E.Estimate.score_of c.args.estimate.now) in
     let states = g.S.StateStore.states c.loop-turn.progress.store in
     let all = c.loop-turn.progress.nodes.items in
-    let queue = heap_items c.loop-turn.progress.queue in
     let id = c.in-Some.turn.id.0 in
-    let turn = at_turn t value states all queue search.one_each search.nodes (heap_items c.next_waiting.new.self.queue) c.in-Some.turn c.in-Some.ensures.some in
-    let parts = found_of-get states all id turn.0 turn.1 in
     let got : slice_get states id ≡ Some (bits_of c.get.new.into) = rw c.in-Some.ensures.store at c.get.ensures.set in
-    let same : bits_of c.get.new.into ≡ turn.0.state = same_Some (bits_of c.get.new.into) turn.0.state (sym got ∙ parts.0) in
-    let meets : t.meets_goal turn.0.state ≡ true = ap t.meets_goal (sym same) ∙ sym c.meets_goal.ensures ∙ c.if-meets_goal.true in
+    let same : bits_of c.get.new.into ≡ next.found.state = same_Some (bits_of c.get.new.into) next.found.state (sym got ∙ next.state) in
+    let meets : t.meets_goal next.found.state ≡ true = ap t.meets_goal (sym same) ∙ sym c.meets_goal.ensures ∙ c.if-meets_goal.true in
     let read : c.index.result.now ≡ get_or all id c.index.result.now = rw c.in-Some.ensures.nodes at c.index.ensures in
-    let is_reached : c.index.result.now ≡ turn.0.node = read ∙ get_or_from_slice_get all id turn.0.node c.index.result.now parts.1 in
-    let same_cost : turn.0.node.cost ≡ c.index.result.now.cost = cc in
+    let is_reached : c.index.result.now ≡ next.found.node = read ∙ get_or_from_slice_get all id next.found.node c.index.result.now next.node in
+    let same_cost : next.found.node.cost ≡ c.index.result.now.cost = cc in
     let path = rw c.in-Some.ensures.nodes at c.in_ok-steps.ensures.path in
     let consistent = subst (λ (u : System (List Bool) ℕ). IsConsistent u value) c.requires.made_for (g.met.E.Estimate.is_consistent c.args.estimate.now) in
-    let best = optimal t value states all search.one_each queue search.nodes consistent id turn.0 c.in_ok-steps.steps.items c.args.max_states
-    c.loop-turn.invariant.are_open turn.1 turn.3 meets path c.loop-turn.invariant.within in (
+    let best = optimal _ _ _ _ search.one_each _ search.nodes consistent id next.found c.in_ok-steps.steps.items c.args.max_states
+    c.loop-turn.invariant.are_open next.stands next.least meets path c.loop-turn.invariant.within in (
       best.0,
       best.1 ∙ same_cost,
       rw (c.in_ok-steps.ensures.store, c.in-Some.ensures.store, c.in_ok-steps.ensures.nodes, c.in-Some.ensures.nodes)
@@ -116,41 +83,27 @@ returns-then-meets_goal g c =
 pub expand-requires-clause-turn : goal.expand-requires-clause-turn
 expand-requires-clause-turn g c =
     let search = c.loop-turn.invariant.search in
-    let t = g.T.TransitionSystem.means c.args.system.now in
-    let value = value_by (g.E.Estimate.score_of c.args.estimate.now) in
-    let states = g.S.StateStore.states c.loop-turn.progress.store in
-    let all = c.loop-turn.progress.nodes.items in
-    let queue = heap_items c.loop-turn.progress.queue in
-    let id = c.in-Some.turn.id.0 in
-    let turn = at_turn t value states all queue search.one_each search.nodes (heap_items c.next_waiting.new.self.queue) c.in-Some.turn c.in-Some.ensures.some in
-    let parts = found_of-get states all id turn.0 turn.1 in
+    let next = at_turn _ _ _ _ _ search.one_each search.nodes _ c.in-Some.turn c.in-Some.ensures.some in
     record {
       one_each = rw (c.in-Some.ensures.nodes, c.in-Some.ensures.store) search.one_each;
-      queue = queue;
+      queue = heap_items c.loop-turn.progress.queue;
       nodes = rw (c.in-Some.ensures.store, c.in-Some.ensures.nodes) search.nodes;
       heap = c.in-Some.ensures.heap;
-      found = turn.0;
-      stands = rw (c.in-Some.ensures.store, c.in-Some.ensures.nodes) turn.1;
-      waits = turn.2;
-      least = rw (c.in-Some.ensures.store, c.in-Some.ensures.nodes) turn.3;
-      rest = rw (c.in-Some.ensures.store, c.in-Some.ensures.nodes) turn.4;
+      found = next.found;
+      stands = rw (c.in-Some.ensures.store, c.in-Some.ensures.nodes) next.stands;
+      waits = next.waits;
+      least = rw (c.in-Some.ensures.store, c.in-Some.ensures.nodes) next.least;
+      rest = rw (c.in-Some.ensures.store, c.in-Some.ensures.nodes) next.rest;
       entries = rw (c.in-Some.ensures.store, c.in-Some.ensures.nodes)
-          (All-among (IsEntryOf value (found_of states all)) queue (heap_items c.next_waiting.new.self.queue) c.in-Some.ensures.kept search.nodes.entries);
+          (All-among (IsEntryOf (value_by (g.E.Estimate.score_of c.args.estimate.now)) (found_of (g.S.StateStore.states c.loop-turn.progress.store) c.loop-turn.progress.nodes.items)) _ _ c.in-Some.ensures.kept search.nodes.entries);
     }
 
 pub expand-requires-clause-value : goal.expand-requires-clause-value
 expand-requires-clause-value g c =
     let search = c.loop-turn.invariant.search in
-    let t = g.T.TransitionSystem.means c.args.system.now in
-    let value = value_by (g.E.Estimate.score_of c.args.estimate.now) in
-    let states = g.S.StateStore.states c.loop-turn.progress.store in
-    let all = c.loop-turn.progress.nodes.items in
-    let queue = heap_items c.loop-turn.progress.queue in
-    let id = c.in-Some.turn.id.0 in
-    let turn = at_turn t value states all queue search.one_each search.nodes (heap_items c.next_waiting.new.self.queue) c.in-Some.turn c.in-Some.ensures.some in
-    let parts = found_of-get states all id turn.0 turn.1 in
-    let got : slice_get states id ≡ Some (bits_of c.get.new.into) = rw c.in-Some.ensures.store at c.get.ensures.set in
-    turn.5 ∙ ap value (sym (same_Some (bits_of c.get.new.into) turn.0.state (sym got ∙ parts.0)))
+    let next = at_turn _ _ _ _ _ search.one_each search.nodes _ c.in-Some.turn c.in-Some.ensures.some in
+    let got : slice_get (g.S.StateStore.states c.loop-turn.progress.store) c.in-Some.turn.id.0 ≡ Some (bits_of c.get.new.into) = rw c.in-Some.ensures.store at c.get.ensures.set in
+    next.estimate ∙ ap (value_by (g.E.Estimate.score_of c.args.estimate.now)) (sym (same_Some (bits_of c.get.new.into) next.found.state (sym got ∙ next.state)))
 
 pub expand-requires-clause-no_goal : goal.expand-requires-clause-no_goal
 expand-requires-clause-no_goal g c = sym c.meets_goal.ensures ∙ c.if-meets_goal.false
@@ -165,12 +118,8 @@ expand-requires-clause-within g c =
 
 pub loop-turn-smaller : goal.loop-turn-smaller
 loop-turn-smaller g c =
-    let search = c.loop-turn.invariant.search in
-    let t = g.T.TransitionSystem.means c.args.system.now in
-    let value = value_by (g.E.Estimate.score_of c.args.estimate.now) in
     let states = g.S.StateStore.states c.loop-turn.progress.store in
     let all = c.loop-turn.progress.nodes.items in
-    let queue = heap_items c.loop-turn.progress.queue in
     let listed : c.in_ok-expand.field-0 ≡ true = c.if-not-branch.false in
     let expands = rw listed at c.in_ok-expand.ensures.listed in
     let after = found_of (g.S.StateStore.states c.expand.new.self.store) c.expand.new.self.nodes.items in
@@ -188,12 +137,8 @@ loop-turn-preserved g c =
 pub returns : goal.returns
 returns g c =
     let search = c.loop-turn.invariant.search in
-    let t = g.T.TransitionSystem.means c.args.system.now in
     let value = value_by (g.E.Estimate.score_of c.args.estimate.now) in
-    let states = g.S.StateStore.states c.loop-turn.progress.store in
-    let all = c.loop-turn.progress.nodes.items in
-    let queue = heap_items c.loop-turn.progress.queue in
     let consistent = subst (λ (u : System (List Bool) ℕ). IsConsistent u value) c.requires.made_for (g.met.E.Estimate.is_consistent c.args.estimate.now) in
-    let result = unsolvable t value states all search.one_each queue search.nodes consistent c.args.max_states c.loop-turn.invariant.are_open
-    (none_waits t value states all queue search.one_each search.nodes c.in_default.ensures.none) c.loop-turn.invariant.within in
+    let result = unsolvable _ _ _ _ search.one_each _ search.nodes consistent c.args.max_states c.loop-turn.invariant.are_open
+    (none_waits _ _ _ _ _ search.one_each search.nodes c.in_default.ensures.none) c.loop-turn.invariant.within in
     (result.0, rw (c.into_states.ensures.store, c.in_default.ensures.store, c.into_states.ensures.nodes, c.in_default.ensures.nodes) result.1)

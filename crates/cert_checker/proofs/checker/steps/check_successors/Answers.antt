@@ -1,11 +1,15 @@
 use Rattle.certificate_listing.specs.Listing.{store_in}
-use Rattle.std.proofs.Common.{◌≡◌, ◌∙◌, ◌+◌, None, get_or, refl, subst, sym, arith}
+use Rattle.std.proofs.Common.{◌≡◌, ◌+◌, ℕ, None, Some, map, get_or, refl, subst, sym, arith}
 use Rattle.std.proofs.lemmas.List.{get_or_default}
 use Rattle.packed_state.specs.Packed.{bits_of}
 use Rattle.certificate_listing.specs.declared.refusal.RefusalCode.TheVariants.{SuccessorMissing, SuccessorDearer}
+use Rattle.cert_checker.specs.CertChecker.{IsFirstToLeave}
 use Rattle.cert_checker.specs.CheckedLines.{IsListedAt}
-use Rattle.cert_checker.specs.PackedListing.{task_at, atoms_at, certificate_at, state_at}
-use Rattle.model.specs.Meaning.{State, system_of}
+use Rattle.cert_checker.specs.PackedListing.{IsPacked, task_at, atoms_at, certificate_at, state_at}
+use Rattle.model.specs.Task.{Instance}
+use Rattle.model.specs.Meaning.{State, step, system_of}
+use Rattle.model.specs.Grounding.{ground_system}
+use Rattle.model.specs.Instances.{successors_of}
 use Rattle.model.specs.Claims.{Line}
 use Rattle.certificate_text.specs.Certificates.{lines_of}
 use Rattle.certificate_text.specs.CertificateRefusals.{successor_missing, successor_dearer, state_line, IsListed}
@@ -15,7 +19,45 @@ use Rattle.cert_checker.proofs.PackedListingLemmas.{listed_apart, successors_the
 use Rattle.cert_checker.proofs.OrderLemmas.{first_in_line, open_here}
 use Rattle.cert_checker.proofs.FirstLemmas.{told_first, first_to_leave}
 use Rattle.cert_checker.proofs.RefusalsLemmas.{told, leads_there, wrong_missing, wrong_dearer, listed_somewhere, not_within}
+use Rattle.cert_checker.proofs.checker.steps.check_successors.Goals.{After-successor}
 use Rattle.cert_checker.proofs.checker.steps.check_successors.Goals as goal
+
+-- the instance of the number, and the state to which it leads
+abbrev view : After-successor → ℕ → Instance × State
+view c = leads_by (task_at c.args.listing.now) (atoms_at c.args.listing.now) (bits_of c.args.state.now)
+
+abbrev there : After-successor → Instance × State
+there c = view c (get_or c.args.numbers.now c.loop-number.number-index 0)
+
+is_there : (c : After-successor) → (there c).1 ≡ state_at c.args.listing.now c.successor.new.into
+is_there c = next_by (task_at c.args.listing.now) (atoms_at c.args.listing.now) (bits_of c.args.state.now) (get_or c.args.numbers.now c.loop-number.number-index 0) _ c.successor.ensures
+
+cost_there : (c : After-successor) → (ground_system (task_at c.args.listing.now) (atoms_at c.args.listing.now)).cost (get_or c.args.numbers.now c.loop-number.number-index 0)
+    ≡ (system_of (task_at c.args.listing.now)).cost (there c).0
+cost_there c = cost_by (task_at c.args.listing.now) (atoms_at c.args.listing.now) (bits_of c.args.state.now) (get_or c.args.numbers.now c.loop-number.number-index 0) _ c.successor.ensures
+
+packed : (c : After-successor) → IsPacked c.args.listing.now c.successor.new.into
+packed c = step_packed (task_at c.args.listing.now) (atoms_at c.args.listing.now) (bits_of c.args.state.now) (get_or c.args.numbers.now c.loop-number.number-index 0) _ c.successor.ensures
+
+all_there : (c : After-successor) → map (view c) c.args.numbers.now ≡ successors_of (task_at c.args.listing.now) (state_at c.args.listing.now c.args.state.now)
+all_there c =
+    let listing = c.args.listing.now in
+    successors_there (task_at listing) (atoms_at listing) (certificate_at listing) (store_in listing.listing.now) listing.listed (bits_of c.args.state.now) c.args.numbers.now c.requires.numbers
+
+leads : (c : After-successor) → step (task_at c.args.listing.now) (state_at c.args.listing.now c.args.state.now) (there c).0 ≡ Some (there c).1
+leads c =
+    let numbers = c.args.numbers.now in
+    let k = c.loop-number.number-index in
+    leads_there (task_at c.args.listing.now) _ (view c) numbers k (get_or numbers k 0) c.loop-number-test.true (get_or_default numbers k 0 _ c.loop-number-test.true) (all_there c)
+
+-- of the successors it is the first that may be at fault
+leaves : (c : After-successor) → IsFirstToLeave (task_at c.args.listing.now) (certificate_at c.args.listing.now) (state_line (certificate_at c.args.listing.now) c.args.place)
+    (record { state = state_at c.args.listing.now c.args.state.now; cost = c.args.cost; cut = None }) (there c).0 (there c).1
+leaves c =
+    let numbers = c.args.numbers.now in
+    let k = c.loop-number.number-index in
+    first_to_leave (task_at c.args.listing.now) (certificate_at c.args.listing.now) c.args.place _ c.args.cost (view c) numbers k (get_or numbers k 0) c.requires.listed c.loop-number-test.true
+    (get_or_default numbers k 0 _ c.loop-number-test.true) (all_there c) c.loop-number.invariant.listed
 
 pub loop-number-init : goal.loop-number-init
 loop-number-init c = record {
@@ -34,21 +76,17 @@ successor-requires-clause-applicable c =
 pub loop-number-preserved : goal.loop-number-preserved
 loop-number-preserved c =
     let listing = c.args.listing.now in
-    let task = task_at listing in
     let cert = certificate_at listing in
-    let bits = bits_of c.args.state.now in
     let numbers = c.args.numbers.now in
     let number = get_or numbers c.loop-number.number-index 0 in
-    let view = leads_by task (atoms_at listing) bits in
-    let next = bits_of c.successor.new.into in
-    let most = c.args.cost + (system_of task).cost (view number).0 in
-    let listed = subst (λ s. IsListedAt (lines_of task cert) s c.in-Some.listed) (sym (next_by task (atoms_at listing) bits number next c.successor.ensures)) c.in-Some.ensures in
-    let step : c.from.result ≡ (system_of task).cost (view number).0 = c.from.ensures ∙ c.cost.ensures ∙ cost_by task (atoms_at listing) bits number next c.successor.ensures in
+    let here = (goal.at.loop-number-preserved c).After-successor in
+    let step = cost_there here in
+    let listed = subst (λ s. IsListedAt (lines_of (task_at listing) cert) s c.in-Some.listed) (sym (is_there here)) c.in-Some.ensures in
     record {
-      next = step_packed task (atoms_at listing) bits number next c.successor.ensures;
-      listed = AllListed-more task cert c.args.cost view numbers c.loop-number.number-index number c.loop-number-test.true
+      next = packed here;
+      listed = AllListed-more (task_at listing) cert c.args.cost (view here) numbers c.loop-number.number-index number c.loop-number-test.true
           (get_or_default numbers c.loop-number.number-index 0 number c.loop-number-test.true)
-          c.loop-number.invariant.listed (listed_within (lines_of task cert) (view number).1 c.in-Some.listed most listed (omega (arith, step, c.if-listed-cost.false)));
+          c.loop-number.invariant.listed (listed_within (lines_of (task_at listing) cert) (there here).1 c.in-Some.listed _ listed (omega (arith, step, c.from.ensures, c.cost.ensures, c.if-listed-cost.false)));
     }
 
 pub returns-clause-next : goal.returns-clause-next
@@ -65,51 +103,33 @@ returns-clause-right c =
 
 pub returns-in_default-clause-next : goal.returns-in_default-clause-next
 returns-in_default-clause-next c =
-    let listing = c.args.listing.now in
-    let number = get_or c.args.numbers.now c.loop-number.number-index 0 in
-    step_packed (task_at listing) (atoms_at listing) (bits_of c.args.state.now) number (bits_of c.successor.new.into) c.successor.ensures
+    packed (goal.at.returns-in_default-clause-next c).After-successor
 
 pub returns-in_default-clause-wrong : goal.returns-in_default-clause-wrong
 returns-in_default-clause-wrong c =
     let listing = c.args.listing.now in
     let task = task_at listing in
     let cert = certificate_at listing in
-    let state = state_at listing c.args.state.now in
-    let bits = bits_of c.args.state.now in
-    let numbers = c.args.numbers.now in
-    let number = get_or numbers c.loop-number.number-index 0 in
-    let view = leads_by task (atoms_at listing) bits in
-    let next = bits_of c.successor.new.into in
+    let here = (goal.at.returns-in_default-clause-wrong c).After-successor in
     told task cert c.state_line.result SuccessorMissing (state_line cert c.args.place) c.state_line.ensures
-    (wrong_missing task cert c.args.place state c.args.cost (view number).0 (view number).1 c.requires.listed
-    (leads_there task state view numbers c.loop-number.number-index number c.loop-number-test.true (get_or_default numbers c.loop-number.number-index 0 number c.loop-number-test.true)
-    (successors_there task (atoms_at listing) cert (store_in listing.listing.now) listing.listed bits numbers c.requires.numbers))
-    (subst (λ s. ¬ IsListed (lines_of task cert) s) (sym (next_by task (atoms_at listing) bits number next c.successor.ensures)) c.in_default.ensures))
+    (wrong_missing task cert c.args.place (state_at listing c.args.state.now) c.args.cost (there here).0 (there here).1 c.requires.listed (leads here)
+    (subst (λ s. ¬ IsListed (lines_of task cert) s) (sym (is_there here)) c.in_default.ensures))
 
 pub returns-then-listed-cost-clause-wrong : goal.returns-then-listed-cost-clause-wrong
 returns-then-listed-cost-clause-wrong c =
     let listing = c.args.listing.now in
     let task = task_at listing in
     let cert = certificate_at listing in
-    let state = state_at listing c.args.state.now in
-    let bits = bits_of c.args.state.now in
-    let numbers = c.args.numbers.now in
-    let number = get_or numbers c.loop-number.number-index 0 in
-    let view = leads_by task (atoms_at listing) bits in
-    let next = bits_of c.successor.new.into in
-    let listed = subst (λ s. IsListedAt (lines_of task cert) s c.in-Some.listed) (sym (next_by task (atoms_at listing) bits number next c.successor.ensures)) c.in-Some.ensures in
-    let step : c.from.result ≡ (system_of task).cost (view number).0 = c.from.ensures ∙ c.cost.ensures ∙ cost_by task (atoms_at listing) bits number next c.successor.ensures in
+    let here = (goal.at.returns-then-listed-cost-clause-wrong c).After-successor in
+    let step = cost_there here in
+    let listed = subst (λ s. IsListedAt (lines_of task cert) s c.in-Some.listed) (sym (is_there here)) c.in-Some.ensures in
     told task cert c.state_line-then-listed-cost.result SuccessorDearer (state_line cert c.args.place) c.state_line-then-listed-cost.ensures
-    (wrong_dearer task cert c.args.place state c.args.cost (view number).0 (view number).1 c.in-Some.listed (listed_apart task (atoms_at listing) cert (store_in listing.listing.now) listing.listed) c.requires.listed
-    (leads_there task state view numbers c.loop-number.number-index number c.loop-number-test.true (get_or_default numbers c.loop-number.number-index 0 number c.loop-number-test.true)
-    (successors_there task (atoms_at listing) cert (store_in listing.listing.now) listing.listed bits numbers c.requires.numbers))
-    listed (omega (arith, step, c.if-listed-cost.true)))
+    (wrong_dearer task cert c.args.place (state_at listing c.args.state.now) c.args.cost (there here).0 (there here).1 c.in-Some.listed
+    (listed_apart task (atoms_at listing) cert (store_in listing.listing.now) listing.listed) c.requires.listed (leads here) listed (omega (arith, step, c.from.ensures, c.cost.ensures, c.if-listed-cost.true)))
 
 pub returns-then-listed-cost-clause-next : goal.returns-then-listed-cost-clause-next
 returns-then-listed-cost-clause-next c =
-    let listing = c.args.listing.now in
-    let number = get_or c.args.numbers.now c.loop-number.number-index 0 in
-    step_packed (task_at listing) (atoms_at listing) (bits_of c.args.state.now) number (bits_of c.successor.new.into) c.successor.ensures
+    packed (goal.at.returns-then-listed-cost-clause-next c).After-successor
 
 pub returns-in_default-clause-first : goal.returns-in_default-clause-first
 returns-in_default-clause-first c =
@@ -117,23 +137,11 @@ returns-in_default-clause-first c =
     let listing = c.args.listing.now in
     let task = task_at listing in
     let cert = certificate_at listing in
-    let state = state_at listing c.args.state.now in
-    let bits = bits_of c.args.state.now in
-    let numbers = c.args.numbers.now in
-    let number = get_or numbers c.loop-number.number-index 0 in
-    let view = leads_by task (atoms_at listing) bits in
-    let next = bits_of c.successor.new.into in
-    let line : Line State = record { state = state; cost = c.args.cost; cut = None } in
+    let line : Line State = record { state = state_at listing c.args.state.now; cost = c.args.cost; cut = None } in
+    let here = (goal.at.returns-in_default-clause-first c).After-successor in
     told_first task cert plan most c.state_line.result SuccessorMissing (state_line cert c.args.place) c.state_line.ensures
-    (first_in_line task cert plan most c.args.place successor_missing right refl (open_here task cert c.args.place line c.requires.listed refl c.requires.goal)) (
-      line,
-      (view number).0,
-      (view number).1,
-      first_to_leave task cert c.args.place state c.args.cost view numbers c.loop-number.number-index number c.requires.listed c.loop-number-test.true
-          (get_or_default numbers c.loop-number.number-index 0 number c.loop-number-test.true)
-          (successors_there task (atoms_at listing) cert (store_in listing.listing.now) listing.listed bits numbers c.requires.numbers) c.loop-number.invariant.listed,
-      subst (λ s. ¬ IsListed (lines_of task cert) s) (sym (next_by task (atoms_at listing) bits number next c.successor.ensures)) c.in_default.ensures,
-    )
+    (first_in_line task cert plan most c.args.place successor_missing right refl (open_here task cert c.args.place line c.requires.listed refl c.requires.goal))
+    (line, (there here).0, (there here).1, leaves here, subst (λ s. ¬ IsListed (lines_of task cert) s) (sym (is_there here)) c.in_default.ensures)
 
 pub returns-then-listed-cost-clause-first : goal.returns-then-listed-cost-clause-first
 returns-then-listed-cost-clause-first c =
@@ -141,24 +149,17 @@ returns-then-listed-cost-clause-first c =
     let listing = c.args.listing.now in
     let task = task_at listing in
     let cert = certificate_at listing in
-    let state = state_at listing c.args.state.now in
-    let bits = bits_of c.args.state.now in
-    let numbers = c.args.numbers.now in
-    let number = get_or numbers c.loop-number.number-index 0 in
-    let view = leads_by task (atoms_at listing) bits in
-    let next = bits_of c.successor.new.into in
-    let line : Line State = record { state = state; cost = c.args.cost; cut = None } in
-    let listed = subst (λ s. IsListedAt (lines_of task cert) s c.in-Some.listed) (sym (next_by task (atoms_at listing) bits number next c.successor.ensures)) c.in-Some.ensures in
-    let most_allowed = c.args.cost + (system_of task).cost (view number).0 in
-    let step : c.from.result ≡ (system_of task).cost (view number).0 = c.from.ensures ∙ c.cost.ensures ∙ cost_by task (atoms_at listing) bits number next c.successor.ensures in
+    let line : Line State = record { state = state_at listing c.args.state.now; cost = c.args.cost; cut = None } in
+    let here = (goal.at.returns-then-listed-cost-clause-first c).After-successor in
+    let step = cost_there here in
+    let listed = subst (λ s. IsListedAt (lines_of task cert) s c.in-Some.listed) (sym (is_there here)) c.in-Some.ensures in
     told_first task cert plan most c.state_line-then-listed-cost.result SuccessorDearer (state_line cert c.args.place) c.state_line-then-listed-cost.ensures
     (first_in_line task cert plan most c.args.place successor_dearer right refl (open_here task cert c.args.place line c.requires.listed refl c.requires.goal)) (
       line,
-      (view number).0,
-      (view number).1,
-      first_to_leave task cert c.args.place state c.args.cost view numbers c.loop-number.number-index number c.requires.listed c.loop-number-test.true
-          (get_or_default numbers c.loop-number.number-index 0 number c.loop-number-test.true)
-          (successors_there task (atoms_at listing) cert (store_in listing.listing.now) listing.listed bits numbers c.requires.numbers) c.loop-number.invariant.listed,
-      listed_somewhere (lines_of task cert) (view number).1 c.in-Some.listed listed,
-      not_within task cert (view number).1 c.in-Some.listed most_allowed (listed_apart task (atoms_at listing) cert (store_in listing.listing.now) listing.listed) listed (omega (arith, step, c.if-listed-cost.true)),
+      (there here).0,
+      (there here).1,
+      leaves here,
+      listed_somewhere (lines_of task cert) (there here).1 c.in-Some.listed listed,
+      not_within task cert (there here).1 c.in-Some.listed (c.args.cost + (system_of task).cost (there here).0) (listed_apart task (atoms_at listing) cert (store_in listing.listing.now) listing.listed)
+          listed (omega (arith, step, c.from.ensures, c.cost.ensures, c.if-listed-cost.true)),
     )

@@ -1,4 +1,4 @@
-use Rattle.std.proofs.Common.{rules, ◌≡◌, ℕ, Bool, List, ◌+◌, get_or, drop, sym, refl, ◌∙◌, subst, arith, Some, true, false}
+use Rattle.std.proofs.Common.{rules, ◌≡◌, ℕ, Bool, List, ◌+◌, get_or, drop, sym, ap, ◌∙◌, subst, arith, Some, true, false}
 use Rattle.std.specs.Prelude.{IsTrue, is_some}
 use Rattle.std.specs.BinaryHeap.{heap_items}
 use Rattle.std.proofs.lemmas.List.{drop_more, drop_all}
@@ -10,40 +10,53 @@ use Rattle.search.specs.Estimates.{IsConsistent, value_by}
 use Rattle.search.specs.Nodes.{found_of, marked}
 use Rattle.search.proofs.Linked.{found_of-get}
 use Rattle.search.proofs.Marked.{open_all}
-use Rattle.search.proofs.Steps.{turn_begins, left_start, left_more, left_end, stands_still, continues_same, continues_trans}
+use Rattle.search.proofs.Steps.{HasBegun, turn_begins, left_start, left_more, left_end, stands_still, continues_same, continues_trans}
+use Rattle.search.proofs.progress.Progress.expand.Given.{Over}
+use Rattle.search.proofs.progress.Progress.expand.Goals.{After-deref-action-items}
 use Rattle.search.proofs.progress.Progress.expand.Goals as goal
 
-pub loop-action-init : goal.loop-action-init
-loop-action-init g c =
+-- the state in the buffer is the one whose turn it is
+is_state : (g : Over) (c : After-deref-action-items g) → bits_of c.args.buffers.now.state ≡ c.requires.turn.found.state
+is_state g c =
+    let turn = c.requires.turn in
+    same_Some _ turn.found.state (sym c.requires.state ∙ (found_of-get (g.S.StateStore.states c.args.self.now.store) c.args.self.now.nodes.items c.args.turn.id.0 turn.found turn.stands).0)
+
+has_begun : (g : Over) (c : After-deref-action-items g) → HasBegun (g.T.TransitionSystem.means c.args.system.now) (value_by (g.E.Estimate.score_of c.args.estimate.now))
+    (found_of (g.S.StateStore.states c.args.self.now.store) c.args.self.now.nodes.items) (g.S.StateStore.states c.mark_expanded.new.self.store) c.mark_expanded.new.self.nodes.items
+    (heap_items c.args.self.now.queue) c.args.turn.id.0 c.requires.turn.found
+has_begun g c =
     let turn = c.requires.turn in
     let t = g.T.TransitionSystem.means c.args.system.now in
     let states = g.S.StateStore.states c.args.self.now.store in
     let all = c.args.self.now.nodes.items in
-    let parts = found_of-get states all c.args.turn.id.0 turn.found turn.stands in
-    let s = bits_of c.args.buffers.now.state in
-    let same : s ≡ turn.found.state = same_Some s turn.found.state (sym c.requires.state ∙ parts.0) in
-    let begun = c.mark_expanded.new.self in
-    let states' = g.S.StateStore.states begun.store in
-    let is_states : states' ≡ states = rw c.mark_expanded.ensures.store refl in
     let value = value_by (g.E.Estimate.score_of c.args.estimate.now) in
-    let consistent = subst (λ (u : System (List Bool) ℕ). IsConsistent u value) c.requires.made_for (g.met.E.Estimate.is_consistent c.args.estimate.now) in
-    let begins = turn_begins t value consistent states all turn.queue (heap_items c.args.self.now.queue) turn.one_each turn.nodes c.args.turn.id.0 turn.found turn.stands turn.waits turn.least turn.rest turn.entries
-    (subst (λ x. t.meets_goal x ≡ false) same c.requires.no_goal) c.requires.open states' begun.nodes.items is_states (c.mark_expanded.ensures.nodes turn.found.node parts.1) in
+    turn_begins t value (subst (λ (u : System (List Bool) ℕ). IsConsistent u value) c.requires.made_for (g.met.E.Estimate.is_consistent c.args.estimate.now)) states all
+    turn.queue _ turn.one_each turn.nodes _ turn.found turn.stands turn.waits turn.least turn.rest turn.entries
+    (subst (λ x. t.meets_goal x ≡ false) (is_state g c) c.requires.no_goal) c.requires.open _ _ (ap g.S.StateStore.states c.mark_expanded.ensures.store)
+    (c.mark_expanded.ensures.nodes turn.found.node (found_of-get states all _ turn.found turn.stands).1)
+
+pub loop-action-init : goal.loop-action-init
+loop-action-init g c =
+    let turn = c.requires.turn in
+    let begun = c.mark_expanded.new.self in
+    let nodes = found_of (g.S.StateStore.states begun.store) begun.nodes.items in
+    let begins = has_begun g (goal.at.loop-action-init g c).After-deref-action-items in
     record {
       expanding = record {
-        search = record { one_each = begins.0; nodes = rw c.mark_expanded.ensures.queue begins.1; heap = rw c.mark_expanded.ensures.queue turn.heap };
-        turn = begins.2;
-        others_open = begins.3;
+        search = record { one_each = begins.one_each; nodes = rw c.mark_expanded.ensures.queue begins.nodes; heap = rw c.mark_expanded.ensures.queue turn.heap };
+        turn = begins.turn;
+        others_open = begins.others_open;
       };
       within = rw c.mark_expanded.ensures.store c.requires.within;
-      continues = continues_same (found_of states' begun.nodes.items) c.args.turn.id.0;
+      continues = continues_same nodes c.args.turn.id.0;
       width = rw c.mark_expanded.ensures.store c.requires.width;
       state = c.requires.buffers.state;
       score = search rules;
       next = c.requires.buffers.next;
       stands = rw c.mark_expanded.ensures.store c.requires.state;
       left = rw c.deref-action-items.ensures.value
-          (left_start t (found_of states' begun.nodes.items) c.args.turn.id.0 (marked turn.found) begins.4 s c.applicable.new.into.items same c.in_ok-applicable.ensures);
+          (left_start (g.T.TransitionSystem.means c.args.system.now) nodes c.args.turn.id.0 (marked turn.found) begins.stands (bits_of c.args.buffers.now.state) c.applicable.new.into.items
+          (is_state g (goal.at.loop-action-init g c).After-deref-action-items) c.in_ok-applicable.ensures);
     }
 
 pub successor-requires-clause-applicable : goal.successor-requires-clause-applicable
@@ -93,20 +106,7 @@ loop-action-preserved g c =
 
 pub returns-clause-listed : goal.returns-clause-listed
 returns-clause-listed g c =
-    let turn = c.requires.turn in
     let t = g.T.TransitionSystem.means c.args.system.now in
-    let states = g.S.StateStore.states c.args.self.now.store in
-    let all = c.args.self.now.nodes.items in
-    let parts = found_of-get states all c.args.turn.id.0 turn.found turn.stands in
-    let s = bits_of c.args.buffers.now.state in
-    let same : s ≡ turn.found.state = same_Some s turn.found.state (sym c.requires.state ∙ parts.0) in
-    let begun = c.mark_expanded.new.self in
-    let states' = g.S.StateStore.states begun.store in
-    let is_states : states' ≡ states = rw c.mark_expanded.ensures.store refl in
-    let value = value_by (g.E.Estimate.score_of c.args.estimate.now) in
-    let consistent = subst (λ (u : System (List Bool) ℕ). IsConsistent u value) c.requires.made_for (g.met.E.Estimate.is_consistent c.args.estimate.now) in
-    let begins = turn_begins t value consistent states all turn.queue (heap_items c.args.self.now.queue) turn.one_each turn.nodes c.args.turn.id.0 turn.found turn.stands turn.waits turn.least turn.rest turn.entries
-    (subst (λ x. t.meets_goal x ≡ false) same c.requires.no_goal) c.requires.open states' begun.nodes.items is_states (c.mark_expanded.ensures.nodes turn.found.node parts.1) in
     let inv = c.loop-action.invariant in
     let e = inv.expanding in
     let nodes = found_of (g.S.StateStore.states c.loop-action.self.store) c.loop-action.self.nodes.items in
@@ -116,5 +116,5 @@ returns-clause-listed g c =
       search = e.search;
       are_open = open_all t nodes c.args.turn.id.0 e.turn.found e.turn.stands (left_end t nodes c.args.turn.id.0 e.turn.found e.turn.stands (drop c.loop-action.action-index numbers) none inv.left) e.others_open;
       within = inv.within;
-      count = inv.continues.count ∙ begins.5;
+      count = inv.continues.count ∙ (has_begun g (goal.at.returns-clause-listed g c).After-deref-action-items).count;
     }

@@ -1,4 +1,4 @@
-use Rattle.std.proofs.Common.{◌≡◌, ◌+◌, ◌<◌, ◌∷◌, length, ap, subst, refl, ◌∙◌, arith, vec_len, Some}
+use Rattle.std.proofs.Common.{◌≡◌, ◌+◌, ◌<◌, ◌≤◌, ◌∷◌, length, ap, sym, subst, refl, ◌∙◌, arith, vec_len, Some, false}
 use Rattle.std.specs.Prelude.{Contains, IsPermutation, slice_get}
 use Rattle.std.specs.BinaryHeap.{heap_items}
 use Rattle.std.proofs.lemmas.Option.{get_or_from_slice_get, slice_get_read, slice_get_within}
@@ -10,7 +10,43 @@ use Rattle.search.specs.Nodes.{entry, found_of, depth_of}
 use Rattle.search.proofs.Limit.{more_reachable}
 use Rattle.search.proofs.Linked.{found_of-get, length-found_of}
 use Rattle.search.proofs.Steps.{turn_limits, placed_new, placed_old, leads_from, stepped_new, stepped_cheaper, stepped_same}
+use Rattle.search.proofs.progress.Progress.reach.Given.{Over}
+use Rattle.search.proofs.progress.Progress.reach.Goals.{After-from, In-Some}
 use Rattle.search.proofs.progress.Progress.reach.Goals as goal
+
+-- the node of the parent was read
+read_parent : (g : Over) (c : After-from g) → c.index.result.now ≡ c.requires.expanding.turn.found.node
+read_parent g c =
+    let turn = c.requires.expanding.turn in
+    c.index.ensures ∙ get_or_from_slice_get c.args.self.now.nodes.items c.args.parent.now.id.0 turn.found.node c.index.result.now
+    (found_of-get (g.S.StateStore.states c.args.self.now.store) c.args.self.now.nodes.items c.args.parent.now.id.0 turn.found turn.stands).1
+
+-- what it costs, and how deep it is, leaves room for one step more
+limits : (g : Over) (c : After-from g) → (c.index.result.now.cost + 4294967295 ≤ 72057594021150720) × (depth_of c.index.result.now.origin + 1 ≤ 16777216)
+limits g c =
+    let e = c.requires.expanding in
+    let states = g.S.StateStore.states c.args.self.now.store in
+    let all = c.args.self.now.nodes.items in
+    subst (λ (n : Node). (n.cost + 4294967295 ≤ 72057594021150720) × (depth_of n.origin + 1 ≤ 16777216)) (sym (read_parent g c))
+    (turn_limits (found_of states all) c.args.parent.now.id.0 c.args.max_states e.turn (omega (arith, length-found_of states all e.search.one_each, c.requires.within)) c.requires.limit)
+
+-- the action leads from the state whose turn it is to the successor
+leads : (g : Over) (c : After-from g) → (g.T.TransitionSystem.means c.args.system.now).step c.requires.expanding.turn.found.state c.args.action ≡ Some (bits_of c.args.state.now)
+leads g c =
+    let turn = c.requires.expanding.turn in
+    let states = g.S.StateStore.states c.args.self.now.store in
+    leads_from (g.T.TransitionSystem.means c.args.system.now) states _ turn.found.state _ c.args.parent.now.id.0 c.args.action c.requires.parent
+    (found_of-get states c.args.self.now.nodes.items c.args.parent.now.id.0 turn.found turn.stands).0 c.requires.leads
+
+-- a state that is not new has its place, and a node
+was_listed : (g : Over) (c : In-Some g) → c.in-Some.is_new ≡ false → (slice_get (g.S.StateStore.states c.args.self.now.store) c.in-Some.id.0 ≡ Some (bits_of c.args.state.now))
+    × (g.S.StateStore.states c.place_of_state.new.store ≡ g.S.StateStore.states c.args.self.now.store) × (c.in-Some.id.0 < length c.args.self.now.nodes.items)
+was_listed g c is_old =
+    let states = g.S.StateStore.states c.args.self.now.store in
+    let s = bits_of c.args.state.now in
+    let placed : IsPlaced states (g.S.StateStore.states c.place_of_state.new.store) s c.in-Some.id.0 c.in-Some.is_new = rw c.in-Some.is at c.in_ok-id.ensures.placed in
+    let known = placed_old states _ s c.in-Some.id.0 c.in-Some.is_new is_old placed in
+    (known.0, known.1, omega (arith, slice_get_within states c.in-Some.id.0 s known.0, c.requires.expanding.search.one_each))
 
 pub index-requires : goal.index-requires
 index-requires g c =
@@ -21,57 +57,30 @@ index-requires g c =
 
 pub overflow_add-cost : goal.overflow_add-cost
 overflow_add-cost g c =
-    let e = c.requires.expanding in
-    let states = g.S.StateStore.states c.args.self.now.store in
-    let all = c.args.self.now.nodes.items in
-    let parts = found_of-get states all c.args.parent.now.id.0 e.turn.found e.turn.stands in
-    let read : c.index.result.now ≡ e.turn.found.node = c.index.ensures ∙ get_or_from_slice_get all c.args.parent.now.id.0 e.turn.found.node c.index.result.now parts.1 in
-    let limits = turn_limits (found_of states all) c.args.parent.now.id.0 c.args.max_states e.turn (omega (arith, length-found_of states all e.search.one_each, c.requires.within)) c.requires.limit in
-    let same : c.index.result.now.cost ≡ e.turn.found.node.cost = cc in
-    omega (arith, limits.0, same)
+    omega (arith, (limits g (goal.at.overflow_add-cost g c).After-from).0)
 
 pub overflow_add-depth : goal.overflow_add-depth
 overflow_add-depth g c =
-    let e = c.requires.expanding in
-    let states = g.S.StateStore.states c.args.self.now.store in
-    let all = c.args.self.now.nodes.items in
-    let parts = found_of-get states all c.args.parent.now.id.0 e.turn.found e.turn.stands in
-    let read : c.index.result.now ≡ e.turn.found.node = c.index.ensures ∙ get_or_from_slice_get all c.args.parent.now.id.0 e.turn.found.node c.index.result.now parts.1 in
-    let limits = turn_limits (found_of states all) c.args.parent.now.id.0 c.args.max_states e.turn (omega (arith, length-found_of states all e.search.one_each, c.requires.within)) c.requires.limit in
-    omega (arith, limits.1, c.depth-depth.ensures, ap (λ (n : Node). depth_of n.origin) read)
+    omega (arith, (limits g (goal.at.overflow_add-depth g c).After-from).1, c.depth-depth.ensures)
 
 pub returns-in_default-clause-listed : goal.returns-in_default-clause-listed
 returns-in_default-clause-listed g c =
     let e = c.requires.expanding in
     let states = g.S.StateStore.states c.args.self.now.store in
-    let all = c.args.self.now.nodes.items in
     let s = bits_of c.args.state.now in
-    let parts = found_of-get states all c.args.parent.now.id.0 e.turn.found e.turn.stands in
     let full : (¬ Contains states s) × (length states ≡ c.args.max_states) = rw c.in_default.is at c.in_ok-id.ensures.placed in
-    more_reachable (g.T.TransitionSystem.means c.args.system.now) (value_by (g.E.Estimate.score_of c.args.estimate.now)) states all (heap_items c.args.self.now.queue)
+    more_reachable (g.T.TransitionSystem.means c.args.system.now) (value_by (g.E.Estimate.score_of c.args.estimate.now)) states c.args.self.now.nodes.items (heap_items c.args.self.now.queue)
     e.search.one_each e.search.nodes c.args.parent.now.id.0 e.turn c.args.action s
-    (leads_from (g.T.TransitionSystem.means c.args.system.now) states (bits_of c.args.parent.now.state.now) e.turn.found.state s c.args.parent.now.id.0 c.args.action c.requires.parent parts.0 c.requires.leads) full.0 c.args.max_states full.1
+    (leads g (goal.at.returns-in_default-clause-listed g c).After-from) full.0 c.args.max_states full.1
 
 pub index-requires-else-is_new : goal.index-requires-else-is_new
 index-requires-else-is_new g c =
-    let e = c.requires.expanding in
-    let states = g.S.StateStore.states c.args.self.now.store in
-    let after = g.S.StateStore.states c.place_of_state.new.store in
-    let s = bits_of c.args.state.now in
-    let placed : IsPlaced states after s c.in-Some.id.0 c.in-Some.is_new = rw c.in-Some.is at c.in_ok-id.ensures.placed in
-    let known = placed_old states after s c.in-Some.id.0 c.in-Some.is_new c.if-is_new.false placed in
-    let within : c.in-Some.id.0 < vec_len c.args.self.now.nodes = omega (arith, slice_get_within states c.in-Some.id.0 s known.0, e.search.one_each, c.args.self.now.nodes.ok.0) in
+    let within : c.in-Some.id.0 < vec_len c.args.self.now.nodes = omega (arith, (was_listed g (goal.at.index-requires-else-is_new g c).In-Some c.if-is_new.false).2, c.args.self.now.nodes.ok.0) in
     within
 
 pub improve-requires-clause-found : goal.improve-requires-clause-found
 improve-requires-clause-found g c =
-    let e = c.requires.expanding in
-    let states = g.S.StateStore.states c.args.self.now.store in
-    let after = g.S.StateStore.states c.place_of_state.new.store in
-    let s = bits_of c.args.state.now in
-    let placed : IsPlaced states after s c.in-Some.id.0 c.in-Some.is_new = rw c.in-Some.is at c.in_ok-id.ensures.placed in
-    let known = placed_old states after s c.in-Some.id.0 c.in-Some.is_new c.if-is_new.false placed in
-    omega (arith, slice_get_within states c.in-Some.id.0 s known.0, e.search.one_each)
+    (was_listed g (goal.at.improve-requires-clause-found g c).In-Some c.if-is_new.false).2
 
 pub returns-in_ok-add-clause-listed : goal.returns-in_ok-add-clause-listed
 returns-in_ok-add-clause-listed g c =
@@ -80,17 +89,16 @@ returns-in_ok-add-clause-listed g c =
     let after = g.S.StateStore.states c.place_of_state.new.store in
     let all = c.args.self.now.nodes.items in
     let s = bits_of c.args.state.now in
-    let parts = found_of-get states all c.args.parent.now.id.0 e.turn.found e.turn.stands in
-    let read : c.index.result.now ≡ e.turn.found.node = c.index.ensures ∙ get_or_from_slice_get all c.args.parent.now.id.0 e.turn.found.node c.index.result.now parts.1 in
-    let same : c.index.result.now.cost ≡ e.turn.found.node.cost = cc in
+    let here = (goal.at.returns-in_ok-add-clause-listed g c).After-from in
+    let same : c.index.result.now.cost ≡ e.turn.found.node.cost = ap (λ (n : Node). n.cost) (read_parent g here) in
     let placed : IsPlaced states after s c.in-Some.id.0 c.in-Some.is_new = rw c.in-Some.is at c.in_ok-id.ensures.placed in
     let new = placed_new states after s c.in-Some.id.0 c.in-Some.is_new c.if-is_new.true placed in
     let stored : g.S.StateStore.states c.add.new.self.store ≡ after = rw c.in_ok-add.ensures.store refl in
     let step = stepped_new (g.T.TransitionSystem.means c.args.system.now) (value_by (g.E.Estimate.score_of c.args.estimate.now)) states all (heap_items c.args.self.now.queue) c.args.parent.now.id.0
     e.search.one_each e.search.nodes e.turn e.others_open s (c.index.result.now.cost + c.from.result)
     (record { parent = c.args.parent.now.id; action = c.args.action; depth = c.depth-depth.result + 1 }) refl
-    (ap (λ d. d + 1) (c.depth-depth.ensures ∙ ap (λ (n : Node). depth_of n.origin) read)) (omega (arith, same, c.from.ensures, c.cost.ensures)) (omega (arith, c.cost.ensures))
-    (leads_from (g.T.TransitionSystem.means c.args.system.now) states (bits_of c.args.parent.now.state.now) e.turn.found.state s c.args.parent.now.id.0 c.args.action c.requires.parent parts.0 c.requires.leads)
+    (ap (λ d. d + 1) (c.depth-depth.ensures ∙ ap (λ (n : Node). depth_of n.origin) (read_parent g here))) (omega (arith, same, c.from.ensures, c.cost.ensures)) (omega (arith, c.cost.ensures))
+    (leads g here)
     new.0 (g.S.StateStore.states c.add.new.self.store) c.add.new.self.nodes.items c.in-Some.id.0 (heap_items c.add.new.self.queue)
     (stored ∙ new.1) c.in_ok-add.ensures.nodes new.2
     (subst (λ v. IsPermutation (entry (c.index.result.now.cost + c.from.result) v c.in-Some.id.0 ∷ heap_items c.args.self.now.queue) (heap_items c.add.new.self.queue)) c.value_after-value.ensures.value c.in_ok-add.ensures.queue.joins) in
@@ -112,19 +120,17 @@ returns-in_ok-improve-clause-listed g c =
     let after = g.S.StateStore.states c.place_of_state.new.store in
     let all = c.args.self.now.nodes.items in
     let s = bits_of c.args.state.now in
-    let parts = found_of-get states all c.args.parent.now.id.0 e.turn.found e.turn.stands in
-    let read : c.index.result.now ≡ e.turn.found.node = c.index.ensures ∙ get_or_from_slice_get all c.args.parent.now.id.0 e.turn.found.node c.index.result.now parts.1 in
-    let same : c.index.result.now.cost ≡ e.turn.found.node.cost = cc in
-    let placed : IsPlaced states after s c.in-Some.id.0 c.in-Some.is_new = rw c.in-Some.is at c.in_ok-id.ensures.placed in
-    let known = placed_old states after s c.in-Some.id.0 c.in-Some.is_new c.if-is_new.false placed in
+    let here = (goal.at.returns-in_ok-improve-clause-listed g c).After-from in
+    let same : c.index.result.now.cost ≡ e.turn.found.node.cost = ap (λ (n : Node). n.cost) (read_parent g here) in
+    let known = was_listed g (goal.at.returns-in_ok-improve-clause-listed g c).In-Some c.if-is_new.false in
     let was : slice_get all c.in-Some.id.0 ≡ Some c.index-else-is_new.result.now =
-    slice_get_read all (length all) c.in-Some.id.0 c.index-else-is_new.result.now refl (omega (arith, slice_get_within states c.in-Some.id.0 s known.0, e.search.one_each)) c.index-else-is_new.ensures in
+    slice_get_read all (length all) c.in-Some.id.0 c.index-else-is_new.result.now refl known.2 c.index-else-is_new.ensures in
     let stored : g.S.StateStore.states c.improve.new.self.store ≡ after = rw c.in_ok-improve.ensures.store refl in
     let step = stepped_cheaper (g.T.TransitionSystem.means c.args.system.now) (value_by (g.E.Estimate.score_of c.args.estimate.now)) states all (heap_items c.args.self.now.queue) c.args.parent.now.id.0
     e.search.one_each e.search.nodes e.turn e.others_open s (c.index.result.now.cost + c.from.result)
     (record { parent = c.args.parent.now.id; action = c.args.action; depth = c.depth-depth.result + 1 }) refl
-    (ap (λ d. d + 1) (c.depth-depth.ensures ∙ ap (λ (n : Node). depth_of n.origin) read)) (omega (arith, same, c.from.ensures, c.cost.ensures)) (omega (arith, c.cost.ensures))
-    (leads_from (g.T.TransitionSystem.means c.args.system.now) states (bits_of c.args.parent.now.state.now) e.turn.found.state s c.args.parent.now.id.0 c.args.action c.requires.parent parts.0 c.requires.leads)
+    (ap (λ d. d + 1) (c.depth-depth.ensures ∙ ap (λ (n : Node). depth_of n.origin) (read_parent g here))) (omega (arith, same, c.from.ensures, c.cost.ensures)) (omega (arith, c.cost.ensures))
+    (leads g here)
     c.in-Some.id.0 c.index-else-is_new.result.now known.0 was c.if-cost-index.true
     (g.S.StateStore.states c.improve.new.self.store) c.improve.new.self.nodes.items (heap_items c.improve.new.self.queue)
     (stored ∙ known.1) (c.in_ok-improve.ensures.nodes c.index-else-is_new.result.now was)
@@ -147,18 +153,16 @@ returns-else-cost-index-clause-listed g c =
     let after = g.S.StateStore.states c.place_of_state.new.store in
     let all = c.args.self.now.nodes.items in
     let s = bits_of c.args.state.now in
-    let parts = found_of-get states all c.args.parent.now.id.0 e.turn.found e.turn.stands in
-    let read : c.index.result.now ≡ e.turn.found.node = c.index.ensures ∙ get_or_from_slice_get all c.args.parent.now.id.0 e.turn.found.node c.index.result.now parts.1 in
-    let same : c.index.result.now.cost ≡ e.turn.found.node.cost = cc in
-    let placed : IsPlaced states after s c.in-Some.id.0 c.in-Some.is_new = rw c.in-Some.is at c.in_ok-id.ensures.placed in
-    let known = placed_old states after s c.in-Some.id.0 c.in-Some.is_new c.if-is_new.false placed in
+    let here = (goal.at.returns-else-cost-index-clause-listed g c).After-from in
+    let same : c.index.result.now.cost ≡ e.turn.found.node.cost = ap (λ (n : Node). n.cost) (read_parent g here) in
+    let known = was_listed g (goal.at.returns-else-cost-index-clause-listed g c).In-Some c.if-is_new.false in
     let was : slice_get all c.in-Some.id.0 ≡ Some c.index-else-is_new.result.now =
-    slice_get_read all (length all) c.in-Some.id.0 c.index-else-is_new.result.now refl (omega (arith, slice_get_within states c.in-Some.id.0 s known.0, e.search.one_each)) c.index-else-is_new.ensures in
+    slice_get_read all (length all) c.in-Some.id.0 c.index-else-is_new.result.now refl known.2 c.index-else-is_new.ensures in
     let step = stepped_same (g.T.TransitionSystem.means c.args.system.now) (value_by (g.E.Estimate.score_of c.args.estimate.now)) states all (heap_items c.args.self.now.queue) c.args.parent.now.id.0
     e.search.one_each e.search.nodes e.turn e.others_open s (c.index.result.now.cost + c.from.result)
     (record { parent = c.args.parent.now.id; action = c.args.action; depth = c.depth-depth.result + 1 }) refl
-    (ap (λ d. d + 1) (c.depth-depth.ensures ∙ ap (λ (n : Node). depth_of n.origin) read)) (omega (arith, same, c.from.ensures, c.cost.ensures)) (omega (arith, c.cost.ensures))
-    (leads_from (g.T.TransitionSystem.means c.args.system.now) states (bits_of c.args.parent.now.state.now) e.turn.found.state s c.args.parent.now.id.0 c.args.action c.requires.parent parts.0 c.requires.leads)
+    (ap (λ d. d + 1) (c.depth-depth.ensures ∙ ap (λ (n : Node). depth_of n.origin) (read_parent g here))) (omega (arith, same, c.from.ensures, c.cost.ensures)) (omega (arith, c.cost.ensures))
+    (leads g here)
     c.in-Some.id.0 c.index-else-is_new.result.now known.0 was c.if-cost-index.false after known.1 in
     record {
       expanding = record {
@@ -173,22 +177,8 @@ returns-else-cost-index-clause-listed g c =
 
 pub add-requires : goal.add-requires
 add-requires g c =
-    let e = c.requires.expanding in
-    let states = g.S.StateStore.states c.args.self.now.store in
-    let all = c.args.self.now.nodes.items in
-    let parts = found_of-get states all c.args.parent.now.id.0 e.turn.found e.turn.stands in
-    let read : c.index.result.now ≡ e.turn.found.node = c.index.ensures ∙ get_or_from_slice_get all c.args.parent.now.id.0 e.turn.found.node c.index.result.now parts.1 in
-    let limits = turn_limits (found_of states all) c.args.parent.now.id.0 c.args.max_states e.turn (omega (arith, length-found_of states all e.search.one_each, c.requires.within)) c.requires.limit in
-    let same : c.index.result.now.cost ≡ e.turn.found.node.cost = cc in
-    omega (arith, limits.0, same, c.from.ensures, c.cost.ensures, c.value_after-value.ensures.within)
+    omega (arith, (limits g (goal.at.add-requires g c).After-from).0, c.from.ensures, c.cost.ensures, c.value_after-value.ensures.within)
 
 pub improve-requires-clause-sum : goal.improve-requires-clause-sum
 improve-requires-clause-sum g c =
-    let e = c.requires.expanding in
-    let states = g.S.StateStore.states c.args.self.now.store in
-    let all = c.args.self.now.nodes.items in
-    let parts = found_of-get states all c.args.parent.now.id.0 e.turn.found e.turn.stands in
-    let read : c.index.result.now ≡ e.turn.found.node = c.index.ensures ∙ get_or_from_slice_get all c.args.parent.now.id.0 e.turn.found.node c.index.result.now parts.1 in
-    let limits = turn_limits (found_of states all) c.args.parent.now.id.0 c.args.max_states e.turn (omega (arith, length-found_of states all e.search.one_each, c.requires.within)) c.requires.limit in
-    let same : c.index.result.now.cost ≡ e.turn.found.node.cost = cc in
-    omega (arith, limits.0, same, c.from.ensures, c.cost.ensures, c.value_after-value-then-cost-index.ensures.within)
+    omega (arith, (limits g (goal.at.improve-requires-clause-sum g c).After-from).0, c.from.ensures, c.cost.ensures, c.value_after-value-then-cost-index.ensures.within)
