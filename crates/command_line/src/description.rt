@@ -100,12 +100,12 @@ fn add_solve<'a>(alloc: Global, commands: &mut Vec<Command<'a>>) -> Result<(), A
             alloc,
             "cert",
             "FILE",
-            "Writes the answer's certificate to this file"
+            "Writes the answer's certificate to this file",
         ),
         limit(
             alloc,
             "states",
-            "How many states may be listed, 1 to 16777216"
+            "How many states may be listed, 1 to 16777216",
         ),
         limit(alloc, "instances", INSTANCES_HELP),
         json(alloc),
@@ -140,7 +140,7 @@ fn add_check<'a>(alloc: Global, commands: &mut Vec<Command<'a>>) -> Result<(), A
             alloc,
             "plan",
             "FILE",
-            "A plan file, which is to be shown cheapest"
+            "A plan file, which is to be shown cheapest",
         ),
         limit(alloc, "instances", INSTANCES_HELP),
         json(alloc),
