@@ -1,45 +1,43 @@
 -- What a parse reads of a command, as it is described step by step.
-use Rattle.std.proofs.Common.{◌≡◌, ◌∙◌, Bool, true, false, refl, ap₂, codes}
+use Rattle.std.proofs.Common.{◌≡◌, ◌∙◌, Bool, List, [], ◌∷◌, ◌++◌, false, append-nil, append_assoc, sym, ap, ap₂, subst}
 use Rattle.std.specs.Prelude.{◌||◌}
-use Rattle.clap.specs.Walk.{Rule, rule_of}
-use Rattle.clap.specs.Simple.{App, Shape, app_of, new_app, on_top, with_rule, with_subcommand}
-use Rattle.command_line.specs.Description.{check, optplan, solve, validate}
-use Rattle.clap.specs.Built.{AddsArg}
+use Rattle.std.specs.List.{fold}
+use Rattle.clap.specs.Walk.{Rule, Text}
+use Rattle.clap.specs.Simple.{App, Shape, app_of, with_rule, with_subcommand}
+use Rattle.clap.specs.Built.{AddsArg, AddsInTurn, AddsSubcommand}
 use Rattle.clap.specs.declared.builder.arg.Arg.{Arg}
 use Rattle.clap.specs.declared.builder.command.Command.{Command}
 use Rattle.clap.specs.declared.builder.command.Command.TheViews.{out-Command}
+use Rattle.command_line.specs.Described.{HaveRules, HaveShapes}
+use Rattle.command_line.specs.Description.{subcommand}
+
+-- the command with these arguments
+abbrev pub app_with : Text → List Rule → App
+app_with name rules = record { top = subcommand name rules; subs = [] }
 
 -- the command is this one to a parse, and has no global argument
 pub record IsDescribed (c : Command) (app : App) : Type 0 where
-  pub shape : app_of c ≡ app
+  pub is : app_of c ≡ app
   pub local : (out-Command c).has_globals ≡ false
 
--- a text of the help changes nothing of it
-pub kept : (old new : Command) (app : App) → app_of new ≡ app_of old → (out-Command new).has_globals ≡ (out-Command old).has_globals
-    → IsDescribed old app → IsDescribed new app
-kept old new app same globals is = record { shape = same ∙ is.shape; local = globals ∙ is.local }
+-- arguments that are added in turn
+pub with_rules : (name : Text) (seen rules : List Rule) (arguments : List Arg) (old new : Command) → AddsInTurn AddsArg old arguments new
+    → HaveRules arguments rules → IsDescribed old (app_with name seen) → IsDescribed new (app_with name (seen ++ rules))
+with_rules name seen [] [] old new added have is =
+    rw (← added, append-nil seen) is
+with_rules name seen (rule ∷ rules) (argument ∷ arguments) old new (next, first, others) (has, have) is =
+    subst (λ all. IsDescribed new (app_with name all)) (append_assoc seen (rule ∷ []) rules) (with_rules name (seen ++ rule ∷ []) rules arguments next new others have (record {
+      is = first.shape has.local ∙ ap₂ with_rule is.is has.is;
+      local = first.globals ∙ ap₂ (λ (x y : Bool). x || y) is.local has.local;
+    }))
+with_rules name seen [] (argument ∷ arguments) old new added have is = absurd have
+with_rules name seen (rule ∷ rules) [] old new added have is = absurd have
 
--- one more argument
-pub adds : (old new : Command) (a : Arg) (app : App) (r : Rule) → AddsArg old a new → a.global ≡ false → rule_of a ≡ r → IsDescribed old app
-    → IsDescribed new (with_rule app r)
-adds old new a app r added local rule is = record {
-  shape = added.shape local ∙ ap₂ with_rule is.shape rule;
-  local = added.globals ∙ ap₂ (λ (x y : Bool). x || y) is.local local;
-}
-
--- the settings of the program, one by one
-abbrev pub with_version : App → App
-with_version = on_top (λ (s : Shape). record s { has_version = true })
-
-abbrev pub with_no_binary_name : App → App
-with_no_binary_name = on_top (λ (s : Shape). record s { no_binary_name = true })
-
-abbrev pub with_command_required : App → App
-with_command_required = on_top (λ (s : Shape). record s { subcommand_required = true })
-
-abbrev pub with_help_for_none : App → App
-with_help_for_none = on_top (λ (s : Shape). record s { arg_required_else_help = true })
-
-pub program_is : with_subcommand (with_subcommand (with_subcommand
-    (with_help_for_none (with_command_required (with_no_binary_name (with_version (new_app (codes "optplan")))))) solve) validate) check ≡ optplan
-program_is = refl
+-- commands that are added in turn
+pub with_shapes : (old new : Command) (commands : List Command) (shapes : List Shape) (app : App) → AddsInTurn AddsSubcommand old commands new
+    → HaveShapes commands shapes → app_of old ≡ app → app_of new ≡ fold with_subcommand app shapes
+with_shapes old new [] [] app added have is = ap app_of (sym added) ∙ is
+with_shapes old new (command ∷ commands) (shape ∷ shapes) app (next, first, others) (has, have) is =
+    with_shapes next new commands shapes (with_subcommand app shape) others have (first.shape has.local ∙ ap₂ with_subcommand is has.is)
+with_shapes old new [] (shape ∷ shapes) app added have is = absurd have
+with_shapes old new (command ∷ commands) [] app added have is = absurd have

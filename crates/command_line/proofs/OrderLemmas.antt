@@ -16,7 +16,7 @@ use Rattle.clap.specs.declared.parser.matches.ArgMatches.{ArgMatches}
 use Rattle.clap.proofs.OnLiterals.{clap_on_literals}
 use Rattle.clap.proofs.WalkLemmas.{both}
 use Rattle.clap.proofs.ValueTestLemmas.{accepts-Accepts, Accepts-accepts}
-use Rattle.command_line.specs.Limit.{is_limit}
+use Rattle.command_line.specs.Limit.{is_limit, most}
 use Rattle.command_line.specs.Description.{optplan}
 use Rattle.command_line.specs.Orders.{Asks, IsCommand, Wanted, limit_of, wanted_in}
 use Rattle.command_line.specs.declared.limit.Limit.{Limit}
@@ -33,17 +33,17 @@ same_bool true b first second = sym (first refl)
 same_bool false true first second = second refl
 same_bool false false first second = refl
 
-limit_within : (n : ℕ) → 1 ≤ n → n ≤ 16777216 → is_limit n ≡ true
+limit_within : (n : ℕ) → 1 ≤ n → n ≤ most → is_limit n ≡ true
 limit_within n least most = rw (le-leb _ _ least, le-leb _ _ most) refl
 
-within_limit : (n : ℕ) → is_limit n ≡ true → (1 ≤ n) × (n ≤ 16777216)
+within_limit : (n : ℕ) → is_limit n ≡ true → (1 ≤ n) × (n ≤ most)
 within_limit n is = let parts = both _ _ is in (leb-true _ _ parts.0, leb-true _ _ parts.1)
 
 -- a text that reads as a number is a limit where the number is
-limit_text : (text : Text) → IsNumeral 10 (without_leading_plus text) → is_unsigned_in 1 16777216 text ≡ is_limit (digits_value 10 (without_leading_plus text))
+limit_text : (text : Text) → IsNumeral 10 (without_leading_plus text) → is_unsigned_in 1 most text ≡ is_limit (digits_value 10 (without_leading_plus text))
 limit_text text numeral = same_bool _ _
-    (λ is. let a = accepts-Accepts false (Unsigned 1 16777216) text is in limit_within _ a.2 a.3)
-    (λ is. let (least, most) = within_limit _ is in Accepts-accepts false (Unsigned 1 16777216) text (numeral, omega arith, least, most))
+    (λ is. let a = accepts-Accepts false (Unsigned 1 most) text is in limit_within _ a.2 a.3)
+    (λ is. let (low, high) = within_limit _ is in Accepts-accepts false (Unsigned 1 most) text (numeral, omega arith, low, high))
 
 limit_made : (o : Option Limit) (b : Bool) (number value : ℕ) → is_some o ≡ b → IfSome o (λ l. l.number ≡ number) → number ≡ value
     → option_map (λ l. l.number) o ≡ (if b then Some value else None)
@@ -55,16 +55,16 @@ limit_made (Some l) false number value some is same = absurd (cc)
 pub limit_read : (text : Text) (number : ℕ) (o : Option Limit) → IsNumeral 10 (without_leading_plus text) → number ≡ digits_value 10 (without_leading_plus text)
     → is_some o ≡ is_limit number → IfSome o (λ l. l.number ≡ number) → option_map (λ l. l.number) o ≡ limit_of text
 limit_read text number o numeral value some is =
-    limit_made o (is_unsigned_in 1 16777216 text) number (digits_value 10 (without_leading_plus text))
+    limit_made o (is_unsigned_in 1 most text) number (digits_value 10 (without_leading_plus text))
     (some ∙ ap is_limit value ∙ sym (limit_text text numeral)) is value
 
 module _ (text : Text) (fails : IsNumeral 10 (without_leading_plus text) × (digits_value 10 (without_leading_plus text) < 2 ^ 32) → ⊥) where
-  no_limit : (b : Bool) → is_unsigned_in 1 16777216 text ≡ b → ◌≡◌ {A = Option ℕ} None (if b then Some (digits_value 10 (without_leading_plus text)) else None)
-  no_limit true is = let a = accepts-Accepts false (Unsigned 1 16777216) text is in absurd (fails (a.0, omega (arith, a.3)))
+  no_limit : (b : Bool) → is_unsigned_in 1 most text ≡ b → ◌≡◌ {A = Option ℕ} None (if b then Some (digits_value 10 (without_leading_plus text)) else None)
+  no_limit true is = let a = accepts-Accepts false (Unsigned 1 most) text is in absurd (fails (a.0, omega (arith, a.3)))
   no_limit false is = refl
 
   pub no_limit_read : None ≡ limit_of text
-  no_limit_read = no_limit (is_unsigned_in 1 16777216 text) refl
+  no_limit_read = no_limit (is_unsigned_in 1 most text) refl
 
 -- ---- what the words are
 

@@ -5,6 +5,7 @@ use Rattle.clap.specs.Walk.{Rule, Text}
 use Rattle.clap.specs.Simple.{App, Shape, new_rule, new_shape}
 use Rattle.clap.specs.declared.builder.action.ArgAction.TheVariants.{SetTrue}
 use Rattle.clap.specs.declared.builder.value_parser.ValueParser.TheVariants.{Unsigned}
+use Rattle.command_line.specs.Limit.{most}
 
 -- the name of a file, which must be there
 abbrev pub file : Text → Rule
@@ -16,7 +17,7 @@ option name = record (new_rule name) { long = Some name; value_names = 1 }
 
 -- an option whose value is a limit, 1,000,000 where it is not given
 abbrev pub limit : Text → Rule
-limit name = record (option name) { parser = Some (Unsigned 1 16777216); defaults = codes "1000000" ∷ [] }
+limit name = record (option name) { parser = Some (Unsigned 1 most); defaults = codes "1000000" ∷ [] }
 
 -- the option `--json`, which has no value
 abbrev pub json : Rule

@@ -8,6 +8,7 @@ use Rattle.clap.specs.Simple.{subcommand_of}
 use Rattle.clap.specs.Faults.{fault_of}
 use Rattle.clap.specs.ValueTests.{is_unsigned_in}
 use Rattle.command_line.specs.Description.{optplan}
+use Rattle.command_line.specs.Limit.{most}
 
 -- what `solve` is asked for: how many states and instances are allowed, the files that the plan and the certificate are to be written
 -- to, if any, and whether the answer is told as JSON
@@ -32,7 +33,7 @@ pub data Wanted : Type 0 where
 
 -- the number that the text writes in decimal digits, which a plus may precede, where it is from 1 to 16,777,216
 abbrev pub limit_of : Text → Option ℕ
-limit_of text = if is_unsigned_in 1 16777216 text then Some (digits_value 10 (without_leading_plus text)) else None
+limit_of text = if is_unsigned_in 1 most text then Some (digits_value 10 (without_leading_plus text)) else None
 
 -- the limit that the value of an argument is
 abbrev pub limit_in : Text → List Row → Option ℕ

@@ -1,11 +1,12 @@
 //! The command line, as it is described to `clap`.
-ghost use Rattle.std.specs.Prelude.{◌≡◌, IfOk, false};
-ghost use Rattle.clap.specs.Walk.{rule_of};
-ghost use Rattle.clap.specs.Simple.{app_of, shape_of};
-ghost use Rattle.clap.specs.declared.builder.command.Command.TheViews.{out-Command};
+ghost use Rattle.std.specs.Prelude.{◌≡◌, IfOk, List, OnOk};
+ghost use Rattle.clap.specs.Walk.{Rule};
+ghost use Rattle.clap.specs.Simple.{app_of};
+ghost use Rattle.command_line.specs.Described.{AddsShape, HasRule, HaveRules, HaveShapes, settings};
 ghost use Rattle.command_line.specs.Description as description;
-ghost use Rattle.command_line.specs.Description.{optplan};
+ghost use Rattle.command_line.specs.Description.{optplan, subcommand};
 
+use crate::limit::MAX_LIMIT;
 use clap::builder::ValueParser;
 use clap::{Arg, ArgAction, Command};
 use std::alloc::{AllocError, Global};
@@ -52,12 +53,21 @@ const CHECK_HELP: &str = "Example:
 Status: 0 the certificate is accepted, 12 it is not; others: `optplan help`
 A file whose name begins with a hyphen stands behind `--`.";
 
+const INSTANCES_HELP: &str = "How many instances of actions may be kept, 1 to 16777216";
+
 /// The program.
 pub(crate) fn program<'a>(alloc: Global) -> Result<Command<'a>, AllocError>
     ensures { IfOk result (λ command. app_of command ≡ optplan) }
 {
+    let commands = commands(alloc)?;
+    settings(alloc).subcommands(commands)?.bin_name("optplan")
+}
+
+/// The program without its commands.
+fn settings<'a>(alloc: Global) -> Command<'a>
+    ensures { app_of result ≡ settings }
+{
     Command::new(alloc, "optplan")
-        .bin_name("optplan")?
         .about(ABOUT)
         .version("0.1.0")
         .override_usage(USAGE)
@@ -65,92 +75,109 @@ pub(crate) fn program<'a>(alloc: Global) -> Result<Command<'a>, AllocError>
         .no_binary_name(true)
         .subcommand_required(true)
         .arg_required_else_help(true)
-        .subcommand(solve(alloc)?)?
-        .subcommand(validate(alloc)?)?
-        .subcommand(check(alloc)?)
 }
 
-/// The command `solve`.
-fn solve<'a>(alloc: Global) -> Result<Command<'a>, AllocError>
-    ensures shape { IfOk result (λ command. shape_of command ≡ description.solve) }
-    ensures local { IfOk result (λ command. (out-Command command).has_globals ≡ false) }
+/// The three commands.
+fn commands<'a>(alloc: Global) -> Result<Vec<Command<'a>>, AllocError>
+    ensures { IfOk result (λ commands. HaveShapes commands.items optplan.subs) }
 {
-    Command::new(alloc, "solve")
-        .about("Tells a cheapest plan, or that there is none")
-        .after_help(SOLVE_HELP)
-        .arg(file(alloc, "DOMAIN", "The domain file"))?
-        .arg(file(alloc, "PROBLEM", "The problem file"))?
-        .arg(option(alloc, "plan", "FILE", "Writes the plan to this file too"))?
-        .arg(option(
+    let mut commands = Vec::new(alloc);
+    add_solve(alloc, &mut commands)?;
+    add_validate(alloc, &mut commands)?;
+    add_check(alloc, &mut commands)?;
+    Ok(commands)
+}
+
+/// Adds the command `solve`.
+fn add_solve<'a>(alloc: Global, commands: &mut Vec<Command<'a>>) -> Result<(), AllocError>
+    ensures { OnOk result (AddsShape commands.old.items description.solve commands.new.items) }
+{
+    let arguments = vec![in alloc;
+        file(alloc, "DOMAIN", "The domain file"),
+        file(alloc, "PROBLEM", "The problem file"),
+        option(alloc, "plan", "FILE", "Writes the plan to this file too"),
+        option(
             alloc,
             "cert",
             "FILE",
             "Writes the answer's certificate to this file",
-        ))?
-        .arg(limit(
+        ),
+        limit(
             alloc,
             "states",
             "How many states may be listed, 1 to 16777216",
-        ))?
-        .arg(limit(
-            alloc,
-            "instances",
-            "How many instances of actions may be kept, 1 to 16777216",
-        ))?
-        .arg(json(alloc))
+        ),
+        limit(alloc, "instances", INSTANCES_HELP),
+        json(alloc),
+    ]?;
+    let about = "Tells a cheapest plan, or that there is none";
+    add_command(alloc, commands, "solve", about, SOLVE_HELP, arguments)
 }
 
-/// The command `validate`.
-fn validate<'a>(alloc: Global) -> Result<Command<'a>, AllocError>
-    ensures shape { IfOk result (λ command. shape_of command ≡ description.validate) }
-    ensures local { IfOk result (λ command. (out-Command command).has_globals ≡ false) }
+/// Adds the command `validate`.
+fn add_validate<'a>(alloc: Global, commands: &mut Vec<Command<'a>>) -> Result<(), AllocError>
+    ensures { OnOk result (AddsShape commands.old.items description.validate commands.new.items) }
 {
-    Command::new(alloc, "validate")
-        .about("Says whether a plan solves a task")
-        .after_help(VALIDATE_HELP)
-        .arg(file(alloc, "DOMAIN", "The domain file"))?
-        .arg(file(alloc, "PROBLEM", "The problem file"))?
-        .arg(file(alloc, "PLAN", "The plan file"))?
-        .arg(json(alloc))
+    let arguments = vec![in alloc;
+        file(alloc, "DOMAIN", "The domain file"),
+        file(alloc, "PROBLEM", "The problem file"),
+        file(alloc, "PLAN", "The plan file"),
+        json(alloc),
+    ]?;
+    let about = "Says whether a plan solves a task";
+    add_command(alloc, commands, "validate", about, VALIDATE_HELP, arguments)
 }
 
-/// The command `check`.
-fn check<'a>(alloc: Global) -> Result<Command<'a>, AllocError>
-    ensures shape { IfOk result (λ command. shape_of command ≡ description.check) }
-    ensures local { IfOk result (λ command. (out-Command command).has_globals ≡ false) }
+/// Adds the command `check`.
+fn add_check<'a>(alloc: Global, commands: &mut Vec<Command<'a>>) -> Result<(), AllocError>
+    ensures { OnOk result (AddsShape commands.old.items description.check commands.new.items) }
 {
-    Command::new(alloc, "check")
-        .about("Says what a certificate shows")
-        .after_help(CHECK_HELP)
-        .arg(file(alloc, "DOMAIN", "The domain file"))?
-        .arg(file(alloc, "PROBLEM", "The problem file"))?
-        .arg(file(alloc, "CERT", "The certificate file"))?
-        .arg(option(
+    let arguments = vec![in alloc;
+        file(alloc, "DOMAIN", "The domain file"),
+        file(alloc, "PROBLEM", "The problem file"),
+        file(alloc, "CERT", "The certificate file"),
+        option(
             alloc,
             "plan",
             "FILE",
             "A plan file, which is to be shown cheapest",
-        ))?
-        .arg(limit(
-            alloc,
-            "instances",
-            "How many instances of actions may be kept, 1 to 16777216",
-        ))?
-        .arg(json(alloc))
+        ),
+        limit(alloc, "instances", INSTANCES_HELP),
+        json(alloc),
+    ]?;
+    let about = "Says what a certificate shows";
+    add_command(alloc, commands, "check", about, CHECK_HELP, arguments)
+}
+
+/// Adds a command of this name with these arguments.
+fn add_command<'a>(
+    alloc: Global,
+    commands: &mut Vec<Command<'a>>,
+    name: &'a str,
+    about: &'a str,
+    help: &'a str,
+    arguments: Vec<Arg<'a>>,
+) -> Result<(), AllocError>
+    ensures { (rules : List Rule) → HaveRules arguments.entry.items rules
+        → OnOk result (AddsShape commands.old.items (subcommand name.entry.now rules) commands.new.items) }
+{
+    let command = Command::new(alloc, name)
+        .about(about)
+        .after_help(help)
+        .args(arguments)?;
+    Ok(commands.push(command)?)
 }
 
 /// The name of a file, which must be there.
 fn file<'a>(alloc: Global, name: &'a str, help: &'a str) -> Arg<'a>
-    ensures rule { rule_of result ≡ description.file name.entry.now }
-    ensures local { result.global ≡ false }
+    ensures { HasRule result (description.file name.entry.now) }
 {
     Arg::new(alloc, name).help(help).required(true)
 }
 
 /// An option with a value.
 fn option<'a>(alloc: Global, name: &'a str, value: &'a str, help: &'a str) -> Arg<'a>
-    ensures rule { rule_of result ≡ description.option name.entry.now }
-    ensures local { result.global ≡ false }
+    ensures { HasRule result (description.option name.entry.now) }
 {
     Arg::new(alloc, name)
         .long(name)
@@ -160,18 +187,16 @@ fn option<'a>(alloc: Global, name: &'a str, value: &'a str, help: &'a str) -> Ar
 
 /// An option whose value is a limit.
 fn limit<'a>(alloc: Global, name: &'a str, help: &'a str) -> Arg<'a>
-    ensures rule { rule_of result ≡ description.limit name.entry.now }
-    ensures local { result.global ≡ false }
+    ensures { HasRule result (description.limit name.entry.now) }
 {
     option(alloc, name, "N", help)
-        .value_parser(ValueParser::unsigned(1, 16_777_216))
+        .value_parser(ValueParser::unsigned(1, MAX_LIMIT as u64))
         .default_value("1000000")
 }
 
 /// The option for answers as JSON.
 fn json<'a>(alloc: Global) -> Arg<'a>
-    ensures rule { rule_of result ≡ description.json }
-    ensures local { result.global ≡ false }
+    ensures { HasRule result description.json }
 {
     Arg::new(alloc, "json")
         .long("json")

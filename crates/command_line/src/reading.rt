@@ -13,7 +13,7 @@ use crate::limit::Limit;
 use crate::order::Order;
 use clap::error::ErrorKind;
 use clap::{ArgMatches, Error};
-use std::alloc::Global;
+use std::alloc::{AllocError, Global};
 
 /// What the words ask for, which are those behind the program's name.
 ///
@@ -47,15 +47,14 @@ pub fn examples_are_read()
 fn no_order(alloc: Global) -> WordsFault {
     match missing(alloc) {
         Ok(error) => WordsFault::Words(error),
-        Err(fault) => fault,
+        Err(refused) => WordsFault::from(refused),
     }
 }
 
 /// That a command, or a file of it, is missing.
-fn missing(alloc: Global) -> Result<Error, WordsFault> {
-    let mut program = program(alloc)?;
+fn missing(alloc: Global) -> Result<Error, AllocError> {
     let text = "a command, or one of its files, is missing";
-    Ok(program.error(ErrorKind::MissingRequiredArgument, text)?)
+    program(alloc)?.error(ErrorKind::MissingRequiredArgument, text)
 }
 
 /// What a match asks for.

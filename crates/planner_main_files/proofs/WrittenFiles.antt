@@ -22,27 +22,29 @@ taken_all : (after : Option (List ℕ)) (bytes : List ℕ) → Appends (Some [])
 taken_all None bytes appended = absurd appended
 taken_all (Some taken) bytes appended = search
 
-module _ (before made after taken taken_after : Option (List ℕ)) (bytes : List ℕ) (empty : taken ≡ Some []) where
-  pub written_partly : AppendsBeginning taken taken_after bytes → HoldsBeginning before made [] → IfSome taken_after (HoldsBeginning made after)
-      → HoldsBeginning before after bytes
-  written_partly (front, rest, split, appended) started closed =
+-- What a file of this name holds that was made, written and closed: what is said of the file that is closed is said of it.
+module _ (before made after : List ℕ → Option (List ℕ)) (name closed : List ℕ) (same : closed ≡ name) where
+  pub written_partly : (taken taken_after : Option (List ℕ)) (bytes : List ℕ) → taken ≡ Some [] → AppendsBeginning taken taken_after bytes
+      → HoldsBeginning (before name) (made name) [] → IfSome taken_after (HoldsBeginning (made closed) (after closed))
+      → HoldsBeginning (before name) (after name) bytes
+  written_partly taken taken_after bytes empty (front, rest, split, appended) started held =
       let all : taken_after ≡ Some front = taken_all taken_after front (subst (λ t. Appends t taken_after front) empty appended) in
-      subst (HoldsBeginning before after) (sym split)
-      (still_beginning before made after front rest started (subst (λ t. IfSome t (HoldsBeginning made after)) all closed))
+      subst (HoldsBeginning (before name) (after name)) (sym split)
+      (still_beginning (before name) (made name) (after name) front rest started
+      (subst (λ n. HoldsBeginning (made n) (after n) front) same (subst (λ t. IfSome t (HoldsBeginning (made closed) (after closed))) all held)))
 
--- what was written whole is what the file holds
-pub whole_if_written : {E : Type 0} (after taken taken_after : Option (List ℕ)) (bytes : List ℕ) (written : Result (Unit {0}) E) → taken ≡ Some []
-    → OnOk written (Appends taken taken_after bytes) → after ≡ taken_after → OnOk written (after ≡ Some bytes)
-whole_if_written after taken taken_after bytes (Ok done) empty appended closed =
-    closed ∙ taken_all taken_after bytes (subst (λ t. Appends t taken_after bytes) empty appended)
-whole_if_written after taken taken_after bytes (Err fault) empty appended closed = tt
+  -- what was written whole is what the file holds
+  pub whole_if_written : {E : Type 0} (taken taken_after : Option (List ℕ)) (bytes : List ℕ) (written : Result (Unit {0}) E) → taken ≡ Some []
+      → OnOk written (Appends taken taken_after bytes) → after closed ≡ taken_after → OnOk written (after name ≡ Some bytes)
+  whole_if_written taken taken_after bytes (Ok done) empty appended held =
+      ap after (sym same) ∙ held ∙ taken_all taken_after bytes (subst (λ t. Appends t taken_after bytes) empty appended)
+  whole_if_written taken taken_after bytes (Err fault) empty appended held = tt
 
--- Each other file is as it was, where the name of the file that was closed is that of the file that was made.
-pub others_kept : (before made after : List ℕ → Option (List ℕ)) (closed name : List ℕ) → closed ≡ name
-    → ((other : List ℕ) → other ≢ name → made other ≡ before other) → ((other : List ℕ) → other ≢ closed → after other ≡ made other)
-    → (other : List ℕ) → other ≢ name → after other ≡ before other
-others_kept before made after closed name same at_making at_closing other differs =
-    at_closing other (λ is. differs (is ∙ same)) ∙ at_making other differs
+  -- Each other file is as it was.
+  pub others_kept : ((other : List ℕ) → other ≢ name → made other ≡ before other) → ((other : List ℕ) → other ≢ closed → after other ≡ made other)
+      → (other : List ℕ) → other ≢ name → after other ≡ before other
+  others_kept at_making at_closing other differs =
+      at_closing other (λ is. differs (is ∙ same)) ∙ at_making other differs
 
 -- One file is written, whole or in part, and each other file is as it was.
 module _ (before after : List ℕ → Option (List ℕ)) (file : NamedText) where

@@ -1,7 +1,7 @@
 //! A table of files in memory, for tests.
 ghost use Rattle.std.specs.Prelude.{◌≡◌, ℕ, List, None, IfOk, IfSome, IsOkUnless, IsTrue, OnErr, OnOk, Some, [], false, is_none, position, true};
 ghost use Rattle.std.specs.Option.{option_map};
-ghost use Rattle.devices.specs.Devices.{CountsDevice, IsKept, one_more};
+ghost use Rattle.devices.specs.Devices.{CountsDevice, IsKept};
 ghost use Rattle.devices.specs.Failing.{calls_left};
 ghost use Rattle.std.specs.String.{string_bytes};
 ghost use Rattle.planner_main_files.specs.Table.{contents_of, draft_name, is_named, KeepsFiles, PutsFile, reads_before};
