@@ -9,9 +9,9 @@ use Rattle.model.specs.Trees.{File, domain_file, problem_file}
 use Rattle.model.specs.Typing.{TypingFault, Declared, Known, folded, names_of, names_of_objects, number_in, type_in, type_names, parents_of, comes_back, type_faults, words_of, one_after, refused, repeated, repeated_after, predicate_faults, terms_faults, arguments_in, ground_atom_faults, initial_cost_faults, fact_faults, init_faults, function_faults, formula_faults, domain_name_faults, type_declaration_faults, cycle_faults, object_faults, declaration_faults, action_faults, argument_faults, schema_faults, atom_in, atoms_in, formula_in, object_in, declared_types, declared_constants, declared, equals_in, predicates_of, known_in_domain, known_in_problem, task_of_trees, faults_of, first_filled, IsWellTyped}
 use Rattle.model.specs.WellTyped.{is_task}
 use Rattle.model.proofs.Tests.{passes_got}
-use Rattle.typing.specs.declared.names.Names.{Names}
-use Rattle.typing.specs.declared.names.Start.{Start}
-use Rattle.typing.specs.Names.{type_faults_of, declared_faults, known_by, stated_faults_in, AreDeclared, Starts}
+use Rattle.typing.specs.declared.names.Contents.{Contents}
+use Rattle.typing.specs.declared.names.Types.{Types}
+use Rattle.typing.specs.Names.{type_faults_of, domain_faults, contents_faults, stated_faults_in, AreContents, AreTypesOf}
 use Rattle.typing_formulas.specs.TaskParts.{task_of_parts}
 use Rattle.typing.specs.Task.{TaskFault, TellsLeastOf, TellsLeastFault}
 use Rattle.typing_formulas.specs.Scope.{narrow_atoms_in}
@@ -70,20 +70,22 @@ first_filled-append [] later = refl
 first_filled-append ([] ∷ lists) later = first_filled-append lists later
 first_filled-append ((f ∷ more) ∷ lists) later = refl
 
--- the pair's faults: those of the types, of what else is declared, and of what is stated of it
-faults_by_parts : (d : tree.Domain) (p : tree.Problem)
-    → faults_of d p ≡ first_filled (type_faults_of d p ∷ declared_faults d p ∷ stated_faults_in problem_file (known_in_problem d p) p ∷ [])
+-- the pair's faults: those of the types, and of what else is declared and stated
+faults_by_parts : (d : tree.Domain) (p : tree.Problem) → faults_of d p ≡ first_filled (type_faults_of d p ∷ contents_faults d p ∷ [])
 faults_by_parts d p =
     let types = (domain_name_faults d p ++ type_declaration_faults d) ∷ cycle_faults d ∷ [] in
-    let others = object_faults d p ∷ declaration_faults (type_names d) d.predicates ∷ function_faults d p ∷ action_faults (known_in_domain d) d.actions ∷ [] in
+    let others = declaration_faults (type_names d) d.predicates ∷ function_faults d p ∷ action_faults (known_in_domain d) d.actions ∷ [] in
     let stated = init_faults problem_file (known_in_problem d p) p.init ∷ formula_faults problem_file (known_in_problem d p) p.goal ∷ [] in
-    first_filled-append types (others ++ stated)
-    ∙ first_filled-later (first_filled types) (others ++ stated) (first_filled others ∷ first_filled stated ∷ [])
+    let parts = object_faults d p ∷ first_filled others ∷ first_filled stated ∷ [] in
+    first_filled-append types (object_faults d p ∷ (others ++ stated))
+    ∙ first_filled-later (first_filled types) (object_faults d p ∷ (others ++ stated)) (first_filled parts ∷ [])
+    (first_filled-later (object_faults d p) (others ++ stated) (first_filled others ∷ first_filled stated ∷ [])
     (first_filled-append others stated ∙ first_filled-later (first_filled others) stated (first_filled stated ∷ []) (first_filled-append stated []))
+    ∙ first_filled-append parts [])
 
 -- ---- the task of a pair without faults
 
-module _ (d : tree.Domain) (p : tree.Problem) (no_type : type_faults_of d p ≡ []) (no_other : declared_faults d p ≡ []) (no_stated : stated_faults_in problem_file (known_in_problem d p) p ≡ []) where
+module _ (d : tree.Domain) (p : tree.Problem) (no_type : type_faults_of d p ≡ []) (no_other : domain_faults d p ≡ []) (no_stated : stated_faults_in problem_file (known_in_problem d p) p ≡ []) where
   no_names : type_declaration_faults d ≡ []
   no_names = nil_right (domain_name_faults d p) (type_declaration_faults d) (none_filled _ _ no_type).0
 
@@ -91,10 +93,10 @@ module _ (d : tree.Domain) (p : tree.Problem) (no_type : type_faults_of d p ≡ 
   no_cycle = (none_filled _ _ (none_filled (domain_name_faults d p ++ type_declaration_faults d) (cycle_faults d ∷ []) no_type).1).0
 
   no_declaration : declaration_faults (type_names d) d.predicates ≡ []
-  no_declaration = (none_filled _ _ (none_filled (object_faults d p) _ no_other).1).0
+  no_declaration = (none_filled _ _ no_other).0
 
   no_action : action_faults (known_in_domain d) d.actions ≡ []
-  no_action = (none_filled _ _ (none_filled (function_faults d p) _ (none_filled (declaration_faults (type_names d) d.predicates) _ (none_filled (object_faults d p) _ no_other).1).1).1).0
+  no_action = (none_filled _ _ (none_filled (function_faults d p) _ (none_filled (declaration_faults (type_names d) d.predicates) _ no_other).1).1).0
 
   no_init : flat_map (fact_faults problem_file (known_in_problem d p)) p.init ≡ []
   no_init =
@@ -153,42 +155,27 @@ pub record IsMade (d : tree.Domain) (p : tree.Problem) (made : task.Task) : Type
   pub typed : is_task made ≡ true
 
 module _ (d : tree.Domain) (p : tree.Problem) where
-  told_by_parts : (e : TaskFault) → TellsLeastOf (first_filled (type_faults_of d p ∷ declared_faults d p ∷ stated_faults_in problem_file (known_in_problem d p) p ∷ [])) e
-      → TellsLeastFault d p e
-  told_by_parts e h = subst (λ fs. TellsLeastOf fs e) (sym (faults_by_parts d p)) h
-
   -- the fault that is told of the types is the pair's
   pub told_of_types : (e : TaskFault) → TellsLeastOf (type_faults_of d p) e → TellsLeastFault d p e
-  told_of_types e h = told_by_parts e (tells_here (type_faults_of d p) _ e h)
+  told_of_types e h = subst (λ fs. TellsLeastOf fs e) (sym (faults_by_parts d p)) (tells_here (type_faults_of d p) _ e h)
 
   module _ (no_type : type_faults_of d p ≡ []) where
-    -- and so is that of what else is declared, where the types have none
-    pub told_of_declared : (e : TaskFault) → TellsLeastOf (declared_faults d p) e → TellsLeastFault d p e
-    told_of_declared e h = told_by_parts e (tells_later (type_faults_of d p) _ no_type e (tells_here (declared_faults d p) _ e h))
+    -- and so is that of what else is declared and stated, where the types have none
+    pub told_of_contents : (e : TaskFault) → TellsLeastOf (contents_faults d p) e → TellsLeastFault d p e
+    told_of_contents e h =
+        subst (λ fs. TellsLeastOf fs e) (sym (faults_by_parts d p)) (tells_later (type_faults_of d p) _ no_type e (tells_here (contents_faults d p) [] e h))
 
-    module _ (no_other : declared_faults d p ≡ []) (names : Names) (are : AreDeclared d p names) where
-      same_known : known_by names ≡ known_in_problem d p
-      same_known = λ i. record { type_names = are.types.names i; types = are.types.all i; predicates = are.predicates i; variables = []; objects = are.objects i; has_cost = are.has_cost i }
-
-      -- and that of what is stated, where what is declared has none
-      pub told_of_stated : (e : TaskFault) → TellsLeastOf (stated_faults_in problem_file (known_by names) p) e → TellsLeastFault d p e
-      told_of_stated e h =
-          told_by_parts e (tells_later (type_faults_of d p) _ no_type e (tells_later (declared_faults d p) _ no_other e
-          (tells_here (stated_faults_in problem_file (known_in_problem d p) p) [] e (subst (λ k. TellsLeastOf (stated_faults_in problem_file k p) e) same_known h))))
-
-      pub made_by_phases : (start : Start) → Starts problem_file (known_by names) p start → (has_metric : Bool) → has_metric ≡ is_some p.metric
-          → IsMade d p (task_of_parts names.types.all.entries names.objects.all.entries names.predicates.entries names.schemas.entries start.init.items start.goal has_metric)
-      made_by_phases start starts has_metric metric =
-          let known = known_in_problem d p in
-          let no_stated = ap (λ k. stated_faults_in problem_file k p) (sym same_known) ∙ starts.right in
-          let same_init = starts.init ∙ ap (λ k. flat_map (narrow_atoms_in k) p.init) same_known
-          ∙ narrow_is_all problem_file known (low_arguments d p no_type no_other no_stated) p.init (no_init d p no_type no_other no_stated) in
-          let same_goal = starts.goal ∙ ap (λ k. formula_in problem_file k p.goal) same_known in
-          let made : task.Task = task_of_parts names.types.all.entries names.objects.all.entries names.predicates.entries names.schemas.entries start.init.items start.goal has_metric in
-          let same : made ≡ task_of_trees d p =
-          λ i. record { types = are.types.all i; objects = are.objects i; predicates = are.predicates i; schemas = are.schemas i; init = same_init i; goal = same_goal i; has_metric = metric i } in
-          record {
-            well_typed = faults_by_parts d p ∙ (λ i. first_filled (no_type i ∷ no_other i ∷ no_stated i ∷ []));
-            same = same;
-            typed = ap is_task same ∙ typed d p no_type no_other no_stated;
-          }
+    pub made_by_phases : (types : Types) → AreTypesOf d types → (contents : Contents) → AreContents d p contents → (has_metric : Bool) → has_metric ≡ is_some p.metric
+        → IsMade d p (task_of_parts types.all.entries contents.objects.all.entries contents.names.predicates.entries contents.names.schemas.entries contents.start.init.items contents.start.goal has_metric)
+    made_by_phases types are contents hold has_metric metric =
+        let names = contents.names in let start = contents.start in
+        let known = known_in_problem d p in
+        let same_init = hold.start.init ∙ narrow_is_all problem_file known (low_arguments d p no_type hold.no_other hold.start.right) p.init (no_init d p no_type hold.no_other hold.start.right) in
+        let made : task.Task = task_of_parts types.all.entries contents.objects.all.entries names.predicates.entries names.schemas.entries start.init.items start.goal has_metric in
+        let same : made ≡ task_of_trees d p =
+        λ i. record { types = are.all i; objects = hold.objects i; predicates = hold.names.predicates i; schemas = hold.names.schemas i; init = same_init i; goal = hold.start.goal i; has_metric = metric i } in
+        record {
+          well_typed = faults_by_parts d p ∙ (λ i. first_filled (no_type i ∷ first_filled (hold.no_object i ∷ hold.no_other i ∷ hold.start.right i ∷ []) ∷ []));
+          same = same;
+          typed = ap is_task same ∙ typed d p no_type hold.no_other hold.start.right;
+        }

@@ -23,7 +23,7 @@ trees_are_typed d p well =
     let empty = each_empty (phases d p) (well_typed_listed d p well) in
     typed d p
     (λ i. first_filled (empty 0 _ refl i ∷ empty 1 _ refl i ∷ []))
-    (λ i. first_filled (empty 2 _ refl i ∷ empty 3 _ refl i ∷ empty 4 _ refl i ∷ empty 5 _ refl i ∷ []))
+    (λ i. first_filled (empty 3 _ refl i ∷ empty 4 _ refl i ∷ empty 5 _ refl i ∷ []))
     (λ i. first_filled (empty 6 _ refl i ∷ empty 7 _ refl i ∷ []))
 
 -- a task that files make

@@ -3,7 +3,9 @@ use Rattle.std.specs.Prelude.{◌≡◌, ℕ, Bool, List, [], ◌∷◌, ◌++�
 use Rattle.std.specs.Global.{Vec}
 use Rattle.std.specs.List.{flat_map}
 use Rattle.typing_formulas.specs.declared.atoms.TypeId.{TypeId}
+use Rattle.typing.specs.declared.names.Contents.{Contents}
 use Rattle.typing.specs.declared.names.Names.{Names}
+use Rattle.typing.specs.declared.names.Objects.{Objects}
 use Rattle.typing.specs.declared.names.Types.{Types}
 use Rattle.typing.specs.declared.names.Start.{Start}
 use Rattle.typing_formulas.specs.declared.schemas.Predicate.{Predicate}
@@ -11,8 +13,8 @@ use Rattle.typing_formulas.specs.declared.schemas.Schema.{Schema}
 use Rattle.typing_formulas.specs.Scope.{names_in, narrow_atoms_in}
 use Rattle.typing_formulas.specs.TaskParts.{atom_of, formula_of, object_entry_of, predicate_of, schema_of, type_entry_of}
 use Rattle.model.specs.Trees as tree
-use Rattle.model.specs.Trees.{File}
-use Rattle.model.specs.Typing.{first_filled, init_faults, formula_faults, function_faults, domain_name_faults, type_declaration_faults, cycle_faults, object_faults, declaration_faults, action_faults, type_names, types_of, objects_of, predicates_of, declares_cost, known_in_domain, schema_in, formula_in, Known, TypingFault}
+use Rattle.model.specs.Trees.{File, problem_file}
+use Rattle.model.specs.Typing.{first_filled, init_faults, formula_faults, function_faults, domain_name_faults, type_declaration_faults, cycle_faults, object_faults, declaration_faults, action_faults, type_names, types_of, objects_of, predicates_of, declares_cost, known_in_domain, known_in_problem, schema_in, formula_in, Known, TypingFault}
 
 -- the faults of the types: those of the first phase that has any
 abbrev pub type_faults_of : tree.Domain → tree.Problem → List TypingFault
@@ -23,14 +25,13 @@ abbrev pub domain_faults : tree.Domain → tree.Problem → List TypingFault
 domain_faults d p =
     first_filled (declaration_faults (type_names d) d.predicates ∷ function_faults d p ∷ action_faults (known_in_domain d) d.actions ∷ [])
 
--- those of all declarations that are no types
-abbrev pub declared_faults : tree.Domain → tree.Problem → List TypingFault
-declared_faults d p =
-    first_filled (object_faults d p ∷ declaration_faults (type_names d) d.predicates ∷ function_faults d p ∷ action_faults (known_in_domain d) d.actions ∷ [])
-
 -- the faults of the initial state of a file, and else those of the goal
 abbrev pub stated_faults_in : File → Known → tree.Problem → List TypingFault
 stated_faults_in file known p = first_filled (init_faults file known p.init ∷ formula_faults file known p.goal ∷ [])
+
+-- those of all that is declared and stated but the types
+abbrev pub contents_faults : tree.Domain → tree.Problem → List TypingFault
+contents_faults d p = first_filled (object_faults d p ∷ domain_faults d p ∷ stated_faults_in problem_file (known_in_problem d p) p ∷ [])
 
 -- what may be named where these are the types, the objects and the predicates, with or without the total cost
 abbrev pub known_in : Types → List (Vec ℕ × TypeId) → List (Vec ℕ × Predicate) → Bool → Known
@@ -44,18 +45,16 @@ known_in t objects predicates has_cost = record {
 }
 
 -- what may be named in the problem
-abbrev pub known_by : Names → Known
-known_by n = known_in n.types n.objects.all.entries n.predicates.entries n.has_cost
+abbrev pub known_by : Types → Objects → Names → Known
+known_by t o n = known_in t o.all.entries n.predicates.entries n.has_cost
 
 -- these are the types that the domain declares
 pub record AreTypesOf (d : tree.Domain) (t : Types) : Type 0 where
   pub names : names_in t.names.names.keys ≡ type_names d
   pub all : map type_entry_of t.all.entries ≡ types_of d
 
--- these are the names that the pair declares
-pub record AreDeclared (d : tree.Domain) (p : tree.Problem) (n : Names) : Type 0 where
-  pub types : AreTypesOf d n.types
-  pub objects : map object_entry_of n.objects.all.entries ≡ objects_of d p
+-- these are the names that the domain declares over its types
+pub record AreDeclared (d : tree.Domain) (n : Names) : Type 0 where
   pub predicates : map predicate_of n.predicates.entries ≡ predicates_of d
   pub has_cost : n.has_cost ≡ declares_cost d
   pub schemas : map schema_of n.schemas.entries ≡ map (schema_in (known_in_domain d)) d.actions
@@ -70,3 +69,11 @@ pub record Starts (file : File) (known : Known) (p : tree.Problem) (s : Start) :
   pub right : stated_faults_in file known p ≡ []
   pub init : map atom_of s.init.items ≡ flat_map (narrow_atoms_in known) p.init
   pub goal : formula_of s.goal ≡ formula_in file known p.goal
+
+-- nothing but the types of the pair has a fault, and these are its objects, its names, and what it states
+pub record AreContents (d : tree.Domain) (p : tree.Problem) (c : Contents) : Type 0 where
+  pub no_object : object_faults d p ≡ []
+  pub no_other : domain_faults d p ≡ []
+  pub objects : map object_entry_of c.objects.all.entries ≡ objects_of d p
+  pub names : AreDeclared d c.names
+  pub start : Starts problem_file (known_in_problem d p) p c.start

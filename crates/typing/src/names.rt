@@ -28,11 +28,9 @@ pub(crate) struct Objects {
     ghost few: { length all.entries ≤ 65535 },
 }
 
-/// What a domain and a problem declare, by name: each in the place of its number.
+/// What a domain declares over its types and objects, by name: each in the place of its number.
 #[derive(Drop)]
 pub(crate) struct Names {
-    pub(crate) types: Types,
-    pub(crate) objects: Objects,
     pub(crate) predicates: IndexMap<Vec<u8>, Predicate>,
     pub(crate) has_cost: bool,
     pub(crate) schemas: IndexMap<Vec<u8>, Schema>,
@@ -43,6 +41,14 @@ pub(crate) struct Names {
 pub(crate) struct Start {
     pub(crate) init: Vec<Atom>,
     pub(crate) goal: Formula,
+}
+
+/// What a domain and a problem declare and state over their types.
+#[derive(Drop)]
+pub(crate) struct Contents {
+    pub(crate) objects: Objects,
+    pub(crate) names: Names,
+    pub(crate) start: Start,
 }
 
 impl Types {
@@ -69,51 +75,59 @@ impl Types {
     }
 }
 
+impl Contents {
+    ghost use Rattle.typing.specs.Task.{TellsLeastOf};
+    ghost use Rattle.typing.specs.Names.{contents_faults, AreContents, AreTypesOf};
+    ghost use Rattle.syntax_tree.specs.Tree.{domain_of, problem_of};
+
+    /// What a domain and a problem declare and state, where these are the types.
+    pub(crate) fn over(
+        alloc: Global,
+        types: &Types,
+        domain: &Domain<'_>,
+        problem: &Problem<'_>,
+    ) -> Result<Contents, TaskFault>
+        requires { AreTypesOf (domain_of domain.now) types.now }
+        ensures ok { IfOk result (AreContents (domain_of domain.now) (problem_of problem.now)) }
+        ensures err { IfErr result (TellsLeastOf (contents_faults (domain_of domain.now) (problem_of problem.now))) }
+    {
+        let objects = objects::of_pair(alloc, &types.names, domain, problem)?;
+        let names = Names::declared(alloc, types, &objects, domain, problem)?;
+        let start = names.stated(alloc, types, &objects, problem)?;
+        Ok(Contents {
+            objects,
+            names,
+            start,
+        })
+    }
+}
+
 impl Names {
     ghost use Rattle.typing.specs.Task.{TellsLeastOf};
-    ghost use Rattle.typing.specs.Names.{domain_faults, declared_faults, known_by, known_in, stated_faults_in, AreDeclared, AreSchemasOf, AreTypesOf, Starts};
+    ghost use Rattle.typing.specs.Names.{domain_faults, known_by, known_in, stated_faults_in, AreDeclared, AreSchemasOf, AreTypesOf, Starts};
     ghost use Rattle.typing.specs.Objects.{AreObjectsOf};
     ghost use Rattle.syntax_tree.specs.Tree.{domain_of, problem_of};
     ghost use Rattle.model.specs.Trees.{problem_file};
     ghost use Rattle.model.specs.Typing.{action_faults};
 
-    /// The names that a domain and a problem declare, where these are the types.
-    pub(crate) fn declared(
+    /// The names that a domain declares, where these are its types and the pair's objects.
+    fn declared(
         alloc: Global,
-        types: Types,
+        types: &Types,
+        objects: &Objects,
         domain: &Domain<'_>,
         problem: &Problem<'_>,
     ) -> Result<Names, TaskFault>
-        requires { AreTypesOf (domain_of domain.now) types }
+        requires types { AreTypesOf (domain_of domain.now) types.now }
+        requires objects { AreObjectsOf (domain_of domain.now) (problem_of problem.now) objects.now }
         ensures ok { IfOk result
-            (λ n. (declared_faults (domain_of domain.now) (problem_of problem.now) ≡ [])
-            × AreDeclared (domain_of domain.now) (problem_of problem.now) n) }
-        ensures err { IfErr result (TellsLeastOf (declared_faults (domain_of domain.now) (problem_of problem.now))) }
-    {
-        let objects = objects::of_pair(alloc, &types.names, domain, problem)?;
-        Names::of_objects(alloc, types, objects, domain, problem)
-    }
-
-    /// These types and objects, and the names that a domain declares.
-    fn of_objects(
-        alloc: Global,
-        types: Types,
-        objects: Objects,
-        domain: &Domain<'_>,
-        problem: &Problem<'_>,
-    ) -> Result<Names, TaskFault>
-        requires types { AreTypesOf (domain_of domain.now) types }
-        requires objects { AreObjectsOf (domain_of domain.now) (problem_of problem.now) objects }
-        ensures ok { IfOk result
-            (λ n. (domain_faults (domain_of domain.now) (problem_of problem.now) ≡ []) × AreDeclared (domain_of domain.now) (problem_of problem.now) n) }
+            (λ n. (domain_faults (domain_of domain.now) (problem_of problem.now) ≡ []) × AreDeclared (domain_of domain.now) n) }
         ensures err { IfErr result (TellsLeastOf (domain_faults (domain_of domain.now) (problem_of problem.now))) }
     {
         let predicates = declarations::predicates(alloc, &types.names, domain)?;
         let has_cost = functions::declared(alloc, domain, problem)?;
-        let schemas = Names::schemas(alloc, &types, &objects, &predicates, has_cost, domain)?;
+        let schemas = Names::schemas(alloc, types, objects, &predicates, has_cost, domain)?;
         Ok(Names {
-            types,
-            objects,
             predicates,
             has_cost,
             schemas,
@@ -144,16 +158,22 @@ impl Names {
     }
 
     /// What the problem states, with numbers for the names.
-    pub(crate) fn stated(&self, alloc: Global, problem: &Problem<'_>) -> Result<Start, TaskFault>
-        ensures ok { IfOk result (Starts problem_file (known_by self.now) (problem_of problem.now)) }
-        ensures err { IfErr result (TellsLeastOf (stated_faults_in problem_file (known_by self.now) (problem_of problem.now))) }
+    fn stated(
+        &self,
+        alloc: Global,
+        types: &Types,
+        objects: &Objects,
+        problem: &Problem<'_>,
+    ) -> Result<Start, TaskFault>
+        ensures ok { IfOk result (Starts problem_file (known_by types.now objects.now self.now) (problem_of problem.now)) }
+        ensures err { IfErr result (TellsLeastOf (stated_faults_in problem_file (known_by types.now objects.now self.now) (problem_of problem.now))) }
     {
         let globals = Globals {
             file: TaskFile::Problem,
-            type_names: &self.types.names,
-            types: &self.types.all,
+            type_names: &types.names,
+            types: &types.all,
             predicates: &self.predicates,
-            objects: &self.objects.all,
+            objects: &objects.all,
             has_cost: self.has_cost,
         };
         Start::stated_in(alloc, &globals, problem)
@@ -167,7 +187,7 @@ impl Start {
     ghost use Rattle.syntax_tree.specs.Tree.{problem_of};
 
     /// What the problem states, where this may be named in it.
-    pub(crate) fn stated_in(
+    fn stated_in(
         alloc: Global,
         globals: &Globals<'_>,
         problem: &Problem<'_>,

@@ -3,7 +3,7 @@ ghost use Rattle.std.specs.Prelude.{IsTrue, ◌≤◌, length};
 ghost use Rattle.typing_formulas.specs.TaskParts.{task_of_parts};
 ghost use Rattle.model.specs.WellTyped.{is_task};
 
-use crate::names::{Names, Types};
+use crate::names::{Contents, Types};
 use crate::{
     Atom, Formula, MAX_VARIABLES, ObjectId, Predicate, PredicateId, Schema, SchemaId, TaskFault,
     TypeId, TypeUnion,
@@ -62,13 +62,12 @@ impl Task {
         ensures least { IfErr result (TellsLeastFault (domain_of domain.now) (problem_of problem.now)) }
     {
         let types = Types::declared(alloc, domain, problem)?;
-        let names = Names::declared(alloc, types, domain, problem)?;
-        let start = names.stated(alloc, problem)?;
-        let types = names.types;
-        let objects = names.objects;
+        let contents = Contents::over(alloc, &types, domain, problem)?;
+        let names = contents.names;
+        let start = contents.start;
         Ok(Task {
             types: types.all,
-            objects: objects.all,
+            objects: contents.objects.all,
             predicates: names.predicates,
             schemas: names.schemas,
             init: start.init,

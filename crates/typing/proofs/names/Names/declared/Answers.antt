@@ -1,41 +1,63 @@
 use Rattle.std.proofs.Common.{◌≡◌, [], ◌∷◌, ◌∙◌, map, ap, sym, subst}
-use Rattle.std.proofs.lemmas.Result.{IfOk-weaker, MatchResult-weaker}
 use Rattle.syntax_tree.specs.Tree.{domain_of, problem_of}
 use Rattle.typing.specs.Task.{TellsLeastOf}
-use Rattle.typing.specs.Names.{declared_faults, domain_faults, AreDeclared}
-use Rattle.model.specs.Typing.{object_faults, objects_faults, declaration_faults, function_faults, action_faults, declared_objects, declared_constants, known_in_domain, object_in, type_names, first_filled}
+use Rattle.typing_formulas.specs.TaskParts as parts
+use Rattle.typing.specs.Names.{domain_faults, known_in}
+use Rattle.model.specs.Typing.{declaration_faults, function_faults, action_faults, known_in_domain, predicates_of, predicate_in, schema_in, type_names, first_filled}
 use Rattle.typing_formulas.proofs.Tells.{tells_here, tells_later}
 use Rattle.faults.proofs.Results.{passed_on}
+use Rattle.typing.proofs.names.Names.declared.Goals.{In_ok-predicates, In_ok-has_cost}
 use Rattle.typing.proofs.names.Names.declared.Goals as goal
 
-pub returns-in_err-objects-clause-err : goal.returns-in_err-objects-clause-err
-returns-in_err-objects-clause-err c =
-    let d = domain_of c.args.domain.now in let p = problem_of c.args.problem.now in let e = c.in_err-objects.field-0.0 in
-    let told = subst (λ ns. TellsLeastOf (objects_faults ns (declared_objects d p)) e) c.requires.names c.in_err-objects.ensures.err in
-    passed_on (TellsLeastOf (declared_faults d p)) c.from_residual.result e c.from_residual.ensures.1
-    (tells_here (object_faults d p) _ e told)
+predicates : (c : In_ok-has_cost) → map parts.predicate_of c.in_ok-predicates.predicates.entries ≡ predicates_of (domain_of c.args.domain.now)
+predicates c = c.in_ok-predicates.ensures.ok.1 ∙ ap (λ ns. map (predicate_in ns) (domain_of c.args.domain.now).predicates) c.requires.types.names
 
-pub of_objects-requires : goal.of_objects-requires
-of_objects-requires c =
-    let d = domain_of c.args.domain.now in let p = problem_of c.args.problem.now in
-    record {
-      types = c.requires;
-      objects = record {
-        constants = c.in_ok-objects.ensures.ok.constants ∙ ap (λ ns. map (object_in ns) (declared_constants d)) c.requires.names;
-        all = c.in_ok-objects.ensures.ok.all ∙ ap (λ ns. map (object_in ns) (declared_objects d p)) c.requires.names;
-      };
-    }
+-- what may be named in the domain
+same : (c : In_ok-has_cost) → known_in c.args.types.now c.args.objects.now.constants.entries c.in_ok-predicates.predicates.entries c.in_ok-has_cost.has_cost ≡ known_in_domain (domain_of c.args.domain.now)
+same c = λ i. record {
+  type_names = c.requires.types.names i;
+  types = c.requires.types.all i;
+  predicates = predicates c i;
+  variables = [];
+  objects = c.requires.objects.constants i;
+  has_cost = c.in_ok-has_cost.ensures.ok.1 i;
+}
+
+none : (c : In_ok-predicates) → declaration_faults (type_names (domain_of c.args.domain.now)) (domain_of c.args.domain.now).predicates ≡ []
+none c = sym (ap (λ ns. declaration_faults ns (domain_of c.args.domain.now).predicates) c.requires.types.names) ∙ c.in_ok-predicates.ensures.ok.0
+
+pub returns-in_err-predicates-clause-err : goal.returns-in_err-predicates-clause-err
+returns-in_err-predicates-clause-err c =
+    let d = domain_of c.args.domain.now in let p = problem_of c.args.problem.now in let e = c.in_err-predicates.field-0.0 in
+    let told = subst (λ ns. TellsLeastOf (declaration_faults ns d.predicates) e) c.requires.types.names c.in_err-predicates.ensures.err in
+    passed_on (TellsLeastOf (domain_faults d p)) c.from_residual.result e c.from_residual.ensures.1
+    (tells_here (declaration_faults (type_names d) d.predicates) _ e told)
+
+pub returns-in_err-has_cost-clause-err : goal.returns-in_err-has_cost-clause-err
+returns-in_err-has_cost-clause-err c =
+    let s = (goal.at.returns-in_err-has_cost-clause-err c).In_ok-predicates in
+    let d = domain_of c.args.domain.now in let p = problem_of c.args.problem.now in let e = c.in_err-has_cost.field-0.0 in
+    passed_on (TellsLeastOf (domain_faults d p)) c.from_residual-in_err-has_cost.result e c.from_residual-in_err-has_cost.ensures.1
+    (tells_later (declaration_faults (type_names d) d.predicates) _ (none s) e (tells_here (function_faults d p) _ e c.in_err-has_cost.ensures.err))
+
+pub returns-in_err-schemas-clause-err : goal.returns-in_err-schemas-clause-err
+returns-in_err-schemas-clause-err c =
+    let s = (goal.at.returns-in_err-schemas-clause-err c).In_ok-has_cost in let before = (goal.at.returns-in_err-schemas-clause-err c).In_ok-predicates in
+    let d = domain_of c.args.domain.now in let p = problem_of c.args.problem.now in let e = c.in_err-schemas.field-0.0 in
+    let told = subst (λ k. TellsLeastOf (action_faults k d.actions) e) (same s) c.in_err-schemas.ensures.err in
+    passed_on (TellsLeastOf (domain_faults d p)) c.from_residual-in_err-schemas.result e c.from_residual-in_err-schemas.ensures.1
+    (tells_later (declaration_faults (type_names d) d.predicates) _ (none before) e
+    (tells_later (function_faults d p) _ c.in_ok-has_cost.ensures.ok.0 e (tells_here (action_faults (known_in_domain d) d.actions) _ e told)))
 
 pub returns-clause-ok : goal.returns-clause-ok
 returns-clause-ok c =
-    let d = domain_of c.args.domain.now in let p = problem_of c.args.problem.now in
-    let none = sym (ap (λ ns. objects_faults ns (declared_objects d p)) c.requires.names) ∙ c.in_ok-objects.ensures.ok.right in
-    IfOk-weaker c.of_objects.result (λ n. (domain_faults d p ≡ []) × AreDeclared d p n) (λ n. (declared_faults d p ≡ []) × AreDeclared d p n)
-    (λ n are. (ap (λ fs. first_filled (fs ∷ declaration_faults (type_names d) d.predicates ∷ function_faults d p ∷ action_faults (known_in_domain d) d.actions ∷ [])) none ∙ are.0, are.1))
-    c.of_objects.ensures.ok
-
-pub returns-clause-err : goal.returns-clause-err
-returns-clause-err c =
-    let d = domain_of c.args.domain.now in let p = problem_of c.args.problem.now in
-    let none = sym (ap (λ ns. objects_faults ns (declared_objects d p)) c.requires.names) ∙ c.in_ok-objects.ensures.ok.right in
-    MatchResult-weaker c.of_objects.result c.of_objects.ensures.err (λ n is. is) (λ e told. tells_later (object_faults d p) (declaration_faults (type_names d) d.predicates ∷ function_faults d p ∷ action_faults (known_in_domain d) d.actions ∷ []) none e told)
+    let s = (goal.at.returns-clause-ok c).In_ok-has_cost in let before = (goal.at.returns-clause-ok c).In_ok-predicates in
+    let d = domain_of c.args.domain.now in
+    let actions = ap (λ k. action_faults k d.actions) (sym (same s)) ∙ c.in_ok-schemas.ensures.ok.right in (
+      λ i. first_filled (none before i ∷ c.in_ok-has_cost.ensures.ok.0 i ∷ actions i ∷ []),
+      record {
+        predicates = predicates s;
+        has_cost = c.in_ok-has_cost.ensures.ok.1;
+        schemas = c.in_ok-schemas.ensures.ok.schemas ∙ ap (λ k. map (schema_in k) d.actions) (same s);
+      },
+    )
