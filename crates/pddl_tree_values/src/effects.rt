@@ -7,9 +7,10 @@ ghost use Rattle.pddl_tree_values.specs.Phrases.{the_last_effect, the_when, the_
 ghost use Rattle.pddl_tree_values.specs.Reading.{part, phrase, Reads};
 ghost use Rattle.syntax_tree.specs.Tree.{atom_of, effect_of, effect_literal_of};
 
-use crate::formulas::part;
+use crate::formulas::{atom, part};
 use crate::lists::{Item, list};
-use crate::look::{Parsed, close, is_and, is_close, open};
+use crate::look::{Parsed, is_and, is_close, open};
+use crate::placing::{add, boxed, closed, make};
 use crate::refusals::{Literals, Place, refusal};
 use crate::typed_lists::variables;
 use faults::Refused;
@@ -33,18 +34,14 @@ pub(crate) fn effect<'a>(alloc: Global, words: &[Word<'a>], at: usize) -> Parsed
 {
     match token_at(words, at) {
         Token::Free(_, predicate) => {
-            let (terms, next) = list(alloc, words, at + 1)?;
-            let literal = EffectLiteral::Add(Atom { predicate, terms });
-            Ok((Effect::Literal(literal), next))
+            let (atom, next) = atom(alloc, words, at + 1, predicate)?;
+            Ok((Effect::Literal(EffectLiteral::Add(atom)), next))
         }
         Token::Reserved(ReservedName::Not, _) => {
             let (atom, next) = last_atom(alloc, words, at + 1, Literals::Plain)?;
             Ok((Effect::Literal(EffectLiteral::Delete(atom)), next))
         }
-        Token::Reserved(ReservedName::And, _) => {
-            let (parts, next) = effects(alloc, words, at + 1)?;
-            Ok((Effect::And(parts), next))
-        }
+        Token::Reserved(ReservedName::And, _) => make(effects(alloc, words, at + 1), Effect::And),
         Token::Reserved(ReservedName::Forall, _) => {
             let (variables, next) = variables(alloc, words, at + 1)?;
             let (part, next) = last(alloc, words, next)?;
@@ -63,8 +60,7 @@ fn when<'a>(alloc: Global, words: &[Word<'a>], at: usize) -> Parsed<Effect<'a>>
 {
     let (condition, next) = part(alloc, words, at)?;
     let inside = open(words, next, Place::Elsewhere)?;
-    let (literals, next) = conditional(alloc, words, inside)?;
-    let next = close(words, next)?;
+    let (literals, next) = closed(words, conditional(alloc, words, inside))?;
     Ok((Effect::When(Box::into_inner(condition), literals), next))
 }
 
@@ -75,10 +71,7 @@ fn last<'a>(alloc: Global, words: &[Word<'a>], at: usize) -> Parsed<Box<Effect<'
     ensures { Reads (phrase the_last_effect) words.now at (λ e. effect_of e.value) result }
 {
     let inside = open(words, at, Place::Elsewhere)?;
-    let (part, next) = effect(alloc, words, inside)?;
-    let part = Box::new(alloc, part)?;
-    let next = close(words, next)?;
-    Ok((part, next))
+    closed(words, boxed(alloc, effect(alloc, words, inside)))
 }
 
 /// Effects, and `)`: the effects, and the index after the parenthesis.
@@ -91,9 +84,7 @@ fn effects<'a>(alloc: Global, words: &[Word<'a>], at: usize) -> Parsed<Vec<Effec
     let mut next = at;
     'parts: while !is_close(words, next) {
         let inside = open(words, next, Place::Elsewhere)?;
-        let (part, after) = effect(alloc, words, inside)?;
-        parts.push(part)?;
-        next = after;
+        next = add(&mut parts, effect(alloc, words, inside))?;
     }
     Ok((parts, next + 1))
 }
@@ -130,13 +121,12 @@ fn literal<'a>(alloc: Global, words: &[Word<'a>], at: usize) -> Parsed<EffectLit
 {
     match token_at(words, at) {
         Token::Free(_, predicate) => {
-            let (terms, next) = list(alloc, words, at + 1)?;
-            Ok((EffectLiteral::Add(Atom { predicate, terms }), next))
+            make(atom(alloc, words, at + 1, predicate), EffectLiteral::Add)
         }
-        Token::Reserved(ReservedName::Not, _) => {
-            let (atom, next) = last_atom(alloc, words, at + 1, Literals::UnderWhen)?;
-            Ok((EffectLiteral::Delete(atom), next))
-        }
+        Token::Reserved(ReservedName::Not, _) => make(
+            last_atom(alloc, words, at + 1, Literals::UnderWhen),
+            EffectLiteral::Delete,
+        ),
         _ => Err(Refused::At(refusal(words, at, Place::UnderWhen))),
     }
 }
@@ -153,11 +143,7 @@ fn last_atom<'a>(
 {
     let inside = open(words, at, Place::Elsewhere)?;
     match token_at(words, inside) {
-        Token::Free(_, predicate) => {
-            let (terms, next) = list(alloc, words, inside + 1)?;
-            let next = close(words, next)?;
-            Ok((Atom { predicate, terms }, next))
-        }
+        Token::Free(_, predicate) => closed(words, atom(alloc, words, inside + 1, predicate)),
         _ => match literals {
             Literals::Plain => Err(Refused::At(refusal(words, inside, Place::Elsewhere))),
             Literals::UnderWhen => Err(Refused::At(refusal(words, inside, Place::UnderWhen))),

@@ -5,6 +5,7 @@ ghost use Rattle.syntax_tree.specs.Name.{name_of, term_of};
 ghost use Rattle.pddl_tree_values.specs.Reading.{part, Reads};
 
 use crate::look::{Parsed, is_close, name, term};
+use crate::placing::add;
 use crate::refusals::{Place, refusal};
 use faults::Refused;
 use pddl_words::{Keyword, Name, Term, Token, token_at};
@@ -30,9 +31,7 @@ pub fn list<'a, T: Item<'a>>(alloc: Global, words: &[Word<'a>], at: usize) -> Pa
     let mut items = Vec::new(alloc);
     let mut next = at;
     'items: while !is_close(words, next) {
-        let (item, after) = T::read(alloc, words, next)?;
-        items.push(item)?;
-        next = after;
+        next = add(&mut items, T::read(alloc, words, next))?;
     }
     Ok((items, next + 1))
 }

@@ -10,6 +10,7 @@ ghost use Rattle.pddl_tree_values.specs.Typed.{the_either};
 
 use crate::lists::list;
 use crate::look::{Parsed, either_word, ends_group, is_close, listed_name, name, open};
+use crate::placing::add;
 use crate::refusals::{Listed, Place, refusal};
 use faults::Refused;
 use pddl_words::{Name, Token, token_at};
@@ -30,9 +31,7 @@ pub fn typed<'a>(
     let mut groups = Vec::new(alloc);
     let mut next = at;
     'groups: while !is_close(words, next) {
-        let (group, after) = group(alloc, words, next, listed)?;
-        groups.push(group)?;
-        next = after;
+        next = add(&mut groups, group(alloc, words, next, listed))?;
     }
     Ok((groups, next + 1))
 }
