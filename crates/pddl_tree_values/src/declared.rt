@@ -1,7 +1,7 @@
 //! Declarations of predicates, and the facts of `:init`.
 ghost use Rattle.model.specs.Grammar.{listed, declaration, fact as wants_fact, ground_atom as wants_ground_atom};
 ghost use Rattle.pddl_tree_values.specs.Reading.{part, phrase, Reads};
-ghost use Rattle.pddl_words.specs.Name.{name_of};
+ghost use Rattle.syntax_tree.specs.Name.{name_of};
 ghost use Rattle.pddl_tree_values.specs.Phrases.{the_ground_atom};
 ghost use Rattle.syntax_tree.specs.Tree.{predicate_of, fact_of, ground_atom_of};
 

@@ -5,7 +5,7 @@ ghost use Rattle.model.specs.Grammar.{many, listed, formula as wants_formula};
 ghost use Rattle.pddl_tree_values.specs.Phrases.{the_atom, the_equality, the_quantified, the_last, the_implication};
 ghost use Rattle.pddl_tree_values.specs.Reading.{part, phrase, Reads};
 ghost use Rattle.syntax_tree.specs.Tree.{atom_of, formula_of, groups_of};
-ghost use Rattle.pddl_words.specs.Name.{name_of};
+ghost use Rattle.syntax_tree.specs.Name.{name_of};
 
 use crate::lists::list;
 use crate::look::{Parsed, close, is_close, open, term};
