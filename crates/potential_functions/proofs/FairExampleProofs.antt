@@ -1,5 +1,5 @@
 -- What the definitions say of the worked examples of potential functions.
-use Rattle.std.specs.Prelude.{◌≡◌, ℕ, zero, suc, ◌<◌, ℤ, pos, ◌+ℤ◌, ◌≤ℤ◌, List, [], ◌∷◌, length, slice_get, All, Some, refl}
+use Rattle.std.specs.Prelude.{◌≡◌, ℕ, zero, suc, ◌<◌, ℤ, pos, ◌≤ℤ◌, List, [], ◌∷◌, length, slice_get, All, Some, refl}
 use Rattle.std.specs.List.{filter_map}
 use Rattle.std.specs.Int.Signed.{le_z_yes}
 use Rattle.std.proofs.Common.{◌∙◌, sym, ap, subst, arith}
@@ -8,11 +8,11 @@ use Rattle.std.proofs.lemmas.Int.{ints}
 use Rattle.model.specs.Task.{Atom, Task, Instance}
 use Rattle.model.specs.Meaning.{cost_of}
 use Rattle.model.specs.ClosedOff.{kept_instances}
-use Rattle.model.specs.NumberedLiterals.{numbered_change, literals_of_instance, literals_of_goal}
-use Rattle.model.proofs.GroundingComputes.{kept, kept-is, counting, counting_numbers-is, initial-is}
-use Rattle.potential_functions.specs.PotentialFunctions.{PotentialFunction, value}
-use Rattle.potential_functions.specs.Fair.{loses_at_most, instance_loses, IsFairAt, goal_gives_at_most, IsFairAtGoals, AreFair, IsFirstUnfair}
-use Rattle.potential_functions.specs.FairExamples.{hop_task, hop_atoms, hop_weights, when_task, when_atoms, lamps_task, lamps_atoms, potentials, minus, IsUnfairAtGoals, AreJudged}
+use Rattle.model.specs.NumberedLiterals.{numbered_change, literals_of_instance}
+use Rattle.model.proofs.GroundingComputes.{kept-is, counting, counting_numbers-is, initial-is}
+use Rattle.potential_functions.specs.PotentialFunctions.{value}
+use Rattle.potential_functions.specs.Fair.{loses_at_most, instance_loses, IsFairAt, IsFirstUnfair}
+use Rattle.potential_functions.specs.FairExamples.{hop_task, hop_atoms, hop_weights, when_task, when_atoms, lamps_task, lamps_atoms, potentials, minus, AreJudged}
 use Rattle.model.specs.Examples.{instance}
 
 module _ (task : Task) (atoms : List Atom) where

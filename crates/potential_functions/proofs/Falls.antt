@@ -1,15 +1,14 @@
 -- By how much a score falls from one packed state to another, and what it is at a goal. Said of literals and changes by
 -- numbers, whatever task they are of.
-use Rattle.std.proofs.Common.{◌≡◌, ◌∙◌, ℕ, ◌+◌, ◌<◌, ◌≤◌, inl, inr, Bool, true, false, not, ◌&&◌, ◌||◌, List, [], ◌∷◌, length, get_or, refl, sym, ap, subst, arith, ℤ, pos, negsuc, ◌+ℤ◌, neg_ℤ, ◌≤ℤ◌}
-use Rattle.std.specs.Prelude.{Contains, if◌then◌else◌, All, map, filter, fold}
-use Rattle.std.specs.Bool.{beq}
+use Rattle.std.proofs.Common.{◌≡◌, ℕ, ◌+◌, ◌<◌, ◌≤◌, inl, inr, Bool, true, false, List, [], ◌∷◌, length, get_or, refl, ap, subst, arith, ℤ, pos, negsuc, ◌+ℤ◌, ◌≤ℤ◌}
+use Rattle.std.specs.Prelude.{Contains, if◌then◌else◌, map, fold}
 use Rattle.std.specs.Int.{int_max}
 use Rattle.std.proofs.lemmas.Int.{ints, clamps, fold-int_max_bounds}
 use Rattle.std.proofs.lemmas.List.Elements.{All-contains}
 use Rattle.model.specs.NumberedLiterals.{NumberedLiteral, NumberedChange}
 use Rattle.model.proofs.ListLemmas.{Contains-none, Contains-cases, Contains-map, Contains-filter}
 use Rattle.potential_functions.specs.PotentialFunctions.{PotentialFunction, weight, sum_below, given, score, or_zero, value}
-use Rattle.potential_functions.specs.Fair.{says, touches, may_become, Pair, is_pair, pairs, loss, greatest, worst, loses, loses_at_most, goal_gives, goal_gives_at_most}
+use Rattle.potential_functions.specs.Fair.{says, touches, Pair, is_pair, pairs, loss, greatest, worst, loses, loses_at_most, goal_gives, goal_gives_at_most}
 use Rattle.potential_functions.proofs.Sums.{sum-least, sum-least_both}
 
 -- ---- one atom

@@ -1,12 +1,12 @@
 -- Fair potential functions are lower bounds.
-use Rattle.std.proofs.Common.{◌≡◌, ◌∙◌, ℕ, ◌+◌, ◌<◌, ◌≤◌, Bool, true, false, List, [], ◌∷◌, length, map, get_or, Option, None, Some, refl, sym, ap, subst, arith, ℤ, pos, ◌+ℤ◌, ◌≤ℤ◌}
-use Rattle.std.specs.Prelude.{All, IsTrue, slice_get}
+use Rattle.std.proofs.Common.{◌≡◌, ◌∙◌, ℕ, ◌<◌, Bool, true, false, List, [], ◌∷◌, length, get_or, None, Some, refl, sym, ap, subst, arith, ℤ, pos, ◌+ℤ◌, ◌≤ℤ◌}
+use Rattle.std.specs.Prelude.{IsTrue, slice_get}
 use Rattle.std.specs.Option.{option_map, option_map_or, option_and_then}
 use Rattle.std.specs.FinSet.{contains}
 use Rattle.std.proofs.lemmas.List.{length-map, get_or-map}
 use Rattle.std.proofs.lemmas.List.Elements.{All-contains}
 use Rattle.std.proofs.lemmas.List.Sums.{sum_by-cons}
-use Rattle.std.proofs.lemmas.Option.{slice_get-get_or, get_or_from_slice_get}
+use Rattle.std.proofs.lemmas.Option.{slice_get-get_or}
 use Rattle.std.proofs.lemmas.Int.{ints}
 use Rattle.model.specs.Task.{Atom, Task, Instance}
 use Rattle.model.specs.Runs.{System, run, cost_of_all}
@@ -16,14 +16,13 @@ use Rattle.model.specs.ClosedOff.{kept_instances}
 use Rattle.model.specs.NumberedAtoms.{stands_in}
 use Rattle.model.specs.NumberedLiterals.{literals_of_instance, literals_of_goal, counting_of_instance}
 use Rattle.model.specs.Grounding.{state_of_bits, bits_of_state, ground_step, ground_system}
-use Rattle.model.proofs.ListLemmas.{Contains-got}
 use Rattle.model.proofs.NumberingLemmas.{stands_in-Contains}
 use Rattle.model.proofs.PackedStates.{contains-static, bits_of-packed_state}
 use Rattle.model.proofs.Atoms.{atoms_total}
 use Rattle.model.proofs.ClosedOffLemmas.{Contains-kept}
 use Rattle.model.proofs.GroundTaskLemmas.{step-HasInitialStatics}
 use Rattle.std.specs.FinSet.{contains-from_list}
-use Rattle.potential_functions.specs.PotentialFunctions.{PotentialFunction, score, or_zero, value, value_of_state}
+use Rattle.potential_functions.specs.PotentialFunctions.{PotentialFunction, score}
 use Rattle.potential_functions.specs.Fair.{is_pair, IsFairAt, AreFair}
 use Rattle.potential_functions.specs.Laws.{AreNumberable, IsLowerBoundOf, IsConsistent, IsGroundLowerBoundOf, IsGroundConsistent, AreLowerBounds, FairOnesAreLowerBounds}
 use Rattle.potential_functions.proofs.Falls.{score-falls, score-ends, or_zero-most, value-falls, value-ends}

@@ -1,16 +1,14 @@
 -- The numbers in literals and changes are those of numbered atoms.
-use Rattle.std.proofs.Common.{◌≡◌, ◌∙◌, ℕ, ◌<◌, Bool, true, false, List, [], ◌∷◌, length, get_or, Option, None, Some, refl, sym, ap, subst, arith}
-use Rattle.std.specs.Prelude.{All, Contains, IsTrue, slice_get}
-use Rattle.std.specs.List.{filter_map}
+use Rattle.std.proofs.Common.{◌≡◌, ℕ, ◌<◌, Bool, true, false, List, [], length, None, Some, refl, ap, subst}
+use Rattle.std.specs.Prelude.{Contains, slice_get}
 use Rattle.std.specs.Option.{option_map, option_map_or}
 use Rattle.std.proofs.lemmas.Option.{slice_get_within}
-use Rattle.model.specs.Task.{Atom, Formula, Schema, Task, Instance}
+use Rattle.model.specs.Task.{Atom, Formula, Task, Instance}
 use Rattle.model.specs.Meaning.{GroundLiteral, adds, deletes, Change}
-use Rattle.model.specs.Fluents.{is_fluent}
 use Rattle.model.specs.SureLiterals.{Literal, is_true, is_false, are_same, are_different, sure}
 use Rattle.model.specs.ClosedOff.{kept_instances, is_unconditional, counting_changes}
-use Rattle.model.specs.NumberedAtoms.{stands_in, number_of}
-use Rattle.model.specs.NumberedLiterals.{NumberedLiteral, NumberedChange, numbered_literal, numbered_literals, numbered_ground_literal, numbered_change, literals_of_instance, literals_of_number, literals_of_goal, counting_of_instance, counting_of_number}
+use Rattle.model.specs.NumberedAtoms.{number_of}
+use Rattle.model.specs.NumberedLiterals.{NumberedLiteral, NumberedChange, numbered_literal, numbered_literals, numbered_ground_literal, numbered_change, literals_of_instance, literals_of_number, counting_of_instance, counting_of_number}
 use Rattle.model.proofs.ListLemmas.{Contains-none, filter_map-Contains}
 use Rattle.model.proofs.NumberingLemmas.{got-number_of}
 

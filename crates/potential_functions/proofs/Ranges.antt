@@ -1,5 +1,5 @@
 -- Constants, weights and what they give are in range, and so are sums of them.
-use Rattle.std.proofs.Common.{◌≡◌, ◌∙◌, ℕ, zero, suc, ◌+◌, ◌*◌, ◌<◌, ◌≤◌, inl, inr, Bool, true, false, List, [], ◌∷◌, length, get_or, refl, ap, arith, ℤ, pos, ◌+ℤ◌, neg_ℤ, ◌≤ℤ◌}
+use Rattle.std.proofs.Common.{◌≡◌, ℕ, zero, suc, ◌*◌, ◌≤◌, inl, inr, Bool, true, false, List, [], ◌∷◌, get_or, ap, arith, ℤ, pos, ◌+ℤ◌, ◌≤ℤ◌}
 use Rattle.std.specs.Prelude.{if◌then◌else◌, All}
 use Rattle.std.proofs.lemmas.Bool.{cases_eq}
 use Rattle.std.proofs.lemmas.Int.{ints}
@@ -19,12 +19,6 @@ given-range weights bits n all = of_bit (get_or bits n false)
     of_bit : (bit : Bool) → IsInRange (if bit then weight weights n else pos 0)
     of_bit true = weight-range weights n all
     of_bit false = zero-range
-
--- what the code computes of an atom
-pub given-is : (weights : List ℤ) (bits : List Bool) (n : ℕ) (bit : Bool) (w v x : ℤ) → bit ≡ get_or bits n false → w ≡ weight weights n → v ≡ w
-    → x ≡ (if bit then v else pos 0) → x ≡ given weights bits n
-given-is weights bits n bit w v x set weighs same is =
-    is ∙ ap (λ b. if b then v else pos 0) set ∙ ap (λ z. if get_or bits n false then z else pos 0) (same ∙ weighs)
 
 -- how far two sums of numbers in range are apart
 pub sum-between : (n m : ℕ) (f : ℕ → ℤ) → ((k : ℕ) → IsInRange (f k)) → n ≤ m

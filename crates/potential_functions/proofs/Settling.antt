@@ -1,14 +1,13 @@
 -- One weight changed, and when a potential function is settled.
-use Rattle.std.proofs.Common.{◌≡◌, ◌∙◌, ℕ, zero, suc, ◌+◌, ◌*◌, ◌<◌, ◌≤◌, ◌≢◌, inl, inr, Bool, true, false, List, [], ◌∷◌, set, get_or, length, length-set, refl, sym, ap, subst, arith, ℤ, pos, negsuc, ◌+ℤ◌, neg_ℤ, ◌≤ℤ◌, ◌<ℤ◌}
+use Rattle.std.proofs.Common.{◌≡◌, ◌∙◌, ℕ, zero, suc, ◌<◌, ◌≤◌, ◌≢◌, inl, inr, Bool, true, false, List, [], ◌∷◌, set, get_or, length, length-set, refl, sym, ap, subst, arith, ℤ, pos, ◌+ℤ◌, neg_ℤ, ◌≤ℤ◌}
 use Rattle.std.specs.Prelude.{if◌then◌else◌, All}
 use Rattle.std.specs.Int.{int_max}
 use Rattle.std.proofs.lemmas.Bool.{cases_eq, cases_lt}
 use Rattle.std.proofs.lemmas.List.{get_or-set_same, get_or-set_other}
 use Rattle.std.proofs.lemmas.Int.{ints, by_lt_z}
 use Rattle.model.specs.Task.{Atom, Task}
-use Rattle.model.specs.NumberedLiterals.{NumberedLiteral, literals_of_goal}
-use Rattle.model.specs.Grounding.{ground_system}
-use Rattle.potential_functions.specs.PotentialFunctions.{PotentialFunction, weight, sum_below, given, score, or_zero, value, IsInRange, AreInRange}
+use Rattle.model.specs.NumberedLiterals.{NumberedLiteral}
+use Rattle.potential_functions.specs.PotentialFunctions.{PotentialFunction, weight, sum_below, given, IsInRange}
 use Rattle.potential_functions.specs.Fair.{says, goal_gives, goal_gives_at_most, AreFair}
 use Rattle.potential_functions.specs.Settled.{AreNear, initial_value, IsSettled}
 use Rattle.potential_functions.proofs.Sums.{sum-changed}

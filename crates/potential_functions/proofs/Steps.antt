@@ -1,14 +1,14 @@
 -- What a step of the task does to numbered atoms, by the literals and the changes of its instance.
-use Rattle.std.proofs.Common.{◌≡◌, ◌∙◌, ℕ, ◌<◌, ◌≤◌, inl, inr, Bool, true, false, true≢false, not, ◌&&◌, ◌||◌, List, [], ◌∷◌, length, map, get_or, Option, None, Some, refl, sym, ap, subst, arith}
-use Rattle.std.specs.Prelude.{◌==◌, if◌then◌else◌, cond, filter, slice_get, IsTrue}
+use Rattle.std.proofs.Common.{◌≡◌, ◌∙◌, ℕ, Bool, true, false, true≢false, not, ◌&&◌, ◌||◌, List, [], ◌∷◌, map, Option, None, Some, refl, sym, ap, subst}
+use Rattle.std.specs.Prelude.{◌==◌, if◌then◌else◌, cond, filter, slice_get}
 use Rattle.std.specs.Bool.{beq}
-use Rattle.std.specs.List.{list_any, list_all, filter_map}
+use Rattle.std.specs.List.{list_any, filter_map}
 use Rattle.std.specs.Option.{option_map, option_map_or, option_and_then}
 use Rattle.std.specs.Ordering.{eq_by_cmp}
 use Rattle.std.specs.FinSet.{contains}
-use Rattle.std.proofs.lemmas.Bool.{and_parts, and_from, or_cases, or_left, or_right, eqb-true, eq-eqb, not-true, false_from_ne_true}
+use Rattle.std.proofs.lemmas.Bool.{and_parts, and_from, or_right, eqb-true, eq-eqb, not-true, false_from_ne_true}
 use Rattle.model.specs.Task.{Atom, Formula, and, no_formula, Schema, Task, Instance}
-use Rattle.model.specs.Meaning.{State, atom_cmp, fits, holds, GroundLiteral, adds, deletes, Change, changes_of, literals_in, added_by, deleted_by, after_literals, after_changes, step}
+use Rattle.model.specs.Meaning.{State, atom_cmp, fits, holds, GroundLiteral, adds, deletes, Change, changes_of, literals_in, added_by, deleted_by, after_changes, step}
 use Rattle.model.specs.Fluents.{HasInitialStatics}
 use Rattle.model.specs.SureLiterals.{Literal, is_true, is_false, are_same, are_different, literal_holds, sure}
 use Rattle.model.specs.ClosedOff.{is_empty_and, is_unconditional, counting_changes}
@@ -18,7 +18,7 @@ use Rattle.model.proofs.SureLiteralsHold.{sure_literals_hold}
 use Rattle.model.proofs.StaticLemmas.{contains-after_literals, same_atom, and_false}
 use Rattle.model.proofs.NumberingLemmas.{same_itself, number_of-got, got-number_of}
 use Rattle.model.proofs.GroundTaskLemmas.{step-counting}
-use Rattle.potential_functions.specs.Fair.{says, touches, makes, may_become, Pair, is_pair}
+use Rattle.potential_functions.specs.Fair.{says, touches, makes, may_become, is_pair}
 use Rattle.potential_functions.proofs.Passing.{any-filter_map, any-weaker, any-either, all-any}
 
 -- ---- what may become of an atom

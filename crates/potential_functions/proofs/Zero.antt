@@ -1,14 +1,13 @@
 -- The potential function whose constant and weights are 0 is fair.
-use Rattle.std.proofs.Common.{◌≡◌, ◌∙◌, ℕ, zero, suc, ◌<◌, ◌≤◌, Bool, true, false, not, ◌&&◌, List, [], ◌∷◌, length, get_or, refl, sym, ap, subst, arith, ℤ, pos, ◌+ℤ◌, neg_ℤ, ◌≤ℤ◌}
-use Rattle.std.specs.Prelude.{if◌then◌else◌, All, map, filter, fold, replicate}
+use Rattle.std.proofs.Common.{◌≡◌, ◌∙◌, ℕ, zero, suc, Bool, true, false, List, [], ◌∷◌, length, get_or, refl, ap, arith, ℤ, pos}
+use Rattle.std.specs.Prelude.{if◌then◌else◌, All, map, fold, replicate}
 use Rattle.std.specs.Int.{int_max}
 use Rattle.std.proofs.lemmas.Int.{ints, clamps}
-use Rattle.model.specs.Task.{Atom, Task, Instance}
-use Rattle.model.specs.Meaning.{cost_of}
+use Rattle.model.specs.Task.{Atom, Task}
 use Rattle.model.specs.ClosedOff.{kept_instances}
 use Rattle.model.specs.NumberedLiterals.{NumberedLiteral, NumberedChange, literals_of_instance, literals_of_goal, counting_of_instance}
-use Rattle.potential_functions.specs.PotentialFunctions.{PotentialFunction, weight, sum_below, IsInRange}
-use Rattle.potential_functions.specs.Fair.{says, touches, Pair, pairs, loss, greatest, worst, loses, loses_at_most, goal_gives, goal_gives_at_most, IsFairAt, AreFair}
+use Rattle.potential_functions.specs.PotentialFunctions.{PotentialFunction, weight, IsInRange}
+use Rattle.potential_functions.specs.Fair.{says, touches, Pair, pairs, loss, greatest, worst, loses, loses_at_most, goal_gives, goal_gives_at_most, AreFair}
 use Rattle.potential_functions.proofs.Sums.{sum-alike, sum-zero}
 use Rattle.potential_functions.proofs.Ranges.{zero-range}
 

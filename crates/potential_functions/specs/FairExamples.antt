@@ -1,7 +1,7 @@
 -- Worked examples of potential functions: what an instance may lose by one atom, what is left at a goal, values, and three
 -- small tasks. Each is chosen so that a wrong reading says otherwise.
-use Rattle.std.specs.Prelude.{◌≡◌, ℕ, Bool, true, false, ℤ, pos, neg_ℤ, List, [], ◌∷◌, codes, All}
-use Rattle.model.specs.Task.{Atom, variable, object, Formula, atom, and, not, forall, add, delete, when, Schema, Task, Instance}
+use Rattle.std.specs.Prelude.{◌≡◌, ℕ, true, false, ℤ, pos, neg_ℤ, List, [], ◌∷◌, codes, All}
+use Rattle.model.specs.Task.{Atom, variable, object, atom, and, not, forall, add, when, Schema, Task, Instance}
 use Rattle.model.specs.Meaning.{cost_of}
 use Rattle.model.specs.ClosedOff.{kept_instances}
 use Rattle.model.specs.NumberedLiterals.{NumberedLiteral, NumberedChange}
