@@ -11,7 +11,6 @@ use Rattle.solver.specs.declared.answer.Answer.TheVariants as answer
 use Rattle.model.specs.Task.{Task}
 use Rattle.planner_main_answers.specs.Files.{text_in}
 use Rattle.planner_main_output.specs.Answer.{text_of}
-use Rattle.planner_main_files.specs.Written.{NamedText}
 use Rattle.planner_main.specs.Solution.{cert_file, plan_file}
 
 -- What is wanted to be written of an answer that is a plan, or that there is none.
