@@ -60,8 +60,8 @@ plan_of-requires-clause-few c =
     let found = outcome_by (ground_system (task_in g) (atoms_in g)) p pooled_states c.states.result _ _ c.in-Found.is c.in_ok-outcome.ensures in
     omega (arith, ap length c.deref.ensures.value, found.3, c.states.ensures, most_of_limit c.args.limits.states c.args.limits.states_within)
 
-pub returns-in-Found : goal.returns-in-Found
-returns-in-Found c =
+pub returns-in_ok-cert-in-Found : goal.returns-in_ok-cert-in-Found
+returns-in_ok-cert-in-Found c =
     let g = c.args.ground.now in
     let f = c.args.estimate.now in
     let task = task_in g in
@@ -74,9 +74,9 @@ returns-in-Found c =
     let cert = certificate_of c.in_ok-cert-in-Found.cert in
     let numbered = c.requires.ground.atoms in
     let numbers = c.in-Found.steps.items in
-    let plan = plan_of c.in_ok-steps.steps in
+    let plan = plan_of c.in_ok-steps-in-Found.steps in
     let found = outcome_by (ground_system task atoms) p pooled_states most _ _ c.in-Found.is c.in_ok-outcome.ensures in
-    let named = rw c.deref.ensures.value at c.in_ok-steps.ensures in
+    let named = rw c.deref.ensures.value at c.in_ok-steps-in-Found.ensures in
     let optimal = plan_optimal task atoms numbered numbers plan named found.0 in
     let many : length p.weights ≡ length atoms = subst (λ (h : Ground). length p.weights ≡ length (atoms_in h)) c.requires.fair.ground f.width in
     let fair : AreFair task atoms p = subst (λ (h : Ground). AreFair (task_in h) (atoms_in h) p) c.requires.fair.ground f.fair in
@@ -100,8 +100,8 @@ cert_of-requires-in-Exhausted-clause-found c =
     (sym c.requires.fair.ground)
     (found_among_more found.1 (omega (arith, c.states.ensures, most_of_limit c.args.limits.states c.args.limits.states_within)))
 
-pub returns-in-Exhausted : goal.returns-in-Exhausted
-returns-in-Exhausted c =
+pub returns-in_ok-cert-in-Exhausted : goal.returns-in_ok-cert-in-Exhausted
+returns-in_ok-cert-in-Exhausted c =
     let g = c.args.ground.now in
     let f = c.args.estimate.now in
     let task = task_in g in
@@ -123,8 +123,8 @@ returns-in-Exhausted c =
       c.requires.ground.within,
     )
 
-pub returns : goal.returns
-returns c =
+pub returns-in-States : goal.returns-in-States
+returns-in-States c =
     let g = c.args.ground.now in
     let p = potentials_in c.args.estimate.now in
     let told = outcome_by (ground_system (task_in g) (atoms_in g)) p pooled_states c.states.result _ _ c.in-States.is c.in_ok-outcome.ensures in

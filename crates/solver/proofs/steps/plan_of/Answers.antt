@@ -11,5 +11,5 @@ unreachable-requires c =
     let long = plan_length (task_in c.args.ground.now) c.args.numbers.now c.in_ok-instances_of.field-0.items c.in_ok-instances_of.ensures in
     omega (arith, long, c.requires.few, c.in-None.ensures.too_long.0 refl)
 
-pub returns-in-Some : goal.returns-in-Some
-returns-in-Some c = subst (λ (plan : List Instance). AllZip (NamesKept (task_in c.args.ground.now)) c.args.numbers.now plan) (sym c.in-Some.ensures.steps) c.in_ok-instances_of.ensures
+pub returns : goal.returns
+returns c = subst (λ (plan : List Instance). AllZip (NamesKept (task_in c.args.ground.now)) c.args.numbers.now plan) (sym c.in-Some.ensures.steps) c.in_ok-instances_of.ensures
