@@ -66,3 +66,9 @@ pub record IsRightUpTo (task : Task) (c : Certificate) (most place : ℕ) : Type
   pub fair : AreFair task (numbered_atoms task c.atoms) c.potentials
   pub initial : IsListedWithin (lines_of task c) (initial_state task) 0
   pub lines : (k : ℕ) (l : Line State) → k < place → slice_get (lines_of task c) k ≡ Some l → IsLineClosed task c l
+
+-- All is right, where nothing is wrong with what was read and the ground task keeps its limits.
+abbrev pub IsRightGrounded : Task → Certificate → Type 0
+IsRightGrounded task c =
+    AllPairs (λ (k l : Line State). k.state ≢ l.state) (lines_of task c) → CutsAreAllowed task c (length (lines_of task c))
+    → (most : ℕ) → limit_told most max_numbered_atoms task c.atoms ≡ None → IsRightUpTo task c most (length (lines_of task c))

@@ -1,20 +1,23 @@
 //! The answer to a task.
 ghost use Rattle.std.specs.Prelude.{[], IfOk, IsTrue};
 ghost use Rattle.typing.specs.Task.{task_of};
-ghost use Rattle.grounding.specs.Ground.{task_in, IsGroundOf};
+ghost use Rattle.grounding.specs.Ground.{task_in, atoms_in, IsGroundOf};
+ghost use Rattle.potentials.specs.FairPotentials.{potentials_in, AreOf};
+ghost use Rattle.solver.specs.Improved.{AreSettledOrHigh};
 ghost use Rattle.solver.specs.Solver.{IsTrueAnswer};
 ghost use Rattle.model.specs.WellTyped.{is_task};
 
 use crate::estimate::improved_potentials;
 use crate::limits::Limits;
 use crate::listing::cert_of;
-use crate::steps::instances_of;
+use crate::steps::plan_of;
 use crate::system::GroundSystem;
 use certificate::{Cert, Claim};
 use faults::{NoMemory, Refused};
 use formulas::Plan;
 use grounding::{Ground, GroundLimit};
 use packed_state::PooledStore;
+use potentials::Fair;
 use search::{Outcome, best_first};
 use std::alloc::Global;
 use typing::Task;
@@ -86,23 +89,38 @@ fn solve_ground(alloc: Global, ground: &Ground<'_>, limits: Limits) -> Result<An
     requires ground { IsGroundOf (task_in ground.now) [] limits.instances ground.now }
     ensures { IfOk result (IsTrueAnswer (task_in ground.now) limits.states limits.instances) }
 {
-    let system = GroundSystem(ground);
     let estimate = improved_potentials(alloc, ground)?;
+    solve_by(alloc, ground, &estimate, limits)
+}
+
+/// The same by this estimate.
+fn solve_by(
+    alloc: Global,
+    ground: &Ground<'_>,
+    estimate: &Fair<'_, '_>,
+    limits: Limits,
+) -> Result<Answer, NoMemory>
+    requires typed { IsTrue (is_task (task_in ground.now)) }
+    requires ground { IsGroundOf (task_in ground.now) [] limits.instances ground.now }
+    requires fair { AreOf ground.now (potentials_in estimate.now) estimate.now }
+    requires improved { AreSettledOrHigh (task_in ground.now) (atoms_in ground.now) (potentials_in estimate.now) }
+    ensures { IfOk result (IsTrueAnswer (task_in ground.now) limits.states limits.instances) }
+{
+    let system = GroundSystem(ground);
     let store = PooledStore::new(alloc, ground.width())?;
-    match best_first(alloc, &system, &estimate, store, limits.states())? {
+    let outcome = best_first(alloc, &system, estimate, store, limits.states())?;
+    match outcome {
         Outcome::Found {
             steps,
             cost,
             states,
         } => {
-            let cert = cert_of(alloc, &estimate, Claim::Bound(cost), &states)?;
-            match Plan::new(instances_of(alloc, ground, &steps)?) {
-                Some(steps) => Ok(Answer::Plan { steps, cost, cert }),
-                None => unreachable!(),
-            }
+            let steps = plan_of(alloc, ground, &steps)?;
+            let cert = cert_of(alloc, estimate, Claim::Bound(cost), &states)?;
+            Ok(Answer::Plan { steps, cost, cert })
         }
         Outcome::Exhausted { states } => {
-            let cert = cert_of(alloc, &estimate, Claim::Unsolvable, &states)?;
+            let cert = cert_of(alloc, estimate, Claim::Unsolvable, &states)?;
             Ok(Answer::Unsolvable { cert })
         }
         Outcome::States => Ok(Answer::Unknown(Limit::States)),

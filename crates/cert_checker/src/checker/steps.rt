@@ -2,12 +2,12 @@
 ghost use Rattle.std.specs.Prelude.{◌≡◌, ◌≢◌, ℕ, ◌+◌, ◌<◌, ◌↔◌, AllPairs, List, length, slice_get, Option, None, Some, IsTrue, IfErr, IfOk, OnOk};
 ghost use Rattle.typing.specs.Task.{task_of};
 ghost use Rattle.packed_state.specs.Packed.{bits_of};
-ghost use Rattle.grounding.specs.Ground.{IsGroundOf};
+ghost use Rattle.grounding.specs.Ground.{task_in, atoms_in, IsGroundOf};
 ghost use Rattle.certificate_lines.specs.Lines.{claim_of};
 ghost use Rattle.certificate_listing.specs.Listing.{certificate_in};
 ghost use Rattle.cert_checker.specs.CertChecker.{IsFirstRefusal, IsTrueRefusal};
 ghost use Rattle.cert_checker.specs.FluentAtoms.{AreFluent};
-ghost use Rattle.cert_checker.specs.CheckedLines.{CutsAreAllowed, IsCutClosed, IsFirstGrounded, IsLineClosed, IsOpenClosed, IsRightUpTo, IsTrueAnyway, Stands};
+ghost use Rattle.cert_checker.specs.CheckedLines.{CutsAreAllowed, IsCutClosed, IsFirstGrounded, IsLineClosed, IsOpenClosed, IsRightGrounded, IsRightUpTo, IsTrueAnyway, Stands};
 ghost use Rattle.cert_checker.specs.PackedListing.{task_at, atoms_at, certificate_at, state_at, IsPacked};
 ghost use Rattle.model.specs.Task as model_task;
 ghost use Rattle.model.specs.Meaning.{system_of};
@@ -46,11 +46,7 @@ pub(super) fn check_listing(
     ensures first { IfErr result (λ e. (plan : Option (List model_task.Instance)) → IsFirstRefusal (task_of task.now) (certificate_in listing) plan max_instances e) }
 {
     let grounded = ground_task(alloc, task, &listing, max_instances)?;
-    let potentials = fair_potentials(alloc, &listing, &grounded)?;
-    let listing = listing.at_width(alloc, grounded.width())?;
-    let listing = PackedListing::new(&grounded, &listing, &potentials);
-    check_initial(alloc, &listing)?;
-    check_lines(alloc, &listing)
+    check_grounded(alloc, &grounded, listing)
 }
 
 /// The ground task in which the certificate's atoms have the first numbers.
@@ -72,6 +68,32 @@ fn ground_task<'t>(
         Err(GroundFault::At(_)) => Err(Refusal::Plain(RefusalCode::Limit)),
         Err(GroundFault::NoMemory) => Err(Refusal::NoMemory),
     }
+}
+
+/// Checks the certificate by the ground task in which its atoms have the first numbers.
+fn check_grounded(alloc: Global, grounded: &Ground<'_>, listing: Listing) -> Result<(), Refusal>
+    requires fluent { AreFluent (task_in grounded.now) (certificate_in listing).atoms }
+    requires numbered { atoms_in grounded.now ≡ numbered_atoms (task_in grounded.now) (certificate_in listing).atoms }
+    ensures right { OnOk result (IsRightGrounded (task_in grounded.now) (certificate_in listing)) }
+    ensures wrong { IfErr result (IsTrueAnyway (task_in grounded.now) (certificate_in listing)) }
+    ensures first { IfErr result (IsFirstGrounded (task_in grounded.now) (certificate_in listing)) }
+{
+    let listing = listing.at_width(alloc, grounded.width())?;
+    let potentials = fair_potentials(alloc, &listing, grounded)?;
+    let packed = PackedListing::new(grounded, &listing, &potentials);
+    check_packed(alloc, &packed)
+}
+
+/// Checks the certificate's states, where its potentials are fair: whether the initial state is listed at cost 0, and the
+/// state lines in order.
+fn check_packed(alloc: Global, listing: &PackedListing) -> Result<(), Refusal>
+    requires { AreFair (task_at listing.now) (numbered_atoms (task_at listing.now) (certificate_at listing.now).atoms) (certificate_at listing.now).potentials }
+    ensures right { OnOk result (IsRightGrounded (task_at listing.now) (certificate_at listing.now)) }
+    ensures wrong { IfErr result (IsTrueAnyway (task_at listing.now) (certificate_at listing.now)) }
+    ensures first { IfErr result (IsFirstGrounded (task_at listing.now) (certificate_at listing.now)) }
+{
+    check_initial(alloc, listing)?;
+    check_lines(alloc, listing)
 }
 
 /// Whether the initial state is listed at cost 0.
