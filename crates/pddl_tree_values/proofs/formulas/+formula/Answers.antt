@@ -1,4 +1,4 @@
-use Rattle.pddl_tree_values.proofs.Names.{refl, map, sym, ◌∙◌, ◌+◌, ap, subst, arith, Reads, part, formula_of, formulas, formula, many, listed, name_of}
+use Rattle.pddl_tree_values.proofs.Names.{refl, map, ◌∙◌, ◌+◌, ap, subst, arith, Reads, part, formula_of, formulas, formula, many, listed, name_of}
 use Rattle.model.specs.Trees as tree
 use Rattle.syntax_tree.proofs.Rows.{formula_of-And, formula_of-Or}
 use Rattle.pddl_tree_values.proofs.Looks.{read_reserved, made_in, one_added, one_inside, on_more}
