@@ -37,7 +37,7 @@ contents_of c = record {
   domain = name_of c.domain;
   objects = groups_of c.objects;
   init = map fact_of c.init.items;
-  goal = formula_of c.goal.value;
+  goal = formula_of c.goal;
   metric = option_map name_of c.metric;
 }
 

@@ -10,8 +10,8 @@ ghost use Rattle.pddl_tree.specs.Sections.{the_action, parts_on, part_into};
 
 use faults::Refused;
 use pddl_tree_values::{
-    Listed, Parsed, Place, action_name, effect_value, filled, formula, has_part, is_close,
-    no_condition, no_effect, open, put, refusal, replace, typed,
+    Listed, Parsed, Place, action_name, effect_value, formula, has_part, is_close, no_condition,
+    no_effect, open, put, refusal, replace, typed,
 };
 use pddl_words::{Keyword, Name, PartKeyword, Token, WordFault, WordRefusal, token_at};
 use std::alloc::Global;
@@ -36,9 +36,10 @@ pub(crate) fn action<'a>(alloc: Global, words: &[Word<'a>], at: usize) -> Parsed
     ensures { Reads (phrase the_action) words.now at action_of result }
 {
     let (name, next) = action_name(words, at)?;
-    let mut action = bare(alloc, name);
-    let end = parts(alloc, words, next, &mut action);
-    filled(action, end)
+    // Boxed, since a box is dropped in one step of a proof, and an action in one for each form that its parts may have.
+    let mut action = Box::new(alloc, bare(alloc, name))?;
+    let end = parts(alloc, words, next, &mut action)?;
+    Ok((Box::into_inner(action), end))
 }
 
 /// Parts of an action, each at most once, and `)`, taken into the action: the index after the parenthesis.

@@ -113,7 +113,7 @@ pub fn problem<'a>(alloc: Global, words: &[Word<'a>]) -> Result<Problem<'a>, Fau
         domain: contents.domain,
         objects: contents.objects,
         init: contents.init,
-        goal: Box::into_inner(contents.goal),
+        goal: contents.goal,
         metric: contents.metric,
     })
 }
@@ -180,7 +180,7 @@ fn file<'a>(
         Ok(head) => head,
         Err(refusal) => return Err(fault(words, Refused::At(refusal))),
     };
-    let mut contents = Contents::new(alloc)?;
+    let mut contents = Contents::new(alloc);
     match rest(alloc, words, at, file, &mut contents) {
         Ok(()) => Ok((name, contents)),
         Err(refusal) => Err(fault(words, refusal)),

@@ -3,18 +3,17 @@ ghost use Rattle.std.specs.Prelude.{◌≡◌, ◌+◌, [], IfOk, IfErr, map, So
 ghost use Rattle.std.specs.List.{list_all};
 ghost use Rattle.model.specs.GrammarWords.{opens, keyword, of_section};
 ghost use Rattle.model.specs.Grammar as grammar;
-ghost use Rattle.model.specs.Trees as tree;
 ghost use Rattle.syntax_tree.specs.Name.{name_of};
 ghost use Rattle.pddl_words.specs.Token.{from, first, section_view};
 ghost use Rattle.pddl_tree_values.specs.Reading.{part, phrase, Reads, ReadsInto, GoesOn, Stops, closes_first};
-ghost use Rattle.syntax_tree.specs.Tree.{file_of, formula_of};
+ghost use Rattle.syntax_tree.specs.Tree.{file_of};
 ghost use Rattle.pddl_tree.specs.Sections.{contents_of, sections_on, section_into, the_domain, IsNotNew};
 
 use crate::action::action;
 use faults::{NoMemory, Refused, Span};
 use pddl_tree_values::{
-    Key, Listed, Parsed, Place, add, allowed, close, functions, has_section, is_close, last, list,
-    metric, name, no_condition, open, put, refusal, required, typed,
+    Key, Listed, Parsed, Place, allowed, close, functions, has_section, is_close, last, list,
+    metric, name, no_condition, open, put, refusal, replace, required, typed,
 };
 use pddl_words::{Keyword, Name, SectionKeyword, Token, WordFault, WordRefusal, token_at};
 use std::alloc::Global;
@@ -32,17 +31,16 @@ pub(crate) struct Contents<'a> {
     pub(crate) domain: Name<'a>,
     pub(crate) objects: Vec<Group<'a>>,
     pub(crate) init: Vec<Fact<'a>>,
-    pub(crate) goal: Box<Formula<'a>>,
+    pub(crate) goal: Formula<'a>,
     pub(crate) metric: Option<Name<'a>>,
 }
 
 impl<'a> Contents<'a> {
     /// No section.
-    pub(crate) fn new(alloc: Global) -> Result<Contents<'a>, NoMemory>
-        ensures { IfOk result (λ contents. contents_of contents ≡ grammar.no_contents) }
+    pub(crate) fn new(alloc: Global) -> Contents<'a>
+        ensures { contents_of result ≡ grammar.no_contents }
     {
-        let goal = no_goal(alloc)?;
-        Ok(Contents {
+        Contents {
             types: Vec::new(alloc),
             constants: Vec::new(alloc),
             predicates: Vec::new(alloc),
@@ -54,18 +52,10 @@ impl<'a> Contents<'a> {
             },
             objects: Vec::new(alloc),
             init: Vec::new(alloc),
-            goal,
+            goal: no_condition(alloc),
             metric: None,
-        })
+        }
     }
-}
-
-/// `(and)`, the goal where the file has none.
-fn no_goal<'a>(alloc: Global) -> Result<Box<Formula<'a>>, NoMemory>
-    ensures { IfOk result (λ goal. formula_of goal.value ≡ tree.and (tree.formulas [])) }
-{
-    let goal = Box::new(alloc, no_condition(alloc))?;
-    Ok(goal)
 }
 
 /// Sections of a file, each but `:action` at most once, and `)`, taken into the contents: the index after the
@@ -192,7 +182,11 @@ fn section_rest<'a>(
         }
         SectionKeyword::Predicates => put(&mut contents.predicates, list(alloc, words, at)),
         SectionKeyword::Functions => put(&mut contents.functions, functions(alloc, words, at)),
-        SectionKeyword::Action => add(&mut contents.actions, action(alloc, words, at)),
+        SectionKeyword::Action => {
+            let (action, next) = action(alloc, words, at)?;
+            contents.actions.push(action)?;
+            Ok(next)
+        }
         SectionKeyword::Domain => put(&mut contents.domain, domain_name(words, at)),
         SectionKeyword::Objects => {
             put(
@@ -201,7 +195,11 @@ fn section_rest<'a>(
             )
         }
         SectionKeyword::Init => put(&mut contents.init, list(alloc, words, at)),
-        SectionKeyword::Goal => put(&mut contents.goal, last(alloc, words, at)),
+        SectionKeyword::Goal => {
+            let (goal, next) = last(alloc, words, at)?;
+            replace(&mut contents.goal, Box::into_inner(goal));
+            Ok(next)
+        }
         SectionKeyword::Metric => {
             let (metric, next) = metric(words, at)?;
             contents.metric = Some(metric);

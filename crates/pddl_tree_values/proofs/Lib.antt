@@ -1,7 +1,6 @@
 pub mod Names
 pub mod Read
 pub mod Looks
-pub mod LastAtom
 pub mod Groups
 pub mod TotalCost
 pub mod EffectValues

@@ -6,7 +6,7 @@ use Rattle.std.proofs.lemmas.Result.{err_from_is_err_and}
 use Rattle.std.proofs.lemmas.List.{map-append, append_assoc, append-nil}
 use Rattle.pddl_words.specs.Token.{reserved_view}
 use Rattle.pddl_words.specs.declared.token.ReservedName.{ReservedName}
-use Rattle.pddl_tree_values.specs.Reading.{IsPut, IsFilled, IsAdded, IsMade, IsClosed, IsAfter, and_first}
+use Rattle.pddl_tree_values.specs.Reading.{IsPut, and_first}
 use Rattle.pddl_tree_values.proofs.Read.{by_first, part_none, part_of, part_here, taken, bind_bind, bind_made, phrase_then}
 use Rattle.model.specs.GrammarWords as words
 use Rattle.model.specs.Grammar.{more, either_word, conditional, conditional_literal}
@@ -38,31 +38,6 @@ pub read_later : {T A : Type 0} (f g : List Token → Reading A) (list : List Wo
 read_later f g list at next view (Ok (x, i)) less e h = (e ∙ h.0, (omega (arith, h.1.0), h.1.1))
 read_later f g list at next view (Err fault) less e h = told_along list _ _ fault e h
 
--- what was read, made into another thing, as k makes its tree
-pub made_in : {T U A B : Type 0} {P : T → U → Type 0} (read : List Token → Reading A) (list : List Word) (at : ℕ) (one : T → A) (view : U → B) (k : A → B) (r : Result (T × ℕ) WordFault) (result : Result (U × ℕ) WordFault) → ((x : T) (y : U) → P x y → view y ≡ k (one x)) → Reads read list at one r → IsMade P r result → Reads (λ w. bind (read w) (λ x v. made (k x) v)) list at view result
-made_in read list at one view k (Ok (x, next)) (Ok (y, end)) same h is = (ap (λ r. bind r (λ x v. made (k x) v)) h.0 ∙ (λ i. made (sym (same x y is.0) i) (from list (sym is.1 i))), subst (IsAfter list at) (sym is.1) h.1)
-made_in read list at one view k (Ok (x, next)) (Err fault) same h is = subst (Tells list (bind (read (from list at)) (λ x v. made (k x) v))) (sym is) tt
-made_in read list at one view k (Err fault) result same h is = subst (Reads (λ w. bind (read w) (λ x v. made (k x) v)) list at view) (sym is) (told_first list (read (from list at)) (λ x v. made (k x) v) fault h)
-
--- what was read, and the `)` behind it
-pub closed_in : {T A : Type 0} (read : List Token → Reading A) (list : List Word) (at : ℕ) (view : T → A) (r result : Result (T × ℕ) WordFault) → Reads read list at view r → IsClosed list r result → Reads (λ w. bind (read w) (λ x v. bind (part close v) (λ _ u. made x u))) list at view result
-closed_in read list at view (Ok (x, next)) (Ok (y, end)) h is =
-    (ap (λ r. bind r (λ x v. bind (part close v) (λ _ u. made x u))) h.0 ∙ ap (λ r. bind r (λ _ u. made (view x) u)) is.1.0 ∙ (λ i. made (view (sym is.0 i)) (from list end)), (omega (arith, h.1.0, is.1.1.0), is.1.1.1))
-closed_in read list at view (Ok (x, next)) (Err fault) h is =
-    told_along list _ _ fault (ap (λ r. bind r (λ x v. bind (part close v) (λ _ u. made x u))) h.0) (told_first list (part close (from list next)) (λ _ u. made (view x) u) fault is)
-closed_in read list at view (Err fault) result h is =
-    subst (Reads (λ w. bind (read w) (λ x v. bind (part close v) (λ _ u. made x u))) list at view) (sym is) (told_first list (read (from list at)) (λ x v. bind (part close v) (λ _ u. made x u)) fault h)
-
--- a value that was filled
-pub filled_in : {T A : Type 0} (read : List Token → Reading A) (list : List Word) (at : ℕ) (view : T → A) (x : T) (end : Result ℕ WordFault) (result : Result (T × ℕ) WordFault) → ReadsInto read list at (view x) end → IsFilled x end result → Reads read list at view result
-filled_in read list at view x (Ok next) result h is = subst (Reads read list at view) (sym is) h
-filled_in read list at view x (Err fault) result h is = subst (Reads read list at view) (sym is) h
-
--- what was put behind others
-pub one_added : {V : Type 0} (r : Result (V × ℕ) WordFault) (done items : List V) (end : ℕ) → IsAdded r done items (Ok end) → (x : V) × ((r ≡ Ok (x, end)) × (items ≡ done ++ x ∷ []))
-one_added (Ok (x, next)) done items end h = (x, (λ i. Ok (x, sym h.1 i), h.0))
-one_added (Err fault) done items end h = absurd (cc)
-
 -- what was read, and put in its place
 pub put_in : {T A B : Type 0} (read : List Token → Reading A) (list : List Word) (at : ℕ) (view : T → A) (k : A → B) (r : Result (T × ℕ) WordFault) (placed : T) (result : Result ℕ WordFault) → Reads read list at view r → IsPut r placed result → ReadsInto (λ w. bind (read w) (λ x v. made (k x) v)) list at (k (view placed)) result
 put_in {A = A} {B} read list at view k (Ok (x, next)) placed result h is =
@@ -79,10 +54,9 @@ refused_here s u list at none same = part_here s list at ∙ by_word (first (fro
     by_word None e = refl
     by_word (Some t) e = ap (λ p. by_rule part p (from list (at + 1)) (stops (number_at s t) (from list at))) e
 
--- what follows a reserved word
-pub read_reserved : {T : Type 0} (s : Sort) {p : Phrase (Value s)} (list : List Word) (at : ℕ) {word q : ReservedName} (n : Name) (view : T → Value s) (r : Result (T × ℕ) WordFault) → Some (reserved (reserved_view word) n) ≡ first (from list at) → word ≡ q → after s (reserved (reserved_view q) n) ≡ Some p → Reads (phrase p) list (at + 1) view r → Reads (part s) list at view r
-read_reserved s {p} list at {q = q} n view r stands is rule h =
-    read_later (part s) (phrase p) list at (at + 1) view r (omega arith) (taken s list at (reserved (reserved_view q) n) (sym stands ∙ ap (λ r. Some (reserved (reserved_view r) n)) is) rule) h
+-- a reserved word that may stand there
+pub by_reserved : (s : Sort) {p : Phrase (Value s)} (list : List Word) (at : ℕ) {word q : ReservedName} (n : Name) → Some (reserved (reserved_view word) n) ≡ first (from list at) → word ≡ q → after s (reserved (reserved_view q) n) ≡ Some p → part s (from list at) ≡ phrase p (from list (at + 1))
+by_reserved s list at {q = q} n stands is rule = taken s list at (reserved (reserved_view q) n) (sym stands ∙ ap (λ r. Some (reserved (reserved_view r) n)) is) rule
 
 -- no `(` where a list is wanted
 pub not_open : (s : Sort) (list : List Word) (at : ℕ) → opens_first (first (from list at)) ≡ false → part (listed s) (from list at) ≡ stops (number_seen close (first (from list at))) (from list at)

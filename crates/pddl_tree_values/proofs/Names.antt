@@ -8,7 +8,7 @@ pub use Rattle.model.specs.GrammarWords.{Token, closes, dash, free, keyword, of_
 pub use Rattle.model.specs.Refusals.{number_at, start}
 pub use Rattle.model.specs.Trees.{File, Name, effects, formulas}
 pub use Rattle.pddl_tree_values.specs.Place.{listed_view}
-pub use Rattle.pddl_tree_values.specs.Reading.{GoesOn, Reading, Reads, ReadsInto, ReadsOne, Stops, Tells, bind, by_rule, closes_first, made, number_seen, one_of, opens_first, part, phrase, stops}
+pub use Rattle.pddl_tree_values.specs.Reading.{GoesOn, Reading, Reads, ReadsInto, Stops, Tells, bind, by_rule, closes_first, made, number_seen, one_of, opens_first, part, phrase, stops}
 pub use Rattle.pddl_tree_values.specs.Typed.{the_either}
 pub use Rattle.syntax_tree.specs.Name.{name_of}
 pub use Rattle.pddl_words.specs.Refusal.{WordFault, told}

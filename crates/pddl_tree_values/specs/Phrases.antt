@@ -1,20 +1,13 @@
 -- What the grammar makes of what follows some words of formulas and effects.
-use Rattle.std.specs.Prelude.{List, map}
+use Rattle.std.specs.Prelude.{map}
 use Rattle.pddl_tree_values.specs.declared.refusals.Literals.{Literals}
 use Rattle.pddl_tree_values.specs.declared.refusals.Literals.TheVariants as literals
 use Rattle.pddl_tree_values.specs.declared.values.EffectValue.{EffectValue}
 use Rattle.syntax_tree.specs.Tree.{effect_of, increase_of}
 use Rattle.model.specs.Trees.{Formula, Effect, Atom}
 use Rattle.model.specs.Trees as tree
-use Rattle.model.specs.Grammar.{Phrase, gives, ◌>>=◌, ◌>>◌, many, listed, typed, variables, formula, term, a_name, effect_list, conditional, conditional_atom, atom, close, value_of_all}
+use Rattle.model.specs.Grammar.{Phrase, gives, ◌>>=◌, ◌>>◌, many, listed, formula, term, effect_list, conditional, conditional_atom, atom, close, value_of_all}
 use Rattle.model.specs.Grammar as grammar
-
--- after the name of an atom's predicate
-abbrev pub the_atom : tree.Name → Phrase Atom
-the_atom n = many term >>= λ ts. gives (record { predicate = n; terms = ts })
-
-abbrev pub the_ground_atom : tree.Name → Phrase tree.GroundAtom
-the_ground_atom n = many a_name >>= λ ns. gives (record { predicate = n; objects = ns })
 
 -- after the `=` of an equality
 abbrev pub the_equality : Phrase Formula
@@ -23,10 +16,6 @@ the_equality = term >>= λ t. term >>= λ u. close >> gives (tree.equal t u)
 -- a formula in its parentheses, and the `)` of what it stands in
 abbrev pub the_last : Phrase Formula
 the_last = listed formula >>= λ f. close >> gives f
-
--- after `exists` or `forall`
-abbrev pub the_quantified : Phrase (List tree.Group × Formula)
-the_quantified = listed (typed variables) >>= λ gs. listed formula >>= λ f. close >> gives (gs, f)
 
 -- after `imply`
 abbrev pub the_implication : Phrase Formula

@@ -1,6 +1,6 @@
 -- What the grammar makes of words, as a function: the tree that is read first with the words left, or where the words
 -- stop and by which number. And what a call of the reader answers, in these terms.
-use Rattle.std.specs.Prelude.{◌≡◌, ℕ, suc, zero, ◌+◌, ◌<◌, ◌≤◌, Bool, true, false, List, [], ◌∷◌, ◌++◌, Option, Some, None, Result, Ok, Err, length}
+use Rattle.std.specs.Prelude.{◌≡◌, ℕ, suc, zero, ◌+◌, ◌<◌, ◌≤◌, Bool, true, false, List, [], ◌∷◌, Option, Some, None, Result, Ok, Err, length}
 use Rattle.tokens.specs.declared.word.Word.{Word}
 use Rattle.pddl_words.specs.Token.{from, first}
 use Rattle.faults.specs.declared.refused.Refused.TheVariants.{At, NoMemory}
@@ -10,7 +10,7 @@ use Rattle.pddl_words.specs.Refusal.{WordFault}
 use Rattle.pddl_tree_values.specs.declared.refusals.Place.{Place}
 use Rattle.pddl_tree_values.specs.Place.{wanted}
 use Rattle.model.specs.GrammarWords.{Token, opens, closes, reserved, and}
-use Rattle.model.specs.Grammar.{Sort, Value, Phrase, gives, ◌>>=◌, after, close}
+use Rattle.model.specs.Grammar.{Sort, Value, Phrase, gives, ◌>>=◌, after}
 use Rattle.model.specs.Refusals.{number_at}
 
 pub data Reading (A : Type 0) : Type 0 where
@@ -86,29 +86,6 @@ Passes read words at tree (Err refusal) = Stops words (read (from words at)) ref
 abbrev pub IsPut : {T : Type 0} → Result (T × ℕ) WordFault → T → Result ℕ WordFault → Type 0
 IsPut (Ok (x, next)) placed result = (placed ≡ x) × (result ≡ Ok next)
 IsPut (Err fault) placed result = result ≡ Err fault
-
--- a value that was filled, if it was
-abbrev pub IsFilled : {T : Type 0} → T → Result ℕ WordFault → Result (T × ℕ) WordFault → Type 0
-IsFilled x (Ok next) result = result ≡ Ok (x, next)
-IsFilled x (Err fault) result = result ≡ Err fault
-
--- what was read stands behind others, if it was read
-abbrev pub IsAdded : {T : Type 0} → Result (T × ℕ) WordFault → List T → List T → Result ℕ WordFault → Type 0
-IsAdded (Ok (x, next)) before items (Ok end) = (items ≡ before ++ x ∷ []) × (end ≡ next)
-IsAdded (Ok (x, next)) before items (Err fault) = fault ≡ NoMemory
-IsAdded (Err fault) before items result = result ≡ Err fault
-
--- what was read was made into another thing, if there was memory
-abbrev pub IsMade : {T U : Type 0} → (T → U → Type 0) → Result (T × ℕ) WordFault → Result (U × ℕ) WordFault → Type 0
-IsMade P (Ok (x, next)) (Ok (y, end)) = P x y × (end ≡ next)
-IsMade P (Ok (x, next)) (Err fault) = fault ≡ NoMemory
-IsMade P (Err fault) result = result ≡ Err fault
-
--- a `)` stands behind what was read
-abbrev pub IsClosed : {T : Type 0} → List Word → Result (T × ℕ) WordFault → Result (T × ℕ) WordFault → Type 0
-IsClosed words (Ok (x, next)) (Ok (y, end)) = (y ≡ x) × ((part close (from words next) ≡ made tt (from words end)) × IsAfter words next end)
-IsClosed words (Ok (x, next)) (Err fault) = Tells words (part close (from words next)) fault
-IsClosed words (Err fault) result = result ≡ Err fault
 
 -- the index from which on it is read as this other thing
 abbrev pub GoesOn : {A : Type 0} → (List Token → Reading A) → (List Token → Reading A) → List Word → ℕ → Result ℕ WordFault → Type 0

@@ -10,7 +10,6 @@ ghost use Rattle.syntax_tree.specs.Tree.{increase_of, initial_cost_of};
 use crate::look::{
     Parsed, amount, close, is_close, is_dash, minimize, number_word, open, total_cost,
 };
-use crate::placing::add;
 use crate::refusals::Place;
 use pddl_words::{Name, WordRefusal};
 use std::alloc::Global;
@@ -35,7 +34,9 @@ pub fn functions<'a>(alloc: Global, words: &[Word<'a>], at: usize) -> Parsed<Vec
     let mut functions = Vec::new(alloc);
     let mut next = at;
     'functions: while !is_close(words, next) {
-        next = add(&mut functions, function(words, next))?;
+        let (function, after) = function(words, next)?;
+        functions.push(function)?;
+        next = after;
     }
     Ok((functions, next + 1))
 }
@@ -103,8 +104,8 @@ pub(crate) fn initial_cost<'a>(
     words: &[Word<'a>],
     at: usize,
     equals: Name<'a>,
-) -> Parsed<InitialCost<'a>>
-    ensures { Reads (phrase (the_initial_cost (name_of equals.entry))) words.now at initial_cost_of result }
+) -> Result<(InitialCost<'a>, usize), WordRefusal>
+    ensures { ReadsWords (phrase (the_initial_cost (name_of equals.entry))) words.now at initial_cost_of result }
 {
     let (cost, next) = cost(words, at)?;
     let initial = InitialCost {

@@ -1,18 +1,15 @@
 //! Declarations of predicates, and the facts of `:init`.
 ghost use Rattle.model.specs.Grammar.{listed, declaration, fact as wants_fact, ground_atom as wants_ground_atom};
-ghost use Rattle.pddl_tree_values.specs.Reading.{part, phrase, Reads};
-ghost use Rattle.syntax_tree.specs.Name.{name_of};
-ghost use Rattle.pddl_tree_values.specs.Phrases.{the_ground_atom};
+ghost use Rattle.pddl_tree_values.specs.Reading.{part, Reads};
 ghost use Rattle.syntax_tree.specs.Tree.{predicate_of, fact_of, ground_atom_of};
 
 use crate::costs::initial_cost;
 use crate::lists::{Item, list};
-use crate::look::{Parsed, open};
-use crate::placing::{closed, make};
+use crate::look::{Parsed, close, open};
 use crate::refusals::{Listed, Place, refusal};
 use crate::typed_lists::typed;
 use faults::Refused;
-use pddl_words::{Name, ReservedName, Token, token_at};
+use pddl_words::{ReservedName, Token, token_at};
 use std::alloc::Global;
 use syntax_tree::{Fact, GroundAtom, Predicate};
 use tokens::Word;
@@ -53,12 +50,19 @@ fn fact<'a>(alloc: Global, words: &[Word<'a>], at: usize) -> Parsed<Fact<'a>>
     ensures { Reads (part wants_fact) words.now at fact_of result }
 {
     match token_at(words, at) {
-        Token::Free(_, predicate) => make(of_objects(alloc, words, at + 1, predicate), Fact::Atom),
+        Token::Free(_, predicate) => {
+            let (objects, next) = list(alloc, words, at + 1)?;
+            Ok((Fact::Atom(GroundAtom { predicate, objects }), next))
+        }
         Token::Reserved(ReservedName::Not, word) => {
-            let (atom, next) = closed(words, ground_atom(alloc, words, at + 1))?;
+            let (atom, next) = ground_atom(alloc, words, at + 1)?;
+            let next = close(words, next)?;
             Ok((Fact::Negated(word, atom), next))
         }
-        Token::Equals(word) => make(initial_cost(words, at + 1, word), Fact::InitialCost),
+        Token::Equals(word) => {
+            let (cost, next) = initial_cost(words, at + 1, word)?;
+            Ok((Fact::InitialCost(cost), next))
+        }
         _ => Err(Refused::At(refusal(words, at, Place::Elsewhere))),
     }
 }
@@ -70,20 +74,10 @@ fn ground_atom<'a>(alloc: Global, words: &[Word<'a>], at: usize) -> Parsed<Groun
 {
     let inside = open(words, at, Place::Elsewhere)?;
     match token_at(words, inside) {
-        Token::Free(_, predicate) => of_objects(alloc, words, inside + 1, predicate),
+        Token::Free(_, predicate) => {
+            let (objects, next) = list(alloc, words, inside + 1)?;
+            Ok((GroundAtom { predicate, objects }, next))
+        }
         _ => Err(Refused::At(refusal(words, inside, Place::Elsewhere))),
     }
-}
-
-/// The objects of an atom, and `)`: the atom, and the index after the parenthesis.
-fn of_objects<'a>(
-    alloc: Global,
-    words: &[Word<'a>],
-    at: usize,
-    predicate: Name<'a>,
-) -> Parsed<GroundAtom<'a>>
-    ensures { Reads (phrase (the_ground_atom (name_of predicate.entry))) words.now at ground_atom_of result }
-{
-    let (objects, next) = list(alloc, words, at)?;
-    Ok((GroundAtom { predicate, objects }, next))
 }

@@ -7,10 +7,9 @@ ghost use Rattle.pddl_tree_values.specs.Phrases.{the_last_effect, the_when, the_
 ghost use Rattle.pddl_tree_values.specs.Reading.{part, phrase, Reads};
 ghost use Rattle.syntax_tree.specs.Tree.{atom_of, effect_of, effect_literal_of};
 
-use crate::formulas::{atom, part};
+use crate::formulas::part;
 use crate::lists::{Item, list};
-use crate::look::{Parsed, is_and, is_close, open};
-use crate::placing::{add, boxed, closed, make};
+use crate::look::{Parsed, close, is_and, is_close, open};
 use crate::refusals::{Literals, Place, refusal};
 use crate::typed_lists::variables;
 use faults::Refused;
@@ -34,14 +33,18 @@ pub(crate) fn effect<'a>(alloc: Global, words: &[Word<'a>], at: usize) -> Parsed
 {
     match token_at(words, at) {
         Token::Free(_, predicate) => {
-            let (atom, next) = atom(alloc, words, at + 1, predicate)?;
-            Ok((Effect::Literal(EffectLiteral::Add(atom)), next))
+            let (terms, next) = list(alloc, words, at + 1)?;
+            let literal = EffectLiteral::Add(Atom { predicate, terms });
+            Ok((Effect::Literal(literal), next))
         }
         Token::Reserved(ReservedName::Not, _) => {
             let (atom, next) = last_atom(alloc, words, at + 1, Literals::Plain)?;
             Ok((Effect::Literal(EffectLiteral::Delete(atom)), next))
         }
-        Token::Reserved(ReservedName::And, _) => make(effects(alloc, words, at + 1), Effect::And),
+        Token::Reserved(ReservedName::And, _) => {
+            let (parts, next) = effects(alloc, words, at + 1)?;
+            Ok((Effect::And(parts), next))
+        }
         Token::Reserved(ReservedName::Forall, _) => {
             let (variables, next) = variables(alloc, words, at + 1)?;
             let (part, next) = last(alloc, words, next)?;
@@ -60,7 +63,8 @@ fn when<'a>(alloc: Global, words: &[Word<'a>], at: usize) -> Parsed<Effect<'a>>
 {
     let (condition, next) = part(alloc, words, at)?;
     let inside = open(words, next, Place::Elsewhere)?;
-    let (literals, next) = closed(words, conditional(alloc, words, inside))?;
+    let (literals, next) = conditional(alloc, words, inside)?;
+    let next = close(words, next)?;
     Ok((Effect::When(Box::into_inner(condition), literals), next))
 }
 
@@ -71,7 +75,10 @@ fn last<'a>(alloc: Global, words: &[Word<'a>], at: usize) -> Parsed<Box<Effect<'
     ensures { Reads (phrase the_last_effect) words.now at (λ e. effect_of e.value) result }
 {
     let inside = open(words, at, Place::Elsewhere)?;
-    closed(words, boxed(alloc, effect(alloc, words, inside)))
+    let (part, next) = effect(alloc, words, inside)?;
+    let part = Box::new(alloc, part)?;
+    let next = close(words, next)?;
+    Ok((part, next))
 }
 
 /// Effects, and `)`: the effects, and the index after the parenthesis.
@@ -84,7 +91,9 @@ fn effects<'a>(alloc: Global, words: &[Word<'a>], at: usize) -> Parsed<Vec<Effec
     let mut next = at;
     'parts: while !is_close(words, next) {
         let inside = open(words, next, Place::Elsewhere)?;
-        next = add(&mut parts, effect(alloc, words, inside))?;
+        let (part, after) = effect(alloc, words, inside)?;
+        parts.push(part)?;
+        next = after;
     }
     Ok((parts, next + 1))
 }
@@ -121,12 +130,13 @@ fn literal<'a>(alloc: Global, words: &[Word<'a>], at: usize) -> Parsed<EffectLit
 {
     match token_at(words, at) {
         Token::Free(_, predicate) => {
-            make(atom(alloc, words, at + 1, predicate), EffectLiteral::Add)
+            let (terms, next) = list(alloc, words, at + 1)?;
+            Ok((EffectLiteral::Add(Atom { predicate, terms }), next))
         }
-        Token::Reserved(ReservedName::Not, _) => make(
-            last_atom(alloc, words, at + 1, Literals::UnderWhen),
-            EffectLiteral::Delete,
-        ),
+        Token::Reserved(ReservedName::Not, _) => {
+            let (atom, next) = last_atom(alloc, words, at + 1, Literals::UnderWhen)?;
+            Ok((EffectLiteral::Delete(atom), next))
+        }
         _ => Err(Refused::At(refusal(words, at, Place::UnderWhen))),
     }
 }
@@ -143,7 +153,11 @@ fn last_atom<'a>(
 {
     let inside = open(words, at, Place::Elsewhere)?;
     match token_at(words, inside) {
-        Token::Free(_, predicate) => closed(words, atom(alloc, words, inside + 1, predicate)),
+        Token::Free(_, predicate) => {
+            let (terms, next) = list(alloc, words, inside + 1)?;
+            let next = close(words, next)?;
+            Ok((Atom { predicate, terms }, next))
+        }
         _ => match literals {
             Literals::Plain => Err(Refused::At(refusal(words, inside, Place::Elsewhere))),
             Literals::UnderWhen => Err(Refused::At(refusal(words, inside, Place::UnderWhen))),

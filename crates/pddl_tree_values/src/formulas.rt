@@ -2,20 +2,18 @@
 ghost use Rattle.std.specs.Prelude.{◌≡◌, [], map};
 ghost use Rattle.model.specs.Trees as tree;
 ghost use Rattle.model.specs.Grammar.{many, listed, formula as wants_formula};
-ghost use Rattle.pddl_tree_values.specs.Phrases.{the_atom, the_equality, the_quantified, the_last, the_implication};
+ghost use Rattle.pddl_tree_values.specs.Phrases.{the_equality, the_last, the_implication};
 ghost use Rattle.pddl_tree_values.specs.Reading.{part, phrase, Reads};
-ghost use Rattle.syntax_tree.specs.Tree.{atom_of, formula_of, groups_of};
-ghost use Rattle.syntax_tree.specs.Name.{name_of};
+ghost use Rattle.syntax_tree.specs.Tree.{formula_of};
 
 use crate::lists::list;
 use crate::look::{Parsed, close, is_close, open, term};
-use crate::placing::{add, boxed, closed, make};
 use crate::refusals::{Place, refusal};
 use crate::typed_lists::variables;
 use faults::Refused;
-use pddl_words::{Name, ReservedName, Token, token_at};
+use pddl_words::{ReservedName, Token, token_at};
 use std::alloc::Global;
-use syntax_tree::{Atom, Formula, Group};
+use syntax_tree::{Atom, Formula};
 use tokens::Word;
 
 /// `(and)`, which always holds.
@@ -32,35 +30,36 @@ pub fn formula<'a>(alloc: Global, words: &[Word<'a>], at: usize) -> Parsed<Formu
     ensures { Reads (part wants_formula) words.now at formula_of result }
 {
     match token_at(words, at) {
-        Token::Free(_, predicate) => make(atom(alloc, words, at + 1, predicate), Formula::Atom),
+        Token::Free(_, predicate) => {
+            let (terms, next) = list(alloc, words, at + 1)?;
+            Ok((Formula::Atom(Atom { predicate, terms }), next))
+        }
         Token::Equals(_) => equality(words, at + 1),
-        Token::Reserved(ReservedName::And, _) => make(formulas(alloc, words, at + 1), Formula::And),
-        Token::Reserved(ReservedName::Or, _) => make(formulas(alloc, words, at + 1), Formula::Or),
-        Token::Reserved(ReservedName::Not, _) => make(last(alloc, words, at + 1), Formula::Not),
+        Token::Reserved(ReservedName::And, _) => {
+            let (parts, next) = formulas(alloc, words, at + 1)?;
+            Ok((Formula::And(parts), next))
+        }
+        Token::Reserved(ReservedName::Or, _) => {
+            let (parts, next) = formulas(alloc, words, at + 1)?;
+            Ok((Formula::Or(parts), next))
+        }
+        Token::Reserved(ReservedName::Not, _) => {
+            let (part, next) = last(alloc, words, at + 1)?;
+            Ok((Formula::Not(part), next))
+        }
         Token::Reserved(ReservedName::Imply, _) => implication(alloc, words, at + 1),
         Token::Reserved(ReservedName::Exists, _) => {
-            let ((variables, part), next) = quantified(alloc, words, at + 1)?;
+            let (variables, next) = variables(alloc, words, at + 1)?;
+            let (part, next) = last(alloc, words, next)?;
             Ok((Formula::Exists(variables, part), next))
         }
         Token::Reserved(ReservedName::Forall, _) => {
-            let ((variables, part), next) = quantified(alloc, words, at + 1)?;
+            let (variables, next) = variables(alloc, words, at + 1)?;
+            let (part, next) = last(alloc, words, next)?;
             Ok((Formula::Forall(variables, part), next))
         }
         _ => Err(Refused::At(refusal(words, at, Place::Elsewhere))),
     }
-}
-
-/// The terms of an atom, and `)`: the atom, and the index after the parenthesis.
-pub(crate) fn atom<'a>(
-    alloc: Global,
-    words: &[Word<'a>],
-    at: usize,
-    predicate: Name<'a>,
-) -> Parsed<Atom<'a>>
-    ensures { Reads (phrase (the_atom (name_of predicate.entry))) words.now at atom_of result }
-{
-    let (terms, next) = list(alloc, words, at)?;
-    Ok((Atom { predicate, terms }, next))
 }
 
 /// Two terms, and `)`: that they are one object, and the index after the parenthesis.
@@ -83,26 +82,14 @@ fn implication<'a>(alloc: Global, words: &[Word<'a>], at: usize) -> Parsed<Formu
     Ok((Formula::Imply(premise, conclusion), next))
 }
 
-/// Variables and a formula, each in its parentheses, and `)`: both, and the index after the last parenthesis.
-#[cycle(formula)]
-fn quantified<'a>(
-    alloc: Global,
-    words: &[Word<'a>],
-    at: usize,
-) -> Parsed<(Vec<Group<'a>>, Box<Formula<'a>>)>
-    ensures { Reads (phrase the_quantified) words.now at (λ q. (groups_of q.0, formula_of q.1.value)) result }
-{
-    let (variables, next) = variables(alloc, words, at)?;
-    let (part, next) = last(alloc, words, next)?;
-    Ok(((variables, part), next))
-}
-
 /// A formula in its parentheses, and `)`: the formula, and the index after the last parenthesis.
 #[cycle(formula)]
 pub fn last<'a>(alloc: Global, words: &[Word<'a>], at: usize) -> Parsed<Box<Formula<'a>>>
     ensures { Reads (phrase the_last) words.now at (λ f. formula_of f.value) result }
 {
-    closed(words, part(alloc, words, at))
+    let (part, next) = part(alloc, words, at)?;
+    let next = close(words, next)?;
+    Ok((part, next))
 }
 
 /// A formula in its parentheses, and the index after them.
@@ -112,7 +99,9 @@ pub(crate) fn part<'a>(alloc: Global, words: &[Word<'a>], at: usize) -> Parsed<B
     ensures { Reads (part (listed wants_formula)) words.now at (λ f. formula_of f.value) result }
 {
     let inside = open(words, at, Place::Elsewhere)?;
-    boxed(alloc, formula(alloc, words, inside))
+    let (part, next) = formula(alloc, words, inside)?;
+    let part = Box::new(alloc, part)?;
+    Ok((part, next))
 }
 
 /// Formulas, and `)`: the formulas, and the index after the parenthesis.
@@ -125,7 +114,9 @@ fn formulas<'a>(alloc: Global, words: &[Word<'a>], at: usize) -> Parsed<Vec<Form
     let mut next = at;
     'parts: while !is_close(words, next) {
         let inside = open(words, next, Place::Elsewhere)?;
-        next = add(&mut parts, formula(alloc, words, inside))?;
+        let (part, after) = formula(alloc, words, inside)?;
+        parts.push(part)?;
+        next = after;
     }
     Ok((parts, next + 1))
 }

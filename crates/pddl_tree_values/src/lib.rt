@@ -18,7 +18,7 @@ pub use effects::no_effect;
 pub use formulas::{formula, last, no_condition};
 pub use lists::{Item, Key, list};
 pub use look::{Parsed, action_name, close, define, is_close, kind, name, open};
-pub use placing::{add, filled, put, replace};
+pub use placing::{put, replace};
 pub use refusals::{Listed, Place, allowed, has_part, has_section, refusal, required};
 pub use typed_lists::typed;
 pub use values::{EffectValue, effect_value};

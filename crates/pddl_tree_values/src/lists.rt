@@ -5,7 +5,6 @@ ghost use Rattle.syntax_tree.specs.Name.{name_of, term_of};
 ghost use Rattle.pddl_tree_values.specs.Reading.{part, Reads};
 
 use crate::look::{Parsed, is_close, name, term};
-use crate::placing::add;
 use crate::refusals::{Place, refusal};
 use faults::Refused;
 use pddl_words::{Keyword, Name, Term, Token, token_at};
@@ -31,7 +30,9 @@ pub fn list<'a, T: Item<'a>>(alloc: Global, words: &[Word<'a>], at: usize) -> Pa
     let mut items = Vec::new(alloc);
     let mut next = at;
     'items: while !is_close(words, next) {
-        next = add(&mut items, T::read(alloc, words, next))?;
+        let (item, after) = T::read(alloc, words, next)?;
+        items.push(item)?;
+        next = after;
     }
     Ok((items, next + 1))
 }

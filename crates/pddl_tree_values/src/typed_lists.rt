@@ -10,7 +10,6 @@ ghost use Rattle.pddl_tree_values.specs.Typed.{the_either};
 
 use crate::lists::list;
 use crate::look::{Parsed, either_word, ends_group, is_close, listed_name, name, open};
-use crate::placing::add;
 use crate::refusals::{Listed, Place, refusal};
 use faults::Refused;
 use pddl_words::{Name, Token, token_at};
@@ -31,7 +30,9 @@ pub fn typed<'a>(
     let mut groups = Vec::new(alloc);
     let mut next = at;
     'groups: while !is_close(words, next) {
-        next = add(&mut groups, group(alloc, words, next, listed))?;
+        let (group, after) = group(alloc, words, next, listed)?;
+        groups.push(group)?;
+        next = after;
     }
     Ok((groups, next + 1))
 }

@@ -7,7 +7,6 @@ ghost use Rattle.pddl_tree_values.specs.Phrases.{value_tree, the_items};
 use crate::costs::increase;
 use crate::effects::{effect, no_effect};
 use crate::look::{Parsed, increase_word, is_close, open};
-use crate::placing::add;
 use crate::refusals::Place;
 use pddl_words::{ReservedName, Token, token_at};
 use std::alloc::Global;
@@ -59,10 +58,18 @@ fn items<'a>(alloc: Global, words: &[Word<'a>], at: usize) -> Parsed<EffectValue
     let mut next = at;
     'items: while !is_close(words, next) {
         let inside = open(words, next, Place::Elsewhere)?;
-        next = match increase_word(words, inside) {
-            Some(word) => add(&mut increases, increase(words, inside + 1, word))?,
-            None => add(&mut effects, effect(alloc, words, inside))?,
-        };
+        match increase_word(words, inside) {
+            Some(word) => {
+                let (increase, after) = increase(words, inside + 1, word)?;
+                increases.push(increase)?;
+                next = after;
+            }
+            None => {
+                let (effect, after) = effect(alloc, words, inside)?;
+                effects.push(effect)?;
+                next = after;
+            }
+        }
     }
     let effect = Effect::And(effects);
     Ok((EffectValue { effect, increases }, next + 1))

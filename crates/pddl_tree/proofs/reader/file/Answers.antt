@@ -21,7 +21,7 @@ returns-in-Err-clause-head c = λ none. rw c.fault.ensures (search rules)
 pub returns-in-Ok-rest-clause-read : goal.returns-in-Ok-rest-clause-read
 returns-in-Ok-rest-clause-read c =
     let f = file_of c.args.file in let words = c.args.words.now in let n = name_of c.in-Ok.head.0 in let read = contents_of c.rest.new.contents in
-    file_read f words (tree_from f n read) (file_ends f n (from words 0) (from words c.in-Ok.head.1) c.in-Ok.ensures.read ∙ ap (outcome f n) (ap (λ d. bind (phrase (sections_on f [] d) (from words c.in-Ok.head.1)) at_end) (sym c.in_ok-contents.ensures) ∙ c.in-Ok-rest.ensures))
+    file_read f words (tree_from f n read) (file_ends f n (from words 0) (from words c.in-Ok.head.1) c.in-Ok.ensures.read ∙ ap (outcome f n) (ap (λ d. bind (phrase (sections_on f [] d) (from words c.in-Ok.head.1)) at_end) (sym c.new-contents.ensures) ∙ c.in-Ok-rest.ensures))
 
 pub returns-in-Ok-rest-clause-head : goal.returns-in-Ok-rest-clause-head
 returns-in-Ok-rest-clause-head c = λ none. absurd (no_head (file_of c.args.file) c.args.words.now c.in-Ok.ensures.head none)
@@ -29,15 +29,12 @@ returns-in-Ok-rest-clause-head c = λ none. absurd (no_head (file_of c.args.file
 pub returns-clause-refused : goal.returns-clause-refused
 returns-clause-refused c =
     let f = file_of c.args.file in let words = c.args.words.now in let refusal = c.in-Err-rest.refusal in
-    rw c.fault-in-Err-rest.ensures (refused_by f words (told refusal) (all_stop f (name_of c.in-Ok.head.0) words c.in-Ok.head.1 refusal c.in-Ok.ensures.read (subst (λ d. Tells words (bind (phrase (sections_on f [] d) (from words c.in-Ok.head.1)) at_end) refusal) c.in_ok-contents.ensures c.in-Err-rest.ensures)))
+    rw c.fault-in-Err-rest.ensures (refused_by f words (told refusal) (all_stop f (name_of c.in-Ok.head.0) words c.in-Ok.head.1 refusal c.in-Ok.ensures.read (subst (λ d. Tells words (bind (phrase (sections_on f [] d) (from words c.in-Ok.head.1)) at_end) refusal) c.new-contents.ensures c.in-Err-rest.ensures)))
 
 pub returns-clause-taken : goal.returns-clause-taken
 returns-clause-taken c = λ whole.
     let f = file_of c.args.file in let words = c.args.words.now in let refusal = c.in-Err-rest.refusal in
-    c.fault-in-Err-rest.ensures ∙ taken_by f words (told refusal) (all_stop f (name_of c.in-Ok.head.0) words c.in-Ok.head.1 refusal c.in-Ok.ensures.read (subst (λ d. Tells words (bind (phrase (sections_on f [] d) (from words c.in-Ok.head.1)) at_end) refusal) c.in_ok-contents.ensures c.in-Err-rest.ensures)) whole
+    c.fault-in-Err-rest.ensures ∙ taken_by f words (told refusal) (all_stop f (name_of c.in-Ok.head.0) words c.in-Ok.head.1 refusal c.in-Ok.ensures.read (subst (λ d. Tells words (bind (phrase (sections_on f [] d) (from words c.in-Ok.head.1)) at_end) refusal) c.new-contents.ensures c.in-Err-rest.ensures)) whole
 
 pub returns-clause-head : goal.returns-clause-head
 returns-clause-head c = λ none. absurd (no_head (file_of c.args.file) c.args.words.now c.in-Ok.ensures.head none)
-
-pub returns-in_err-contents-clause-head : goal.returns-in_err-contents-clause-head
-returns-in_err-contents-clause-head c = λ none. absurd (no_head (file_of c.args.file) c.args.words.now c.in-Ok.ensures.head none)

@@ -10,9 +10,6 @@ decreases-formula l = 2 * (length l.words.now - l.at) + 1
 abbrev pub decreases-implication : goal.decreases-implication
 decreases-implication l = 2 * (length l.words.now - l.at) + 1
 
-abbrev pub decreases-quantified : goal.decreases-quantified
-decreases-quantified l = 2 * (length l.words.now - l.at) + 1
-
 abbrev pub decreases-last : goal.decreases-last
 decreases-last l = 2 * (length l.words.now - l.at) + 1
 
