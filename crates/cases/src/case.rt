@@ -56,6 +56,12 @@ pub fn number_of(word: &str) -> Result<u32, CaseFault> {
     word.parse::<u32>().map_err(|_| CaseFault::Number)
 }
 
+/// Reads the number that a word is.
+pub fn read_number(word: &str, into: &mut u32) -> Result<(), CaseFault> {
+    *into = number_of(word)?;
+    Ok(())
+}
+
 /// A case.
 #[derive(Drop)]
 pub struct Case<'a> {
@@ -111,28 +117,31 @@ impl<'a> Case<'a> {
         match section.name {
             // the bytes for which the case is run
             "each" => Ok(()),
-            "run" => {
-                self.words = Some(section.words.split_whitespace().collect(alloc)?);
-                Ok(())
-            }
-            "status" => {
-                self.status = number_of(section.words)?;
-                Ok(())
-            }
-            "then" => {
-                self.then = Some(FollowUp::of(alloc, section, turn)?);
-                Ok(())
-            }
-            "reads" => {
-                self.files.piece = number_of(section.words)?;
-                Ok(())
-            }
+            "run" => self.take_words(alloc, section.words),
+            "status" => read_number(section.words, &mut self.status),
+            "then" => self.take_follow_up(alloc, section, turn),
+            "reads" => read_number(section.words, &mut self.files.piece),
             "file" => want_file(alloc, &mut self.holdings, section, turn),
             "no" => want_no_file(&mut self.holdings, section),
             "stdout" => self.out.take(alloc, section, turn),
             "stderr" => self.err.take(alloc, section, turn),
             _ => take_file(alloc, &mut self.files.table, section, turn),
         }
+    }
+
+    fn take_words(&mut self, alloc: Global, words: &'a str) -> Result<(), CaseFault> {
+        self.words = Some(words.split_whitespace().collect(alloc)?);
+        Ok(())
+    }
+
+    fn take_follow_up(
+        &mut self,
+        alloc: Global,
+        section: Section<'a>,
+        turn: Turn,
+    ) -> Result<(), CaseFault> {
+        self.then = Some(FollowUp::of(alloc, section, turn)?);
+        Ok(())
     }
 }
 
@@ -162,60 +171,100 @@ fn take_file(
     section: Section<'_>,
     turn: Turn,
 ) -> Result<(), CaseFault> {
-    let name = section.name;
-    match section.verb() {
-        ("", _) => files.put(name, &section.bytes(alloc, turn)?)?,
-        ("more", "") => add_to(alloc, files, section, turn, 1)?,
-        ("more", count) => add_to(alloc, files, section, turn, number_of(count)?)?,
-        ("fails", count) => fail_at(alloc, files, name, number_of(count)?)?,
-        _ => return Err(CaseFault::Words),
+    let (verb, count) = section.verb();
+    match verb {
+        "" => put_file(alloc, files, section, turn),
+        "more" => add_to(alloc, files, section, turn, count),
+        "fails" => fail_at(alloc, files, section.name, count),
+        _ => Err(CaseFault::Words),
     }
-    Ok(())
 }
 
-/// Adds the bytes of the section to the file, so many times.
+/// Has the file of the section hold its bytes.
+fn put_file(
+    alloc: Global,
+    files: &mut Table,
+    section: Section<'_>,
+    turn: Turn,
+) -> Result<(), CaseFault> {
+    let bytes = section.bytes(alloc, turn)?;
+    Ok(files.put(section.name, &bytes)?)
+}
+
+/// Adds the bytes of the section to the file, as often as the word says, and once where there is none.
 fn add_to(
     alloc: Global,
     files: &mut Table,
     section: Section<'_>,
     turn: Turn,
-    count: u32,
+    count: &str,
 ) -> Result<(), CaseFault> {
-    let mut bytes = contents(alloc, files, section.name)?;
-    if section.is_numbered() {
-        for number in 0..count {
-            section.add_bytes(alloc, Turn { number, ..turn }, &mut bytes)?;
-        }
-    } else {
-        add_repeated(alloc, &section.bytes(alloc, turn)?, count, &mut bytes)?;
+    let mut times = 1;
+    if !count.is_empty() {
+        read_number(count, &mut times)?;
     }
+    let mut bytes = contents(alloc, files, section.name)?;
+    add_section(alloc, section, turn, times, &mut bytes)?;
     Ok(files.put(section.name, &bytes)?)
+}
+
+/// Adds the bytes of the section so many times.
+fn add_section(
+    alloc: Global,
+    section: Section<'_>,
+    turn: Turn,
+    count: u32,
+    bytes: &mut Vec<u8>,
+) -> Result<(), AllocError> {
+    if section.is_numbered() {
+        return add_numbered(alloc, section, turn, count, bytes);
+    }
+    let unit = section.bytes(alloc, turn)?;
+    add_blocks(alloc, &unit, count, bytes)
+}
+
+/// Adds the bytes of the section so many times, each with its number.
+fn add_numbered(
+    alloc: Global,
+    section: Section<'_>,
+    turn: Turn,
+    count: u32,
+    bytes: &mut Vec<u8>,
+) -> Result<(), AllocError> {
+    for number in 0..count {
+        section.add_bytes(alloc, Turn { number, ..turn }, bytes)?;
+    }
+    Ok(())
 }
 
 /// How many repetitions are put together and added at once.
 const BLOCK: u32 = 4096;
 
-/// Adds these bytes so many times.
-fn add_repeated(
+/// Adds these bytes so many times, most of them in blocks.
+fn add_blocks(
     alloc: Global,
     unit: &[u8],
     count: u32,
     bytes: &mut Vec<u8>,
 ) -> Result<(), AllocError> {
     let block = unit.repeat(alloc, BLOCK as usize)?;
-    for _ in 0..count / BLOCK {
-        bytes.extend_from_slice(&block)?;
-    }
-    for _ in 0..count % BLOCK {
+    add_repeated(&block, count / BLOCK, bytes)?;
+    add_repeated(unit, count % BLOCK, bytes)
+}
+
+/// Adds these bytes so many times.
+fn add_repeated(unit: &[u8], count: u32, bytes: &mut Vec<u8>) -> Result<(), AllocError> {
+    for _ in 0..count {
         bytes.extend_from_slice(unit)?;
     }
     Ok(())
 }
 
-/// Has the device of the file fail once, at the read after so many.
-fn fail_at(alloc: Global, files: &mut Table, name: &str, count: u32) -> Result<(), CaseFault> {
+/// Has the device of the file fail once, at the read after as many as the word says.
+fn fail_at(alloc: Global, files: &mut Table, name: &str, count: &str) -> Result<(), CaseFault> {
+    let reads = u64::from(number_of(count)?);
     let bytes = contents(alloc, files, name)?;
-    Ok(files.put_failing(name, &bytes, u64::from(count))?)
+    Ok(files.put_failing(name, &bytes, reads)?)
 }
 
 /// The bytes of the file so far; none where there is no such file.

@@ -2,13 +2,21 @@
 use crate::section::{Section, Turn};
 use std::alloc::{AllocError, Global};
 
-/// The bytes that the case lists in a section `each`, and `None` where it has no such section.
-pub fn listed_bytes(alloc: Global, text: &str) -> Result<Option<Vec<u8>>, AllocError> {
+/// The section `each` of a case, if it has one.
+fn each_section(text: &str) -> Option<Section<'_>> {
     for text in text.split("\n--- ").skip(1) {
         let section = Section::of(text);
         if section.name == "each" {
-            return Ok(Some(section.bytes(alloc, Turn::default())?));
+            return Some(section);
         }
     }
-    Ok(None)
+    None
+}
+
+/// The bytes that the case lists in a section `each`, and `None` where it has no such section.
+pub fn listed_bytes(alloc: Global, text: &str) -> Result<Option<Vec<u8>>, AllocError> {
+    match each_section(text) {
+        Some(section) => Ok(Some(section.bytes(alloc, Turn::default())?)),
+        None => Ok(None),
+    }
 }

@@ -29,13 +29,17 @@ impl<'a> FollowUp<'a> {
     ) -> Result<Option<String>, AllocError> {
         let (mut out, mut err) = (Memory::empty(alloc), Memory::empty(alloc));
         let status = planner_main::run(alloc, &self.words, files, &mut out, &mut err);
-        if out.as_slice() == self.wanted.as_slice() {
+        self.told(alloc, status, out.as_slice())
+    }
+
+    /// How these bytes differ from what is wanted, and `None` where they do not.
+    fn told(&self, alloc: Global, status: u8, is: &[u8]) -> Result<Option<String>, AllocError> {
+        if is == self.wanted.as_slice() {
             return Ok(None);
         }
-        let is = String::from_utf8_lossy(alloc, out.as_slice())?;
-        let wanted = String::from_utf8_lossy(alloc, &self.wanted)?;
+        let (is, wanted) = (is.escape_ascii(), self.wanted.escape_ascii());
         Ok(Some(format!(in alloc;
-            "then stdout is {is:?} with status {status}, and not {wanted:?}"
+            "then stdout is \"{is}\" with status {status}, and not \"{wanted}\""
         )?))
     }
 }

@@ -2,6 +2,7 @@
 use crate::case::CaseFault;
 use planner_main::files::Table;
 use std::alloc::{AllocError, Global};
+use std::fmt;
 
 /// A file that is to hold these bytes, or not to be there.
 #[derive(Drop)]
@@ -23,21 +24,21 @@ impl Holding<'_> {
 
     /// How the file differs from what it is to hold.
     fn text(&self, alloc: Global, found: Option<&[u8]>) -> Result<String, AllocError> {
-        let name = self.name;
-        let is = shown(alloc, found)?;
-        let wanted = shown(alloc, self.bytes.as_deref())?;
+        let (name, is, wanted) = (self.name, Shown(found), Shown(self.bytes.as_deref()));
         format!(in alloc; "the file {name} is {is}, and not {wanted}")
     }
 }
 
-/// The bytes of a file as they are told.
-fn shown(alloc: Global, bytes: Option<&[u8]>) -> Result<String, AllocError> {
-    match bytes {
-        Some(bytes) => {
-            let text = String::from_utf8_lossy(alloc, bytes)?;
-            format!(in alloc; "{text:?}")
+/// The bytes of a file as they are told; `None` where there is none.
+#[derive(Clone, Copy)]
+struct Shown<'a>(Option<&'a [u8]>);
+
+impl fmt::Display for Shown<'_> {
+    fn fmt<W: fmt::Write>(&self, f: &mut fmt::Formatter<W>) -> fmt::Result {
+        match self.0 {
+            Some(bytes) => write!(f, "\"{}\"", bytes.escape_ascii()),
+            None => f.write_str("missing"),
         }
-        None => format!(in alloc; "missing"),
     }
 }
 
@@ -57,11 +58,8 @@ impl<'a> Holdings<'a> {
 
     /// Has the file of this name hold these bytes, or not be there, whatever was said of it before.
     pub fn want(&mut self, name: &'a str, bytes: Option<Vec<u8>>) -> Result<(), CaseFault> {
-        let holding = Holding { name, bytes };
-        match self.wanted.iter().position(|other| other.name == name) {
-            Some(i) => self.wanted[i] = holding,
-            None => self.wanted.push(holding)?,
-        }
+        self.wanted.retain(|other| other.name != name);
+        self.wanted.push(Holding { name, bytes })?;
         Ok(())
     }
 

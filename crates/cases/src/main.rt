@@ -35,11 +35,17 @@ fn main(rt: HostRuntime) -> io::Result<ExitCode> {
 /// The names of the files of cases, in order.
 fn case_files(rt: &HostRuntime) -> io::Result<Vec<String>> {
     let mut names = Vec::new(rt.alloc());
-    for entry in fs::read_dir(rt, ".")? {
-        add_name(rt, entry?.file_name(), &mut names)?;
-    }
+    add_names(rt, &mut names)?;
     names.sort()?;
     Ok(names)
+}
+
+/// Adds the names of the files of cases.
+fn add_names(rt: &HostRuntime, names: &mut Vec<String>) -> io::Result<()> {
+    for entry in fs::read_dir(rt, ".")? {
+        add_name(rt, entry?.file_name(), names)?;
+    }
+    Ok(())
 }
 
 /// Adds the name, if it is that of a file of cases.
@@ -53,6 +59,11 @@ fn add_name(rt: &HostRuntime, name: &str, names: &mut Vec<String>) -> io::Result
 /// Runs the cases of one file, with a line for each that differs and one that counts them: how many differ.
 fn run_file(rt: &HostRuntime, name: &str) -> io::Result<u64> {
     let text = fs::read_to_string(rt, name)?;
+    run_text(rt, name, text.as_str())
+}
+
+/// The same of the file's text.
+fn run_text(rt: &HostRuntime, name: &str, text: &str) -> io::Result<u64> {
     let mut cases = text.split("\n=== ");
     let shared = cases.next().unwrap_or("");
     let mut tally = Tally::default();
@@ -88,11 +99,22 @@ fn run_each(
 ) -> io::Result<()> {
     match each::listed_bytes(rt.alloc(), text)? {
         None => tally.count(run_case(rt, file, shared, text, None)?),
-        Some(bytes) => {
-            for &byte in &bytes {
-                tally.count(run_case(rt, file, shared, text, Some(byte))?);
-            }
-        }
+        Some(bytes) => run_listed(rt, file, shared, text, &bytes, tally)?,
+    }
+    Ok(())
+}
+
+/// Runs a case for each of these bytes.
+fn run_listed(
+    rt: &HostRuntime,
+    file: &str,
+    shared: &str,
+    text: &str,
+    bytes: &[u8],
+    tally: &mut Tally,
+) -> io::Result<()> {
+    for &byte in bytes {
+        tally.count(run_case(rt, file, shared, text, Some(byte))?);
     }
     Ok(())
 }

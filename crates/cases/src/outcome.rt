@@ -11,9 +11,20 @@ pub fn difference(
     byte: Option<u8>,
 ) -> Result<Option<String>, CaseFault> {
     let mut case = Case::new(alloc);
+    filled_difference(alloc, &mut case, shared, text, byte)
+}
+
+/// The same of a case that takes these texts.
+fn filled_difference<'a>(
+    alloc: Global,
+    case: &mut Case<'a>,
+    shared: &'a str,
+    text: &'a str,
+    byte: Option<u8>,
+) -> Result<Option<String>, CaseFault> {
     case.take(alloc, shared, byte)?;
     case.take(alloc, text, byte)?;
-    run(alloc, &mut case)
+    run(alloc, case)
 }
 
 /// Runs the command of a case: how what it gives differs, and `None` where it does not.
@@ -24,21 +35,39 @@ fn run(alloc: Global, case: &mut Case<'_>) -> Result<Option<String>, CaseFault> 
     let mut out = case.out.device(alloc);
     let mut err = case.err.device(alloc);
     let status = planner_main::run(alloc, words, &mut case.files, &mut out, &mut err);
+    Ok(told_difference(alloc, case, status, &out, &err)?)
+}
+
+/// How the status, what the streams took, or what is left differs, and `None` where nothing does.
+fn told_difference(
+    alloc: Global,
+    case: &mut Case<'_>,
+    status: u8,
+    out: &Device,
+    err: &Device,
+) -> Result<Option<String>, AllocError> {
     if u32::from(status) != case.status {
         return Ok(Some(status_text(alloc, status, case.status)?));
     }
-    match stream_difference(alloc, case, &out, &err)? {
-        None => Ok(left_difference(alloc, case)?),
+    match stream_difference(alloc, case, out, err)? {
+        None => left_difference(alloc, case),
         found => Ok(found),
     }
 }
 
 /// How the files that are left, or what is told of them by a further run, differ, and `None` where they do not.
 fn left_difference(alloc: Global, case: &mut Case<'_>) -> Result<Option<String>, AllocError> {
-    let found = case.holdings.difference(alloc, &case.files.table)?;
+    match case.holdings.difference(alloc, &case.files.table)? {
+        None => then_difference(alloc, case),
+        found => Ok(found),
+    }
+}
+
+/// How what is told by a further run differs, and `None` where it does not, or there is none.
+fn then_difference(alloc: Global, case: &mut Case<'_>) -> Result<Option<String>, AllocError> {
     match &case.then {
-        Some(then) if found.is_none() => then.difference(alloc, &mut case.files),
-        _ => Ok(found),
+        Some(then) => then.difference(alloc, &mut case.files),
+        None => Ok(None),
     }
 }
 

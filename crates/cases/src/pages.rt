@@ -55,29 +55,48 @@ const MANUAL: Page = Page {
 pub fn compare_pages(rt: &HostRuntime) -> io::Result<u64> {
     let program = said(rt.alloc(), &["help"])?;
     let mut tally = Tally::default();
-    for page in [BASH, ZSH, FISH, MANUAL] {
-        let text = fs::read_to_string(rt, page.name)?;
-        compare(rt, page, text.as_str(), program.as_str(), &mut tally)?;
-    }
+    look_in_pages(rt, program.as_str(), &mut tally)?;
     let Tally { cases, differing } = tally;
     println!(rt; "completions and manual page: {cases} names, {differing} missing")?;
     Ok(differing)
 }
 
-/// Looks in the text of a page for what the program's help names.
+/// Looks in each page for what the program's help names.
+fn look_in_pages(rt: &HostRuntime, program: &str, tally: &mut Tally) -> io::Result<()> {
+    let shared = options(rt.alloc(), program)?;
+    let commands = commands(rt.alloc(), program)?;
+    for page in [BASH, ZSH, FISH, MANUAL] {
+        look_in_page(rt, page, &shared, &commands, tally)?;
+    }
+    Ok(())
+}
+
+/// Looks in a page for these options of the program, and for its commands.
+fn look_in_page(
+    rt: &HostRuntime,
+    page: Page,
+    shared: &[&str],
+    commands: &[&str],
+    tally: &mut Tally,
+) -> io::Result<()> {
+    let text = fs::read_to_string(rt, page.name)?;
+    compare(rt, page, text.as_str(), shared, commands, tally)
+}
+
+/// Looks in the text of a page for these options of the program, and for its commands.
 fn compare(
     rt: &HostRuntime,
     page: Page,
     text: &str,
-    program: &str,
+    shared: &[&str],
+    commands: &[&str],
     tally: &mut Tally,
 ) -> io::Result<()> {
-    let shared = options(rt.alloc(), program)?;
-    for option in &shared {
+    for option in shared {
         look(rt, page, text, "optplan", option, tally)?;
     }
-    for command in &commands(rt.alloc(), program)? {
-        compare_command(rt, page, text, command, &shared, tally)?;
+    for command in commands {
+        compare_command(rt, page, text, command, shared, tally)?;
     }
     Ok(())
 }

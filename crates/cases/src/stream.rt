@@ -1,5 +1,5 @@
 //! The standard output and the standard error of a case.
-use crate::case::{CaseFault, number_of};
+use crate::case::{CaseFault, number_of, read_number};
 use crate::section::{Section, Turn};
 use devices::{FailsAt, InPieces, Memory};
 use std::alloc::{AllocError, Global};
@@ -13,6 +13,16 @@ enum Part {
     Whole,
     Beginning,
     End,
+}
+
+/// The part that a section with this verb tells.
+fn part_of(verb: &str) -> Result<Part, CaseFault> {
+    match verb {
+        "" => Ok(Part::Whole),
+        "begins" => Ok(Part::Beginning),
+        "ends" => Ok(Part::End),
+        _ => Err(CaseFault::Words),
+    }
 }
 
 /// A stream: what it is to take, and how it takes it.
@@ -45,20 +55,29 @@ impl Stream {
         section: Section<'_>,
         turn: Turn,
     ) -> Result<(), CaseFault> {
-        match section.verb() {
-            ("", _) => self.want(section.bytes(alloc, turn)?, Part::Whole),
-            ("begins", _) => self.want(section.bytes(alloc, turn)?, Part::Beginning),
-            ("ends", _) => self.want(section.bytes(alloc, turn)?, Part::End),
-            ("pieces", length) => self.piece = number_of(length)?,
-            ("fails", count) => self.writes_before = Some(number_of(count)?),
-            _ => return Err(CaseFault::Words),
+        let (verb, number) = section.verb();
+        match verb {
+            "pieces" => read_number(number, &mut self.piece),
+            "fails" => self.fail_after(number),
+            _ => self.want(alloc, section, turn, part_of(verb)?),
         }
+    }
+
+    fn fail_after(&mut self, count: &str) -> Result<(), CaseFault> {
+        self.writes_before = Some(number_of(count)?);
         Ok(())
     }
 
-    fn want(&mut self, bytes: Vec<u8>, part: Part) {
-        self.wanted = bytes;
+    fn want(
+        &mut self,
+        alloc: Global,
+        section: Section<'_>,
+        turn: Turn,
+        part: Part,
+    ) -> Result<(), CaseFault> {
+        self.wanted = section.bytes(alloc, turn)?;
         self.part = part;
+        Ok(())
     }
 
     /// The device of the stream, which holds nothing yet.
@@ -82,9 +101,8 @@ impl Stream {
         if self.is_wanted(taken) {
             return Ok(None);
         }
-        let is = String::from_utf8_lossy(alloc, taken)?;
-        let wanted = String::from_utf8_lossy(alloc, &self.wanted)?;
-        Ok(Some(format!(in alloc; "{name} is {is:?}, and not {wanted:?}")?))
+        let (is, wanted) = (taken.escape_ascii(), self.wanted.escape_ascii());
+        Ok(Some(format!(in alloc; "{name} is \"{is}\", and not \"{wanted}\"")?))
     }
 
     fn is_wanted(&self, taken: &[u8]) -> bool {

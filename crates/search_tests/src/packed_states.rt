@@ -171,22 +171,23 @@ fn is_listed(alloc: Global, width: u32, set: Sample) -> Result<bool, NoMemory> {
     Ok(lent == wanted && set.numbers(alloc)? == wanted)
 }
 
-fn pair_is_changed(
-    rt: &impl Abort,
-    alloc: Global,
-    width: u32,
-    [set, other]: [Sample; 2],
-) -> Result<(), Fail> {
+/// Whether the first set less the second, and the second copied over the first, have their numbers.
+fn is_pair_changed(alloc: Global, width: u32, pair: [Sample; 2]) -> Result<bool, NoMemory> {
+    let [set, other] = pair;
     let less = Wanted::Changed(set, other, Sample::Empty);
-    assert!(rt; is_just(&removed(alloc, width, [set, other])?, width, less));
-    assert!(rt;
-        is_just(
-            &copied(alloc, width, [set, other])?,
-            width,
-            Wanted::Just(other)
-        )
-    );
-    Ok(())
+    let is_removed = is_just(&removed(alloc, width, pair)?, width, less);
+    let copy = copied(alloc, width, pair)?;
+    Ok(is_removed && is_just(&copy, width, Wanted::Just(other)))
+}
+
+/// Whether the first set less the second, with any other, has its numbers.
+fn is_pair_joined(alloc: Global, width: u32, [set, other]: [Sample; 2]) -> Result<bool, NoMemory> {
+    let mut are_right = true;
+    for &adds in &SAMPLES {
+        let after = changed(alloc, width, [set, other, adds])?;
+        are_right &= is_just(&after, width, Wanted::Changed(set, other, adds));
+    }
+    Ok(are_right)
 }
 
 fn pair_is_right(
@@ -199,20 +200,23 @@ fn pair_is_right(
         told(alloc, width, set, other)?,
         compared(width, set, other)
     );
-    for &adds in &SAMPLES {
-        let after = changed(alloc, width, [set, other, adds])?;
-        assert!(rt; is_just(&after, width, Wanted::Changed(set, other, adds)));
-    }
+    let are_changed = is_pair_changed(alloc, width, [set, other])?
+        && is_pair_joined(alloc, width, [set, other])?;
+    assert!(rt; are_changed);
     Ok(())
 }
 
+/// Whether the set, made of a list and number by number, has its numbers, and lists them.
+fn is_sample(alloc: Global, width: u32, set: Sample) -> Result<bool, NoMemory> {
+    let is_packed = is_just(&set.packed(alloc, width)?, width, Wanted::Just(set));
+    let is_inserted = is_just(&inserted(alloc, width, set)?, width, Wanted::Just(set));
+    Ok(is_packed && is_inserted && is_listed(alloc, width, set)?)
+}
+
 fn sample_is_right(rt: &impl Abort, alloc: Global, width: u32, set: Sample) -> Result<(), Fail> {
-    assert!(rt; is_just(&set.packed(alloc, width)?, width, Wanted::Just(set)));
-    assert!(rt; is_just(&inserted(alloc, width, set)?, width, Wanted::Just(set)));
-    assert!(rt; is_listed(alloc, width, set)?);
+    assert!(rt; is_sample(alloc, width, set)?);
     for &other in &SAMPLES {
         pair_is_right(rt, alloc, width, [set, other])?;
-        pair_is_changed(rt, alloc, width, [set, other])?;
     }
     Ok(())
 }
@@ -315,41 +319,68 @@ fn found<S: StateStore>(store: &S, set: &Packed) -> Option<u32> {
     None
 }
 
+/// What a store tells of a set that is put in twice: how many it has before, where the set stands, and what it answers.
+type Told = (usize, Option<u32>, [Option<(u32, bool)>; 2]);
+
+/// What the store tells of the set where it is put in twice.
+fn taken<S: StateStore>(store: &mut S, set: &Packed) -> Result<Told, NoMemory> {
+    let before = (store.len(), found(store, set));
+    let first = put(store, set)?;
+    let again = put(store, set)?;
+    Ok((before.0, before.1, [first, again]))
+}
+
 /// Each set is new the first time only, and gets the next place.
 fn takes<S: StateStore>(rt: &impl Abort, store: &mut S, sets: &[Packed]) -> Result<(), Fail> {
     for (set, place) in sets.iter().zip(0..u32::MAX) {
-        assert_eq!(rt; store.len(), place as usize);
-        assert!(rt; found(store, set).is_none());
-        assert_eq!(rt; put(store, set)?, Some((place, true)));
-        assert_eq!(rt; put(store, set)?, Some((place, false)));
+        let answers = [Some((place, true)), Some((place, false))];
+        assert_eq!(rt; taken(store, set)?, (place as usize, None, answers));
     }
     Ok(())
+}
+
+/// Whether the store finds the set at this place.
+fn has_at<S: StateStore>(
+    alloc: Global,
+    store: &S,
+    set: &Packed,
+    place: u32,
+) -> Result<bool, NoMemory> {
+    Ok(found(store, set) == Some(place) && stands_at(alloc, store, set, place)?)
+}
+
+/// Whether the store has just these sets, in this order.
+fn has_all<S: StateStore>(alloc: Global, store: &S, sets: &[Packed]) -> Result<bool, NoMemory> {
+    for (set, place) in sets.iter().zip(0..u32::MAX) {
+        if !has_at(alloc, store, set, place)? {
+            return Ok(false);
+        }
+    }
+    Ok(store.len() == sets.len())
 }
 
 fn keeps<S: StateStore>(
     rt: &impl Abort,
     alloc: Global,
-    store: &mut S,
+    mut store: S,
     sets: &[Packed],
 ) -> Result<(), Fail> {
-    takes(rt, store, sets)?;
-    assert_eq!(rt; store.len(), sets.len());
-    for (set, place) in sets.iter().zip(0..u32::MAX) {
-        assert_eq!(rt; found(store, set), Some(place));
-        assert!(rt; stands_at(alloc, store, set, place)?);
-    }
+    takes(rt, &mut store, sets)?;
+    assert!(rt; has_all(alloc, &store, sets)?);
     Ok(())
+}
+
+/// Either store keeps sets of this width.
+fn width_is_kept(rt: &impl Abort, alloc: Global, width: u32) -> Result<(), Fail> {
+    let sets = distinct_sets(alloc, width)?;
+    keeps(rt, alloc, PlainStore::new(alloc, width), &sets)?;
+    keeps(rt, alloc, PooledStore::new(alloc, width)?, &sets)
 }
 
 #[test]
 fn stores_keep_their_sets(rt: HostRuntime) -> Result<(), Fail> {
-    let alloc = rt.alloc();
     for &width in &[0, 1, 64, 128, 513] {
-        let sets = distinct_sets(alloc, width)?;
-        let mut plain = PlainStore::new(alloc, width);
-        keeps(&rt, alloc, &mut plain, &sets)?;
-        let mut pooled = PooledStore::new(alloc, width)?;
-        keeps(&rt, alloc, &mut pooled, &sets)?;
+        width_is_kept(&rt, rt.alloc(), width)?;
     }
     Ok(())
 }

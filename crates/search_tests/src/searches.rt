@@ -126,17 +126,13 @@ fn are_found<S: StateStore>(
     Ok(are_they && are_reached(&states.nodes, row.costs))
 }
 
-/// Whether the search by the row's signs finds what the row says.
-fn is_as_wanted<S: StateStore>(alloc: Global, row: &Row, store: S) -> Result<bool, NoMemory>
-    requires empty { S.states store ≡ [] }
-    requires width { S.width_of store ≡ row.now.rooms.width }
-{
-    let most = row.most.clamp(1, MAX_STATES);
-    let signs = Signs {
-        rooms: row.rooms,
-        signs: row.signs,
-    };
-    match &best_first(alloc, &row.rooms, &signs, store, most)? {
+/// Whether this is what the row says.
+fn is_told<S: StateStore>(
+    alloc: Global,
+    outcome: &Outcome<S>,
+    row: &Row,
+) -> Result<bool, NoMemory> {
+    match outcome {
         Outcome::Found {
             steps,
             cost,
@@ -147,40 +143,58 @@ fn is_as_wanted<S: StateStore>(alloc: Global, row: &Row, store: S) -> Result<boo
     }
 }
 
-/// What a cheapest plan costs, as the search with no estimate finds out.
-fn cost_with_no_estimate(alloc: Global, rooms: &Rooms, most: u32) -> Result<Option<u64>, NoMemory> {
-    let most = most.clamp(1, MAX_STATES);
-    let store = PlainStore::new(alloc, rooms.width);
-    match &best_first(alloc, rooms, &NoEstimate(rooms), store, most)? {
-        Outcome::Found { cost, .. } => Ok(Some(*cost)),
-        Outcome::Exhausted { .. } => Ok(None),
-        Outcome::States => Ok(None),
+/// Whether the search by the row's signs finds what the row says.
+fn is_as_wanted<S: StateStore>(alloc: Global, row: &Row, store: S) -> Result<bool, NoMemory>
+    requires empty { S.states store ≡ [] }
+    requires width { S.width_of store ≡ row.now.rooms.width }
+{
+    let most = row.most.clamp(1, MAX_STATES);
+    let signs = Signs {
+        rooms: row.rooms,
+        signs: row.signs,
+    };
+    let outcome = best_first(alloc, &row.rooms, &signs, store, most)?;
+    is_told(alloc, &outcome, row)
+}
+
+/// The same in the plain store, and in the pooled one.
+fn are_as_wanted(alloc: Global, row: &Row) -> Result<[bool; 2], NoMemory> {
+    let width = row.rooms.width;
+    let plain = is_as_wanted(alloc, row, PlainStore::new(alloc, width))?;
+    let pooled = is_as_wanted(alloc, row, PooledStore::new(alloc, width)?)?;
+    Ok([plain, pooled])
+}
+
+/// What the plan that was found costs, if one was.
+fn cost_of<S>(outcome: &Outcome<S>) -> Option<u64> {
+    match outcome {
+        Outcome::Found { cost, .. } => Some(*cost),
+        _ => None,
     }
+}
+
+/// What a cheapest plan costs, as the search with no estimate finds out.
+fn cost_with_no_estimate(alloc: Global, row: &Row) -> Result<Option<u64>, NoMemory> {
+    let most = row.most.clamp(1, MAX_STATES);
+    let store = PlainStore::new(alloc, row.rooms.width);
+    let outcome = best_first(alloc, &row.rooms, &NoEstimate(&row.rooms), store, most)?;
+    Ok(cost_of(&outcome))
 }
 
 #[test]
 fn finds_cheapest_plans_in_their_order(rt: HostRuntime) -> Result<(), Fail> {
-    let alloc = rt.alloc();
     for (number, row) in ROWS.iter().enumerate() {
-        let width = row.rooms.width;
-        let plain = PlainStore::new(alloc, width);
-        assert!(rt; is_as_wanted(alloc, row, plain)?, "row {number}");
-        let pooled = PooledStore::new(alloc, width)?;
-        assert!(rt; is_as_wanted(alloc, row, pooled)?, "row {number}, pooled");
+        let are_found = are_as_wanted(rt.alloc(), row)?;
+        assert_eq!(rt; are_found, [true, true], "row {number}");
     }
     Ok(())
 }
 
 #[test]
 fn finds_the_same_costs_with_no_estimate(rt: HostRuntime) -> Result<(), Fail> {
-    let alloc = rt.alloc();
     for (number, row) in ROWS.iter().enumerate() {
-        let cost = cost_with_no_estimate(alloc, &row.rooms, row.most)?;
-        let wanted = match row.plan {
-            Some((_, cost)) => Some(cost),
-            None => None,
-        };
-        assert_eq!(rt; cost, wanted, "row {number}");
+        let cost = cost_with_no_estimate(rt.alloc(), row)?;
+        assert_eq!(rt; cost, row.plan.map(|(_, cost)| cost), "row {number}");
     }
     Ok(())
 }
