@@ -1,6 +1,15 @@
 //! The certificates of answers, which the checker accepts from their texts.
+ghost use Rattle.std.specs.Prelude.{IsTrue};
+ghost use Rattle.std.specs.List.{list_all};
+ghost use Rattle.typing.specs.Task.{task_of};
+ghost use Rattle.formulas.specs.State.{plan_of};
+ghost use Rattle.model.specs.Meaning.{is_instance};
+
 use crate::helpers::check_cert;
 use cert_checker::Accepted;
+use certificate::Cert;
+use devices::WriteFault;
+use formulas::Plan;
 use solver::{Answer, Limits, solve};
 use std::alloc::Global;
 use std::test::Fail;
@@ -19,22 +28,38 @@ static ANSWERED: [(Texts, u32, u32); 8] = [
     (FOUR_BALLS, 1000, 36),
 ];
 
-/// Whether there is an answer, and its certificate is accepted, with the plan and without.
+/// Whether the certificate of the plan is accepted, with the plan and without.
+fn is_plan_shown(
+    alloc: Global,
+    task: &Task,
+    steps: &Plan,
+    cost: u64,
+    cert: &Cert,
+) -> Result<bool, WriteFault>
+    requires { IsTrue (list_all (is_instance (task_of task.now)) (plan_of steps.now)) }
+{
+    let with_plan = check_cert(alloc, task, cert, Some(steps), 1_000_000)?;
+    let without = check_cert(alloc, task, cert, None, 1_000_000)?;
+    Ok(
+        with_plan == Ok(Accepted::Optimal { cost })
+            && without == Ok(Accepted::AtLeast { cost }),
+    )
+}
+
+/// Whether the certificate that there is no plan is accepted.
+fn is_no_plan_shown(alloc: Global, task: &Task, cert: &Cert) -> Result<bool, WriteFault> {
+    let answer = check_cert(alloc, task, cert, None, 1_000_000)?;
+    Ok(answer == Ok(Accepted::Unsolvable))
+}
+
+/// Whether there is an answer, and its certificate is accepted.
 fn is_shown(alloc: Global, task: &Task, limits: Limits) -> Result<bool, Fail> {
-    match solve(alloc, task, limits)? {
-        Answer::Plan { steps, cost, cert } => {
-            let with_plan = check_cert(alloc, task, &cert, Some(&steps), 1_000_000)?;
-            let without = check_cert(alloc, task, &cert, None, 1_000_000)?;
-            Ok(
-                with_plan == Ok(Accepted::Optimal { cost })
-                    && without == Ok(Accepted::AtLeast { cost }),
-            )
-        }
-        Answer::Unsolvable { cert } => {
-            Ok(check_cert(alloc, task, &cert, None, 1_000_000)? == Ok(Accepted::Unsolvable))
-        }
+    let is_accepted = match solve(alloc, task, limits)? {
+        Answer::Plan { steps, cost, cert } => is_plan_shown(alloc, task, &steps, cost, &cert),
+        Answer::Unsolvable { cert } => is_no_plan_shown(alloc, task, &cert),
         Answer::Unknown(_) => Ok(false),
-    }
+    };
+    Ok(is_accepted?)
 }
 
 #[test]

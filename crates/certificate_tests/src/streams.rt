@@ -1,10 +1,8 @@
 //! The checker over sources that give bytes in pieces, that fail, and that never end.
-ghost use Rattle.std.specs.Prelude.{◌<◌, vec_len};
-
 use crate::helpers::Told::{Device, Line as At};
 use crate::helpers::{Answer, check_source};
-use cert_checker::Accepted;
 use cert_checker::RefusalCode::{CertForm, Repeated};
+use cert_checker::{Accepted, RefusalCode};
 use devices::{Endless, FailsAt, InPieces, Memory};
 use std::alloc::{AllocError, Global};
 use std::process::Abort;
@@ -49,55 +47,47 @@ fn failing(alloc: Global, task: &Task, bytes: &[u8], reads: u64) -> Result<Answe
     Ok(check_source(alloc, task, source, None, 6))
 }
 
-/// A failure is told unless the end of the text was read, or a fault of a line that came comes before it.
+/// A failure is told before the end of the text.
 fn failures_are_told(rt: &impl Abort, alloc: Global, task: &Task) -> Result<(), Fail> {
-    let end = NO_PLAN.len().saturating_add(1) as u64;
-    for reads in 0..end {
-        assert_eq!(rt;
-            failing(alloc, task, NO_PLAN, reads)?,
-            Err(Device),
-            "{reads}"
-        );
+    for reads in 0..=NO_PLAN.len() as u64 {
+        let answer = failing(alloc, task, NO_PLAN, reads)?;
+        assert_eq!(rt; answer, Err(Device), "{reads}");
     }
-    assert_eq!(rt;
-        failing(alloc, task, NO_PLAN, end)?,
-        Ok(Accepted::Unsolvable)
-    );
-    let repeated = Err(At {
-        code: Repeated,
-        line: 5,
-    });
-    assert_eq!(rt; failing(alloc, task, AGAIN, AGAIN.len() as u64)?, repeated);
+    Ok(())
+}
+
+/// The answer to a text with this fault.
+fn at_line(code: RefusalCode, line: u64) -> Answer {
+    Err(At { code, line })
+}
+
+/// A failure is told unless the end of the text was read, or a fault of a line that came comes before it.
+fn only_failures_are_told(rt: &impl Abort, alloc: Global, task: &Task) -> Result<(), Fail> {
+    failures_are_told(rt, alloc, task)?;
+    let answers = [
+        failing(alloc, task, NO_PLAN, NO_PLAN.len().saturating_add(1) as u64)?,
+        failing(alloc, task, AGAIN, AGAIN.len() as u64)?,
+    ];
+    assert_eq!(rt; answers, [Ok(Accepted::Unsolvable), at_line(Repeated, 5)]);
     Ok(())
 }
 
 #[test]
 fn a_failure_is_told_where_it_comes(rt: HostRuntime) -> Result<(), Fail> {
-    on_task(&rt, rt.alloc(), &PAIRS, failures_are_told)
+    on_task(&rt, rt.alloc(), &PAIRS, only_failures_are_told)
 }
 
-/// What the checker answers to a text that these bytes follow for ever.
-fn endless(alloc: Global, task: &Task, text: &[u8], again: Vec<u8>) -> Result<Answer, AllocError>
-    requires { 0 < vec_len again }
-{
-    let source = Endless::new(text.to_vec(alloc)?, again);
+/// What the checker answers to a text that blanks follow for ever.
+fn endless(alloc: Global, task: &Task, text: &[u8]) -> Result<Answer, AllocError> {
+    let blanks = vec![in alloc; b' '; 64]?;
+    let source = Endless::new(text.to_vec(alloc)?, blanks);
     Ok(check_source(alloc, task, source, None, 6))
 }
 
 /// The first line at fault is told, whatever follows.
 fn ends_are_told(rt: &impl Abort, alloc: Global, task: &Task) -> Result<(), Fail> {
-    let blanks = vec![in alloc; b' '; 64]?;
-    let repeated = Err(At {
-        code: Repeated,
-        line: 5,
-    });
-    assert_eq!(rt; endless(alloc, task, AGAIN, blanks)?, repeated);
-    let blanks = vec![in alloc; b' '; 64]?;
-    let behind = Err(At {
-        code: CertForm,
-        line: 12,
-    });
-    assert_eq!(rt; endless(alloc, task, NO_PLAN, blanks)?, behind);
+    let answers = [endless(alloc, task, AGAIN)?, endless(alloc, task, NO_PLAN)?];
+    assert_eq!(rt; answers, [at_line(Repeated, 5), at_line(CertForm, 12)]);
     Ok(())
 }
 

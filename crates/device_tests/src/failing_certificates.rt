@@ -4,6 +4,7 @@ use crate::failing_runs::{OLDER, TWO_HOPS, table};
 use devices::Memory;
 use planner_main::run;
 use std::alloc::Global;
+use std::process::Abort;
 use std::test::Fail;
 
 /// A plan and a certificate are asked for, each in a file.
@@ -40,26 +41,41 @@ fn certificate(alloc: Global) -> Result<Vec<u8>, Fail> {
     Ok(Vec::from_slice(alloc, written)?)
 }
 
+/// A certificate's file that fails at a write has what was written before.
+fn fails_at_each_write(rt: &impl Abort, alloc: Global, certificate: &[u8]) -> Result<(), Fail> {
+    for count in 0..certificate.len().div_ceil(WRITE_PIECE) {
+        let beginning = certificate.get(..count * WRITE_PIECE);
+        let left = [beginning, Some(OLDER), Some(b"")];
+        assert!(rt; leaves(alloc, Failing::Write(count as u64), 21, left)?);
+    }
+    Ok(())
+}
+
+/// The certificate's file fails behind its last write, where it is made, and where it is closed.
+fn fails_before_and_behind(rt: &impl Abort, alloc: Global, certificate: &[u8]) -> Result<(), Fail> {
+    let writes = certificate.len().div_ceil(WRITE_PIECE) as u64;
+    let rows = [
+        (
+            Failing::Write(writes),
+            0,
+            [Some(certificate), Some(TWO_HOPS), Some(TWO_HOPS)],
+        ),
+        (Failing::Creating, 21, [None, Some(OLDER), Some(b"")]),
+        (
+            Failing::Closing,
+            21,
+            [Some(certificate), Some(OLDER), Some(b"")],
+        ),
+    ];
+    for (number, (failing, status, left)) in rows.iter().enumerate() {
+        assert!(rt; leaves(alloc, *failing, *status, *left)?, "row {number}");
+    }
+    Ok(())
+}
+
 #[test]
 fn a_certificate_that_fails_leaves_the_plan_unwritten(rt: HostRuntime) -> Result<(), Fail> {
     let certificate = certificate(rt.alloc())?;
-    let writes = certificate.len().div_ceil(WRITE_PIECE);
-    for count in 0..writes {
-        let beginning = certificate.get(..count * WRITE_PIECE);
-        let left = [beginning, Some(OLDER), Some(b"")];
-        assert!(rt; leaves(rt.alloc(), Failing::Write(count as u64), 21, left)?);
-    }
-    let whole = [Some(certificate.as_slice()), Some(TWO_HOPS), Some(TWO_HOPS)];
-    assert!(rt; leaves(rt.alloc(), Failing::Write(writes as u64), 0, whole)?);
-    assert!(rt;
-        leaves(
-            rt.alloc(),
-            Failing::Creating,
-            21,
-            [None, Some(OLDER), Some(b"")]
-        )?
-    );
-    let closed = [Some(certificate.as_slice()), Some(OLDER), Some(b"")];
-    assert!(rt; leaves(rt.alloc(), Failing::Closing, 21, closed)?);
-    Ok(())
+    fails_at_each_write(&rt, rt.alloc(), &certificate)?;
+    fails_before_and_behind(&rt, rt.alloc(), &certificate)
 }

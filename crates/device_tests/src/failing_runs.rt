@@ -78,29 +78,49 @@ fn leaves_where(alloc: Global, failing: Failing, wanted: Left<'_>) -> Result<boo
     Ok(leaves(alloc, &mut files, None, wanted))
 }
 
-#[test]
-fn a_file_that_fails_has_a_beginning_of_the_plan(rt: HostRuntime) -> Result<(), Fail> {
+/// The file of a plan that fails at a write has a beginning of the plan.
+fn fails_at_each_write(rt: &impl Abort, alloc: Global) -> Result<(), Fail> {
     for (writes, file) in BEGINNINGS.iter().enumerate() {
         let wanted = Left {
             file: *file,
             ..NOTHING
         };
-        assert!(rt; leaves_where(rt.alloc(), Failing::Write(writes as u64), wanted)?);
+        assert!(rt; leaves_where(alloc, Failing::Write(writes as u64), wanted)?);
     }
-    let writes = BEGINNINGS.len() as u64;
-    assert!(rt; leaves_where(rt.alloc(), Failing::Write(writes), WHOLE)?);
-    assert!(rt; leaves_where(rt.alloc(), Failing::Never, WHOLE)?);
     Ok(())
 }
 
+/// Whether a run leaves the whole plan where a write behind the last would fail, and where nothing fails.
+fn leaves_the_whole(alloc: Global) -> Result<[bool; 2], NoMemory> {
+    let behind = Failing::Write(BEGINNINGS.len() as u64);
+    Ok([
+        leaves_where(alloc, behind, WHOLE)?,
+        leaves_where(alloc, Failing::Never, WHOLE)?,
+    ])
+}
+
 #[test]
-fn a_file_may_fail_where_it_is_made_or_closed(rt: HostRuntime) -> Result<(), Fail> {
+fn a_file_that_fails_has_a_beginning_of_the_plan(rt: HostRuntime) -> Result<(), Fail> {
+    fails_at_each_write(&rt, rt.alloc())?;
+    assert_eq!(rt; leaves_the_whole(rt.alloc())?, [true, true]);
+    Ok(())
+}
+
+/// Whether a run leaves what it should where the plan's file cannot be made, and where it cannot be closed.
+fn leaves_made_or_closed(alloc: Global) -> Result<[bool; 2], NoMemory> {
     let closed = Left {
         file: TWO_HOPS,
         ..NOTHING
     };
-    assert!(rt; leaves_where(rt.alloc(), Failing::Creating, NOTHING)?);
-    assert!(rt; leaves_where(rt.alloc(), Failing::Closing, closed)?);
+    Ok([
+        leaves_where(alloc, Failing::Creating, NOTHING)?,
+        leaves_where(alloc, Failing::Closing, closed)?,
+    ])
+}
+
+#[test]
+fn a_file_may_fail_where_it_is_made_or_closed(rt: HostRuntime) -> Result<(), Fail> {
+    assert_eq!(rt; leaves_made_or_closed(rt.alloc())?, [true, true]);
     Ok(())
 }
 
@@ -110,18 +130,23 @@ fn leaves_of_output(alloc: Global, writes: u64, wanted: Left<'_>) -> Result<bool
     Ok(leaves(alloc, &mut files, Some(writes), wanted))
 }
 
-#[test]
-fn an_output_that_fails_comes_after_the_file(rt: HostRuntime) -> Result<(), Fail> {
+/// The standard output that fails at a write has taken a beginning of the plan.
+fn output_fails_at_each_write(rt: &impl Abort, alloc: Global) -> Result<(), Fail> {
     for (writes, out) in BEGINNINGS.iter().enumerate() {
         let wanted = Left {
             status: 21,
             out: *out,
             ..WHOLE
         };
-        assert!(rt; leaves_of_output(rt.alloc(), writes as u64, wanted)?);
+        assert!(rt; leaves_of_output(alloc, writes as u64, wanted)?);
     }
-    let writes = BEGINNINGS.len() as u64;
-    assert!(rt; leaves_of_output(rt.alloc(), writes, WHOLE)?);
+    Ok(())
+}
+
+#[test]
+fn an_output_that_fails_comes_after_the_file(rt: HostRuntime) -> Result<(), Fail> {
+    output_fails_at_each_write(&rt, rt.alloc())?;
+    assert!(rt; leaves_of_output(rt.alloc(), BEGINNINGS.len() as u64, WHOLE)?);
     Ok(())
 }
 
@@ -139,13 +164,13 @@ fn leaves_of_input(
     Ok(leaves(alloc, &mut files, None, wanted))
 }
 
-/// A run over the file of this name fails at each read, the one that finds the end included.
+/// A run over the file of this name fails at each read, the one that finds the end included, and at none behind it.
 fn fails_at_each_read(rt: &impl Abort, alloc: Global, name: &str, text: &str) -> Result<(), Fail> {
     let reads = text.len().div_ceil(READ_PIECE).saturating_add(1);
-    for count in 0..reads {
-        assert!(rt; leaves_of_input(alloc, name, text, count, NOTHING)?);
+    for count in 0..=reads {
+        let wanted = if count < reads { NOTHING } else { WHOLE };
+        assert!(rt; leaves_of_input(alloc, name, text, count, wanted)?);
     }
-    assert!(rt; leaves_of_input(alloc, name, text, reads, WHOLE)?);
     Ok(())
 }
 
@@ -155,14 +180,18 @@ fn an_input_that_fails_leaves_the_plan_unwritten(rt: HostRuntime) -> Result<(), 
     fails_at_each_read(&rt, rt.alloc(), "problem", HOP[1])
 }
 
+/// The status of a run over files without an end, and whether it tells that the domain is too long, and nothing else.
+fn run_without_an_end(alloc: Global) -> (u8, bool) {
+    let mut files = EndlessFiles::new(alloc);
+    let (mut out, mut err) = (Memory::empty(alloc), Memory::empty(alloc));
+    let status = run(alloc, &SOLVE, &mut files, &mut out, &mut err);
+    let told = b"fault 5 TooLong in domain at 16777216..16777217\n".as_slice();
+    (status, out.as_slice().is_empty() & (err.as_slice() == told))
+}
+
 #[test]
 fn a_domain_without_an_end_is_too_long(rt: HostRuntime) {
-    let mut files = EndlessFiles::new(rt.alloc());
-    let (mut out, mut err) = (Memory::empty(rt.alloc()), Memory::empty(rt.alloc()));
-    let status = run(rt.alloc(), &SOLVE, &mut files, &mut out, &mut err);
-    assert_eq!(rt; status, 20);
-    let told = b"fault 5 TooLong in domain at 16777216..16777217\n".as_slice();
-    assert!(rt; out.as_slice().is_empty() && err.as_slice() == told);
+    assert_eq!(rt; run_without_an_end(rt.alloc()), (20, true));
 }
 
 /// Steps that cost nothing lead around in a circle, and the one that reaches the goal costs 4.

@@ -56,12 +56,29 @@ fn text_of(alloc: Global, task: &Task, plan: &Plan, cost: u64) -> Result<Vec<u8>
     Ok(sink.into_vec())
 }
 
+/// Whether the text reads as a plan of these steps.
+fn reads_as(alloc: Global, task: &Task, text: &[u8], steps: &[Term]) -> Result<bool, Fail> {
+    let plan = read_plan(alloc, task, text)?;
+    Ok(has_steps(&plan, steps))
+}
+
+/// The text of the plan of these steps, where it reads as the same steps.
+fn text_read_back(
+    alloc: Global,
+    task: &Task,
+    steps: &[Term],
+    cost: u64,
+) -> Result<Option<Vec<u8>>, Fail> {
+    let text = text_of(alloc, task, &plan(alloc, steps)?, cost)?;
+    let is_same = reads_as(alloc, task, &text, steps)?;
+    Ok(is_same.then_some(text))
+}
+
 /// Each plan has its text, which reads as the same steps.
 fn has_texts(rt: &impl Abort, alloc: Global, task: &Task) -> Result<(), Fail> {
     for (steps, cost, wanted) in &PLANS {
-        let text = text_of(alloc, task, &plan(alloc, *steps)?, *cost)?;
-        assert_eq!(rt; text.as_slice(), *wanted);
-        assert!(rt; has_steps(&read_plan(alloc, task, &text)?, *steps));
+        let text = text_read_back(alloc, task, *steps, *cost)?;
+        assert_eq!(rt; text.as_deref(), Some(*wanted));
     }
     Ok(())
 }
@@ -111,35 +128,40 @@ fn taken(alloc: Global, task: &Task, hops: &Plan, length: usize, writes: u64) ->
     (written, sink.inner.inner.into_vec())
 }
 
+/// What is told where these bytes of the two hops are taken, and no more: that a write failed, unless they are all.
+fn told_of(taken: &[u8]) -> Result<(), WriteFault> {
+    if taken == TWO_HOPS {
+        Ok(())
+    } else {
+        Err(WriteFault::Device)
+    }
+}
+
 /// A sink that takes byte by byte fails at each of the text's bytes.
 fn fails_at_each_byte(rt: &impl Abort, alloc: Global, task: &Task, hops: &Plan) {
-    for count in 0..TWO_HOPS.len() {
+    for count in 0..=TWO_HOPS.len() {
+        let wanted = &TWO_HOPS[..count];
         let (written, text) = taken(alloc, task, hops, 1, count as u64);
-        assert_eq!(rt; written, Err(WriteFault::Device));
-        assert_eq!(rt; text.as_slice(), &TWO_HOPS[..count]);
+        assert_eq!(rt; (written, text.as_slice()), (told_of(wanted), wanted));
     }
-    let (written, text) = taken(alloc, task, hops, 1, TWO_HOPS.len() as u64);
-    assert!(rt; written == Ok(()) && text.as_slice() == TWO_HOPS);
 }
 
 /// What is taken of the text in pieces of seven bytes, where the first write fails, or the second, and so on: each
-/// line is written by itself.
+/// line is written by itself. The last write of all does not fail.
 #[rattlefmt::skip]
-static BEGINNINGS: [&[u8]; 6] = [
+static BEGINNINGS: [&[u8]; 7] = [
     b"", b"(hop a ",
     b"(hop a b)\n", b"(hop a b)\n(hop b ",
     b"(hop a b)\n(hop b c)\n", b"(hop a b)\n(hop b c)\n; cost ",
+    TWO_HOPS,
 ];
 
 /// A sink that takes seven bytes at a write fails at each write.
 fn fails_at_each_piece(rt: &impl Abort, alloc: Global, task: &Task, hops: &Plan) {
     for (writes, wanted) in BEGINNINGS.iter().enumerate() {
         let (written, text) = taken(alloc, task, hops, 7, writes as u64);
-        assert_eq!(rt; written, Err(WriteFault::Device));
-        assert_eq!(rt; text.as_slice(), *wanted);
+        assert_eq!(rt; (written, text.as_slice()), (told_of(*wanted), *wanted));
     }
-    let (written, text) = taken(alloc, task, hops, 7, BEGINNINGS.len() as u64);
-    assert!(rt; written == Ok(()) && text.as_slice() == TWO_HOPS);
 }
 
 #[test]

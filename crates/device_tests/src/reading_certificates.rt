@@ -3,6 +3,7 @@ use certificate_lines::{CertLine, Claim, NamedAtom, StateLine};
 use certificate_reader::{CertFault, CertReader, TextFault};
 use devices::{Endless, FailsAt, InPieces, Memory, Source};
 use std::alloc::{AllocError, Global};
+use std::process::Abort;
 use std::test::Fail;
 
 /// A certificate of ten lines.
@@ -15,8 +16,10 @@ const fn at_line(fault: TextFault, line: u64) -> CertFault {
 }
 
 /// How many lines are handed out, and the fault behind them; `None` where the text is a certificate.
-fn reads<S: Source + Drop>(alloc: Global, source: S) -> Option<(u64, Option<CertFault>)> {
-    let mut reader = CertReader::new(alloc, source);
+type Told = (u64, Option<CertFault>);
+
+/// What the reader tells, and `None` where it never ends.
+fn told<S: Source>(reader: &mut CertReader<S>) -> Option<Told> {
     for count in 0..2_000_000 {
         match reader.next_line() {
             Ok(Some(_)) => {}
@@ -28,6 +31,11 @@ fn reads<S: Source + Drop>(alloc: Global, source: S) -> Option<(u64, Option<Cert
         }
     }
     None
+}
+
+/// What is told of the text that the source gives.
+fn reads<S: Source + Drop>(alloc: Global, source: S) -> Option<Told> {
+    told(&mut CertReader::new(alloc, source))
 }
 
 /// A device that gives these bytes one by one.
@@ -44,54 +52,77 @@ fn atom_at(alloc: Global, weight: i64, object: &[u8]) -> Result<CertLine, AllocE
     Ok(CertLine::Weight { weight, atom })
 }
 
-/// A state of these atoms.
-fn state(
-    alloc: Global,
-    cost: u64,
-    cut: Option<u64>,
-    atoms: &[u32],
-) -> Result<CertLine, AllocError> {
-    let atoms = atoms.to_vec(alloc)?;
+/// A state of one atom.
+fn state(alloc: Global, cost: u64, cut: Option<u64>, atom: u32) -> Result<CertLine, AllocError> {
+    let atoms = vec![in alloc; atom]?;
     Ok(CertLine::Listed(StateLine { cost, cut, atoms }))
+}
+
+/// The line of this number of `HOP`, from 0 on.
+fn line_of_hop(alloc: Global, number: u32) -> Result<CertLine, AllocError> {
+    match number {
+        0 => Ok(CertLine::Head),
+        1 => Ok(CertLine::Claim(Claim::Bound(6))),
+        2 => Ok(CertLine::Constant(6)),
+        3 => atom_at(alloc, 0, b"a"),
+        4 => atom_at(alloc, -3, b"b"),
+        5 => atom_at(alloc, -6, b"c"),
+        6 => state(alloc, 0, None, 0),
+        7 => state(alloc, 3, None, 1),
+        8 => state(alloc, 6, Some(0), 2),
+        _ => Ok(CertLine::Last { count: 3 }),
+    }
+}
+
+/// Whether the reader's next line is the one of this number of `HOP`.
+fn is_next<S: Source>(
+    alloc: Global,
+    reader: &mut CertReader<S>,
+    number: u32,
+) -> Result<bool, Fail> {
+    let wanted = line_of_hop(alloc, number)?;
+    Ok(reader.next_line()? == Some(wanted))
+}
+
+fn hands_out_hop<S: Source>(
+    rt: &impl Abort,
+    alloc: Global,
+    reader: &mut CertReader<S>,
+) -> Result<(), Fail> {
+    for number in 0..10 {
+        assert!(rt; is_next(alloc, reader, number)?, "line {number}");
+    }
+    Ok(())
 }
 
 #[test]
 fn lines_are_what_they_say(rt: HostRuntime) -> Result<(), Fail> {
-    let alloc = rt.alloc();
-    let wanted = vec![in alloc;
-        CertLine::Head,
-        CertLine::Claim(Claim::Bound(6)),
-        CertLine::Constant(6),
-        atom_at(alloc, 0, b"a")?,
-        atom_at(alloc, -3, b"b")?,
-        atom_at(alloc, -6, b"c")?,
-        state(alloc, 0, None, &[0])?,
-        state(alloc, 3, None, &[1])?,
-        state(alloc, 6, Some(0), &[2])?,
-        CertLine::Last { count: 3 },
-    ]?;
-    let mut reader = CertReader::new(alloc, one_by_one(alloc, HOP)?);
-    for line in wanted {
-        assert!(rt; reader.next_line()? == Some(line));
-    }
+    let mut reader = CertReader::new(rt.alloc(), one_by_one(rt.alloc(), HOP)?);
+    hands_out_hop(&rt, rt.alloc(), &mut reader)?;
     assert!(rt; reader.next_line()?.is_none());
+    Ok(())
+}
+
+/// A text that is cut is told at the line in which it ends.
+fn is_cut_anywhere(rt: &impl Abort, alloc: Global) -> Result<(), Fail> {
+    for length in 0..HOP.len() {
+        let beginning = &HOP[..length];
+        let ends = beginning.iter().filter(|byte| **byte == b'\n').count() as u64;
+        let wanted = (ends, Some(at_line(TextFault::Truncated, ends + 1)));
+        assert!(rt; reads(alloc, one_by_one(alloc, beginning)?) == Some(wanted));
+    }
     Ok(())
 }
 
 #[test]
 fn a_text_that_is_cut_is_told_at_the_line_that_is(rt: HostRuntime) -> Result<(), Fail> {
-    let alloc = rt.alloc();
-    for length in 0..HOP.len() {
-        let ends = HOP[..length].iter().filter(|byte| **byte == b'\n').count() as u64;
-        let wanted = (ends, Some(at_line(TextFault::Truncated, ends + 1)));
-        assert!(rt; reads(alloc, one_by_one(alloc, &HOP[..length])?) == Some(wanted));
-    }
-    assert!(rt; reads(alloc, one_by_one(alloc, HOP)?) == Some((10, None)));
+    is_cut_anywhere(&rt, rt.alloc())?;
+    assert!(rt; reads(rt.alloc(), one_by_one(rt.alloc(), HOP)?) == Some((10, None)));
     Ok(())
 }
 
 /// What is told of a device that gives these bytes, and then fails.
-fn before_failure(alloc: Global, bytes: &[u8]) -> Result<Option<(u64, Option<CertFault>)>, Fail> {
+fn before_failure(alloc: Global, bytes: &[u8]) -> Result<Option<Told>, Fail> {
     let reads_before = Some(bytes.len() as u64);
     Ok(reads(
         alloc,
@@ -101,35 +132,33 @@ fn before_failure(alloc: Global, bytes: &[u8]) -> Result<Option<(u64, Option<Cer
 
 #[test]
 fn the_fault_of_a_line_that_came_is_told_before_a_failure(rt: HostRuntime) -> Result<(), Fail> {
-    let alloc = rt.alloc();
-    let version = Some((0, Some(at_line(TextFault::Version, 1))));
-    assert!(rt; before_failure(alloc, b"pddl-cert 9\n")? == version);
-    let form = Some((1, Some(at_line(TextFault::Form, 2))));
-    assert!(rt; before_failure(alloc, b"pddl-cert 1\nclaim some\n")? == form);
-    let behind = Some((10, Some(CertFault::Device)));
-    assert!(rt; before_failure(alloc, HOP)? == behind);
-    let within = Some((1, Some(CertFault::Device)));
-    assert!(rt; before_failure(alloc, b"pddl-cert 1\nclaim none")? == within);
+    let rows: [(&[u8], u64, CertFault); 4] = [
+        (b"pddl-cert 9\n", 0, at_line(TextFault::Version, 1)),
+        (b"pddl-cert 1\nclaim some\n", 1, at_line(TextFault::Form, 2)),
+        (HOP, 10, CertFault::Device),
+        (b"pddl-cert 1\nclaim none", 1, CertFault::Device),
+    ];
+    for (text, lines, fault) in &rows {
+        let told = before_failure(rt.alloc(), *text)?;
+        assert_eq!(rt; told, Some((*lines, Some(*fault))));
+    }
     Ok(())
 }
 
 /// What is told of a text, and then the same bytes for ever.
-fn endless(
-    alloc: Global,
-    text: &[u8],
-    again: u8,
-) -> Result<Option<(u64, Option<CertFault>)>, Fail> {
+fn endless(alloc: Global, text: &[u8], again: u8) -> Result<Option<Told>, Fail> {
     let again = vec![in alloc; again; 65_536]?;
     Ok(reads(alloc, Endless::new(text.to_vec(alloc)?, again)))
 }
 
 #[test]
 fn a_text_without_an_end_has_a_fault(rt: HostRuntime) -> Result<(), Fail> {
-    let alloc = rt.alloc();
-    let first = Some((0, Some(at_line(TextFault::Form, 1))));
-    assert!(rt; endless(alloc, b"", b'0')? == first);
-    let behind = Some((10, Some(at_line(TextFault::Form, 11))));
-    assert!(rt; endless(alloc, HOP, b'\n')? == behind);
+    let (first, behind) = (at_line(TextFault::Form, 1), at_line(TextFault::Form, 11));
+    let told = [
+        endless(rt.alloc(), b"", b'0')?,
+        endless(rt.alloc(), HOP, b'\n')?,
+    ];
+    assert_eq!(rt; told, [Some((0, Some(first))), Some((10, Some(behind)))]);
     Ok(())
 }
 

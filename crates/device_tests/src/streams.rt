@@ -29,15 +29,20 @@ fn gives_all<S: Source>(source: &mut S, wanted: &[Result<&[u8], DeviceFault>]) -
     gives(source, Ok(b""))
 }
 
+/// Whether the source gives its bytes in pairs, also behind a device that never fails, and with a failure behind the first.
+fn are_given(alloc: Global) -> Result<[bool; 3], AllocError> {
+    let pieces = [Ok(b"ab".as_slice()), Ok(b"cd"), Ok(b"e")];
+    let failing = [Ok(b"ab".as_slice()), Err(DeviceFault), Ok(b"cd"), Ok(b"e")];
+    Ok([
+        gives_all(&mut pairs(alloc)?, &pieces),
+        gives_all(&mut FailsAt::new(pairs(alloc)?, None), &pieces),
+        gives_all(&mut FailsAt::new(pairs(alloc)?, Some(1)), &failing),
+    ])
+}
+
 #[test]
 fn sources_give_their_bytes_in_pieces(rt: HostRuntime) -> Result<(), Fail> {
-    let mut source = pairs(rt.alloc())?;
-    assert!(rt; gives_all(&mut source, &[Ok(b"ab"), Ok(b"cd"), Ok(b"e")]));
-    let mut source = FailsAt::new(pairs(rt.alloc())?, None);
-    assert!(rt; gives_all(&mut source, &[Ok(b"ab"), Ok(b"cd"), Ok(b"e")]));
-    let mut source = FailsAt::new(pairs(rt.alloc())?, Some(1));
-    let wanted = [Ok(b"ab".as_slice()), Err(DeviceFault), Ok(b"cd"), Ok(b"e")];
-    assert!(rt; gives_all(&mut source, &wanted));
+    assert_eq!(rt; are_given(rt.alloc())?, [true, true, true]);
     Ok(())
 }
 
@@ -55,14 +60,19 @@ fn takes_beginning(sink: &mut FailsAt<InPieces<Memory>>) -> bool {
         && write_all(sink, b"hij") == Ok(())
 }
 
+/// Whether a sink takes its bytes in pairs, and behind a device that fails a beginning, and then the rest.
+fn are_taken(alloc: Global) -> [bool; 3] {
+    let mut sink = InPieces::new(Memory::empty(alloc), 2);
+    let are_pairs = takes_pairs(&mut sink);
+    let mut sink = FailsAt::new(sink, Some(1));
+    let is_beginning = takes_beginning(&mut sink);
+    let taken = sink.inner.inner.as_slice();
+    [are_pairs, is_beginning, taken == b"abcdefghij".as_slice()]
+}
+
 #[test]
 fn sinks_take_a_beginning_where_they_fail(rt: HostRuntime) {
-    let mut sink = InPieces::new(Memory::empty(rt.alloc()), 2);
-    assert!(rt; takes_pairs(&mut sink));
-    let mut sink = FailsAt::new(sink, Some(1));
-    assert!(rt; takes_beginning(&mut sink));
-    let taken = sink.inner.inner.into_vec();
-    assert_eq!(rt; taken.as_slice(), b"abcdefghij".as_slice());
+    assert_eq!(rt; are_taken(rt.alloc()), [true, true, true]);
 }
 
 /// Writes a file of these bytes.
@@ -90,14 +100,21 @@ fn has(table: &Table, name: &str, bytes: &[u8]) -> bool {
     }
 }
 
+/// Whether the table has the three files, and no other.
+fn keeps_three(table: &mut Table) -> [bool; 4] {
+    [
+        has(table, "a", b"second"),
+        has(table, "b", b"other"),
+        has(table, "c", b"third"),
+        table.open("d").is_err(),
+    ]
+}
+
 #[test]
 fn a_table_keeps_its_files(rt: HostRuntime) -> Result<(), Fail> {
     assert!(rt; Table::new(rt.alloc()).get("a").is_none());
     let mut table = three_files(rt.alloc())?;
-    assert!(rt;
-        has(&table, "a", b"second") && has(&table, "b", b"other") && has(&table, "c", b"third")
-    );
-    assert!(rt; table.open("d").is_err());
+    assert_eq!(rt; keeps_three(&mut table), [true, true, true, true]);
     Ok(())
 }
 

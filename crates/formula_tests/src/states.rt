@@ -1,7 +1,7 @@
 //! States, plans, instances and atoms in memory.
 use faults::NoMemory;
 use formulas::{
-    Binding, Instance, Plan, State, Valuation, apply, changes, copied, cost, holds, is_atom,
+    Atom, Binding, Instance, Plan, State, Valuation, apply, changes, copied, cost, holds, is_atom,
     is_fluent, is_fluent_atom, is_instance, meets_goal, sure, with_object,
 };
 use std::alloc::Global;
@@ -35,9 +35,14 @@ fn walks(rt: &impl Abort, alloc: Global, task: &Task, start: &State) -> Result<(
     let step = instance(0, &[0, 1]);
     assert!(rt; is_instance(task, &step));
     let next = apply(alloc, task, &step, start)?.ok_or("not applicable")?;
-    assert!(rt; is_at(task, start, 0) && is_at(task, &next, 1));
-    assert!(rt; apply(alloc, task, &step, &next)?.is_none());
-    assert!(rt; cost(task, &step) == 1 && is_valued(&next));
+    let is_there = [
+        is_at(task, start, 0),
+        is_at(task, &next, 1),
+        is_valued(&next),
+    ];
+    let is_no_way_back = apply(alloc, task, &step, &next)?.is_none();
+    let found = (cost(task, &step), is_there, is_no_way_back);
+    assert_eq!(rt; found, (1, [true, true, true], true));
     Ok(())
 }
 
@@ -60,27 +65,37 @@ static ATOMS: [(Term, bool); 7] = [
     ((0, &[]), false), ((0, &[0, 1]), false), ((0, &[3]), false), ((1, &[0, 3]), false), ((2, &[0]), false),
 ];
 
-/// What is one of the walk's instances, atoms and fluent predicates, and what is not.
-fn knows_its_own(rt: &impl Abort, task: &Task) {
+/// What is one of the walk's instances, and what is not.
+fn knows_instances(rt: &impl Abort, task: &Task) {
     for ((schema, objects), is_one) in &INSTANCES {
         assert_eq!(rt; is_instance(task, &instance(*schema, *objects)), *is_one);
     }
+}
+
+/// What is one of the walk's atoms, and what is not.
+fn knows_atoms(rt: &impl Abort, task: &Task) {
     for ((predicate, objects), is_one) in &ATOMS {
         assert_eq!(rt; is_atom(task, &atom(*predicate, *objects)), *is_one);
     }
-    let is_of_places = is_fluent(task, PredicateId(0));
-    let is_of_roads = is_fluent(task, PredicateId(1)) || is_fluent(task, PredicateId(2));
-    assert!(rt; is_of_places && !is_of_roads);
+}
+
+/// The predicate of places alone is fluent, and its atoms are.
+fn knows_what_is_fluent(rt: &impl Abort, task: &Task) {
     let are_fluent = [
+        is_fluent(task, PredicateId(0)),
+        is_fluent(task, PredicateId(1)),
+        is_fluent(task, PredicateId(2)),
         is_fluent_atom(task, &atom(0, &[2])),
         is_fluent_atom(task, &atom(0, &[3])),
         is_fluent_atom(task, &atom(1, &[2, 2])),
     ];
-    assert_eq!(rt; are_fluent, [true, false, false]);
+    assert_eq!(rt; are_fluent, [true, false, false, true, false, false]);
 }
 
 fn is_a_walk(rt: &impl Abort, alloc: Global, task: &Task) -> Result<(), Fail> {
-    knows_its_own(rt, task);
+    knows_instances(rt, task);
+    knows_atoms(rt, task);
+    knows_what_is_fluent(rt, task);
     let start = State::initial(alloc, task)?;
     walks(rt, alloc, task, &start)
 }
@@ -192,12 +207,17 @@ static IN_ORDER: [Term; 5] = [(0, &[1]), (0, &[2]), (1, &[0, 1]), (1, &[0, 2]), 
 #[rattlefmt::skip]
 static MIXED: [Term; 7] = [(1, &[1, 0]), (0, &[2]), (1, &[0, 1]), (0, &[2]), (0, &[1]), (1, &[0, 2]), (1, &[1, 0])];
 
+/// Whether the state lists these atoms, in this order, and its copy is the same.
+fn is_listed(state: &State, atoms: &[Atom]) -> Result<bool, NoMemory> {
+    let copy = state.try_clone()?;
+    Ok(state.atoms().iter().eq(atoms) & (copy == *state))
+}
+
 /// The state into which the first atoms were put has the second ones, in this order, and so has its copy.
 fn lists(rt: &impl Abort, alloc: Global, put: &[Term], wanted: &[Term]) -> Result<(), Fail> {
     let state = state(alloc, put)?;
     let wanted = atoms(alloc, wanted)?;
-    assert!(rt; state.atoms().iter().eq(&wanted));
-    assert!(rt; state.try_clone()? == state);
+    assert!(rt; is_listed(&state, &wanted)?);
     Ok(())
 }
 
@@ -236,7 +256,11 @@ fn plans_keep_their_steps(rt: HostRuntime) -> Result<(), Fail> {
 fn bindings_are_copied_and_made_longer(rt: HostRuntime) {
     let one = with_object(&Binding::new(), ObjectId(7));
     let two = with_object(&one, ObjectId(3));
-    assert!(rt; copied(&one).as_slice() == [ObjectId(7)].as_slice());
-    assert!(rt; copied(&two).as_slice() == [ObjectId(7), ObjectId(3)].as_slice());
-    assert!(rt; one.as_slice() == [ObjectId(7)].as_slice());
+    let (short, long) = ([ObjectId(7)], [ObjectId(7), ObjectId(3)]);
+    let are_right = [
+        copied(&one).as_slice() == short.as_slice(),
+        copied(&two).as_slice() == long.as_slice(),
+        one.as_slice() == short.as_slice(),
+    ];
+    assert_eq!(rt; are_right, [true, true, true]);
 }

@@ -65,6 +65,34 @@ fn told_of_goal(alloc: Global, ground: &Ground<'_>) -> Result<String, AllocError
     Ok(told)
 }
 
+/// These are told of the first instances, in their order.
+fn tells_of_instances(
+    rt: &impl Abort,
+    alloc: Global,
+    ground: &Ground<'_>,
+    wanted: &[&str],
+) -> Result<(), Fail> {
+    for (wanted, number) in wanted.iter().zip(0..u32::MAX) {
+        assert_eq!(rt; told(alloc, ground, number)?.as_str(), *wanted);
+    }
+    Ok(())
+}
+
+/// That many instances are kept, and this is told of the goal.
+fn tells_of_all(
+    rt: &impl Abort,
+    alloc: Global,
+    ground: &Ground<'_>,
+    instances: &[&str],
+    goal: &str,
+) -> Result<(), Fail> {
+    tells_of_instances(rt, alloc, ground, instances)?;
+    let told = told_of_goal(alloc, ground)?;
+    let kept = ground.instances().len();
+    assert_eq!(rt; (kept, told.as_str()), (instances.len(), goal));
+    Ok(())
+}
+
 fn tells(
     rt: &impl Abort,
     alloc: Global,
@@ -73,12 +101,7 @@ fn tells(
     goal: &str,
 ) -> Result<(), Fail> {
     let ground = Ground::new(alloc, task, &[], 10)?;
-    assert_eq!(rt; ground.instances().len(), instances.len());
-    for (wanted, number) in instances.iter().zip(0..u32::MAX) {
-        assert_eq!(rt; told(alloc, &ground, number)?.as_str(), *wanted);
-    }
-    assert_eq!(rt; told_of_goal(alloc, &ground)?.as_str(), goal);
-    Ok(())
+    tells_of_all(rt, alloc, &ground, instances, goal)
 }
 
 #[test]

@@ -66,13 +66,24 @@ fn numbers(ground: &Ground<'_>, wanted: &[Term]) -> bool {
     ground.width() as usize == wanted.len()
 }
 
+/// Whether the instances and the atoms have these numbers, and the task is the one that was made ground.
+fn are_numbered(
+    alloc: Global,
+    task: &Task,
+    kept: &[Term],
+    atoms: &[Term],
+) -> Result<[bool; 3], Fail> {
+    let ground = Ground::new(alloc, task, &[], 10)?;
+    let is_task = ground.task().object_count() == task.object_count();
+    Ok([keeps(&ground, kept), numbers(&ground, atoms), is_task])
+}
+
 #[test]
 fn instances_and_atoms_are_numbered(rt: HostRuntime) -> Result<(), Fail> {
     for (texts, kept, atoms) in &NUMBERED {
         on_task(&rt, rt.alloc(), texts, |rt, alloc, task| {
-            let ground = Ground::new(alloc, task, &[], 10)?;
-            assert!(rt; keeps(&ground, *kept) && numbers(&ground, *atoms));
-            assert_eq!(rt; ground.task().object_count(), task.object_count());
+            let answers = are_numbered(alloc, task, *kept, *atoms)?;
+            assert_eq!(rt; answers, [true, true, true]);
             Ok(())
         })?;
     }
@@ -87,16 +98,24 @@ static SEEN_FIRST: [Term; 4] = [(3, &[1]), (1, &[0]), (2, &[]), (1, &[1])];
 #[rattlefmt::skip]
 static UNNUMBERED: [Term; 2] = [(0, &[0, 1]), (3, &[0])];
 
+/// Whether none of these atoms has a number.
+fn has_none(ground: &Ground<'_>, terms: &[Term]) -> bool {
+    terms
+        .iter()
+        .all(|term| ground.number_of(&atom(term.0, term.1)).is_none())
+}
+
 fn numbers_seen_first(rt: &impl Abort, alloc: Global, task: &Task) -> Result<(), Fail> {
     let seen = [atom(3, &[1])];
     if !is_fluent_atom(task, &seen[0]) {
         return Err("not fluent".into());
     }
     let ground = Ground::new(alloc, task, &seen, 2)?;
-    assert!(rt; numbers(&ground, &SEEN_FIRST));
-    for term in &UNNUMBERED {
-        assert_eq!(rt; ground.number_of(&atom(term.0, term.1)), None);
-    }
+    let answers = [
+        numbers(&ground, &SEEN_FIRST),
+        has_none(&ground, &UNNUMBERED),
+    ];
+    assert_eq!(rt; answers, [true, true]);
     Ok(())
 }
 
@@ -260,6 +279,14 @@ fn starts(alloc: Global, ground: &Ground<'_>, lines: &[Line]) -> Result<bool, No
     Ok(lines.first().is_some_and(|line| line.0 == start.as_slice()))
 }
 
+/// Whether the instances lead to the line's states, and the goal is told as the line says.
+fn is_line(alloc: Global, ground: &Ground<'_>, line: &Line) -> Result<[bool; 2], NoMemory> {
+    Ok([
+        leads(alloc, ground, line)?,
+        is_goal_told(alloc, ground, line)?,
+    ])
+}
+
 fn are_states(
     rt: &impl Abort,
     alloc: Global,
@@ -267,16 +294,27 @@ fn are_states(
     lines: &[Line],
 ) -> Result<(), Fail> {
     for (number, line) in lines.iter().enumerate() {
-        assert!(rt; leads(alloc, ground, line)?, "line {number}");
-        assert!(rt; is_goal_told(alloc, ground, line)?, "line {number}");
+        assert_eq!(rt;
+            is_line(alloc, ground, line)?,
+            [true, true],
+            "line {number}"
+        );
     }
     Ok(())
 }
 
+fn tells_all(rt: &impl Abort, alloc: Global, ground: &Ground<'_>, row: &Row) -> Result<(), Fail> {
+    let are_told = [
+        are_costs(ground, row.costs),
+        starts(alloc, ground, row.lines)?,
+    ];
+    assert_eq!(rt; are_told, [true, true]);
+    are_states(rt, alloc, ground, row.lines)
+}
+
 fn tells(rt: &impl Abort, alloc: Global, task: &Task, row: &Row) -> Result<(), Fail> {
     let ground = Ground::new(alloc, task, &[], 10)?;
-    assert!(rt; are_costs(&ground, row.costs) && starts(alloc, &ground, row.lines)?);
-    are_states(rt, alloc, &ground, row.lines)
+    tells_all(rt, alloc, &ground, row)
 }
 
 #[test]

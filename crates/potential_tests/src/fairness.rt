@@ -65,13 +65,37 @@ fn improved(alloc: Global, ground: &Ground<'_>, rounds: u32) -> Result<Option<u6
     Ok(Some(better.value(&initial)))
 }
 
+/// What is told of three potentials for the ground task of `HOP`.
+fn told_of_three(alloc: Global, ground: &Ground<'_>) -> Result<[Option<Fairness>; 3], NoMemory> {
+    Ok([
+        told(alloc, ground, 6, &[0, -3, -6])?,
+        told(alloc, ground, 6, &[0, -2, -6])?,
+        told(alloc, ground, 7, &[0, -3, -6])?,
+    ])
+}
+
+/// Two are estimated, of which the second are not fair, and potentials of 0 are made better.
+fn estimated_and_improved(
+    alloc: Global,
+    ground: &Ground<'_>,
+) -> Result<[Option<u64>; 3], NoMemory> {
+    Ok([
+        estimated(alloc, ground, 6, &[0, -3, -6])?,
+        estimated(alloc, ground, 7, &[0, -3, -6])?,
+        improved(alloc, ground, 1)?,
+    ])
+}
+
 #[test]
 fn hops_are_fair(rt: HostRuntime) -> Result<(), Fail> {
     on_task(&rt, rt.alloc(), &HOP, |rt, alloc, task| {
         let ground = Ground::new(alloc, task, &[], 10)?;
-        assert!(rt; told(alloc, &ground, 6, &[0, -3, -6])? == Some(Fairness::Fair));
-        assert!(rt; told(alloc, &ground, 6, &[0, -2, -6])? == Some(Fairness::Instance(1)));
-        assert!(rt; told(alloc, &ground, 7, &[0, -3, -6])? == Some(Fairness::Goal));
+        let wanted = [
+            Some(Fairness::Fair),
+            Some(Fairness::Instance(1)),
+            Some(Fairness::Goal),
+        ];
+        assert_eq!(rt; told_of_three(alloc, &ground)?, wanted);
         Ok(())
     })
 }
@@ -80,9 +104,8 @@ fn hops_are_fair(rt: HostRuntime) -> Result<(), Fail> {
 fn hops_are_estimated(rt: HostRuntime) -> Result<(), Fail> {
     on_task(&rt, rt.alloc(), &HOP, |rt, alloc, task| {
         let ground = Ground::new(alloc, task, &[], 10)?;
-        assert!(rt; estimated(alloc, &ground, 6, &[0, -3, -6])? == Some(6));
-        assert!(rt; estimated(alloc, &ground, 7, &[0, -3, -6])? == None);
-        assert!(rt; improved(alloc, &ground, 1)? == Some(6));
+        let wanted = [Some(6), None, Some(6)];
+        assert_eq!(rt; estimated_and_improved(alloc, &ground)?, wanted);
         Ok(())
     })
 }

@@ -49,9 +49,13 @@ fn scores(
 
 #[test]
 fn words_are_summed(rt: HostRuntime) -> Result<(), Fail> {
-    let alloc = rt.alloc();
-    assert!(rt; scores(alloc, &[], &[])? == Some((1000, 1000, 1000)));
-    assert!(rt; scores(alloc, &[0, 63, 64], &[65, 129])? == Some((935, 1066, 1066)));
-    assert!(rt; scores(alloc, &[1, 65, 128, 129], &[1, 66, 128])? == Some((1067, 1003, 1003)));
+    let rows: [(&[u32], &[u32], (i64, i64, i64)); 3] = [
+        (&[], &[], (1000, 1000, 1000)),
+        (&[0, 63, 64], &[65, 129], (935, 1066, 1066)),
+        (&[1, 65, 128, 129], &[1, 66, 128], (1067, 1003, 1003)),
+    ];
+    for (before, after, wanted) in &rows {
+        assert_eq!(rt; scores(rt.alloc(), *before, *after)?, Some(*wanted));
+    }
     Ok(())
 }

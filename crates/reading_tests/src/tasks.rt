@@ -1,4 +1,5 @@
 //! Tasks in memory: what names and numbers lead to.
+use faults::NoMemory;
 use std::alloc::{AllocError, Global};
 use std::process::Abort;
 use std::test::Fail;
@@ -16,35 +17,39 @@ const MIXED: Texts = [
 
 /// How many there are of each kind, and what names lead to, all in lower case.
 fn names_lead_to_numbers(rt: &impl Abort, task: &Task) {
-    assert_eq!(rt; (task.object_count(), task.schema_count()), (2, 1));
     let objects = (task.object_named(b"two"), task.object_named(b"three"));
-    assert_eq!(rt; objects, (Some(ObjectId(1)), None));
     let schemas = (task.schema_named(b"go"), task.schema_named(b"p"));
-    assert_eq!(rt; schemas, (Some(SchemaId(0)), None));
+    let found = (task.object_count(), objects, task.schema_count(), schemas);
+    let wanted = (2, (Some(ObjectId(1)), None), 1, (Some(SchemaId(0)), None));
+    assert_eq!(rt; found, wanted);
 }
 
 /// What numbers lead to.
 fn numbers_lead_to_names(rt: &impl Abort, task: &Task) {
     let objects = (task.object_name(ObjectId(1)), task.object_name(ObjectId(2)));
-    assert_eq!(rt; objects, (Some(b"two".as_slice()), None));
     let schemas = (task.schema_name(SchemaId(0)), task.schema_name(SchemaId(1)));
-    assert_eq!(rt; schemas, (Some(b"go".as_slice()), None));
+    let (two, go) = (Some(b"two".as_slice()), Some(b"go".as_slice()));
+    assert_eq!(rt; (objects, schemas), ((two, None), (go, None)));
 }
 
-/// Without types of its own a task has the one type `object`, which all objects are of.
-fn all_are_objects(rt: &impl Abort, alloc: Global, task: &Task) -> Result<(), Fail> {
-    let root = task.type_named(b"object");
-    assert_eq!(rt; (task.type_count(), root), (1, Some(TypeId(0))));
+/// Without types of its own a task has the one type `object`.
+fn has_one_type(rt: &impl Abort, task: &Task) {
     let names = (task.type_name(TypeId(0)), task.type_name(TypeId(1)));
-    assert_eq!(rt; names, (Some(b"object".as_slice()), None));
-    let above = (task.supertypes(TypeId(0)), task.supertypes(TypeId(1)));
-    assert!(rt; above == (&[TypeId(0)], &[]));
+    let found = (task.type_count(), task.type_named(b"object"), names);
+    let wanted = (1, Some(TypeId(0)), (Some(b"object".as_slice()), None));
+    assert_eq!(rt; found, wanted);
+}
+
+/// Whether the type `object` is above itself alone, and both objects are of it, and no other.
+fn are_all_objects(alloc: Global, task: &Task) -> Result<[bool; 4], NoMemory> {
     let objects = TypeUnion(vec![in alloc; TypeId(0)]?);
-    assert!(rt; task.is_of(ObjectId(1), &objects) && !task.is_of(ObjectId(2), &objects));
-    assert!(rt;
-        task.objects_of(alloc, &objects)?.as_slice() == [ObjectId(0), ObjectId(1)].as_slice()
-    );
-    Ok(())
+    let listed = task.objects_of(alloc, &objects)?;
+    Ok([
+        (task.supertypes(TypeId(0)), task.supertypes(TypeId(1))) == (&[TypeId(0)], &[]),
+        task.is_of(ObjectId(1), &objects),
+        !task.is_of(ObjectId(2), &objects),
+        listed.as_slice() == [ObjectId(0), ObjectId(1)].as_slice(),
+    ])
 }
 
 /// The declarations of a task in words, and its start and its goal.
@@ -69,12 +74,21 @@ effect: Literal(Delete(LiftedAtom { predicate: PredicateId(1), terms: [] })), co
 [Atom { predicate: PredicateId(0), objects: [ObjectId(1)] }, Atom { predicate: PredicateId(0), objects: [ObjectId(1)] }]
 Atom(LiftedAtom { predicate: PredicateId(0), terms: [Object(ObjectId(1))] })";
 
+/// The declarations are told, and no number leads beyond them.
+fn has_its_declarations(rt: &impl Abort, alloc: Global, task: &Task) -> Result<(), Fail> {
+    let told = declarations(alloc, task)?;
+    let are_all = task.predicate(PredicateId(2)).is_none() && task.schema(SchemaId(1)).is_none();
+    assert_eq!(rt; (told.as_str(), are_all), (DECLARATIONS, true));
+    Ok(())
+}
+
 fn has_its_parts(rt: &impl Abort, alloc: Global, task: &Task) -> Result<(), Fail> {
     names_lead_to_numbers(rt, task);
     numbers_lead_to_names(rt, task);
-    assert!(rt; task.predicate(PredicateId(2)).is_none() && task.schema(SchemaId(1)).is_none());
-    assert_eq!(rt; declarations(alloc, task)?.as_str(), DECLARATIONS);
-    all_are_objects(rt, alloc, task)
+    has_one_type(rt, task);
+    has_its_declarations(rt, alloc, task)?;
+    assert_eq!(rt; are_all_objects(alloc, task)?, [true, true, true, true]);
+    Ok(())
 }
 
 #[test]

@@ -44,13 +44,12 @@ fn words_of_texts(rt: HostRuntime) -> Result<(), Fail> {
 #[test]
 fn parts_of_texts(rt: HostRuntime) {
     let text = b"; a\n(go2)";
-    assert_eq!(rt; Form::of(text[0]), Form::Comment);
     let ends = [
         part_end(text, 0, Form::Comment),
         part_end(text, 5, Form::Run),
         part_end(text, 8, Form::Closing),
     ];
-    assert_eq!(rt; ends, [3, 8, 9]);
     let are_names = [is_name(b"go-2_"), is_name(b"2go"), is_name(b"")];
-    assert_eq!(rt; are_names, [true, false, false]);
+    let found = (Form::of(text[0]), ends, are_names);
+    assert_eq!(rt; found, (Form::Comment, [3, 8, 9], [true, false, false]));
 }

@@ -1,7 +1,10 @@
 //! Answers to tasks.
+use faults::NoMemory;
 use solver::{Answer, Limit, Limits, solve};
+use std::alloc::Global;
 use std::test::Fail;
 use test_texts::{DONE, FOUR_BALLS, FOUR_BLOCKS, GO, HOP, PAIRS, TIE, Texts, UNTIED, on_task};
+use typing::Task;
 
 /// What is found out of a task: what a plan costs, or that there is none, or the limit that is exceeded.
 pub(crate) type Found = Result<Option<u64>, Limit>;
@@ -33,13 +36,17 @@ fn found(answer: &Answer) -> Found {
     }
 }
 
+fn solved(alloc: Global, task: &Task, limits: Limits) -> Result<Found, NoMemory> {
+    let answer = solve(alloc, task, limits)?;
+    Ok(found(&answer))
+}
+
 #[test]
 fn answers_are_found(rt: HostRuntime) -> Result<(), Fail> {
     for (texts, states, instances, wanted) in &ANSWERS {
         let limits = Limits::new(*states, *instances).ok_or("no limits")?;
         on_task(&rt, rt.alloc(), texts, |rt, alloc, task| {
-            let answer = solve(alloc, task, limits)?;
-            assert_eq!(rt; found(&answer), *wanted);
+            assert_eq!(rt; solved(alloc, task, limits)?, *wanted);
             Ok(())
         })?;
     }

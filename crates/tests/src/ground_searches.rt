@@ -78,6 +78,18 @@ fn are_alike<A: StateStore, B: StateStore>(
     }
 }
 
+/// What both searches found out, if they found the same.
+fn told_alike<A: StateStore, B: StateStore>(
+    alloc: Global,
+    width: u32,
+    some: &Outcome<A>,
+    others: &Outcome<B>,
+) -> Result<Option<Found>, NoMemory> {
+    let are_told = told(some) == told(others) && steps_of(some) == steps_of(others);
+    let are_same = are_told && are_alike(alloc, width, states_of(some), states_of(others))?;
+    Ok(are_same.then_some(told(some)))
+}
+
 /// What both searches find out, if they find the same.
 fn found_by_both(alloc: Global, ground: &Ground<'_>, most: u32) -> Result<Option<Found>, NoMemory> {
     let (system, width) = (GroundSystem(ground), ground.width());
@@ -85,11 +97,7 @@ fn found_by_both(alloc: Global, ground: &Ground<'_>, most: u32) -> Result<Option
     let none = NoEstimate(&system);
     let plain = best_first(alloc, &system, &none, PlainStore::new(alloc, width), most)?;
     let pooled = best_first(alloc, &system, &none, PooledStore::new(alloc, width)?, most)?;
-    let are_told = told(&plain) == told(&pooled) && steps_of(&plain) == steps_of(&pooled);
-    if are_told && are_alike(alloc, width, states_of(&plain), states_of(&pooled))? {
-        return Ok(Some(told(&plain)));
-    }
-    Ok(None)
+    told_alike(alloc, width, &plain, &pooled)
 }
 
 /// The same of the task, where no more instances are kept.

@@ -58,35 +58,51 @@ fn solved(alloc: Global, texts: &Texts) -> Result<String, Fail> {
 
 #[test]
 fn answers_are_told_as_json(rt: HostRuntime) -> Result<(), Fail> {
-    let plan =
-        "{\"command\":\"solve\",\"cost\":6,\"result\":\"plan\",\"steps\":[\"(hop a b)\",\"(hop b c)\"]}";
-    assert_eq!(rt; solved(rt.alloc(), &HOP)?.as_str(), plan);
-    let none = "{\"command\":\"solve\",\"result\":\"unsolvable\"}";
-    assert_eq!(rt; solved(rt.alloc(), &PAIRS)?.as_str(), none);
+    let rows = [
+        (
+            HOP,
+            "{\"command\":\"solve\",\"cost\":6,\"result\":\"plan\",\"steps\":[\"(hop a b)\",\"(hop b c)\"]}",
+        ),
+        (PAIRS, "{\"command\":\"solve\",\"result\":\"unsolvable\"}"),
+    ];
+    for (texts, wanted) in &rows {
+        assert_eq!(rt; solved(rt.alloc(), texts)?.as_str(), *wanted);
+    }
     Ok(())
 }
 
-/// Whether these words ask for a plan of `d` and `p`, as JSON, within five states.
-fn asks_for_a_plan(alloc: Global, words: &[&str]) -> Result<bool, WordsFault> {
-    match read_words(alloc, words)? {
+/// Whether a plan of `d` and `p` is asked for, as JSON, within five states.
+fn is_for_a_plan(order: &Order<'_>) -> bool {
+    match order {
         Order::Solve {
             domain,
             problem,
             states,
             json,
             ..
-        } => Ok(domain == "d" && problem == "p" && states.number() == 5 && json),
-        Order::Validate { .. } | Order::Check { .. } => Ok(false),
+        } => *domain == "d" && *problem == "p" && states.number() == 5 && *json,
+        Order::Validate { .. } | Order::Check { .. } => false,
+    }
+}
+
+/// Whether these words ask for that; `None` where they ask for nothing.
+fn ask_for_a_plan(alloc: Global, words: &[&str]) -> Result<Option<bool>, NoMemory> {
+    match read_words(alloc, words) {
+        Ok(order) => Ok(Some(is_for_a_plan(&order))),
+        Err(WordsFault::Words(_)) => Ok(None),
+        Err(WordsFault::NoMemory) => Err(NoMemory),
     }
 }
 
 #[test]
 fn words_are_read(rt: HostRuntime) -> Result<(), Fail> {
-    let words = ["solve", "d", "--states=5", "p", "--json"];
-    assert!(rt; asks_for_a_plan(rt.alloc(), &words)?);
-    let words = ["validate", "d", "p", "l"];
-    assert!(rt; !asks_for_a_plan(rt.alloc(), &words)?);
-    let words = ["solve", "d", "p", "--states", "0"];
-    assert!(rt; matches!(read_words(rt.alloc(), &words), Err(WordsFault::Words(_))));
+    let rows: [(&[&str], Option<bool>); 3] = [
+        (&["solve", "d", "--states=5", "p", "--json"], Some(true)),
+        (&["validate", "d", "p", "l"], Some(false)),
+        (&["solve", "d", "p", "--states", "0"], None),
+    ];
+    for (words, wanted) in &rows {
+        assert_eq!(rt; ask_for_a_plan(rt.alloc(), *words)?, *wanted);
+    }
     Ok(())
 }

@@ -40,15 +40,27 @@ const NAMES: &str = "1 BadByte, 2 BadWord, 3 Unbalanced, 4 TooDeep, 5 TooLong, 6
 40 CertForm, 41 CertVersion, 42 Truncated, 43 NotFluent, 44 Repeated, 45 NoInitial, 46 Unfair, 47 UnfairGoal, 48 GoalOpen, 49 SuccessorMissing, 50 SuccessorDearer, \
 51 CutWeak, 52 CutNotAllowed, 53 PlanInvalid, 54 PlanDearer, 55 Limit, ";
 
-/// The numbers and names as they are told.
-fn told_names(alloc: Global) -> Result<String, Fail> {
-    let mut told = String::new(alloc);
+/// Adds the numbers and names of refused texts.
+fn write_codes(told: &mut String) -> Result<(), AllocError> {
     for code in &CODES {
         write!(told, "{} {code}, ", code.number())?;
     }
+    Ok(())
+}
+
+/// Adds the numbers and names of refused certificates.
+fn write_refusals(told: &mut String) -> Result<(), AllocError> {
     for code in &REFUSALS {
         write!(told, "{} {code}, ", code.number())?;
     }
+    Ok(())
+}
+
+/// The numbers and names as they are told.
+fn told_names(alloc: Global) -> Result<String, AllocError> {
+    let mut told = String::new(alloc);
+    write_codes(&mut told)?;
+    write_refusals(&mut told)?;
     Ok(told)
 }
 
@@ -77,22 +89,23 @@ fn told_failures(alloc: Global) -> Result<String, AllocError> {
 
 #[test]
 fn faults_are_told_in_words(rt: HostRuntime) -> Result<(), Fail> {
-    let wanted = "domain: BadForm in domain at 4..17; problem: BadForm in problem at 4..17; \
+    let told = [told_files(rt.alloc())?, told_failures(rt.alloc())?];
+    let files = "domain: BadForm in domain at 4..17; problem: BadForm in problem at 4..17; \
 plan: BadForm in plan at 4..17; ";
-    assert_eq!(rt; told_files(rt.alloc())?.as_str(), wanted);
-    let wanted = "out of memory, out of memory, out of memory, device failed, device failed";
-    assert_eq!(rt; told_failures(rt.alloc())?.as_str(), wanted);
+    let failures = "out of memory, out of memory, out of memory, device failed, device failed";
+    assert_eq!(rt; [told[0].as_str(), told[1].as_str()], [files, failures]);
     Ok(())
 }
 
 /// The largest limit.
 const MOST: u32 = 16_777_216;
 
-/// Numbers of states and of instances that may be limits.
-static LIMITS: [(u32, u32); 4] = [(1, 1), (1, MOST), (MOST, 1), (MOST, MOST)];
-
-/// Numbers that may not.
-static NO_LIMITS: [(u32, u32); 4] = [(0, 1), (1, 0), (MOST + 1, 1), (1, MOST + 1)];
+/// Numbers of states and of instances, and whether they may be limits.
+#[rattlefmt::skip]
+static LIMITS: [(u32, u32, bool); 8] = [
+    (1, 1, true), (1, MOST, true), (MOST, 1, true), (MOST, MOST, true),
+    (0, 1, false), (1, 0, false), (MOST + 1, 1, false), (1, MOST + 1, false),
+];
 
 /// The limits of these numbers, as they are told.
 fn limits(states: u32, instances: u32) -> Option<(u32, u32)> {
@@ -102,11 +115,9 @@ fn limits(states: u32, instances: u32) -> Option<(u32, u32)> {
 
 #[test]
 fn limits_are_from_1_to_16777216(rt: HostRuntime) {
-    for (states, instances) in &LIMITS {
-        assert_eq!(rt; limits(*states, *instances), Some((*states, *instances)));
-    }
-    for (states, instances) in &NO_LIMITS {
-        assert_eq!(rt; limits(*states, *instances), None);
+    for &(states, instances, may_be) in &LIMITS {
+        let wanted = may_be.then_some((states, instances));
+        assert_eq!(rt; limits(states, instances), wanted, "{states}, {instances}");
     }
 }
 
