@@ -40,10 +40,7 @@ fn is_plan_shown(
 {
     let with_plan = check_cert(alloc, task, cert, Some(steps), 1_000_000)?;
     let without = check_cert(alloc, task, cert, None, 1_000_000)?;
-    Ok(
-        with_plan == Ok(Accepted::Optimal { cost })
-            && without == Ok(Accepted::AtLeast { cost }),
-    )
+    Ok(with_plan == Ok(Accepted::Optimal { cost }) && without == Ok(Accepted::AtLeast { cost }))
 }
 
 /// Whether the certificate that there is no plan is accepted.

@@ -11,9 +11,9 @@ ghost use Rattle.grounding_kept.specs.Atoms.{AllFit};
 ghost use Rattle.grounding.specs.NumberedEffects.{guard_of, counted_effects, is_adding};
 ghost use Rattle.grounding.specs.Changes.{counting_of, effect_in, guard_in, IsCompiled, AreCompiled, AreChangesOf};
 
+use crate::condition::Condition;
 use faults::NoMemory;
 use formulas::{Binding, Change, GroundLiteral, Instance, changes, copied};
-use crate::condition::Condition;
 use grounding_kept::Numbering;
 use std::alloc::Global;
 use typing::{Atom, Formula};

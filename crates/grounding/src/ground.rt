@@ -10,10 +10,10 @@ ghost use Rattle.grounding.specs.Preconditions.{IsPrecondition};
 ghost use Rattle.model.specs.Meaning.{cost_of};
 
 use crate::changes::CountingChange;
+use crate::condition::Condition;
 use crate::parts::{changes_of_all, costs, goal_condition, preconditions};
 use faults::NoMemory;
 use formulas::Instance;
-use crate::condition::Condition;
 use grounding_kept::{GroundFault, NumberedLiteral, Numbering};
 use indexmap::IndexSet;
 use std::alloc::Global;

@@ -9,9 +9,9 @@ ghost use Rattle.grounding.specs.Changes.{AreChangesOf};
 ghost use Rattle.grounding.specs.Preconditions.{IsPrecondition};
 
 use crate::changes::{CountingChange, counting_changes};
+use crate::condition::Condition;
 use faults::NoMemory;
 use formulas::{Binding, Instance, cost};
-use crate::condition::Condition;
 use grounding_kept::Numbering;
 use std::alloc::Global;
 

@@ -9,10 +9,10 @@ ghost use Rattle.grounding.specs.Changes.{guard_in, effect_in, GuardFits, IsComp
 ghost use Rattle.grounding.specs.Ground.{task_in, atoms_in};
 
 use crate::changes::CountingChange;
+use crate::condition::holds_in;
 use crate::ground::Ground;
 use faults::NoMemory;
 use formulas::Binding;
-use crate::condition::holds_in;
 use packed_state::Packed;
 use std::alloc::Global;
 

@@ -1,11 +1,11 @@
 //! Weights on the way to better ones, found by moving several at once.
 use crate::aims::{Aim, Gain};
+use crate::instances::instance_count;
 use crate::repairs::{Move, Repair};
 use crate::tables::{Tables, Touch};
 use faults::NoMemory;
 use grounding::Ground;
 use packed_state::Packed;
-use crate::instances::instance_count;
 use std::alloc::Global;
 
 /// The most instances that one joint move repairs.

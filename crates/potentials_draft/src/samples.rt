@@ -1,9 +1,9 @@
 //! States on the way from the initial one, by walks that go where chance leads.
 use crate::aims::Aim;
+use crate::instances::instance_count;
 use faults::NoMemory;
 use grounding::Ground;
 use packed_state::Packed;
-use crate::instances::instance_count;
 use std::alloc::Global;
 
 /// How many walks there are, each of which gives one state.

@@ -1,10 +1,10 @@
 //! What a draft of better potentials reads again and again of a ground task.
-use faults::NoMemory;
-use grounding::{CountingChange, Ground, NumberedLiteral};
 use crate::goals::goal_gives;
 use crate::instances::instance_count;
 use crate::range::is_in_range;
 use crate::swing::{Swing, touches};
+use faults::NoMemory;
+use grounding::{CountingChange, Ground, NumberedLiteral};
 use std::alloc::Global;
 
 /// An instance that touches an atom, or an atom that an instance touches, by its number, and what the one may do to the
