@@ -1,8 +1,8 @@
-"""The crates of this repository: what each stands on, and copies of them to work in.
+"""The crates of this repository, and what each stands on.
 
 Run by itself it lists how many paths lead from each crate down to the crates below it, itself counted: `rt` takes a sum of
 sources once for each, so that a graph with many paths makes every check of a crate near the top slow."""
-import os, shutil
+import os
 
 ROOT = os.path.dirname(os.path.realpath(__file__))
 PARTS = ("src", "specs", "proofs")
@@ -28,22 +28,6 @@ def rows_below(crate):
             found[name] = known[name]
             left += libraries_of(known[name])
     return found
-
-
-def put_copy(copy, crate):
-    """Copies a crate with what its checks kept, and the libraries below it as they are built, which no check changes."""
-    found = rows_below(crate)
-    shutil.copy(f"{ROOT}/HANDLES", copy)
-    with open(f"{copy}/crates.txt", "w", encoding="utf-8") as text:
-        text.writelines(found.values())
-    for it in found:
-        for part in PARTS:
-            if os.path.isdir(f"{ROOT}/crates/{it}/{part}"):
-                shutil.copytree(f"{ROOT}/crates/{it}/{part}", f"{copy}/crates/{it}/{part}")
-        if os.path.isdir(f"{ROOT}/crates/{it}/out/rlib"):
-            shutil.copytree(f"{ROOT}/crates/{it}/out/rlib", f"{copy}/crates/{it}/out/rlib", copy_function=os.link)
-    if os.path.isdir(f"{ROOT}/crates/{crate}/out/incremental"):
-        shutil.copytree(f"{ROOT}/crates/{crate}/out/incremental", f"{copy}/crates/{crate}/out/incremental")
 
 
 def paths():

@@ -3,8 +3,7 @@ use Rattle.std.proofs.Common.{◌≡◌, ◌∙◌, ℕ, suc, ◌+◌, ◌<◌, 
 use Rattle.std.specs.Prelude.{Contains, IsTrue, All, cond, filter, is_some, slice_get}
 use Rattle.std.specs.List.{filter_map, range_with_len, cons_option}
 use Rattle.std.specs.Option.{option_map, option_map_or, option_and_then}
-use Rattle.std.specs.FinSet.{contains}
-use Rattle.std.proofs.lemmas.List.{get_or_default, length-map}
+use Rattle.std.proofs.lemmas.List.{get_or_default}
 use Rattle.std.proofs.lemmas.Option.{get_or_from_slice_get}
 use Rattle.model.specs.Task.{Atom, Task, Instance}
 use Rattle.model.specs.Meaning.{State, step, cost_of, system_of}
@@ -100,18 +99,6 @@ module _ (task : Task) (atoms : List Atom) (bits : List Bool) where
       let number = get_or numbers k 0 in
       let among : Contains numbers number = (k, lt, get_or_default numbers k number 0 lt) in
       (filter-Contains (λ n. is_some (ground_step task atoms bits n)) (range_with_len 0 (length (kept_instances task))) number (subst (λ those. Contains those number) is among)).1
-
-  -- a packed state follows
-  pub step_packed : (number : ℕ) (next : List Bool) → ground_step task atoms bits number ≡ Some next → length next ≡ length atoms
-  step_packed number next leads =
-      elim (slice_get (kept_instances task) number) as (λ o. option_and_then (λ (i : Instance). option_map (bits_of_state atoms) (step task (state_of_bits task atoms bits) i)) o ≡ Some next → length next ≡ length atoms) [
-        | None ↦ λ none. absurd (cc)
-        | Some i ↦ λ some. of_state (step task (state_of_bits task atoms bits) i) some
-      ] leads
-    where
-      of_state : (o : Option State) → option_map (bits_of_state atoms) o ≡ Some next → length next ≡ length atoms
-      of_state None none = absurd (cc)
-      of_state (Some s) some = let is : bits_of_state atoms s ≡ next = cc in ap length (sym is) ∙ length-map atoms (contains s)
 
   pub next_by : (number : ℕ) (next : List Bool) → ground_step task atoms bits number ≡ Some next → (leads_by task atoms bits number).1 ≡ state_of_bits task atoms next
   next_by number next leads = ap (λ o. option_map_or (state_of_bits task atoms) o (state_of_bits task atoms bits)) leads

@@ -1,14 +1,12 @@
 -- What is written of a certificate within the limits is a text that says it.
-use Rattle.std.proofs.Common.{◌≡◌, ℕ, zero, suc, ◌+◌, ◌*◌, ◌≤◌, Bool, true, false, not, cond, List, [], ◌∷◌, ◌++◌, codes, map, length, length-append, Option, None, Some, refl, sym, ap, ◌∙◌, subst, true≢false, arith}
-use Rattle.std.specs.Prelude.{◌&&◌, ℤ, IsTrue, All, Contains, nat_le, nat_lt, slice_get, zip}
+use Rattle.std.proofs.Common.{◌≡◌, ℕ, suc, ◌+◌, ◌*◌, ◌≤◌, Bool, true, false, cond, List, [], ◌∷◌, ◌++◌, codes, map, length, length-append, Option, None, Some, refl, sym, ap, ◌∙◌, subst, true≢false, arith}
+use Rattle.std.specs.Prelude.{◌&&◌, ℤ, IsTrue, All, nat_le, nat_lt, slice_get, zip}
 use Rattle.std.specs.Fmt.{signed_decimal}
 use Rattle.std.specs.Char.{to_ascii_lowercase}
-use Rattle.std.specs.Cmp.Lexicographic.{pointwise, same_text}
-use Rattle.std.specs.List.{flat_map, list_all, list_any, position_or_len}
+use Rattle.std.specs.Cmp.Lexicographic.{pointwise}
+use Rattle.std.specs.List.{flat_map, list_all}
 use Rattle.std.specs.Option.{option_map, option_map_or}
 use Rattle.std.proofs.lemmas.Bool.{and_parts, leb-true, le-leb, lt-ltb}
-use Rattle.std.proofs.lemmas.Cmp.{nat_list_eq_equiv}
-use Rattle.std.proofs.lemmas.Map.Views.{list_any-from_Contains}
 use Rattle.std.proofs.lemmas.List.{length-map}
 use Rattle.std.proofs.lemmas.List.Folds.{list_all-append, list_all-map}
 use Rattle.std.proofs.lemmas.Option.{slice_get-map, slice_get_within}
@@ -22,7 +20,7 @@ use Rattle.model.specs.PlanWriting.{are_lower_names, differ, is_lower_name, obje
 use Rattle.model.specs.Fluents.{is_fluent}
 use Rattle.certificate_text.specs.Certificates.{Certificate, IsClosedFor, are_potentials, is_claim, is_number, is_state_line, is_weight, keeps_limits}
 use Rattle.certificate_text.specs.CertificateRefusals.{IsPlanWithin}
-use Rattle.model.proofs.ListLemmas.{Contains-got}
+use Rattle.model.proofs.PlanWritingLemmas.{first_at}
 use Rattle.model.proofs.Tests.{passes_got}
 use Rattle.certificate_text.specs.CertificateText.{WeightedAtom, TextLine, atom, listed, last, after_blank, is_line, line_text, longest_line, most_atoms, most_states, text_lines}
 use Rattle.certificate_text.specs.CertificateNames.{AllName, AreNumbersOf, IsNumberOf, IsTextOf, Names, are_atoms_of, certificate_text, has_atom_names, named, named_atom, predicate_name, predicate_names, weighted_atom}
@@ -32,27 +30,6 @@ use Rattle.certificate_listing.proofs.NumbersLemmas.{potential_parts}
 use Rattle.certificate_listing.proofs.SplitLemmas.{weight_short}
 
 -- ---- the number of a name
-
--- the first of names that differ is none of the others
-none_same : (first : Name) (names : List Name) (k : ℕ) (name : Name) → not (list_any (is_same first) names) ≡ true → slice_get names k ≡ Some name → is_same name first ≡ false
-none_same first names k name none at = by_test (is_same name first) refl
-  where
-    by_test : (t : Bool) → is_same name first ≡ t → t ≡ false
-    by_test false e = refl
-    by_test true e =
-        let among = list_any-from_Contains nat_list_eq_equiv first names (subst (Contains names) (same_text name first (sym e)) (Contains-got names k name at)) in
-        absurd (true≢false (sym none ∙ ap not among))
-
--- of names that differ each is the first that is the same
-first_at : (names : List Name) (k : ℕ) (name : Name) → differ names ≡ true → slice_get names k ≡ Some name → position_or_len (is_same name) names ≡ k
-first_at [] k name differs at = absurd (cc)
-first_at (first ∷ names) zero name differs at =
-    let same : first ≡ name = cc in
-    ap (λ t. cond (not t) (1 + position_or_len (is_same name) names) 0) (ap (is_same name) same ∙ nat_list_eq_equiv.refl name)
-first_at (first ∷ names) (suc k) name differs at =
-    let parts = and_parts (not (list_any (is_same first) names)) (differ names) differs in
-    ap (λ t. cond (not t) (1 + position_or_len (is_same name) names) 0) (none_same first names k name parts.0 at)
-    ∙ (let later = first_at names k name parts.1 at in omega (arith, later))
 
 -- a name in lower case, and its number
 record IsNameAt (names : List Name) (name : Name) (k : ℕ) : Type 0 where

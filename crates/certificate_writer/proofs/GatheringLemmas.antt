@@ -1,14 +1,13 @@
 -- A text that goes to a sink in large pieces.
-use Rattle.std.proofs.Common.{◌≡◌, ℕ, ◌+◌, ◌<◌, ◌≤◌, List, [], ◌∷◌, ◌++◌, length, map, take, drop, get_or, Option, sym, ap, ◌∙◌, subst, append_assoc, append-nil, take-append-drop, arith}
+use Rattle.std.proofs.Common.{◌≡◌, ℕ, ◌+◌, ◌<◌, List, [], ◌++◌, length, map, take, get_or, Option, sym, ap, ◌∙◌, subst, append_assoc, append-nil, arith}
 use Rattle.std.specs.Io.KnownBytes.{Appends}
 use Rattle.std.specs.List.{flat_map}
 use Rattle.std.proofs.KnownBytes.{Appends-nil, Appends-trans}
-use Rattle.std.proofs.lemmas.Grind.{flat_map-append}
 use Rattle.std.specs.Prelude.{min, zip}
 use Rattle.std.proofs.Math.ListN.{get_or-map}
-use Rattle.std.proofs.lemmas.List.{length-map, take_all, take_more}
+use Rattle.std.proofs.lemmas.List.{length-map}
 use Rattle.std.proofs.lemmas.Slice.Zip.{get_or-zip, length-zip}
-use Rattle.std.proofs.lemmas.List.Folds.{flat_map-map}
+use Rattle.model.proofs.Pieces.{parts_more, parts_all}
 use Rattle.devices.specs.Devices.{AppendsBeginning}
 use Rattle.certificate_writer.specs.Gathering.{IsPassedOn}
 
@@ -60,22 +59,7 @@ module _ (before : Option (List ℕ)) where
     pub passed_all : (after : Option (List ℕ)) → Appends now after held_now → Appends before after (held ++ text)
     passed_all after taken = subst (Appends before after) (sym passed.2) (Appends-trans before now after passed.0 held_now passed.1 taken)
 
--- the pieces of a list, up to one place and from there on
-module _ {Y : Type 0} (f : Y → List ℕ) (ys : List Y) (i : ℕ) where
-  pub parts_split : flat_map f ys ≡ flat_map f (take i ys) ++ flat_map f (drop i ys)
-  parts_split = ap (flat_map f) (sym (take-append-drop i ys)) ∙ flat_map-append f (take i ys) (drop i ys)
-
-  pub parts_more : (y : Y) → i < length ys → get_or ys i y ≡ y → flat_map f (take (i + 1) ys) ≡ flat_map f (take i ys) ++ f y
-  parts_more y within is =
-      ap (flat_map f) (take_more ys i y within)
-      ∙ flat_map-append f (take i ys) (get_or ys i y ∷ [])
-      ∙ ap (λ y. flat_map f (take i ys) ++ (f y ++ [])) is
-      ∙ ap (λ bs. flat_map f (take i ys) ++ bs) (append-nil (f y))
-
-  pub parts_all : length ys ≤ i → flat_map f (take i ys) ≡ flat_map f ys
-  parts_all past = ap (flat_map f) (take_all i ys past)
-
--- the same of two lists side by side, the first by a view of its elements
+-- the pieces of two lists side by side, the first by a view of its elements
 module _ {X Y W : Type 0} (f : Y × W → List ℕ) (v : X → Y) (xs : List X) (ws : List W) (n : ℕ) where
   abbrev pairs : List (Y × W)
   pairs = zip (map v xs) ws
@@ -89,25 +73,3 @@ module _ {X Y W : Type 0} (f : Y × W → List ℕ) (v : X → Y) (xs : List X) 
 
   pub pairs_all : n ≡ min (length xs) (length ws) → flat_map f (take n pairs) ≡ flat_map f pairs
   pairs_all past = parts_all f pairs n (omega (arith, length-zip (map v xs) ws, length-map xs v, past))
-
--- the same of a list by a view of its elements
-module _ {X Y : Type 0} (f : Y → List ℕ) (v : X → Y) (xs : List X) (i : ℕ) where
-  pub pieces_split : flat_map f (map v xs) ≡ flat_map f (map v (take i xs)) ++ flat_map f (map v (drop i xs))
-  pieces_split =
-      flat_map-map f v xs
-      ∙ ap (flat_map (λ y. f (v y))) (sym (take-append-drop i xs))
-      ∙ flat_map-append (λ y. f (v y)) (take i xs) (drop i xs)
-      ∙ ap (λ bs. bs ++ flat_map (λ y. f (v y)) (drop i xs)) (sym (flat_map-map f v (take i xs)))
-      ∙ ap (λ bs. flat_map f (map v (take i xs)) ++ bs) (sym (flat_map-map f v (drop i xs)))
-
-  pub pieces_more : (x : X) → i < length xs → x ≡ get_or xs i x → flat_map f (map v (take (i + 1) xs)) ≡ flat_map f (map v (take i xs)) ++ f (v x)
-  pieces_more x within is =
-      ap (λ ys. flat_map f (map v ys)) (take_more xs i x within)
-      ∙ flat_map-map f v (take i xs ++ get_or xs i x ∷ [])
-      ∙ flat_map-append (λ y. f (v y)) (take i xs) (get_or xs i x ∷ [])
-      ∙ ap (λ bs. bs ++ (f (v (get_or xs i x)) ++ [])) (sym (flat_map-map f v (take i xs)))
-      ∙ ap (λ y. flat_map f (map v (take i xs)) ++ (f (v y) ++ [])) (sym is)
-      ∙ ap (λ bs. flat_map f (map v (take i xs)) ++ bs) (append-nil (f (v x)))
-
-  pub pieces_all : length xs ≤ i → flat_map f (map v (take i xs)) ≡ flat_map f (map v xs)
-  pieces_all past = ap (λ zs. flat_map f (map v zs)) (take_all i xs past)

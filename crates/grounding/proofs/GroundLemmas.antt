@@ -1,12 +1,14 @@
 -- What is kept for an instance, found by its number.
-use Rattle.std.proofs.Common.{◌≡◌, ◌∙◌, ℕ, ◌<◌, ◌+◌, Bool, true, false, List, [], ◌∷◌, ◌++◌, map, length, take, drop, get_or, append_assoc, Option, None, Some, refl, sym, ap, true≢false}
+use Rattle.std.proofs.Common.{arith, ◌≡◌, ◌∙◌, ℕ, ◌<◌, ◌+◌, Bool, true, false, List, [], ◌∷◌, ◌++◌, map, length, take, drop, get_or, append_assoc, Option, None, Some, refl, sym, ap, true≢false}
 use Rattle.std.specs.Prelude.{IfOk, Result, Ok, Err, slice_get, is_none}
 use Rattle.std.specs.Global.{Box, Vec}
 use Rattle.std.specs.List.{cons_option}
 use Rattle.std.specs.Option.{option_map, option_map_or}
 use Rattle.std.proofs.lemmas.List.{map_push, take_more}
 use Rattle.std.proofs.lemmas.Option.{slice_get-get_or, slice_get_read, slice_get-map, slice_get_within, get_or_from_slice_get}
+use Rattle.grounding_kept.specs.Numbering.{instances_in}
 use Rattle.grounding.specs.declared.condition.Condition.{Condition}
+use Rattle.grounding.specs.declared.ground.Ground.{Ground}
 use Rattle.grounding.specs.Conditions.{literals_in}
 use Rattle.model.specs.Task.{Atom, Schema, Task, Instance}
 use Rattle.model.specs.Meaning.{is_instance, fits, Change, changes_of_instance}
@@ -18,6 +20,7 @@ use Rattle.grounding.specs.declared.changes.ChangeCondition.{ChangeCondition}
 use Rattle.grounding.specs.NumberedEffects.{NumberedEffect, counted_effect, counted_effects, change_of_effect}
 use Rattle.grounding.specs.Changes.{counting_of, guard_in, effect_in, AreCompiled, AreChangesOf}
 use Rattle.grounding.specs.Preconditions.{IsPrecondition}
+use Rattle.grounding.specs.Ground.{task_in, atoms_in}
 use Rattle.grounding.proofs.EffectLemmas.{changes-of_effects}
 use Rattle.grounding.proofs.StepLemmas.{kept-is_instance}
 
@@ -70,6 +73,22 @@ module _ (t : Task) (atoms : List Atom) (number : ℕ) (i : Instance) (at : slic
   counting-of changes are =
       all-counting changes.items ∙ ap (map change_of_effect) are.effects ∙ changes-of_effects t atoms i
       ∙ sym (ap (λ o. option_map_or (counting_of_instance t atoms) o []) at)
+
+-- ---- what stands in a ground task at the number of an instance
+
+module _ (g : Ground) (number : ℕ) (i : Instance) (at : slice_get (kept_instances (task_in g)) number ≡ Some i) where
+  kept-at : slice_get (instances_in g.numbering) number ≡ Some i
+  kept-at = ap (λ l. slice_get l number) g.numbering.kept ∙ at
+
+  pub condition-at : (c : Condition) → c ≡ get_or g.conditions.items number c → IsPrecondition (task_in g) (atoms_in g) i c
+  condition-at c is =
+      let within = slice_get_within (instances_in g.numbering) number i kept-at in
+      g.preconditions.each number i c kept-at (got g.conditions.items number c (omega (arith, within, g.preconditions.as_long)) is)
+
+  pub changes-at : (changes : Vec CountingChange) → changes ≡ get_or g.changes.items number changes → AreChangesOf (task_in g) (atoms_in g) i changes
+  changes-at changes is =
+      let within = slice_get_within (instances_in g.numbering) number i kept-at in
+      g.changes_made.each number i changes kept-at (got g.changes.items number changes (omega (arith, within, g.changes_made.as_long)) is)
 
 -- ---- lists that are made item by item
 

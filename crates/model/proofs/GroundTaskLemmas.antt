@@ -8,6 +8,7 @@ use Rattle.std.specs.Option.{option_map, option_map_or, option_and_then}
 use Rattle.std.specs.Ordering.{eq_by_cmp}
 use Rattle.std.specs.FinSet.{contains, contains-from_list}
 use Rattle.std.proofs.lemmas.Bool.{or_cases, or_left, or_right, and_parts, and_from, lt-ltb, le-ltb}
+use Rattle.std.proofs.lemmas.List.{length-map}
 use Rattle.std.proofs.lemmas.List.Elements.{All-contains}
 use Rattle.model.specs.Task.{Atom, Schema, Task, Instance}
 use Rattle.model.specs.Meaning.{State, atom_cmp, initial_state, holds, fits, GroundLiteral, adds, deletes, Change, changes_of, changes_of_instance, literals_in, added_by, deleted_by, after_literals, after_changes, step, meets_goal, cost_of, system_of}
@@ -301,6 +302,18 @@ module _ (task : Task) (atoms : List Atom) (bits : List Bool) where
         | None ↦ λ none. absurd (cc)
         | Some next ↦ λ _. (next, refl)
       ] both.1
+
+-- a step leads to bits of the atoms
+pub length-step : (task : Task) (atoms : List Atom) (bits next : List Bool) (number : ℕ) → ground_step task atoms bits number ≡ Some next → length next ≡ length atoms
+length-step task atoms bits next number leads =
+    elim (slice_get (kept_instances task) number) as (λ o. option_and_then (λ (i : Instance). option_map (bits_of_state atoms) (step task (state_of_bits task atoms bits) i)) o ≡ Some next → length next ≡ length atoms) [
+      | None ↦ λ none. absurd (cc)
+      | Some i ↦ λ some. of_state (step task (state_of_bits task atoms bits) i) some
+    ] leads
+  where
+    of_state : (o : Option State) → option_map (bits_of_state atoms) o ≡ Some next → length next ≡ length atoms
+    of_state None none = absurd (cc)
+    of_state (Some s) some = let is : bits_of_state atoms s ≡ next = cc in ap length (sym is) ∙ length-map atoms (contains s)
 
 -- ---- the limits
 

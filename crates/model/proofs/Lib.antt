@@ -1,5 +1,6 @@
 pub mod Atoms
 pub mod ListLemmas
+pub mod Pieces
 pub mod Tests
 pub mod ClaimsLemmas
 pub mod BisimulationLemmas

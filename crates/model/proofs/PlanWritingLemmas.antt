@@ -103,7 +103,7 @@ none_same first names k name none at = by_test (is_same name first) refl
         absurd (true≢false (sym none ∙ ap not among))
 
 -- of names that differ each is the first that is the same
-first_at : (names : List Name) (k : ℕ) (name : Name) → differ names ≡ true → slice_get names k ≡ Some name → position_or_len (is_same name) names ≡ k
+pub first_at : (names : List Name) (k : ℕ) (name : Name) → differ names ≡ true → slice_get names k ≡ Some name → position_or_len (is_same name) names ≡ k
 first_at [] k name differs at = absurd (cc)
 first_at (first ∷ names) zero name differs at =
     let same : first ≡ name = cc in

@@ -1,5 +1,5 @@
 -- A text that is written piece by piece, and what a device has taken of it; the bytes of a step.
-use Rattle.std.proofs.Common.{◌≡◌, ℕ, ◌+◌, ◌<◌, ◌≤◌, true, List, [], ◌∷◌, ◌++◌, length, map, take, drop, get_or, Option, None, Some, refl, sym, ap, ◌∙◌, subst, append_assoc, append-nil, take-append-drop, arith}
+use Rattle.std.proofs.Common.{◌≡◌, ℕ, ◌+◌, ◌<◌, ◌≤◌, true, List, [], ◌∷◌, ◌++◌, length, map, take, drop, get_or, Option, None, Some, refl, sym, ap, ◌∙◌, subst, append_assoc, append-nil, arith}
 use Rattle.std.specs.Prelude.{IsTrue, slice_get}
 use Rattle.std.specs.Char.{is_ascii_alphabetic}
 use Rattle.std.specs.Io.KnownBytes.{Appends}
@@ -9,9 +9,6 @@ use Rattle.std.specs.Str.{IsAscii}
 use Rattle.std.proofs.KnownBytes.{Appends-trans}
 use Rattle.std.proofs.lemmas.Bool.{and_parts}
 use Rattle.std.proofs.lemmas.Bool.Decides.{nat_tests}
-use Rattle.std.proofs.lemmas.Grind.{flat_map-append}
-use Rattle.std.proofs.lemmas.List.{take_all, take_more}
-use Rattle.std.proofs.lemmas.List.Folds.{flat_map-map}
 use Rattle.std.proofs.lemmas.Option.{slice_get-map}
 use Rattle.std.proofs.lemmas.Str.{IsAscii-append}
 use Rattle.std.proofs.lemmas.Str.Ascii.{IsAscii-nil, IsAscii-cons}
@@ -20,6 +17,7 @@ use Rattle.model.specs.Words.{is_name, is_name_byte}
 use Rattle.model.specs.Task.{Name, Object, Schema, Task, Instance}
 use Rattle.model.specs.PlanText.{schema_names, object_names}
 use Rattle.model.specs.PlanWriting.{schema_name, object_name, object_text, step_text, is_lower_name, differ, are_lower_names, has_names}
+use Rattle.model.proofs.Pieces.{pieces_split, pieces_more, pieces_all}
 use Rattle.model.proofs.Tests.{passes_got}
 
 -- some was taken, and a beginning of what comes next
@@ -33,32 +31,17 @@ module _ {X Y : Type 0} (f : Y → List ℕ) (v : X → Y) (xs : List X) (i : �
     (taken : Appends before now (flat_map f (map v (take i xs)))) where
   -- and then the next
   module _ (x : X) (within : i < length xs) (is : x ≡ get_or xs i x) where
-    piece_more : flat_map f (map v (take (i + 1) xs)) ≡ flat_map f (map v (take i xs)) ++ f (v x)
-    piece_more =
-        ap (λ ys. flat_map f (map v ys)) (take_more xs i x within)
-        ∙ flat_map-map f v (take i xs ++ get_or xs i x ∷ [])
-        ∙ flat_map-append (λ y. f (v y)) (take i xs) (get_or xs i x ∷ [])
-        ∙ ap (λ bs. bs ++ (f (v (get_or xs i x)) ++ [])) (sym (flat_map-map f v (take i xs)))
-        ∙ ap (λ y. flat_map f (map v (take i xs)) ++ (f (v y) ++ [])) (sym is)
-        ∙ ap (λ bs. flat_map f (map v (take i xs)) ++ bs) (append-nil (f (v x)))
-
     pub piece_partly : (ys : List Y) (last : List ℕ) → map v xs ≡ ys → AppendsBeginning now after (f (v x)) → AppendsBeginning before after (flat_map f ys ++ last)
     piece_partly ys last same part =
-        let all : flat_map f (map v xs) ≡ flat_map f (map v (take (i + 1) xs)) ++ flat_map f (map v (drop (i + 1) xs)) =
-        flat_map-map f v xs
-        ∙ ap (flat_map (λ y. f (v y))) (sym (take-append-drop (i + 1) xs))
-        ∙ flat_map-append (λ y. f (v y)) (take (i + 1) xs) (drop (i + 1) xs)
-        ∙ ap (λ bs. bs ++ flat_map (λ y. f (v y)) (drop (i + 1) xs)) (sym (flat_map-map f v (take (i + 1) xs)))
-        ∙ ap (λ bs. flat_map f (map v (take (i + 1) xs)) ++ bs) (sym (flat_map-map f v (drop (i + 1) xs))) in
         next_partly before now after (flat_map f (map v (take i xs))) (f (v x)) (flat_map f (map v (drop (i + 1) xs)) ++ last) (flat_map f ys ++ last)
-        (ap (λ zs. flat_map f zs ++ last) (sym same) ∙ ap (λ bs. bs ++ last) all ∙ append_assoc (flat_map f (map v (take (i + 1) xs))) (flat_map f (map v (drop (i + 1) xs))) last
-        ∙ ap (λ bs. bs ++ (flat_map f (map v (drop (i + 1) xs)) ++ last)) piece_more)
+        (ap (λ zs. flat_map f zs ++ last) (sym same) ∙ ap (λ bs. bs ++ last) (pieces_split f v xs (i + 1)) ∙ append_assoc (flat_map f (map v (take (i + 1) xs))) (flat_map f (map v (drop (i + 1) xs))) last
+        ∙ ap (λ bs. bs ++ (flat_map f (map v (drop (i + 1) xs)) ++ last)) (pieces_more f v xs i x within is))
         taken part
 
   -- and they are all
   module _ (past : length xs ≤ i) (ys : List Y) (same : map v xs ≡ ys) (last : List ℕ) where
     all_taken : Appends before now (flat_map f ys)
-    all_taken = subst (Appends before now) (ap (λ zs. flat_map f (map v zs)) (take_all i xs past) ∙ ap (flat_map f) same) taken
+    all_taken = subst (Appends before now) (pieces_all f v xs i past ∙ ap (flat_map f) same) taken
 
     pub last_partly : AppendsBeginning now after last → AppendsBeginning before after (flat_map f ys ++ last)
     last_partly part = next_partly before now after (flat_map f ys) last [] (flat_map f ys ++ last) (sym (append-nil (flat_map f ys ++ last))) all_taken part

@@ -1,8 +1,8 @@
 -- What is known of the ground task, carried over to its task.
-use Rattle.std.proofs.Common.{◌≡◌, ◌∙◌, ℕ, zero, suc, ◌<◌, Bool, true, List, [], ◌∷◌, map, length, Option, None, Some, refl, sym, ap, subst, arith}
+use Rattle.std.proofs.Common.{◌≡◌, ◌∙◌, ℕ, zero, suc, ◌<◌, Bool, true, List, [], ◌∷◌, map, length, None, Some, refl, sym, ap, subst, arith}
 use Rattle.std.specs.Prelude.{Contains, All, IsTrue, slice_get, is_some}
 use Rattle.std.specs.List.{AllZip}
-use Rattle.std.specs.Option.{option_map, option_and_then}
+use Rattle.std.specs.Option.{option_and_then}
 use Rattle.std.proofs.lemmas.List.{length-map}
 use Rattle.std.proofs.lemmas.Option.{slice_get_within}
 use Rattle.packed_state.specs.Store.{AreDistinct}
@@ -10,7 +10,7 @@ use Rattle.search.specs.Transitions.{AreApplicable}
 use Rattle.solver.specs.Reachable.{PrecedesPlans, is_initial, is_next, AreMoreReachable}
 use Rattle.model.specs.Task.{Atom, Task, Instance}
 use Rattle.model.specs.Runs.{run, cost_of_all, CostsAtLeast, IsReachable}
-use Rattle.model.specs.Meaning.{State, step, system_of}
+use Rattle.model.specs.Meaning.{State, system_of}
 use Rattle.model.specs.Bisimulation.{IsBisimulation}
 use Rattle.model.specs.Fluents.{is_fluent}
 use Rattle.model.specs.ClosedOff.{kept_instances}
@@ -18,7 +18,7 @@ use Rattle.model.specs.NumberedAtoms.{numbered_atoms}
 use Rattle.model.specs.Grounding.{state_of_bits, bits_of_state, ground_step, ground_system, applicable_numbers, NamesKept}
 use Rattle.model.proofs.ListLemmas.{Contains-got, map-Contains}
 use Rattle.model.proofs.BisimulationLemmas.{run_forth, same_cost, bound_forth}
-use Rattle.model.proofs.GroundTaskLemmas.{Contains-applicable, applicable-Contains, packs_states, ground_task_is_bisimilar}
+use Rattle.model.proofs.GroundTaskLemmas.{Contains-applicable, applicable-Contains, length-step, packs_states, ground_task_is_bisimilar}
 
 -- ---- the applicable numbers
 
@@ -37,23 +37,12 @@ module _ (task : Task) (atoms : List Atom) where
   pub length-initial : length (ground_system task atoms).initial ≡ length atoms
   length-initial = length-map atoms _
 
-  pub length-step : (bits next : List Bool) (number : ℕ) → ground_step task atoms bits number ≡ Some next → length next ≡ length atoms
-  length-step bits next number leads =
-      elim (slice_get (kept_instances task) number) as (λ o. option_and_then (λ (i : Instance). option_map (bits_of_state atoms) (step task (state_of_bits task atoms bits) i)) o ≡ Some next → length next ≡ length atoms) [
-        | None ↦ λ none. absurd (cc)
-        | Some i ↦ λ some. of_state (step task (state_of_bits task atoms bits) i) some
-      ] leads
-    where
-      of_state : (o : Option State) → option_map (bits_of_state atoms) o ≡ Some next → length next ≡ length atoms
-      of_state None none = absurd (cc)
-      of_state (Some s) some = let same : bits_of_state atoms s ≡ next = cc in ap length (sym same) ∙ length-map atoms _
-
   length-run : (plan : List ℕ) (bits end : List Bool) → length bits ≡ length atoms → run (ground_system task atoms) bits plan ≡ Some end → length end ≡ length atoms
   length-run [] bits end long runs = let same : bits ≡ end = cc in ap length (sym same) ∙ long
   length-run (n ∷ plan) bits end long runs =
       elim (ground_step task atoms bits n) as (λ o. ground_step task atoms bits n ≡ o → option_and_then (λ next. run (ground_system task atoms) next plan) o ≡ Some end → length end ≡ length atoms) [
         | None ↦ λ _ none. absurd (cc)
-        | Some next ↦ λ leads on. length-run plan next end (length-step bits next n leads) on
+        | Some next ↦ λ leads on. length-run plan next end (length-step task atoms bits next n leads) on
       ] refl runs
 
   pub length-reachable : (bits : List Bool) → IsReachable (ground_system task atoms) bits → length bits ≡ length atoms
@@ -61,7 +50,7 @@ module _ (task : Task) (atoms : List Atom) where
 
   length-precedes : (bits : List Bool) → PrecedesPlans (ground_system task atoms) bits → length bits ≡ length atoms
   length-precedes bits (is_initial is) = ap length is ∙ length-initial
-  length-precedes bits (is_next actions before a runs missed cheap leads) = length-step before bits a leads
+  length-precedes bits (is_next actions before a runs missed cheap leads) = length-step task atoms before bits a leads
 
 -- ---- states and packed states
 

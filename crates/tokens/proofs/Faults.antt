@@ -8,7 +8,7 @@ use Rattle.model.specs.Fault as told
 use Rattle.model.specs.Words.{Form, blank, comment, opening, closing, run, stray, Part, form, bytes, size, kind_by, kind_of_run, open_with, open_after, size_of_all, HasClosedAList, IsWord, AreParts, IsAtFault, bad_byte, bad_word, unbalanced, too_deep, too_long, trailing, IsFault, at_part, open_at_end, ComesNoLater, IsTold, comes_first, longest_text}
 use Rattle.tokens.specs.Scanner.{fault_by, fault_of_run, fault_of_word, fault_at, closed_with}
 use Rattle.tokens.proofs.Cut.{cut, cut_unique, cut_parts}
-use Rattle.tokens.proofs.Reading.{or_else, first_fault}
+use Rattle.tokens.proofs.Reading.{or_else, first_fault, closed_stays}
 
 -- a part at fault, by how many lists are open before it and whether the first has closed
 pub data AtFault (n : ℕ) (c : Bool) (f : Form) (text : List ℕ) : ℕ → Type 0 where
@@ -184,14 +184,6 @@ closed_from n c (part ∷ parts) = closed_from (open_with n (form part)) (closed
 closed_from-append : (n : ℕ) (c : Bool) (a b : List Part) → closed_from n c (a ++ b) ≡ closed_from (open_from n a) (closed_from n c a) b
 closed_from-append n c [] b = refl
 closed_from-append n c (part ∷ a) b = closed_from-append (open_with n (form part)) (closed_with n c (form part)) a b
-
-closed_stays : (n : ℕ) (f : Form) → closed_with n true f ≡ true
-closed_stays n blank = refl
-closed_stays n comment = refl
-closed_stays n opening = refl
-closed_stays n closing = refl
-closed_stays n run = refl
-closed_stays n stray = refl
 
 stays_closed : (n : ℕ) (parts : List Part) → closed_from n true parts ≡ true
 stays_closed n [] = refl

@@ -1,8 +1,8 @@
 -- What the scanner reads of a list of parts, from what stands before them, and its steps.
-use Rattle.std.proofs.Common.{◌≡◌, ℕ, ◌+◌, ◌-◌, Bool, cond, List, [], ◌∷◌, ◌++◌, length, get_or, take, drop, Option, Some, None, sym, ap, ◌∙◌, nat_lt}
+use Rattle.std.proofs.Common.{◌≡◌, ℕ, ◌+◌, ◌-◌, Bool, true, cond, List, [], ◌∷◌, ◌++◌, length, get_or, take, drop, Option, Some, None, refl, sym, ap, ◌∙◌, nat_lt}
 use Rattle.std.specs.Option.{option_to_list}
 use Rattle.model.specs.Fault as told
-use Rattle.model.specs.Words.{Form, form_of, Part, form, bytes, size, Word, kind_by, kind_of_part, open_with}
+use Rattle.model.specs.Words.{Form, blank, comment, opening, closing, run, stray, form_of, Part, form, bytes, size, Word, kind_by, kind_of_part, open_with}
 use Rattle.tokens.specs.Scanner.{fault_by, fault_at, word_at, closed_with}
 use Rattle.tokens.proofs.Cut.{cut, PartBetween}
 
@@ -27,6 +27,15 @@ abbrev pub words_from : ℕ → List Part → List Word
 words_from start [] = []
 words_from start (part ∷ parts) =
     option_to_list (word_at start (bytes part) (kind_of_part part)) ++ words_from (start + size part) parts
+
+-- once the first list has closed it stays so
+pub closed_stays : (n : ℕ) (f : Form) → closed_with n true f ≡ true
+closed_stays n blank = refl
+closed_stays n comment = refl
+closed_stays n opening = refl
+closed_stays n closing = refl
+closed_stays n run = refl
+closed_stays n stray = refl
 
 -- The steps of the scanner's loop.
 module _ (text slice : List ℕ) (start end n : ℕ) (c : Bool) (f : Form) (between : PartBetween text start end)

@@ -6,7 +6,7 @@ use Rattle.model.specs.Fault as told
 use Rattle.model.specs.Words.{Form, blank, comment, opening, closing, run, stray, Part, form, bytes, size, Kind, name, variable, keyword, number, dash, equals, opens, closes, Word, kind_by, kind_of_part, kind_of_run, is_name, is_marked_name, is_number, is_only, open_with, longest_text, is_gap, IsWordAt, AreGapsAndWords, AreNested, kinds_of, ReadsAs}
 use Rattle.tokens.specs.Scanner.{fault_by, fault_of_run, fault_of_word, fault_at, word_at, closed_with}
 use Rattle.tokens.proofs.Cut.{cut, cut_unique, cut_parts}
-use Rattle.tokens.proofs.Reading.{or_else, first_fault, fault_of_end, words_from}
+use Rattle.tokens.proofs.Reading.{or_else, first_fault, fault_of_end, words_from, closed_stays}
 
 -- a kind that is no parenthesis
 abbrev IsOfRun : Kind → Type 0
@@ -145,14 +145,6 @@ closed_part n run text e = by_kind (kind_of_run text) e
     by_kind (Some k) g = ⊎_elim
         (λ (t : ltb 255 (length text) ≡ true). absurd (let u = cond-true (ltb 255 (length text)) (Some 5) (fault_of_word true) t in cc))
         (λ (t : ltb 255 (length text) ≡ false). absurd (let u = cond-false (ltb 255 (length text)) (Some 5) (fault_of_word true) t in cc)) (cases_Bool (ltb 255 (length text)))
-
-closed_stays : (n : ℕ) (f : Form) → closed_with n true f ≡ true
-closed_stays n blank = refl
-closed_stays n comment = refl
-closed_stays n opening = refl
-closed_stays n closing = refl
-closed_stays n run = refl
-closed_stays n stray = refl
 
 nothing_follows : (start n : ℕ) (parts : List Part) → first_fault start n true parts ≡ None → words_from start parts ≡ []
 nothing_follows start n [] e = refl

@@ -8,7 +8,8 @@ use Rattle.typing.specs.Task.{task_of}
 use Rattle.typing.specs.TaskParts.{atom_of}
 use Rattle.devices.specs.Devices.{AppendsBeginning}
 use Rattle.certificate_writer.specs.Gathering.{IsPassedOn, atom_line}
-use Rattle.certificate_writer.proofs.GatheringLemmas.{passed_held, passed_then, passed_partly, passed_beginning, parts_split, pairs_more, pairs_all}
+use Rattle.model.proofs.Pieces.{parts_split}
+use Rattle.certificate_writer.proofs.GatheringLemmas.{passed_held, passed_then, passed_partly, passed_beginning, pairs_more, pairs_all}
 use Rattle.certificate_writer.proofs.writer.write_atoms.Goals as goal
 
 -- what is written so far is a beginning

@@ -3,7 +3,8 @@ use Rattle.std.specs.List.{flat_map}
 use Rattle.certificate_lines.specs.Lines.{line_of}
 use Rattle.devices.specs.Devices.{AppendsBeginning}
 use Rattle.certificate_writer.specs.Gathering.{IsPassedOn, state_line}
-use Rattle.certificate_writer.proofs.GatheringLemmas.{passed_held, passed_then, passed_partly, passed_beginning, pieces_split, pieces_more}
+use Rattle.model.proofs.Pieces.{pieces_split, pieces_more}
+use Rattle.certificate_writer.proofs.GatheringLemmas.{passed_held, passed_then, passed_partly, passed_beginning}
 use Rattle.certificate_writer.proofs.writer.write_states.Goals as goal
 
 -- what is written so far is a beginning

@@ -14,7 +14,8 @@ use Rattle.model.specs.Claims.{Line}
 use Rattle.certificate_text.specs.Certificates.{lines_of}
 use Rattle.certificate_text.specs.CertificateRefusals.{successor_missing, successor_dearer, state_line, IsListed}
 use Rattle.cert_checker.proofs.CertCheckerLemmas.{AllListed-none, AllListed-more, listed_within, open_closed}
-use Rattle.cert_checker.proofs.GroundSuccessors.{leads_by, applies_at, step_packed, next_by, cost_by}
+use Rattle.model.proofs.GroundTaskLemmas.{length-step}
+use Rattle.cert_checker.proofs.GroundSuccessors.{leads_by, applies_at, next_by, cost_by}
 use Rattle.cert_checker.proofs.PackedListingLemmas.{listed_apart, successors_there}
 use Rattle.cert_checker.proofs.OrderLemmas.{first_in_line, open_here}
 use Rattle.cert_checker.proofs.FirstLemmas.{told_first, first_to_leave}
@@ -37,7 +38,7 @@ cost_there : (c : After-successor) → (ground_system (task_at c.args.listing.no
 cost_there c = cost_by (task_at c.args.listing.now) (atoms_at c.args.listing.now) (bits_of c.args.state.now) (get_or c.args.numbers.now c.loop-number.number-index 0) _ c.successor.ensures
 
 packed : (c : After-successor) → IsPacked c.args.listing.now c.successor.new.into
-packed c = step_packed (task_at c.args.listing.now) (atoms_at c.args.listing.now) (bits_of c.args.state.now) (get_or c.args.numbers.now c.loop-number.number-index 0) _ c.successor.ensures
+packed c = length-step (task_at c.args.listing.now) (atoms_at c.args.listing.now) (bits_of c.args.state.now) _ (get_or c.args.numbers.now c.loop-number.number-index 0) c.successor.ensures
 
 all_there : (c : After-successor) → map (view c) c.args.numbers.now ≡ successors_of (task_at c.args.listing.now) (state_at c.args.listing.now c.args.state.now)
 all_there c =

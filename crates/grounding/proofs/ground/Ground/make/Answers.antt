@@ -4,53 +4,51 @@ use Rattle.std.specs.Option.{option_map_or}
 use Rattle.std.proofs.lemmas.List.{drop_all, length-map}
 use Rattle.packed_state.specs.Packed.{bits_of}
 use Rattle.model.specs.Task.{Instance}
+use Rattle.model.specs.ClosedOff.{kept_instances}
 use Rattle.model.specs.Grounding.{state_of_bits}
 use Rattle.grounding.specs.ChangedBits.{with_bits}
 use Rattle.grounding.specs.NumberedEffects.{NumberedEffect, effects_of_instance, numbers_made}
-use Rattle.grounding.specs.Changes.{effect_in}
+use Rattle.grounding.specs.Changes.{effect_in, AreChangesOf}
 use Rattle.grounding.specs.Ground.{task_in, atoms_in}
 use Rattle.grounding.proofs.ChangedBitsLemmas.{length-with_bits}
 use Rattle.grounding.proofs.ChangeLemmas.{change-fits, change-within, with_bits-more}
-use Rattle.grounding.proofs.GroundLemmas.{got, got-mapped, named}
+use Rattle.grounding.proofs.GroundLemmas.{got, got-mapped, named, changes-at}
 use Rattle.grounding.proofs.StepLemmas.{kept-is_instance}
+use Rattle.grounding.proofs.ground.Ground.make.Goals.{After-change-item}
 use Rattle.grounding.proofs.ground.Ground.make.Goals as goal
+
+-- the instance of the number
+one : (c : After-change-item) → (i : Instance) × (slice_get (kept_instances (task_in c.args.self.now)) c.args.number ≡ Some i)
+one c = named (task_in c.args.self.now) c.args.number c.requires.within
+
+-- its changes, and the one that is made
+are : (c : After-change-item) → AreChangesOf (task_in c.args.self.now) (atoms_in c.args.self.now) (one c).0 c.index.result.now
+are c = changes-at c.args.self.now c.args.number (one c).0 (one c).1 c.index.result.now c.index.ensures
+
+at : (c : After-change-item) → slice_get c.index.result.now.items c.loop-change.change-index ≡ Some c.change-item.result
+at c =
+    let k = c.loop-change.change-index in
+    ap (λ l. slice_get l k) (sym c.as_slice-changes.ensures.value) ∙ got c.as_slice-changes.result.now k c.change-item.result c.loop-change-test.true c.change-item.is
 
 pub make_one-requires-clause-fits : goal.make_one-requires-clause-fits
 make_one-requires-clause-fits c =
+    let s = (goal.at.make_one-requires-clause-fits c).After-change-item in
     let g = c.args.self.now in
-    let t = task_in g in
-    let i = named t c.args.number c.requires.within in
-    let within : c.args.number < length g.changes.items = omega (arith, c.requires.within, ap length g.numbering.kept, g.changes_made.as_long) in
-    let are = g.changes_made.each c.args.number i.0 c.index.result.now (ap (λ l. slice_get l c.args.number) g.numbering.kept ∙ i.1) (got g.changes.items c.args.number c.index.result.now within c.index.ensures) in
-    let k = c.loop-change.change-index in
-    let at : slice_get c.index.result.now.items k ≡ Some c.change-item.result =
-    ap (λ l. slice_get l k) (sym c.as_slice-changes.ensures.value) ∙ got c.as_slice-changes.result.now k c.change-item.result c.loop-change-test.true c.change-item.is in
-    change-fits t g.numbering.statics.task.now.well_typed (atoms_in g) i.0 (kept-is_instance t c.args.number i.0 i.1) c.index.result.now are k c.change-item.result at
+    let i = one s in
+    change-fits (task_in g) g.numbering.statics.task.now.well_typed (atoms_in g) i.0 (kept-is_instance (task_in g) c.args.number i.0 i.1) c.index.result.now (are s) c.loop-change.change-index c.change-item.result (at s)
 
 pub make_one-requires-clause-compiled : goal.make_one-requires-clause-compiled
 make_one-requires-clause-compiled c =
-    let g = c.args.self.now in
-    let t = task_in g in
-    let i = named t c.args.number c.requires.within in
-    let within : c.args.number < length g.changes.items = omega (arith, c.requires.within, ap length g.numbering.kept, g.changes_made.as_long) in
-    let are = g.changes_made.each c.args.number i.0 c.index.result.now (ap (λ l. slice_get l c.args.number) g.numbering.kept ∙ i.1) (got g.changes.items c.args.number c.index.result.now within c.index.ensures) in
-    let k = c.loop-change.change-index in
-    let at : slice_get c.index.result.now.items k ≡ Some c.change-item.result =
-    ap (λ l. slice_get l k) (sym c.as_slice-changes.ensures.value) ∙ got c.as_slice-changes.result.now k c.change-item.result c.loop-change-test.true c.change-item.is in
-    are.compiled k c.change-item.result at
+    let s = (goal.at.make_one-requires-clause-compiled c).After-change-item in
+    (are s).compiled c.loop-change.change-index c.change-item.result (at s)
 
 pub make_one-requires-clause-within : goal.make_one-requires-clause-within
 make_one-requires-clause-within c =
+    let s = (goal.at.make_one-requires-clause-within c).After-change-item in
     let g = c.args.self.now in
-    let t = task_in g in
-    let i = named t c.args.number c.requires.within in
-    let within : c.args.number < length g.changes.items = omega (arith, c.requires.within, ap length g.numbering.kept, g.changes_made.as_long) in
-    let are = g.changes_made.each c.args.number i.0 c.index.result.now (ap (λ l. slice_get l c.args.number) g.numbering.kept ∙ i.1) (got g.changes.items c.args.number c.index.result.now within c.index.ensures) in
-    let k = c.loop-change.change-index in
-    let at : slice_get c.index.result.now.items k ≡ Some c.change-item.result =
-    ap (λ l. slice_get l k) (sym c.as_slice-changes.ensures.value) ∙ got c.as_slice-changes.result.now k c.change-item.result c.loop-change-test.true c.change-item.is in
+    let i = one s in
     let numbered : c.change-item.result.atom < length (atoms_in g) =
-    change-within t g.numbering.statics.task.now.well_typed (atoms_in g) i.0 (kept-is_instance t c.args.number i.0 i.1) c.index.result.now are k c.change-item.result at in
+    change-within (task_in g) g.numbering.statics.task.now.well_typed (atoms_in g) i.0 (kept-is_instance (task_in g) c.args.number i.0 i.1) c.index.result.now (are s) c.loop-change.change-index c.change-item.result (at s) in
     omega (arith, numbered, c.loop-change.invariant.as_long)
 
 pub loop-change-preserved : goal.loop-change-preserved
@@ -73,8 +71,7 @@ returns c =
     let g = c.args.self.now in
     let t = task_in g in
     let i = named t c.args.number c.requires.within in
-    let within : c.args.number < length g.changes.items = omega (arith, c.requires.within, ap length g.numbering.kept, g.changes_made.as_long) in
-    let are = g.changes_made.each c.args.number i.0 c.index.result.now (ap (λ l. slice_get l c.args.number) g.numbering.kept ∙ i.1) (got g.changes.items c.args.number c.index.result.now within c.index.ensures) in
+    let are = changes-at g c.args.number i.0 i.1 c.index.result.now c.index.ensures in
     let s = state_of_bits t (atoms_in g) (bits_of c.args.before.now) in
     let items = c.as_slice-changes.result.now in
     let k = c.loop-change.change-index in

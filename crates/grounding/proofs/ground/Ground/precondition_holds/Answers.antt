@@ -8,57 +8,51 @@ use Rattle.typing.proofs.Shapes.{Shape, found}
 use Rattle.formulas.specs.State.{instance_of}
 use Rattle.formulas.proofs.Instances.{precondition_fits}
 use Rattle.grounding.specs.Conditions.{IsConditionOf}
-use Rattle.model.specs.Task.{Task, Formula}
+use Rattle.model.specs.Task.{Task, Formula, Schema}
 use Rattle.model.specs.Meaning.{holds}
 use Rattle.model.specs.ClosedOff.{kept_instances}
 use Rattle.model.specs.Grounding.{state_of_bits}
 use Rattle.grounding.specs.Ground.{task_in, atoms_in}
-use Rattle.grounding.proofs.GroundLemmas.{got, got-mapped, schema-of}
+use Rattle.grounding.proofs.GroundLemmas.{got-mapped, schema-of, condition-at}
 use Rattle.grounding.proofs.StepLemmas.{kept-is_instance, applies}
+use Rattle.grounding.proofs.ground.Ground.precondition_holds.Goals.{After-schema, In-Some}
 use Rattle.grounding.proofs.ground.Ground.precondition_holds.Goals as goal
+
+-- the instance is that of the number
+at : (c : After-schema) → slice_get (kept_instances (task_in c.args.self.now)) c.args.number ≡ Some (instance_of c.index-instances-number.result)
+at c =
+    let items = c.instances.result.now in
+    let kept : map instance_of items ≡ kept_instances (task_in c.args.self.now) = c.instances.ensures ∙ c.args.self.now.numbering.kept in
+    let below : c.args.number < length items = omega (arith, c.requires.within, ap length kept, length-map items instance_of) in
+    ap (λ l. slice_get l c.args.number) (sym kept) ∙ got-mapped instance_of items c.args.number c.index-instances-number.result below c.index-instances-number.is
+
+-- the schema has the shape of the task's
+shape_is : (c : In-Some) → Some (shape_of c.in-Some.schema.now) ≡ option_map shape_of_schema (slice_get (task_in c.args.self.now).schemas c.index-instances-number.result.schema.0)
+shape_is c = c.in-Some.ensures.shape ∙ ap (λ (u : Task). option_map shape_of_schema (slice_get u.schemas c.index-instances-number.result.schema.0)) c.task.ensures
+
+it : (c : In-Some) → (s : Schema) × (slice_get (task_in c.args.self.now).schemas c.index-instances-number.result.schema.0 ≡ Some s) × (shape_of c.in-Some.schema.now ≡ shape_of_schema s)
+it c = found (slice_get (task_in c.args.self.now).schemas c.index-instances-number.result.schema.0) (shape_of c.in-Some.schema.now) (shape_is c)
 
 pub holds_in-requires-clause-condition : goal.holds_in-requires-clause-condition
 holds_in-requires-clause-condition c =
     let g = c.args.self.now in
-    let t = task_in g in
     let item = c.index-instances-number.result in
-    let kept : map instance_of c.instances.result.now ≡ kept_instances t = c.instances.ensures ∙ g.numbering.kept in
-    let below : c.args.number < length c.instances.result.now = omega (arith, c.requires.within, ap length kept, length-map c.instances.result.now instance_of) in
-    let at : slice_get (kept_instances t) c.args.number ≡ Some (instance_of item) =
-    ap (λ l. slice_get l c.args.number) (sym kept) ∙ got-mapped instance_of c.instances.result.now c.args.number item below c.index-instances-number.is in
-    let shape = shape_of c.in-Some.schema.now in
-    let is : Some shape ≡ option_map shape_of_schema (slice_get t.schemas item.schema.0) =
-    c.in-Some.ensures.shape ∙ ap (λ (u : Task). option_map shape_of_schema (slice_get u.schemas item.schema.0)) c.task.ensures in
-    let it = found (slice_get t.schemas item.schema.0) shape is in
-    let within : c.args.number < length g.conditions.items = omega (arith, c.requires.within, ap length g.numbering.kept, g.preconditions.as_long) in
-    let condition = g.preconditions.each c.args.number (instance_of item) c.index-condition.result.now (ap (λ l. slice_get l c.args.number) g.numbering.kept ∙ at)
-    (got g.conditions.items c.args.number c.index-condition.result.now within c.index-condition.ensures) it.0 it.1 in
-    subst (λ (f : Formula). IsConditionOf t (atoms_in g) f (map object_of item.objects.items) c.index-condition.result.now) (sym (ap (λ (s : Shape). s.1) it.2)) condition
+    let s = it (goal.at.holds_in-requires-clause-condition c).In-Some in
+    let condition = condition-at g c.args.number (instance_of item) (at (goal.at.holds_in-requires-clause-condition c).After-schema) c.index-condition.result.now c.index-condition.ensures s.0 s.1 in
+    subst (λ (f : Formula). IsConditionOf (task_in g) (atoms_in g) f (map object_of item.objects.items) c.index-condition.result.now) (sym (ap (λ (shape : Shape). shape.1) s.2)) condition
 
 pub holds_in-requires-clause-fits : goal.holds_in-requires-clause-fits
 holds_in-requires-clause-fits c =
-    let g = c.args.self.now in
-    let t = task_in g in
+    let t = task_in c.args.self.now in
     let item = c.index-instances-number.result in
-    let kept : map instance_of c.instances.result.now ≡ kept_instances t = c.instances.ensures ∙ g.numbering.kept in
-    let below : c.args.number < length c.instances.result.now = omega (arith, c.requires.within, ap length kept, length-map c.instances.result.now instance_of) in
-    let at : slice_get (kept_instances t) c.args.number ≡ Some (instance_of item) =
-    ap (λ l. slice_get l c.args.number) (sym kept) ∙ got-mapped instance_of c.instances.result.now c.args.number item below c.index-instances-number.is in
-    let shape = shape_of c.in-Some.schema.now in
-    let is : Some shape ≡ option_map shape_of_schema (slice_get t.schemas item.schema.0) =
-    c.in-Some.ensures.shape ∙ ap (λ (u : Task). option_map shape_of_schema (slice_get u.schemas item.schema.0)) c.task.ensures in
-    precondition_fits t item.schema.0 shape is (map object_of item.objects.items) (kept-is_instance t c.args.number (instance_of item) at) g.numbering.statics.task.now.well_typed
+    precondition_fits t item.schema.0 (shape_of c.in-Some.schema.now) (shape_is (goal.at.holds_in-requires-clause-fits c).In-Some) (map object_of item.objects.items)
+    (kept-is_instance t c.args.number (instance_of item) (at (goal.at.holds_in-requires-clause-fits c).After-schema)) c.args.self.now.numbering.statics.task.now.well_typed
 
 pub unreachable-requires : goal.unreachable-requires
 unreachable-requires c =
-    let g = c.args.self.now in
-    let t = task_in g in
+    let t = task_in c.args.self.now in
     let item = c.index-instances-number.result in
-    let kept : map instance_of c.instances.result.now ≡ kept_instances t = c.instances.ensures ∙ g.numbering.kept in
-    let below : c.args.number < length c.instances.result.now = omega (arith, c.requires.within, ap length kept, length-map c.instances.result.now instance_of) in
-    let at : slice_get (kept_instances t) c.args.number ≡ Some (instance_of item) =
-    ap (λ l. slice_get l c.args.number) (sym kept) ∙ got-mapped instance_of c.instances.result.now c.args.number item below c.index-instances-number.is in
-    let s = schema-of t (instance_of item) (kept-is_instance t c.args.number (instance_of item) at) in
+    let s = schema-of t (instance_of item) (kept-is_instance t c.args.number (instance_of item) (at (goal.at.unreachable-requires c).After-schema)) in
     let none : None ≡ option_map shape_of_schema (slice_get t.schemas item.schema.0) =
     c.in-None.ensures.shape ∙ ap (λ (u : Task). option_map shape_of_schema (slice_get u.schemas item.schema.0)) c.task.ensures in
     let two : None ≡ Some (shape_of_schema s.0) = none ∙ ap (option_map shape_of_schema) s.1 in
@@ -69,15 +63,8 @@ returns c =
     let g = c.args.self.now in
     let t = task_in g in
     let item = c.index-instances-number.result in
-    let kept : map instance_of c.instances.result.now ≡ kept_instances t = c.instances.ensures ∙ g.numbering.kept in
-    let below : c.args.number < length c.instances.result.now = omega (arith, c.requires.within, ap length kept, length-map c.instances.result.now instance_of) in
-    let at : slice_get (kept_instances t) c.args.number ≡ Some (instance_of item) =
-    ap (λ l. slice_get l c.args.number) (sym kept) ∙ got-mapped instance_of c.instances.result.now c.args.number item below c.index-instances-number.is in
-    let shape = shape_of c.in-Some.schema.now in
-    let is : Some shape ≡ option_map shape_of_schema (slice_get t.schemas item.schema.0) =
-    c.in-Some.ensures.shape ∙ ap (λ (u : Task). option_map shape_of_schema (slice_get u.schemas item.schema.0)) c.task.ensures in
-    let it = found (slice_get t.schemas item.schema.0) shape is in
+    let s = it (goal.at.returns c).In-Some in
     let bits = bits_of c.args.state.now in
     c.holds_in.ensures
-    ∙ ap (λ (f : Formula). holds t f (map object_of item.objects.items) (state_of_bits t (atoms_in g) bits)) (ap (λ (s : Shape). s.1) it.2)
-    ∙ sym (applies t (atoms_in g) bits c.args.number (instance_of item) at it.0 it.1)
+    ∙ ap (λ (f : Formula). holds t f (map object_of item.objects.items) (state_of_bits t (atoms_in g) bits)) (ap (λ (shape : Shape). shape.1) s.2)
+    ∙ sym (applies t (atoms_in g) bits c.args.number (instance_of item) (at (goal.at.returns c).After-schema) s.0 s.1)
