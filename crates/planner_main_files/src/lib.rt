@@ -15,7 +15,7 @@ use devices::{Sink, Source, WriteFault};
 pub use reading::read_file;
 pub use system::SystemFiles;
 pub use table::Table;
-pub use writing::write_file;
+pub use writing::{Bytes, Document, write_file};
 
 /// Files by name. A name that cannot be opened, created or closed is a failure.
 pub trait Files {

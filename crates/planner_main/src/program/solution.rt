@@ -1,12 +1,12 @@
 //! `solve`: a cheapest plan, from files to the standard output, and to files.
-ghost use Rattle.std.specs.Prelude.{◌≡◌, ◌≢◌, ℕ, IfErr, IfOk, IfSome, IsErr, IsTrue, List, [], ◌∷◌, OnOk, Some};
+ghost use Rattle.std.specs.Prelude.{◌≡◌, ℕ, IfErr, IfOk, IfSome, IsErr, IsTrue, List, [], ◌∷◌, OnOk, Some};
 ghost use Rattle.planner_main.specs.Asked.{asked_of};
 ghost use Rattle.planner_main.specs.Program.{CountsEither, CountsFailure, HasNotFailed, IsAnswerText, IsOneOf, IsTold, IsToldPartly, IsUnread, OnTwo, fault_in, of_device};
 ghost use Rattle.planner_main_files.specs.Texts.{AreKept};
 ghost use Rattle.planner_main_answers.specs.Files.{text_in};
 ghost use Rattle.planner_main.specs.Solution.{TellsAnswer, cert_file, plan_file};
 ghost use Rattle.planner_main_output.specs.Answer.{text_of};
-ghost use Rattle.planner_main_files.specs.Written.{AreWritten, AreWrittenPartly, HoldsBeginning, NamedText};
+ghost use Rattle.planner_main_files.specs.Written.{AreWritten, AreWrittenPartly, NamedText};
 ghost use Rattle.devices.specs.Devices.{CountsDevice};
 ghost use Rattle.typing.specs.Task.{task_of};
 ghost use Rattle.certificate.specs.Certificate.{certificate_of};
@@ -21,7 +21,7 @@ use certificate::Cert;
 use certificate_writer::write_cert;
 use devices::{Sink, WriteFault, write_all};
 use planner_main_answers::{Solved, solve_files};
-use planner_main_files::{Files, write_file};
+use planner_main_files::{Bytes, Document, Files, write_file};
 use planner_main_output::{answer_text, json_text, told};
 use solver::{Answer, Limits};
 use std::alloc::Global;
@@ -123,9 +123,10 @@ fn save_cert<F: Files>(
     ensures failures { CountsDevice (F.failures files.old) (F.failures files.new) result }
 {
     let Some(name) = name else { return Ok(()) };
+    let task = &solved.task;
     match &solved.answer {
-        Answer::Plan { cert, .. } => write_cert_file(alloc, &solved.task, cert, name, files),
-        Answer::Unsolvable { cert } => write_cert_file(alloc, &solved.task, cert, name, files),
+        Answer::Plan { cert, .. } => write_file(files, name, &CertText { alloc, task, cert }),
+        Answer::Unsolvable { cert } => write_file(files, name, &CertText { alloc, task, cert }),
         Answer::Unknown(_) => Ok(()),
     }
 }
@@ -146,27 +147,22 @@ fn save_plan<F: Files>(
 {
     let Some(name) = name else { return Ok(()) };
     match &solved.answer {
-        Answer::Plan { .. } => write_file(files, name, text),
+        Answer::Plan { .. } => write_file(files, name, &Bytes(text)),
         Answer::Unsolvable { .. } | Answer::Unknown(_) => Ok(()),
     }
 }
 
-/// Writes the text of a certificate to the file of this name, in place of what it had.
-fn write_cert_file<F: Files>(
+/// The text of a certificate of a task, which goes to its device a line at a time.
+struct CertText<'a> {
     alloc: Global,
-    task: &Task,
-    cert: &Cert,
-    name: &str,
-    files: &mut F,
-) -> Result<(), WriteFault>
-    ensures held { IsTrue F.is_known → OnOk result (F.contents files.new name.now ≡ Some (certificate_text (task_of task.now) (certificate_of cert.now))) }
-    ensures partly { IsTrue F.is_known → HoldsBeginning (F.contents files.old name.now) (F.contents files.new name.now) (certificate_text (task_of task.now) (certificate_of cert.now)) }
-    ensures kept { IsTrue F.is_known → (other : List ℕ) → other ≢ name.now → F.contents files.new other ≡ F.contents files.old other }
-    ensures failures { CountsDevice (F.failures files.old) (F.failures files.new) result }
-{
-    let mut output = files.create(name)?;
-    let written = write_cert(alloc, task, cert, &mut output);
-    // It is closed first, since a closing counts a write that failed.
-    files.close(output)?;
-    written
+    task: &'a Task,
+    cert: &'a Cert,
+}
+
+impl Document for CertText<'_> {
+    ghost text = { λ it. certificate_text (task_of it.task.now) (certificate_of it.cert.now) };
+
+    fn write_to<S: Sink>(&self, sink: &mut S) -> Result<(), WriteFault> {
+        write_cert(self.alloc, self.task, self.cert, sink)
+    }
 }
