@@ -59,8 +59,8 @@ def is_built(crate, total):
         return False
 
 
-def words(verb, crate):
-    """The command that checks or builds a crate over the libraries below it, as they are built."""
+def words(verb, crate, jobs=1):
+    """The command that checks or builds a crate over the libraries below it, as they are built, by so many processes."""
     rows = rows_below(crate)
     found = [f"{KIT}/bin/rattle", verb, "--crate-name", crate, "src/main.rt" if is_program(crate) else "src/lib.rt"]
     for it in ["std", *libraries_of(rows[crate])]:
@@ -69,15 +69,15 @@ def words(verb, crate):
     for it in [f"{KIT}/rlibs", *(f"{folder(it)}/out/rlib" for it in rows if it != crate)]:
         found += ["-L", f"dependency={it}"]
     found += ["--antt-project", f"{KIT}/rattle/logic/antt-project.json", "--logic-built", f"{KIT}/logic_built"]
-    # One processor for each: copies of the compiler that share a crate take longer, from nothing.
-    return [*found, "--jobs", "1"]
+    return [*found, "--jobs", str(jobs)]
 
 
-def build_words(crate):
+def build_words(crate, jobs):
     """The command that proves and builds a crate: the object file of a program, or what can be cited of a library."""
+    found = words("build", crate, jobs)
     if is_program(crate):
-        return [*words("build", crate), "--backend", "llvm", "--toolchain", f"{KIT}/toolchain", "-o", f"out/{crate}.o"]
-    return [*words("build", crate), "--statements", "-o", f"out/rlib/{crate}.rlib"]
+        return [*found, "--backend", "llvm", "--toolchain", f"{KIT}/toolchain", "-o", f"out/{crate}.o"]
+    return [*found, "--statements", "-o", f"out/rlib/{crate}.rlib"]
 
 
 def link_words(crate):
@@ -86,12 +86,12 @@ def link_words(crate):
     return [*found, "-o", f"out/{crate}", f"out/{crate}.o", f"{KIT}/c/libos_c.a", f"{KIT}/c/liblibc_c.a"]
 
 
-def start(crate):
+def start(crate, jobs):
     """Starts the proof of a crate, whose words go to a file, as a group of its own. A library built before goes."""
     shutil.rmtree(f"{folder(crate)}/out/rlib", ignore_errors=True)
     os.makedirs(f"{folder(crate)}/out/rlib")
     said = tempfile.TemporaryFile("w+", errors="replace")
-    ran = subprocess.Popen(build_words(crate), cwd=folder(crate), stdin=subprocess.DEVNULL, stdout=said,
+    ran = subprocess.Popen(build_words(crate, jobs), cwd=folder(crate), stdin=subprocess.DEVNULL, stdout=said,
                            stderr=subprocess.STDOUT, start_new_session=True)
     return ran, said
 
@@ -107,8 +107,11 @@ def prove_all(rows, running):
     while left or running:
         ready = [it for it in left if below[it] <= proved]
         for it in ready[:most - len(running)]:
+            # All others wait for the longest chain. Its crates are proved by two processes each, which together take a
+            # quarter more, and a fifth less by the clock.
+            is_head = all(behind[it] >= behind[other] for other in [*left, *running])
             left.remove(it)
-            running[it] = start(it)
+            running[it] = start(it, 2 if is_head else 1)
         while all(ran.poll() is None for ran, _ in running.values()):
             time.sleep(0.1)
         for it in [it for it, (ran, _) in running.items() if ran.poll() is not None]:
