@@ -106,12 +106,13 @@ def prove_all(rows, running):
     left = sorted({*rows} - proved, key=lambda it: -behind[it])
     while left or running:
         ready = [it for it in left if below[it] <= proved]
+        # All others wait for the longest chain. So its crate is proved by two processes at least, and by three where the
+        # processors have nothing else to do: together they take a quarter more, and a fifth to a third less by the clock.
+        many = min(most, 3, max(2, 1 + most - len(running) - len(ready)))
         for it in ready[:most - len(running)]:
-            # All others wait for the longest chain. Its crates are proved by two processes each, which together take a
-            # quarter more, and a fifth less by the clock.
             is_head = all(behind[it] >= behind[other] for other in [*left, *running])
             left.remove(it)
-            running[it] = start(it, 2 if is_head else 1)
+            running[it] = start(it, many if is_head else 1)
         while all(ran.poll() is None for ran, _ in running.values()):
             time.sleep(0.1)
         for it in [it for it, (ran, _) in running.items() if ran.poll() is not None]:

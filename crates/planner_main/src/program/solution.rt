@@ -153,6 +153,7 @@ fn save_plan<F: Files>(
 }
 
 /// The text of a certificate of a task, which goes to its device a line at a time.
+#[derive(Clone, Copy)]
 struct CertText<'a> {
     alloc: Global,
     task: &'a Task,
