@@ -171,6 +171,10 @@ pub device_counted : (T : Type 0) (before opened after : ℕ) (fault : WriteFaul
 device_counted T before opened after device.Device same counted = counted ∙ ap one_more same
 device_counted T before opened after device.NoMemory same counted = counted ∙ same
 
+-- Of a failure without a fault nothing is asked.
+pub without_fault : (f : Failure) (P : FileFault → Type 0) → fault_in f ≡ None → IfSome (fault_in f) P
+without_fault f P is = subst (λ (fault : Option FileFault). IfSome fault P) (sym is) tt
+
 -- the same, after a call of the files that counted none
 pub either_since : (before now after out out_after : ℕ) (f : Failure) → now ≡ before → CountsEither now after out out_after f
     → CountsEither before after out out_after f

@@ -59,6 +59,18 @@ impl From<WriteFault> for Failure {
     }
 }
 
+impl From<AllocError> for Failure {
+    ghost use Rattle.std.specs.Prelude.{◌≡◌};
+    ghost use Rattle.devices.specs.declared.device.WriteFault.TheVariants.{NoMemory};
+    ghost use Rattle.planner_main.specs.declared.report.Failure.TheVariants.{Device};
+
+    ghost from_gives = { λ _ failure. failure ≡ Device NoMemory };
+
+    fn from(_error: AllocError) -> Failure {
+        Failure::Device(WriteFault::NoMemory)
+    }
+}
+
 /// Tells a failure on standard error, and answers its status. That the telling fails changes no status.
 pub(crate) fn tell<E: Sink>(alloc: Global, failure: Failure, err: &mut E) -> u8
     ensures failure { IsTrue (is_failure result) }

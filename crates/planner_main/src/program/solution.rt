@@ -1,7 +1,7 @@
 //! `solve`: a cheapest plan, from files to the standard output, and to files.
-ghost use Rattle.std.specs.Prelude.{◌≡◌, ℕ, IfErr, IfOk, IfSome, IsErr, IsTrue, List, [], ◌∷◌, OnOk, Some};
+ghost use Rattle.std.specs.Prelude.{◌≡◌, ℕ, IfErr, IfOk, IfSome, IsErr, IsTrue, List, [], ◌∷◌, None, OnOk};
 ghost use Rattle.planner_main.specs.Asked.{asked_of};
-ghost use Rattle.planner_main.specs.Program.{CountsEither, CountsFailure, HasNotFailed, IsAnswerText, IsOneOf, IsTold, IsToldPartly, IsUnread, OnTwo, fault_in, of_device};
+ghost use Rattle.planner_main.specs.Program.{CountsEither, CountsFailure, HasNotFailed, IsAnswerText, IsOneOf, IsTold, IsToldPartly, IsUnread, OnTwo, fault_in};
 ghost use Rattle.planner_main_files.specs.Texts.{AreKept};
 ghost use Rattle.planner_main_answers.specs.Files.{text_in};
 ghost use Rattle.planner_main.specs.Solution.{TellsAnswer, cert_file, plan_file};
@@ -60,7 +60,7 @@ pub(super) fn tell_solution<F: Files, O: Sink>(
     ensures unread { (name : List ℕ) → IsOneOf (domain.now ∷ problem.now ∷ []) name → IsTrue (F.is_missing files.old name) → IsUnread result }
 {
     let solved = solve_pair(alloc, domain, problem, limits, files)?;
-    Ok(tell_answer(alloc, &solved, wanted, files, out)?)
+    tell_answer(alloc, &solved, wanted, files, out)
 }
 
 /// What is found out of the task of two files.
@@ -92,14 +92,15 @@ fn tell_answer<F: Files, O: Sink>(
     wanted: Wanted<'_>,
     files: &mut F,
     out: &mut O,
-) -> Result<u8, WriteFault>
+) -> Result<u8, Failure>
     requires { IsTrue (has_names (task_of solved.now.task)) }
     ensures told { IfOk result (IsTold (TellsAnswer (task_of solved.now.task) solved.now.answer wanted.entry.json (text_in wanted.entry.cert) (text_in wanted.entry.plan))
         F.is_known (F.contents files.old) (F.contents files.new) (O.taken out.old) (O.taken out.new)) }
     ensures partly { IfErr result (λ _. IsToldPartly (TellsAnswer (task_of solved.now.task) solved.now.answer wanted.entry.json (text_in wanted.entry.cert) (text_in wanted.entry.plan))
         F.is_known (F.contents files.old) (F.contents files.new) (O.taken out.old) (O.taken out.new)) }
     ensures unfailed { IfOk result (λ _. HasNotFailed (F.failures files.old) (F.failures files.new) (O.failures out.old) (O.failures out.new)) }
-    ensures failures { IfErr result (λ fault. CountsEither (F.failures files.old) (F.failures files.new) (O.failures out.old) (O.failures out.new) (of_device fault)) }
+    ensures failures { IfErr result (CountsEither (F.failures files.old) (F.failures files.new) (O.failures out.old) (O.failures out.new)) }
+    ensures no_text { IfErr result (λ failure. fault_in failure ≡ None) }
 {
     let (text, status) = answer_text(alloc, &solved.task, &solved.answer)?;
     let json = json_text(alloc, &solved.task, &solved.answer, wanted.json)?;
