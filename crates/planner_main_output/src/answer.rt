@@ -31,10 +31,16 @@ pub fn answer_text(alloc: Global, task: &Task, answer: &Answer) -> Result<(Vec<u
 {
     match answer {
         Answer::Plan { steps, cost, .. } => Ok((plan_text(alloc, task, steps, *cost)?, PLAN)),
-        Answer::Unsolvable { .. } => Ok((line(alloc, b"unsolvable\n")?, UNSOLVABLE)),
-        Answer::Unknown(Limit::Instances) => Ok((line(alloc, b"unknown instances\n")?, UNKNOWN)),
-        Answer::Unknown(Limit::Atoms) => Ok((line(alloc, b"unknown atoms\n")?, UNKNOWN)),
-        Answer::Unknown(Limit::States) => Ok((line(alloc, b"unknown states\n")?, UNKNOWN)),
+        Answer::Unsolvable { .. } => Ok((Vec::from_slice(alloc, b"unsolvable\n")?, UNSOLVABLE)),
+        Answer::Unknown(Limit::Instances) => Ok((
+            Vec::from_slice(alloc, b"unknown instances\n")?,
+            UNKNOWN,
+        )),
+        Answer::Unknown(Limit::Atoms) => Ok((Vec::from_slice(alloc, b"unknown atoms\n")?, UNKNOWN)),
+        Answer::Unknown(Limit::States) => Ok((
+            Vec::from_slice(alloc, b"unknown states\n")?,
+            UNKNOWN,
+        )),
     }
 }
 
@@ -63,15 +69,6 @@ pub fn told<'a>(json: &'a Option<String>, text: &'a [u8]) -> &'a [u8]
         Some(line) => line.as_bytes(),
         None => text,
     }
-}
-
-/// These bytes.
-fn line(alloc: Global, bytes: &[u8]) -> Result<Vec<u8>, AllocError>
-    ensures { IfOk result (λ line. line.items ≡ bytes.now) }
-{
-    let mut line = Vec::new(alloc);
-    line.extend_from_slice(bytes)?;
-    Ok(line)
 }
 
 /// The plan, each step on a line of its own, and then its cost.
