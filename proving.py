@@ -107,7 +107,7 @@ def prove_all(rows, running):
     while left or running:
         ready = [it for it in left if below[it] <= proved]
         # All others wait for the longest chain. So its crate is proved by two processes at least, and by three where the
-        # processors have nothing else to do: together they take a quarter more, and a fifth to a third less by the clock.
+        # processors have nothing else to do: by the clock two take a fifth less, and three up to a half.
         many = min(most, 3, max(2, 1 + most - len(running) - len(ready)))
         for it in ready[:most - len(running)]:
             is_head = all(behind[it] >= behind[other] for other in [*left, *running])
