@@ -1,6 +1,15 @@
 -- What the definitions of typing say of the worked examples: each computes.
-use Rattle.std.proofs.Common.{refl}
-use Rattle.model.specs.TypingExamples.{AreTyped}
+use Rattle.std.proofs.Common.{◌≡◌, Bool, true, false, ◌&&◌, ◌||◌, refl}
+use Rattle.model.specs.Meaning.{holds}
+use Rattle.model.specs.TypingExamples.{fleet_task, AreTyped}
+
+or_false : (b : Bool) → (b || false) ≡ b
+or_false true = refl
+or_false false = refl
+
+and_true : (b : Bool) → (b && true) ≡ b
+and_true true = refl
+and_true false = refl
 
 pub are_typed : AreTyped
 are_typed = record {
@@ -19,6 +28,15 @@ are_typed = record {
   wrong_fact = refl;
   other_domain = refl;
   quantified = refl;
+  exists_of_none = refl;
+  forall_of_none = refl;
+  some_hold = λ part binding state. or_false (holds fleet_task part binding state);
+  all_hold = λ part binding state. and_true (holds fleet_task part binding state);
+  exists_says_nothing = refl;
+  not_forall_says_nothing = refl;
+  forall_says = refl;
+  under_forall = refl;
+  under_and = refl;
   in_scope = refl;
   of_the_root = refl;
   out_of_scope = refl;

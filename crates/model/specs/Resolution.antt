@@ -153,7 +153,7 @@ lifted_atom_in known a = record {
   terms = map (term_in known) a.terms;
 }
 
--- one quantifier for each of some variables, of these types
+-- one quantifier for each of some variables, of these types, the first outermost
 abbrev pub exists_each : List task.Union → task.Formula → task.Formula
 exists_each [] part = part
 exists_each (types ∷ others) part = task.exists types (exists_each others part)
@@ -161,6 +161,16 @@ exists_each (types ∷ others) part = task.exists types (exists_each others part
 abbrev pub forall_each : List task.Union → task.Formula → task.Formula
 forall_each [] part = part
 forall_each (types ∷ others) part = task.forall types (forall_each others part)
+
+-- The quantifier of a file over variables of these types (PDDL 1.2 manual, "Goal descriptions"). Over no variable it holds
+-- where its part does, and stays a formula around it: `exists` an `or` of it alone, `forall` an `and`.
+abbrev pub exists_over : List task.Union → task.Formula → task.Formula
+exists_over [] part = task.or (task.more_formulas part task.no_formula)
+exists_over (types ∷ others) part = exists_each (types ∷ others) part
+
+abbrev pub forall_over : List task.Union → task.Formula → task.Formula
+forall_over [] part = task.and (task.more_formulas part task.no_formula)
+forall_over (types ∷ others) part = forall_each (types ∷ others) part
 
 -- what may be named where these variables are in scope too
 abbrev pub known_with : Known → List Declared → Known
@@ -175,9 +185,9 @@ abbrev mutual
   formula_in file known (tree.not part) = task.not (formula_in file known part)
   formula_in file known (tree.imply premise conclusion) = task.imply (formula_in file known premise) (formula_in file known conclusion)
   formula_in file known (tree.exists groups part) =
-      exists_each (unions_in known.type_names (declared file groups)) (formula_in file (known_with known (declared file groups)) part)
+      exists_over (unions_in known.type_names (declared file groups)) (formula_in file (known_with known (declared file groups)) part)
   formula_in file known (tree.forall groups part) =
-      forall_each (unions_in known.type_names (declared file groups)) (formula_in file (known_with known (declared file groups)) part)
+      forall_over (unions_in known.type_names (declared file groups)) (formula_in file (known_with known (declared file groups)) part)
 
   pub formulas_in : File → Known → tree.Formulas → task.Formulas
   formulas_in file known tree.no_formula = task.no_formula

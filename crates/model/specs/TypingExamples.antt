@@ -1,11 +1,14 @@
 -- Worked examples of typing: which faults small trees have, and what task a well-typed pair is. Each is chosen so that a
 -- wrong reading says otherwise.
-use Rattle.std.specs.Prelude.{◌≡◌, ℕ, ◌+◌, true, false, List, [], ◌∷◌, ◌++◌, codes, None, Some}
+use Rattle.std.specs.Prelude.{◌≡◌, ℕ, ◌+◌, Bool, true, false, List, [], ◌∷◌, ◌++◌, codes, map, None, Some}
 use Rattle.model.specs.Task as task
 use Rattle.model.specs.Task.{Schema, Task}
 use Rattle.model.specs.Trees as tree
 use Rattle.model.specs.Trees.{File, domain_file, problem_file, Name, Group, GroundAtom, Fact, Predicate, Increase, Action, Domain, Problem, Term, Atom, Formula, Effect, formulas, effects}
-use Rattle.model.specs.Resolution.{TypingFault, task_of_trees}
+use Rattle.model.specs.Meaning.{State, holds, changes_of_instance}
+use Rattle.model.specs.SureLiterals.{Literal, is_true, sure}
+use Rattle.model.specs.ClosedOff.{is_unconditional}
+use Rattle.model.specs.Resolution.{TypingFault, exists_over, forall_over, task_of_trees}
 use Rattle.model.specs.Typing.{faults_of}
 
 -- a name that stands at this offset
@@ -102,6 +105,17 @@ variable start text = tree.variable (at start text)
 abbrev pub p_of_x : ℕ → Formula
 p_of_x start = tree.atom (atom (at start (codes "p")) (variable (start + 1) (codes "?x") ∷ []))
 
+-- (p o), in a goal, and its formula
+abbrev pub p_of_o : Formula
+p_of_o = parked.goal
+
+abbrev pub task_p_of_o : task.Formula
+task_p_of_o = fleet_task.goal
+
+-- what this goal says outright
+abbrev pub said_by : Formula → List Literal
+said_by goal = sure (task_of_trees fleet (with_goal goal)) (task_of_trees fleet (with_goal goal)).goal []
+
 -- (exists (?x ..) ..) with these types and this part
 abbrev pub some_x : List Name → Formula → Formula
 some_x types part = tree.exists (group (at 31 (codes "?x") ∷ []) types ∷ []) part
@@ -144,6 +158,12 @@ with_metric = record parked { metric = Some (total_cost 40) }
 -- (p t) as an effect, where t stands at the offset after it
 abbrev pub p_of : ℕ → Term → Effect
 p_of start t = tree.literal (tree.add (atom (at start (codes "p")) (t ∷ [])))
+
+-- which changes of (when CONDITION (p ?y)) are unconditional, where ?y is the constant
+abbrev pub unconditional_under : Formula → List Bool
+unconditional_under condition =
+    map is_unconditional (changes_of_instance (task_of_trees (with_effect (tree.when condition (tree.add (atom (at 50 (codes "p")) (variable 51 (codes "?y") ∷ [])) ∷ []))) parked)
+    (record { schema = 0; objects = 0 ∷ [] }))
 
 -- (forall (?x - v) ..)
 abbrev pub each_x : Effect → Effect
@@ -194,6 +214,18 @@ pub record AreTyped : Type 0 where
   pub quantified : (task_of_trees fleet (with_goal (tree.exists (group (at 31 (codes "?x") ∷ []) (at 32 (codes "v") ∷ []) ∷ group (at 33 (codes "?z") ∷ []) [] ∷ [])
       (tree.forall (group (at 34 (codes "?w") ∷ []) (at 35 (codes "t") ∷ []) ∷ []) (tree.equal (variable 36 (codes "?w")) (variable 37 (codes "?Z"))))))).goal
       ≡ task.exists (2 ∷ []) (task.exists (0 ∷ []) (task.forall (1 ∷ []) (task.equal (task.variable 2) (task.variable 1))))
+  -- One over no variable is an `or` of its part, or an `and`, and holds where the part does.
+  pub exists_of_none : (task_of_trees fleet (with_goal (tree.exists [] p_of_o))).goal ≡ task.or (task.more_formulas task_p_of_o task.no_formula)
+  pub forall_of_none : (task_of_trees fleet (with_goal (tree.forall [] p_of_o))).goal ≡ task.and (task.more_formulas task_p_of_o task.no_formula)
+  pub some_hold : (part : task.Formula) (binding : List ℕ) (state : State) → holds fleet_task (exists_over [] part) binding state ≡ holds fleet_task part binding state
+  pub all_hold : (part : task.Formula) (binding : List ℕ) (state : State) → holds fleet_task (forall_over [] part) binding state ≡ holds fleet_task part binding state
+  -- So `(exists () (p o))` says nothing outright, nor does `(not (forall () (p o)))`, while `(forall () (p o))` does.
+  pub exists_says_nothing : said_by (tree.exists [] p_of_o) ≡ []
+  pub not_forall_says_nothing : said_by (tree.not (tree.forall [] p_of_o)) ≡ []
+  pub forall_says : said_by (tree.forall [] p_of_o) ≡ is_true (record { predicate = 0; objects = 1 ∷ [] }) ∷ []
+  -- What stands under `(when (forall () (and)) ..)` is conditional, unlike what stands under `(when (and) ..)`.
+  pub under_forall : unconditional_under (tree.forall [] nothing) ≡ false ∷ []
+  pub under_and : unconditional_under nothing ≡ true ∷ []
   -- Its variable is known in it, with its types, and not after it.
   pub in_scope : faults_of fleet (with_goal (some_x (at 32 (codes "v") ∷ []) (p_of_x 33))) ≡ []
   pub of_the_root : faults_of fleet (with_goal (some_x [] (p_of_x 33))) ≡ fault problem_file 19 34 ∷ []
