@@ -1,6 +1,5 @@
--- What a planning task means: states, when a formula holds, what an action does.
--- The state after an action follows the untimed part of Fox & Long 2003, section 8, and its cost the action costs of 2008;
--- the rest is that of the PDDL 1.2 manual, "Domains", "Actions", "Goal descriptions", "Effects" and "Problems".
+-- What a planning task means: states, when a formula holds, what an action does (PDDL 1.2 manual, "Domains", "Actions",
+-- "Goal descriptions", "Effects", "Problems"; Fox & Long 2003, section 8, without time; action costs, 2008).
 use Rattle.std.specs.Prelude.{ℕ, Bool, true, false, ◌&&◌, ◌||◌, nat_eq, List, [], ◌∷◌, ◌++◌, length, map, filter, slice_get, slice_index, if◌then◌else◌, Option, None, Some}
 use Rattle.std.specs.List.{flat_map, list_all, list_any, range_with_len}
 use Rattle.std.specs.Option.{option_map_or, option_and_then}

@@ -1,5 +1,6 @@
--- Which resolved formulas, effects, atoms and tasks are well-typed: each number names something, each predicate has the
--- arguments that its declaration asks for, and the limits of the language profile are kept.
+-- Which resolved formulas, effects, atoms and tasks are well-typed (PDDL 1.2 manual, "Domains", "Actions", "Goal
+-- descriptions", "Effects", "Problems"): each number names something, each predicate has the arguments that its declaration
+-- asks for, and the limits of the language profile are kept.
 use Rattle.std.specs.Prelude.{Bool, true, false, ◌&&◌, nat_eq, nat_le, nat_lt, List, [], ◌∷◌, ◌++◌, length, slice_get}
 use Rattle.std.specs.Cmp.Lexicographic.{pointwise}
 use Rattle.std.specs.List.{list_all, list_any}
