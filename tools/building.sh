@@ -13,29 +13,32 @@ is_built_of() {
     [[ -x $1 && -f $1.built_of && $(<"$1.built_of") == "$2" ]]
 }
 
-building=
+building=''
+log=''
 
-# Ends what builds, if it still runs.
+# Ends what builds, if it still runs, and takes away what it said, unless that is to be read.
 leave_nothing() {
     [[ -z $building ]] || { kill "$building" && wait "$building"; } 2>/dev/null || true
-    building=
+    [[ -z $log ]] || rm -f "$log"
+    building=''
+    log=''
 }
 
 # Runs a command that builds a program, and keeps what it says where it fails.
 build() {
-    local log
-    log=$(mktemp -t "${0##*/}.XXXXXX")
     trap leave_nothing EXIT
     trap 'exit 129' HUP
     trap 'exit 130' INT
     trap 'exit 143' TERM
+    log=$(mktemp -t "${0##*/}.XXXXXX")
     "$@" >"$log" 2>&1 </dev/null &
     building=$!
     if ! wait "$building"; then
-        building=
+        building=''
         echo "${0##*/}: the build failed. What it said is in $log" >&2
+        log=''
         exit 1
     fi
-    building=
-    rm -f "$log"
+    building=''
+    leave_nothing
 }

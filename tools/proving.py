@@ -1,6 +1,6 @@
 """Calls the toolchain's compiler, which proves what it builds, on the crates of this repository: from nothing, each on one
 processor, side by side, with neither the locks of `rt` nor its sums of sources."""
-import contextlib, fcntl, hashlib, os, shutil, subprocess, sys, tempfile, time
+import contextlib, fcntl, hashlib, os, shutil, signal, subprocess, sys, tempfile, time
 
 from crates import PARTS, folder, is_program, libraries_of, rows_below
 
@@ -25,6 +25,20 @@ def lanes(room=ROOM):
     with open("/proc/meminfo", encoding="ascii") as text:
         free = next(1024 * int(it.split()[1]) for it in text if it.startswith("MemAvailable:"))
     return max(1, min(len(os.sched_getaffinity(0)), free // room))
+
+
+def leave_when_told():
+    """Has the first signal that ends this process end it by SystemExit, so that it ends what it has started and takes away its
+    files; further ones are of no account then."""
+    kinds = [it for it in (signal.SIGHUP, signal.SIGINT, signal.SIGTERM) if signal.getsignal(it) != signal.SIG_IGN]
+
+    def leave(number, _):
+        for it in kinds:
+            signal.signal(it, signal.SIG_IGN)
+        sys.exit(128 + number)
+
+    for it in kinds:
+        signal.signal(it, leave)
 
 
 @contextlib.contextmanager
