@@ -78,7 +78,7 @@ abbrev pub longest_line : ℕ
 longest_line = 16777216
 
 -- The line keeps the limits by itself, in a text of so many atoms: numbers are below 2 to the power 60, the constant and
--- weights are at most 2147483647 either way, names are names of a domain file in lower case (PDDL 1.2 manual, "Syntax") of
+-- weights are at most 2147483647 either way, names are names of a domain file in lower case (PDDL 1.2 manual, "Domains") of
 -- at most 255 bytes, the numbers of a state's atoms rise and are those of atoms, and the line is not too long.
 abbrev pub is_line : ℕ → TextLine → Bool
 is_line atom_count version = true

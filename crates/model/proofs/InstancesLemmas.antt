@@ -8,8 +8,7 @@ use Rattle.std.proofs.lemmas.Bool.{and_parts, and_from}
 use Rattle.std.proofs.lemmas.Option.{slice_get_within}
 use Rattle.std.proofs.lemmas.List.Elements.{Contains-append_left, Contains-append_right, Contains-append_cases}
 use Rattle.model.specs.Task.{Object, Union, Schema, Task, Instance}
-use Rattle.model.specs.Runs.{AreSuccessors}
-use Rattle.model.specs.Meaning.{State, is_below, is_of, objects_of, step, holds, after_changes, changes_of, is_instance, fits, system_of}
+use Rattle.model.specs.Meaning.{State, is_below, is_of, objects_of, step, holds, after_changes, changes_of, is_instance, fits}
 use Rattle.model.specs.Instances.{product, instances_of_schema, instances_from, all_instances, leading_to, successors_of}
 use Rattle.model.proofs.ListLemmas.{Contains-here, Contains-cases, Contains-none, Contains-map, map-Contains, Contains-flat_map, flat_map-Contains, Contains-filter_map, filter_map-Contains, Contains-filter, filter-Contains, Contains-range}
 
@@ -146,9 +145,3 @@ successors-Contains task state i next at =
     let known = filter_map-Contains (leading_to task state) (all_instances task) (i, next) at in
     let here = pair_of_option_map known.0 i (step task state known.0) next known.2 in
     subst (λ j. step task state j ≡ Some next) here.0 here.1
-
-pub successors-AreSuccessors : (task : Task) (state : State) (found : List (Instance × State)) → found ≡ successors_of task state → AreSuccessors (system_of task) state found
-successors-AreSuccessors task state found is = record {
-  sound = λ i next at. successors-Contains task state i next (subst (λ l. Contains {X = Instance × State} l (i, next)) is at);
-  complete = λ i next leads. subst (λ l. Contains {X = Instance × State} l (i, next)) (sym is) (Contains-successors task state i next leads);
-}

@@ -2,6 +2,7 @@ pub mod Atoms
 pub mod ListLemmas
 pub mod Pieces
 pub mod Tests
+pub mod Reachable
 pub mod ClaimsLemmas
 pub mod BisimulationLemmas
 pub mod BisimilarListings
@@ -30,6 +31,7 @@ pub mod GrammarOneRefusal
 pub mod GrammarNames
 pub mod GrammarExampleProofs
 pub mod TypingExampleProofs
+pub mod TypeDescent
 pub mod TypingFaultsLemmas
 pub mod TypingFaultsRepeats
 pub mod TypingFaultsVariables

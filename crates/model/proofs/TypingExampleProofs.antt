@@ -1,58 +1,120 @@
 -- What the definitions of typing say of the worked examples: each computes.
-use Rattle.std.proofs.Common.{refl}
-use Rattle.model.specs.TypingExamples.{AreTyped}
+use Rattle.std.proofs.Common.{◌≡◌, zero, suc, Bool, true, false, not, ◌&&◌, ◌||◌, List, [], ◌∷◌, refl, sym, subst, ◌∙◌, arith}
+use Rattle.std.specs.Prelude.{All, Contains}
+use Rattle.std.specs.List.{list_all}
+use Rattle.std.proofs.lemmas.Bool.{and_parts}
+use Rattle.model.specs.Meaning.{holds}
+use Rattle.model.specs.Trees.{Domain, Problem}
+use Rattle.model.specs.Typing.{TypingFault, is_before, faults_of}
+use Rattle.model.specs.TypingFaults.{Phase, IsFaultIn, IsWellTyped, IsTold}
+use Rattle.model.specs.TypingExamples.{fleet_task, IsOneOf, HasFaults, AreTyped}
+use Rattle.model.proofs.ListLemmas.{Contains-here, Contains-there}
+use Rattle.model.proofs.TypingFaultsLemmas.{fault_at, Tells}
+use Rattle.model.proofs.TypingFaultsPhases.{phase_tells, phase_listed}
+use Rattle.model.proofs.TypingFaultsTold.{well_typed, told, listed}
+
+or_false : (b : Bool) → (b || false) ≡ b
+or_false true = refl
+or_false false = refl
+
+and_true : (b : Bool) → (b && true) ≡ b
+and_true true = refl
+and_true false = refl
+
+-- ---- where the lists of faults compute, the table says so
+
+-- no fault of these is before this one
+none_before : (first : TypingFault) (faults : List TypingFault) → list_all (λ g. not (is_before g first)) faults ≡ true → All (λ g. is_before g first ≡ false) faults
+none_before first [] passes k g below = absurd (omega (arith, below))
+none_before first (x ∷ rest) passes zero g below = by (is_before x first) (and_parts (not (is_before x first)) _ passes).0
+  where
+    by : (b : Bool) → not b ≡ true → b ≡ false
+    by true passes = absurd (cc)
+    by false passes = refl
+none_before first (x ∷ rest) passes (suc k) g below = none_before first rest (and_parts (not (is_before x first)) _ passes).1 k g (omega (arith, below))
+
+without_faults : {d : Domain} {p : Problem} → faults_of d p ≡ [] → IsWellTyped d p
+without_faults {d} {p} none = well_typed d p none
+
+refused : {d : Domain} {p : Problem} {first : TypingFault} {others : List TypingFault} → faults_of d p ≡ first ∷ others → list_all (λ g. not (is_before g first)) (first ∷ others) ≡ true
+    → HasFaults d p first others
+refused {d} {p} {first} {others} is least = by (told d p first (record {
+  is_fault = subst (λ l. Contains l first) (sym is) (Contains-here first others);
+  is_least = subst (All (λ g. is_before g first ≡ false)) (sym is) (none_before first (first ∷ others) least);
+}))
+  where
+    one : (phase : Phase) (f : TypingFault) → Tells (IsFaultIn d p phase) f → IsOneOf d p phase f
+    one phase f tells = record { code = tells.code; word = tells.word; is_fault = tells.is_fault; is = tells.is }
+
+    by : IsTold d p first → HasFaults d p first others
+    by is_told =
+        let same = sym is ∙ listed d p first is_told in
+        record {
+          told = is_told;
+          each = λ f at. one is_told.phase f ((phase_tells d p is_told.phase).tells f (subst (λ l. Contains l f) same (Contains-there first others f at)));
+          no_more = λ code w fault. subst (λ l. Contains l (fault_at code w)) (sym same) (phase_listed d p is_told.phase code w fault);
+        }
 
 pub are_typed : AreTyped
 are_typed = record {
-  no_fault = refl;
+  no_fault = without_faults refl;
   its_task = refl;
-  type_again = refl;
-  unknown_parent = refl;
-  cycle = refl;
-  own_parent = refl;
-  object_again = refl;
-  supertype = refl;
-  one_of_two = refl;
-  both_fit = refl;
-  unknown_type = refl;
-  object_in_action = refl;
-  wrong_fact = refl;
-  other_domain = refl;
+  type_again = refused refl refl;
+  unknown_parent = refused refl refl;
+  cycle = refused refl refl;
+  own_parent = refused refl refl;
+  object_again = refused refl refl;
+  supertype = refused refl refl;
+  one_of_two = refused refl refl;
+  both_fit = without_faults refl;
+  unknown_type = refused refl refl;
+  object_in_action = refused refl refl;
+  wrong_fact = refused refl refl;
+  other_domain = refused refl refl;
   quantified = refl;
-  in_scope = refl;
-  of_the_root = refl;
-  out_of_scope = refl;
-  of_unknown_type = refl;
-  twice_in_a_list = refl;
-  as_a_parameter = refl;
-  as_one_around = refl;
-  as_one_before = refl;
-  sixteen = refl;
-  seventeen = refl;
-  of_two_types = refl;
-  unknown_terms = refl;
-  in_its_part = refl;
-  of_another_type = refl;
-  after_its_part = refl;
-  of_a_type_unknown = refl;
-  twice_in_its_list = refl;
-  as_the_parameter = refl;
-  in_one_another = refl;
-  one_too_many = refl;
-  under_a_condition = refl;
-  cost_declared_again = refl;
-  metric_of_nothing = refl;
-  metric_of_the_cost = refl;
-  before_the_actions = refl;
-  increase_of_nothing = refl;
-  increases_again = refl;
-  starts_at_nothing = refl;
-  starts_at_one = refl;
-  starts_again = refl;
-  start_of_nothing = refl;
-  start_of_nothing_at_one = refl;
+  exists_of_none = refl;
+  forall_of_none = refl;
+  some_hold = λ part binding state. or_false (holds fleet_task part binding state);
+  all_hold = λ part binding state. and_true (holds fleet_task part binding state);
+  exists_says_nothing = refl;
+  not_forall_says_nothing = refl;
+  forall_says = refl;
+  under_forall = refl;
+  under_and = refl;
+  in_scope = without_faults refl;
+  of_the_root = refused refl refl;
+  out_of_scope = refused refl refl;
+  of_unknown_type = refused refl refl;
+  twice_in_a_list = refused refl refl;
+  as_a_parameter = refused refl refl;
+  as_one_around = refused refl refl;
+  as_one_before = without_faults refl;
+  sixteen = without_faults refl;
+  seventeen = refused refl refl;
+  of_two_types = without_faults refl;
+  unknown_terms = refused refl refl;
+  in_its_part = without_faults refl;
+  of_another_type = refused refl refl;
+  after_its_part = refused refl refl;
+  of_a_type_unknown = refused refl refl;
+  twice_in_its_list = refused refl refl;
+  as_the_parameter = refused refl refl;
+  in_one_another = refused refl refl;
+  one_too_many = refused refl refl;
+  under_a_condition = refused refl refl;
+  cost_declared_again = refused refl refl;
+  metric_of_nothing = refused refl refl;
+  metric_of_the_cost = without_faults refl;
+  before_the_actions = refused refl refl;
+  increase_of_nothing = refused refl refl;
+  increases_again = refused refl refl;
+  starts_at_nothing = without_faults refl;
+  starts_at_one = refused refl refl;
+  starts_again = refused refl refl;
+  start_of_nothing = refused refl refl;
+  start_of_nothing_at_one = refused refl refl;
   its_effect = refl;
-  without_fault = refl;
+  without_fault = without_faults refl;
   its_cost = refl;
   has_its_metric = refl;
   has_no_metric = refl;

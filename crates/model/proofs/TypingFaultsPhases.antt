@@ -1,14 +1,16 @@
 -- The faults that are listed of a phase are those that the table has of it.
-use Rattle.std.proofs.Common.{◌≡◌, ℕ, zero, suc, ◌+◌, inl, inr, Bool, true, false, ◌||◌, true≢false, List, [], ◌∷◌, ◌++◌, map, drop, Option, None, Some, refl, sym, ap, subst, arith}
-use Rattle.std.specs.Prelude.{Contains, codes, slice_get, is_some, ◌==◌, if◌then◌else◌}
+use Rattle.std.proofs.Common.{◌≡◌, ℕ, zero, suc, ◌+◌, ◌<◌, length, inl, inr, Bool, true, false, ◌||◌, true≢false, List, [], ◌∷◌, ◌++◌, map, drop, Option, None, Some, refl, sym, subst, arith}
+use Rattle.std.specs.Prelude.{Contains, codes, slice_get, ◌==◌, if◌then◌else◌}
 use Rattle.std.specs.List.{flat_map}
 use Rattle.std.specs.Option.{option_map_or}
 use Rattle.std.proofs.lemmas.Bool.{or_cases, or_left, eqb-false, ne_eqb}
+use Rattle.std.proofs.lemmas.List.{length-map}
 use Rattle.model.specs.Trees.{domain_file, problem_file, Name, Domain, Problem}
 use Rattle.model.specs.Trees as tree
-use Rattle.model.specs.Typing.{Declared, Placed, placed, words_of, folded, is_same, declared_types, declared_objects, type_names, parents_of, declares_cost, known_in_domain, known_in_problem, equals_in, TypingFault, refused, refused_word, repeated_after, repeated, one_after, type_faults, domain_name_faults, type_declaration_faults, comes_back, cycle_faults_from, cycle_faults, object_faults, argument_faults, declaration_faults, variable_faults, increase_words, body_faults, schema_faults, action_faults, formula_faults, effect_faults, fact_faults, init_faults, function_faults}
+use Rattle.model.specs.Typing.{Declared, Placed, placed, words_of, folded, is_same, declared_types, declared_objects, type_names, type_in, parents_of, DescendsFromItself, declares_cost, known_in_domain, known_in_problem, equals_in, TypingFault, refused, refused_word, repeated_after, repeated, one_after, type_faults, domain_name_faults, type_declaration_faults, comes_back, cycle_faults_from, cycle_faults, object_faults, argument_faults, declaration_faults, variable_faults, increase_words, body_faults, schema_faults, action_faults, formula_faults, effect_faults, fact_faults, init_faults, function_faults}
 use Rattle.model.specs.TypingFaults.{Phase, of_names, of_cycles, of_objects, of_predicates, of_functions, of_actions, of_init, of_goal, predicate_words, action_words, arguments_of, parameters_of, known_in, as_atom, IsRepeated, IsFaultIn, other_domain, type_again, object_declared, unknown_parent, many_types, type_cycle, type_of_object, object_again, many_objects, predicate_again, type_of_argument, many_arguments, function_again, metric_undeclared, action_again, of_parameters, in_precondition, in_effect, increase_undeclared, increase_again, in_init, cost_undeclared, cost_not_zero, cost_again, negated, in_goal}
 use Rattle.model.proofs.ListLemmas.{Contains-here, Contains-there, Contains-none, Contains-got, Contains-place, Contains-map, map-Contains, Contains-flat_map}
+use Rattle.model.proofs.TypeDescent.{comes_back_from, descends_from_itself}
 use Rattle.model.proofs.TypingFaultsLemmas.{fault_at, Tells, AllTell, none_tells, both_tell, one_tells, flat_map_tell, refused_tell, unless_tells, when_tells, types_tell, on_left, on_right, unless_listed, when_listed, refused_listed, type_listed, Contains-one_after, one_after-Contains}
 use Rattle.model.proofs.TypingFaultsRepeats.{repeated_after-Contains, repeated-Contains, repeated_listed, known_listed}
 use Rattle.model.proofs.TypingFaultsVariables.{variables_tell, variable_listed}
@@ -56,27 +58,30 @@ map_of_later : {X Y : Type 0} (f : X → Y) (xs : List X) (place : ℕ) (x : X) 
 map_of_later f [] place x at = absurd (cc)
 map_of_later f (first ∷ rest) place x at = Contains-map f rest x (Contains-later (first ∷ rest) place x at)
 
--- the total cost is declared where a word declares it
-declared_not : (d : Domain) → declares_cost d ≡ false → d.functions ≡ []
-declared_not d none = by_words d.functions none
-  where
-    by_words : (words : List Name) → is_some (slice_get words 0) ≡ false → words ≡ []
-    by_words [] none = refl
-    by_words (word ∷ words) none = absurd (cc)
-
-not_declared : (d : Domain) → d.functions ≡ [] → declares_cost d ≡ false
-not_declared d none = ap (λ (words : List Name). is_some (slice_get words 0)) none
-
 -- ---- cycles of types
 
--- a type that comes back, where the first of the declarations has this number
-cycles_tell : {table : ℕ → Placed → Type 0} (parents : List ℕ) (number : ℕ) (xs : List Declared)
-    → ((place : ℕ) (w : Placed) → slice_get (words_of xs) place ≡ Some w → comes_back parents (place + number) ≡ true → table 15 w)
+-- these types follow those that have lower numbers, and `object` is its own parent
+record AreNumbered (parents : List ℕ) (number : ℕ) (xs : List Declared) : Type 0 where
+  pub count : length parents ≡ number + length xs
+  pub positive : 0 < number
+  pub root : slice_get parents 0 ≡ Some 0
+
+after_first : (parents : List ℕ) (number : ℕ) (x : Declared) (xs : List Declared) → AreNumbered parents number (x ∷ xs) → AreNumbered parents (number + 1) xs
+after_first parents number x xs are = record { count = omega (arith, are.count); positive = omega (arith, are.positive); root = are.root }
+
+-- the types of the domain do, from 1 on
+types_numbered : (d : Domain) → AreNumbered (parents_of d) 1 (declared_types d)
+types_numbered d = record { count = omega (arith, length-map (declared_types d) (λ (x : Declared). type_in (type_names d) x.types)); positive = omega arith; root = refl }
+
+-- a type that descends from itself, where the first of the declarations has this number
+cycles_tell : {table : ℕ → Placed → Type 0} (parents : List ℕ) (number : ℕ) (xs : List Declared) → AreNumbered parents number xs
+    → ((place : ℕ) (w : Placed) → slice_get (words_of xs) place ≡ Some w → DescendsFromItself parents (place + number) → table 15 w)
     → AllTell table (cycle_faults_from parents number xs)
-cycles_tell parents number [] fault = none_tells
-cycles_tell {table} parents number (x ∷ xs) fault =
-    both_tell (when_tells (comes_back parents number) 15 (placed x.file x.name) (λ back. fault 0 (placed x.file x.name) refl (subst (λ n. comes_back parents n ≡ true) first back)))
-    (cycles_tell parents (number + 1) xs (λ place w at back. fault (suc place) w at (subst (λ n. comes_back parents n ≡ true) (next place) back)))
+cycles_tell parents number [] are fault = none_tells
+cycles_tell {table} parents number (x ∷ xs) are fault =
+    both_tell (when_tells (comes_back parents number) 15 (placed x.file x.name) (λ back. fault 0 (placed x.file x.name) refl
+    (subst (DescendsFromItself parents) first (descends_from_itself parents number are.positive (omega (arith, are.count)) back))))
+    (cycles_tell parents (number + 1) xs (after_first parents number x xs are) (λ place w at back. fault (suc place) w at (subst (DescendsFromItself parents) (next place) back)))
   where
     first : number ≡ 0 + number
     first = omega arith
@@ -85,18 +90,18 @@ cycles_tell {table} parents number (x ∷ xs) fault =
     next place = omega arith
 
 -- and the other way
-cycle_listed : (parents : List ℕ) (number : ℕ) (xs : List Declared) (place : ℕ) (w : Placed) → slice_get (words_of xs) place ≡ Some w → comes_back parents (place + number) ≡ true
+cycle_listed : (parents : List ℕ) (number : ℕ) (xs : List Declared) → AreNumbered parents number xs → (place : ℕ) (w : Placed) → slice_get (words_of xs) place ≡ Some w → DescendsFromItself parents (place + number)
     → Contains (cycle_faults_from parents number xs) (fault_at 15 w)
-cycle_listed parents number [] place w at back = absurd (cc)
-cycle_listed parents number (x ∷ xs) zero w at back =
+cycle_listed parents number [] are place w at back = absurd (cc)
+cycle_listed parents number (x ∷ xs) are zero w at back =
     let same : placed x.file x.name ≡ w = cc in
     let first : 0 + number ≡ number = omega arith in
     on_left _ _ (subst (λ (v : Placed). Contains (if comes_back parents number then fault_at 15 v ∷ [] else []) (fault_at 15 w)) (sym same)
-    (when_listed (comes_back parents number) (fault_at 15 w) (subst (λ n. comes_back parents n ≡ true) first back)))
-cycle_listed parents number (x ∷ xs) (suc place) w at back =
+    (when_listed (comes_back parents number) (fault_at 15 w) (comes_back_from parents are.root number are.positive (subst (DescendsFromItself parents) first back))))
+cycle_listed parents number (x ∷ xs) are (suc place) w at back =
     let next : suc place + number ≡ place + (number + 1) = omega arith in
     on_right (if comes_back parents number then refused_word x.file 15 x.name else []) _
-    (cycle_listed parents (number + 1) xs place w at (subst (λ n. comes_back parents n ≡ true) next back))
+    (cycle_listed parents (number + 1) xs (after_first parents number x xs are) place w at (subst (DescendsFromItself parents) next back))
 
 -- ---- each fault of a phase's list is of the table
 
@@ -145,7 +150,7 @@ functions_tell d p = both_tell (refused_tell _ _ again) (by_metric p.metric refl
 
     by_metric : (metric : Option Name) → p.metric ≡ metric → AllTell (IsFaultIn d p of_functions) (option_map_or (λ n. if declares_cost d then [] else refused_word problem_file 22 n) metric [])
     by_metric None is = none_tells
-    by_metric (Some n) is = unless_tells (declares_cost d) 22 (placed problem_file n) (λ none. metric_undeclared n is (declared_not d none))
+    by_metric (Some n) is = unless_tells (declares_cost d) 22 (placed problem_file n) (λ none. metric_undeclared n is none)
 
 -- the words `increase` of one action
 increase_tells : (d : Domain) (p : Problem) (a : tree.Action) → Contains d.actions a → (w : Placed)
@@ -158,7 +163,7 @@ increase_tells d p a among w at = by_declared (declares_cost d) refl at
         subst (IsFaultIn d p of_actions 23) there.3 (increase_again a there.0 there.1 among there.2)
     by_declared false is at =
         let there = map-Contains (λ (i : tree.Increase). placed domain_file i.word) a.increases w at in
-        subst (IsFaultIn d p of_actions 23) there.2 (increase_undeclared a there.0 among there.1 (declared_not d is))
+        subst (IsFaultIn d p of_actions 23) there.2 (increase_undeclared a there.0 among there.1 is)
 
 -- the faults of one action
 schema_tells : (d : Domain) (p : Problem) (a : tree.Action) → Contains d.actions a → AllTell (IsFaultIn d p of_actions) (schema_faults (known_in_domain d) a)
@@ -181,7 +186,7 @@ fact_tells d p (tree.fact a) among =
     (atom_tells problem_file (known_in_problem d p) (as_atom a) (λ code w fault. in_init a code w among fault))
 fact_tells d p (tree.negated word a) among = one_tells 24 (placed problem_file word) (negated word a among)
 fact_tells d p (tree.initial_cost c) among =
-    both_tell (unless_tells (declares_cost d) 23 (placed problem_file c.function) (λ none. cost_undeclared c among (declared_not d none)))
+    both_tell (unless_tells (declares_cost d) 23 (placed problem_file c.function) (λ none. cost_undeclared c among none))
     (unless_tells (c.amount == 0) 23 (placed problem_file c.number) (λ other. cost_not_zero c among (eqb-false c.amount 0 other)))
 
 init_tells : (d : Domain) (p : Problem) → AllTell (IsFaultIn d p of_init) (phase_faults d p of_init)
@@ -192,7 +197,7 @@ init_tells d p =
 -- each phase; 2, the cycles of types, and 8, the goal, at once
 pub phase_tells : (d : Domain) (p : Problem) (phase : Phase) → AllTell (IsFaultIn d p phase) (phase_faults d p phase)
 phase_tells d p of_names = names_tell d p
-phase_tells d p of_cycles = cycles_tell (parents_of d) 1 (declared_types d) type_cycle
+phase_tells d p of_cycles = cycles_tell (parents_of d) 1 (declared_types d) (types_numbered d) type_cycle
 phase_tells d p of_objects = objects_tell d p
 phase_tells d p of_predicates = predicates_tell d p
 phase_tells d p of_functions = functions_tell d p
@@ -274,7 +279,7 @@ phase_listed d p phase code w (unknown_parent v has unknown) =
     on_right (domain_name_faults d p) _ (on_left _ _ (on_right (types_again d) _ (type_listed (type_names d) (declared_types d) v has unknown)))
 phase_listed d p phase code w (many_types v at) =
     on_right (domain_name_faults d p) _ (on_right (types_again d ++ type_faults (type_names d) (declared_types d)) _ (one_too_many_listed 4095 (words_of_types d) v at))
-phase_listed d p phase code w (type_cycle place v at back) = cycle_listed (parents_of d) 1 (declared_types d) place v at back
+phase_listed d p phase code w (type_cycle place v at back) = cycle_listed (parents_of d) 1 (declared_types d) (types_numbered d) place v at back
 phase_listed d p phase code w (type_of_object v has unknown) = on_left _ _ (on_left _ _ (type_listed (type_names d) (declared_objects d p) v has unknown))
 phase_listed d p phase code w (object_again v again) = on_left _ _ (on_right (type_faults (type_names d) (declared_objects d p)) _ (again_listed v again))
 phase_listed d p phase code w (many_objects v at) =
@@ -289,7 +294,7 @@ phase_listed d p phase code w (function_again place n at) =
 phase_listed d p phase code w (metric_undeclared n is none) =
     on_right (refused 16 (drop 1 (map (placed domain_file) d.functions))) _
     (subst (λ metric. Contains (option_map_or (λ m. if declares_cost d then [] else refused_word problem_file 22 m) metric []) (fault_at 22 (placed problem_file n))) (sym is)
-    (unless_listed (declares_cost d) (fault_at 22 (placed problem_file n)) (not_declared d none)))
+    (unless_listed (declares_cost d) (fault_at 22 (placed problem_file n)) none))
 phase_listed d p phase code w (action_again v again) = on_left _ _ (again_listed v again)
 phase_listed d p phase code w (of_parameters a number v among fault) =
     in_action d p a among (on_left _ _ (variable_listed (known_in_domain d) (parameters_of a) number v fault))
@@ -299,7 +304,7 @@ phase_listed d p phase code w (in_effect a number v among fault) =
     in_body d p a among (on_left _ _ (on_right (formula_faults domain_file (known_in d a) a.precondition) _ (effect_listed domain_file (known_in d a) a.effect number v fault)))
 phase_listed d p phase code w (increase_undeclared a i among at none) =
     in_increases d p a (placed domain_file i.word) among
-    (subst (λ b. Contains (drop (if b then 1 else 0) (increase_words domain_file a)) (placed domain_file i.word)) (sym (not_declared d none))
+    (subst (λ b. Contains (drop (if b then 1 else 0) (increase_words domain_file a)) (placed domain_file i.word)) (sym none)
     (Contains-map (λ (j : tree.Increase). placed domain_file j.word) a.increases i at))
 phase_listed d p phase code w (increase_again a place i among at) =
     in_increases d p a (placed domain_file i.word) among
@@ -309,7 +314,7 @@ phase_listed d p phase code w (in_init a number v among fault) =
     (subst (λ faults. Contains faults (fault_at number v)) (sym (ground_atom_as_atom problem_file (known_in_problem d p) a))
     (atom_listed problem_file (known_in_problem d p) (as_atom a) number v fault))
 phase_listed d p phase code w (cost_undeclared c among none) =
-    in_facts d p (tree.initial_cost c) among (on_left _ _ (unless_listed (declares_cost d) (fault_at 23 (placed problem_file c.function)) (not_declared d none)))
+    in_facts d p (tree.initial_cost c) among (on_left _ _ (unless_listed (declares_cost d) (fault_at 23 (placed problem_file c.function)) none))
 phase_listed d p phase code w (cost_not_zero c among other) =
     in_facts d p (tree.initial_cost c) among
     (on_right (if declares_cost d then [] else refused_word problem_file 23 c.function) _

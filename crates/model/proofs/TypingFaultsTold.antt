@@ -8,7 +8,7 @@ use Rattle.std.proofs.lemmas.Cmp.{ranked}
 use Rattle.std.proofs.lemmas.List.Elements.{All-contains_itself}
 use Rattle.model.specs.Fault.{Span}
 use Rattle.model.specs.Trees.{File, Domain, Problem}
-use Rattle.model.specs.Typing.{Placed, TypingFault, rank_of, key_of, is_before, phases, first_filled, faults_of, IsLeastFault}
+use Rattle.model.specs.Typing.{Placed, TypingFault, rank_of, key_of, is_before, phases, first_filled, faults_of, IsLeastOf}
 use Rattle.model.specs.Typing as typing
 use Rattle.model.specs.TypingFaults.{Phase, of_names, of_cycles, of_objects, of_predicates, of_functions, of_actions, of_init, of_goal, order_of, IsFaultIn, IsWellTyped, ComesNoLater, IsTold}
 use Rattle.model.proofs.ListLemmas.{Contains-here, Contains-none}
@@ -111,11 +111,11 @@ empty_phase d p phase none = by_list (phase_faults d p phase) refl
 -- ---- well-typed pairs
 
 -- where no fault is listed, no word is refused
-pub well_typed : (d : Domain) (p : Problem) → typing.IsWellTyped d p → IsWellTyped d p
+pub well_typed : (d : Domain) (p : Problem) → typing.ListsNoFault d p → IsWellTyped d p
 well_typed d p none phase = no_fault d p phase (each_empty (phases d p) none (order_of phase) (phase_faults d p phase) (phase_at d p phase))
 
 -- and where none is, no fault is listed
-pub well_typed_listed : (d : Domain) (p : Problem) → IsWellTyped d p → typing.IsWellTyped d p
+pub well_typed_listed : (d : Domain) (p : Problem) → IsWellTyped d p → typing.ListsNoFault d p
 well_typed_listed d p none = none_filled (phases d p) (λ k faults at.
     let here = phase_of d p k faults at in
     sym here.is ∙ empty_phase d p here.phase (none here.phase))
@@ -174,7 +174,11 @@ not_before code w other v (inr (same, inr (alike, number))) =
 of_all : (P : TypingFault → Type 0) (faults : List TypingFault) (f : TypingFault) → All P faults → Contains faults f → P f
 of_all P faults f all at = subst P at.2 (all at.0 f at.1)
 
--- the least of the listed faults is told
+-- the least of the faults that are listed
+abbrev pub IsLeastFault : Domain → Problem → TypingFault → Type 0
+IsLeastFault d p f = IsLeastOf (faults_of d p) f
+
+-- it is told
 pub told : (d : Domain) (p : Problem) (f : TypingFault) → IsLeastFault d p f → IsTold d p f
 told d p f least = by_phase (filled (phases d p) f least.is_fault)
   where
@@ -198,38 +202,39 @@ told d p f least = by_phase (filled (phases d p) f least.is_fault)
         let tells = (phase_tells d p here.phase).tells f (subst (λ l. Contains l f) (sym here.is) least.is_fault) in
         subst (IsTold d p) tells.is (by_fault first here tells)
 
--- and what is told is the least of the listed faults
-pub told_least : (d : Domain) (p : Problem) (f : TypingFault) → IsTold d p f → IsLeastFault d p f
-told_least d p f is_told = record {
-  is_fault = subst (λ l. Contains l f) (sym listed) at;
-  is_least = λ k g below. least (faults_of d p) listed k g below;
-}
-  where
-    same : fault_at f.fault.code is_told.word ≡ f
-    same = sym (ap (λ (file : File). let g : TypingFault = record { file = file; fault = f.fault } in g) is_told.file
-        ∙ ap (λ (span : Span). let g : TypingFault = record { file = is_told.word.file; fault = record { code = f.fault.code; span = span } } in g) is_told.span)
+-- and what is told is the least of the listed faults, which are those of its phase
+module _ (d : Domain) (p : Problem) (f : TypingFault) (is_told : IsTold d p f) where
+  same : fault_at f.fault.code is_told.word ≡ f
+  same = sym (ap (λ (file : File). let g : TypingFault = record { file = file; fault = f.fault } in g) is_told.file
+      ∙ ap (λ (span : Span). let g : TypingFault = record { file = is_told.word.file; fault = record { code = f.fault.code; span = span } } in g) is_told.span)
 
-    at : Contains (phase_faults d p is_told.phase) f
-    at = subst (Contains (phase_faults d p is_told.phase)) same (phase_listed d p is_told.phase f.fault.code is_told.word is_told.is_fault)
+  at : Contains (phase_faults d p is_told.phase) f
+  at = subst (Contains (phase_faults d p is_told.phase)) same (phase_listed d p is_told.phase f.fault.code is_told.word is_told.is_fault)
 
-    before : EmptyBefore (phases d p) (order_of is_told.phase)
-    before k faults earlier here =
-        let of = phase_of d p k faults here in
-        sym of.is ∙ empty_phase d p of.phase (λ code w. is_told.is_first_phase of.phase code w (subst (λ n. n < order_of is_told.phase) (sym of.number) earlier))
+  before : EmptyBefore (phases d p) (order_of is_told.phase)
+  before k faults earlier here =
+      let of = phase_of d p k faults here in
+      sym of.is ∙ empty_phase d p of.phase (λ code w. is_told.is_first_phase of.phase code w (subst (λ n. n < order_of is_told.phase) (sym of.number) earlier))
 
-    listed : faults_of d p ≡ phase_faults d p is_told.phase
-    listed = first_filled_is (phases d p) (order_of is_told.phase) (phase_faults d p is_told.phase) f (phase_at d p is_told.phase) at before
+  pub listed : faults_of d p ≡ phase_faults d p is_told.phase
+  listed = first_filled_is (phases d p) (order_of is_told.phase) (phase_faults d p is_told.phase) f (phase_at d p is_told.phase) at before
 
-    not_less : (g : TypingFault) → Contains (phase_faults d p is_told.phase) g → is_before g f ≡ false
-    not_less g among =
-        let tells = (phase_tells d p is_told.phase).tells g among in
-        subst (λ h. is_before h f ≡ false) tells.is (subst (λ h. is_before (fault_at tells.code tells.word) h ≡ false) same
-        (not_before f.fault.code is_told.word tells.code tells.word (is_told.comes_first tells.code tells.word tells.is_fault)))
+  not_less : (g : TypingFault) → Contains (phase_faults d p is_told.phase) g → is_before g f ≡ false
+  not_less g among =
+      let tells = (phase_tells d p is_told.phase).tells g among in
+      subst (λ h. is_before h f ≡ false) tells.is (subst (λ h. is_before (fault_at tells.code tells.word) h ≡ false) same
+      (not_before f.fault.code is_told.word tells.code tells.word (is_told.comes_first tells.code tells.word tells.is_fault)))
 
-    least : (faults : List TypingFault) → faults ≡ phase_faults d p is_told.phase → All (λ g. is_before g f ≡ false) faults
-    least faults is k g below =
-        let at_place = slice_index_or faults k g in
-        not_less at_place (subst (λ l. Contains l at_place) is (All-contains_itself faults k g below))
+  least : (faults : List TypingFault) → faults ≡ phase_faults d p is_told.phase → All (λ g. is_before g f ≡ false) faults
+  least faults is k g below =
+      let at_place = slice_index_or faults k g in
+      not_less at_place (subst (λ l. Contains l at_place) is (All-contains_itself faults k g below))
+
+  pub told_least : IsLeastFault d p f
+  told_least = record {
+    is_fault = subst (λ l. Contains l f) (sym listed) at;
+    is_least = λ k g below. least (faults_of d p) listed k g below;
+  }
 
 -- no fault is told of a well-typed pair
 pub one_told : (d : Domain) (p : Problem) (f : TypingFault) → IsWellTyped d p → IsTold d p f → ⊥

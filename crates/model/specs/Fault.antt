@@ -6,6 +6,7 @@ pub record Span : Type 0 where
   pub start : ℕ
   pub end : ℕ
 
+-- a refusal: its number, and its place
 pub record Fault : Type 0 where
   pub code : ℕ
   pub span : Span

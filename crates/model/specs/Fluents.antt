@@ -1,5 +1,5 @@
 -- Which predicates change: one is fluent where some action adds or deletes an atom of it, and else static. The static
--- atoms that are true at the start are true in every reachable state, and no others ever are.
+-- atoms that are true at the start are true in every reachable state, and no other static atom is true in any.
 use Rattle.std.specs.Prelude.{◌≡◌, ℕ, Bool, false, not, ◌||◌, ◌&&◌, ◌==◌, List, filter}
 use Rattle.std.specs.List.{list_any}
 use Rattle.std.specs.FinSet.{contains}

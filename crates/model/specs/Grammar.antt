@@ -1,7 +1,8 @@
--- The grammar of domain and problem files (PDDL 1.2 manual, appendix: BNF; the language profile "ADL
--- with action costs"). It is a simple one in the sense of Korenjak and Hopcroft (1966): each production begins with a word, and no
--- two productions of a nonterminal begin with the same one. So it is given as a function, `after`: where this is wanted
--- and this word comes, what has to follow, and of which tree.
+-- The grammar of domain and problem files (PDDL 1.2 manual, "Domains", "Actions", "Goal descriptions", "Effects",
+-- "Problems": their BNF; action costs, 2008; the language profile "ADL with action costs"). It is a simple one in the sense
+-- of Korenjak and Hopcroft (1966): each production begins with a word, and no two productions of a nonterminal begin with
+-- the same one. So it is given as a function, `after`: where this is wanted and this word comes, what has to follow, and of
+-- which tree.
 use Rattle.std.specs.Prelude.{◌≡◌, ℕ, Bool, true, false, List, [], ◌∷◌, ◌++◌, fold, Option, None, Some, cond, ⊤}
 use Rattle.std.specs.List.{list_all, list_any}
 use Rattle.std.specs.Option.{option_map}
@@ -481,9 +482,11 @@ mutual
 abbrev pub IsFile : File → List Token → Tree → Type 0
 IsFile f w t = Derives (file f) w t []
 
+-- the words are this domain
 abbrev pub IsDomain : List Token → Domain → Type 0
 IsDomain w d = IsFile domain_file w (domain_tree d)
 
+-- the words are this problem
 abbrev pub IsProblem : List Token → Problem → Type 0
 IsProblem w p = IsFile problem_file w (problem_tree p)
 

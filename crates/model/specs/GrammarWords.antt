@@ -8,7 +8,8 @@ use Rattle.model.specs.Words as words
 use Rattle.model.specs.Trees.{Name}
 use Rattle.model.specs.Limits.{max_number}
 
--- a name that may be a predicate's: one that the grammar asks for somewhere, or any other
+-- a name that may be a predicate's: one that the grammar asks for somewhere, `maximize`, which is refused by a number of
+-- its own in `:metric`, or any other
 pub data FreeName : Type 0 where
   define : FreeName
   domain : FreeName
@@ -53,6 +54,7 @@ pub data PartKeyword : Type 0 where
   precondition : PartKeyword
   effect : PartKeyword
 
+-- a keyword: of a section, of a part, or of neither
 pub data Keyword : Type 0 where
   of_section : SectionKeyword → Keyword
   of_part : PartKeyword → Keyword
@@ -76,6 +78,7 @@ pub data Token : Type 0 where
   number : ℕ → Name → Token
   large_number : Token
 
+-- the word as a name of the trees
 abbrev pub name_from : Word → Name
 name_from w = record { text = w.text; span = record { start = w.start; end = end_of w } }
 
@@ -83,12 +86,15 @@ name_from w = record { text = w.text; span = record { start = w.start; end = end
 abbrev pub is_among : List ℕ → List (List ℕ) → Bool
 is_among text list = list_any (bytes_eq text) list
 
+-- the names of forms that are left out
 abbrev pub left_out_names : List (List ℕ)
 left_out_names = codes "preference" ∷ codes "assign" ∷ codes "decrease" ∷ codes "scale-up" ∷ codes "scale-down" ∷ []
 
+-- the keys that `:requirements` may have
 abbrev pub requirement_keys : List (List ℕ)
 requirement_keys = codes ":strips" ∷ codes ":typing" ∷ codes ":equality" ∷ codes ":negative-preconditions" ∷ codes ":disjunctive-preconditions" ∷ codes ":existential-preconditions" ∷ codes ":universal-preconditions" ∷ codes ":quantified-preconditions" ∷ codes ":conditional-effects" ∷ codes ":adl" ∷ codes ":action-costs" ∷ codes ":fluents" ∷ codes ":numeric-fluents" ∷ []
 
+-- the keywords of sections and parts that are left out
 abbrev pub left_out_keywords : List (List ℕ)
 left_out_keywords = codes ":durative-action" ∷ codes ":derived" ∷ codes ":constraints" ∷ codes ":axiom" ∷ codes ":safety" ∷ codes ":timeless" ∷ codes ":extends" ∷ codes ":situation" ∷ codes ":length" ∷ codes ":vars" ∷ codes ":duration" ∷ codes ":condition" ∷ codes ":expansion" ∷ codes ":method" ∷ []
 
@@ -143,6 +149,7 @@ keyword_of text =
 abbrev pub number_of_digits : List ℕ → ℕ
 number_of_digits digits = fold (λ n digit. n * 10 + (digit - 48)) 0 digits
 
+-- a number, unless it is too large
 abbrev pub number_from : ℕ → Name → Token
 number_from n word = if nat_le n max_number then number n word else large_number
 
@@ -157,6 +164,7 @@ token_from words.equals text n = equals n
 token_from words.opens text n = opens
 token_from words.closes text n = closes
 
+-- what a word is to the grammar
 abbrev pub token_of : Word → Token
 token_of w = token_from w.kind (str_to_ascii_lowercase w.text) (name_from w)
 

@@ -1,6 +1,6 @@
 -- What a planning task means: states, when a formula holds, what an action does.
--- The state after an action follows Fox & Long 2003, section 8 (the untimed part), its cost the action costs of 2008; the
--- rest is that of the PDDL 1.2 manual for types, actions with parameters, formulas and effects.
+-- The state after an action follows the untimed part of Fox & Long 2003, section 8, and its cost the action costs of 2008;
+-- the rest is that of the PDDL 1.2 manual, "Domains", "Actions", "Goal descriptions", "Effects" and "Problems".
 use Rattle.std.specs.Prelude.{ℕ, Bool, true, false, ◌&&◌, ◌||◌, nat_eq, List, [], ◌∷◌, ◌++◌, length, map, filter, slice_get, slice_index, if◌then◌else◌, Option, None, Some}
 use Rattle.std.specs.List.{flat_map, list_all, list_any, range_with_len}
 use Rattle.std.specs.Option.{option_map_or, option_and_then}
@@ -17,7 +17,7 @@ abbrev pub atom_cmp : Atom → Atom → Ordering
 atom_cmp a b = slice_cmp nat_cmp (a.predicate ∷ a.objects) (b.predicate ∷ b.objects)
 
 -- A state is the finite set of the atoms that are true in it; every other atom is false
--- (PDDL 1.2 manual, "Initial situation": closed world; Fox & Long 2003, section 8).
+-- (PDDL 1.2 manual, "Problems": what `:init` does not say is false; Fox & Long 2003, section 8).
 abbrev pub State : Type 0
 State = FinSet atom_cmp
 
@@ -58,13 +58,14 @@ abbrev pub object_of : List ℕ → Term → ℕ
 object_of binding (variable parameter) = slice_index binding parameter
 object_of binding (object number) = number
 
+-- the atom of these objects
 abbrev pub ground_atom : List ℕ → LiftedAtom → Atom
 ground_atom binding a = record { predicate = a.predicate; objects = map (object_of binding) a.terms }
 
--- A formula of the task holds in a state where the variables have these objects: an atom where it is in the state, an
--- equality where both terms name one object, `and`, `or`, `not` and `imply` as in logic, so `(and)` always and `(or)` never.
--- `exists` and `forall` go over the objects of the variable's types: where there is none, `exists` is false and `forall`
--- true.
+-- A formula of the task holds in a state where the variables have these objects (PDDL 1.2 manual, "Goal
+-- descriptions"): an atom where it is in the state, an equality where both terms name one object, `and`, `or`, `not` and
+-- `imply` as in logic, so `(and)` always and `(or)` never. `exists` and `forall` go over the objects of the variable's
+-- types: where there is none, `exists` is false and `forall` true.
 abbrev mutual
   pub holds : Task → Formula → List ℕ → State → Bool
   holds task (atom a) binding state = contains state (ground_atom binding a)
@@ -95,15 +96,17 @@ pub record Change : Type 0 where
   pub binding : List ℕ
   pub literal : GroundLiteral
 
+-- what a literal changes, where the variables have these objects
 abbrev pub ground_literal : List ℕ → EffectLiteral → GroundLiteral
 ground_literal binding (add a) = adds (ground_atom binding a)
 ground_literal binding (delete a) = deletes (ground_atom binding a)
 
+-- and under this condition
 abbrev pub change_under : Formula → List ℕ → EffectLiteral → Change
 change_under condition binding l = record { condition = condition; binding = binding; literal = ground_literal binding l }
 
--- The changes of an effect, where the variables have these objects: those of a `forall` for each object of its variable's
--- types. The condition of one that stands under no `when` is `(and)`.
+-- The changes of an effect, where the variables have these objects (PDDL 1.2 manual, "Effects"): those of a
+-- `forall` for each object of its variable's types. The condition of one that stands under no `when` is `(and)`.
 abbrev mutual
   pub changes_of : Task → Effect → List ℕ → List Change
   changes_of task (literal l) binding = change_under (and no_formula) binding l ∷ []
@@ -124,6 +127,7 @@ abbrev pub literals_in : Task → State → List Change → List GroundLiteral
 literals_in task state changes =
     map (λ (c : Change). c.literal) (filter (λ (c : Change). holds task c.condition c.binding state) changes)
 
+-- the atoms that become true by these literals, and those that become false
 abbrev pub added_by : List GroundLiteral → List Atom
 added_by [] = []
 added_by (adds a ∷ rest) = a ∷ added_by rest
@@ -151,8 +155,8 @@ fits task schema objects = pointwise (is_of task) schema.parameters objects
 abbrev pub is_instance : Task → Instance → Bool
 is_instance task i = option_map_or (λ schema. fits task schema i.objects) (slice_get task.schemas i.schema) false
 
--- The state that an action leads to: it is applicable where it is an instance of a schema of the task and the
--- schema's precondition holds.
+-- The state that an action leads to: it is applicable where it is an instance of a schema of the task and the schema's
+-- precondition holds (PDDL 1.2 manual, "Actions"; Fox & Long 2003, section 8).
 abbrev pub step : Task → State → Instance → Option State
 step task state i =
     option_and_then (λ schema.
@@ -160,7 +164,7 @@ step task state i =
     else None)
     (slice_get task.schemas i.schema)
 
--- the goal has no parameters
+-- the goal holds; it has no parameters (PDDL 1.2 manual, "Problems")
 abbrev pub meets_goal : Task → State → Bool
 meets_goal task state = holds task task.goal [] state
 

@@ -71,15 +71,18 @@ pub record HasSteps (text : List ℕ) (steps : List Step) : Type 0 where
 abbrev pub IsNumberOf : List (List ℕ) → Name → ℕ → Type 0
 IsNumberOf declared name number = position (is_same (folded name)) declared ≡ Some number
 
+-- the name is declared
 abbrev pub IsDeclared : List (List ℕ) → Name → Type 0
 IsDeclared declared name = (number : ℕ) × IsNumberOf declared name number
 
+-- these are the numbers of these names, one for one
 abbrev pub AreNumbersOf : List (List ℕ) → List Name → List ℕ → Type 0
 AreNumbersOf declared [] [] = ⊤
 AreNumbersOf declared [] (number ∷ numbers) = ⊥
 AreNumbersOf declared (name ∷ names) [] = ⊥
 AreNumbersOf declared (name ∷ names) (number ∷ numbers) = IsNumberOf declared name number × AreNumbersOf declared names numbers
 
+-- the names of a task's schemas, and of its objects
 abbrev pub schema_names : Task → List (List ℕ)
 schema_names task = map (λ (s : Schema). s.name) task.schemas
 
@@ -92,6 +95,7 @@ pub record Means (task : Task) (step : Step) (i : Instance) : Type 0 where
   pub objects : AreNumbersOf (object_names task) step.objects i.objects
   pub fits : IsTrue (is_instance task i)
 
+-- the steps name these instances, one for one
 abbrev pub AllMean : Task → List Step → List Instance → Type 0
 AllMean task [] [] = ⊤
 AllMean task [] (i ∷ plan) = ⊥

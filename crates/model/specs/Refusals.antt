@@ -34,6 +34,7 @@ abbrev pub by_word : Token → ℕ
 by_word (reserved left_out_name n) = 12
 by_word _ = 7
 
+-- and under a `when`, where neither `when` nor `forall` may stand
 abbrev pub by_word_under_when : Token → ℕ
 by_word_under_when (reserved when n) = 12
 by_word_under_when (reserved forall n) = 12
@@ -44,21 +45,22 @@ abbrev pub number_of_keyword : Keyword → ℕ
 number_of_keyword left_out_keyword = 12
 number_of_keyword _ = 8
 
--- a keyword where that of a section is wanted: one that stands already, or that is no section of the file
+-- a keyword where that of a section is wanted: one that stands in the file already, or that is no section of it
 abbrev pub number_in_file : File → Keyword → ℕ
 number_in_file f (of_section k) = cond (has_section (sections_of f) k) 9 8
 number_in_file f k = number_of_keyword k
 
--- a keyword where that of a part is wanted: one that stands already, or that is no part
+-- a keyword where that of a part is wanted: one that stands in the action already, or that is no part
 abbrev pub number_in_action : Keyword → ℕ
 number_in_action (of_part k) = 9
 number_in_action k = number_of_keyword k
 
--- a keyword where the value of a part is wanted, which are seen
+-- a keyword where the value of a part is wanted, and these parts stand already: 9 is told there too
 abbrev pub number_at_value : List PartKeyword → Keyword → ℕ
 number_at_value seen (of_part k) = cond (has_part seen k) 9 7
 number_at_value seen _ = 7
 
+-- the number of a word where this is wanted, by its lines
 abbrev pub number_at : Sort → Token → ℕ
 -- a list's words are those of what is listed
 number_at (many s) t = number_at s t
@@ -87,6 +89,7 @@ number_at amount large_number = 13
 -- any other word
 number_at _ t = by_word t
 
+-- the number of a word where this has to follow
 abbrev pub number_after : {T : Type 0} → Phrase T → Token → ℕ
 number_after (gives x) t = by_word t
 number_after (s >>= k) t = number_at s t

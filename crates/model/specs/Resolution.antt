@@ -1,8 +1,8 @@
 -- What the names of a domain and a problem resolve to: which names are the same, what typed lists declare, the types and
--- those above them, what may be named where, and the task of the pair. The rules are those of the PDDL 1.2 manual for
--- types, declarations and uses ("Types", "Predicates", "Actions", "Problems"). `TypingFaults` says by these definitions
--- which faults a pair has.
-use Rattle.std.specs.Prelude.{ℕ, zero, suc, ◌+◌, Bool, true, ◌==◌, nat_eq, List, [], ◌∷◌, ◌++◌, codes, length, map, fold, slice_get, slice_index, is_some, if◌then◌else◌, Option}
+-- those above them, what may be named where, and the task of the pair. The rules are those for types,
+-- declarations and uses (PDDL 1.2 manual, "Domains", "Actions", "Goal descriptions", "Effects", "Problems").
+-- `TypingFaults` says by these definitions which faults a pair has.
+use Rattle.std.specs.Prelude.{◌≡◌, ℕ, zero, suc, ◌+◌, Bool, true, ◌==◌, nat_eq, List, [], ◌∷◌, ◌++◌, codes, length, map, fold, slice_get, slice_index, is_some, if◌then◌else◌, Option, Some}
 use Rattle.std.specs.Char.{to_ascii_lowercase}
 use Rattle.std.specs.Cmp.Lexicographic.{pointwise}
 use Rattle.std.specs.List.{flat_map, list_all, list_any, position_or_len}
@@ -15,10 +15,11 @@ use Rattle.model.specs.Trees as tree
 
 -- ---- names
 
--- a name in lower case, as names are compared (PDDL 1.2 manual, "Syntax": names are not case-sensitive)
+-- a name in lower case, as names are compared (PDDL 1.2 manual, "Domains": case does not matter in names)
 abbrev pub folded : Name → task.Name
 folded name = map to_ascii_lowercase name.text
 
+-- the names are the same
 abbrev pub is_same : task.Name → task.Name → Bool
 is_same = pointwise ◌==◌
 
@@ -42,6 +43,7 @@ pub record Declared : Type 0 where
   pub name : Name
   pub types : List Name
 
+-- what one group of it declares
 abbrev pub declared_in_group : File → Group → List Declared
 declared_in_group file g = map (λ (name : Name). record { file = file; name = name; types = g.types }) g.names
 
@@ -49,9 +51,11 @@ declared_in_group file g = map (λ (name : Name). record { file = file; name = n
 abbrev pub declared : File → List Group → List Declared
 declared file groups = flat_map (declared_in_group file) groups
 
+-- the names that are declared
 abbrev pub names_of : List Declared → List Name
 names_of xs = map (λ (x : Declared). x.name) xs
 
+-- what `:types` and `:constants` declare
 abbrev pub declared_types : Domain → List Declared
 declared_types d = declared domain_file d.types
 
@@ -82,10 +86,23 @@ type_in types (first ∷ others) = number_in types first
 abbrev pub parents_in : List task.Name → List Declared → List ℕ
 parents_in types xs = 0 ∷ map (λ (x : Declared). type_in types x.types) xs
 
+-- the parents of a domain's types
 abbrev pub parents_of : Domain → List ℕ
 parents_of d = parents_in (type_names d) (declared_types d)
 
--- a type and those above it on its chain of parents, up to `object`; of a chain that comes back, so many
+-- The first type descends from the second: it is that one, or its parent does (PDDL 1.2 manual, "Domains").
+pub data Descends (parents : List ℕ) : ℕ → ℕ → Type 0 where
+  itself : (type : ℕ) → Descends parents type type
+  by_parent : (type parent above : ℕ) → slice_get parents type ≡ Some parent → Descends parents parent above → Descends parents type above
+
+-- the type stands below itself: its parent descends from it
+pub record DescendsFromItself (parents : List ℕ) (type : ℕ) : Type 0 where
+  pub parent : ℕ
+  pub is_parent : slice_get parents type ≡ Some parent
+  pub descends : Descends parents parent type
+
+-- The types that a type descends from, in order: itself and its chain of parents, up to `object`; of a chain that comes
+-- back, so many.
 abbrev pub chain : List ℕ → ℕ → ℕ → List ℕ
 chain parents zero number = []
 chain parents (suc most) zero = zero ∷ []
@@ -99,6 +116,7 @@ abbrev pub types_from : List ℕ → ℕ → List task.Name → List task.Object
 types_from parents number [] = []
 types_from parents number (name ∷ names) = record { name = name; supertypes = whole_chain parents number } ∷ types_from parents (number + 1) names
 
+-- the types of the task
 abbrev pub types_of : Domain → List task.ObjectType
 types_of d = types_from (parents_of d) 0 (type_names d)
 
@@ -143,6 +161,7 @@ variables_after types variables xs = fold with_variable variables (map (variable
 abbrev pub unions_in : List task.Name → List Declared → List task.Union
 unions_in types xs = map (λ (x : Declared). union_in types x.types) xs
 
+-- a term, an atom and a literal with numbers for their names
 abbrev pub term_in : Known → tree.Term → task.Term
 term_in known (tree.variable name) = task.variable (number_in (names_of_variables known.variables) name)
 term_in known (tree.object name) = task.object (number_in (names_of_objects known.objects) name)
@@ -153,7 +172,7 @@ lifted_atom_in known a = record {
   terms = map (term_in known) a.terms;
 }
 
--- one quantifier for each of some variables, of these types
+-- one quantifier for each of some variables, of these types, the first outermost
 abbrev pub exists_each : List task.Union → task.Formula → task.Formula
 exists_each [] part = part
 exists_each (types ∷ others) part = task.exists types (exists_each others part)
@@ -162,10 +181,22 @@ abbrev pub forall_each : List task.Union → task.Formula → task.Formula
 forall_each [] part = part
 forall_each (types ∷ others) part = task.forall types (forall_each others part)
 
+-- The quantifier of a file over variables of these types (PDDL 1.2 manual, "Goal descriptions"). Over no variable it holds
+-- where its part does, and stays a formula around it: `exists` an `or` of it alone, `forall` an `and`.
+abbrev pub exists_over : List task.Union → task.Formula → task.Formula
+exists_over [] part = task.or (task.more_formulas part task.no_formula)
+exists_over (types ∷ others) part = exists_each (types ∷ others) part
+
+abbrev pub forall_over : List task.Union → task.Formula → task.Formula
+forall_over [] part = task.and (task.more_formulas part task.no_formula)
+forall_over (types ∷ others) part = forall_each (types ∷ others) part
+
 -- what may be named where these variables are in scope too
 abbrev pub known_with : Known → List Declared → Known
 known_with known xs = record known { variables = variables_after known.type_names known.variables xs }
 
+-- A formula with numbers for its names (PDDL 1.2 manual, "Goal descriptions"). The variables of a quantifier are in scope
+-- in its part.
 abbrev mutual
   pub formula_in : File → Known → tree.Formula → task.Formula
   formula_in file known (tree.atom a) = task.atom (lifted_atom_in known a)
@@ -175,14 +206,15 @@ abbrev mutual
   formula_in file known (tree.not part) = task.not (formula_in file known part)
   formula_in file known (tree.imply premise conclusion) = task.imply (formula_in file known premise) (formula_in file known conclusion)
   formula_in file known (tree.exists groups part) =
-      exists_each (unions_in known.type_names (declared file groups)) (formula_in file (known_with known (declared file groups)) part)
+      exists_over (unions_in known.type_names (declared file groups)) (formula_in file (known_with known (declared file groups)) part)
   formula_in file known (tree.forall groups part) =
-      forall_each (unions_in known.type_names (declared file groups)) (formula_in file (known_with known (declared file groups)) part)
+      forall_over (unions_in known.type_names (declared file groups)) (formula_in file (known_with known (declared file groups)) part)
 
   pub formulas_in : File → Known → tree.Formulas → task.Formulas
   formulas_in file known tree.no_formula = task.no_formula
   formulas_in file known (tree.more_formulas first rest) = task.more_formulas (formula_in file known first) (formulas_in file known rest)
 
+-- a literal of an effect
 abbrev pub effect_literal_in : Known → tree.EffectLiteral → task.EffectLiteral
 effect_literal_in known (tree.add a) = task.add (lifted_atom_in known a)
 effect_literal_in known (tree.delete a) = task.delete (lifted_atom_in known a)
@@ -192,6 +224,7 @@ abbrev pub each_of : List task.Union → task.Effect → task.Effect
 each_of [] part = part
 each_of (types ∷ others) part = task.each types (each_of others part)
 
+-- an effect with numbers for its names (PDDL 1.2 manual, "Effects")
 abbrev mutual
   pub effect_in : File → Known → tree.Effect → task.Effect
   effect_in file known (tree.literal l) = task.literal (effect_literal_in known l)
@@ -204,6 +237,7 @@ abbrev mutual
   effects_in file known tree.no_effect = task.no_effect
   effects_in file known (tree.more_effects first rest) = task.more_effects (effect_in file known first) (effects_in file known rest)
 
+-- an atom of `:init`
 abbrev pub atom_in : Known → tree.GroundAtom → task.Atom
 atom_in known a = record {
   predicate = number_in (names_of_predicates known.predicates) a.predicate;
@@ -220,6 +254,7 @@ atoms_in known (tree.initial_cost c) = []
 abbrev pub object_in : List task.Name → Declared → task.Object
 object_in types x = record { name = folded x.name; type = type_in types x.types }
 
+-- the domain's constants
 abbrev pub constants_of : Domain → List task.Object
 constants_of d = map (object_in (type_names d)) (declared_constants d)
 
@@ -227,13 +262,14 @@ constants_of d = map (object_in (type_names d)) (declared_constants d)
 abbrev pub objects_of : Domain → Problem → List task.Object
 objects_of d p = map (object_in (type_names d)) (declared_objects d p)
 
+-- a predicate, with what each of its arguments has to be; those of the domain
 abbrev pub predicate_in : List task.Name → tree.Predicate → task.Predicate
 predicate_in types p = record { name = folded p.name; arguments = unions_in types (declared domain_file p.parameters) }
 
 abbrev pub predicates_of : Domain → List task.Predicate
 predicates_of d = map (predicate_in (type_names d)) d.predicates
 
--- the total cost is declared
+-- the total cost is declared (action costs, 2008)
 abbrev pub declares_cost : Domain → Bool
 declares_cost d = is_some (slice_get d.functions 0)
 
@@ -267,6 +303,7 @@ known_in_problem d p = record {
 abbrev pub increase_of : tree.Action → ℕ
 increase_of a = option_map_or (λ (i : tree.Increase). i.amount) (slice_get a.increases 0) 0
 
+-- an action, in the domain where this is known (PDDL 1.2 manual, "Actions")
 abbrev pub schema_in : Known → tree.Action → task.Schema
 schema_in known a = record {
   name = folded a.name;
@@ -337,6 +374,6 @@ abbrev pub word_of : tree.Term → Name
 word_of (tree.variable name) = name
 word_of (tree.object name) = name
 
--- the type of this number stands on the chain of its own parent
+-- the type of this number stands on the chain of its own parent, and so descends from itself
 abbrev pub comes_back : List ℕ → ℕ → Bool
 comes_back parents number = list_any (nat_eq number) (whole_chain parents (slice_index parents number))

@@ -1,6 +1,6 @@
 -- Plans, over any transition system: what a list of actions leads to, what it costs, which list is best.
 -- A planning task is one such system (`Meaning.system_of`).
-use Rattle.std.specs.Prelude.{◌≡◌, ℕ, ◌-◌, ◌≤◌, Bool, false, IsTrue, List, [], ◌∷◌, take, slice_get, Contains, Option, None, Some, sum_by}
+use Rattle.std.specs.Prelude.{◌≡◌, ℕ, ◌-◌, ◌≤◌, Bool, false, IsTrue, List, [], ◌∷◌, take, slice_get, Option, None, Some, sum_by}
 use Rattle.std.specs.Option.{option_and_then}
 
 -- states of type S and actions of type A
@@ -20,15 +20,6 @@ run t s (a ∷ rest) = option_and_then (λ next. run t next rest) (t.step s a)
 -- the sum of the actions' costs
 abbrev pub cost_of_all : {S A : Type 0} → System S A → List A → ℕ
 cost_of_all t plan = sum_by t.cost plan
-
--- some list of actions leads from the initial state to this one
-abbrev pub IsReachable : {S A : Type 0} → System S A → S → Type 0
-IsReachable {S} {A} t s = (actions : List A) × (run t t.initial actions ≡ Some s)
-
--- exactly the actions that are applicable in the state, each with the state that it leads to
-pub record AreSuccessors {S A : Type 0} (t : System S A) (s : S) (found : List (A × S)) : Type 0 where
-  pub sound : (a : A) (next : S) → Contains {X = A × S} found (a, next) → t.step s a ≡ Some next
-  pub complete : (a : A) (next : S) → t.step s a ≡ Some next → Contains {X = A × S} found (a, next)
 
 -- the list runs from the initial state to one that meets the goal (Fox & Long 2003, section 8.2: validity of a plan)
 abbrev pub Solves : {S A : Type 0} → System S A → List A → Type 0

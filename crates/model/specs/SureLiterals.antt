@@ -15,6 +15,7 @@ pub data Literal : Type 0 where
   are_same : ℕ → ℕ → Literal
   are_different : ℕ → ℕ → Literal
 
+-- the literal is true in the state
 abbrev pub literal_holds : State → Literal → Bool
 literal_holds state (is_true a) = contains state a
 literal_holds state (is_false a) = bool.not (contains state a)

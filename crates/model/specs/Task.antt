@@ -3,11 +3,11 @@
 -- `object`.
 use Rattle.std.specs.Prelude.{ℕ, Bool, List}
 
--- the bytes of a name, in lower case (PDDL 1.2 manual, "Syntax": names are not case-sensitive)
+-- the bytes of a name, in lower case (PDDL 1.2 manual, "Domains": case does not matter in names)
 abbrev pub Name : Type 0
 Name = List ℕ
 
--- A type, and all types that its objects are of: itself and those above it, up to `object` (PDDL 1.2 manual, "Types").
+-- A type, and all types that its objects are of: itself and those above it, up to `object` (PDDL 1.2 manual, "Domains").
 pub record ObjectType : Type 0 where
   pub name : Name
   pub supertypes : List ℕ
@@ -17,11 +17,11 @@ pub record Object : Type 0 where
   pub name : Name
   pub type : ℕ
 
--- Types of which an object has to be of one, as `(either t u)` says (PDDL 1.2 manual, "Types").
+-- Types of which an object has to be of one, as `(either t u)` says (PDDL 1.2 manual, "Domains").
 abbrev pub Union : Type 0
 Union = List ℕ
 
--- a predicate, and what each of its arguments has to be (PDDL 1.2 manual, "Predicates")
+-- a predicate, and what each of its arguments has to be (PDDL 1.2 manual, "Domains")
 pub record Predicate : Type 0 where
   pub name : Name
   pub arguments : List Union
@@ -83,9 +83,10 @@ pub record Schema : Type 0 where
   pub parameters : List Union
   pub precondition : Formula
   pub effect : Effect
-  -- what it increases the total cost by
+  -- what it increases the total cost by (action costs, 2008)
   pub cost : ℕ
 
+-- a planning task (PDDL 1.2 manual, "Domains", "Problems")
 pub record Task : Type 0 where
   pub types : List ObjectType
   pub objects : List Object

@@ -17,6 +17,7 @@ pub record Name : Type 0 where
 abbrev pub no_name : Name
 no_name = record { text = []; span = record { start = 0; end = 0 } }
 
+-- a term: a variable, or the name of an object
 pub data Term : Type 0 where
   variable : Name → Term
   object : Name → Term
@@ -27,7 +28,7 @@ pub record Atom : Type 0 where
   pub terms : List Term
 
 -- Names or variables of one type, as `a b - place` or `?x ?y - (either t u)`: the types after their `-`, and none where
--- no type stands after them (PDDL 1.2 manual, "Types"). A typed list is a list of such groups.
+-- no type stands after them (PDDL 1.2 manual, "Domains"). A typed list is a list of such groups.
 pub record Group : Type 0 where
   pub names : List Name
   pub types : List Name
@@ -36,7 +37,7 @@ pub record Group : Type 0 where
 abbrev pub names_of : List Group → List Name
 names_of groups = flat_map (λ (g : Group). g.names) groups
 
--- PDDL 1.2 manual, "Goal descriptions"
+-- a goal description (PDDL 1.2 manual, "Goal descriptions")
 mutual
   pub data Formula : Type 0 where
     atom : Atom → Formula
@@ -57,7 +58,7 @@ pub data EffectLiteral : Type 0 where
   add : Atom → EffectLiteral
   delete : Atom → EffectLiteral
 
--- PDDL 1.2 manual, "Effects": `each` is `forall`
+-- an effect (PDDL 1.2 manual, "Effects"): `both` is `and`, `each` is `forall`
 mutual
   pub data Effect : Type 0 where
     literal : EffectLiteral → Effect
@@ -78,7 +79,7 @@ abbrev pub effects : List Effect → Effects
 effects [] = no_effect
 effects (e ∷ es) = more_effects e (effects es)
 
--- a predicate's declaration
+-- a predicate's declaration (PDDL 1.2 manual, "Domains")
 pub record Predicate : Type 0 where
   pub name : Name
   pub parameters : List Group
@@ -88,6 +89,7 @@ pub record Increase : Type 0 where
   pub word : Name
   pub amount : ℕ
 
+-- an action (PDDL 1.2 manual, "Actions")
 pub record Action : Type 0 where
   pub name : Name
   pub parameters : List Group
@@ -96,6 +98,7 @@ pub record Action : Type 0 where
   -- what stands in its effect besides; more than one is a fault
   pub increases : List Increase
 
+-- a domain file (PDDL 1.2 manual, "Domains")
 pub record Domain : Type 0 where
   pub name : Name
   pub types : List Group
@@ -110,7 +113,8 @@ pub record GroundAtom : Type 0 where
   pub predicate : Name
   pub objects : List Name
 
--- what `(= (total-cost) N)` in `:init` says: its words `=` and `total-cost`, its number, and the number's word
+-- what `(= (total-cost) N)` in `:init` says (action costs, 2008): its words `=` and `total-cost`, its number, and the
+-- number's word
 pub record InitialCost : Type 0 where
   pub equals : Name
   pub function : Name
@@ -123,6 +127,7 @@ pub data Fact : Type 0 where
   negated : Name → GroundAtom → Fact
   initial_cost : InitialCost → Fact
 
+-- a problem file (PDDL 1.2 manual, "Problems")
 pub record Problem : Type 0 where
   pub name : Name
   pub domain : Name

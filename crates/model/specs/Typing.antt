@@ -1,6 +1,7 @@
 -- The faults of a domain and a problem as lists: of each phase whole, in the order in which a walk over the trees meets
--- them, and the least of them. They are what the walks of the code are compared with, and no public clause cites them: which
--- faults a pair has is told by the table, `TypingFaults`, and `proofs/TypingFaultsTold` proves that the lists say the same.
+-- them, and the least of them. They are what the walks of the code are compared with. No clause of what `typing` gives its
+-- callers cites them, nor do the worked examples: which faults a pair has is told by the table, `TypingFaults`, and
+-- `proofs/TypingFaultsTold` proves that the lists say the same.
 use Rattle.std.specs.Prelude.{◌≡◌, ℕ, ◌+◌, ◌-◌, Bool, true, false, ◌==◌, nat_le, List, [], ◌∷◌, ◌++◌, codes, length, map, filter, take, drop, slice_get, if◌then◌else◌, Option, None, Some, All, Contains}
 use Rattle.std.specs.Cmp.Lexicographic.{slice_cmp}
 use Rattle.std.specs.List.{flat_map}
@@ -10,7 +11,7 @@ use Rattle.model.specs.Limits.{max_types, max_objects, max_arguments, max_variab
 use Rattle.model.specs.Task as task
 use Rattle.model.specs.Trees.{File, domain_file, problem_file, Name, Domain, Problem}
 use Rattle.model.specs.Trees as tree
-pub use Rattle.model.specs.Resolution.{folded, is_same, is_known, number_in, with_name, Declared, declared_in_group, declared, names_of, declared_types, declared_constants, declared_objects, type_names, union_in, type_in, parents_in, parents_of, chain, whole_chain, types_from, types_of, Variable, Known, names_of_predicates, names_of_variables, names_of_objects, with_variable, variable_in, variables_after, unions_in, term_in, lifted_atom_in, exists_each, forall_each, known_with, formula_in, formulas_in, effect_literal_in, each_of, effect_in, effects_in, atom_in, atoms_in, object_in, constants_of, objects_of, predicate_in, predicates_of, declares_cost, known_in_domain, known_in_action, known_in_problem, increase_of, schema_in, task_of_trees, TypingFault, Placed, placed, words_of, equals_in, rank_of, predicate_in_known, fits_in, word_of, comes_back}
+pub use Rattle.model.specs.Resolution.{folded, is_same, is_known, number_in, with_name, Declared, declared_in_group, declared, names_of, declared_types, declared_constants, declared_objects, type_names, union_in, type_in, parents_in, parents_of, Descends, itself, by_parent, DescendsFromItself, chain, whole_chain, types_from, types_of, Variable, Known, names_of_predicates, names_of_variables, names_of_objects, with_variable, variable_in, variables_after, unions_in, term_in, lifted_atom_in, exists_each, forall_each, exists_over, forall_over, known_with, formula_in, formulas_in, effect_literal_in, each_of, effect_in, effects_in, atom_in, atoms_in, object_in, constants_of, objects_of, predicate_in, predicates_of, declares_cost, known_in_domain, known_in_action, known_in_problem, increase_of, schema_in, task_of_trees, TypingFault, Placed, placed, words_of, equals_in, rank_of, predicate_in_known, fits_in, word_of, comes_back}
 
 -- ---- faults
 
@@ -85,12 +86,12 @@ atom_faults file known a =
 abbrev pub known_among : List task.Name → List Placed → List Placed
 known_among names words = filter (λ (w : Placed). is_known names w.word) words
 
--- the first variable beyond the limit, where so many are in scope already
+-- the variable that makes 17 in scope, where so many are already
 abbrev pub one_too_many : ℕ → List Placed → List Placed
 one_too_many count words = if nat_le count max_variables then one_after (max_variables - count) words else []
 
 -- Of a list of variables, where these are in scope. 14: an unknown type. 16: a variable twice in the list. 20: one whose
--- name is in scope. 25: the first one beyond the limit.
+-- name is in scope. 25: the one that makes 17 in scope.
 abbrev pub variable_faults : List task.Name → List Variable → List Declared → List TypingFault
 variable_faults types variables xs =
     type_faults types xs
@@ -166,7 +167,7 @@ type_declaration_faults d =
     ++ type_faults (type_names d) (declared_types d)
     ++ refused 25 (one_after max_types (words_of (declared_types d)))
 
--- 15: a type whose chain of parents comes back to it, where the first of these types has this number
+-- 15: a type that descends from itself, where the first of these types has this number
 abbrev pub cycle_faults_from : List ℕ → ℕ → List Declared → List TypingFault
 cycle_faults_from parents number [] = []
 cycle_faults_from parents number (x ∷ xs) =
@@ -247,12 +248,9 @@ first_filled ((f ∷ more) ∷ later) = f ∷ more
 abbrev pub faults_of : Domain → Problem → List TypingFault
 faults_of d p = first_filled (phases d p)
 
-abbrev pub IsFault : Domain → Problem → TypingFault → Type 0
-IsFault d p f = Contains (faults_of d p) f
-
--- no fault
-abbrev pub IsWellTyped : Domain → Problem → Type 0
-IsWellTyped d p = faults_of d p ≡ []
+-- no fault is listed
+abbrev pub ListsNoFault : Domain → Problem → Type 0
+ListsNoFault d p = faults_of d p ≡ []
 
 -- ---- which fault is told
 
@@ -267,7 +265,3 @@ is_before f g = is_lt (slice_cmp nat_cmp (key_of f) (key_of g))
 pub record IsLeastOf (faults : List TypingFault) (f : TypingFault) : Type 0 where
   pub is_fault : Contains faults f
   pub is_least : All (λ g. is_before g f ≡ false) faults
-
--- the fault that is told of a pair that is not well-typed
-abbrev pub IsLeastFault : Domain → Problem → TypingFault → Type 0
-IsLeastFault d p f = IsLeastOf (faults_of d p) f

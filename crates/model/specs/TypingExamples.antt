@@ -1,12 +1,15 @@
 -- Worked examples of typing: which faults small trees have, and what task a well-typed pair is. Each is chosen so that a
 -- wrong reading says otherwise.
-use Rattle.std.specs.Prelude.{◌≡◌, ℕ, ◌+◌, true, false, List, [], ◌∷◌, ◌++◌, codes, None, Some}
+use Rattle.std.specs.Prelude.{◌≡◌, ℕ, ◌+◌, Bool, true, false, List, [], ◌∷◌, ◌++◌, codes, map, None, Some, Contains}
 use Rattle.model.specs.Task as task
 use Rattle.model.specs.Task.{Schema, Task}
 use Rattle.model.specs.Trees as tree
 use Rattle.model.specs.Trees.{File, domain_file, problem_file, Name, Group, GroundAtom, Fact, Predicate, Increase, Action, Domain, Problem, Term, Atom, Formula, Effect, formulas, effects}
-use Rattle.model.specs.Resolution.{TypingFault, task_of_trees}
-use Rattle.model.specs.Typing.{faults_of}
+use Rattle.model.specs.Meaning.{State, holds, changes_of_instance}
+use Rattle.model.specs.SureLiterals.{Literal, is_true, sure}
+use Rattle.model.specs.ClosedOff.{is_unconditional}
+use Rattle.model.specs.Resolution.{TypingFault, Placed, exists_over, forall_over, task_of_trees}
+use Rattle.model.specs.TypingFaults.{Phase, IsFaultIn, IsWellTyped, IsTold}
 
 -- a name that stands at this offset
 abbrev pub at : ℕ → List ℕ → Name
@@ -22,6 +25,10 @@ untyped names = group names [] ∷ []
 -- the word at this offset is refused by this number
 abbrev pub fault : File → ℕ → ℕ → TypingFault
 fault file code start = record { file = file; fault = record { code = code; span = record { start = start; end = start + 1 } } }
+
+-- and the fault that refuses the word by the number
+abbrev pub refusal : ℕ → Placed → TypingFault
+refusal code w = record { file = w.file; fault = record { code = code; span = w.word.span } }
 
 abbrev pub atom : Name → List Term → Atom
 atom predicate terms = record { predicate = predicate; terms = terms }
@@ -102,6 +109,17 @@ variable start text = tree.variable (at start text)
 abbrev pub p_of_x : ℕ → Formula
 p_of_x start = tree.atom (atom (at start (codes "p")) (variable (start + 1) (codes "?x") ∷ []))
 
+-- (p o), in a goal, and its formula
+abbrev pub p_of_o : Formula
+p_of_o = parked.goal
+
+abbrev pub task_p_of_o : task.Formula
+task_p_of_o = fleet_task.goal
+
+-- what this goal says outright
+abbrev pub said_by : Formula → List Literal
+said_by goal = sure (task_of_trees fleet (with_goal goal)) (task_of_trees fleet (with_goal goal)).goal []
+
 -- (exists (?x ..) ..) with these types and this part
 abbrev pub some_x : List Name → Formula → Formula
 some_x types part = tree.exists (group (at 31 (codes "?x") ∷ []) types ∷ []) part
@@ -145,6 +163,12 @@ with_metric = record parked { metric = Some (total_cost 40) }
 abbrev pub p_of : ℕ → Term → Effect
 p_of start t = tree.literal (tree.add (atom (at start (codes "p")) (t ∷ [])))
 
+-- which changes of (when CONDITION (p ?y)) are unconditional, where ?y is the constant
+abbrev pub unconditional_under : Formula → List Bool
+unconditional_under condition =
+    map is_unconditional (changes_of_instance (task_of_trees (with_effect (tree.when condition (tree.add (atom (at 50 (codes "p")) (variable 51 (codes "?y") ∷ [])) ∷ []))) parked)
+    (record { schema = 0; objects = 0 ∷ [] }))
+
 -- (forall (?x - v) ..)
 abbrev pub each_x : Effect → Effect
 each_x part = tree.each (group (at 51 (codes "?x") ∷ []) (at 52 (codes "v") ∷ []) ∷ []) part
@@ -159,86 +183,112 @@ of_two_variables =
     ∷ p_of 60 (variable 61 (codes "?y")) ∷ []
     ))
 
+-- the fault is one of this phase
+pub record IsOneOf (d : Domain) (p : Problem) (phase : Phase) (f : TypingFault) : Type 0 where
+  pub code : ℕ
+  pub word : Placed
+  pub is_fault : IsFaultIn d p phase code word
+  pub is : refusal code word ≡ f
+
+-- the first fault is told of the pair; its phase has the others too, and no more
+pub record HasFaults (d : Domain) (p : Problem) (first : TypingFault) (others : List TypingFault) : Type 0 where
+  pub told : IsTold d p first
+  pub each : (f : TypingFault) → Contains others f → IsOneOf d p told.phase f
+  pub no_more : (code : ℕ) (w : Placed) → IsFaultIn d p told.phase code w → Contains (first ∷ others) (refusal code w)
+
 pub record AreTyped : Type 0 where
   -- Each name is its number, in letters of either case.
-  pub no_fault : faults_of fleet parked ≡ []
+  pub no_fault : IsWellTyped fleet parked
   pub its_task : task_of_trees fleet parked ≡ fleet_task
   -- A type is declared once, and `object` is declared already.
-  pub type_again : faults_of (with_types (untyped (at 10 (codes "t") ∷ at 11 (codes "v") ∷ at 12 (codes "T") ∷ at 13 (codes "object") ∷ []))) parked
-      ≡ fault domain_file 16 12 ∷ fault domain_file 16 13 ∷ []
+  pub type_again : HasFaults (with_types (untyped (at 10 (codes "t") ∷ at 11 (codes "v") ∷ at 12 (codes "T") ∷ at 13 (codes "object") ∷ []))) parked
+      (fault domain_file 16 12) (fault domain_file 16 13 ∷ [])
   -- A parent is `object` or declared, wherever in the list.
-  pub unknown_parent : faults_of (with_types (group (at 10 (codes "t") ∷ []) (at 11 (codes "u") ∷ []) ∷ group (at 12 (codes "v") ∷ []) (at 13 (codes "object") ∷ []) ∷ [])) parked
-      ≡ fault domain_file 14 11 ∷ []
+  pub unknown_parent : HasFaults (with_types (group (at 10 (codes "t") ∷ []) (at 11 (codes "u") ∷ []) ∷ group (at 12 (codes "v") ∷ []) (at 13 (codes "object") ∷ []) ∷ [])) parked
+      (fault domain_file 14 11) []
   -- On a cycle stand v and w, and t below them does not; what comes in a later phase is not told.
-  pub cycle : faults_of (with_types (group (at 10 (codes "t") ∷ []) (at 11 (codes "v") ∷ []) ∷ group (at 12 (codes "v") ∷ []) (at 13 (codes "w") ∷ []) ∷ group (at 14 (codes "w") ∷ []) (at 15 (codes "v") ∷ []) ∷ []))
-      (record parked { objects = untyped (at 10 (codes "o") ∷ at 11 (codes "o") ∷ []) }) ≡ fault domain_file 15 12 ∷ fault domain_file 15 14 ∷ []
-  pub own_parent : faults_of (with_types (group (at 10 (codes "t") ∷ at 11 (codes "v") ∷ []) (at 12 (codes "v") ∷ []) ∷ [])) parked ≡ fault domain_file 15 11 ∷ []
+  pub cycle : HasFaults (with_types (group (at 10 (codes "t") ∷ []) (at 11 (codes "v") ∷ []) ∷ group (at 12 (codes "v") ∷ []) (at 13 (codes "w") ∷ []) ∷ group (at 14 (codes "w") ∷ []) (at 15 (codes "v") ∷ []) ∷ []))
+      (record parked { objects = untyped (at 10 (codes "o") ∷ at 11 (codes "o") ∷ []) })
+      (fault domain_file 15 12) (fault domain_file 15 14 ∷ [])
+  pub own_parent : HasFaults (with_types (group (at 10 (codes "t") ∷ at 11 (codes "v") ∷ []) (at 12 (codes "v") ∷ []) ∷ [])) parked (fault domain_file 15 11) []
   -- Constants and objects share their names.
-  pub object_again : faults_of fleet (record parked { objects = untyped (at 10 (codes "K") ∷ []) }) ≡ fault problem_file 16 10 ∷ []
+  pub object_again : HasFaults fleet (record parked { objects = untyped (at 10 (codes "K") ∷ []) }) (fault problem_file 16 10) []
   -- A variable of a supertype does not fit, nor does one of which one type does not.
-  pub supertype : faults_of (with_parameter (at 42 (codes "object") ∷ [])) parked ≡ fault domain_file 19 44 ∷ []
-  pub one_of_two : faults_of (with_parameter (at 42 (codes "t") ∷ at 45 (codes "object") ∷ [])) parked ≡ fault domain_file 19 44 ∷ []
-  pub both_fit : faults_of (with_parameter (at 42 (codes "t") ∷ at 45 (codes "v") ∷ [])) parked ≡ []
+  pub supertype : HasFaults (with_parameter (at 42 (codes "object") ∷ [])) parked (fault domain_file 19 44) []
+  pub one_of_two : HasFaults (with_parameter (at 42 (codes "t") ∷ at 45 (codes "object") ∷ [])) parked (fault domain_file 19 44) []
+  pub both_fit : IsWellTyped (with_parameter (at 42 (codes "t") ∷ at 45 (codes "v") ∷ [])) parked
   -- A variable of an unknown type fits nothing.
-  pub unknown_type : faults_of (with_parameter (at 42 (codes "u") ∷ [])) parked ≡ fault domain_file 14 42 ∷ fault domain_file 19 44 ∷ []
+  pub unknown_type : HasFaults (with_parameter (at 42 (codes "u") ∷ [])) parked (fault domain_file 14 42) (fault domain_file 19 44 ∷ [])
   -- The problem's objects are not known in an action.
-  pub object_in_action : faults_of (record fleet { actions = record park { precondition = tree.atom (atom (at 46 (codes "p")) (tree.object (at 47 (codes "o")) ∷ [])) } ∷ [] }) parked
-      ≡ fault domain_file 17 47 ∷ []
+  pub object_in_action : HasFaults (record fleet { actions = record park { precondition = tree.atom (atom (at 46 (codes "p")) (tree.object (at 47 (codes "o")) ∷ [])) } ∷ [] }) parked
+      (fault domain_file 17 47) []
   -- An untyped object is of the type `object` alone, and no fact is negated.
-  pub wrong_fact : faults_of fleet (record parked { objects = untyped (at 10 (codes "o") ∷ []); init = tree.fact (record { predicate = at 20 (codes "p"); objects = at 21 (codes "o") ∷ [] }) ∷ tree.negated (at 22 (codes "not")) (record { predicate = at 23 (codes "p"); objects = at 24 (codes "k") ∷ [] }) ∷ [] })
-      ≡ fault problem_file 19 21 ∷ fault problem_file 24 22 ∷ []
+  pub wrong_fact : HasFaults fleet (record parked { objects = untyped (at 10 (codes "o") ∷ []); init = tree.fact (record { predicate = at 20 (codes "p"); objects = at 21 (codes "o") ∷ [] }) ∷ tree.negated (at 22 (codes "not")) (record { predicate = at 23 (codes "p"); objects = at 24 (codes "k") ∷ [] }) ∷ [] })
+      (fault problem_file 19 21) (fault problem_file 24 22 ∷ [])
   -- Another name of the domain is told with the faults of types.
-  pub other_domain : faults_of fleet (record parked { domain = at 2 (codes "e") }) ≡ fault problem_file 21 2 ∷ []
+  pub other_domain : HasFaults fleet (record parked { domain = at 2 (codes "e") }) (fault problem_file 21 2) []
   -- A quantifier of two variables is two quantifiers, and its variables come after those in scope: in
   -- (exists (?x - v ?z) (forall (?w - t) (= ?w ?z))) the variables are 0, 1 and 2.
   pub quantified : (task_of_trees fleet (with_goal (tree.exists (group (at 31 (codes "?x") ∷ []) (at 32 (codes "v") ∷ []) ∷ group (at 33 (codes "?z") ∷ []) [] ∷ [])
       (tree.forall (group (at 34 (codes "?w") ∷ []) (at 35 (codes "t") ∷ []) ∷ []) (tree.equal (variable 36 (codes "?w")) (variable 37 (codes "?Z"))))))).goal
       ≡ task.exists (2 ∷ []) (task.exists (0 ∷ []) (task.forall (1 ∷ []) (task.equal (task.variable 2) (task.variable 1))))
+  -- One over no variable is an `or` of its part, or an `and`, and holds where the part does.
+  pub exists_of_none : (task_of_trees fleet (with_goal (tree.exists [] p_of_o))).goal ≡ task.or (task.more_formulas task_p_of_o task.no_formula)
+  pub forall_of_none : (task_of_trees fleet (with_goal (tree.forall [] p_of_o))).goal ≡ task.and (task.more_formulas task_p_of_o task.no_formula)
+  pub some_hold : (part : task.Formula) (binding : List ℕ) (state : State) → holds fleet_task (exists_over [] part) binding state ≡ holds fleet_task part binding state
+  pub all_hold : (part : task.Formula) (binding : List ℕ) (state : State) → holds fleet_task (forall_over [] part) binding state ≡ holds fleet_task part binding state
+  -- So `(exists () (p o))` says nothing outright, nor does `(not (forall () (p o)))`, while `(forall () (p o))` does.
+  pub exists_says_nothing : said_by (tree.exists [] p_of_o) ≡ []
+  pub not_forall_says_nothing : said_by (tree.not (tree.forall [] p_of_o)) ≡ []
+  pub forall_says : said_by (tree.forall [] p_of_o) ≡ is_true (record { predicate = 0; objects = 1 ∷ [] }) ∷ []
+  -- What stands under `(when (forall () (and)) ..)` is conditional, unlike what stands under `(when (and) ..)`.
+  pub under_forall : unconditional_under (tree.forall [] nothing) ≡ false ∷ []
+  pub under_and : unconditional_under nothing ≡ true ∷ []
   -- Its variable is known in it, with its types, and not after it.
-  pub in_scope : faults_of fleet (with_goal (some_x (at 32 (codes "v") ∷ []) (p_of_x 33))) ≡ []
-  pub of_the_root : faults_of fleet (with_goal (some_x [] (p_of_x 33))) ≡ fault problem_file 19 34 ∷ []
-  pub out_of_scope : faults_of fleet (with_goal (tree.and (formulas (some_x (at 32 (codes "v") ∷ []) (p_of_x 33) ∷ p_of_x 35 ∷ [])))) ≡ fault problem_file 17 36 ∷ []
+  pub in_scope : IsWellTyped fleet (with_goal (some_x (at 32 (codes "v") ∷ []) (p_of_x 33)))
+  pub of_the_root : HasFaults fleet (with_goal (some_x [] (p_of_x 33))) (fault problem_file 19 34) []
+  pub out_of_scope : HasFaults fleet (with_goal (tree.and (formulas (some_x (at 32 (codes "v") ∷ []) (p_of_x 33) ∷ p_of_x 35 ∷ [])))) (fault problem_file 17 36) []
   -- Its types are known, and no variable stands twice in its list.
-  pub of_unknown_type : faults_of fleet (with_goal (tree.forall (group (at 31 (codes "?x") ∷ []) (at 32 (codes "u") ∷ []) ∷ []) nothing)) ≡ fault problem_file 14 32 ∷ []
-  pub twice_in_a_list : faults_of fleet (with_goal (tree.exists (untyped (at 31 (codes "?x") ∷ at 32 (codes "?X") ∷ [])) nothing)) ≡ fault problem_file 16 32 ∷ []
+  pub of_unknown_type : HasFaults fleet (with_goal (tree.forall (group (at 31 (codes "?x") ∷ []) (at 32 (codes "u") ∷ []) ∷ []) nothing)) (fault problem_file 14 32) []
+  pub twice_in_a_list : HasFaults fleet (with_goal (tree.exists (untyped (at 31 (codes "?x") ∷ at 32 (codes "?X") ∷ [])) nothing)) (fault problem_file 16 32) []
   -- None has the name of one in scope, of a parameter or of a quantifier around it; one after it may.
-  pub as_a_parameter : faults_of (with_precondition (tree.not (tree.exists (untyped (at 50 (codes "?Y") ∷ [])) nothing))) parked ≡ fault domain_file 20 50 ∷ []
-  pub as_one_around : faults_of fleet (with_goal (some_x [] (tree.or (formulas (tree.forall (untyped (at 40 (codes "?x") ∷ [])) nothing ∷ []))))) ≡ fault problem_file 20 40 ∷ []
-  pub as_one_before : faults_of fleet (with_goal (tree.imply (some_x [] nothing) (tree.exists (untyped (at 40 (codes "?x") ∷ [])) nothing))) ≡ []
+  pub as_a_parameter : HasFaults (with_precondition (tree.not (tree.exists (untyped (at 50 (codes "?Y") ∷ [])) nothing))) parked (fault domain_file 20 50) []
+  pub as_one_around : HasFaults fleet (with_goal (some_x [] (tree.or (formulas (tree.forall (untyped (at 40 (codes "?x") ∷ [])) nothing ∷ []))))) (fault problem_file 20 40) []
+  pub as_one_before : IsWellTyped fleet (with_goal (tree.imply (some_x [] nothing) (tree.exists (untyped (at 40 (codes "?x") ∷ [])) nothing)))
   -- At most 16 are in scope: with the parameter ?y, the sixteenth of a list is one too many.
-  pub sixteen : faults_of (with_precondition (tree.exists (untyped (letters 50 (codes "abcdefghijklmno"))) nothing)) parked ≡ []
-  pub seventeen : faults_of (with_precondition (tree.exists (untyped (letters 50 (codes "abcdefghijklmnopq"))) nothing)) parked ≡ fault domain_file 25 65 ∷ []
+  pub sixteen : IsWellTyped (with_precondition (tree.exists (untyped (letters 50 (codes "abcdefghijklmno"))) nothing)) parked
+  pub seventeen : HasFaults (with_precondition (tree.exists (untyped (letters 50 (codes "abcdefghijklmnopq"))) nothing)) parked (fault domain_file 25 65) []
   -- The terms of an equality are known, of whatever types.
-  pub of_two_types : faults_of (with_precondition (tree.equal (variable 50 (codes "?y")) (tree.object (at 51 (codes "k"))))) parked ≡ []
-  pub unknown_terms : faults_of fleet (with_goal (tree.equal (variable 31 (codes "?x")) (tree.object (at 32 (codes "n"))))) ≡ fault problem_file 17 31 ∷ fault problem_file 17 32 ∷ []
+  pub of_two_types : IsWellTyped (with_precondition (tree.equal (variable 50 (codes "?y")) (tree.object (at 51 (codes "k"))))) parked
+  pub unknown_terms : HasFaults fleet (with_goal (tree.equal (variable 31 (codes "?x")) (tree.object (at 32 (codes "n"))))) (fault problem_file 17 31) (fault problem_file 17 32 ∷ [])
   -- The variable of a `forall` effect is known in its part, with its types, and not after it.
-  pub in_its_part : faults_of (with_effect (each_x (p_of 53 (variable 54 (codes "?X"))))) parked ≡ []
-  pub of_another_type : faults_of (with_effect (tree.each (untyped (at 51 (codes "?x") ∷ [])) (p_of 53 (variable 54 (codes "?x"))))) parked ≡ fault domain_file 19 54 ∷ []
-  pub after_its_part : faults_of (with_effect (tree.both (effects (each_x (p_of 53 (variable 54 (codes "?x"))) ∷ p_of 55 (variable 56 (codes "?x")) ∷ [])))) parked ≡ fault domain_file 17 56 ∷ []
+  pub in_its_part : IsWellTyped (with_effect (each_x (p_of 53 (variable 54 (codes "?X"))))) parked
+  pub of_another_type : HasFaults (with_effect (tree.each (untyped (at 51 (codes "?x") ∷ [])) (p_of 53 (variable 54 (codes "?x"))))) parked (fault domain_file 19 54) []
+  pub after_its_part : HasFaults (with_effect (tree.both (effects (each_x (p_of 53 (variable 54 (codes "?x"))) ∷ p_of 55 (variable 56 (codes "?x")) ∷ [])))) parked (fault domain_file 17 56) []
   -- Its list is as that of a quantifier: known types, none twice, none in scope, at most 16.
-  pub of_a_type_unknown : faults_of (with_effect (tree.each (group (at 51 (codes "?x") ∷ []) (at 52 (codes "u") ∷ []) ∷ []) (tree.both (effects [])))) parked ≡ fault domain_file 14 52 ∷ []
-  pub twice_in_its_list : faults_of (with_effect (tree.each (untyped (at 51 (codes "?x") ∷ at 52 (codes "?X") ∷ [])) (tree.both (effects [])))) parked ≡ fault domain_file 16 52 ∷ []
-  pub as_the_parameter : faults_of (with_effect (tree.each (untyped (at 51 (codes "?Y") ∷ [])) (tree.both (effects [])))) parked ≡ fault domain_file 20 51 ∷ []
-  pub in_one_another : faults_of (with_effect (each_x (tree.when (some_x [] nothing) []))) parked ≡ fault domain_file 20 31 ∷ []
-  pub one_too_many : faults_of (with_effect (tree.each (untyped (letters 50 (codes "abcdefghijklmnop"))) (tree.both (effects [])))) parked ≡ fault domain_file 25 65 ∷ []
+  pub of_a_type_unknown : HasFaults (with_effect (tree.each (group (at 51 (codes "?x") ∷ []) (at 52 (codes "u") ∷ []) ∷ []) (tree.both (effects [])))) parked (fault domain_file 14 52) []
+  pub twice_in_its_list : HasFaults (with_effect (tree.each (untyped (at 51 (codes "?x") ∷ at 52 (codes "?X") ∷ [])) (tree.both (effects [])))) parked (fault domain_file 16 52) []
+  pub as_the_parameter : HasFaults (with_effect (tree.each (untyped (at 51 (codes "?Y") ∷ [])) (tree.both (effects [])))) parked (fault domain_file 20 51) []
+  pub in_one_another : HasFaults (with_effect (each_x (tree.when (some_x [] nothing) []))) parked (fault domain_file 20 31) []
+  pub one_too_many : HasFaults (with_effect (tree.each (untyped (letters 50 (codes "abcdefghijklmnop"))) (tree.both (effects [])))) parked (fault domain_file 25 65) []
   -- Of a `when`, the condition and each literal are looked at; the problem's objects are not known.
-  pub under_a_condition : faults_of (with_effect (tree.when (tree.not (p_of_x 50)) (tree.add (atom (at 52 (codes "n")) []) ∷ tree.delete (atom (at 53 (codes "p")) (tree.object (at 54 (codes "o")) ∷ [])) ∷ []))) parked
-      ≡ fault domain_file 17 51 ∷ fault domain_file 17 52 ∷ fault domain_file 17 54 ∷ []
+  pub under_a_condition : HasFaults (with_effect (tree.when (tree.not (p_of_x 50)) (tree.add (atom (at 52 (codes "n")) []) ∷ tree.delete (atom (at 53 (codes "p")) (tree.object (at 54 (codes "o")) ∷ [])) ∷ []))) parked
+      (fault domain_file 17 51) (fault domain_file 17 52 ∷ fault domain_file 17 54 ∷ [])
   -- `total-cost` is declared once, and where the metric names it.
-  pub cost_declared_again : faults_of (with_increases (total_cost 35 ∷ total_cost 36 ∷ total_cost 37 ∷ []) []) parked ≡ fault domain_file 16 36 ∷ fault domain_file 16 37 ∷ []
-  pub metric_of_nothing : faults_of fleet with_metric ≡ fault problem_file 22 40 ∷ []
-  pub metric_of_the_cost : faults_of (with_increases (total_cost 35 ∷ []) []) with_metric ≡ []
+  pub cost_declared_again : HasFaults (with_increases (total_cost 35 ∷ total_cost 36 ∷ total_cost 37 ∷ []) []) parked (fault domain_file 16 36) (fault domain_file 16 37 ∷ [])
+  pub metric_of_nothing : HasFaults fleet with_metric (fault problem_file 22 40) []
+  pub metric_of_the_cost : IsWellTyped (with_increases (total_cost 35 ∷ []) []) with_metric
   -- These come before the faults of actions.
-  pub before_the_actions : faults_of (with_increases [] (increase 45 1 ∷ [])) with_metric ≡ fault problem_file 22 40 ∷ []
+  pub before_the_actions : HasFaults (with_increases [] (increase 45 1 ∷ [])) with_metric (fault problem_file 22 40) []
   -- An action increases the cost once, where it is declared.
-  pub increase_of_nothing : faults_of (with_increases [] (increase 45 1 ∷ increase 46 1 ∷ [])) parked ≡ fault domain_file 23 45 ∷ fault domain_file 23 46 ∷ []
-  pub increases_again : faults_of (with_increases (total_cost 35 ∷ []) (increase 45 1 ∷ increase 46 1 ∷ increase 47 1 ∷ [])) parked ≡ fault domain_file 23 46 ∷ fault domain_file 23 47 ∷ []
+  pub increase_of_nothing : HasFaults (with_increases [] (increase 45 1 ∷ increase 46 1 ∷ [])) parked (fault domain_file 23 45) (fault domain_file 23 46 ∷ [])
+  pub increases_again : HasFaults (with_increases (total_cost 35 ∷ []) (increase 45 1 ∷ increase 46 1 ∷ increase 47 1 ∷ [])) parked (fault domain_file 23 46) (fault domain_file 23 47 ∷ [])
   -- It starts at 0, said once at most, where it is declared.
-  pub starts_at_nothing : faults_of (with_increases (total_cost 35 ∷ []) []) (with_start (starts_at 22 0 ∷ [])) ≡ []
-  pub starts_at_one : faults_of (with_increases (total_cost 35 ∷ []) []) (with_start (starts_at 22 1 ∷ [])) ≡ fault problem_file 23 24 ∷ []
-  pub starts_again : faults_of (with_increases (total_cost 35 ∷ []) []) (with_start (starts_at 22 0 ∷ starts_at 25 0 ∷ [])) ≡ fault problem_file 23 25 ∷ []
-  pub start_of_nothing : faults_of fleet (with_start (starts_at 22 0 ∷ [])) ≡ fault problem_file 23 23 ∷ []
-  pub start_of_nothing_at_one : faults_of fleet (with_start (starts_at 22 1 ∷ [])) ≡ fault problem_file 23 23 ∷ fault problem_file 23 24 ∷ []
+  pub starts_at_nothing : IsWellTyped (with_increases (total_cost 35 ∷ []) []) (with_start (starts_at 22 0 ∷ []))
+  pub starts_at_one : HasFaults (with_increases (total_cost 35 ∷ []) []) (with_start (starts_at 22 1 ∷ [])) (fault problem_file 23 24) []
+  pub starts_again : HasFaults (with_increases (total_cost 35 ∷ []) []) (with_start (starts_at 22 0 ∷ starts_at 25 0 ∷ [])) (fault problem_file 23 25) []
+  pub start_of_nothing : HasFaults fleet (with_start (starts_at 22 0 ∷ [])) (fault problem_file 23 23) []
+  pub start_of_nothing_at_one : HasFaults fleet (with_start (starts_at 22 1 ∷ [])) (fault problem_file 23 23) (fault problem_file 23 24 ∷ [])
   -- A `forall` of two variables is two, one in the other, after the parameter; an action that increases the cost costs that.
   pub its_effect : (task_of_trees (with_effect of_two_variables) parked).schemas ≡ record {
     name = codes "a";
@@ -250,7 +300,7 @@ pub record AreTyped : Type 0 where
         (task.more_effects (task.literal (task.add (record { predicate = 0; terms = task.variable 0 ∷ [] }))) task.no_effect));
     cost = 0;
   } ∷ []
-  pub without_fault : faults_of (with_effect of_two_variables) parked ≡ []
+  pub without_fault : IsWellTyped (with_effect of_two_variables) parked
   pub its_cost : (task_of_trees (with_increases (total_cost 35 ∷ []) (increase 45 7 ∷ [])) with_metric).schemas ≡ record task_park { cost = 7 } ∷ []
   pub has_its_metric : (task_of_trees (with_increases (total_cost 35 ∷ []) []) with_metric).has_metric ≡ true
   pub has_no_metric : (task_of_trees (with_increases (total_cost 35 ∷ []) (increase 45 7 ∷ [])) parked).has_metric ≡ false

@@ -1,13 +1,13 @@
--- Which faults a domain and a problem have, and which one is told: the rules for types, declarations and uses of the PDDL
--- 1.2 manual ("Types", "Predicates", "Actions", "Problems"), with the limits of the language profile. A fault is of a
--- phase, and the first phase that has one is the one that tells, since what a later phase says rests on the declarations
--- of those before it.
-use Rattle.std.specs.Prelude.{◌≡◌, ◌≢◌, ℕ, ◌+◌, ◌<◌, ◌≤◌, ◌⊎◌, true, false, List, [], ◌∷◌, ◌++◌, codes, length, map, slice_get, Some, Contains}
+-- Which faults a domain and a problem have, and which one is told: the rules for types, declarations and uses (PDDL 1.2
+-- manual, "Domains", "Actions", "Goal descriptions", "Effects", "Problems"; action costs, 2008), with the limits of the
+-- language profile. A fault is of a phase, and the first phase that has one is the one that tells, since what a later
+-- phase says rests on the declarations of those before it.
+use Rattle.std.specs.Prelude.{◌≡◌, ◌≢◌, ℕ, ◌+◌, ◌<◌, ◌≤◌, ◌⊎◌, ◌↔◌, true, false, List, ◌∷◌, ◌++◌, codes, length, map, slice_get, Some, Contains}
 use Rattle.model.specs.Limits.{max_types, max_objects, max_arguments, max_variables}
 use Rattle.model.specs.Task as task
 use Rattle.model.specs.Trees.{File, domain_file, problem_file, Name, Domain, Problem}
 use Rattle.model.specs.Trees as tree
-use Rattle.model.specs.Resolution.{Known, Declared, Placed, placed, words_of, equals_in, folded, is_same, is_known, declared, declared_types, declared_objects, type_names, parents_of, known_in_domain, known_in_action, known_with, known_in_problem, names_of_predicates, names_of_variables, names_of_objects, predicate_in_known, term_in, fits_in, word_of, comes_back, TypingFault, rank_of}
+use Rattle.model.specs.Resolution.{Known, Declared, Placed, placed, words_of, equals_in, folded, is_same, is_known, declared, declared_types, declared_objects, type_names, parents_of, types_of, Descends, declares_cost, known_in_domain, known_in_action, known_with, known_in_problem, names_of_predicates, names_of_variables, names_of_objects, predicate_in_known, term_in, fits_in, word_of, DescendsFromItself, TypingFault, rank_of}
 
 -- the phases, in the order in which they are looked at
 pub data Phase : Type 0 where
@@ -20,6 +20,7 @@ pub data Phase : Type 0 where
   of_init : Phase
   of_goal : Phase
 
+-- the place of a phase among them
 abbrev pub order_of : Phase → ℕ
 order_of of_names = 0
 order_of of_cycles = 1
@@ -96,7 +97,7 @@ pub data IsVariableFault (known : Known) (xs : List Declared) : ℕ → Placed �
   type_of_variable : (w : Placed) → HasType xs w → is_known known.type_names w.word ≡ false → IsVariableFault known xs 14 w
   variable_again : (w : Placed) → IsRepeated (words_of xs) w → IsVariableFault known xs 16 w
   in_scope_already : (w : Placed) → Contains (words_of xs) w → is_known (names_of_variables known.variables) w.word ≡ true → IsVariableFault known xs 20 w
-  -- the first one beyond the limit
+  -- the one that makes 17 in scope
   many_variables : (w : Placed) (place : ℕ) → slice_get (words_of xs) place ≡ Some w → place + length known.variables ≡ max_variables → IsVariableFault known xs 25 w
 
 -- By this number, this word of a formula of the file is refused, where these may be named in it: a word of one of its
@@ -118,11 +119,12 @@ abbrev mutual
   IsSomeFault file known tree.no_formula code w = ⊥
   IsSomeFault file known (tree.more_formulas first rest) code w = IsFormulaFault file known first code w ⊎ IsSomeFault file known rest code w
 
--- and of an effect
+-- and of a literal of an effect
 abbrev pub IsLiteralFault : File → Known → tree.EffectLiteral → ℕ → Placed → Type 0
 IsLiteralFault file known (tree.add a) code w = IsAtomFault file known a code w
 IsLiteralFault file known (tree.delete a) code w = IsAtomFault file known a code w
 
+-- And of an effect: a word of one of its literals, of a condition, or of the variables of a `forall`.
 abbrev mutual
   pub IsEffectFault : File → Known → tree.Effect → ℕ → Placed → Type 0
   IsEffectFault file known (tree.literal l) code w = IsLiteralFault file known l code w
@@ -154,8 +156,8 @@ pub data IsFaultIn (d : Domain) (p : Problem) : Phase → ℕ → Placed → Typ
   object_declared : (w : Placed) → Contains (words_of (declared_types d)) w → is_same (folded w.word) (codes "object") ≡ true → IsFaultIn d p of_names 16 w
   unknown_parent : (w : Placed) → HasType (declared_types d) w → IsUnknownType d w → IsFaultIn d p of_names 14 w
   many_types : (w : Placed) → slice_get (words_of (declared_types d)) max_types ≡ Some w → IsFaultIn d p of_names 25 w
-  -- 2: a type whose chain of parents comes back to it; the first declared type has the number 1
-  type_cycle : (place : ℕ) (w : Placed) → slice_get (words_of (declared_types d)) place ≡ Some w → comes_back (parents_of d) (place + 1) ≡ true
+  -- 2: a type that descends from itself; the first declared type has the number 1
+  type_cycle : (place : ℕ) (w : Placed) → slice_get (words_of (declared_types d)) place ≡ Some w → DescendsFromItself (parents_of d) (place + 1)
       → IsFaultIn d p of_cycles 15 w
   -- 3: constants and objects, which share their names
   type_of_object : (w : Placed) → HasType (declared_objects d p) w → IsUnknownType d w → IsFaultIn d p of_objects 14 w
@@ -169,7 +171,7 @@ pub data IsFaultIn (d : Domain) (p : Problem) : Phase → ℕ → Placed → Typ
       → IsFaultIn d p of_predicates 25 w
   -- 5: functions, and the metric
   function_again : (place : ℕ) (n : Name) → slice_get d.functions (place + 1) ≡ Some n → IsFaultIn d p of_functions 16 (placed domain_file n)
-  metric_undeclared : (n : Name) → p.metric ≡ Some n → d.functions ≡ [] → IsFaultIn d p of_functions 22 (placed problem_file n)
+  metric_undeclared : (n : Name) → p.metric ≡ Some n → declares_cost d ≡ false → IsFaultIn d p of_functions 22 (placed problem_file n)
   -- 6: actions
   action_again : (w : Placed) → IsRepeated (action_words d) w → IsFaultIn d p of_actions 16 w
   of_parameters : (a : tree.Action) (code : ℕ) (w : Placed) → Contains d.actions a → IsVariableFault (known_in_domain d) (parameters_of a) code w
@@ -178,14 +180,14 @@ pub data IsFaultIn (d : Domain) (p : Problem) : Phase → ℕ → Placed → Typ
       → IsFaultIn d p of_actions code w
   in_effect : (a : tree.Action) (code : ℕ) (w : Placed) → Contains d.actions a → IsEffectFault domain_file (known_in d a) a.effect code w
       → IsFaultIn d p of_actions code w
-  increase_undeclared : (a : tree.Action) (i : tree.Increase) → Contains d.actions a → Contains a.increases i → d.functions ≡ []
+  increase_undeclared : (a : tree.Action) (i : tree.Increase) → Contains d.actions a → Contains a.increases i → declares_cost d ≡ false
       → IsFaultIn d p of_actions 23 (placed domain_file i.word)
   increase_again : (a : tree.Action) (place : ℕ) (i : tree.Increase) → Contains d.actions a → slice_get a.increases (place + 1) ≡ Some i
       → IsFaultIn d p of_actions 23 (placed domain_file i.word)
   -- 7: the initial state
   in_init : (a : tree.GroundAtom) (code : ℕ) (w : Placed) → Contains p.init (tree.fact a)
       → IsAtomFault problem_file (known_in_problem d p) (as_atom a) code w → IsFaultIn d p of_init code w
-  cost_undeclared : (c : tree.InitialCost) → Contains p.init (tree.initial_cost c) → d.functions ≡ [] → IsFaultIn d p of_init 23 (placed problem_file c.function)
+  cost_undeclared : (c : tree.InitialCost) → Contains p.init (tree.initial_cost c) → declares_cost d ≡ false → IsFaultIn d p of_init 23 (placed problem_file c.function)
   cost_not_zero : (c : tree.InitialCost) → Contains p.init (tree.initial_cost c) → c.amount ≢ 0 → IsFaultIn d p of_init 23 (placed problem_file c.number)
   cost_again : (place : ℕ) (w : Placed) → slice_get (equals_in problem_file p.init) (place + 1) ≡ Some w → IsFaultIn d p of_init 23 w
   negated : (word : Name) (a : tree.GroundAtom) → Contains p.init (tree.negated word a) → IsFaultIn d p of_init 24 (placed problem_file word)
@@ -197,6 +199,12 @@ pub data IsFaultIn (d : Domain) (p : Problem) : Phase → ℕ → Placed → Typ
 -- no phase has a fault
 abbrev pub IsWellTyped : Domain → Problem → Type 0
 IsWellTyped d p = (phase : Phase) (code : ℕ) (w : Placed) → IsFaultIn d p phase code w → ⊥
+
+-- of a well-typed pair, the supertypes of a type are those that it descends from
+abbrev pub SupertypesAreThoseAbove : Type 0
+SupertypesAreThoseAbove =
+    (d : Domain) (p : Problem) → IsWellTyped d p → (number : ℕ) (t : task.ObjectType) → slice_get (types_of d) number ≡ Some t
+    → (above : ℕ) → Contains t.supertypes above ↔ Descends (parents_of d) number above
 
 -- the phases before this one have no fault
 abbrev pub IsFirstPhase : Domain → Problem → Phase → Type 0

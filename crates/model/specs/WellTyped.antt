@@ -29,6 +29,7 @@ abbrev pub is_atom : Task → Atom → Bool
 is_atom task a =
     option_map_or (λ (p : Predicate). pointwise (is_of task) p.arguments a.objects) (slice_get task.predicates a.predicate) false
 
+-- a formula in whose parts all atoms and terms are such, and no more variables are in scope than may be
 abbrev mutual
   pub is_formula : Task → List Union → Formula → Bool
   is_formula task scope (atom a) = is_lifted_atom task scope a
@@ -44,6 +45,7 @@ abbrev mutual
   are_formulas task scope no_formula = true
   are_formulas task scope (more_formulas first rest) = is_formula task scope first && are_formulas task scope rest
 
+-- an effect's literal, and an effect, in the same way
 abbrev pub is_effect_literal : Task → List Union → EffectLiteral → Bool
 is_effect_literal task scope (add a) = is_lifted_atom task scope a
 is_effect_literal task scope (delete a) = is_lifted_atom task scope a
@@ -59,6 +61,7 @@ abbrev mutual
   are_effects task scope no_effect = true
   are_effects task scope (more_effects first rest) = is_effect task scope first && are_effects task scope rest
 
+-- a schema, whose parameters are in scope
 abbrev pub is_schema : Task → Schema → Bool
 is_schema task s =
     nat_le (length s.parameters) max_variables && is_formula task s.parameters s.precondition && is_effect task s.parameters s.effect
@@ -67,6 +70,7 @@ is_schema task s =
 abbrev pub is_whole_chain : Task → ObjectType → Bool
 is_whole_chain task t = list_all (λ above. list_all (λ higher. list_any (nat_eq higher) t.supertypes) (supertypes_of task above)) t.supertypes
 
+-- a task of such types, predicates, schemas and atoms, and such a goal
 abbrev pub is_task : Task → Bool
 is_task task =
     list_all (is_whole_chain task) task.types

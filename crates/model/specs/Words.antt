@@ -1,7 +1,7 @@
--- What it means that a text reads as words, and which fault is told of a text that does not. This is the part of the
--- PDDL 1.2 manual (1998; "Syntactic Notation" for comments, "Domains" for names) that is read here: bytes for characters,
--- names of ASCII letters, numbers of digits alone, and limits on the length of a text, the length of a run and the depth
--- of its lists.
+-- What it means that a text reads as words, and which fault is told of a text that does not. This is the part
+-- that is read here (PDDL 1.2 manual, "Syntactic Notation": comments; "Domains": names): bytes for characters, names of
+-- ASCII letters, numbers of digits alone, and limits on the length of a text, the length of a run and the depth of its
+-- lists.
 use Rattle.std.specs.Prelude.{◌≡◌, ℕ, zero, suc, ◌+◌, ◌-◌, ◌<◌, ◌≤◌, ◌⊎◌, Bool, true, false, ◌&&◌, ◌||◌, not, ◌==◌, nat_le, if◌then◌else◌, IsTrue, List, [], ◌∷◌, ◌++◌, length, slice_range, map, fold, sum_by, Option, None, Some, ⊤}
 use Rattle.std.specs.List.{list_all}
 use Rattle.std.specs.Char.{is_ascii_alphabetic, is_ascii_digit}

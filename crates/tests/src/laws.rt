@@ -8,7 +8,7 @@ use grounding::{
     only_counting_changes_are_made, packs_states,
 };
 use planner_main::{one_task, solved_certificates_are_accepted};
-use typing::examples_are_typed;
+use typing::{examples_are_typed, supertypes_are_those_above};
 use validator::{exactly_one_verdict_is_true, worked_examples_are_true};
 
 #[test]
@@ -19,6 +19,7 @@ fn laws_are_called() {
     pddl_tree::one_fault();
     pddl_tree::examples_are_as_told();
     examples_are_typed();
+    supertypes_are_those_above();
     one_task();
     plan_file::one_plan();
     plan_file::one_fault();

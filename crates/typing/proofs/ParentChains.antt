@@ -1,28 +1,16 @@
--- Chains of parents: where no type comes back on the chain of its own parent, each chain ends in `object`, and what stands
--- above a type stands above all types below it.
-use Rattle.std.proofs.Common.{◌≡◌, ℕ, ◌+◌, ◌<◌, ◌≤◌, Bool, true, false, ◌||◌, ◌&&◌, List, [], ◌∷◌, length, slice_index, nat_eq, refl, ap, sym, subst, ◌∙◌, arith, zero, suc, true≢false, ◌⊎◌, inl, inr}
-use Rattle.std.specs.List.{list_all, list_any, AllByRecursion, IsDistinct}
+-- Chains of parents: where no type comes back on the chain of its own parent, each chain ends in `object`, has just the
+-- types that its first one descends from, and what stands above a type stands above all types below it.
+use Rattle.std.proofs.Common.{◌≡◌, ℕ, ◌+◌, ◌<◌, ◌≤◌, Bool, true, false, ◌||◌, ◌&&◌, List, [], ◌∷◌, length, slice_index, nat_eq, refl, ap, sym, subst, ◌∙◌, arith, zero, suc, true≢false, ◌⊎◌, inl, inr, Some, slice_get}
+use Rattle.std.specs.Prelude.{◌↔◌, Contains}
+use Rattle.std.specs.List.{list_all, list_any, IsDistinct}
 use Rattle.std.proofs.lemmas.Bool.Decides.{nat_tests}
-use Rattle.std.proofs.lemmas.Bool.{eqb-true, or_from, or_parts}
+use Rattle.std.proofs.lemmas.Bool.{eqb-true, or_cases, or_from, or_right}
 use Rattle.std.proofs.lemmas.Map.Steps.{length-le_from_distinct_below}
 use Rattle.model.specs.Task as task
 use Rattle.model.specs.Meaning.{supertypes_in}
-use Rattle.model.specs.Typing.{chain, whole_chain, comes_back, types_from}
-
--- whether a number is among some
-abbrev pub among : ℕ → List ℕ → Bool
-among n xs = list_any (nat_eq n) xs
-
-or_cases : (a b : Bool) → (a || b) ≡ true → (a ≡ true) ⊎ (b ≡ true)
-or_cases true b h = inl refl
-or_cases false b h = inr h
-
-or_right : (a b : Bool) → b ≡ true → (a || b) ≡ true
-or_right true b h = refl
-or_right false b h = h
-
-same_true : (n : ℕ) → nat_eq n n ≡ true
-same_true n = grind (arith, nat_tests)
+use Rattle.model.specs.Typing.{chain, whole_chain, comes_back, types_from, Descends, itself, by_parent}
+use Rattle.model.proofs.ListLemmas.{Contains-here, Contains-there, Contains-none, Contains-cases}
+use Rattle.model.proofs.TypeDescent.{among, same_true, distinct_none, distinct_more, got, on_chain}
 
 both : (a b : Bool) → a ≡ true → b ≡ true → (a && b) ≡ true
 both a b p q = grind (arith, nat_tests)
@@ -33,19 +21,22 @@ all_among p [] h = refl
 all_among p (x ∷ xs) h =
     both (p x) (list_all p xs) (h x (ap (λ b. b || among x xs) (same_true x))) (all_among p xs (λ y among_rest. h y (or_right (nat_eq y x) (among y xs) among_rest)))
 
-not_among : (x : ℕ) (xs : List ℕ) → among x xs ≡ false → AllByRecursion (λ y. nat_eq x y ≡ false) xs
-not_among x [] h = tt
-not_among x (y ∷ ys) h =
-    let each = or_parts (nat_eq x y) (among x ys) h in
-    (each.0, not_among x ys each.1)
+-- a number that is among some is one of them
+pub among_Contains : (x : ℕ) (xs : List ℕ) → among x xs ≡ true → Contains xs x
+among_Contains x [] h = absurd (true≢false (sym h))
+among_Contains x (y ∷ ys) h = by (or_cases (nat_eq x y) (among x ys) h) (among_Contains x ys)
+  where
+    by : (nat_eq x y ≡ true) ⊎ (among x ys ≡ true) → (among x ys ≡ true → Contains ys x) → Contains (y ∷ ys) x
+    by (inl same) rest = subst (λ n. Contains (n ∷ ys) x) (eqb-true x y same) (Contains-here x ys)
+    by (inr later) rest = Contains-there y ys x (rest later)
 
-distinct_none : IsDistinct nat_eq []
-unfolding IsDistinct
-distinct_none = tt
-
-distinct_more : (x : ℕ) (xs : List ℕ) → among x xs ≡ false → IsDistinct nat_eq xs → IsDistinct nat_eq (x ∷ xs)
-unfolding IsDistinct
-distinct_more x xs h d = (not_among x xs h, d)
+pub Contains_among : (x : ℕ) (xs : List ℕ) → Contains xs x → among x xs ≡ true
+Contains_among x [] at = absurd (Contains-none x at)
+Contains_among x (y ∷ ys) at = by (Contains-cases y ys x at) (Contains_among x ys)
+  where
+    by : (y ≡ x) ⊎ Contains ys x → (Contains ys x → among x ys ≡ true) → among x (y ∷ ys) ≡ true
+    by (inl same) rest = ap (λ n. nat_eq x n || among x ys) same ∙ ap (λ b. b || among x ys) (same_true x)
+    by (inr later) rest = or_right (nat_eq x y) (among x ys) (rest later)
 
 module _ (parents : List ℕ) where
   -- the chain comes to `object` within so many steps
@@ -61,6 +52,19 @@ module _ (parents : List ℕ) where
   one_more (suc most) (suc number) h =
       let rest = one_more most (slice_index parents (suc number)) h in
       (rest.0, ap (λ xs. suc number ∷ xs) rest.1)
+
+  -- and no chain has more than one that ends
+  on_ended : (most steps number x : ℕ) → ends most number ≡ true → among x (chain parents steps number) ≡ true → among x (chain parents most number) ≡ true
+  on_ended zero steps number x h on = absurd (true≢false (sym h))
+  on_ended (suc most) zero number x h on = absurd (true≢false (sym on))
+  on_ended (suc most) (suc steps) zero x h on = on
+  on_ended (suc most) (suc steps) (suc number) x h on =
+      by (or_cases (nat_eq x (suc number)) (among x (chain parents steps (slice_index parents (suc number)))) on) (on_ended most steps (slice_index parents (suc number)) x h)
+    where
+      by : (nat_eq x (suc number) ≡ true) ⊎ (among x (chain parents steps (slice_index parents (suc number))) ≡ true)
+          → (among x (chain parents steps (slice_index parents (suc number))) ≡ true → among x (chain parents most (slice_index parents (suc number))) ≡ true) → among x (chain parents (suc most) (suc number)) ≡ true
+      by (inl same) rest = ap (λ b. b || among x (chain parents most (slice_index parents (suc number)))) same
+      by (inr later) rest = or_right (nat_eq x (suc number)) (among x (chain parents most (slice_index parents (suc number)))) (rest later)
 
   -- what stands on the chain has its chain within it
   pub within_chain : (most number above : ℕ) → ends most number ≡ true → among above (chain parents most number) ≡ true
@@ -149,6 +153,38 @@ module _ (parents : List ℕ) where
             zero_or : {q : ℕ} → (nat_eq q 0 ≡ true) ⊎ (among q (chain parents (length parents) number) ≡ true) → q < length parents
             zero_or {q} (inl same) = omega (arith, eqb-true q 0 same, l)
             zero_or {q} (inr on) = below (length parents) number q l on
+
+    -- what stands on a chain is what its first type descends from
+    descends : (most number above : ℕ) → number < length parents → among above (chain parents most number) ≡ true → Descends parents number above
+    descends zero number above l on = absurd (true≢false (sym on))
+    descends (suc most) zero above l on = by (or_cases (nat_eq above 0) false on)
+      where
+        by : (nat_eq above 0 ≡ true) ⊎ (false ≡ true) → Descends parents zero above
+        by (inl same) = subst (λ n. Descends parents n above) (eqb-true above 0 same) (itself above)
+        by (inr never) = absurd (true≢false (sym never))
+    descends (suc most) (suc number) above l on = by (or_cases (nat_eq above (suc number)) (among above (chain parents most (slice_index parents (suc number)))) on) (descends most (slice_index parents (suc number)) above (low (suc number)))
+      where
+        by : (nat_eq above (suc number) ≡ true) ⊎ (among above (chain parents most (slice_index parents (suc number))) ≡ true)
+            → (among above (chain parents most (slice_index parents (suc number))) ≡ true → Descends parents (slice_index parents (suc number)) above) → Descends parents (suc number) above
+        by (inl same) up = subst (λ n. Descends parents n above) (eqb-true above (suc number) same) (itself above)
+        by (inr later) up = by_parent (suc number) (slice_index parents (suc number)) above (got parents (suc number) l) (up later)
+
+    pub descends_on_chain : slice_get parents 0 ≡ Some 0 → (number above : ℕ) → number < length parents → (among above (whole_chain parents number) ≡ true) ↔ Descends parents number above
+    descends_on_chain root number above l = (
+      descends (length parents) number above l,
+      λ up. let found = on_chain parents root number above up in on_ended (length parents) found.0 number above (all_end number l) found.1,
+    )
+
+    -- the supertypes of a type, and its number
+    pub type_at : (start : ℕ) (names : List task.Name) (k : ℕ) (t : task.ObjectType) → slice_get (types_from parents start names) k ≡ Some t
+        → (t.supertypes ≡ whole_chain parents (start + k)) × (k < length names)
+    type_at start [] k t e = absurd (cc)
+    type_at start (name ∷ names) zero t e =
+        let here : record { name = name; supertypes = whole_chain parents start } ≡ t = cc in
+        (sym (ap (λ (x : task.ObjectType). x.supertypes) here) ∙ ap (whole_chain parents) (omega arith), omega arith)
+    type_at start (name ∷ names) (suc k) t e =
+        let rest = type_at (start + 1) names k t e in
+        (rest.0 ∙ ap (whole_chain parents) (omega arith), omega (arith, rest.1))
 
     -- what is found above a number
     found_above : (start : ℕ) (names : List task.Name) (k higher : ℕ) → among higher (supertypes_in (types_from parents start names) k) ≡ true → among higher (whole_chain parents (start + k)) ≡ true

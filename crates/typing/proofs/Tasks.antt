@@ -1,12 +1,13 @@
 -- The parts that the phases make are the task of the trees, where no phase has a fault.
 use Rattle.std.proofs.Common.{◌≡◌, ℕ, ◌+◌, ◌≤◌, ◌<◌, Bool, true, is_some, drop, List, [], ◌∷◌, ◌++◌, codes, map, length, slice_get, slice_index, nat_le, refl, ap, sym, subst, ◌∙◌, arith, zero, suc, Some}
+use Rattle.std.specs.Prelude.{◌↔◌, Contains}
 use Rattle.std.specs.List.{flat_map, list_all}
 use Rattle.std.proofs.lemmas.Bool.Decides.{nat_tests}
 use Rattle.std.proofs.lemmas.List.{length-map, take_all, map-append}
 use Rattle.model.specs.Task as task
 use Rattle.model.specs.Trees as tree
 use Rattle.model.specs.Trees.{File, domain_file, problem_file}
-use Rattle.model.specs.Typing.{TypingFault, Declared, Known, folded, names_of, names_of_objects, number_in, type_in, type_names, parents_of, comes_back, type_faults, words_of, one_after, refused, repeated, repeated_after, predicate_faults, terms_faults, arguments_in, ground_atom_faults, initial_cost_faults, fact_faults, init_faults, function_faults, formula_faults, domain_name_faults, type_declaration_faults, cycle_faults, object_faults, declaration_faults, action_faults, argument_faults, schema_faults, atom_in, atoms_in, formula_in, object_in, declared_types, declared_constants, declared, equals_in, predicates_of, known_in_domain, known_in_problem, task_of_trees, faults_of, first_filled, IsWellTyped}
+use Rattle.model.specs.Typing.{TypingFault, Declared, Known, folded, names_of, names_of_objects, number_in, type_in, type_names, parents_of, types_of, Descends, whole_chain, comes_back, type_faults, words_of, one_after, refused, repeated, repeated_after, predicate_faults, terms_faults, arguments_in, ground_atom_faults, initial_cost_faults, fact_faults, init_faults, function_faults, formula_faults, domain_name_faults, type_declaration_faults, cycle_faults, object_faults, declaration_faults, action_faults, argument_faults, schema_faults, atom_in, atoms_in, formula_in, object_in, declared_types, declared_constants, declared, equals_in, predicates_of, known_in_domain, known_in_problem, task_of_trees, faults_of, first_filled, ListsNoFault}
 use Rattle.model.specs.WellTyped.{is_task}
 use Rattle.model.proofs.Tests.{passes_got}
 use Rattle.typing.specs.declared.names.Contents.{Contents}
@@ -17,7 +18,7 @@ use Rattle.typing.specs.Task.{TaskFault, TellsLeastOf, TellsLeastFault}
 use Rattle.typing_formulas.specs.Scope.{narrow_atoms_in}
 use Rattle.typing_formulas.proofs.Tells.{tells_here, tells_later}
 use Rattle.typing_formulas.proofs.Empty.{nil_left, nil_right, not_refused, and_true}
-use Rattle.typing.proofs.ParentChains.{all_whole}
+use Rattle.typing.proofs.ParentChains.{all_whole, descends_on_chain, type_at, among_Contains, Contains_among}
 use Rattle.typing_formulas.proofs.Declared.{names_are}
 use Rattle.typing.proofs.Declaring.{parents_low, none_comes_back}
 use Rattle.typing.proofs.WellTyped.{Fits, declared_count, arities_fit, schemas_fit, facts_fit, formula_fits}
@@ -119,21 +120,44 @@ module _ (d : tree.Domain) (p : tree.Problem) (no_type : type_faults_of d p ≡ 
   pub low_arguments : list_all (λ (q : task.Predicate). nat_le (length q.arguments) 8) (predicates_of d) ≡ true
   low_arguments = arities_fit (type_names d) d.predicates (nil_right (refused 16 (repeated (map (λ (q : tree.Predicate). record { file = domain_file; word = q.name }) d.predicates))) (flat_map (argument_faults (type_names d)) d.predicates) no_declaration)
 
+  -- each parent is a type, and no type comes back
+  some_type : 0 < length (type_names d)
+  some_type = omega (arith, count_types, length-map (declared_types d) (λ (x : Declared). type_in (type_names d) x.types))
+
+  parents_fit : (k : ℕ) → slice_index (parents_of d) k < length (parents_of d)
+  parents_fit zero = omega (arith, count_types, some_type)
+  parents_fit (suc k) =
+      let xs = declared_types d in
+      let unknown = nil_right twice_types (type_faults (type_names d) xs) (nil_left (twice_types ++ type_faults (type_names d) xs) many_types no_names) in
+      let low = parents_low (type_names d) some_type xs unknown k in
+      omega (arith, low, count_types)
+
+  none_back : (k : ℕ) → suc k < length (parents_of d) → comes_back (parents_of d) (suc k) ≡ false
+  none_back k l =
+      let xs = declared_types d in
+      ap (comes_back (parents_of d)) (next k) ∙ none_comes_back (parents_of d) 1 xs no_cycle k (omega (arith, l, length-map xs (λ (x : Declared). type_in (type_names d) x.types)))
+
+  -- the supertypes of a type are those that it descends from
+  pub supertypes_above : (number : ℕ) (t : task.ObjectType) → slice_get (types_of d) number ≡ Some t → (above : ℕ) → Contains t.supertypes above ↔ Descends (parents_of d) number above
+  supertypes_above number t at above =
+      let parents = parents_of d in
+      let here = type_at parents parents_fit none_back 0 (type_names d) number t at in
+      let is : t.supertypes ≡ whole_chain parents number = here.0 ∙ ap (whole_chain parents) (omega arith) in
+      let both = descends_on_chain parents parents_fit none_back refl number above (omega (arith, here.1, count_types)) in (
+        λ stands. both.0 (Contains_among above (whole_chain parents number) (subst (λ xs. Contains xs above) is stands)),
+        λ up. subst (λ xs. Contains xs above) (sym is) (among_Contains above (whole_chain parents number) (both.1 up)),
+      )
+
   pub typed : is_task (task_of_trees d p) ≡ true
   typed =
       let t = task_of_trees d p in
       let known = known_in_problem d p in
-      let xs = declared_types d in
-      let parents = parents_of d in
-      let some : 0 < length (type_names d) = omega (arith, count_types, length-map xs (λ (x : Declared). type_in (type_names d) x.types)) in
-      let unknown = nil_right twice_types (type_faults (type_names d) xs) (nil_left (twice_types ++ type_faults (type_names d) xs) many_types no_names) in
-      let parents_fit : (k : ℕ) → slice_index parents k < length parents = λ k. fits_at k some unknown in
       let fits : Fits t [] known = record { types = refl; predicates = refl; variables = refl; objects = λ n o e. e } in
       and_true _ _
       (and_true _ _
       (and_true _ _
       (and_true _ _
-      (all_whole parents parents_fit (λ k l. ap (comes_back parents) (next k) ∙ none_comes_back parents 1 xs no_cycle k (omega (arith, l, length-map xs (λ (x : Declared). type_in (type_names d) x.types)))) (type_names d) 0 (type_names d) (omega (arith, count_types)))
+      (all_whole (parents_of d) parents_fit none_back (type_names d) 0 (type_names d) (omega (arith, count_types)))
       low_arguments)
       (schemas_fit t (known_in_domain d) refl refl
       (λ n o e. ap (λ os. slice_get os n) (map-append (object_in (type_names d)) (declared_constants d) (declared problem_file p.objects)) ∙ got_first (map (object_in (type_names d)) (declared_constants d)) (map (object_in (type_names d)) (declared problem_file p.objects)) n o e)
@@ -141,16 +165,12 @@ module _ (d : tree.Domain) (p : tree.Problem) (no_type : type_faults_of d p ≡ 
       (nil_right (refused 16 (repeated (map (λ (a : tree.Action). record { file = domain_file; word = a.name }) d.actions))) (flat_map (schema_faults (known_in_domain d)) d.actions) no_action)))
       (facts_fit t [] problem_file known fits p.init no_init))
       (formula_fits t problem_file [] known fits (omega arith) p.goal no_goal)
-    where
-      fits_at : (k : ℕ) → 0 < length (type_names d) → type_faults (type_names d) (declared_types d) ≡ [] → slice_index (parents_of d) k < length (parents_of d)
-      fits_at zero some unknown = omega (arith, count_types, some)
-      fits_at (suc k) some unknown = let low = parents_low (type_names d) some (declared_types d) unknown k in omega (arith, low, count_types)
 
 -- ---- the task that the phases make
 
 -- what the phases made of the pair, and that none found a fault
 pub record IsMade (d : tree.Domain) (p : tree.Problem) (made : task.Task) : Type 0 where
-  pub well_typed : IsWellTyped d p
+  pub well_typed : ListsNoFault d p
   pub same : made ≡ task_of_trees d p
   pub typed : is_task made ≡ true
 

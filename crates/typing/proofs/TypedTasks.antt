@@ -5,11 +5,11 @@ use Rattle.model.specs.Task.{Task}
 use Rattle.model.specs.Trees.{Domain, Problem}
 use Rattle.model.specs.Resolution.{TypingFault, task_of_trees}
 use Rattle.model.specs.Typing.{first_filled, phases}
-use Rattle.model.specs.TypingFaults.{IsWellTyped}
+use Rattle.model.specs.TypingFaults.{IsWellTyped, SupertypesAreThoseAbove}
 use Rattle.model.specs.WellTyped.{is_task}
 use Rattle.model.specs.Files.{IsTaskOf}
 use Rattle.model.proofs.TypingFaultsTold.{well_typed_listed}
-use Rattle.typing.proofs.Tasks.{none_filled, typed}
+use Rattle.typing.proofs.Tasks.{none_filled, supertypes_above, typed}
 
 -- where the first list with a fault has none, each list is empty
 each_empty : (lists : List (List TypingFault)) → first_filled lists ≡ [] → (k : ℕ) (faults : List TypingFault) → slice_get lists k ≡ Some faults → faults ≡ []
@@ -22,6 +22,15 @@ pub trees_are_typed : (d : Domain) (p : Problem) → IsWellTyped d p → is_task
 trees_are_typed d p well =
     let empty = each_empty (phases d p) (well_typed_listed d p well) in
     typed d p
+    (λ i. first_filled (empty 0 _ refl i ∷ empty 1 _ refl i ∷ []))
+    (λ i. first_filled (empty 3 _ refl i ∷ empty 4 _ refl i ∷ empty 5 _ refl i ∷ []))
+    (λ i. first_filled (empty 6 _ refl i ∷ empty 7 _ refl i ∷ []))
+
+-- and its supertypes
+pub supertypes_are_those_above : SupertypesAreThoseAbove
+supertypes_are_those_above d p well =
+    let empty = each_empty (phases d p) (well_typed_listed d p well) in
+    supertypes_above d p
     (λ i. first_filled (empty 0 _ refl i ∷ empty 1 _ refl i ∷ []))
     (λ i. first_filled (empty 3 _ refl i ∷ empty 4 _ refl i ∷ empty 5 _ refl i ∷ []))
     (λ i. first_filled (empty 6 _ refl i ∷ empty 7 _ refl i ∷ []))

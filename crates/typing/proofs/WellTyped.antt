@@ -10,7 +10,7 @@ use Rattle.std.proofs.lemmas.Option.{slice_get-map}
 use Rattle.model.specs.Task as task
 use Rattle.model.specs.Trees as tree
 use Rattle.model.specs.Trees.{File, domain_file}
-use Rattle.model.specs.Typing.{Known, Placed, Variable, Declared, declared, folded, is_same, is_known, number_in, names_of_objects, names_of_predicates, names_of_variables, unions_in, union_in, repeated, one_after, refused, refused_word, words_of, unknown_faults, faults_against, predicate_faults, predicate_in_known, arguments_in, fits_in, term_faults, misfit_faults, terms_faults, atom_faults, formula_faults, formulas_faults, effect_literal_faults, effect_faults, effects_faults, increase_faults, ground_atom_faults, initial_cost_faults, fact_faults, type_faults, argument_faults, schema_faults, term_in, lifted_atom_in, formula_in, formulas_in, effect_literal_in, effect_in, effects_in, atom_in, atoms_in, predicate_in, known_in_action, schema_in, known_with, known_among, variable_faults, one_too_many, exists_each, forall_each, each_of}
+use Rattle.model.specs.Typing.{Known, Placed, Variable, Declared, declared, folded, is_same, is_known, number_in, names_of_objects, names_of_predicates, names_of_variables, unions_in, union_in, repeated, one_after, refused, refused_word, words_of, unknown_faults, faults_against, predicate_faults, predicate_in_known, arguments_in, fits_in, term_faults, misfit_faults, terms_faults, atom_faults, formula_faults, formulas_faults, effect_literal_faults, effect_faults, effects_faults, increase_faults, ground_atom_faults, initial_cost_faults, fact_faults, type_faults, argument_faults, schema_faults, term_in, lifted_atom_in, formula_in, formulas_in, effect_literal_in, effect_in, effects_in, atom_in, atoms_in, predicate_in, known_in_action, schema_in, known_with, known_among, variable_faults, one_too_many, exists_each, forall_each, exists_over, forall_over, each_of}
 use Rattle.model.specs.Meaning.{is_below_in, is_of}
 use Rattle.model.specs.WellTyped.{is_term, is_some_term, is_lifted_atom, is_atom, is_formula, are_formulas, is_effect_literal, is_effect, are_effects, is_schema}
 use Rattle.typing_formulas.proofs.Lists.{list_any-position}
@@ -167,6 +167,15 @@ each_forall t scope (u ∷ us) part low typed =
     and_true _ _ (lt_true (length scope) 16 (omega (arith, low)))
     (each_forall t (scope ++ u ∷ []) us part (omega (arith, low, length_push scope u)) (ap (λ s. is_formula t s part) (append_assoc scope (u ∷ []) us) ∙ typed))
 
+-- the quantifier of a file over these variables
+over_exists : (t : task.Task) (scope us : List task.Union) (part : task.Formula) → length scope + length us ≤ 16 → is_formula t (scope ++ us) part ≡ true → is_formula t scope (exists_over us part) ≡ true
+over_exists t scope [] part low typed = and_true _ _ (each_exists t scope [] part low typed) refl
+over_exists t scope (u ∷ us) part low typed = each_exists t scope (u ∷ us) part low typed
+
+over_forall : (t : task.Task) (scope us : List task.Union) (part : task.Formula) → length scope + length us ≤ 16 → is_formula t (scope ++ us) part ≡ true → is_formula t scope (forall_over us part) ≡ true
+over_forall t scope [] part low typed = and_true _ _ (each_forall t scope [] part low typed) refl
+over_forall t scope (u ∷ us) part low typed = each_forall t scope (u ∷ us) part low typed
+
 each_effect : (t : task.Task) (scope us : List task.Union) (part : task.Effect) → length scope + length us ≤ 16 → is_effect t (scope ++ us) part ≡ true → is_effect t scope (each_of us part) ≡ true
 each_effect t scope [] part low typed = ap (λ s. is_effect t s part) (sym (append-nil scope)) ∙ typed
 each_effect t scope (u ∷ us) part low typed =
@@ -229,7 +238,7 @@ module _ (t : task.Task) (file : File) where
         let inner = formula_faults file (known_with known xs) part in
         let us = unions_in known.type_names xs in
         let brought = brings_in t scope known fits low xs (nil_left heads inner e) in
-        each_exists t scope us (formula_in file (known_with known xs) part) brought.few
+        over_exists t scope us (formula_in file (known_with known xs) part) brought.few
         (formula_fits (scope ++ us) (known_with known xs) brought.fits (omega (arith, brought.few, length-append scope us)) part (nil_right heads inner e))
     formula_fits scope known fits low (tree.forall groups part) e =
         let xs = declared file groups in
@@ -237,7 +246,7 @@ module _ (t : task.Task) (file : File) where
         let inner = formula_faults file (known_with known xs) part in
         let us = unions_in known.type_names xs in
         let brought = brings_in t scope known fits low xs (nil_left heads inner e) in
-        each_forall t scope us (formula_in file (known_with known xs) part) brought.few
+        over_forall t scope us (formula_in file (known_with known xs) part) brought.few
         (formula_fits (scope ++ us) (known_with known xs) brought.fits (omega (arith, brought.few, length-append scope us)) part (nil_right heads inner e))
 
     formulas_fit : (scope : List task.Union) (known : Known) → Fits t scope known → length scope ≤ 16 → (fs : tree.Formulas) → formulas_faults file known fs ≡ [] → are_formulas t scope (formulas_in file known fs) ≡ true

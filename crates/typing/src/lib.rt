@@ -13,7 +13,7 @@ mod objects;
 mod statements;
 mod task;
 
-pub use laws::examples_are_typed;
+pub use laws::{examples_are_typed, supertypes_are_those_above};
 pub use task::Task;
 pub use typing_formulas::{
     Atom, Effect, EffectLiteral, Formula, LiftedAtom, MAX_ARGUMENTS, MAX_OBJECTS, MAX_VARIABLES,

@@ -37,7 +37,7 @@ impl Task {
     ghost use Rattle.syntax_tree.specs.Tree.{domain_of, problem_of};
     ghost use Rattle.typing_formulas.specs.TaskParts.{atom_of, formula_of, object_of, predicate_id_of, schema_id_of, shape_of, shape_of_schema, type_of, union_of};
     ghost use Rattle.model.specs.Meaning.{supertypes_of, is_of, is_below, objects_of};
-    ghost use Rattle.model.specs.Typing.{is_same, task_of_trees, IsWellTyped};
+    ghost use Rattle.model.specs.Typing.{is_same, task_of_trees, ListsNoFault};
 
     /// The task of a domain and a problem: each name becomes its number.
     ///
@@ -57,7 +57,7 @@ impl Task {
         domain: &Domain<'_>,
         problem: &Problem<'_>,
     ) -> Result<Task, TaskFault>
-        ensures well_typed { OnOk result (IsWellTyped (domain_of domain.now) (problem_of problem.now)) }
+        ensures well_typed { OnOk result (ListsNoFault (domain_of domain.now) (problem_of problem.now)) }
         ensures task { IfOk result (λ t. task_of t ≡ task_of_trees (domain_of domain.now) (problem_of problem.now)) }
         ensures least { IfErr result (TellsLeastFault (domain_of domain.now) (problem_of problem.now)) }
     {

@@ -11,7 +11,7 @@ use Rattle.syntax_tree.proofs.Rows as rows
 use Rattle.typing_formulas.specs.TaskParts.{formula_of, formulas_of}
 use Rattle.model.specs.Task as task
 use Rattle.model.specs.Trees.{File, formulas}
-use Rattle.model.specs.Typing.{Known, TypingFault, formula_in, formulas_in, formula_faults, formulas_faults, exists_each, forall_each}
+use Rattle.model.specs.Typing.{Known, TypingFault, formula_in, formulas_in, formula_faults, formulas_faults, exists_each, forall_each, exists_over, forall_over}
 use Rattle.typing_formulas.specs.Walk.{found}
 
 -- ---- formulas
@@ -83,3 +83,12 @@ exists_each-push (v ∷ us) u part = ap (task.exists v) (exists_each-push us u p
 pub forall_each-push : (us : List task.Union) (u : task.Union) (part : task.Formula) → forall_each (us ++ u ∷ []) part ≡ forall_each us (task.forall u part)
 forall_each-push [] u part = refl
 forall_each-push (v ∷ us) u part = ap (task.forall v) (forall_each-push us u part)
+
+-- a quantifier over no variable
+pub exists_over_none : (parts : Vec Formula) (part : Formula) (us : List task.Union) → parts.items ≡ part ∷ [] → us ≡ [] → formula_of (formula.Or parts) ≡ exists_over us (formula_of part)
+exists_over_none parts part us one none =
+    formula_of-Or parts ∙ ap (λ items. task.or (joined_formulas (map formula_of items))) one ∙ sym (ap (λ vs. exists_over vs (formula_of part)) none)
+
+pub forall_over_none : (parts : Vec Formula) (part : Formula) (us : List task.Union) → parts.items ≡ part ∷ [] → us ≡ [] → formula_of (formula.And parts) ≡ forall_over us (formula_of part)
+forall_over_none parts part us one none =
+    formula_of-And parts ∙ ap (λ items. task.and (joined_formulas (map formula_of items))) one ∙ sym (ap (λ vs. forall_over vs (formula_of part)) none)

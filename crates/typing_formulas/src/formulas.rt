@@ -83,6 +83,17 @@ fn exists_each(alloc: Global, unions: Vec<TypeUnion>, part: Formula) -> Result<F
     Ok(formula)
 }
 
+/// The `exists` of a file over variables of these types: over none, a disjunction of the part alone.
+fn exists_over(alloc: Global, unions: Vec<TypeUnion>, part: Formula) -> Result<Formula, NoMemory>
+    ensures { IfOk result (λ f. parts.formula_of f ≡ typing.exists_over (map parts.union_of unions.items) (parts.formula_of part)) }
+{
+    if unions.is_empty() {
+        Ok(Formula::Or(vec![in alloc; part]?))
+    } else {
+        exists_each(alloc, unions, part)
+    }
+}
+
 /// One `forall` for each variable of these types, the first outermost.
 fn forall_each(alloc: Global, unions: Vec<TypeUnion>, part: Formula) -> Result<Formula, NoMemory>
     ensures { IfOk result (λ f. parts.formula_of f ≡ typing.forall_each (map parts.union_of unions.items) (parts.formula_of part)) }
@@ -93,6 +104,17 @@ fn forall_each(alloc: Global, unions: Vec<TypeUnion>, part: Formula) -> Result<F
         formula = Formula::Forall(types, Box::new(alloc, formula)?);
     }
     Ok(formula)
+}
+
+/// The `forall` of a file over variables of these types: over none, a conjunction of the part alone.
+fn forall_over(alloc: Global, unions: Vec<TypeUnion>, part: Formula) -> Result<Formula, NoMemory>
+    ensures { IfOk result (λ f. parts.formula_of f ≡ typing.forall_over (map parts.union_of unions.items) (parts.formula_of part)) }
+{
+    if unions.is_empty() {
+        Ok(Formula::And(vec![in alloc; part]?))
+    } else {
+        forall_each(alloc, unions, part)
+    }
 }
 
 /// Brings the variables of a quantifier or of an effect's `forall` into scope. It gives what each has to be.
@@ -215,11 +237,11 @@ pub fn formula(
         }
         tree::Formula::Exists(groups, part) => {
             let inner = quantifier(alloc, walk, globals, variables, groups, part)?;
-            exists_each(alloc, inner.unions, inner.part)
+            exists_over(alloc, inner.unions, inner.part)
         }
         tree::Formula::Forall(groups, part) => {
             let inner = quantifier(alloc, walk, globals, variables, groups, part)?;
-            forall_each(alloc, inner.unions, inner.part)
+            forall_over(alloc, inner.unions, inner.part)
         }
     }
 }
