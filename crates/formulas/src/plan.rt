@@ -1,6 +1,6 @@
 //! Plans: lists of instances.
 ghost use Rattle.std.specs.Prelude.{◌≤◌, vec_len};
-ghost use Rattle.model.specs.RunLimits.{max_steps};
+ghost use Rattle.model.specs.Limits.{max_steps};
 
 use crate::instance::Instance;
 

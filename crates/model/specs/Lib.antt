@@ -14,7 +14,6 @@ pub mod Typing
 pub mod TypingFaults
 pub mod TypingExamples
 pub mod Runs
-pub mod RunLimits
 pub mod Meaning
 pub mod Instances
 pub mod SureLiterals

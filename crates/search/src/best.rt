@@ -1,6 +1,6 @@
 //! Search for a cheapest plan of a transition system, by expanding states in the order of their cost and estimate.
 ghost use Rattle.std.specs.Prelude.{◌≡◌, ◌≤◌, [], IfOk};
-ghost use Rattle.model.specs.RunLimits.{max_states_listed};
+ghost use Rattle.model.specs.Limits.{max_states_listed};
 ghost use Rattle.search.specs.Estimates.{value_by};
 ghost use Rattle.search.specs.Outcome.{IsTrueOutcome};
 
