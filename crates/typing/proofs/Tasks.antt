@@ -1,5 +1,5 @@
 -- The parts that the phases make are the task of the trees, where no phase has a fault.
-use Rattle.std.proofs.Common.{◌≡◌, ℕ, ◌+◌, ◌≤◌, ◌<◌, Bool, true, is_some, drop, List, [], ◌∷◌, ◌++◌, codes, map, length, slice_get, slice_index, nat_le, refl, ap, sym, subst, ◌∙◌, arith, zero, suc, Some}
+use Rattle.std.proofs.Common.{◌≡◌, ℕ, ◌+◌, ◌≤◌, ◌<◌, Bool, true, false, is_some, drop, List, [], ◌∷◌, ◌++◌, codes, map, length, slice_get, slice_index, nat_le, refl, ap, sym, subst, ◌∙◌, arith, zero, suc, Some}
 use Rattle.std.specs.Prelude.{◌↔◌, Contains}
 use Rattle.std.specs.List.{flat_map, list_all}
 use Rattle.std.proofs.lemmas.Bool.Decides.{nat_tests}
