@@ -1,11 +1,13 @@
 -- What a reader hands out and tells, where some lines were handed out before.
-use Rattle.std.proofs.Common.{◌≡◌, ◌≢◌, ℕ, ◌+◌, ◌<◌, true, List, [], ◌∷◌, ◌++◌, map, length, Option, Some, refl, ap, ◌∙◌, subst, length-append, arith}
-use Rattle.std.specs.Prelude.{◌&&◌, ◌==◌, nat_le, nat_lt, Err}
+use Rattle.std.proofs.Common.{◌≡◌, ◌≢◌, ℕ, ◌+◌, ◌<◌, true, List, [], ◌∷◌, ◌++◌, map, length, Option, None, Some, refl, ap, ◌∙◌, subst, length-append, arith}
+use Rattle.std.specs.Prelude.{◌&&◌, ◌==◌, nat_le, nat_lt, Err, Ok}
 use Rattle.std.proofs.lemmas.Bool.{and_parts, le-leb, leb-true, ltb-true}
 use Rattle.std.proofs.lemmas.List.{length-map}
 use Rattle.certificate_text.specs.CertificateText.{TextLine, version, claims, constant, atom, listed, last, is_line, most_atoms, most_states, AreWhole, IsFaultAfter, trailing}
 use Rattle.certificate_text.specs.CertificateMachine.{Place, at_version, at_claim, at_constant, in_body, ended, next_place}
-use Rattle.certificate_text.proofs.Machine.{StandsBefore, never, only_where, place_same}
+use Rattle.certificate_text.proofs.Machine.{StandsBefore, begins, never, only_where, place_same}
+use Rattle.certificate_lines.specs.declared.line.CertLine.{CertLine}
+use Rattle.certificate_lines.specs.Lines.{text_line_of}
 use Rattle.certificate_reader.specs.declared.reader.CertReader.{CertReader}
 use Rattle.certificate_reader.specs.declared.next.NextFault.{NextFault}
 use Rattle.certificate_reader.specs.declared.next.NextFault.TheVariants as next
@@ -15,7 +17,7 @@ use Rattle.certificate_reader.specs.declared.stage.Stage.{Stage}
 use Rattle.certificate_reader.specs.declared.stage.Stage.TheVariants as stage
 use Rattle.certificate_reader.specs.Stages.{IsWithin, place_of}
 use Rattle.certificate_reader.specs.Ready.{IsPrompt, come_at, is_ready}
-use Rattle.certificate_reader.specs.Reader.{IsAdvance, IsAnswer, IsToldOf, fault_at}
+use Rattle.certificate_reader.specs.Reader.{HasRead, HaveBegun, IsAdvance, IsAnswer, IsToldOf, fault_at}
 
 -- one line more leads to a place within the limits
 pub leads_within : (place : Place) → IsWithin place → (line : TextLine) (next : Place) → next_place place line ≡ Some next → IsWithin next
@@ -121,3 +123,10 @@ module _ {R : Type 0} (remaining : R → Option (List ℕ)) (old between : CertR
   told_answer (next.Text fault) line is told = (is, told_still fault told)
   told_answer next.Device line is told = record { bytes = told.bytes; consumed = told.consumed; waits = told.waits; nothing = told.nothing }
   told_answer next.NoMemory line is told = tt
+
+-- ---- what the lines that were handed out begin
+
+module _ {R : Type 0} (remaining : R → Option (List ℕ)) (old new : CertReader R) (before : List TextLine) (read : HasRead old before) where
+  pub begun : (line : Option CertLine) → IsAdvance remaining old new before (Ok line) → HaveBegun before (Ok line)
+  begun None over = begins before (place_of old.position.stage) read.place
+  begun (Some line) handed = begins (before ++ text_line_of line ∷ []) (place_of new.position.stage) handed.read.place

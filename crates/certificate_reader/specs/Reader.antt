@@ -4,7 +4,7 @@ use Rattle.std.specs.Io.KnownBytes.{Consumes, IsAtEnd}
 use Rattle.devices.specs.Devices.{one_more}
 use Rattle.certificate_lines.specs.declared.line.CertLine.{CertLine}
 use Rattle.certificate_lines.specs.Lines.{text_line_of}
-use Rattle.certificate_text.specs.CertificateText.{TextLine, AreWhole, IsFaultAfter, whole_line}
+use Rattle.certificate_text.specs.CertificateText.{TextLine, AreWhole, BeginCertificate, IsFaultAfter, whole_line}
 use Rattle.certificate_text.specs.CertificateMachine.{place_after}
 use Rattle.certificate_reader.specs.declared.reader.CertReader.{CertReader}
 use Rattle.certificate_reader.specs.declared.reader.CertFault.{CertFault}
@@ -108,3 +108,9 @@ IsAnswer remaining old new before (Err (cert.Line fault line)) = (line ≡ lengt
 IsAnswer remaining old new before (Err cert.Device) = IsCutOff remaining old new
 IsAnswer remaining old new before (Err cert.NoMemory) = Unit {0}
 IsAnswer remaining old new before (Err cert.Failed) = ⊥
+
+-- What was handed out begins a certificate, and so does what stands before a line that is at fault.
+abbrev pub HaveBegun : List TextLine → Result (Option CertLine) CertFault → Type 0
+HaveBegun before (Ok (Some line)) = BeginCertificate (before ++ text_line_of line ∷ [])
+HaveBegun before (Ok None) = BeginCertificate before
+HaveBegun before (Err fault) = BeginCertificate before

@@ -3,7 +3,7 @@ ghost use Rattle.std.specs.Prelude.{◌≡◌, ◌+◌, ℕ, ◌++◌, [], ◌�
 ghost use Rattle.certificate_lines.specs.Lines.{text_line_of};
 ghost use Rattle.certificate_text.specs.CertificateText.{TextLine, AreWhole};
 ghost use Rattle.certificate_reader.specs.declared.reader.CertFault.TheVariants.{Failed};
-ghost use Rattle.certificate_reader.specs.Reader.{CountsCert, HasRead, IsAdvance, IsAnswer, fault_at, has_come, has_failed, lines_read, source_of, waits_in};
+ghost use Rattle.certificate_reader.specs.Reader.{CountsCert, HasRead, HaveBegun, IsAdvance, IsAnswer, fault_at, has_come, has_failed, lines_read, source_of, waits_in};
 ghost use Rattle.certificate_reader.specs.Next.{CountsFault};
 
 use crate::next::{NextFault, TextFault, is_at_end, next_line};
@@ -86,6 +86,8 @@ impl<R: Source> CertReader<R> {
         // What is handed out of the text, or told of it, where these lines were handed out before.
         ensures told { (before : List TextLine) → HasRead self.old before → has_failed self.old ≡ false
             → IsAnswer R.remaining self.old self.new before result }
+        // The lines that were handed out begin a certificate, and so those before the first line at fault.
+        ensures begins { (before : List TextLine) → HasRead self.old before → has_failed self.old ≡ false → HaveBegun before result }
         ensures failed { has_failed self.new ≡ is_err result }
         ensures still { has_failed self.old ≡ true → (result ≡ Err Failed) × (self.new ≡ self.old) }
         // The source is left alone where what is to be told has come.

@@ -1,3 +1,4 @@
 pub mod Devices
 pub mod Endless
 pub mod Failing
+pub mod Pieces

@@ -1,5 +1,5 @@
 //! Devices: where bytes come from, and where they go. A device may fail at any call.
-ghost use Rattle.std.specs.Prelude.{◌≡◌, ℕ, ◌<◌, Bool, true, List, [], Option, length, Err, IfOk, IsTrue, OnOk, None};
+ghost use Rattle.std.specs.Prelude.{◌≡◌, ℕ, ◌<◌, Bool, true, List, [], Option, length, Err, IfOk, IfSome, IsTrue, OnErr, OnOk, None};
 ghost use Rattle.std.specs.Io.{ReadsAtMost, WritesAtMost};
 ghost use Rattle.std.specs.Io.KnownBytes.{Appends, ReadConsumes, WriteAppends};
 ghost use Rattle.devices.specs.Devices.{AppendsBeginning, Counts, CountsDevice};
@@ -64,10 +64,15 @@ pub trait Source {
     /// The bytes that reads will give from here on, where the device tells them.
     ghost remaining: { Self → Option (List ℕ) } = { λ _. None };
 
+    /// How many bytes a read that succeeds gives into room of a length, where the device tells it.
+    ghost read_count: { Self → ℕ → Option ℕ } = { λ _ _. None };
+
     /// Reads some bytes into the room that is lent, and tells how many. 0 for room that is not empty means
-    /// the end. An interrupted call has failed.
+    /// the end. An interrupted call has failed. Where the call fails, the room is as it was.
     fn read(&mut self, into: &mut [u8]) -> Result<usize, DeviceFault>
         ensures bound { ReadsAtMost result into.new }
+        ensures unchanged { OnErr result (into.new ≡ into.old) }
+        ensures gives { IfOk result (λ count. IfSome (read_count self.old (length into.old)) (λ told. count ≡ told)) }
         ensures bytes { ReadConsumes (remaining self.old) (remaining self.new) result into.new }
         ensures failures { Counts (failures self.old) (failures self.new) result };
 }
@@ -80,6 +85,9 @@ pub trait Sink {
     /// The bytes that it has taken, where the device tells them.
     ghost taken: { Self → Option (List ℕ) } = { λ _. None };
 
+    /// How many bytes a write that succeeds takes of a piece of a length, where the device tells it.
+    ghost write_count: { Self → ℕ → Option ℕ } = { λ _ _. None };
+
     /// Whether a write may be refused for want of memory.
     ghost wants_memory: { Bool } = { true };
 
@@ -91,6 +99,7 @@ pub trait Sink {
     fn write(&mut self, piece: &[u8]) -> Result<usize, WriteFault>
         ensures bound { WritesAtMost result piece.now }
         ensures progress { 0 < length piece.now → IfOk result (λ count. 0 < count) }
+        ensures takes { IfOk result (λ count. IfSome (write_count self.old (length piece.now)) (λ told. count ≡ told)) }
         ensures bytes { WriteAppends (taken self.old) (taken self.new) result piece.now }
         ensures memory { result ≡ Err WriteFault.NoMemory → IsTrue wants_memory }
         ensures failures { CountsDevice (failures self.old) (failures self.new) result }

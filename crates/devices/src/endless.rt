@@ -35,7 +35,7 @@ impl Endless {
 }
 
 impl Source for Endless {
-    ghost use Rattle.std.specs.Prelude.{IfOk, Ok};
+    ghost use Rattle.std.specs.Prelude.{IfOk, IfSome, Ok, OnErr, Some};
     ghost use Rattle.std.specs.Io.{ReadsAtMost};
     ghost use Rattle.std.specs.Io.KnownBytes.{ReadConsumes};
     ghost use Rattle.devices.specs.Devices.{Counts};
@@ -43,8 +43,12 @@ impl Source for Endless {
 
     ghost failures = { λ device. 0 };
 
+    ghost read_count = { λ device room. Some (min room (length (left device))) };
+
     fn read(&mut self, into: &mut [u8]) -> Result<usize, DeviceFault>
         ensures bound { ReadsAtMost result into.new }
+        ensures unchanged { OnErr result (into.new ≡ into.old) }
+        ensures gives { IfOk result (λ count. IfSome (⟦<Endless as Source>⟧.read_count self.old (length into.old)) (λ told. count ≡ told)) }
         ensures bytes { ReadConsumes (⟦<Endless as Source>⟧.remaining self.old) (⟦<Endless as Source>⟧.remaining self.new) result into.new }
         ensures failures { Counts (⟦<Endless as Source>⟧.failures self.old) (⟦<Endless as Source>⟧.failures self.new) result }
         ensures count { result ≡ Ok (min (length into.old) (length (left self.old))) }

@@ -49,6 +49,8 @@ impl Source for Memory {
 
     ghost remaining = { λ device. Some (drop device.next device.bytes.items) };
 
+    ghost read_count = { λ device room. Some (min room (length (drop device.next device.bytes.items))) };
+
     fn read(&mut self, into: &mut [u8]) -> Result<usize, DeviceFault> {
         let count = fill(into, &self.bytes.as_slice()[self.next..]);
         self.next += count;
@@ -60,6 +62,8 @@ impl Sink for Memory {
     ghost failures = { λ device. 0 };
 
     ghost taken = { λ device. Some device.bytes.items };
+
+    ghost write_count = { λ _ piece. Some piece };
 
     fn write(&mut self, piece: &[u8]) -> Result<usize, WriteFault> {
         match self.bytes.extend_from_slice(piece) {
@@ -89,36 +93,73 @@ pub struct InPieces<D> {
 }
 
 impl<D> InPieces<D> {
+    ghost use Rattle.devices.specs.Pieces.{piece_length};
+
     /// The device, cut into pieces of this length.
     pub fn new(inner: D, length: usize) -> InPieces<D>
         requires { 0 < length }
-        ensures { result.inner ≡ inner }
+        ensures inner { result.inner ≡ inner }
+        ensures length { piece_length result ≡ length }
     {
         InPieces { inner, length }
     }
 }
 
 impl<S: Source> Source for InPieces<S> {
+    ghost use Rattle.std.specs.Prelude.{IfOk, IfSome, OnErr};
+    ghost use Rattle.std.specs.Io.{ReadsAtMost};
+    ghost use Rattle.std.specs.Io.KnownBytes.{ReadConsumes};
+    ghost use Rattle.devices.specs.Devices.{Counts};
+    ghost use Rattle.devices.specs.Pieces.{piece_length};
+
     ghost failures = { λ device. S.failures device.inner };
 
     ghost remaining = { λ device. S.remaining device.inner };
 
-    fn read(&mut self, into: &mut [u8]) -> Result<usize, DeviceFault> {
+    ghost read_count = { λ device room. S.read_count device.inner (min (piece_length device) room) };
+
+    fn read(&mut self, into: &mut [u8]) -> Result<usize, DeviceFault>
+        ensures bound { ReadsAtMost result into.new }
+        ensures at_most { IfOk result (λ count. count ≤ piece_length self.old) }
+        ensures unchanged { OnErr result (into.new ≡ into.old) }
+        ensures gives { IfOk result (λ count. IfSome (⟦<InPieces<S> as Source>⟧.read_count self.old (length into.old)) (λ told. count ≡ told)) }
+        ensures bytes { ReadConsumes (S.remaining self.old.inner) (S.remaining self.new.inner) result into.new }
+        ensures failures { Counts (S.failures self.old.inner) (S.failures self.new.inner) result }
+        ensures length { piece_length self.new ≡ piece_length self.old }
+    {
         let count = self.length.min(into.len());
         self.inner.read(&mut into[..count])
     }
 }
 
 impl<S: Sink> Sink for InPieces<S> {
+    ghost use Rattle.std.specs.Prelude.{Err, IfOk, IfSome, IsTrue};
+    ghost use Rattle.std.specs.Io.{WritesAtMost};
+    ghost use Rattle.std.specs.Io.KnownBytes.{WriteAppends};
+    ghost use Rattle.devices.specs.Devices.{CountsDevice};
+    ghost use Rattle.devices.specs.Pieces.{piece_length};
+
     ghost failures = { λ device. S.failures device.inner };
 
     ghost taken = { λ device. S.taken device.inner };
+
+    ghost write_count = { λ device piece. S.write_count device.inner (min (piece_length device) piece) };
 
     ghost wants_memory = { S.wants_memory };
 
     ghost name = { λ device. S.name device.inner };
 
-    fn write(&mut self, piece: &[u8]) -> Result<usize, WriteFault> {
+    fn write(&mut self, piece: &[u8]) -> Result<usize, WriteFault>
+        ensures bound { WritesAtMost result piece.now }
+        ensures at_most { IfOk result (λ count. count ≤ piece_length self.old) }
+        ensures progress { 0 < length piece.now → IfOk result (λ count. 0 < count) }
+        ensures takes { IfOk result (λ count. IfSome (⟦<InPieces<S> as Sink>⟧.write_count self.old (length piece.now)) (λ told. count ≡ told)) }
+        ensures bytes { WriteAppends (S.taken self.old.inner) (S.taken self.new.inner) result piece.now }
+        ensures memory { result ≡ Err WriteFault.NoMemory → IsTrue S.wants_memory }
+        ensures failures { CountsDevice (S.failures self.old.inner) (S.failures self.new.inner) result }
+        ensures name { S.name self.new.inner ≡ S.name self.old.inner }
+        ensures length { piece_length self.new ≡ piece_length self.old }
+    {
         let count = self.length.min(piece.len());
         self.inner.write(&piece[..count])
     }
@@ -204,7 +245,7 @@ impl<S: Source> FailsAt<S> {
 }
 
 impl<S: Source> Source for FailsAt<S> {
-    ghost use Rattle.std.specs.Prelude.{IsErr, IsTrue, false};
+    ghost use Rattle.std.specs.Prelude.{IfOk, IfSome, IsErr, IsTrue, OnErr, false};
     ghost use Rattle.std.specs.Io.{ReadsAtMost};
     ghost use Rattle.std.specs.Io.KnownBytes.{ReadConsumes};
     ghost use Rattle.devices.specs.Devices.{Counts};
@@ -214,8 +255,12 @@ impl<S: Source> Source for FailsAt<S> {
 
     ghost remaining = { λ device. S.remaining device.inner };
 
+    ghost read_count = { λ device room. S.read_count device.inner room };
+
     fn read(&mut self, into: &mut [u8]) -> Result<usize, DeviceFault>
         ensures bound { ReadsAtMost result into.new }
+        ensures unchanged { OnErr result (into.new ≡ into.old) }
+        ensures gives { IfOk result (λ count. IfSome (S.read_count self.old.inner (length into.old)) (λ told. count ≡ told)) }
         ensures bytes { ReadConsumes (S.remaining self.old.inner) (S.remaining self.new.inner) result into.new }
         ensures failures { Counts (⟦<FailsAt<S> as Source>⟧.failures self.old) (⟦<FailsAt<S> as Source>⟧.failures self.new) result }
         ensures fails { IsTrue (fails_now (calls_left self.old)) → IsErr result × (self.new.inner ≡ self.old.inner) }
@@ -262,7 +307,7 @@ impl<S: Sink> FailsAt<S> {
 }
 
 impl<S: Sink> Sink for FailsAt<S> {
-    ghost use Rattle.std.specs.Prelude.{Err, IfOk, IsTrue, false};
+    ghost use Rattle.std.specs.Prelude.{Err, IfOk, IfSome, IsTrue, false};
     ghost use Rattle.std.specs.Io.{WritesAtMost};
     ghost use Rattle.std.specs.Io.KnownBytes.{WriteAppends};
     ghost use Rattle.devices.specs.Devices.{CountsDevice};
@@ -272,6 +317,8 @@ impl<S: Sink> Sink for FailsAt<S> {
 
     ghost taken = { λ device. S.taken device.inner };
 
+    ghost write_count = { λ device piece. S.write_count device.inner piece };
+
     ghost wants_memory = { S.wants_memory };
 
     ghost name = { λ device. S.name device.inner };
@@ -279,6 +326,7 @@ impl<S: Sink> Sink for FailsAt<S> {
     fn write(&mut self, piece: &[u8]) -> Result<usize, WriteFault>
         ensures bound { WritesAtMost result piece.now }
         ensures progress { 0 < length piece.now → IfOk result (λ count. 0 < count) }
+        ensures takes { IfOk result (λ count. IfSome (S.write_count self.old.inner (length piece.now)) (λ told. count ≡ told)) }
         ensures bytes { WriteAppends (S.taken self.old.inner) (S.taken self.new.inner) result piece.now }
         ensures memory { result ≡ Err WriteFault.NoMemory → IsTrue S.wants_memory }
         ensures failures { CountsDevice (⟦<FailsAt<S> as Sink>⟧.failures self.old) (⟦<FailsAt<S> as Sink>⟧.failures self.new) result }

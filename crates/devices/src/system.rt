@@ -5,6 +5,9 @@ ghost use Rattle.devices.specs.Devices.{one_more};
 use crate::device::{DeviceFault, Sink, Source, WriteFault};
 use std::io::{Read, Write};
 
+/// The most bytes that come at a read.
+const PIECE: usize = 8192;
+
 /// A reader or a writer of the standard library, with a count of its failures.
 #[derive(Drop)]
 pub struct Device<T> {
@@ -71,8 +74,14 @@ impl<R: Read> Source for Device<R> {
     ghost remaining = { λ device. R.remaining device.inner };
 
     fn read(&mut self, into: &mut [u8]) -> Result<usize, DeviceFault> {
-        match self.inner.read(into) {
-            Ok(count) => Ok(count),
+        // std says nothing of room that a read fails in, so bytes come into other room first
+        let mut piece = [0u8; PIECE];
+        let room = PIECE.min(into.len());
+        match self.inner.read(&mut piece[..room]) {
+            Ok(count) => {
+                into[..count].copy_from_slice(&piece[..count]);
+                Ok(count)
+            }
             // `ErrorKind::Interrupted` too: an interrupted call is counted, and not made again
             Err(_) => {
                 self.count_failure();

@@ -1,6 +1,6 @@
 //! Plans: lists of instances.
 ghost use Rattle.std.specs.Prelude.{◌≤◌, vec_len};
-ghost use Rattle.formulas.specs.declared.plan.TheConstants.{MAX_STEPS};
+ghost use Rattle.model.specs.Limits.{max_steps};
 
 use crate::instance::Instance;
 
@@ -11,7 +11,7 @@ pub const MAX_STEPS: usize = 16_777_216;
 #[derive(Drop)]
 pub struct Plan {
     steps: Vec<Instance>,
-    ghost at_most: { vec_len steps ≤ MAX_STEPS },
+    ghost at_most: { vec_len steps ≤ max_steps },
 }
 
 impl Plan {
@@ -20,7 +20,7 @@ impl Plan {
 
     /// The plan of these instances, and `None` where there are more than 16,777,216.
     pub fn new(steps: Vec<Instance>) -> Option<Plan>
-        ensures too_long { IsNone result ↔ (MAX_STEPS < vec_len steps) }
+        ensures too_long { IsNone result ↔ (max_steps < vec_len steps) }
         ensures steps { IfSome result (λ p. plan_of p ≡ map instance_of steps.items) }
     {
         if steps.len() > MAX_STEPS {
@@ -32,7 +32,7 @@ impl Plan {
     /// Its instances, in order.
     pub fn steps(&self) -> &[Instance]
         ensures steps { map instance_of result.now ≡ plan_of self.now }
-        ensures at_most { length result.now ≤ MAX_STEPS }
+        ensures at_most { length result.now ≤ max_steps }
     {
         self.steps.as_slice()
     }

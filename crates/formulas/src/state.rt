@@ -16,7 +16,7 @@ pub struct State {
 }
 
 impl State {
-    ghost use Rattle.std.specs.Prelude.{map, IfOk, OnOk};
+    ghost use Rattle.std.specs.Prelude.{map, IfOk, OnOk, OnErr};
     ghost use Rattle.std.specs.FinSet.{empty, contains, from_list, insert, remove};
     ghost use Rattle.typing.specs.TaskParts.{atom_of};
     ghost use Rattle.typing.specs.Task.{task_of};
@@ -59,9 +59,10 @@ impl State {
         &self.atoms
     }
 
-    /// Makes the atom true.
+    /// Makes the atom true. Where memory was refused the state is as before.
     pub fn insert(&mut self, atom: Atom) -> Result<(), NoMemory>
-        ensures { OnOk result (state_of self.new ≡ insert (state_of self.old) (atom_of atom)) }
+        ensures ok { OnOk result (state_of self.new ≡ insert (state_of self.old) (atom_of atom)) }
+        ensures err { OnErr result (state_of self.new ≡ state_of self.old) }
     {
         self.atoms.insert(atom)?;
         Ok(())

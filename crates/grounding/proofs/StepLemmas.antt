@@ -1,15 +1,19 @@
 -- Steps of the ground task: an instance is applicable where its precondition holds, and then sets the bits of the changes
 -- that count and happen.
-use Rattle.std.proofs.Common.{◌≡◌, ◌∙◌, ℕ, Bool, true, false, ◌&&◌, List, length, None, Some, is_some, refl, sym, ap}
+use Rattle.std.proofs.Common.{◌≡◌, ◌∙◌, ◌≤◌, ℕ, Bool, true, false, ◌&&◌, List, length, None, Some, is_some, refl, sym, ap, arith}
 use Rattle.std.specs.Prelude.{slice_get, if◌then◌else◌, IsTrue}
 use Rattle.std.specs.Option.{option_map, option_map_or, option_and_then}
 use Rattle.std.specs.FinSet.{contains-from_list}
+use Rattle.std.specs.List.{range_with_len}
+use Rattle.std.proofs.lemmas.List.FromFn.{length-range_with_len}
+use Rattle.std.proofs.lemmas.List.Sums.{length-filter, count_by-le-length}
 use Rattle.model.specs.Task.{Atom, Schema, Task, Instance}
 use Rattle.model.specs.Meaning.{State, holds, fits, is_instance, literals_in, after_changes, changes_of, step}
 use Rattle.model.specs.Fluents.{is_fluent, HasInitialStatics}
 use Rattle.model.specs.ClosedOff.{kept_instances, counting_changes}
 use Rattle.model.specs.NumberedAtoms.{stands_in, are_distinct}
 use Rattle.model.specs.Grounding.{state_of_bits, bits_of_state, ground_step}
+use Rattle.formulas.proofs.Quantifiers.{among}
 use Rattle.model.proofs.Atoms.{atoms_total}
 use Rattle.model.proofs.ListLemmas.{Contains-got}
 use Rattle.model.proofs.ClosedOffLemmas.{kept-Contains}
@@ -70,3 +74,10 @@ module _ (t : Task) (atoms : List Atom) (bits : List Bool) (number : ℕ) (i : I
             ap Some (ap (bits_of_state atoms) (sym (step-counting t before next i (bits-statics t atoms fluent bits) is))
             ∙ after_literals-bits t atoms distinct fluent bits long (literals_in t before (counting_changes t i)))
       ] refl (sym (ap is_some ground_step-named) ∙ leads)
+
+-- ---- the numbers that pass a test
+
+-- they are no more than those that were looked at
+pub among-few : (p : ℕ → Bool) (n : ℕ) → length (among p n) ≤ n
+among-few p n =
+    omega (arith, length-filter p (range_with_len 0 n), count_by-le-length p (range_with_len 0 n), length-range_with_len 0 n)

@@ -1,5 +1,5 @@
 //! The steps of a ground task.
-ghost use Rattle.std.specs.Prelude.{◌≡◌, ◌<◌, ◌∷◌, [], length, slice_get, slice_set, is_some, IfOk, OnOk, IsTrue};
+ghost use Rattle.std.specs.Prelude.{◌≡◌, ◌<◌, ◌∷◌, [], length, slice_get, slice_set, is_some, IfOk, OnOk, OnErr, IsTrue};
 ghost use Rattle.packed_state.specs.Packed.{bits_of};
 ghost use Rattle.model.specs.ClosedOff.{kept_instances};
 ghost use Rattle.model.specs.Grounding.{state_of_bits, ground_step, ground_system, applicable_numbers};
@@ -50,15 +50,20 @@ impl Ground<'_> {
         holds_in(&self.goal, &self.numbering, goal, &Binding::new(), state)
     }
 
-    /// Puts the numbers of the instances that are applicable in the state, rising, in the place of what `into` has.
+    /// Puts the numbers of the instances that are applicable in the state, rising, in the place of what `into` has. Where
+    /// memory was refused it has what it had. It gets room for the numbers of all instances, so that a list that is lent
+    /// again takes no more memory.
     pub fn applicable(&self, state: &Packed, into: &mut Vec<u32>) -> Result<(), NoMemory>
         requires { length (bits_of state.now) ≡ length (atoms_in self.now) }
-        ensures { OnOk result (into.new.items ≡ applicable_numbers (task_in self.now) (atoms_in self.now) (bits_of state.now)) }
+        ensures ok { OnOk result (into.new.items ≡ applicable_numbers (task_in self.now) (atoms_in self.now) (bits_of state.now)) }
+        ensures err { OnErr result (into.new.items ≡ into.old.items) }
     {
+        let count = self.conditions.len();
+        into.reserve(count.saturating_sub(into.len()))?;
         into.clear();
-        for number in 0..self.conditions.len() as u32 {
+        for number in 0..count as u32 {
             if self.is_applicable(number, state) {
-                into.push(number)?;
+                into.push_reserved(number);
             }
         }
         Ok(())

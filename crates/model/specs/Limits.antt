@@ -1,5 +1,5 @@
--- The limits of the language profile on what a domain and a problem have, and of grounding on what it numbers. Each is the
--- most that is taken.
+-- The limits of the language profile on what a domain and a problem have, of grounding on what it numbers, and of plans and
+-- searches. Each is the most that is taken.
 use Rattle.std.specs.Prelude.{ℕ}
 
 -- the most types that a domain declares, beside `object`
@@ -25,3 +25,11 @@ max_number = 2147483647
 -- the most atoms that have numbers once a task is grounded
 abbrev pub max_numbered_atoms : ℕ
 max_numbered_atoms = 1048576
+
+-- the most instances of a plan
+abbrev pub max_steps : ℕ
+max_steps = 16777216
+
+-- the most states that a search lists
+abbrev pub max_states_listed : ℕ
+max_states_listed = 16777216

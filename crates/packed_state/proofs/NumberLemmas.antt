@@ -1,15 +1,16 @@
 -- The numbers in sets, as rising lists.
-use Rattle.std.proofs.Common.{◌≡◌, ℕ, zero, suc, ◌+◌, ◌-◌, ◌*◌, ◌%◌, ◌^◌, ◌<◌, ◌≤◌, Bool, true, false, List, [], ◌∷◌, ◌++◌, length, get_or, refl, sym, ap, ◌∙◌, inl, inr, arith, w64}
-use Rattle.std.specs.Prelude.{bit_and, ◌==◌, Result, Ok, Err, OnOk}
+use Rattle.std.proofs.Common.{◌≡◌, ℕ, zero, suc, ◌+◌, ◌-◌, ◌*◌, ◌%◌, ◌^◌, ◌<◌, ◌≤◌, Bool, true, false, List, [], ◌∷◌, ◌++◌, length, take, drop, get_or, refl, sym, ap, ◌∙◌, inl, inr, arith, w64}
+use Rattle.std.specs.Prelude.{bit_and, ◌==◌}
 use Rattle.std.specs.Int.{bit_at, bit_not, trailing_zeros}
 use Rattle.std.specs.List.{filter, range_with_len}
 use Rattle.std.proofs.lemmas.Bool.{cases_eq, cases_lt}
-use Rattle.std.proofs.lemmas.List.{append-nil}
+use Rattle.std.proofs.lemmas.List.{append-nil, append_assoc, length-append}
+use Rattle.std.proofs.Math.Seq.{take-append_seam, drop-append_seam}
 use Rattle.std.proofs.lemmas.List.Elements.{filter-append}
 use Rattle.std.proofs.lemmas.Nat.{and_le_l}
 use Rattle.std.proofs.lemmas.Nat.Bits.{bit_at-zero, bit_at-trailing_zeros, bit_at_clear_same, bit_at_clear_other}
 use Rattle.packed_state.specs.Sets.{has}
-use Rattle.packed_state.specs.Words.{word_has, bits_in, numbers_of_word, AreWordsOf}
+use Rattle.packed_state.specs.Words.{word_has, bits_in, numbers_of_word, AreWordsOf, BeginsWith}
 use Rattle.packed_state.proofs.WordLemmas.{in_word}
 use Rattle.packed_state.proofs.PackedLemmas.{length-bits, bit_below}
 
@@ -128,13 +129,36 @@ numbers_in_words width words are =
     ∙ append-nil (filter (word_has words) (range_with_len 0 width))
     ∙ same
 
-pub numbers_listed : {T E : Type 0} (width : ℕ) (words read before after : List ℕ) (r : Result T E) → AreWordsOf width words → read ≡ words → before ≡ []
-    → OnOk r (after ≡ before ++ filter (word_has read) (range_with_len 0 (64 * length read)))
-    → OnOk r (after ≡ filter (has (bits_in width words)) (range_with_len 0 (length (bits_in width words))))
-numbers_listed width words read before after (Ok x) are is none added =
+pub numbers_listed : (width : ℕ) (words read before after : List ℕ) → AreWordsOf width words → read ≡ words
+    → after ≡ before ++ filter (word_has read) (range_with_len 0 (64 * length read))
+    → after ≡ before ++ filter (has (bits_in width words)) (range_with_len 0 (length (bits_in width words)))
+numbers_listed width words read before after are is added =
     added
-    ∙ ap (λ items. items ++ filter (word_has read) (range_with_len 0 (64 * length read))) none
-    ∙ ap (λ items. filter (word_has items) (range_with_len 0 (64 * length items))) is
-    ∙ numbers_in_words width words are
-    ∙ ap (λ count. filter (has (bits_in width words)) (range_with_len 0 count)) (sym (length-bits width words))
-numbers_listed width words read before after (Err e) are is none added = added
+    ∙ ap (λ items. before ++ filter (word_has items) (range_with_len 0 (64 * length items))) is
+    ∙ ap (λ items. before ++ items) (numbers_in_words width words are)
+    ∙ ap (λ count. before ++ filter (has (bits_in width words)) (range_with_len 0 count)) (sym (length-bits width words))
+
+-- ---- what is added behind a list
+
+pub one_more : (before list after : List ℕ) (x : ℕ) → BeginsWith before list → after ≡ list ++ x ∷ [] → BeginsWith before after
+one_more before list after x begins is =
+    (begins.0 ++ x ∷ [], is ∙ ap (λ items. items ++ x ∷ []) begins.1 ∙ append_assoc before begins.0 (x ∷ []))
+
+pub more_begin : (before list after : List ℕ) → BeginsWith before list → BeginsWith list after → BeginsWith before after
+more_begin before list after begins more =
+    (begins.0 ++ more.0, more.1 ∙ ap (λ items. items ++ more.0) begins.1 ∙ append_assoc before begins.0 more.0)
+
+-- what was added is cut off again
+pub cut_back : (n : ℕ) (before after left : List ℕ) → n ≡ length before → BeginsWith before after → left ≡ take n after → left ≡ before
+cut_back n before after left many begins is =
+    is ∙ ap (λ items. take n items) begins.1 ∙ ap (λ count. take count (before ++ begins.0)) many ∙ take-append_seam before begins.0
+
+-- what was added is turned to the front, and the rest is cut off
+pub turned : (n m : ℕ) (before more after rotated left : List ℕ) → n ≡ length before → m ≡ length rotated - n → after ≡ before ++ more
+    → rotated ≡ drop n after ++ take n after → left ≡ take m rotated → left ≡ more
+turned n m before more after rotated left many as_many is turns cut =
+    let front : rotated ≡ more ++ before =
+    turns ∙ (λ i. drop (many i) (is i) ++ take (many i) (is i))
+    ∙ (λ i. drop-append_seam before more i ++ take-append_seam before more i) in
+    let count : m ≡ length more = omega (arith, as_many, many, ap length front, length-append more before) in
+    cut ∙ (λ i. take (count i) (front i)) ∙ take-append_seam more before

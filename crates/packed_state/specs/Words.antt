@@ -1,5 +1,5 @@
 -- Sets as words of 64 bits: bit `k % 64` of word `k / 64`, counted from the lowest, says whether the number k is in.
-use Rattle.std.specs.Prelude.{◌≡◌, ℕ, ◌+◌, ◌-◌, ◌*◌, ◌/◌, ◌%◌, ◌^◌, ◌<◌, ◌≤◌, ◌==◌, Bool, false, List, length, map, slice_index}
+use Rattle.std.specs.Prelude.{◌≡◌, ℕ, ◌+◌, ◌-◌, ◌*◌, ◌/◌, ◌%◌, ◌^◌, ◌<◌, ◌≤◌, ◌==◌, Bool, false, List, ◌++◌, length, map, slice_index}
 use Rattle.std.specs.List.{filter, range_with_len}
 use Rattle.std.specs.Int.{bit_at}
 
@@ -21,3 +21,7 @@ pub record AreWordsOf (width : ℕ) (words : List ℕ) : Type 0 where
   pub no_more : 64 * length words < width + 64
   pub small : (place : ℕ) → slice_index words place < 2 ^ 64
   pub rest : (number : ℕ) → width ≤ number → word_has words number ≡ false
+
+-- the list has some more behind the one before
+abbrev pub BeginsWith : List ℕ → List ℕ → Type 0
+BeginsWith before after = (more : List ℕ) × (after ≡ before ++ more)

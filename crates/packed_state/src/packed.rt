@@ -22,7 +22,7 @@ pub struct Mask {
 }
 
 impl Packed {
-    ghost use Rattle.std.specs.Prelude.{◌↔◌, IsTrue, IfOk, OnOk, length, true, slice_set};
+    ghost use Rattle.std.specs.Prelude.{◌↔◌, IsTrue, IfOk, OnOk, OnErr, length, true, slice_set};
     ghost use Rattle.std.specs.List.{All, filter, range_with_len};
     ghost use Rattle.packed_state.specs.Sets.{has, set_of, Includes, AreDisjoint, changed, at_width};
     ghost use Rattle.packed_state.specs.Packed.{bits_of, mask_bits_of};
@@ -122,13 +122,20 @@ impl Packed {
         Ok(numbers)
     }
 
-    /// Puts the numbers in the set, rising, in the place of what `into` has.
+    /// Puts the numbers in the set, rising, in the place of what `into` has. Where memory was refused it has what it had.
     pub fn list_numbers(&self, into: &mut Vec<u32>) -> Result<(), NoMemory>
-        ensures { OnOk result (into.new.items ≡ filter (has (bits_of self.now)) (range_with_len 0 (length (bits_of self.now)))) }
+        ensures ok { OnOk result (into.new.items ≡ filter (has (bits_of self.now)) (range_with_len 0 (length (bits_of self.now)))) }
+        ensures err { OnErr result (into.new.items ≡ into.old.items) }
     {
         prove!(self.words.len() == words::words_for(self.width())); // so that each number is a u32
-        into.clear();
-        words::push_numbers(&self.words, into)
+        let before = into.len();
+        if words::push_numbers(&self.words, into).is_err() {
+            into.truncate(before);
+            return Err(NoMemory);
+        }
+        into.rotate_left(before);
+        into.truncate(into.len() - before);
+        Ok(())
     }
 
     /// Whether each number of the mask is in the set.

@@ -1,7 +1,7 @@
 //! Words of 64 bits as sets: bit `k % 64` of word `k / 64`, counted from the lowest, stands for the number k.
 ghost use Rattle.std.specs.Prelude.{◌≡◌, ℕ, ◌+◌, ◌*◌, ◌/◌, ◌<◌, ◌≤◌, ◌↔◌, ◌==◌, ◌&&◌, ◌||◌, ◌^◌, ◌++◌, not, IsTrue, OnOk, length, slice_index};
 ghost use Rattle.std.specs.List.{filter, range_with_len};
-ghost use Rattle.packed_state.specs.Words.{word_has, numbers_of_word};
+ghost use Rattle.packed_state.specs.Words.{word_has, numbers_of_word, BeginsWith};
 
 use faults::NoMemory;
 
@@ -80,10 +80,11 @@ pub(crate) fn change(words: &mut [u64], deletes: &[u64], adds: &[u64])
     }
 }
 
-/// Adds the numbers that are in, rising, to those of `into`.
+/// Adds the numbers that are in, rising, to those of `into`. Where memory was refused, some of them are added.
 pub(crate) fn push_numbers(words: &[u64], into: &mut Vec<u32>) -> Result<(), NoMemory>
     requires { 64 * length words.now ≤ 2 ^ 32 }
-    ensures { OnOk result (into.new.items ≡ into.old.items ++ filter (word_has words.now) (range_with_len 0 (64 * length words.now))) }
+    ensures ok { OnOk result (into.new.items ≡ into.old.items ++ filter (word_has words.now) (range_with_len 0 (64 * length words.now))) }
+    ensures begins { BeginsWith into.old.items into.new.items }
 {
     'words: for (place, &word) in words.iter().enumerate() {
         push_numbers_of_word(word, place as u32 * 64, into)?;
@@ -94,7 +95,8 @@ pub(crate) fn push_numbers(words: &[u64], into: &mut Vec<u32>) -> Result<(), NoM
 /// Adds the numbers of one word, whose lowest bit stands for `first`.
 fn push_numbers_of_word(word: u64, first: u32, into: &mut Vec<u32>) -> Result<(), NoMemory>
     requires { first + 64 ≤ 2 ^ 32 }
-    ensures { OnOk result (into.new.items ≡ into.old.items ++ numbers_of_word first word) }
+    ensures ok { OnOk result (into.new.items ≡ into.old.items ++ numbers_of_word first word) }
+    ensures begins { BeginsWith into.old.items into.new.items }
 {
     let mut rest = word;
     'rest: while rest != 0 {

@@ -15,3 +15,4 @@ pub use planner_main_answers::{
     solved_certificates_are_accepted, validate_files,
 };
 pub use program::run;
+pub use report::tell_no_memory;

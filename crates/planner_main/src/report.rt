@@ -115,7 +115,8 @@ fn fault_line(alloc: Global, file: File, code: Code, span: Span) -> Result<Strin
     format!(in alloc; "fault {number} {name} in {file} at {start}..{end}\n")
 }
 
-fn tell_no_memory<E: Sink>(err: &mut E) -> u8
+/// Tells that memory was refused, for which no memory is taken: the status.
+pub fn tell_no_memory<E: Sink>(err: &mut E) -> u8
     ensures status { result ≡ NO_MEMORY }
     ensures line { IsWritten E.wants_memory (E.failures err.old) (E.failures err.new) (E.taken err.old) (E.taken err.new) no_memory_line }
 {

@@ -1,6 +1,8 @@
-//! Tests of what the whole program cannot show of words, trees and tasks in memory.
+//! Tests of what the whole program cannot show of words, trees and tasks, and of states, instances and plans in memory.
 #![tactic(auto)]
 
+#[cfg(test)]
+mod states;
 #[cfg(test)]
 mod tasks;
 #[cfg(test)]

@@ -1,5 +1,6 @@
 //! Search for a cheapest plan of a transition system, by expanding states in the order of their cost and estimate.
 ghost use Rattle.std.specs.Prelude.{◌≡◌, ◌≤◌, [], IfOk};
+ghost use Rattle.model.specs.Limits.{max_states_listed};
 ghost use Rattle.search.specs.Estimates.{value_by};
 ghost use Rattle.search.specs.Outcome.{IsTrueOutcome};
 
@@ -76,7 +77,7 @@ pub fn best_first<T: TransitionSystem, E: Estimate, S: StateStore>(
     requires empty { S.states store ≡ [] }
     requires width { S.width_of store ≡ T.width_of system.now }
     requires some { 1 ≤ max_states }
-    requires limit { max_states ≤ MAX_STATES }
+    requires limit { max_states ≤ max_states_listed }
     ensures { IfOk result (IsTrueOutcome (T.means system.now) (value_by (E.score_of estimate.now)) S.states max_states) }
 {
     let mut buffers = Buffers::new(alloc, system.width())?;

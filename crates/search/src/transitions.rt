@@ -1,6 +1,6 @@
 //! A planning problem as search sees it: packed states, numbered actions, what is applicable and what it leads to, costs
 //! and goals. What the numbers stand for is hidden.
-ghost use Rattle.std.specs.Prelude.{◌≡◌, ℕ, Bool, List, Some, IsTrue, is_some, length, IfOk, OnOk};
+ghost use Rattle.std.specs.Prelude.{◌≡◌, ℕ, Bool, List, Some, IsTrue, is_some, length, IfOk, OnOk, OnErr};
 ghost use Rattle.model.specs.Runs.{System};
 ghost use Rattle.packed_state.specs.Packed.{bits_of};
 ghost use Rattle.search.specs.Transitions.{AreApplicable};
@@ -24,10 +24,12 @@ pub trait TransitionSystem {
         ensures width { IfOk result (λ s. length (bits_of s) ≡ width_of self.now) }
         ensures initial { IfOk result (λ s. bits_of s ≡ (means self.now).initial) };
 
-    /// The actions that are applicable in the state, in the system's order. The lent buffer holds these alone then.
+    /// The actions that are applicable in the state, in the system's order. The lent buffer holds these alone then. Where
+    /// memory was refused it holds what it held.
     fn applicable(&self, state: &Packed, into: &mut Vec<u32>) -> Result<(), NoMemory>
         requires { length (bits_of state.now) ≡ width_of self.now }
-        ensures { OnOk result (AreApplicable (means self.now) (bits_of state.now) into.new.items) };
+        ensures ok { OnOk result (AreApplicable (means self.now) (bits_of state.now) into.new.items) }
+        ensures err { OnErr result (into.new.items ≡ into.old.items) };
 
     /// Makes `into` the state that the action leads to.
     fn successor(&self, action: u32, state: &Packed, into: &mut Packed)

@@ -4,6 +4,8 @@
 #[cfg(test)]
 mod packed_states;
 #[cfg(test)]
+mod refused_inserts;
+#[cfg(test)]
 mod rooms;
 #[cfg(test)]
 mod searches;

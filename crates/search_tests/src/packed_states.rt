@@ -276,7 +276,7 @@ pub(crate) fn set_of(alloc: Global, width: u32, numbers: &[u32]) -> Result<Packe
 }
 
 /// The empty set, one with its key, and the sets of one number.
-fn distinct_sets(alloc: Global, width: u32) -> Result<Vec<Packed>, NoMemory> {
+pub(crate) fn distinct_sets(alloc: Global, width: u32) -> Result<Vec<Packed>, NoMemory> {
     let mut sets = Vec::new(alloc);
     sets.push(set_of(alloc, width, &[])?)?;
     if width >= 128 {
@@ -289,7 +289,10 @@ fn distinct_sets(alloc: Global, width: u32) -> Result<Vec<Packed>, NoMemory> {
 }
 
 /// What the store answers to the set, where it is of the store's width.
-fn put<S: StateStore>(store: &mut S, set: &Packed) -> Result<Option<(u32, bool)>, NoMemory> {
+pub(crate) fn put<S: StateStore>(
+    store: &mut S,
+    set: &Packed,
+) -> Result<Option<(u32, bool)>, NoMemory> {
     if set.width() == store.width() && store.len() < 16_777_216 {
         return Ok(Some(store.insert_if_new(set)?));
     }
@@ -312,7 +315,7 @@ pub(crate) fn stands_at<S: StateStore>(
 }
 
 /// The set's place, where it is of the store's width.
-fn found<S: StateStore>(store: &S, set: &Packed) -> Option<u32> {
+pub(crate) fn found<S: StateStore>(store: &S, set: &Packed) -> Option<u32> {
     if set.width() == store.width() {
         return store.find(set);
     }

@@ -67,15 +67,17 @@ impl Rooms {
     }
 
     /// Adds the number, if the state's room has a door of this number.
-    fn add_door(&self, door: u32, state: &Packed, into: &mut Vec<u32>) -> Result<(), NoMemory>
-        requires { length (bits_of state.now) ≡ self.now.width }
-        ensures { OnOk result (into.new.items ≡ into.old.items ++ door_numbers door
-            (is_some (through self.now.width (doors self.now.first.now self.now.second.now door) (bits_of state.now)))) }
+    fn add_door(&self, door: u32, state: &Packed, into: &mut Vec<u32>)
+        requires width { length (bits_of state.now) ≡ self.now.width }
+        requires room { vec_len into.old < vec_capacity into.old }
+        ensures added { into.new.items ≡ into.old.items ++ door_numbers door
+            (is_some (through self.now.width (doors self.now.first.now self.now.second.now door) (bits_of state.now))) }
+        ensures few { vec_len into.new ≤ vec_len into.old + 1 }
+        ensures capacity { vec_capacity into.new ≡ vec_capacity into.old }
     {
         if self.has_door(door, state) {
-            into.push(door)?;
+            into.push_reserved(door);
         }
-        Ok(())
     }
 }
 
@@ -97,9 +99,11 @@ impl TransitionSystem for Rooms {
     }
 
     fn applicable(&self, state: &Packed, into: &mut Vec<u32>) -> Result<(), NoMemory> {
+        into.reserve(2)?;
         into.clear();
-        self.add_door(1, state, into)?;
-        self.add_door(2, state, into)
+        self.add_door(1, state, into);
+        self.add_door(2, state, into);
+        Ok(())
     }
 
     fn successor(&self, door: u32, state: &Packed, into: &mut Packed) {

@@ -26,7 +26,7 @@ pub returns-in_ok-insert-in-Add : goal.returns-in_ok-insert-in-Add
 returns-in_ok-insert-in-Add c =
     let binding = map object_of c.args.binding.now.items in
     let s = state_of c.args.next.now in
-    c.in_ok-insert-in-Add.ensures ∙ ap (insert s) c.ground_atom.ensures ∙ sym (add_added binding s c.args.literal.now c.in-Add.atom c.args.adds c.if-adds.true c.in-Add.is)
+    c.in_ok-insert-in-Add.ensures.ok ∙ ap (insert s) c.ground_atom.ensures ∙ sym (add_added binding s c.args.literal.now c.in-Add.atom c.args.adds c.if-adds.true c.in-Add.is)
 
 pub returns-else-adds : goal.returns-else-adds
 returns-else-adds c =

@@ -12,7 +12,7 @@ pub loop-atom-preserved : goal.loop-atom-preserved
 loop-atom-preserved c =
     let same = copied c.atom-item.result c.in_ok-clone.field-0 c.in_ok-clone.ensures.cases.0 (each_same c.atom-item.result.objects.items c.in_ok-clone.field-0.objects.items c.in_ok-clone.ensures.cases.1) in
     initial_more (state_of c.loop-atom.state) (state_of c.insert.new.self) c.init-atom-items.result.now c.loop-atom.atom-index c.atom-item.result c.in_ok-clone.field-0
-    c.loop-atom-test.true c.atom-item.is same c.loop-atom.invariant c.in_ok-insert.ensures
+    c.loop-atom-test.true c.atom-item.is same c.loop-atom.invariant c.in_ok-insert.ensures.ok
 
 pub returns : goal.returns
 returns c = initial_whole (state_of c.loop-atom.state) c.init-atom-items.result.now c.loop-atom.atom-index c.loop-atom-test.false c.loop-atom.invariant ∙ ap from_list c.init-atom-items.ensures

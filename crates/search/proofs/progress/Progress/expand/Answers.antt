@@ -56,7 +56,7 @@ loop-action-init g c =
       stands = rw c.mark_expanded.ensures.store c.requires.state;
       left = rw c.deref-action-items.ensures.value
           (left_start (g.T.TransitionSystem.means c.args.system.now) nodes c.args.turn.id.0 (marked turn.found) begins.stands (bits_of c.args.buffers.now.state) c.applicable.new.into.items
-          (is_state g (goal.at.loop-action-init g c).After-deref-action-items) c.in_ok-applicable.ensures);
+          (is_state g (goal.at.loop-action-init g c).After-deref-action-items) c.in_ok-applicable.ensures.ok);
     }
 
 pub successor-requires-clause-applicable : goal.successor-requires-clause-applicable

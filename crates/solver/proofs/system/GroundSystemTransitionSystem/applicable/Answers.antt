@@ -7,9 +7,9 @@ use Rattle.model.specs.Grounding.{ground_system}
 use Rattle.solver.proofs.GroundLemmas.{are_applicable}
 use Rattle.solver.proofs.system.GroundSystemTransitionSystem.applicable.Goals as goal
 
-pub returns : goal.returns
-returns c =
+pub returns-clause-ok : goal.returns-clause-ok
+returns-clause-ok c =
     let task = task_in c.args.self.now.0.now in
     let atoms = atoms_in c.args.self.now.0.now in
     let bits = bits_of c.args.state.now in
-    on_ok_weaker c.applicable.result (λ is. subst (λ (numbers : List ℕ). AreApplicable (ground_system task atoms) bits numbers) (sym is) (are_applicable task atoms bits)) c.applicable.ensures
+    on_ok_weaker c.applicable.result (λ is. subst (λ (numbers : List ℕ). AreApplicable (ground_system task atoms) bits numbers) (sym is) (are_applicable task atoms bits)) c.applicable.ensures.ok

@@ -1,28 +1,59 @@
 """Calls the toolchain's compiler, which proves what it builds, on the crates of this repository: from nothing, each on one
 processor, side by side, with neither the locks of `rt` nor its sums of sources."""
-import hashlib, os, shutil, subprocess, tempfile, time
+import contextlib, fcntl, hashlib, os, shutil, signal, subprocess, sys, tempfile, time
 
-from crates import PARTS, ROOT, libraries_of, rows_below
+from crates import PARTS, folder, is_program, libraries_of, rows_below
 
 # What a check takes at most, in bytes of memory.
 ROOM = 3_000_000_000
-# The folder of the toolchain.
-KIT = os.path.dirname(subprocess.run(["rt", "doc"], stdout=subprocess.PIPE, text=True, check=True).stdout.strip())
 
 
-def folder(crate):
-    return f"{ROOT}/crates/{crate}"
+def toolchain():
+    """The folder of the toolchain."""
+    try:
+        said = subprocess.run(["rt", "doc"], stdout=subprocess.PIPE, text=True, check=True).stdout
+    except (OSError, subprocess.CalledProcessError) as why:
+        sys.exit(f"the toolchain's command `rt` does not run: {why}")
+    return os.path.dirname(said.strip())
 
 
-def is_program(crate):
-    return os.path.isfile(f"{folder(crate)}/src/main.rt")
+KIT = toolchain()
 
 
-def lanes():
-    """How many checks run side by side: one a processor, as many as memory holds."""
+def lanes(room=ROOM):
+    """How many commands that take so much memory run side by side: one a processor, as many as memory holds."""
     with open("/proc/meminfo", encoding="ascii") as text:
         free = next(1024 * int(it.split()[1]) for it in text if it.startswith("MemAvailable:"))
-    return max(1, min(len(os.sched_getaffinity(0)), free // ROOM))
+    return max(1, min(len(os.sched_getaffinity(0)), free // room))
+
+
+def leave_when_told():
+    """Has the first signal that ends this process end it by SystemExit, so that it ends what it has started and takes away its
+    files; further ones are of no account then."""
+    kinds = [it for it in (signal.SIGHUP, signal.SIGINT, signal.SIGTERM) if signal.getsignal(it) != signal.SIG_IGN]
+
+    def leave(number, _):
+        for it in kinds:
+            signal.signal(it, signal.SIG_IGN)
+        sys.exit(128 + number)
+
+    for it in kinds:
+        signal.signal(it, leave)
+
+
+@contextlib.contextmanager
+def alone(path):
+    """Keeps a folder from all others that take it so, and waits until none has it."""
+    held = os.open(path, os.O_RDONLY)
+    try:
+        try:
+            fcntl.flock(held, fcntl.LOCK_EX | fcntl.LOCK_NB)
+        except BlockingIOError:
+            print("another command builds the same: waiting until it is done", file=sys.stderr, flush=True)
+            fcntl.flock(held, fcntl.LOCK_EX)
+        yield
+    finally:
+        os.close(held)
 
 
 def sources(crate):
@@ -80,10 +111,10 @@ def build_words(crate, jobs):
     return [*found, "--statements", "-o", f"out/rlib/{crate}.rlib"]
 
 
-def link_words(crate):
-    """The command that links a built program."""
+def link_words(objects, program):
+    """The command that links a program of the file that it was compiled to."""
     found = [f"{KIT}/bin/rattle-link", "--target", "x86_64-unknown-linux-gnu", "--toolchain", f"{KIT}/toolchain"]
-    return [*found, "-o", f"out/{crate}", f"out/{crate}.o", f"{KIT}/c/libos_c.a", f"{KIT}/c/liblibc_c.a"]
+    return [*found, "-o", program, objects, f"{KIT}/c/libos_c.a", f"{KIT}/c/liblibc_c.a"]
 
 
 def start(crate, jobs):

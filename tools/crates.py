@@ -4,8 +4,16 @@ Run by itself it lists how many paths lead from each crate down to the crates be
 sources once for each, so that a graph with many paths makes every check of a crate near the top slow."""
 import os
 
-ROOT = os.path.dirname(os.path.realpath(__file__))
+ROOT = os.path.dirname(os.path.dirname(os.path.realpath(__file__)))
 PARTS = ("src", "specs", "proofs")
+
+
+def folder(crate):
+    return f"{ROOT}/crates/{crate}"
+
+
+def is_program(crate):
+    return os.path.isfile(f"{folder(crate)}/src/main.rt")
 
 
 def rows():

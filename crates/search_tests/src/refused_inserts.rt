@@ -1,0 +1,79 @@
+//! A store that refuses a set for want of memory has what it had. `tools/refuse-growth` has each allocation of this test fail
+//! in turn, and the test passes whichever does; where memory is ample nothing is refused.
+use crate::packed_states::{distinct_sets, found, put, set_of};
+use faults::NoMemory;
+use packed_state::{Packed, PlainStore, PooledStore, StateStore};
+use std::alloc::Global;
+use std::test::Fail;
+
+/// Whether the store has just these sets, in this order, and not the other one. No memory is taken: `lent` is written over.
+fn has_just<S: StateStore>(store: &S, sets: &[Packed], other: &Packed, lent: &mut Packed) -> bool {
+    for (set, place) in sets.iter().zip(0..u32::MAX) {
+        if lent.width() != store.width() || place as usize >= store.len() {
+            return false;
+        }
+        store.get(place, lent);
+        if *lent != *set {
+            return false;
+        }
+    }
+    store.len() == sets.len() && found(store, other).is_none()
+}
+
+/// Whether the answer tells of a new set that stands behind so many.
+fn is_next(answer: Option<(u32, bool)>, count: usize) -> bool {
+    match answer {
+        Some((place, is_new)) => place as usize == count && is_new,
+        None => false,
+    }
+}
+
+/// Puts the set behind these, once more where memory is refused: whether it then stands there, and the store had just these
+/// until then.
+fn takes_next<S: StateStore>(
+    store: &mut S,
+    before: &[Packed],
+    set: &Packed,
+    lent: &mut Packed,
+) -> bool {
+    match put(store, set) {
+        Ok(answer) => is_next(answer, before.len()),
+        Err(NoMemory) => {
+            has_just(store, before, set, lent)
+                && put(store, set).is_ok_and(|answer| is_next(answer, before.len()))
+        }
+    }
+}
+
+/// Whether the store takes each set in turn, and is as before wherever one is refused.
+fn takes_each<S: StateStore>(store: &mut S, sets: &[Packed], lent: &mut Packed) -> bool {
+    for place in 0..sets.len() {
+        if !takes_next(store, &sets[..place], &sets[place], lent) {
+            return false;
+        }
+    }
+    true
+}
+
+/// Distinct sets, a further one to write over, and both stores without any.
+fn set_up(
+    alloc: Global,
+    width: u32,
+) -> Result<(Vec<Packed>, Packed, PlainStore, PooledStore), NoMemory> {
+    let sets = distinct_sets(alloc, width)?;
+    let lent = set_of(alloc, width, &[])?;
+    let pooled = PooledStore::new(alloc, width)?;
+    Ok((sets, lent, PlainStore::new(alloc, width), pooled))
+}
+
+#[test]
+fn a_refused_set_changes_no_store(rt: HostRuntime) -> Result<(), Fail> {
+    // One allocation at most is refused, so the second try has memory.
+    let (sets, mut lent, mut plain, mut pooled) = match set_up(rt.alloc(), 128) {
+        Ok(made) => made,
+        Err(NoMemory) => set_up(rt.alloc(), 128)?,
+    };
+    assert!(rt; takes_each(&mut plain, &sets, &mut lent));
+    assert!(rt; takes_each(&mut pooled, &sets, &mut lent));
+    Ok(())
+}
