@@ -1,8 +1,9 @@
 -- A list of actions that runs stays on open states of a closed listing, to its end or until it comes to a cut.
-use Rattle.std.proofs.Common.{◌≡◌, ℕ, zero, suc, ◌+◌, ◌<◌, ◌≤◌, List, [], ◌∷◌, length, take, get_or, Option, None, Some, refl, sym, ap, ◌∙◌, subst, arith}
+use Rattle.std.proofs.Common.{◌≡◌, ℕ, zero, suc, ◌+◌, ◌<◌, ◌≤◌, List, [], ◌∷◌, length, take, drop, get_or, Option, None, Some, refl, sym, ap, ◌∙◌, subst, arith}
 use Rattle.std.specs.Prelude.{All, Contains, IsTrue}
 use Rattle.std.specs.Option.{option_and_then}
 use Rattle.std.proofs.lemmas.Bool.{and_parts}
+use Rattle.std.proofs.lemmas.Option.{same_Some}
 use Rattle.std.proofs.lemmas.List.Elements.{All-contains_itself}
 use Rattle.std.proofs.lemmas.List.Sums.{sum_by-cons}
 use Rattle.model.specs.Runs.{System, run, cost_of_all, Solves}
@@ -21,13 +22,17 @@ use Rattle.model.proofs.StaticLemmas.{contains-reachable}
 use Rattle.potential_functions.specs.Laws.{AreNumberable}
 use Rattle.potential_functions.proofs.LowerBound.{fair_ones_are_lower_bounds}
 use Rattle.cert_checker.proofs.WeightsLemmas.{alike_itself, value-numbered}
-use Rattle.cert_checker.specs.OnListing.{IsOpenWithin, IsCutWithin, StaysListed, to_its_end, to_a_cut}
+use Rattle.cert_checker.specs.OnListing.{IsOpenWithin, IsOnCut, StaysListed, to_its_end, to_a_cut}
 
 module _ {S A : Type 0} (t : System S A) (lines : List (Line S)) where
   open_at_more : (s : S) (m n : ℕ) → IsOpenWithin lines s m → m ≤ n → IsOpenWithin lines s n
   open_at_more s m n at le = (at.0, at.1, at.2, omega (arith, at.3), at.4)
 
-  cut_at_more : (s : S) (m n : ℕ) → IsCutWithin lines s m → m ≤ n → IsCutWithin lines s n
+  -- the state is listed as a cut at no more than this cost
+  abbrev IsListedCut : S → ℕ → Type 0
+  IsListedCut s cost = (line : Line S) × Contains lines line × (line.state ≡ s) × (line.cost ≤ cost) × (rest : ℕ) × (line.cut ≡ Some rest)
+
+  cut_at_more : (s : S) (m n : ℕ) → IsListedCut s m → m ≤ n → IsListedCut s n
   cut_at_more s m n at le = (at.0, at.1, at.2, omega (arith, at.3), at.4, at.5)
 
   -- the first n actions lead from this state, at this cost, to an open state, or to a cut
@@ -35,11 +40,22 @@ module _ {S A : Type 0} (t : System S A) (lines : List (Line S)) where
   OpenFrom from cost plan n = (s : S) × (run t from (take n plan) ≡ Some s) × IsOpenWithin lines s (cost + cost_of_all t (take n plan))
 
   abbrev CutFrom : S → ℕ → List A → ℕ → Type 0
-  CutFrom from cost plan n = (s : S) × (run t from (take n plan) ≡ Some s) × IsCutWithin lines s (cost + cost_of_all t (take n plan))
+  CutFrom from cost plan n = (s : S) × (run t from (take n plan) ≡ Some s) × IsListedCut s (cost + cost_of_all t (take n plan))
 
   data StaysFrom (from : S) (cost : ℕ) (plan : List A) : Type 0 where
     all_open : ((n : ℕ) → n ≤ length plan → OpenFrom from cost plan n) → StaysFrom from cost plan
     open_to : (n : ℕ) → n ≤ length plan → ((k : ℕ) → k < n → OpenFrom from cost plan k) → CutFrom from cost plan n → StaysFrom from cost plan
+
+  -- what follows the first n actions of a list runs on from where they lead
+  rest_runs : (plan : List A) (from s end : S) (n : ℕ) → run t from (take n plan) ≡ Some s → run t from plan ≡ Some end → run t s (drop n plan) ≡ Some end
+  rest_runs [] from s end zero first whole = subst (λ (u : S). run t u [] ≡ Some end) (same_Some from s first) whole
+  rest_runs [] from s end (suc n) first whole = subst (λ (u : S). run t u [] ≡ Some end) (same_Some from s first) whole
+  rest_runs (a ∷ plan) from s end zero first whole = subst (λ (u : S). run t u (a ∷ plan) ≡ Some end) (same_Some from s first) whole
+  rest_runs (a ∷ plan) from s end (suc n) first whole =
+      elim (t.step from a) as (λ o. option_and_then (λ next. run t next (take n plan)) o ≡ Some s → option_and_then (λ next. run t next plan) o ≡ Some end → run t s (drop n plan) ≡ Some end) [
+        | None ↦ λ none_runs _. absurd (cc)
+        | Some next ↦ λ runs_first runs_whole. rest_runs plan next s end n runs_first runs_whole
+      ] first whole
 
   -- one action before
   runs_before : (a : A) (plan : List A) (from next s : S) → t.step from a ≡ Some next → run t next plan ≡ Some s → run t from (a ∷ plan) ≡ Some s
@@ -101,17 +117,31 @@ module _ {S A : Type 0} (t : System S A) (value : S → ℕ) (claim : Claim) (li
         | Some rest ↦ λ cut. at_cut (a ∷ plan) line rest listed cut
       ] refl
 
-  pub stays_listed : (plan : List A) → Solves t plan → StaysListed t lines plan
-  stays_listed plan solves =
+  -- where a list that solves comes to a cut, the rest of the list costs at least what the cut stands for
+  left_to_pay : IsLowerBound t value → (plan : List A) (solves : Solves t plan) (n : ℕ) (s : S) (line : Line S) (rest : ℕ)
+      → run t t.initial (take n plan) ≡ Some s → Contains lines line → line.state ≡ s → line.cut ≡ Some rest → rest ≤ cost_of_all t (drop n plan)
+  left_to_pay lower plan solves n s line rest runs listed is cut =
+      let others = rest_runs t lines plan t.initial s solves.0 n runs solves.1 in
+      let least = lower s solves.0 (drop n plan) (take n plan, runs) others solves.2 in
+      omega (arith, (closed.cuts_allowed line rest listed cut).0, ap value is, least)
+
+  pub stays_listed : IsLowerBound t value → (plan : List A) → Solves t plan → StaysListed t lines plan
+  stays_listed lower plan solves =
       let there = closed.initial_listed in
       by_stay there.3
       (subst (λ (s : S). StaysFrom t lines s there.0.cost plan) there.2
       (from_line plan there.0 solves.0 there.1 (subst (λ (s : S). run t s plan ≡ Some solves.0) (sym there.2) solves.1)))
     where
+      on_cut : (n : ℕ) → CutFrom t lines t.initial 0 plan n → IsOnCut t lines plan n
+      on_cut n cut =
+          let (s, runs, at) = cut in
+          let (line, listed, is, low, rest, is_cut) = at in
+          (s, runs, (line, listed, is, omega (arith, low), rest, is_cut, omega (arith, low, left_to_pay lower plan solves n s line rest runs listed is is_cut)))
+
       by_stay : {cost : ℕ} → cost ≤ 0 → StaysFrom t lines t.initial cost plan → StaysListed t lines plan
       by_stay {cost} low (all_open each) = to_its_end (λ n within. let at = each n within in (at.0, at.1, open_at_more t lines at.0 _ _ at.2 (omega arith)))
       by_stay {cost} low (open_to m within each cut) =
-          to_a_cut m within (λ k below. let at = each k below in (at.0, at.1, open_at_more t lines at.0 _ _ at.2 (omega arith))) (cut.0, cut.1, cut_at_more t lines cut.0 _ _ cut.2 (omega arith))
+          to_a_cut m within (λ k below. let at = each k below in (at.0, at.1, open_at_more t lines at.0 _ _ at.2 (omega arith))) (on_cut m (cut.0, cut.1, cut_at_more t lines cut.0 _ _ cut.2 (omega arith)))
 
 -- ---- a certificate that is closed for a task
 
@@ -128,7 +158,7 @@ module _ (task : Task) (c : Certificate) (closed : IsClosedFor task c) where
   }
 
   -- what is still to pay from a reachable state on does not fall short of the value that the certificate gives to it
-  value_below : IsLowerBound (system_of task) (value_of c)
+  pub value_below : IsLowerBound (system_of task) (value_of c)
   value_below s end plan reached runs goal =
       let atoms = numbered_atoms task c.atoms in
       let (others, first) = (are_numbered task c.atoms).more_first (distinct-from_pairs c.atoms closed.atoms_are_distinct) in
@@ -140,4 +170,4 @@ pub closed_holds : (task : Task) (c : Certificate) → IsClosedFor task c → Cl
 closed_holds task c closed = claim-of_closed (system_of task) (value_of c) c.claim (lines_of task c) (value_below task c closed) closed.listing_is_closed
 
 pub solving_stays : (task : Task) (c : Certificate) (plan : List Instance) → IsClosedFor task c → Solves (system_of task) plan → StaysListed (system_of task) (lines_of task c) plan
-solving_stays task c plan closed = stays_listed (system_of task) (value_of c) c.claim (lines_of task c) closed.listing_is_closed plan
+solving_stays task c plan closed = stays_listed (system_of task) (value_of c) c.claim (lines_of task c) closed.listing_is_closed (value_below task c closed) plan

@@ -1,5 +1,5 @@
 -- Where a list of actions stands in a listing of states, over any transition system.
-use Rattle.std.specs.Prelude.{◌≡◌, ℕ, ◌<◌, ◌≤◌, List, length, take, Contains, None, Some}
+use Rattle.std.specs.Prelude.{◌≡◌, ℕ, ◌+◌, ◌<◌, ◌≤◌, List, length, take, drop, Contains, None, Some}
 use Rattle.model.specs.Runs.{System, run, cost_of_all}
 use Rattle.model.specs.Claims.{Line}
 
@@ -7,17 +7,20 @@ use Rattle.model.specs.Claims.{Line}
 abbrev pub IsOpenWithin : {S : Type 0} → List (Line S) → S → ℕ → Type 0
 IsOpenWithin {S} lines s cost = (line : Line S) × Contains lines line × (line.state ≡ s) × (line.cost ≤ cost) × (line.cut ≡ None)
 
--- the state is listed as a cut at no more than this cost
-abbrev pub IsCutWithin : {S : Type 0} → List (Line S) → S → ℕ → Type 0
-IsCutWithin {S} lines s cost = (line : Line S) × Contains lines line × (line.state ≡ s) × (line.cost ≤ cost) × (rest : ℕ) × (line.cut ≡ Some rest)
+-- The state is listed as a cut, at no more than this cost: and this with what is left to pay is at least what the line is
+-- listed at with what the cut stands for.
+abbrev pub IsCutWithin : {S : Type 0} → List (Line S) → S → ℕ → ℕ → Type 0
+IsCutWithin {S} lines s cost left =
+    (line : Line S) × Contains lines line × (line.state ≡ s) × (line.cost ≤ cost) × (rest : ℕ) × (line.cut ≡ Some rest) × (line.cost + rest ≤ cost + left)
 
 -- the first n actions lead to an open state, listed at no more than they cost
 abbrev pub IsOnOpen : {S A : Type 0} → System S A → List (Line S) → List A → ℕ → Type 0
 IsOnOpen {S} {A} t lines plan n = (s : S) × (run t t.initial (take n plan) ≡ Some s) × IsOpenWithin lines s (cost_of_all t (take n plan))
 
--- the first n actions lead to a cut, listed at no more than they cost
+-- the first n actions lead to a cut, listed at no more than they cost, and the others cost what is left to pay
 abbrev pub IsOnCut : {S A : Type 0} → System S A → List (Line S) → List A → ℕ → Type 0
-IsOnCut {S} {A} t lines plan n = (s : S) × (run t t.initial (take n plan) ≡ Some s) × IsCutWithin lines s (cost_of_all t (take n plan))
+IsOnCut {S} {A} t lines plan n =
+    (s : S) × (run t t.initial (take n plan) ≡ Some s) × IsCutWithin lines s (cost_of_all t (take n plan)) (cost_of_all t (drop n plan))
 
 -- the list stays on open states, listed at no more than its cost so far, to its end, or until it comes to a cut
 pub data StaysListed {S A : Type 0} (t : System S A) (lines : List (Line S)) (plan : List A) : Type 0 where

@@ -3,18 +3,21 @@ ghost use Rattle.std.specs.Prelude.{List};
 ghost use Rattle.model.specs.Task.{Task, Instance};
 ghost use Rattle.model.specs.Runs.{Solves};
 ghost use Rattle.model.specs.Meaning.{system_of};
-ghost use Rattle.model.specs.Claims.{ClaimHolds};
+ghost use Rattle.model.specs.Claims.{ClaimHolds, IsLowerBound};
 ghost use Rattle.certificate_text.specs.CertificateExamples.{AreJudged};
-ghost use Rattle.certificate_text.specs.Certificates.{Certificate, lines_of, IsClosedFor};
+ghost use Rattle.certificate_text.specs.Certificates.{Certificate, lines_of, value_of, IsClosedFor};
 ghost use Rattle.cert_checker.specs.OnListing.{StaysListed};
 
-/// What a certificate that is closed for a task claims is true of all lists of instances, whatever their length.
+/// What a certificate that is closed for a task claims is true of all lists of instances, whatever their length; and the
+/// value that it gives to a reachable state is no more than what is still to pay from there.
 pub fn closed_claim_holds()
-    ensures { (task : Task) (c : Certificate) → IsClosedFor task c → ClaimHolds (system_of task) c.claim }
+    ensures claim { (task : Task) (c : Certificate) → IsClosedFor task c → ClaimHolds (system_of task) c.claim }
+    ensures values { (task : Task) (c : Certificate) → IsClosedFor task c → IsLowerBound (system_of task) (value_of c) }
 {}
 
 /// Why it is: a list that solves stays on open states that are listed at no more than its cost so far, to its end or
-/// until it comes to a cut that is listed so.
+/// until it comes to a cut that is listed so. There its cost so far and what it still pays are together at least the cost
+/// of the line and what the cut stands for.
 pub fn solving_list_stays_listed()
     ensures { (task : Task) (c : Certificate) (plan : List Instance) → IsClosedFor task c
         → Solves (system_of task) plan → StaysListed (system_of task) (lines_of task c) plan }

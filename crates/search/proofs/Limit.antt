@@ -38,6 +38,11 @@ distinct-push {S} states s distinct is_new j k x at_j at_k =
         let is_s : s ≡ x = same_Some s x (sym (get-push_new states s) ∙ ap (slice_get (states ++ s ∷ [])) (sym is_last) ∙ at_last) in
         is_new (subst (λ y. Contains states y) (sym is_s) (Contains-got states before x (sym (get-push_other states s before other) ∙ at_before)))
 
+-- what may have to be found is reachable
+reachable-of_precedes : {S A : Type 0} (t : System S A) (value : S → ℕ) (s : S) → PrecedesPlans t value s → IsReachable t s
+reachable-of_precedes t value s (is_initial is) = ([], ap Some (sym is))
+reachable-of_precedes t value s (is_next actions before a runs no_goal no_dearer step) = (actions ++ a ∷ [], run-push t t.initial actions a before s runs step)
+
 module _ {S : Type 0} (t : System S ℕ) (value : S → ℕ) (states : List S) (all : List Node) (queue : List Waiting)
     (one_each : length all ≡ length states) (nodes : AreNodes t value (found_of states all) queue) where
   node_there : (k : ℕ) (x : S) → slice_get states k ≡ Some x → (n : Found S) × (slice_get (found_of states all) k ≡ Some n) × (n.state ≡ x)
@@ -70,6 +75,9 @@ module _ {S : Type 0} (t : System S ℕ) (value : S → ℕ) (states : List S) (
             precedes-next o.parent.0 leads.parent leads.stands leads.is_expanded o.action n.state leads.step
       ] refl
 
+  with_reach : (x : S) → PrecedesPlans t value x → IsReachable t x × PrecedesPlans t value x
+  with_reach x precedes = (reachable-of_precedes t value x precedes, precedes)
+
   -- the listed states are as many as the limit allows, and an action leads to a new one from the state whose turn it is
   pub more_reachable : (i : ℕ) (turn : IsTurn (found_of states all) i) (a : ℕ) (s : S) → t.step turn.found.state a ≡ Some s → (¬ Contains states s)
       → (max_states : ℕ) → length states ≡ max_states → AreMoreReachable t value max_states
@@ -77,22 +85,13 @@ module _ {S : Type 0} (t : System S ℕ) (value : S → ℕ) (states : List S) (
     states ++ s ∷ [],
     distinct-push states s states_distinct is_new,
     (λ x at.
-        elim (Contains-push_cases states s x at) [
+        with_reach x
+        (elim (Contains-push_cases states s x at) [
           | inl among ↦
               let (k, stands) = Contains-place states x among in
               let (n, there, same) = node_there k x stands in
               subst (λ y. PrecedesPlans t value y) same (precedes-found k n there)
           | inr is ↦ precedes-next i turn.found turn.stands turn.is_expanded a x (step ∙ ap Some is)
-        ]),
+        ])),
     omega (arith, length-append states (s ∷ []), full),
   )
-
--- each of the states is reachable
-pub reachable-of_precedes : {S A : Type 0} (t : System S A) (value : S → ℕ) (s : S) → PrecedesPlans t value s → IsReachable t s
-reachable-of_precedes t value s (is_initial is) = ([], ap Some (sym is))
-reachable-of_precedes t value s (is_next actions before a runs no_goal no_dearer step) = (actions ++ a ∷ [], run-push t t.initial actions a before s runs step)
-
-pub reachable-of_more : {S A : Type 0} (t : System S A) (value : S → ℕ) (max_states : ℕ) → AreMoreReachable t value max_states
-    → (states : List S) × AreDistinct states × ((s : S) → Contains states s → IsReachable t s) × (max_states < length states)
-reachable-of_more t value max_states (states, distinct, precede, more) =
-    (states, distinct, (λ s at. reachable-of_precedes t value s (precede s at)), more)

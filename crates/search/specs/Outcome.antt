@@ -1,6 +1,6 @@
 -- What a search tells of a transition system.
 use Rattle.std.specs.Prelude.{◌≡◌, ℕ, ◌+◌, ◌*◌, ◌<◌, ◌≤◌, true, false, if◌then◌else◌, List, [], ◌∷◌, length, slice_get, Some, None, Contains}
-use Rattle.model.specs.Runs.{System, run, cost_of_all, CostsAtLeast, IsOptimal, IsUnsolvable}
+use Rattle.model.specs.Runs.{System, run, cost_of_all, IsReachable, CostsAtLeast, IsOptimal, IsUnsolvable}
 use Rattle.model.specs.Claims.{Claim, bound, none, Line, IsClosed}
 use Rattle.search.specs.declared.nodes.Node.{Node}
 use Rattle.search.specs.declared.best.Outcome.{Outcome}
@@ -56,7 +56,7 @@ pub data PrecedesPlans {S A : Type 0} (t : System S A) (value : S → ℕ) (s : 
 -- More states than the limit are reachable, and may have to be found before any plan is sure to be cheapest.
 abbrev pub AreMoreReachable : {S A : Type 0} → System S A → (S → ℕ) → ℕ → Type 0
 AreMoreReachable {S} t value max_states =
-    (states : List S) × AreDistinct states × ((s : S) → Contains states s → PrecedesPlans t value s) × (max_states < length states)
+    (states : List S) × AreDistinct states × ((s : S) → Contains states s → IsReachable t s × PrecedesPlans t value s) × (max_states < length states)
 
 -- The outcome of a search by this estimate is true: the steps are a cheapest list that solves, or none solves, and the
 -- found states prove it; or there are more states than the limit.

@@ -1,5 +1,8 @@
-use Rattle.cert_checker.proofs.StaysLemmas.{closed_holds}
+use Rattle.cert_checker.proofs.StaysLemmas.{closed_holds, value_below}
 use Rattle.cert_checker.proofs.laws.closed_claim_holds.Goals as goal
 
-pub returns : goal.returns
-returns c = closed_holds
+pub returns-clause-claim : goal.returns-clause-claim
+returns-clause-claim c = closed_holds
+
+pub returns-clause-values : goal.returns-clause-values
+returns-clause-values c = value_below
