@@ -13,3 +13,5 @@ mod helpers;
 mod listings;
 #[cfg(test)]
 mod streams;
+#[cfg(test)]
+mod writing;

@@ -1,7 +1,7 @@
 //! The checker over sources that give bytes in pieces, that fail, and that never end.
 use crate::helpers::Told::{Device, Line as At};
 use crate::helpers::{Answer, check_source};
-use cert_checker::RefusalCode::{CertForm, Repeated};
+use cert_checker::RefusalCode::{CertForm, NotFluent, Repeated};
 use cert_checker::{Accepted, RefusalCode};
 use devices::{Endless, FailsAt, InPieces, Memory};
 use std::alloc::{AllocError, Global};
@@ -77,17 +77,36 @@ fn a_failure_is_told_where_it_comes(rt: HostRuntime) -> Result<(), Fail> {
     on_task(&rt, rt.alloc(), &PAIRS, only_failures_are_told)
 }
 
-/// What the checker answers to a text that blanks follow for ever.
-fn endless(alloc: Global, task: &Task, text: &[u8]) -> Result<Answer, AllocError> {
-    let blanks = vec![in alloc; b' '; 64]?;
-    let source = Endless::new(text.to_vec(alloc)?, blanks);
+/// What stands before the first atom.
+const HEAD: &[u8] = b"pddl-cert 1\nclaim none\nconstant 0\n";
+
+/// What the checker answers to a text that these bytes follow for ever.
+fn endless(alloc: Global, task: &Task, text: &[u8], again: &[u8]) -> Result<Answer, AllocError> {
+    let again = again.repeat(alloc, 4_096)?;
+    if again.is_empty() {
+        return Ok(check_source(alloc, task, memory(alloc, text)?, None, 6));
+    }
+    let source = Endless::new(text.to_vec(alloc)?, again);
     Ok(check_source(alloc, task, source, None, 6))
 }
 
+/// Texts, what follows them for ever, and the first line at fault.
+#[rattlefmt::skip]
+static ENDLESS: [(&[u8], &[u8], RefusalCode, u64); 6] = [
+    (AGAIN, b" ", Repeated, 5),
+    (NO_PLAN, b" ", CertForm, 12),
+    (b"", b"0", CertForm, 1),
+    (HEAD, b"0", CertForm, 4),
+    (HEAD, b"atom 0 (on s1)\n", Repeated, 5),
+    (HEAD, b"atom 0 (on s9)\n", NotFluent, 4),
+];
+
 /// The first line at fault is told, whatever follows.
 fn ends_are_told(rt: &impl Abort, alloc: Global, task: &Task) -> Result<(), Fail> {
-    let answers = [endless(alloc, task, AGAIN)?, endless(alloc, task, NO_PLAN)?];
-    assert_eq!(rt; answers, [at_line(Repeated, 5), at_line(CertForm, 12)]);
+    for (number, (text, again, code, line)) in ENDLESS.iter().enumerate() {
+        let answer = endless(alloc, task, *text, *again)?;
+        assert_eq!(rt; answer, at_line(*code, *line), "row {number}");
+    }
     Ok(())
 }
 

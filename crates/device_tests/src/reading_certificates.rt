@@ -20,7 +20,7 @@ type Told = (u64, Option<CertFault>);
 
 /// What the reader tells, and `None` where it never ends.
 fn told<S: Source>(reader: &mut CertReader<S>) -> Option<Told> {
-    for count in 0..2_000_000 {
+    for count in 0..17_000_000 {
         match reader.next_line() {
             Ok(Some(_)) => {}
             Ok(None) => return Some((count, None)),
@@ -168,6 +168,16 @@ fn one_atom_more_than_there_may_be_is_told(rt: HostRuntime) -> Result<(), Fail> 
     let head = b"pddl-cert 1\nclaim none\nconstant 0\n".to_vec(alloc)?;
     let again = b"atom 0 (lit)\n".repeat(alloc, 5_000)?;
     let limit = Some((1_048_579, Some(at_line(TextFault::Limit, 1_048_580))));
+    assert!(rt; reads(alloc, Endless::new(head, again)) == limit);
+    Ok(())
+}
+
+#[test]
+fn one_state_more_than_there_may_be_is_told(rt: HostRuntime) -> Result<(), Fail> {
+    let alloc = rt.alloc();
+    let head = b"pddl-cert 1\nclaim none\nconstant 0\n".to_vec(alloc)?;
+    let again = b"open 0\n".repeat(alloc, 9_000)?;
+    let limit = Some((16_777_219, Some(at_line(TextFault::Limit, 16_777_220))));
     assert!(rt; reads(alloc, Endless::new(head, again)) == limit);
     Ok(())
 }

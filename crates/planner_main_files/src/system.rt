@@ -1,10 +1,10 @@
 //! The machine's files.
-ghost use Rattle.std.specs.Prelude.{◌≡◌};
+ghost use Rattle.std.specs.Prelude.{◌≡◌, ◌<◌, Err, IfSome, IsOk, IsTrue, OnOk};
 ghost use Rattle.devices.specs.Devices.{CountsDevice};
+ghost use Rattle.planner_main_files.specs.Written.{HoldsBeginning};
 
 use crate::Files;
-use devices::{Device, WriteFault};
-use std::io::Write;
+use devices::{Device, Sink, WriteFault};
 use std::{fs, io, rt};
 
 /// The files that a runtime reaches, with a count of the failures.
@@ -41,7 +41,7 @@ impl<R> SystemFiles<'_, R> {
     }
 }
 
-impl<R: rt::Files> Files for SystemFiles<'_, R> {
+impl<'a, R: rt::Files> Files for SystemFiles<'a, R> {
     type Input = Device<R::File>;
 
     type Output = Device<R::File>;
@@ -63,12 +63,18 @@ impl<R: rt::Files> Files for SystemFiles<'_, R> {
         Ok(Device::new(self.counted(created)?))
     }
 
-    fn close(&mut self, output: Device<R::File>) -> Result<(), WriteFault> {
+    // std's files hold nothing back that is written to them, so nothing is left that could fail here.
+    fn close(&mut self, output: Device<R::File>) -> Result<(), WriteFault>
+        ensures failures { CountsDevice (⟦<SystemFiles<'a, R> as Files>⟧.failures self.old) (⟦<SystemFiles<'a, R> as Files>⟧.failures self.new) result }
+        ensures failed { 0 < ⟦<Device<R::File> as Sink>⟧.failures output → result ≡ Err WriteFault.Device }
+        ensures written { IsTrue ⟦<SystemFiles<'a, R> as Files>⟧.is_known → OnOk result (⟦<SystemFiles<'a, R> as Files>⟧.contents self.new (⟦<Device<R::File> as Sink>⟧.name output) ≡ ⟦<Device<R::File> as Sink>⟧.taken output) }
+        ensures beginning { IsTrue ⟦<SystemFiles<'a, R> as Files>⟧.is_known → IfSome (⟦<Device<R::File> as Sink>⟧.taken output) (HoldsBeginning (⟦<SystemFiles<'a, R> as Files>⟧.contents self.old (⟦<Device<R::File> as Sink>⟧.name output)) (⟦<SystemFiles<'a, R> as Files>⟧.contents self.new (⟦<Device<R::File> as Sink>⟧.name output))) }
+        ensures only_failed { ⟦<Device<R::File> as Sink>⟧.failures output ≡ 0 → IsOk result }
+    {
         if output.failed_writes() > 0 {
             self.failures = self.failures.saturating_add(1);
             return Err(WriteFault::Device);
         }
-        let flushed = output.into_inner().flush();
-        self.counted(flushed)
+        Ok(())
     }
 }

@@ -195,6 +195,8 @@ impl Sink for Draft {
 
     ghost taken = { λ draft. ⟦<Memory as Sink>⟧.taken draft.bytes };
 
+    ghost write_count = { λ draft piece. ⟦<Memory as Sink>⟧.write_count draft.bytes piece };
+
     ghost name = { draft_name };
 
     fn write(&mut self, piece: &[u8]) -> Result<usize, WriteFault> {

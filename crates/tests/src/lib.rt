@@ -10,4 +10,6 @@ mod laws;
 #[cfg(test)]
 mod reports;
 #[cfg(test)]
+mod sets;
+#[cfg(test)]
 mod told;
