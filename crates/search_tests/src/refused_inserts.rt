@@ -6,8 +6,8 @@ use packed_state::{Packed, PlainStore, PooledStore, StateStore};
 use std::alloc::Global;
 use std::test::Fail;
 
-/// Whether the store has just these sets, in this order, and not the other one. No memory is taken: `lent` is written over.
-fn has_just<S: StateStore>(store: &S, sets: &[Packed], other: &Packed, lent: &mut Packed) -> bool {
+/// Whether the store has just these sets, in this order. No memory is taken: `lent` is written over.
+fn has_just<S: StateStore>(store: &S, sets: &[Packed], lent: &mut Packed) -> bool {
     for (set, place) in sets.iter().zip(0..u32::MAX) {
         if lent.width() != store.width() || place as usize >= store.len() {
             return false;
@@ -17,7 +17,7 @@ fn has_just<S: StateStore>(store: &S, sets: &[Packed], other: &Packed, lent: &mu
             return false;
         }
     }
-    store.len() == sets.len() && found(store, other).is_none()
+    store.len() == sets.len()
 }
 
 /// Whether the answer tells of a new set that stands behind so many.
@@ -39,20 +39,21 @@ fn takes_next<S: StateStore>(
     match put(store, set) {
         Ok(answer) => is_next(answer, before.len()),
         Err(NoMemory) => {
-            has_just(store, before, set, lent)
+            has_just(store, before, lent)
+                && found(store, set).is_none()
                 && put(store, set).is_ok_and(|answer| is_next(answer, before.len()))
         }
     }
 }
 
-/// Whether the store takes each set in turn, and is as before wherever one is refused.
+/// Whether the store takes each set in turn, is as before wherever one is refused, and has all in the end.
 fn takes_each<S: StateStore>(store: &mut S, sets: &[Packed], lent: &mut Packed) -> bool {
     for place in 0..sets.len() {
         if !takes_next(store, &sets[..place], &sets[place], lent) {
             return false;
         }
     }
-    true
+    has_just(store, sets, lent)
 }
 
 /// Distinct sets, a further one to write over, and both stores without any.
@@ -66,12 +67,15 @@ fn set_up(
     Ok((sets, lent, PlainStore::new(alloc, width), pooled))
 }
 
+/// Of three words a set, of which a vector's room is no multiple: a set may fit in part.
+const WIDTH: u32 = 129;
+
 #[test]
 fn a_refused_set_changes_no_store(rt: HostRuntime) -> Result<(), Fail> {
     // One allocation at most is refused, so the second try has memory.
-    let (sets, mut lent, mut plain, mut pooled) = match set_up(rt.alloc(), 128) {
+    let (sets, mut lent, mut plain, mut pooled) = match set_up(rt.alloc(), WIDTH) {
         Ok(made) => made,
-        Err(NoMemory) => set_up(rt.alloc(), 128)?,
+        Err(NoMemory) => set_up(rt.alloc(), WIDTH)?,
     };
     assert!(rt; takes_each(&mut plain, &sets, &mut lent));
     assert!(rt; takes_each(&mut pooled, &sets, &mut lent));
