@@ -10,4 +10,4 @@ precedes_by_cost t value s (search.is_next actions before a runs missed cheap le
 
 pub more_by_cost : {S A : Type 0} (t : System S A) (value : S → ℕ) (max_states : ℕ) → search.AreMoreReachable t value max_states → AreMoreReachable t max_states
 more_by_cost t value max_states (states, distinct, preceding, more) =
-    (states, distinct, (λ s among. precedes_by_cost t value s (preceding s among)), more)
+    (states, distinct, (λ s among. let (reached, precedes) = preceding s among in (reached, precedes_by_cost t value s precedes)), more)

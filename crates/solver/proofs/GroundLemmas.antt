@@ -49,10 +49,6 @@ module _ (task : Task) (atoms : List Atom) where
   pub length-reachable : (bits : List Bool) → IsReachable (ground_system task atoms) bits → length bits ≡ length atoms
   length-reachable bits reached = length-run reached.0 (ground_system task atoms).initial bits length-initial reached.1
 
-  length-precedes : (bits : List Bool) → PrecedesPlans (ground_system task atoms) bits → length bits ≡ length atoms
-  length-precedes bits (is_initial is) = ap length is ∙ length-initial
-  length-precedes bits (is_next actions before a runs missed cheap leads) = length-step task atoms before bits a leads
-
 -- ---- states and packed states
 
 -- distinct states have distinct views, where the view keeps them apart
@@ -104,11 +100,19 @@ module _ (task : Task) where
       (subst (λ cost. CostsAtLeast (system_of task) cost) paid (bound_forth (ground_system task atoms) (system_of task) (λ b s. view b ≡ s) (NamesKept task) both (cost_of_all (ground_system task atoms) actions) cheap))
       (next.3 ∙ ap Some (sym next.4))
 
+  reached : (bits : List Bool) → IsReachable (ground_system task atoms) bits → IsReachable (system_of task) (view bits)
+  reached bits (actions, runs) =
+      let other = run_forth (ground_system task atoms) (system_of task) (λ b s. view b ≡ s) (NamesKept task) both actions (ground_system task atoms).initial (system_of task).initial bits both.initial runs in
+      (other.0, other.3 ∙ ap Some (sym other.4))
+
   pub more_reachable : (max_states : ℕ) → AreMoreReachable (ground_system task atoms) max_states → AreMoreReachable (system_of task) max_states
   more_reachable max_states (states, distinct, preceding, more) = (
     map view states,
-    distinct_states states (λ k bits at. length-precedes task atoms bits (preceding bits (Contains-got states k bits at))) distinct,
-    λ s among. let from = map-Contains view states s among in subst (λ (t : State). PrecedesPlans (system_of task) t) from.2 (precedes from.0 (preceding from.0 from.1)),
+    distinct_states states (λ k bits at. length-reachable task atoms bits (preceding bits (Contains-got states k bits at)).0) distinct,
+    λ s among.
+        let from = map-Contains view states s among in
+        let (reaches, comes) = preceding from.0 from.1 in
+        subst (λ (t : State). IsReachable (system_of task) t × PrecedesPlans (system_of task) t) from.2 (reached from.0 reaches, precedes from.0 comes),
     omega (arith, more, length-map states view),
   )
 

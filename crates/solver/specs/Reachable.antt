@@ -1,6 +1,6 @@
 -- Where a limit of states is told: which states may have to be found before any plan is sure to be cheapest.
 use Rattle.std.specs.Prelude.{◌≡◌, ℕ, ◌<◌, false, List, length, Some, Contains}
-use Rattle.model.specs.Runs.{System, run, cost_of_all, CostsAtLeast}
+use Rattle.model.specs.Runs.{System, run, cost_of_all, IsReachable, CostsAtLeast}
 use Rattle.packed_state.specs.Store.{AreDistinct}
 
 -- A search in the order of cost may have to find the state before any plan is sure to be cheapest: the state is the
@@ -15,4 +15,4 @@ pub data PrecedesPlans {S A : Type 0} (t : System S A) (s : S) : Type 0 where
 -- More states than the limit are reachable, and may have to be found before any plan is sure to be cheapest.
 abbrev pub AreMoreReachable : {S A : Type 0} → System S A → ℕ → Type 0
 AreMoreReachable {S} t max_states =
-    (states : List S) × AreDistinct states × ((s : S) → Contains states s → PrecedesPlans t s) × (max_states < length states)
+    (states : List S) × AreDistinct states × ((s : S) → Contains states s → IsReachable t s × PrecedesPlans t s) × (max_states < length states)

@@ -2,7 +2,7 @@
 ghost use Rattle.std.specs.Prelude.{◌≡◌, ◌<◌, ◌≤◌, All, length, map, IfOk};
 ghost use Rattle.std.specs.List.{AllZip};
 ghost use Rattle.formulas.specs.State.{instance_of, plan_of};
-ghost use Rattle.formulas.specs.declared.plan.TheConstants.{MAX_STEPS};
+ghost use Rattle.model.specs.RunLimits.{max_steps};
 ghost use Rattle.grounding.specs.Ground.{task_in};
 ghost use Rattle.model.specs.ClosedOff.{kept_instances};
 ghost use Rattle.model.specs.Grounding.{NamesKept};
@@ -15,7 +15,7 @@ use std::alloc::Global;
 /// The plan of the instances of these numbers, in order.
 pub(crate) fn plan_of(alloc: Global, ground: &Ground<'_>, numbers: &[u32]) -> Result<Plan, NoMemory>
     requires named { All (λ number. number < length (kept_instances (task_in ground.now))) numbers.now }
-    requires few { length numbers.now ≤ MAX_STEPS }
+    requires few { length numbers.now ≤ max_steps }
     ensures { IfOk result (λ plan. AllZip (NamesKept (task_in ground.now)) numbers.now (plan_of plan)) }
 {
     match Plan::new(instances_of(alloc, ground, numbers)?) {
