@@ -2,10 +2,9 @@
 -- listing of the other.
 use Rattle.std.proofs.Common.{◌≡◌, ◌∙◌, ℕ, ◌+◌, ◌≤◌, List, map, None, refl, sym, ap, subst, arith}
 use Rattle.std.specs.Prelude.{true}
-use Rattle.model.specs.Runs.{System}
-use Rattle.model.specs.Claims.{Claim, Allows, Line, IsListedWithin, IsClosed}
+use Rattle.model.specs.Runs.{System, IsReachable}
+use Rattle.model.specs.Claims.{Claim, Allows, Line, IsListedWithin, IsClosed, IsLowerBound}
 use Rattle.model.specs.Bisimulation.{IsBisimulation}
-use Rattle.model.proofs.Reachable.{IsReachable, IsLowerBound}
 use Rattle.model.proofs.ListLemmas.{Contains-map, map-Contains}
 use Rattle.model.proofs.BisimulationLemmas.{reachable_forth, run_forth, same_cost}
 

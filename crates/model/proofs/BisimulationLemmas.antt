@@ -3,9 +3,8 @@ use Rattle.std.proofs.Common.{◌≡◌, ◌∙◌, ℕ, ◌≤◌, List, [], �
 use Rattle.std.proofs.lemmas.List.Sums.{sum_by-cons}
 use Rattle.std.specs.List.{AllZip}
 use Rattle.std.specs.Option.{option_and_then}
-use Rattle.model.specs.Runs.{System, run, cost_of_all, Solves, CostsAtLeast, IsOptimal, IsUnsolvable}
+use Rattle.model.specs.Runs.{System, run, cost_of_all, Solves, CostsAtLeast, IsOptimal, IsUnsolvable, IsReachable}
 use Rattle.model.specs.Bisimulation.{IsBisimulation, SolveAlike}
-use Rattle.model.proofs.Reachable.{IsReachable}
 
 -- the first step of a run, and the run from there
 first_step : {S A : Type 0} (t : System S A) (s end : S) (a : A) (plan : List A) → run t s (a ∷ plan) ≡ Some end

@@ -4,9 +4,8 @@ use Rattle.std.specs.Prelude.{IsTrue, Contains}
 use Rattle.std.specs.Option.{option_and_then}
 use Rattle.std.proofs.lemmas.List.Sums.{sum_by-cons}
 use Rattle.std.proofs.lemmas.Option.{same_Some}
-use Rattle.model.specs.Runs.{System, run, cost_of_all}
-use Rattle.model.specs.Claims.{Claim, bound, none, Allows, ClaimHolds, Line, IsClosed}
-use Rattle.model.proofs.Reachable.{IsReachable, IsLowerBound}
+use Rattle.model.specs.Runs.{System, run, cost_of_all, IsReachable}
+use Rattle.model.specs.Claims.{Claim, bound, none, Allows, ClaimHolds, Line, IsClosed, IsLowerBound}
 
 Allows-≤ : (claim : Claim) (m n : ℕ) → Allows claim m → m ≤ n → Allows claim n
 Allows-≤ (bound least) m n allowed le = omega arith

@@ -2,7 +2,6 @@ pub mod Atoms
 pub mod ListLemmas
 pub mod Pieces
 pub mod Tests
-pub mod Reachable
 pub mod ClaimsLemmas
 pub mod BisimulationLemmas
 pub mod BisimilarListings

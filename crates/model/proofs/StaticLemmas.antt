@@ -10,10 +10,9 @@ use Rattle.std.proofs.lemmas.Bool.{or_parts, or_from, eq-eqb, false_from_ne_true
 use Rattle.std.proofs.lemmas.List.Folds.{list_any-append}
 use Rattle.model.specs.Task.{Atom, LiftedAtom, Formula, EffectLiteral, add, delete, Effect, Effects, literal, both, each, when, no_effect, more_effects, Schema, Task, Instance}
 use Rattle.model.specs.Meaning.{State, atom_cmp, objects_of, ground_atom, GroundLiteral, adds, deletes, Change, ground_literal, change_under, changes_of, changes_of_all, literals_in, added_by, deleted_by, after_literals, after_changes, step, holds, fits, system_of, initial_state}
-use Rattle.model.specs.Runs.{run}
+use Rattle.model.specs.Runs.{run, IsReachable}
 use Rattle.model.specs.Fluents.{is_literal_of, touches, any_touches, is_fluent, static_atoms}
 use Rattle.model.specs.NumberedAtoms.{stands_in, atom_of_literal}
-use Rattle.model.proofs.Reachable.{IsReachable}
 use Rattle.model.proofs.Atoms.{atoms_total, atoms_apart, same_state}
 
 -- a ground atom of another predicate is another atom

@@ -1,7 +1,7 @@
 -- What a certificate claims of all plans, and the finite condition on a listing of states from which it follows.
 -- Over any transition system, as `Runs`.
 use Rattle.std.specs.Prelude.{◌≡◌, ℕ, ◌+◌, ◌≤◌, IsTrue, List, Contains, Option, None, Some}
-use Rattle.model.specs.Runs.{System, cost_of_all, Solves}
+use Rattle.model.specs.Runs.{System, run, cost_of_all, IsReachable, Solves}
 
 -- what a certificate claims
 pub data Claim : Type 0 where
@@ -29,6 +29,11 @@ pub record Line (S : Type 0) : Type 0 where
 -- the state is listed at no more than this cost
 abbrev pub IsListedWithin : {S : Type 0} → List (Line S) → S → ℕ → Type 0
 IsListedWithin {S} lines s cost = (line : Line S) × Contains lines line × (line.state ≡ s) × (line.cost ≤ cost)
+
+-- what is still to pay from a reachable state on is at least its value
+abbrev pub IsLowerBound : {S A : Type 0} → System S A → (S → ℕ) → Type 0
+IsLowerBound {S} {A} t value =
+    (s end : S) (plan : List A) → IsReachable t s → run t s plan ≡ Some end → IsTrue (t.meets_goal end) → value s ≤ cost_of_all t plan
 
 -- No list of actions leaves the listing at less than what the claim allows.
 pub record IsClosed {S A : Type 0} (t : System S A) (value : S → ℕ) (claim : Claim) (lines : List (Line S)) : Type 0 where

@@ -21,6 +21,10 @@ run t s (a ∷ rest) = option_and_then (λ next. run t next rest) (t.step s a)
 abbrev pub cost_of_all : {S A : Type 0} → System S A → List A → ℕ
 cost_of_all t plan = sum_by t.cost plan
 
+-- some list of actions leads from the initial state to this one
+abbrev pub IsReachable : {S A : Type 0} → System S A → S → Type 0
+IsReachable {S} {A} t s = (actions : List A) × (run t t.initial actions ≡ Some s)
+
 -- the list runs from the initial state to one that meets the goal (Fox & Long 2003, section 8.2: validity of a plan)
 abbrev pub Solves : {S A : Type 0} → System S A → List A → Type 0
 Solves {S} {A} t plan = (s : S) × (run t t.initial plan ≡ Some s) × IsTrue (t.meets_goal s)

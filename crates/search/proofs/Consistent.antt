@@ -4,7 +4,7 @@ use Rattle.std.specs.Option.{option_and_then}
 use Rattle.std.proofs.lemmas.Option.{same_Some}
 use Rattle.std.proofs.lemmas.List.Sums.{sum_by-cons}
 use Rattle.model.specs.Runs.{System, run, cost_of_all}
-use Rattle.model.proofs.Reachable.{IsLowerBound}
+use Rattle.model.specs.Claims.{IsLowerBound}
 use Rattle.search.specs.Estimates.{IsConsistent}
 
 module _ {S A : Type 0} (t : System S A) (value : S → ℕ) (consistent : IsConsistent t value) where

@@ -6,8 +6,7 @@ use Rattle.std.proofs.lemmas.Option.{same_Some, slice_get_within}
 use Rattle.std.proofs.lemmas.List.{length-append}
 use Rattle.std.proofs.lemmas.List.Elements.{Contains-push_cases}
 use Rattle.model.proofs.ListLemmas.{Contains-got, Contains-place}
-use Rattle.model.specs.Runs.{System, CostsAtLeast}
-use Rattle.model.proofs.Reachable.{IsReachable}
+use Rattle.model.specs.Runs.{System, CostsAtLeast, IsReachable}
 use Rattle.search.specs.declared.nodes.Node.{Node}
 use Rattle.search.specs.Outcome.{PrecedesPlans, is_initial, is_next, AreMoreReachable}
 use Rattle.packed_state.specs.Store.{AreDistinct}

@@ -23,7 +23,7 @@ use Rattle.solver.proofs.PotentialLemmas.{estimate-value, most_value, value-most
 use Rattle.solver.proofs.ListingLemmas.{found_line, node_at}
 use Rattle.model.specs.Task.{Task, Atom, Instance}
 use Rattle.model.specs.Runs.{System, run, cost_of_all, Solves, IsOptimal, IsUnsolvable}
-use Rattle.model.specs.Claims.{Claim, bound, none, Line, IsClosed}
+use Rattle.model.specs.Claims.{Claim, bound, none, Line, IsClosed, IsLowerBound}
 use Rattle.model.specs.Meaning.{State, step, is_instance, system_of}
 use Rattle.certificate_text.specs.Certificates.{is_claim}
 use Rattle.potential_functions.specs.PotentialFunctions.{PotentialFunction, score, value, AreInRange}
@@ -32,7 +32,6 @@ use Rattle.model.specs.Fluents.{is_fluent}
 use Rattle.model.specs.ClosedOff.{kept_instances}
 use Rattle.model.specs.NumberedAtoms.{numbered_atoms}
 use Rattle.model.specs.Grounding.{ground_system, StandsFor, NamesKept}
-use Rattle.model.proofs.Reachable.{IsLowerBound}
 use Rattle.model.proofs.ClaimsLemmas.{claim-of_closed}
 use Rattle.model.proofs.InstancesLemmas.{is_instance-of_step}
 use Rattle.model.proofs.BisimulationLemmas.{same_cost}

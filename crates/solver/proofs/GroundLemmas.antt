@@ -9,14 +9,13 @@ use Rattle.packed_state.specs.Store.{AreDistinct}
 use Rattle.search.specs.Transitions.{AreApplicable}
 use Rattle.solver.specs.Reachable.{PrecedesPlans, is_initial, is_next, AreMoreReachable}
 use Rattle.model.specs.Task.{Atom, Task, Instance}
-use Rattle.model.specs.Runs.{run, cost_of_all, CostsAtLeast}
+use Rattle.model.specs.Runs.{run, cost_of_all, CostsAtLeast, IsReachable}
 use Rattle.model.specs.Meaning.{State, system_of}
 use Rattle.model.specs.Bisimulation.{IsBisimulation}
 use Rattle.model.specs.Fluents.{is_fluent}
 use Rattle.model.specs.ClosedOff.{kept_instances}
 use Rattle.model.specs.NumberedAtoms.{numbered_atoms}
 use Rattle.model.specs.Grounding.{state_of_bits, bits_of_state, ground_step, ground_system, applicable_numbers, NamesKept}
-use Rattle.model.proofs.Reachable.{IsReachable}
 use Rattle.model.proofs.ListLemmas.{Contains-got, map-Contains}
 use Rattle.model.proofs.BisimulationLemmas.{run_forth, same_cost, bound_forth}
 use Rattle.model.proofs.GroundTaskLemmas.{Contains-applicable, applicable-Contains, length-step, packs_states, ground_task_is_bisimilar}

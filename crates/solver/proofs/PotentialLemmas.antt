@@ -9,7 +9,7 @@ use Rattle.model.specs.Task.{Task, Atom}
 use Rattle.model.specs.Fluents.{is_fluent}
 use Rattle.model.specs.NumberedAtoms.{numbered_atoms}
 use Rattle.model.specs.Grounding.{state_of_bits, bits_of_state, ground_system}
-use Rattle.model.proofs.Reachable.{IsLowerBound}
+use Rattle.model.specs.Claims.{IsLowerBound}
 use Rattle.model.proofs.GroundTaskLemmas.{packs_states}
 use Rattle.potential_functions.specs.PotentialFunctions.{PotentialFunction, score, or_zero, value, given, IsInRange, AreInRange}
 use Rattle.potential_functions.specs.Laws.{AreLowerBounds}
