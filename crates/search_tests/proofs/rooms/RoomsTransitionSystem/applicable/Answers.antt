@@ -12,6 +12,6 @@ returns-clause-ok c =
     let is_there : ℕ → Bool = λ door. is_some (through r.width (doors r.first.now r.second.now door) set) in
     let first = c.add_door.ensures.added ∙ ap (λ (items : List ℕ). items ++ door_numbers 1 (is_there 1)) c.clear.ensures.items in
     λ n.
-        subst (λ items. Contains items n ↔ IsTrue (is_there n))
-        (sym (c.add_door-2.ensures.added ∙ ap (λ (items : List ℕ). items ++ door_numbers 2 (is_there 2)) first))
-        (are_applicable r.width r.first.now r.second.now set n)
+    subst (λ items. Contains items n ↔ IsTrue (is_there n))
+    (sym (c.add_door-2.ensures.added ∙ ap (λ (items : List ℕ). items ++ door_numbers 2 (is_there 2)) first))
+    (are_applicable r.width r.first.now r.second.now set n)
