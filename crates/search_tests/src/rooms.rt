@@ -1,5 +1,5 @@
 //! A small transition system of the tests' own: rooms with doors, where a state is the set of its one room.
-ghost use Rattle.std.specs.Prelude.{◌≡◌, ◌<◌, ◌++◌, length, is_some, IfSome, OnOk};
+ghost use Rattle.std.specs.Prelude.{◌≡◌, ◌+◌, ◌<◌, ◌≤◌, ◌++◌, length, vec_len, vec_capacity, is_some, IfSome};
 ghost use Rattle.packed_state.specs.Packed.{bits_of};
 ghost use Rattle.search_tests.specs.Rooms.{rooms, room_in, doors, behind, through, door_numbers};
 
