@@ -33,4 +33,4 @@ def failure(crate, program):
     if ran.returncode == 0 and ran.stdout == wanted:
         return ""
     changed = [it for it in difflib.ndiff(wanted.splitlines(), ran.stdout.splitlines()) if it[0] in "-+"]
-    return "\n".join([f"the stored example ends with status {ran.returncode}, which is to be 0", *changed, ran.stderr])
+    return "\n".join([f"the stored example comes out otherwise, with status {ran.returncode}", *changed, ran.stderr])
