@@ -10,4 +10,6 @@ mod rooms;
 #[cfg(test)]
 mod searches;
 #[cfg(test)]
+mod sets;
+#[cfg(test)]
 mod signs;

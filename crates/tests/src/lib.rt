@@ -10,6 +10,4 @@ mod laws;
 #[cfg(test)]
 mod reports;
 #[cfg(test)]
-mod sets;
-#[cfg(test)]
 mod told;

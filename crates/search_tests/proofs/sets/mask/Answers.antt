@@ -2,7 +2,7 @@ use Rattle.std.proofs.Common.{length, ap, ◌∙◌, nat_eq}
 use Rattle.std.specs.List.{list_any}
 use Rattle.std.proofs.lemmas.List.FromFn.{length-map-range_with_len}
 use Rattle.faults.proofs.Results.{if_ok}
-use Rattle.tests.proofs.sets.set.Goals as goal
+use Rattle.search_tests.proofs.sets.mask.Goals as goal
 
 pub returns : goal.returns
 returns c = if_ok c.new.result
