@@ -8,9 +8,9 @@ sum_of() {
     find crates.txt ${@/#/crates/*/} -type f | LC_ALL=C sort | tr '\n' '\0' | xargs -0 sha256sum | sha256sum
 }
 
-# Whether a program stands there that was built of sources with this sum.
+# Whether a program stands there that was built of sources with this sum, and is not one that `rt` put there since.
 is_built_of() {
-    [[ -x $1 && -f $1.built_of && $(<"$1.built_of") == "$2" ]]
+    [[ -x $1 && -f $1.built_of && ! $1 -nt $1.built_of && $(<"$1.built_of") == "$2" ]]
 }
 
 building=''
