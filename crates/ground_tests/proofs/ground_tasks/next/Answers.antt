@@ -24,4 +24,4 @@ successor-requires-clause-applicable c =
     let (place, within, same) = c.if-not-contains.ensures.cases in
     let listed : Contains c.deref.result.now c.args.instance = (place, within, eqb-true (get_or c.deref.result.now place c.args.instance) c.args.instance (same c.args.instance)) in
     (filter-Contains (λ (n : ℕ). is_some (ground_step task atoms bits n)) (range_with_len 0 (length (kept_instances task))) c.args.instance
-    (subst (λ (numbers : List ℕ). Contains numbers c.args.instance) (c.deref.ensures.value ∙ c.in_ok-applicable.ensures) listed)).1
+    (subst (λ (numbers : List ℕ). Contains numbers c.args.instance) (c.deref.ensures.value ∙ c.in_ok-applicable.ensures.ok) listed)).1
