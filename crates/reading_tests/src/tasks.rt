@@ -62,14 +62,15 @@ fn declarations(alloc: Global, task: &Task) -> Result<String, AllocError> {
     format!(in alloc; "{p:?} {q:?}\n{go:?}\n{init:?}\n{goal:?}")
 }
 
-/// The declarations of `MIXED`, with one quantifier for each variable; the start is told as it stands in the file.
+/// The declarations of `MIXED`, with one quantifier for each variable, and an `and` for the one over none; the start is told as
+/// it stands in the file.
 const DECLARATIONS: &str = "\
 Some(Predicate { arguments: [TypeUnion([TypeId(0)])] }) Some(Predicate { arguments: [] })
 Some(Schema { parameters: [TypeUnion([TypeId(0)]), TypeUnion([TypeId(0)])], \
 precondition: Exists(TypeUnion([TypeId(0)]), Exists(TypeUnion([TypeId(0)]), \
 Imply(Equal(Variable(VariableId(0)), Variable(VariableId(3))), \
 Or([Atom(LiftedAtom { predicate: PredicateId(0), terms: [Variable(VariableId(1))] }), \
-Not(Atom(LiftedAtom { predicate: PredicateId(1), terms: [] }))])))), \
+And([Not(Atom(LiftedAtom { predicate: PredicateId(1), terms: [] }))])])))), \
 effect: Literal(Delete(LiftedAtom { predicate: PredicateId(1), terms: [] })), cost: 0 })
 [Atom { predicate: PredicateId(0), objects: [ObjectId(1)] }, Atom { predicate: PredicateId(0), objects: [ObjectId(1)] }]
 Atom(LiftedAtom { predicate: PredicateId(0), terms: [Object(ObjectId(1))] })";
