@@ -4,7 +4,7 @@ use Rattle.std.specs.Prelude.{◌≡◌, ℕ, Bool, true, false, not, ◌&&◌, 
 use Rattle.std.specs.List.{list_any}
 use Rattle.std.specs.Option.{option_map_or}
 use Rattle.model.specs.Task.{Formula, and, no_formula, Task, Instance}
-use Rattle.model.specs.Meaning.{State, initial_state, holds, Change, changes_of_instance, step}
+use Rattle.model.specs.Meaning.{State, initial_state, holds, Change, changes_of_instance, has_amount, step}
 use Rattle.model.specs.Fluents.{is_fluent, HasInitialStatics}
 use Rattle.model.specs.Instances.{all_instances}
 use Rattle.model.specs.SureLiterals.{Literal, is_true, is_false, are_same, are_different, literal_holds, sure}
@@ -22,9 +22,10 @@ abbrev pub is_closed_off : Task → Formula → List ℕ → Bool
 is_closed_off task formula binding =
     list_any (λ l. is_fixed task l && not (literal_holds (initial_state task) l)) (sure task formula binding)
 
--- an instance is kept where its precondition is not closed off
+-- an instance is kept where its precondition is not closed off, and what it increases the total cost by has a value
 abbrev pub is_kept : Task → Instance → Bool
-is_kept task i = option_map_or (λ schema. not (is_closed_off task schema.precondition i.objects)) (slice_get task.schemas i.schema) false
+is_kept task i =
+    option_map_or (λ schema. has_amount task schema i.objects && not (is_closed_off task schema.precondition i.objects)) (slice_get task.schemas i.schema) false
 
 -- The instances that are kept, in the order of all instances. The number of one is its place, from 0.
 abbrev pub kept_instances : Task → List Instance

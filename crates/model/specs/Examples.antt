@@ -1,7 +1,7 @@
 -- Worked examples: what the definitions say of small tasks, each chosen so that a wrong reading says otherwise.
 use Rattle.std.specs.Prelude.{◌≡◌, ℕ, Bool, true, false, List, [], ◌∷◌, ◌++◌, map, codes, replicate}
 use Rattle.std.specs.FinSet.{len}
-use Rattle.model.specs.Task.{ObjectType, Object, Union, Predicate, Atom, LiftedAtom, Term, variable, object, Formula, Formulas, atom, equal, and, not, forall, no_formula, more_formulas, EffectLiteral, add, delete, Effect, Effects, literal, both, each, when, no_effect, more_effects, Schema, Task, Instance}
+use Rattle.model.specs.Task.{ObjectType, Object, Union, Predicate, Atom, LiftedAtom, Term, variable, object, Formula, Formulas, atom, equal, and, not, forall, no_formula, more_formulas, EffectLiteral, add, delete, Effect, Effects, literal, both, each, when, no_effect, more_effects, by_number, Schema, Task, Instance}
 use Rattle.model.specs.Runs.{IsVerdict, valid, not_applicable, goal_missed}
 use Rattle.model.specs.Meaning.{objects_of, ground_atom, GroundLiteral, Change, changes_of, is_instance, cost_of, initial_state, system_of}
 use Rattle.model.specs.Meaning as meaning
@@ -51,7 +51,7 @@ go = record {
   parameters = [];
   precondition = and (formulas []);
   effect = both (effects (literal (delete (lifted 0 [])) ∷ literal (add (lifted 0 [])) ∷ literal (add (lifted 1 [])) ∷ []));
-  cost = 0;
+  increase = by_number 0;
 }
 
 abbrev pub go_task : Task
@@ -59,8 +59,10 @@ go_task = record {
   types = root ∷ [];
   objects = [];
   predicates = record { name = codes "p"; arguments = [] } ∷ record { name = codes "q"; arguments = [] } ∷ [];
+  functions = [];
   schemas = go ∷ [];
   init = ground 0 [] ∷ [];
+  values = [];
   goal = and (formulas (atom (lifted 0 []) ∷ atom (lifted 1 []) ∷ []));
   has_metric = false;
 }
@@ -76,7 +78,7 @@ tie = record {
   parameters = any 2;
   precondition = atom (lifted 0 (variable 0 ∷ variable 1 ∷ []));
   effect = literal (add (lifted 1 []));
-  cost = 0;
+  increase = by_number 0;
 }
 
 abbrev pub tie_task : Task
@@ -84,8 +86,10 @@ tie_task = record {
   types = root ∷ [];
   objects = untyped (codes "a") ∷ [];
   predicates = record { name = codes "link"; arguments = any 2 } ∷ record { name = codes "tied"; arguments = [] } ∷ [];
+  functions = [];
   schemas = tie ∷ [];
   init = ground 0 (0 ∷ 0 ∷ []) ∷ [];
+  values = [];
   goal = atom (lifted 1 []);
   has_metric = false;
 }
@@ -102,7 +106,7 @@ move = record {
   parameters = any 2;
   precondition = and (formulas (atom (lifted 0 (variable 0 ∷ [])) ∷ atom (lifted 1 (variable 0 ∷ variable 1 ∷ [])) ∷ []));
   effect = both (effects (literal (delete (lifted 0 (variable 0 ∷ []))) ∷ literal (add (lifted 0 (variable 1 ∷ []))) ∷ []));
-  cost = 0;
+  increase = by_number 0;
 }
 
 abbrev pub walk_to : ℕ → Task
@@ -110,8 +114,10 @@ walk_to place = record {
   types = root ∷ [];
   objects = untyped (codes "a") ∷ untyped (codes "b") ∷ untyped (codes "c") ∷ [];
   predicates = record { name = codes "at"; arguments = any 1 } ∷ record { name = codes "road"; arguments = any 2 } ∷ [];
+  functions = [];
   schemas = move ∷ [];
   init = ground 0 (0 ∷ []) ∷ ground 1 (0 ∷ 0 ∷ []) ∷ ground 1 (0 ∷ 1 ∷ []) ∷ ground 1 (1 ∷ 2 ∷ []) ∷ ground 0 (0 ∷ []) ∷ [];
+  values = [];
   goal = atom (lifted 0 (object place ∷ []));
   has_metric = false;
 }
@@ -145,7 +151,7 @@ see = record {
   parameters = place_or_truck ∷ [];
   precondition = and (formulas []);
   effect = literal (add (lifted 0 (variable 0 ∷ [])));
-  cost = 0;
+  increase = by_number 0;
 }
 
 abbrev pub fleet_task : Task
@@ -153,8 +159,10 @@ fleet_task = record {
   types = root ∷ object_type (codes "truck") (1 ∷ 2 ∷ 0 ∷ []) ∷ object_type (codes "vehicle") (2 ∷ 0 ∷ []) ∷ object_type (codes "place") (3 ∷ 0 ∷ []) ∷ [];
   objects = typed (codes "t") 1 ∷ typed (codes "v") 2 ∷ typed (codes "p") 3 ∷ untyped (codes "z") ∷ [];
   predicates = record { name = codes "seen"; arguments = place_or_truck ∷ [] } ∷ [];
+  functions = [];
   schemas = see ∷ [];
   init = [];
+  values = [];
   goal = atom (lifted 0 (object 2 ∷ []));
   has_metric = false;
 }
@@ -193,7 +201,7 @@ fact name = record { name = name; arguments = [] }
 
 -- an action of these parameters and of this effect, which is always applicable
 abbrev pub doer : List Union → Effect → Schema
-doer parameters effect = record { name = codes "do"; parameters = parameters; precondition = and (formulas []); effect = effect; cost = 0 }
+doer parameters effect = record { name = codes "do"; parameters = parameters; precondition = and (formulas []); effect = effect; increase = by_number 0 }
 
 -- the task of that action in which these atoms are true at the start, and the goal is that all of these formulas hold
 abbrev pub doing : List Union → Effect → List LiftedAtom → List Formula → Task
@@ -201,8 +209,10 @@ doing parameters effect before goals = record {
   types = fleet.types;
   objects = fleet.objects;
   predicates = record { name = codes "seen"; arguments = any 1 } ∷ fact (codes "p") ∷ fact (codes "q") ∷ fact (codes "r") ∷ [];
+  functions = [];
   schemas = doer parameters effect ∷ [];
   init = map (ground_atom []) before;
+  values = [];
   goal = and (formulas goals);
   has_metric = false;
 }
@@ -254,7 +264,7 @@ change condition binding l = record { condition = condition; binding = binding; 
 
 -- the action go with (increase (total-cost) 3), and without; with the metric or without it
 abbrev pub priced : Bool → Task
-priced has_metric = record go_task { schemas = record go { cost = 3 } ∷ go ∷ []; has_metric = has_metric }
+priced has_metric = record go_task { schemas = record go { increase = by_number 3 } ∷ go ∷ []; has_metric = has_metric }
 
 -- ---- what is true of them
 

@@ -6,7 +6,7 @@
 use Rattle.std.specs.Prelude.{◌≡◌, ℕ, Bool, true, false, List, [], ◌∷◌, ◌++◌, fold, Option, None, Some, cond, ⊤}
 use Rattle.std.specs.List.{list_all, list_any}
 use Rattle.std.specs.Option.{option_map}
-use Rattle.model.specs.Trees.{File, domain_file, problem_file, Name, Term, Atom, Formula, EffectLiteral, Effect, Group, Predicate, Increase, Action, Domain, GroundAtom, Fact, Problem, formulas, effects, no_name}
+use Rattle.model.specs.Trees.{File, domain_file, problem_file, Name, Term, Atom, Formula, EffectLiteral, Effect, Group, Predicate, Amount, Increase, Action, Domain, GroundAtom, Fact, Problem, formulas, effects, no_name}
 use Rattle.model.specs.Trees as tree
 use Rattle.model.specs.GrammarWords.{Token, opens, closes, free, reserved, variable, keyword, dash, equals, number, number_word, SectionKeyword, of_section, PartKeyword, of_part, requirement_key}
 use Rattle.model.specs.GrammarWords as words
@@ -20,7 +20,7 @@ pub data Section : Type 0 where
   types : List Group → Section
   constants : List Group → Section
   predicates : List Predicate → Section
-  functions : List Name → Section
+  functions : List Predicate → Section
   action : Action → Section
   domain : Name → Section
   objects : List Group → Section
@@ -83,7 +83,7 @@ pub record Contents : Type 0 where
   pub types : List Group
   pub constants : List Group
   pub predicates : List Predicate
-  pub functions : List Name
+  pub functions : List Predicate
   pub actions : List Action
   pub domain : Name
   pub objects : List Group
@@ -99,7 +99,7 @@ with_section c requirements = c
 with_section c (types gs) = record c { types = gs }
 with_section c (constants gs) = record c { constants = gs }
 with_section c (predicates ps) = record c { predicates = ps }
-with_section c (functions ns) = record c { functions = ns }
+with_section c (functions fs) = record c { functions = fs }
 with_section c (action a) = record c { actions = c.actions ++ a ∷ [] }
 with_section c (domain n) = record c { domain = n }
 with_section c (objects gs) = record c { objects = gs }
@@ -123,7 +123,7 @@ keyword_in requirements = words.requirements
 keyword_in (types gs) = words.types
 keyword_in (constants gs) = words.constants
 keyword_in (predicates ps) = words.predicates
-keyword_in (functions ns) = words.functions
+keyword_in (functions fs) = words.functions
 keyword_in (action a) = words.action
 keyword_in (domain n) = words.domain_keyword
 keyword_in (objects gs) = words.objects
@@ -228,9 +228,13 @@ pub data Sort : Type 0 where
   group : Listed → Sort
   type : Listed → Sort
   either_word : Sort
-  -- `total-cost` and its `)`; a NUMBER; the list of `:functions`, after one of it, and the type after its `-`
+  -- `total-cost` and its `)`; a NUMBER; what an increase is by; what `:init` gives a value to, and its `)`
   total_cost : Sort
   amount : Sort
+  increase_amount : Sort
+  valued : Sort
+  -- a function's declaration and its `)`; the list of `:functions`, after one of it, and the type after its `-`
+  function_declaration : Sort
   function_list : Sort
   function_type : Sort
   number_type : Sort
@@ -247,6 +251,16 @@ pub data Sort : Type 0 where
   define_word : Sort
   kind_list : Sort
   kind_word : File → Sort
+
+-- what a value in `:init` is of: the total cost, or a function of objects
+pub data Valued : Type 0 where
+  the_total_cost : Name → Valued
+  a_function : GroundAtom → Valued
+
+-- such a value, where it stands after this `=`, with its number and the number's word
+abbrev pub initial_fact : Name → Valued → ℕ × Name → Fact
+initial_fact n (the_total_cost f) v = tree.initial_cost (record { equals = n; function = f; amount = v.0; number = v.1 })
+initial_fact n (a_function f) v = tree.initial_value (record { function = f; value = v.0 })
 
 -- the tree of what is read there
 abbrev pub Value : Sort → Type 0
@@ -274,8 +288,11 @@ Value (type l) = List Name
 Value either_word = ⊤
 Value total_cost = Name
 Value amount = ℕ × Name
-Value function_list = List Name
-Value function_type = List Name
+Value increase_amount = Amount
+Value valued = Valued
+Value function_declaration = Predicate
+Value function_list = List Predicate
+Value function_type = List Predicate
 Value number_type = ⊤
 Value minimize_word = ⊤
 Value action_name = Name
@@ -316,7 +333,7 @@ section_after words.requirements = do _ ← many key; gives requirements
 section_after words.types = do gs ← typed names; gives (types gs)
 section_after words.constants = do gs ← typed names; gives (constants gs)
 section_after words.predicates = do ps ← many (listed declaration); gives (predicates ps)
-section_after words.functions = do ns ← function_list; gives (functions ns)
+section_after words.functions = do fs ← function_list; gives (functions fs)
 section_after words.action = do n ← action_name; ps ← parts []; gives (action (action_from n ps))
 section_after words.domain_keyword = do n ← a_name; close; gives (domain n)
 section_after words.objects = do gs ← typed names; gives (objects gs)
@@ -378,9 +395,9 @@ effect_after (reserved words.forall n) = Some do gs ← listed (typed variables)
 effect_after (reserved words.when n) = Some do f ← listed formula; ls ← listed conditional; close; gives (tree.when f ls)
 effect_after _ = None
 
--- item  ::= ( increase ( total-cost ) NUMBER ) | effect
+-- item  ::= ( increase ( total-cost ) amount ) | effect
 abbrev pub item_after : Token → Option (Phrase Item)
-item_after (reserved words.increase n) = Some do listed total_cost; v ← amount; close; gives (increase (record { word = n; amount = v.0 }))
+item_after (reserved words.increase n) = Some do listed total_cost; v ← increase_amount; close; gives (increase (record { word = n; amount = v }))
 item_after t = option_map (λ p. and_then p (λ e. gives (change e))) (effect_after t)
 
 -- literal  ::= atom | ( not atom ), under a `when`
@@ -389,10 +406,10 @@ literal_after (free f n) = Some do ts ← many term; gives (tree.add (record { p
 literal_after (reserved words.not n) = Some do a ← listed conditional_atom; close; gives (tree.delete a)
 literal_after _ = None
 
--- the functions  ::= ( ( total-cost ) [ - number ] )*, and the `)` after them
-abbrev pub functions_after : Token → Option (Phrase (List Name))
+-- the functions  ::= ( ( function ) [ - number ] )*, and the `)` after them
+abbrev pub functions_after : Token → Option (Phrase (List Predicate))
 functions_after closes = Some (gives [])
-functions_after opens = Some do n ← total_cost; ns ← function_type; gives (n ∷ ns)
+functions_after opens = Some do f ← function_declaration; fs ← function_type; gives (f ∷ fs)
 functions_after _ = None
 
 -- where s is wanted and this word comes: what has to follow the word, or none where it may not stand there
@@ -425,8 +442,14 @@ after conditional_atom (free f n) = Some do ts ← many term; gives (record { pr
 -- the words of action costs
 after total_cost (reserved words.total_cost n) = Some do close; gives n
 after amount (number v n) = Some (gives (v, n))
+-- amount  ::= NUMBER | ( FUNCTION-NAME term* )
+after increase_amount (number v n) = Some (gives (tree.by_number v))
+after increase_amount opens = Some do a ← atom; gives (tree.by_function a)
+-- function  ::= total-cost | FUNCTION-NAME variables
+after function_declaration (reserved words.total_cost n) = Some do close; gives (record { name = n; parameters = [] })
+after function_declaration (free f n) = Some do gs ← typed variables; gives (record { name = n; parameters = gs })
 after function_list t = functions_after t
-after function_type dash = Some do number_type; ns ← function_list; gives ns
+after function_type dash = Some do number_type; fs ← function_list; gives fs
 after function_type t = functions_after t
 after number_type (free number_word n) = Some (gives tt)
 after minimize_word (free words.minimize n) = Some (gives tt)
@@ -434,10 +457,13 @@ after minimize_word (free words.minimize n) = Some (gives tt)
 after atom (free f n) = Some do ts ← many term; gives (record { predicate = n; terms = ts })
 -- declaration  ::= ( PREDICATE-NAME variables )
 after declaration (free f n) = Some do gs ← typed variables; gives (record { name = n; parameters = gs })
--- fact  ::= ground-atom | ( not ground-atom ) | ( = ( total-cost ) NUMBER ), ground-atom  ::= ( PREDICATE-NAME NAME* )
+-- fact  ::= ground-atom | ( not ground-atom ) | ( = ( valued ) NUMBER ), ground-atom  ::= ( PREDICATE-NAME NAME* ),
+-- valued  ::= total-cost | FUNCTION-NAME NAME*
 after fact (free f n) = Some do ns ← many a_name; gives (tree.fact (record { predicate = n; objects = ns }))
 after fact (reserved words.not n) = Some do a ← listed ground_atom; close; gives (tree.negated n a)
-after fact (equals n) = Some do f ← listed total_cost; v ← amount; close; gives (tree.initial_cost (record { equals = n; function = f; amount = v.0; number = v.1 }))
+after fact (equals n) = Some do f ← listed valued; v ← amount; close; gives (initial_fact n f v)
+after valued (reserved words.total_cost n) = Some do close; gives (the_total_cost n)
+after valued (free f n) = Some do ns ← many a_name; gives (a_function (record { predicate = n; objects = ns }))
 after ground_atom (free f n) = Some do ns ← many a_name; gives (record { predicate = n; objects = ns })
 -- names  ::= ( NAME+ - type )* NAME*, and variables  ::= ( VARIABLE+ - type )* VARIABLE*, each with its `)`
 after (typed l) closes = Some (gives [])

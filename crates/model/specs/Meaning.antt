@@ -1,14 +1,14 @@
 -- What a planning task means: states, when a formula holds, what an action does (PDDL 1.2 manual, "Domains", "Actions",
 -- "Goal descriptions", "Effects", "Problems"; Fox & Long 2003, section 8, without time; action costs, 2008).
-use Rattle.std.specs.Prelude.{ℕ, Bool, true, false, ◌&&◌, ◌||◌, nat_eq, List, [], ◌∷◌, ◌++◌, length, map, filter, slice_get, slice_index, if◌then◌else◌, Option, None, Some}
+use Rattle.std.specs.Prelude.{ℕ, Bool, true, false, ◌&&◌, ◌||◌, nat_eq, List, [], ◌∷◌, ◌++◌, length, map, filter, slice_get, slice_index, if◌then◌else◌, Option, None, Some, is_some, unwrap_or}
 use Rattle.std.specs.List.{flat_map, list_all, list_any, range_with_len}
 use Rattle.std.specs.Option.{option_map_or, option_and_then}
 use Rattle.std.specs.Cmp.Lexicographic.{slice_cmp, pointwise}
-use Rattle.std.specs.Ordering.{nat_cmp}
+use Rattle.std.specs.Ordering.{nat_cmp, eq_by_cmp}
 use Rattle.std.specs.declared.cmp.Ordering.{Ordering}
 use Rattle.std.specs.FinSet.{FinSet, from_list, contains, union, difference}
 use Rattle.std.specs.Prelude as bool
-use Rattle.model.specs.Task.{ObjectType, Object, Union, Atom, LiftedAtom, Term, variable, object, Formula, Formulas, atom, equal, and, or, not, imply, exists, forall, no_formula, more_formulas, EffectLiteral, add, delete, Effect, Effects, literal, both, each, when, no_effect, more_effects, Schema, Task, Instance}
+use Rattle.model.specs.Task.{ObjectType, Object, Union, Atom, LiftedAtom, Term, variable, object, Formula, Formulas, atom, equal, and, or, not, imply, exists, forall, no_formula, more_formulas, EffectLiteral, add, delete, Effect, Effects, literal, both, each, when, no_effect, more_effects, Increase, by_number, by_function, FunctionValue, Schema, Task, Instance}
 use Rattle.model.specs.Runs.{System}
 
 -- atoms in the order of their predicates, and then of their objects from the left
@@ -154,12 +154,33 @@ fits task schema objects = pointwise (is_of task) schema.parameters objects
 abbrev pub is_instance : Task → Instance → Bool
 is_instance task i = option_map_or (λ schema. fits task schema i.objects) (slice_get task.schemas i.schema) false
 
--- The state that an action leads to: it is applicable where it is an instance of a schema of the task and the schema's
--- precondition holds (PDDL 1.2 manual, "Actions"; Fox & Long 2003, section 8).
+-- the value that is given to a function of objects: by the first of these that gives it one
+abbrev pub value_in : List FunctionValue → Atom → Option ℕ
+value_in [] f = None
+value_in (v ∷ values) f = if eq_by_cmp atom_cmp f v.function then Some v.value else value_in values f
+
+-- What an increase is by, where the variables have these objects (action costs, 2008): a function has the value that
+-- `:init` gives it, which no action changes, and none where `:init` gives it none.
+abbrev pub amount_of : Task → Increase → List ℕ → Option ℕ
+amount_of task (by_number amount) binding = Some amount
+amount_of task (by_function f) binding = value_in task.values (ground_atom binding f)
+
+-- what the schema increases the total cost by has a value, where its parameters have these objects
+abbrev pub has_amount : Task → Schema → List ℕ → Bool
+has_amount task schema objects = is_some (amount_of task schema.increase objects)
+
+-- The schema can be carried out, where its parameters have these objects: its precondition holds (PDDL 1.2 manual,
+-- "Actions"), and what it increases the total cost by has a value, as an effect by what has none is undefined (Fox & Long
+-- 2003, section 8), whether the total cost is to be least or not.
+abbrev pub can_apply : Task → Schema → List ℕ → State → Bool
+can_apply task schema objects state = has_amount task schema objects && holds task schema.precondition objects state
+
+-- The state that an action leads to: it is applicable where it is an instance of a schema of the task that can be carried
+-- out (PDDL 1.2 manual, "Actions"; Fox & Long 2003, section 8).
 abbrev pub step : Task → State → Instance → Option State
 step task state i =
     option_and_then (λ schema.
-    if fits task schema i.objects && holds task schema.precondition i.objects state then Some (after_changes task state (changes_of task schema.effect i.objects))
+    if fits task schema i.objects && can_apply task schema i.objects state then Some (after_changes task state (changes_of task schema.effect i.objects))
     else None)
     (slice_get task.schemas i.schema)
 
@@ -168,9 +189,11 @@ abbrev pub meets_goal : Task → State → Bool
 meets_goal task state = holds task task.goal [] state
 
 -- What an instance costs: where the total cost is to be least, what its schema increases it by (action costs, 2008), and
--- else 1.
+-- else 1. An instance that has no value for it is never applicable, and its cost is of no account.
 abbrev pub cost_of : Task → Instance → ℕ
-cost_of task i = if task.has_metric then option_map_or (λ (s : Schema). s.cost) (slice_get task.schemas i.schema) 0 else 1
+cost_of task i =
+    if task.has_metric then option_map_or (λ (s : Schema). unwrap_or (amount_of task s.increase i.objects) 0) (slice_get task.schemas i.schema) 0
+    else 1
 
 -- the task as a transition system
 abbrev pub system_of : Task → System State Instance

@@ -1,6 +1,6 @@
 -- Worked examples of what is written for plans, each chosen so that a wrong reading says otherwise.
 use Rattle.std.specs.Prelude.{◌≡◌, ℕ, true, false, List, [], ◌∷◌, codes, length, map, replicate}
-use Rattle.model.specs.Task.{Name, Object, Task, Schema, and, no_formula, both, no_effect}
+use Rattle.model.specs.Task.{Name, Object, Task, by_number, Schema, and, no_formula, both, no_effect}
 use Rattle.model.specs.Examples.{instance}
 use Rattle.model.specs.PlanText.{IsPlanText}
 use Rattle.model.specs.PlanWriting.{step_text, plan_text, is_lower_name, has_names}
@@ -15,7 +15,7 @@ an_action name parameters = record {
   parameters = parameters;
   precondition = and no_formula;
   effect = both no_effect;
-  cost = 3;
+  increase = by_number 3;
 }
 
 -- a task of actions and objects of these names, in which `object` is the one type; the first action has two parameters,
@@ -25,8 +25,10 @@ task_of_names first others objects = record {
   types = record { name = codes "object"; supertypes = 0 ∷ [] } ∷ [];
   objects = map an_object objects;
   predicates = [];
+  functions = [];
   schemas = an_action first ((0 ∷ []) ∷ (0 ∷ []) ∷ []) ∷ map (λ name. an_action name []) others;
   init = [];
+  values = [];
   goal = and no_formula;
   has_metric = true;
 }

@@ -7,7 +7,7 @@ use Rattle.model.specs.Words.{Word, end_of}
 use Rattle.model.specs.Trees.{File}
 use Rattle.model.specs.GrammarWords.{Token, opens, closes, free, reserved, maximize, when, forall, left_out_name, large_number, keyword, Keyword, of_section, PartKeyword, of_part, parameters, left_out_keyword, token_of, tokens_of}
 use Rattle.model.specs.Grammar
-use Rattle.model.specs.Grammar.{Tree, Sort, names, type, many, conditional, conditional_literal, conditional_atom, total_cost, amount, minimize_word, key, action_name, parts, value, sections, section, define_word, kind_list, Phrase, gives, ◌>>=◌, and_then, after, has_section, has_part, sections_of, IsFile}
+use Rattle.model.specs.Grammar.{Tree, Sort, names, type, many, conditional, conditional_literal, conditional_atom, total_cost, amount, increase_amount, minimize_word, key, action_name, parts, value, sections, section, define_word, kind_list, Phrase, gives, ◌>>=◌, and_then, after, has_section, has_part, sections_of, IsFile}
 
 -- ---- what has to follow some words
 
@@ -78,7 +78,8 @@ number_at (value seen) (keyword k) = number_at_value seen k
 number_at key (keyword k) = 11
 -- `(either ..)` as the type of a name that is no variable
 number_at (type names) opens = 12
--- `when` and `forall` under a `when`; another function; another metric; a number over the greatest
+-- `when` and `forall` under a `when`; another function where the total cost alone may stand; another metric; a number over
+-- the greatest
 number_at conditional t = by_word_under_when t
 number_at conditional_literal t = by_word_under_when t
 number_at conditional_atom t = by_word_under_when t
@@ -86,6 +87,7 @@ number_at total_cost (free f n) = 12
 number_at total_cost (reserved r n) = 12
 number_at minimize_word (free maximize n) = 12
 number_at amount large_number = 13
+number_at increase_amount large_number = 13
 -- any other word
 number_at _ t = by_word t
 

@@ -2,14 +2,15 @@
 -- those above them, what may be named where, and the task of the pair. The rules are those for types,
 -- declarations and uses (PDDL 1.2 manual, "Domains", "Actions", "Goal descriptions", "Effects", "Problems").
 -- `TypingFaults` says by these definitions which faults a pair has.
-use Rattle.std.specs.Prelude.{◌≡◌, ℕ, zero, suc, ◌+◌, Bool, true, ◌==◌, nat_eq, List, [], ◌∷◌, ◌++◌, codes, length, map, fold, slice_get, slice_index, is_some, if◌then◌else◌, Option, Some}
+use Rattle.std.specs.Prelude.{◌≡◌, ℕ, zero, suc, ◌+◌, Bool, true, ◌&&◌, ◌==◌, nat_eq, nat_le, List, [], ◌∷◌, ◌++◌, codes, length, map, fold, slice_get, slice_index, is_some, if◌then◌else◌, Option, Some}
 use Rattle.std.specs.Char.{to_ascii_lowercase}
 use Rattle.std.specs.Cmp.Lexicographic.{pointwise}
 use Rattle.std.specs.List.{flat_map, list_all, list_any, position_or_len}
 use Rattle.std.specs.Option.{option_map_or}
 use Rattle.model.specs.Fault.{Fault}
 use Rattle.model.specs.Task as task
-use Rattle.model.specs.Meaning.{is_below_in}
+use Rattle.model.specs.Limits.{max_arguments}
+use Rattle.model.specs.Meaning.{is_below_in, value_in}
 use Rattle.model.specs.Trees.{File, domain_file, problem_file, Name, Group, Domain, Problem}
 use Rattle.model.specs.Trees as tree
 
@@ -132,13 +133,25 @@ pub record Known : Type 0 where
   pub type_names : List task.Name
   pub types : List task.ObjectType
   pub predicates : List task.Predicate
+  pub functions : List task.Predicate
   pub variables : List Variable
   pub objects : List task.Object
-  -- whether the total cost is declared
-  pub has_cost : Bool
 
 abbrev pub names_of_predicates : List task.Predicate → List task.Name
 names_of_predicates predicates = map (λ (p : task.Predicate). p.name) predicates
+
+-- the name of the total cost among those of functions (action costs, 2008)
+abbrev pub total_cost : task.Name
+total_cost = codes "total-cost"
+
+-- whether the total cost is declared
+abbrev pub has_cost : Known → Bool
+has_cost known = list_any (is_same total_cost) (names_of_predicates known.functions)
+
+-- What may be named in a function of terms or objects: its name is a function's where an atom's is a predicate's, and all
+-- else is as in an atom (Fox & Long 2003, "Numeric Expressions").
+abbrev pub in_function : Known → Known
+in_function known = record known { predicates = known.functions }
 
 abbrev pub names_of_variables : List Variable → List task.Name
 names_of_variables variables = map (λ (v : Variable). v.name) variables
@@ -244,11 +257,33 @@ atom_in known a = record {
   objects = map (number_in (names_of_objects known.objects)) a.objects;
 }
 
--- the atoms of the initial state; a negated one is a fault, and the total cost at the start is none
+-- the atoms of the initial state; a negated one is a fault, and the total cost at the start and values of functions are none
 abbrev pub atoms_in : Known → tree.Fact → List task.Atom
 atoms_in known (tree.fact a) = atom_in known a ∷ []
 atoms_in known (tree.negated word a) = []
 atoms_in known (tree.initial_cost c) = []
+atoms_in known (tree.initial_value v) = []
+
+-- each name of the atom is known, and it has no more objects than it may have
+abbrev pub is_named : Known → tree.GroundAtom → Bool
+is_named known a =
+    is_known (names_of_predicates known.predicates) a.predicate
+    && nat_le (length a.objects) max_arguments
+    && list_all (is_known (names_of_objects known.objects)) a.objects
+
+-- the value that a fact gives, if it gives one and each of its names is known
+abbrev pub values_in : Known → tree.Fact → List task.FunctionValue
+values_in known (tree.initial_value v) =
+    if is_named (in_function known) v.function then record { function = atom_in (in_function known) v.function; value = v.value } ∷ [] else []
+values_in known _ = []
+
+-- these values and one more, unless one of them is of its function and objects
+abbrev pub with_value : List task.FunctionValue → task.FunctionValue → List task.FunctionValue
+with_value values v = if is_some (value_in values v.function) then values else values ++ v ∷ []
+
+-- the values that these facts give after some values were given, each function of the same objects once
+abbrev pub values_after : Known → List task.FunctionValue → List tree.Fact → List task.FunctionValue
+values_after known given facts = fold with_value given (flat_map (values_in known) facts)
 
 -- an object, with its type
 abbrev pub object_in : List task.Name → Declared → task.Object
@@ -262,16 +297,15 @@ constants_of d = map (object_in (type_names d)) (declared_constants d)
 abbrev pub objects_of : Domain → Problem → List task.Object
 objects_of d p = map (object_in (type_names d)) (declared_objects d p)
 
--- a predicate, with what each of its arguments has to be; those of the domain
+-- a predicate, or a function, with what each of its arguments has to be; those of the domain
 abbrev pub predicate_in : List task.Name → tree.Predicate → task.Predicate
 predicate_in types p = record { name = folded p.name; arguments = unions_in types (declared domain_file p.parameters) }
 
 abbrev pub predicates_of : Domain → List task.Predicate
 predicates_of d = map (predicate_in (type_names d)) d.predicates
 
--- the total cost is declared (action costs, 2008)
-abbrev pub declares_cost : Domain → Bool
-declares_cost d = is_some (slice_get d.functions 0)
+abbrev pub functions_of : Domain → List task.Predicate
+functions_of d = map (predicate_in (type_names d)) d.functions
 
 -- in the domain: what it declares
 abbrev pub known_in_domain : Domain → Known
@@ -279,10 +313,14 @@ known_in_domain d = record {
   type_names = type_names d;
   types = types_of d;
   predicates = predicates_of d;
+  functions = functions_of d;
   variables = [];
   objects = constants_of d;
-  has_cost = declares_cost d;
 }
+
+-- the domain declares the total cost
+abbrev pub declares_cost : Domain → Bool
+declares_cost d = has_cost (known_in_domain d)
 
 -- in an action: what the domain declares, and the action's parameters
 abbrev pub known_in_action : Known → tree.Action → Known
@@ -294,14 +332,19 @@ known_in_problem d p = record {
   type_names = type_names d;
   types = types_of d;
   predicates = predicates_of d;
+  functions = functions_of d;
   variables = [];
   objects = objects_of d p;
-  has_cost = declares_cost d;
 }
 
--- what an action increases the total cost by, where it does
-abbrev pub increase_of : tree.Action → ℕ
-increase_of a = option_map_or (λ (i : tree.Increase). i.amount) (slice_get a.increases 0) 0
+-- what an increase is by
+abbrev pub increase_in : Known → tree.Amount → task.Increase
+increase_in known (tree.by_number n) = task.by_number n
+increase_in known (tree.by_function f) = task.by_function (lifted_atom_in (in_function known) f)
+
+-- what an action increases the total cost by, and 0 where it does not
+abbrev pub increase_of : Known → tree.Action → task.Increase
+increase_of known a = option_map_or (λ (i : tree.Increase). increase_in known i.amount) (slice_get a.increases 0) (task.by_number 0)
 
 -- an action, in the domain where this is known (PDDL 1.2 manual, "Actions")
 abbrev pub schema_in : Known → tree.Action → task.Schema
@@ -310,7 +353,7 @@ schema_in known a = record {
   parameters = unions_in known.type_names (declared domain_file a.parameters);
   precondition = formula_in domain_file (known_in_action known a) a.precondition;
   effect = effect_in domain_file (known_in_action known a) a.effect;
-  cost = increase_of a;
+  increase = increase_of (known_in_action known a) a;
 }
 
 -- the task, where the pair is well-typed: each name is its number
@@ -319,8 +362,10 @@ task_of_trees d p = record {
   types = types_of d;
   objects = objects_of d p;
   predicates = predicates_of d;
+  functions = functions_of d;
   schemas = map (schema_in (known_in_domain d)) d.actions;
   init = flat_map (atoms_in (known_in_problem d p)) p.init;
+  values = values_after (known_in_problem d p) [] p.init;
   goal = formula_in problem_file (known_in_problem d p) p.goal;
   has_metric = is_some p.metric;
 }
@@ -357,7 +402,7 @@ rank_of problem_file = 1
 
 -- ---- what the rules of use look up
 
--- the declaration of a predicate, if there is one
+-- the declaration of a predicate (or of a function, in one), if there is one
 abbrev pub predicate_in_known : Known → Name → Option task.Predicate
 predicate_in_known known name = slice_get known.predicates (number_in (names_of_predicates known.predicates) name)
 

@@ -1,5 +1,5 @@
 -- A planning task: what a domain and a problem say once their names are resolved to numbers.
--- Types, objects, predicates, schemas and variables are numbered from 0, in the order of their declarations; type 0 is
+-- Types, objects, predicates, functions, schemas and variables are numbered from 0, in the order of their declarations; type 0 is
 -- `object`.
 use Rattle.std.specs.Prelude.{ℕ, Bool, List}
 
@@ -21,7 +21,8 @@ pub record Object : Type 0 where
 abbrev pub Union : Type 0
 Union = List ℕ
 
--- a predicate, and what each of its arguments has to be (PDDL 1.2 manual, "Domains")
+-- a predicate, and what each of its arguments has to be (PDDL 1.2 manual, "Domains"); or a function, which has a number for
+-- its arguments in place of being true or false of them (Fox & Long 2003, "Numeric Expressions")
 pub record Predicate : Type 0 where
   pub name : Name
   pub arguments : List Union
@@ -77,23 +78,38 @@ mutual
     no_effect : Effects
     more_effects : Effect → Effects → Effects
 
+-- What an action increases the total cost by (action costs, 2008): a number, or the value of a function of some terms. A
+-- function of terms or objects is written as an atom is, with the function's number in the place of the predicate's.
+pub data Increase : Type 0 where
+  by_number : ℕ → Increase
+  by_function : LiftedAtom → Increase
+
+-- the value that `:init` gives to a function of some objects
+pub record FunctionValue : Type 0 where
+  pub function : Atom
+  pub value : ℕ
+
 -- an action schema, and what each of its parameters has to be (PDDL 1.2 manual, "Actions")
 pub record Schema : Type 0 where
   pub name : Name
   pub parameters : List Union
   pub precondition : Formula
   pub effect : Effect
-  -- what it increases the total cost by (action costs, 2008)
-  pub cost : ℕ
+  -- what it increases the total cost by, 0 where it does not (action costs, 2008)
+  pub increase : Increase
 
 -- a planning task (PDDL 1.2 manual, "Domains", "Problems")
 pub record Task : Type 0 where
   pub types : List ObjectType
   pub objects : List Object
   pub predicates : List Predicate
+  -- which have a name space of their own, and `total-cost` among them where it is declared
+  pub functions : List Predicate
   pub schemas : List Schema
   -- the atoms that stand in `:init`
   pub init : List Atom
+  -- the values of functions that stand there, each function of the same objects once
+  pub values : List FunctionValue
   pub goal : Formula
   -- the metric is the total cost, which is to be least
   pub has_metric : Bool

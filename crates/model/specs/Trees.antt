@@ -79,15 +79,22 @@ abbrev pub effects : List Effect → Effects
 effects [] = no_effect
 effects (e ∷ es) = more_effects e (effects es)
 
--- a predicate's declaration (PDDL 1.2 manual, "Domains")
+-- a declaration of a predicate (PDDL 1.2 manual, "Domains"), or of a function (Fox & Long 2003, "Numeric Expressions"): its
+-- name, and its arguments by their variables
 pub record Predicate : Type 0 where
   pub name : Name
   pub parameters : List Group
 
--- what an action increases the total cost by (action costs, 2008), with its word `increase`
+-- What an increase of the total cost is by (action costs, 2008): a number, or the value of a function of some terms, which
+-- stands there as an atom does, with the function's name in the place of the predicate's.
+pub data Amount : Type 0 where
+  by_number : ℕ → Amount
+  by_function : Atom → Amount
+
+-- an increase of the total cost by an action (action costs, 2008), with its word `increase`
 pub record Increase : Type 0 where
   pub word : Name
-  pub amount : ℕ
+  pub amount : Amount
 
 -- an action (PDDL 1.2 manual, "Actions")
 pub record Action : Type 0 where
@@ -104,8 +111,8 @@ pub record Domain : Type 0 where
   pub types : List Group
   pub constants : List Group
   pub predicates : List Predicate
-  -- the words `total-cost` of `:functions`; more than one is a fault
-  pub functions : List Name
+  -- what `:functions` declares: functions of objects, and `total-cost`, which has no arguments
+  pub functions : List Predicate
   pub actions : List Action
 
 -- an atom of objects
@@ -121,11 +128,19 @@ pub record InitialCost : Type 0 where
   pub amount : ℕ
   pub number : Name
 
--- what stands in `:init`: an atom, or a negated one, with its word `not`, or the total cost at the start
+-- What `(= (f o ..) N)` in `:init` says (Fox & Long 2003, "Numeric Expressions"): the function of these objects, which
+-- stands there as an atom does, and its value.
+pub record InitialValue : Type 0 where
+  pub function : GroundAtom
+  pub value : ℕ
+
+-- what stands in `:init`: an atom, or a negated one, with its word `not`, or the total cost at the start, or the value of a
+-- function of objects
 pub data Fact : Type 0 where
   fact : GroundAtom → Fact
   negated : Name → GroundAtom → Fact
   initial_cost : InitialCost → Fact
+  initial_value : InitialValue → Fact
 
 -- a problem file (PDDL 1.2 manual, "Problems")
 pub record Problem : Type 0 where

@@ -2,16 +2,17 @@
 -- them, and the least of them. They are what the walks of the code are compared with. No clause of what `typing` gives its
 -- callers cites them, nor do the worked examples: which faults a pair has is told by the table, `TypingFaults`, and
 -- `proofs/TypingFaultsTold` proves that the lists say the same.
-use Rattle.std.specs.Prelude.{◌≡◌, ℕ, ◌+◌, ◌-◌, Bool, true, false, ◌==◌, nat_le, List, [], ◌∷◌, ◌++◌, codes, length, map, filter, take, drop, slice_get, if◌then◌else◌, Option, None, Some, All, Contains}
+use Rattle.std.specs.Prelude.{◌≡◌, ℕ, ◌+◌, ◌-◌, Bool, true, false, not, ◌==◌, nat_le, List, [], ◌∷◌, ◌++◌, codes, length, map, filter, take, drop, slice_get, if◌then◌else◌, Option, None, Some, All, Contains}
 use Rattle.std.specs.Cmp.Lexicographic.{slice_cmp}
-use Rattle.std.specs.List.{flat_map}
+use Rattle.std.specs.List.{flat_map, list_any}
 use Rattle.std.specs.Option.{option_map_or}
 use Rattle.std.specs.Ordering.{nat_cmp, is_lt}
 use Rattle.model.specs.Limits.{max_types, max_objects, max_arguments, max_variables}
 use Rattle.model.specs.Task as task
+use Rattle.model.specs.Meaning.{value_in}
 use Rattle.model.specs.Trees.{File, domain_file, problem_file, Name, Domain, Problem}
 use Rattle.model.specs.Trees as tree
-pub use Rattle.model.specs.Resolution.{folded, is_same, is_known, number_in, with_name, Declared, declared_in_group, declared, names_of, declared_types, declared_constants, declared_objects, type_names, union_in, type_in, parents_in, parents_of, Descends, itself, by_parent, DescendsFromItself, chain, whole_chain, types_from, types_of, Variable, Known, names_of_predicates, names_of_variables, names_of_objects, with_variable, variable_in, variables_after, unions_in, term_in, lifted_atom_in, exists_each, forall_each, exists_over, forall_over, known_with, formula_in, formulas_in, effect_literal_in, each_of, effect_in, effects_in, atom_in, atoms_in, object_in, constants_of, objects_of, predicate_in, predicates_of, declares_cost, known_in_domain, known_in_action, known_in_problem, increase_of, schema_in, task_of_trees, TypingFault, Placed, placed, words_of, equals_in, rank_of, predicate_in_known, fits_in, word_of, comes_back}
+pub use Rattle.model.specs.Resolution.{folded, is_same, is_known, number_in, with_name, Declared, declared_in_group, declared, names_of, declared_types, declared_constants, declared_objects, type_names, union_in, type_in, parents_in, parents_of, Descends, itself, by_parent, DescendsFromItself, chain, whole_chain, types_from, types_of, Variable, Known, names_of_predicates, names_of_variables, names_of_objects, with_variable, variable_in, variables_after, unions_in, term_in, lifted_atom_in, exists_each, forall_each, exists_over, forall_over, known_with, formula_in, formulas_in, effect_literal_in, each_of, effect_in, effects_in, atom_in, atoms_in, is_named, values_in, with_value, values_after, object_in, constants_of, objects_of, predicate_in, predicates_of, functions_of, total_cost, has_cost, in_function, declares_cost, known_in_domain, known_in_action, known_in_problem, increase_in, increase_of, schema_in, task_of_trees, TypingFault, Placed, placed, words_of, equals_in, rank_of, predicate_in_known, fits_in, word_of, comes_back}
 
 -- ---- faults
 
@@ -143,17 +144,33 @@ ground_atom_faults file known a =
 -- 23: the total cost where it is not declared, and a start other than 0
 abbrev pub initial_cost_faults : File → Known → tree.InitialCost → List TypingFault
 initial_cost_faults file known c =
-    (if known.has_cost then [] else refused_word file 23 c.function) ++ (if c.amount == 0 then [] else refused_word file 23 c.number)
+    (if has_cost known then [] else refused_word file 23 c.function) ++ (if c.amount == 0 then [] else refused_word file 23 c.number)
 
 -- 24: the word `not`
 abbrev pub fact_faults : File → Known → tree.Fact → List TypingFault
 fact_faults file known (tree.fact a) = ground_atom_faults file known a
 fact_faults file known (tree.negated word a) = refused_word file 24 word
 fact_faults file known (tree.initial_cost c) = initial_cost_faults file known c
+fact_faults file known (tree.initial_value v) = ground_atom_faults file (in_function known) v.function
+
+-- 16: a value that is not the one that was given before
+abbrev pub differing : List task.FunctionValue → task.FunctionValue → Bool
+differing given v = option_map_or (λ value. not (value == v.value)) (value_in given v.function) false
+
+abbrev pub value_faults : File → Known → List task.FunctionValue → tree.Fact → List TypingFault
+value_faults file known given (tree.initial_value v) =
+    if list_any (differing given) (values_in known (tree.initial_value v)) then refused_word file 16 v.function.predicate else []
+value_faults file known given _ = []
+
+-- of facts, where these values were given before them
+abbrev pub facts_faults : File → Known → List task.FunctionValue → List tree.Fact → List TypingFault
+facts_faults file known given [] = []
+facts_faults file known given (fact ∷ facts) =
+    fact_faults file known fact ++ value_faults file known given fact ++ facts_faults file known (values_after known given (fact ∷ [])) facts
 
 -- and 23: each `=` after the first
 abbrev pub init_faults : File → Known → List tree.Fact → List TypingFault
-init_faults file known facts = flat_map (fact_faults file known) facts ++ refused 23 (drop 1 (equals_in file facts))
+init_faults file known facts = facts_faults file known [] facts ++ refused 23 (drop 1 (equals_in file facts))
 
 -- 21: the problem is for a domain of another name
 abbrev pub domain_name_faults : Domain → Problem → List TypingFault
@@ -190,7 +207,7 @@ argument_faults types q =
     type_faults types (declared domain_file q.parameters)
     ++ refused 25 (one_after max_arguments (words_of (declared domain_file q.parameters)))
 
--- 16: a predicate declared before. And the faults of its arguments
+-- 16: a predicate, or a function, declared before. And the faults of its arguments
 abbrev pub declaration_faults : List task.Name → List tree.Predicate → List TypingFault
 declaration_faults types qs =
     refused 16 (repeated (map (λ (q : tree.Predicate). placed domain_file q.name) qs)) ++ flat_map (argument_faults types) qs
@@ -201,12 +218,18 @@ increase_words file a = map (λ (i : tree.Increase). placed file i.word) a.incre
 
 -- 23: each `increase` after the first, and each where the total cost is not declared
 abbrev pub increase_faults : File → Known → tree.Action → List TypingFault
-increase_faults file known a = refused 23 (drop (if known.has_cost then 1 else 0) (increase_words file a))
+increase_faults file known a = refused 23 (drop (if has_cost known then 1 else 0) (increase_words file a))
+
+-- of the function that an increase is by
+abbrev pub amount_faults : File → Known → tree.Amount → List TypingFault
+amount_faults file known (tree.by_number n) = []
+amount_faults file known (tree.by_function f) = atom_faults file (in_function known) f
 
 -- the faults of the precondition and of the effect
 abbrev pub body_faults : File → Known → tree.Action → List TypingFault
 body_faults file known a =
     formula_faults file known a.precondition ++ effect_faults file known a.effect ++ increase_faults file known a
+    ++ flat_map (λ (i : tree.Increase). amount_faults file known i.amount) a.increases
 
 abbrev pub schema_faults : Known → tree.Action → List TypingFault
 schema_faults known a =
@@ -217,10 +240,10 @@ abbrev pub action_faults : Known → List tree.Action → List TypingFault
 action_faults known as' =
     refused 16 (repeated (map (λ (a : tree.Action). placed domain_file a.name) as')) ++ flat_map (schema_faults known) as'
 
--- 16: `total-cost` after the first in `:functions`. 22: in `:metric`, where it is not declared
+-- those of the declarations of functions, in a name space of their own. 22: `total-cost` in `:metric`, where it is not declared
 abbrev pub function_faults : Domain → Problem → List TypingFault
 function_faults d p =
-    refused 16 (drop 1 (map (placed domain_file) d.functions))
+    declaration_faults (type_names d) d.functions
     ++ option_map_or (λ n. if declares_cost d then [] else refused_word problem_file 22 n) p.metric []
 
 -- The faults of each phase, phase by phase: the names of the domain and of the types, the cycles of types, the objects,

@@ -2,7 +2,7 @@
 -- wrong reading says otherwise.
 use Rattle.std.specs.Prelude.{◌≡◌, ℕ, ◌+◌, Bool, true, false, List, [], ◌∷◌, ◌++◌, codes, map, None, Some, Contains}
 use Rattle.model.specs.Task as task
-use Rattle.model.specs.Task.{Schema, Task}
+use Rattle.model.specs.Task.{by_number, Schema, Task}
 use Rattle.model.specs.Trees as tree
 use Rattle.model.specs.Trees.{File, domain_file, problem_file, Name, Group, GroundAtom, Fact, Predicate, Increase, Action, Domain, Problem, Term, Atom, Formula, Effect, formulas, effects}
 use Rattle.model.specs.Meaning.{State, holds, changes_of_instance}
@@ -74,7 +74,7 @@ task_park = record {
   parameters = (1 ∷ []) ∷ [];
   precondition = task.and task.no_formula;
   effect = task.literal (task.add (record { predicate = 0; terms = task.variable 0 ∷ [] }));
-  cost = 0;
+  increase = by_number 0;
 }
 
 abbrev pub fleet_task : Task
@@ -84,8 +84,10 @@ fleet_task = record {
       ∷ record { name = codes "v"; supertypes = 2 ∷ 0 ∷ [] } ∷ [];
   objects = record { name = codes "k"; type = 2 } ∷ record { name = codes "o"; type = 1 } ∷ [];
   predicates = record { name = codes "p"; arguments = (2 ∷ []) ∷ [] } ∷ [];
+  functions = [];
   schemas = task_park ∷ [];
   init = record { predicate = 0; objects = 0 ∷ [] } ∷ [];
+  values = [];
   goal = task.atom (record { predicate = 0; terms = task.object 1 ∷ [] });
   has_metric = false;
 }
@@ -298,9 +300,9 @@ pub record AreTyped : Type 0 where
         (task.each (2 ∷ []) (task.each (0 ∷ []) (task.when (task.equal (task.variable 2) (task.variable 0))
         (task.add (record { predicate = 0; terms = task.variable 1 ∷ [] }) ∷ task.delete (record { predicate = 0; terms = task.object 0 ∷ [] }) ∷ []))))
         (task.more_effects (task.literal (task.add (record { predicate = 0; terms = task.variable 0 ∷ [] }))) task.no_effect));
-    cost = 0;
+    increase = by_number 0;
   } ∷ []
   pub without_fault : IsWellTyped (with_effect of_two_variables) parked
-  pub its_cost : (task_of_trees (with_increases (total_cost 35 ∷ []) (increase 45 7 ∷ [])) with_metric).schemas ≡ record task_park { cost = 7 } ∷ []
+  pub its_cost : (task_of_trees (with_increases (total_cost 35 ∷ []) (increase 45 7 ∷ [])) with_metric).schemas ≡ record task_park { increase = by_number 7 } ∷ []
   pub has_its_metric : (task_of_trees (with_increases (total_cost 35 ∷ []) []) with_metric).has_metric ≡ true
   pub has_no_metric : (task_of_trees (with_increases (total_cost 35 ∷ []) (increase 45 7 ∷ [])) parked).has_metric ≡ false

@@ -2,12 +2,13 @@
 -- manual, "Domains", "Actions", "Goal descriptions", "Effects", "Problems"; action costs, 2008), with the limits of the
 -- language profile. A fault is of a phase, and the first phase that has one is the one that tells, since what a later
 -- phase says rests on the declarations of those before it.
-use Rattle.std.specs.Prelude.{◌≡◌, ◌≢◌, ℕ, ◌+◌, ◌<◌, ◌≤◌, ◌⊎◌, ◌↔◌, true, false, List, ◌∷◌, ◌++◌, codes, length, map, slice_get, Some, Contains}
+use Rattle.std.specs.Prelude.{◌≡◌, ◌≢◌, ℕ, ◌+◌, ◌<◌, ◌≤◌, ◌⊎◌, ◌↔◌, true, false, List, [], ◌∷◌, ◌++◌, codes, length, map, slice_get, Some, Contains}
 use Rattle.model.specs.Limits.{max_types, max_objects, max_arguments, max_variables}
 use Rattle.model.specs.Task as task
+use Rattle.model.specs.Meaning.{value_in}
 use Rattle.model.specs.Trees.{File, domain_file, problem_file, Name, Domain, Problem}
 use Rattle.model.specs.Trees as tree
-use Rattle.model.specs.Resolution.{Known, Declared, Placed, placed, words_of, equals_in, folded, is_same, is_known, declared, declared_types, declared_objects, type_names, parents_of, types_of, Descends, declares_cost, known_in_domain, known_in_action, known_with, known_in_problem, names_of_predicates, names_of_variables, names_of_objects, predicate_in_known, term_in, fits_in, word_of, DescendsFromItself, TypingFault, rank_of}
+use Rattle.model.specs.Resolution.{Known, Declared, Placed, placed, words_of, equals_in, folded, is_same, is_known, declared, declared_types, declared_objects, type_names, parents_of, types_of, Descends, declares_cost, known_in_domain, known_in_action, known_with, known_in_problem, in_function, values_in, values_after, names_of_predicates, names_of_variables, names_of_objects, predicate_in_known, term_in, fits_in, word_of, DescendsFromItself, TypingFault, rank_of}
 
 -- the phases, in the order in which they are looked at
 pub data Phase : Type 0 where
@@ -54,14 +55,17 @@ HasType xs w = (x : Declared) × Contains xs x × Contains (type_words x) w
 abbrev pub IsUnknownType : Domain → Placed → Type 0
 IsUnknownType d w = is_known (type_names d) w.word ≡ false
 
--- the words that declare predicates, and those that declare actions
+-- the words that declare predicates, functions and actions
 abbrev pub predicate_words : Domain → List Placed
 predicate_words d = map (λ (q : tree.Predicate). placed domain_file q.name) d.predicates
+
+abbrev pub function_words : Domain → List Placed
+function_words d = map (λ (q : tree.Predicate). placed domain_file q.name) d.functions
 
 abbrev pub action_words : Domain → List Placed
 action_words d = map (λ (a : tree.Action). placed domain_file a.name) d.actions
 
--- what the parameters of a predicate or of an action declare
+-- what the parameters of a predicate or a function, or of an action, declare
 abbrev pub arguments_of : tree.Predicate → List Declared
 arguments_of q = declared domain_file q.parameters
 
@@ -142,6 +146,18 @@ abbrev mutual
 abbrev pub as_atom : tree.GroundAtom → tree.Atom
 as_atom a = record { predicate = a.predicate; terms = map (λ (name : Name). tree.object name) a.objects }
 
+-- Among these facts one gives the function of these objects another value than those before it do, of which the first
+-- counts. The same value again is none.
+pub record IsOtherValue (known : Known) (facts : List tree.Fact) (v : tree.InitialValue) : Type 0 where
+  pub before : List tree.Fact
+  pub after : List tree.Fact
+  pub stands : facts ≡ before ++ tree.initial_value v ∷ after
+  pub given : task.FunctionValue
+  pub gives : values_in known (tree.initial_value v) ≡ given ∷ []
+  pub value : ℕ
+  pub is_value : value_in (values_after known [] before) given.function ≡ Some value
+  pub differs : given.value ≢ value
+
 -- ---- the table
 
 -- what may be named in an action of the domain
@@ -169,8 +185,12 @@ pub data IsFaultIn (d : Domain) (p : Problem) : Phase → ℕ → Placed → Typ
       → IsFaultIn d p of_predicates 14 w
   many_arguments : (q : tree.Predicate) (w : Placed) → Contains d.predicates q → slice_get (words_of (arguments_of q)) max_arguments ≡ Some w
       → IsFaultIn d p of_predicates 25 w
-  -- 5: functions, and the metric
-  function_again : (place : ℕ) (n : Name) → slice_get d.functions (place + 1) ≡ Some n → IsFaultIn d p of_functions 16 (placed domain_file n)
+  -- 5: functions, `total-cost` among them, and the metric
+  function_again : (w : Placed) → IsRepeated (function_words d) w → IsFaultIn d p of_functions 16 w
+  type_of_function_argument : (q : tree.Predicate) (w : Placed) → Contains d.functions q → HasType (arguments_of q) w → IsUnknownType d w
+      → IsFaultIn d p of_functions 14 w
+  many_function_arguments : (q : tree.Predicate) (w : Placed) → Contains d.functions q → slice_get (words_of (arguments_of q)) max_arguments ≡ Some w
+      → IsFaultIn d p of_functions 25 w
   metric_undeclared : (n : Name) → p.metric ≡ Some n → declares_cost d ≡ false → IsFaultIn d p of_functions 22 (placed problem_file n)
   -- 6: actions
   action_again : (w : Placed) → IsRepeated (action_words d) w → IsFaultIn d p of_actions 16 w
@@ -184,12 +204,19 @@ pub data IsFaultIn (d : Domain) (p : Problem) : Phase → ℕ → Placed → Typ
       → IsFaultIn d p of_actions 23 (placed domain_file i.word)
   increase_again : (a : tree.Action) (place : ℕ) (i : tree.Increase) → Contains d.actions a → slice_get a.increases (place + 1) ≡ Some i
       → IsFaultIn d p of_actions 23 (placed domain_file i.word)
+  in_increase : (a : tree.Action) (i : tree.Increase) (f : tree.Atom) (code : ℕ) (w : Placed) → Contains d.actions a → Contains a.increases i
+      → i.amount ≡ tree.by_function f → IsAtomFault domain_file (in_function (known_in d a)) f code w → IsFaultIn d p of_actions code w
   -- 7: the initial state
   in_init : (a : tree.GroundAtom) (code : ℕ) (w : Placed) → Contains p.init (tree.fact a)
       → IsAtomFault problem_file (known_in_problem d p) (as_atom a) code w → IsFaultIn d p of_init code w
   cost_undeclared : (c : tree.InitialCost) → Contains p.init (tree.initial_cost c) → declares_cost d ≡ false → IsFaultIn d p of_init 23 (placed problem_file c.function)
   cost_not_zero : (c : tree.InitialCost) → Contains p.init (tree.initial_cost c) → c.amount ≢ 0 → IsFaultIn d p of_init 23 (placed problem_file c.number)
   cost_again : (place : ℕ) (w : Placed) → slice_get (equals_in problem_file p.init) (place + 1) ≡ Some w → IsFaultIn d p of_init 23 w
+  in_value : (v : tree.InitialValue) (code : ℕ) (w : Placed) → Contains p.init (tree.initial_value v)
+      → IsAtomFault problem_file (in_function (known_in_problem d p)) (as_atom v.function) code w → IsFaultIn d p of_init code w
+  -- the value of a function is given again, with another number than the facts before it give
+  other_value : (v : tree.InitialValue) → IsOtherValue (known_in_problem d p) p.init v
+      → IsFaultIn d p of_init 16 (placed problem_file v.function.predicate)
   negated : (word : Name) (a : tree.GroundAtom) → Contains p.init (tree.negated word a) → IsFaultIn d p of_init 24 (placed problem_file word)
   -- 8: the goal
   in_goal : (code : ℕ) (w : Placed) → IsFormulaFault problem_file (known_in_problem d p) p.goal code w → IsFaultIn d p of_goal code w

@@ -6,7 +6,7 @@ use Rattle.std.specs.Cmp.Lexicographic.{pointwise}
 use Rattle.std.specs.List.{list_all, list_any}
 use Rattle.std.specs.Option.{option_map_or}
 pub use Rattle.model.specs.Limits.{max_arguments, max_variables}
-use Rattle.model.specs.Task.{ObjectType, Union, Predicate, Atom, LiftedAtom, Term, variable, object, Formula, Formulas, atom, equal, and, or, not, imply, exists, forall, no_formula, more_formulas, EffectLiteral, add, delete, Effect, Effects, literal, both, each, when, no_effect, more_effects, Schema, Task}
+use Rattle.model.specs.Task.{ObjectType, Union, Predicate, Atom, LiftedAtom, Term, variable, object, Formula, Formulas, atom, equal, and, or, not, imply, exists, forall, no_formula, more_formulas, EffectLiteral, add, delete, Effect, Effects, literal, both, each, when, no_effect, more_effects, Increase, by_number, by_function, Schema, Task}
 use Rattle.model.specs.Meaning.{supertypes_of, is_below, is_of}
 
 -- A term may stand where an object of one of these types is wanted: an object that is of one, or a variable each of
@@ -20,10 +20,14 @@ abbrev pub is_some_term : Task → List Union → Term → Bool
 is_some_term task scope (variable number) = nat_lt number (length scope)
 is_some_term task scope (object number) = nat_lt number (length task.objects)
 
+-- one of these predicates, or functions, with a term for each argument
+abbrev pub is_lifted_of : List Predicate → Task → List Union → LiftedAtom → Bool
+is_lifted_of declared task scope a =
+    option_map_or (λ (p : Predicate). pointwise (is_term task scope) p.arguments a.terms) (slice_get declared a.predicate) false
+
 -- a predicate of the task with a term for each argument
 abbrev pub is_lifted_atom : Task → List Union → LiftedAtom → Bool
-is_lifted_atom task scope a =
-    option_map_or (λ (p : Predicate). pointwise (is_term task scope) p.arguments a.terms) (slice_get task.predicates a.predicate) false
+is_lifted_atom task = is_lifted_of task.predicates task
 
 -- a predicate of the task with an object for each argument
 abbrev pub is_atom : Task → Atom → Bool
@@ -62,20 +66,31 @@ abbrev mutual
   are_effects task scope no_effect = true
   are_effects task scope (more_effects first rest) = is_effect task scope first && are_effects task scope rest
 
+-- an increase by a number, or by a function of the task with a term for each argument
+abbrev pub is_increase : Task → List Union → Increase → Bool
+is_increase task scope (by_number amount) = true
+is_increase task scope (by_function f) = is_lifted_of task.functions task scope f
+
 -- a schema, whose parameters are in scope
 abbrev pub is_schema : Task → Schema → Bool
 is_schema task s =
-    nat_le (length s.parameters) max_variables && is_formula task s.parameters s.precondition && is_effect task s.parameters s.effect
+    (nat_le (length s.parameters) max_variables && is_increase task s.parameters s.increase)
+    && is_formula task s.parameters s.precondition
+    && is_effect task s.parameters s.effect
 
 -- what stands above a type stands above all types below it
 abbrev pub is_whole_chain : Task → ObjectType → Bool
 is_whole_chain task t = list_all (λ above. list_all (λ higher. list_any (nat_eq higher) t.supertypes) (supertypes_of task above)) t.supertypes
 
--- a task of such types, predicates, schemas and atoms, and such a goal
+-- no more arguments than may be
+abbrev pub has_few_arguments : Predicate → Bool
+has_few_arguments p = nat_le (length p.arguments) max_arguments
+
+-- a task of such types, predicates, functions, schemas and atoms, and such a goal
 abbrev pub is_task : Task → Bool
 is_task task =
     list_all (is_whole_chain task) task.types
-    && list_all (λ (p : Predicate). nat_le (length p.arguments) max_arguments) task.predicates
+    && (list_all has_few_arguments task.predicates && list_all has_few_arguments task.functions)
     && list_all (is_schema task) task.schemas
     && list_all (is_atom task) task.init
     && is_formula task [] task.goal

@@ -1,7 +1,7 @@
 -- Worked examples of potential functions: what an instance may lose by one atom, what is left at a goal, values, and three
 -- small tasks. Each is chosen so that a wrong reading says otherwise.
 use Rattle.std.specs.Prelude.{◌≡◌, ℕ, true, false, ℤ, pos, neg_ℤ, List, [], ◌∷◌, codes, All}
-use Rattle.model.specs.Task.{Atom, variable, object, atom, and, not, forall, add, when, Schema, Task, Instance}
+use Rattle.model.specs.Task.{Atom, variable, object, atom, and, not, forall, add, when, by_number, Schema, Task, Instance}
 use Rattle.model.specs.Meaning.{cost_of}
 use Rattle.model.specs.ClosedOff.{kept_instances}
 use Rattle.model.specs.NumberedLiterals.{NumberedLiteral, NumberedChange}
@@ -67,7 +67,7 @@ along name ways cost = record {
   parameters = any 2;
   precondition = and (formulas (atom (lifted 0 (variable 0 ∷ [])) ∷ atom (lifted ways (variable 0 ∷ variable 1 ∷ [])) ∷ []));
   effect = all (deletes (lifted 0 (variable 0 ∷ [])) ∷ adds (lifted 0 (variable 1 ∷ [])) ∷ []);
-  cost = cost;
+  increase = by_number cost;
 }
 
 abbrev pub hop_task : Task
@@ -75,8 +75,10 @@ hop_task = record {
   types = root ∷ [];
   objects = untyped (codes "a") ∷ untyped (codes "b") ∷ untyped (codes "c") ∷ [];
   predicates = record { name = codes "at"; arguments = any 1 } ∷ record { name = codes "road"; arguments = any 2 } ∷ record { name = codes "far"; arguments = any 2 } ∷ [];
+  functions = [];
   schemas = along (codes "hop") 1 3 ∷ along (codes "leap") 2 10 ∷ [];
   init = ground 0 (0 ∷ []) ∷ ground 1 (0 ∷ 1 ∷ []) ∷ ground 1 (1 ∷ 2 ∷ []) ∷ ground 2 (0 ∷ 2 ∷ []) ∷ [];
+  values = [];
   goal = atom (lifted 0 (object 2 ∷ []));
   has_metric = true;
 }
@@ -98,14 +100,16 @@ when_task = record {
   types = root ∷ [];
   objects = [];
   predicates = fact (codes "a") ∷ fact (codes "b") ∷ fact (codes "c") ∷ [];
+  functions = [];
   schemas = record {
     name = codes "do";
     parameters = [];
     precondition = not (atom (lifted 1 []));
     effect = all (adds (lifted 2 []) ∷ deletes (lifted 0 []) ∷ when (atom (lifted 0 [])) (add (lifted 1 []) ∷ []) ∷ []);
-    cost = 0;
+    increase = by_number 0;
   } ∷ [];
   init = [];
+  values = [];
   goal = atom (lifted 2 []);
   has_metric = false;
 }
@@ -124,14 +128,16 @@ lamps_task = record {
   types = root ∷ [];
   objects = untyped (codes "s") ∷ untyped (codes "t") ∷ [];
   predicates = record { name = codes "on"; arguments = any 1 } ∷ [];
+  functions = [];
   schemas = record {
     name = codes "flip";
     parameters = any 1;
     precondition = not (atom (lifted 0 (variable 0 ∷ [])));
     effect = adds (lifted 0 (variable 0 ∷ []));
-    cost = 0;
+    increase = by_number 0;
   } ∷ [];
   init = [];
+  values = [];
   goal = forall (0 ∷ []) (atom (lifted 0 (variable 0 ∷ [])));
   has_metric = false;
 }

@@ -6,12 +6,15 @@ use Rattle.syntax_tree.specs.declared.tree.TaskFile.{TaskFile}
 use Rattle.syntax_tree.specs.declared.tree.TaskFile.TheVariants as file
 use Rattle.syntax_tree.specs.declared.tree.Atom.{Atom}
 use Rattle.syntax_tree.specs.declared.tree.Predicate.{Predicate}
+use Rattle.syntax_tree.specs.declared.tree.Amount.{Amount}
+use Rattle.syntax_tree.specs.declared.tree.Amount.TheVariants as amount
 use Rattle.syntax_tree.specs.declared.tree.Increase.{Increase}
 use Rattle.syntax_tree.specs.declared.tree.Action.{Action}
 use Rattle.syntax_tree.specs.declared.tree.Domain.{Domain}
 use Rattle.syntax_tree.specs.declared.tree.Group.{Group}
 use Rattle.syntax_tree.specs.declared.tree.GroundAtom.{GroundAtom}
 use Rattle.syntax_tree.specs.declared.tree.InitialCost.{InitialCost}
+use Rattle.syntax_tree.specs.declared.tree.InitialValue.{InitialValue}
 use Rattle.syntax_tree.specs.declared.tree.Fact.{Fact}
 use Rattle.syntax_tree.specs.declared.tree.Fact.TheVariants as fact
 use Rattle.syntax_tree.specs.declared.tree.Problem.{Problem}
@@ -70,8 +73,12 @@ abbrev mutual
 abbrev pub predicate_of : Predicate → tree.Predicate
 predicate_of p = record { name = name_of p.name; parameters = groups_of p.parameters }
 
+abbrev pub amount_of : Amount → tree.Amount
+amount_of (amount.Number n) = tree.by_number n
+amount_of (amount.Function f) = tree.by_function (atom_of f)
+
 abbrev pub increase_of : Increase → tree.Increase
-increase_of i = record { word = name_of i.word; amount = i.amount }
+increase_of i = record { word = name_of i.word; amount = amount_of i.amount }
 
 abbrev pub action_of : Action → tree.Action
 action_of a = record {
@@ -88,7 +95,7 @@ domain_of d = record {
   types = groups_of d.types;
   constants = groups_of d.constants;
   predicates = map predicate_of d.predicates.items;
-  functions = map name_of d.functions.items;
+  functions = map predicate_of d.functions.items;
   actions = map action_of d.actions.items;
 }
 
@@ -98,10 +105,14 @@ ground_atom_of a = record { predicate = name_of a.predicate; objects = map name_
 abbrev pub initial_cost_of : InitialCost → tree.InitialCost
 initial_cost_of c = record { equals = name_of c.equals; function = name_of c.function; amount = c.amount; number = name_of c.number }
 
+abbrev pub initial_value_of : InitialValue → tree.InitialValue
+initial_value_of v = record { function = ground_atom_of v.function; value = v.value }
+
 abbrev pub fact_of : Fact → tree.Fact
 fact_of (fact.Atom a) = tree.fact (ground_atom_of a)
 fact_of (fact.Negated n a) = tree.negated (name_of n) (ground_atom_of a)
 fact_of (fact.InitialCost c) = tree.initial_cost (initial_cost_of c)
+fact_of (fact.InitialValue v) = tree.initial_value (initial_value_of v)
 
 abbrev pub problem_of : Problem → tree.Problem
 problem_of p = record {

@@ -71,22 +71,32 @@ pub struct Group<'a> {
     pub types: Vec<Name<'a>>,
 }
 
-/// A predicate's declaration.
+/// A declaration of a predicate or of a function.
 #[derive(Debug, Drop)]
 pub struct Predicate<'a> {
-    /// The predicate's name.
+    /// The name of the predicate or the function.
     pub name: Name<'a>,
     /// Its variables, which say how many arguments it has, and of which types.
     pub parameters: Vec<Group<'a>>,
 }
 
-/// What an action increases the total cost by.
-#[derive(Clone, Copy, Debug)]
+/// What an increase of the total cost is by.
+#[derive(Debug, Drop)]
+pub enum Amount<'a> {
+    /// A number, from 0 to 2,147,483,647.
+    Number(u32),
+    /// The value of a function of some terms, which stands as an atom does: the function's name in the place of the
+    /// predicate's.
+    Function(Atom<'a>),
+}
+
+/// An increase of the total cost.
+#[derive(Debug, Drop)]
 pub struct Increase<'a> {
     /// Its word `increase`.
     pub word: Name<'a>,
-    /// The number.
-    pub amount: u32,
+    /// What it is by.
+    pub amount: Amount<'a>,
 }
 
 /// An action schema.
@@ -115,8 +125,9 @@ pub struct Domain<'a> {
     pub constants: Vec<Group<'a>>,
     /// The predicates, in the order of the file.
     pub predicates: Vec<Predicate<'a>>,
-    /// The words `total-cost` of `:functions`, in order: more than one is a fault.
-    pub functions: Vec<Name<'a>>,
+    /// What `:functions` declares, in the order of the file: functions of objects, and `total-cost`, which has no
+    /// arguments.
+    pub functions: Vec<Predicate<'a>>,
     /// The actions, in the order of the file.
     pub actions: Vec<Action<'a>>,
 }
@@ -143,6 +154,15 @@ pub struct InitialCost<'a> {
     pub number: Name<'a>,
 }
 
+/// What `(= (f o ..) N)` in `:init` says.
+#[derive(Debug, Drop)]
+pub struct InitialValue<'a> {
+    /// The function of some objects, which stands as an atom does: the function's name in the place of the predicate's.
+    pub function: GroundAtom<'a>,
+    /// Its value, from 0 to 2,147,483,647.
+    pub value: u32,
+}
+
 /// What stands in `:init`.
 #[derive(Debug, Drop)]
 pub enum Fact<'a> {
@@ -152,6 +172,8 @@ pub enum Fact<'a> {
     Negated(Name<'a>, GroundAtom<'a>),
     /// The total cost at the start.
     InitialCost(InitialCost<'a>),
+    /// The value of a function of objects.
+    InitialValue(InitialValue<'a>),
 }
 
 /// A problem file.

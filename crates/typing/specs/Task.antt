@@ -10,7 +10,7 @@ use Rattle.model.specs.TypingFaults as typing_faults
 use Rattle.model.specs.Typing.{faults_of}
 
 abbrev pub task_of : Task → task.Task
-task_of t = task_of_parts t.types.entries t.objects.entries t.predicates.entries t.schemas.entries t.init.items t.goal t.has_metric
+task_of t = task_of_parts t.types.entries t.objects.entries t.predicates.entries t.functions.entries t.schemas.entries t.init.items t.values.entries t.goal t.has_metric
 
 -- the least fault of the pair is told; want of memory says nothing of the pair
 abbrev pub TellsLeastFault : tree.Domain → tree.Problem → TaskFault → Type 0

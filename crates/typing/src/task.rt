@@ -20,13 +20,15 @@ pub struct Task {
     types: IndexMap<Vec<u8>, Vec<TypeId>>,
     objects: IndexMap<Vec<u8>, TypeId>,
     predicates: IndexMap<Vec<u8>, Predicate>,
+    functions: IndexMap<Vec<u8>, Predicate>,
     schemas: IndexMap<Vec<u8>, Schema>,
     init: Vec<Atom>,
+    values: IndexMap<Atom, u32>,
     goal: Formula,
     has_metric: bool,
     ghost few_types: { length types.entries ≤ 4096 },
     ghost few_objects: { length objects.entries ≤ 65535 },
-    ghost well_typed: { IsTrue (is_task (task_of_parts types.entries objects.entries predicates.entries schemas.entries init.items goal has_metric)) },
+    ghost well_typed: { IsTrue (is_task (task_of_parts types.entries objects.entries predicates.entries functions.entries schemas.entries init.items values.entries goal has_metric)) },
 }
 
 impl Task {
@@ -36,7 +38,7 @@ impl Task {
     ghost use Rattle.model.specs.TypingFaults as typing_faults;
     ghost use Rattle.syntax_tree.specs.Tree.{domain_of, problem_of};
     ghost use Rattle.typing_formulas.specs.TaskParts.{atom_of, formula_of, object_of, predicate_id_of, schema_id_of, shape_of, shape_of_schema, type_of, union_of};
-    ghost use Rattle.model.specs.Meaning.{supertypes_of, is_of, is_below, objects_of};
+    ghost use Rattle.model.specs.Meaning.{supertypes_of, is_of, is_below, objects_of, value_in};
     ghost use Rattle.model.specs.Typing.{is_same, task_of_trees, ListsNoFault};
 
     /// The task of a domain and a problem: each name becomes its number.
@@ -69,8 +71,10 @@ impl Task {
             types: types.all,
             objects: contents.objects.all,
             predicates: names.predicates,
+            functions: names.functions,
             schemas: names.schemas,
             init: start.init,
+            values: start.values,
             goal: start.goal,
             has_metric: problem.metric.is_some(),
         })
@@ -81,6 +85,14 @@ impl Task {
         ensures { map atom_of result.now ≡ (task_of self.now).init }
     {
         self.init.as_slice()
+    }
+
+    /// The value that the problem gives to a function of objects, and `None` where it gives it none. The function's number
+    /// stands in the place of the predicate's. No memory is taken.
+    pub fn value(&self, function: &Atom) -> Option<u32>
+        ensures { result ≡ value_in (task_of self.now).values (atom_of function.now) }
+    {
+        self.values.get(function).copied()
     }
 
     /// What is to be reached.
@@ -211,6 +223,22 @@ impl Task {
     {
         let number = self.predicates.get_index_of(folded)?;
         Some(PredicateId(number))
+    }
+
+    /// The function of this name, which is given in lower case: its number stands in the place of a predicate's.
+    pub fn function_named(&self, folded: &[u8]) -> Option<PredicateId>
+        ensures { option_map predicate_id_of result ≡ position (is_same folded.now) (map (λ p. p.name) (task_of self.now).functions) }
+    {
+        let number = self.functions.get_index_of(folded)?;
+        Some(PredicateId(number))
+    }
+
+    /// The function's name, in lower case, and `None` where the number is beyond the last.
+    pub fn function_name(&self, id: PredicateId) -> Option<&[u8]>
+        ensures { option_copied result ≡ option_map (λ p. p.name) (slice_get (task_of self.now).functions id.0) }
+    {
+        let (name, _) = self.functions.get_index(id.0)?;
+        Some(name.as_slice())
     }
 
     /// The object's name, in lower case, and `None` where the number is beyond the last.

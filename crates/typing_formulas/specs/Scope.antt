@@ -28,9 +28,9 @@ known_of s = record {
   type_names = names_in s.type_names.now.names.keys;
   types = map type_entry_of s.types.now.entries;
   predicates = map predicate_of s.predicates.now.entries;
+  functions = map predicate_of s.functions.now.entries;
   variables = map variable_entry_of s.variables.now.entries;
   objects = map object_entry_of s.objects.now.entries;
-  has_cost = s.has_cost;
 }
 
 -- the variables that were in scope stand first among those that are
@@ -43,9 +43,9 @@ known_over g variables = record {
   type_names = names_in g.type_names.now.names.keys;
   types = map type_entry_of g.types.now.entries;
   predicates = map predicate_of g.predicates.now.entries;
+  functions = map predicate_of g.functions.now.entries;
   variables = map variable_entry_of variables;
   objects = map object_entry_of g.objects.now.entries;
-  has_cost = g.has_cost;
 }
 
 -- what may be named where no variable is in scope
@@ -69,3 +69,4 @@ abbrev pub narrow_atoms_in : Known → tree.Fact → List task.Atom
 narrow_atoms_in known (tree.fact a) = narrow_atom_in known a ∷ []
 narrow_atoms_in known (tree.negated word a) = []
 narrow_atoms_in known (tree.initial_cost c) = []
+narrow_atoms_in known (tree.initial_value v) = []

@@ -16,6 +16,8 @@ use Rattle.typing_formulas.specs.declared.schemas.EffectLiteral.{EffectLiteral}
 use Rattle.typing_formulas.specs.declared.schemas.EffectLiteral.TheVariants as effect_literal
 use Rattle.typing_formulas.specs.declared.schemas.Effect.{Effect, Row_of-Effect, end_of-Effect, more_of-Effect}
 use Rattle.typing_formulas.specs.declared.schemas.Effect as effect
+use Rattle.typing_formulas.specs.declared.schemas.Increase.{Increase}
+use Rattle.typing_formulas.specs.declared.schemas.Increase.TheVariants as increase
 use Rattle.typing_formulas.specs.declared.schemas.Predicate.{Predicate}
 use Rattle.typing_formulas.specs.declared.schemas.Schema.{Schema}
 use Rattle.typing_formulas.specs.declared.schemas.TypeUnion.{TypeUnion}
@@ -81,12 +83,16 @@ abbrev mutual
   effects_of end_of-Effect = task.no_effect
   effects_of (more_of-Effect first rest) = task.more_effects (effect_of first) (effects_of rest)
 
--- a schema without its name: what its parameters have to be, its precondition, its effect and what it costs
-abbrev pub shape_of : Schema → List task.Union × task.Formula × task.Effect × ℕ
-shape_of s = (map union_of s.parameters.items, formula_of s.precondition, effect_of s.effect, s.cost)
+abbrev pub increase_of : Increase → task.Increase
+increase_of (increase.Number n) = task.by_number n
+increase_of (increase.Function f) = task.by_function (lifted_atom_of f)
 
-abbrev pub shape_of_schema : task.Schema → List task.Union × task.Formula × task.Effect × ℕ
-shape_of_schema s = (s.parameters, s.precondition, s.effect, s.cost)
+-- a schema without its name: what its parameters have to be, its precondition, its effect and what it increases the cost by
+abbrev pub shape_of : Schema → List task.Union × task.Formula × task.Effect × task.Increase
+shape_of s = (map union_of s.parameters.items, formula_of s.precondition, effect_of s.effect, increase_of s.increase)
+
+abbrev pub shape_of_schema : task.Schema → List task.Union × task.Formula × task.Effect × task.Increase
+shape_of_schema s = (s.parameters, s.precondition, s.effect, s.increase)
 
 abbrev pub predicate_of : Vec ℕ × Predicate → task.Predicate
 predicate_of entry = record { name = entry.0.items; arguments = map union_of entry.1.arguments.items }
@@ -97,7 +103,7 @@ schema_of entry = record {
   parameters = map union_of entry.1.parameters.items;
   precondition = formula_of entry.1.precondition;
   effect = effect_of entry.1.effect;
-  cost = entry.1.cost;
+  increase = increase_of entry.1.increase;
 }
 
 abbrev pub type_entry_of : Vec ℕ × Vec TypeId → task.ObjectType
@@ -106,15 +112,20 @@ type_entry_of entry = record { name = entry.0.items; supertypes = map type_of en
 abbrev pub object_entry_of : Vec ℕ × TypeId → task.Object
 object_entry_of entry = record { name = entry.0.items; type = type_of entry.1 }
 
--- the task of these types, objects, predicates and schemas by name, of these atoms at the start and this goal, with or
--- without the metric
-abbrev pub task_of_parts : List (Vec ℕ × Vec TypeId) → List (Vec ℕ × TypeId) → List (Vec ℕ × Predicate) → List (Vec ℕ × Schema) → List Atom → Formula → Bool → task.Task
-task_of_parts types objects predicates schemas init goal has_metric = record {
+abbrev pub value_of : Atom × ℕ → task.FunctionValue
+value_of entry = record { function = atom_of entry.0; value = entry.1 }
+
+-- the task of these types, objects, predicates, functions and schemas by name, of these atoms and values at the start and
+-- this goal, with or without the metric
+abbrev pub task_of_parts : List (Vec ℕ × Vec TypeId) → List (Vec ℕ × TypeId) → List (Vec ℕ × Predicate) → List (Vec ℕ × Predicate) → List (Vec ℕ × Schema) → List Atom → List (Atom × ℕ) → Formula → Bool → task.Task
+task_of_parts types objects predicates functions schemas init values goal has_metric = record {
   types = map type_entry_of types;
   objects = map object_entry_of objects;
   predicates = map predicate_of predicates;
+  functions = map predicate_of functions;
   schemas = map schema_of schemas;
   init = map atom_of init;
+  values = map value_of values;
   goal = formula_of goal;
   has_metric = has_metric;
 }

@@ -18,7 +18,8 @@ pub struct TypeId(pub u16);
 #[derive(Clone, Copy, Debug, Default, PartialEq, Eq, PartialOrd, Ord, Hash)]
 pub struct ObjectId(pub u32);
 
-/// A predicate: its place, from 0, among the domain's predicates.
+/// A predicate: its place, from 0, among the domain's predicates; in a function of terms or objects, the place of the
+/// function among the domain's functions.
 #[derive(Clone, Copy, Debug, PartialEq, Eq, PartialOrd, Ord, Hash)]
 pub struct PredicateId(pub usize);
 

@@ -19,7 +19,7 @@ pub use atoms::{
     Term, TypeId, VariableId,
 };
 pub use fault::{TaskFault, TaskRefusal};
-pub use schemas::{Effect, EffectLiteral, Formula, Predicate, Schema, TypeUnion};
+pub use schemas::{Effect, EffectLiteral, Formula, Increase, Predicate, Schema, TypeUnion};
 pub use scope::{Globals, Scope};
 pub use syntax_tree::TaskFile;
 pub use type_names::TypeNames;

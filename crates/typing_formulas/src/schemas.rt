@@ -61,11 +61,21 @@ pub enum Effect {
     When(Formula, Vec<EffectLiteral>),
 }
 
-/// A predicate's declaration.
+/// A declaration of a predicate or of a function.
 #[derive(Debug, Drop)]
 pub struct Predicate {
     /// What each of its arguments has to be.
     pub arguments: Vec<TypeUnion>,
+}
+
+/// What an action increases the total cost by.
+#[derive(Debug, Drop)]
+pub enum Increase {
+    /// A number, from 0 to 2,147,483,647: 0 where it does not increase it.
+    Number(u32),
+    /// The value of a function of some terms, which is written as an atom is: the function's number is in the place of the
+    /// predicate's.
+    Function(LiftedAtom),
 }
 
 /// An action schema.
@@ -78,5 +88,5 @@ pub struct Schema {
     /// What it changes.
     pub effect: Effect,
     /// What it increases the total cost by.
-    pub cost: u32,
+    pub increase: Increase,
 }

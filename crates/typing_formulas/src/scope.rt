@@ -28,10 +28,10 @@ pub struct Globals<'g> {
     pub types: &'g IndexMap<Vec<u8>, Vec<TypeId>>,
     /// The predicates by name.
     pub predicates: &'g IndexMap<Vec<u8>, Predicate>,
+    /// The functions by name.
+    pub functions: &'g IndexMap<Vec<u8>, Predicate>,
     /// The objects by name, each with its type.
     pub objects: &'g IndexMap<Vec<u8>, TypeId>,
-    /// Whether the total cost is declared.
-    pub has_cost: bool,
     ghost few: { length objects.now.entries ≤ 65535 },
 }
 
@@ -48,12 +48,12 @@ pub struct Scope<'s> {
     pub types: &'s IndexMap<Vec<u8>, Vec<TypeId>>,
     /// The predicates by name.
     pub predicates: &'s IndexMap<Vec<u8>, Predicate>,
+    /// The functions by name.
+    pub functions: &'s IndexMap<Vec<u8>, Predicate>,
     /// The variables in scope, each with what it has to be.
     pub variables: &'s IndexMap<Vec<u8>, TypeUnion>,
     /// The objects by name, each with its type.
     pub objects: &'s IndexMap<Vec<u8>, TypeId>,
-    /// Whether the total cost is declared.
-    pub has_cost: bool,
     ghost few: { length objects.now.entries ≤ 65535 },
 }
 
@@ -70,9 +70,9 @@ impl Globals<'_> {
             type_names: self.type_names,
             types: self.types,
             predicates: self.predicates,
+            functions: self.functions,
             variables,
             objects: self.objects,
-            has_cost: self.has_cost,
         }
     }
 }
