@@ -3,7 +3,7 @@ use Rattle.std.specs.Prelude.{◌≡◌, ℕ, ◌+◌, Bool, true, false, ◌&&�
 use Rattle.std.proofs.Common.{◌∙◌, ap, arith}
 use Rattle.std.specs.Option.{option_and_then}
 use Rattle.std.specs.FinSet.{contains, len, from_list, len-insert, len-empty, contains-from_list}
-use Rattle.model.specs.Task.{Union, Atom, LiftedAtom, Formula, and, Effect, Task, Instance}
+use Rattle.model.specs.Task.{Union, Atom, LiftedAtom, Formula, and, Effect, by_number, Task, Instance}
 use Rattle.model.specs.Runs.{System, run, Solves}
 use Rattle.model.specs.Meaning.{State, atom_cmp, ground_atom, fits, step, changes_of, after_changes, system_of, Change}
 use Rattle.model.specs.Examples.{formulas, go, go_task, tie, tie_task, move, walk_to, a_to_a, a_to_b, b_to_c, instance, ground, doer, doing, LeadsWith, priced, WorkedExamples}
@@ -116,7 +116,7 @@ twice_of has_metric = changes_of (priced has_metric) go.effect [] ∷ once_of ha
 
 -- either action of the task with costs leads on
 goes : (has_metric : Bool) (s : State) → step (priced has_metric) s (instance 0 []) ≡ Some (after_changes (priced has_metric) s (changes_of (priced has_metric) go.effect []))
-goes has_metric s = leads (priced has_metric) s (instance 0 []) (record go { cost = 3 }) refl refl refl
+goes has_metric s = leads (priced has_metric) s (instance 0 []) (record go { increase = by_number 3 }) refl refl refl
 
 goes_free : (has_metric : Bool) (s : State) → step (priced has_metric) s (instance 1 []) ≡ Some (after_changes (priced has_metric) s (changes_of (priced has_metric) go.effect []))
 goes_free has_metric s = leads (priced has_metric) s (instance 1 []) go refl refl refl
