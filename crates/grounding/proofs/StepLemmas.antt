@@ -60,7 +60,7 @@ module _ (t : Task) (atoms : List Atom) (bits : List Bool) (number : ℕ) (i : I
       sym (ap (λ o. option_map_or (λ (s : Schema). fits t s i.objects) o false) at) ∙ kept-is_instance t number i named in
       let kept : (has_amount t schema i.objects && not (is_closed_off t schema.precondition i.objects)) ≡ true =
       sym (ap (λ o. option_map_or (λ (s : Schema). has_amount t s i.objects && not (is_closed_off t s.precondition i.objects)) o false) at)
-          ∙ (kept-Contains t i (Contains-got (kept_instances t) number i named)).1 in
+      ∙ (kept-Contains t i (Contains-got (kept_instances t) number i named)).1 in
       ap is_some ground_step-named
       ∙ ap (λ o. is_some (option_map (bits_of_state atoms) (option_and_then (λ (s : Schema).
       if fits t s i.objects && can_apply t s i.objects before then Some (after_changes t before (changes_of t s.effect i.objects)) else None) o))) at
