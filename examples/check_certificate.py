@@ -64,7 +64,7 @@ def typed(words):
 
 
 class Task:
-    """A task: its objects by type, its static predicates, its instances that the start does not close off."""
+    """A task: its objects by type, its static predicates, the values of its functions, and its instances that are kept."""
 
     def __init__(self, domain, problem):
         domain, problem = lists_of(domain)[0], lists_of(problem)[0]
@@ -75,6 +75,7 @@ class Task:
         self.predicates = {p[0]: [types for _, types in typed(p[1:])] for p in section(domain, ":predicates")}
         self.actions = [self.action(part) for part in domain[2:] if part[0] == ":action"]
         self.has_metric = bool(section(problem, ":metric"))
+        self.values = {tuple(fact[1]): int(fact[2]) for fact in section(problem, ":init") if fact[0] == "="}
         self.fluent = {p for action in self.actions for p in changed_predicates(action["effect"])}
         atoms = {tuple(atom) for atom in section(problem, ":init") if atom[0] != "="}
         self.static = frozenset(a for a in atoms if a[0] not in self.fluent)
@@ -145,10 +146,10 @@ class Task:
         return self.holds(formula, self.initial, bound) != wanted
 
     def instances(self):
-        """The instances that the start does not close off, in order: each an action with its objects."""
+        """The instances that have a cost and that the start does not close off, in order: each an action with its objects."""
         for action in self.actions:
             for bound in self.bindings(action["parameters"]):
-                if not self.is_closed_off(action["precondition"], bound):
+                if self.increase(action, bound) is not None and not self.is_closed_off(action["precondition"], bound):
                     yield action, bound
 
     def sure(self, formula, bound, wanted=True):
@@ -186,15 +187,20 @@ class Task:
 
     def result(self, state, action, bound):
         """The state behind an instance, and None where it is not applicable."""
-        if not self.holds(action["precondition"], state, bound):
+        if self.increase(action, bound) is None or not self.holds(action["precondition"], state, bound):
             return None
         made = [(atom, adds) for atom, adds, condition, objects in self.changes(action["effect"], bound)
                 if self.holds(condition, state, objects)]
         deletes = {atom for atom, adds in made if not adds}
         return (state - deletes) | {atom for atom, adds in made if adds}
 
-    def cost(self, action):
-        return increase_of(action["effect"]) if self.has_metric else 1
+    def increase(self, action, bound):
+        """What an instance increases the total cost by, and None where that is a function whose value is not given."""
+        by = increase_of(action["effect"])
+        return self.values.get(ground(by, bound)) if isinstance(by, list) else int(by)
+
+    def cost(self, action, bound):
+        return self.increase(action, bound) if self.has_metric else 1
 
 
 def ground(atom, bound):
@@ -212,8 +218,9 @@ def changed_predicates(effect):
 
 
 def increase_of(effect):
+    """What an effect increases the total cost by: a number, or a function of some terms."""
     parts = effect[1:] if effect[0] == "and" else [effect]
-    return sum(int(part[2]) for part in parts if part[0] == "increase")
+    return next((part[2] for part in parts if part[0] == "increase"), "0")
 
 
 # ---- potential functions
@@ -240,7 +247,7 @@ def look_whether_fair(task, constant, weights, instances):
     for action, bound in instances:
         literals, changes = task.sure(action["precondition"], bound), task.counting(action["effect"], bound)
         loss = sum(worst(weights.get(atom, 0), atom, literals, changes) for atom in {it for it, _, _ in changes})
-        if loss > task.cost(action):
+        if loss > task.cost(action, bound):
             raise Refused(46, instance=[action["name"]] + [bound[name] for name, _ in action["parameters"]])
     literals = task.sure(task.goal, {})
     given = lambda atom, weight: 0 if (atom, False) in literals else weight if (atom, True) in literals else max(0, weight)
@@ -362,7 +369,7 @@ def check(task, data, plan, limit):
                 continue
             if after not in listed:
                 raise Refused(49, line)
-            if listed[after] > cost + task.cost(action):
+            if listed[after] > cost + task.cost(action, bound):
                 raise Refused(50, line)
     if plan is None:
         return "unsolvable" if claim is None else f"at least {claim}"
@@ -379,10 +386,11 @@ def cost_of_plan(task, plan):
     state, cost = task.initial, 0
     for name, *objects in lists_of(plan):
         action = next(a for a in task.actions if a["name"] == name)
-        state = task.result(state, action, dict(zip((v for v, _ in action["parameters"]), objects)))
+        bound = dict(zip((v for v, _ in action["parameters"]), objects))
+        state = task.result(state, action, bound)
         if state is None:
             return None
-        cost += task.cost(action)
+        cost += task.cost(action, bound)
     return cost if task.holds(task.goal, state, {}) else None
 
 
