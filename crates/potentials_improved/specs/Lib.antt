@@ -2,6 +2,5 @@ pub mod FairPotentials
 pub mod Climb
 pub mod Touching
 pub mod Drafted
-
 pub use Rattle.potentials.specs.Potentials
 pub use Rattle.potentials.specs.Fairness

@@ -18,7 +18,9 @@ ghost use Rattle.potentials_improved.specs.Climb.{IsClimb, IsNext, IsWeightTried
 use crate::touching::{Touching, are_fair_at};
 use grounding::Ground;
 use packed_state::Packed;
-use potentials::{MAX_WEIGHT, Potentials, goal_gives, goal_gives_at_most, is_in_range, or_zero, says};
+use potentials::{
+    MAX_WEIGHT, Potentials, goal_gives, goal_gives_at_most, is_in_range, or_zero, says,
+};
 
 /// Fair potentials of the greatest constant, with what they give at most at a goal, and with their score in the initial
 /// state.
