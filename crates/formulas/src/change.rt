@@ -8,6 +8,7 @@ ghost use Rattle.formulas.specs.Changes.{after_some};
 ghost use Rattle.model.specs.Task.{each};
 ghost use Rattle.model.specs.Meaning.{is_instance, step, changes_of, literals_in, ground_literal};
 
+use crate::costs::amount;
 use crate::instance::{Binding, Instance, copied};
 use crate::state::State;
 use crate::truth::{ground_atom, holds};
@@ -15,8 +16,9 @@ use faults::NoMemory;
 use std::alloc::Global;
 use typing::{Effect, EffectLiteral, ObjectId, Task, TypeUnion};
 
-/// The state that the instance, which is one of the task's, leads to, and `None` where it is not applicable.
-/// All conditions are read in the state before, and an atom that is both deleted and added is true afterwards.
+/// The state that the instance, which is one of the task's, leads to, and `None` where it is not applicable: where its
+/// precondition does not hold, or what it increases the total cost by has no value. All conditions are read in the state
+/// before, and an atom that is both deleted and added is true afterwards.
 ///
 /// # Errors
 /// Memory was refused, which says nothing of the instance.
@@ -32,6 +34,9 @@ pub fn apply(
     let Some(schema) = task.schema(instance.schema) else {
         return Ok(None);
     };
+    if amount(task, instance).is_none() {
+        return Ok(None);
+    }
     let objects = &instance.objects;
     if !holds(task, &schema.precondition, objects, state) {
         return Ok(None);

@@ -14,7 +14,7 @@ mod truth;
 mod valuation;
 
 pub use change::apply;
-pub use costs::cost;
+pub use costs::{amount, cost};
 pub use effects::{Change, GroundLiteral, changes};
 pub use fluents::{is_atom, is_fluent, is_fluent_atom};
 pub use instance::{Binding, Instance, copied, is_instance, with_object};

@@ -12,7 +12,7 @@ ghost use Rattle.model.specs.Meaning.{initial_state};
 
 use crate::fluents::fluents;
 use faults::NoMemory;
-use formulas::{Binding, Change, Instance, State, copied, holds};
+use formulas::{Binding, Change, Instance, State, amount, copied, holds};
 use std::alloc::Global;
 use typing::{Atom, Formula, ObjectId, PredicateId, Task, TypeUnion};
 
@@ -75,11 +75,14 @@ impl<'t> Statics<'t> {
         !self.is_fluent(atom.predicate)
     }
 
-    /// Whether the instance's precondition is not closed off.
+    /// Whether the instance's precondition is not closed off, and what it increases the total cost by has a value.
     pub(crate) fn is_kept(&self, instance: &Instance) -> bool
         requires { IsTrue (is_instance (task_of self.now.task.now) (instance_of instance.now)) }
         ensures { result ≡ closed_off.is_kept (task_of self.now.task.now) (instance_of instance.now) }
     {
+        if amount(self.task, instance).is_none() {
+            return false;
+        }
         match self.task.schema(instance.schema) {
             Some(schema) => !self.is_closed_off(&schema.precondition, &instance.objects),
             None => false,

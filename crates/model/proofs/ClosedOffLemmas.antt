@@ -5,7 +5,7 @@ use Rattle.std.specs.List.{list_any, list_all}
 use Rattle.std.specs.Option.{option_map_or, option_and_then}
 use Rattle.std.proofs.lemmas.Bool.{and_parts, or_cases, cases_Bool, not-true, not-false, false_from_ne_true}
 use Rattle.model.specs.Task.{Formula, Schema, Task, Instance}
-use Rattle.model.specs.Meaning.{State, initial_state, holds, fits, step, after_changes, changes_of, is_instance}
+use Rattle.model.specs.Meaning.{State, initial_state, holds, fits, has_amount, can_apply, step, after_changes, changes_of, is_instance}
 use Rattle.model.specs.Instances.{all_instances}
 use Rattle.model.specs.Fluents.{is_fluent, HasInitialStatics}
 use Rattle.model.specs.SureLiterals.{Literal, is_true, is_false, are_same, are_different, literal_holds, sure}
@@ -44,20 +44,27 @@ only_counting_changes_are_made task c s statics uncounted =
 
 abbrev leads_by : Task → State → Instance → Schema → Option State
 leads_by task s i schema =
-    if fits task schema i.objects && holds task schema.precondition i.objects s then Some (after_changes task s (changes_of task schema.effect i.objects)) else None
+    if fits task schema i.objects && can_apply task schema i.objects s then Some (after_changes task s (changes_of task schema.effect i.objects)) else None
 
 nowhere : (a b : Bool) (x : State) → b ≡ false → (if a && b then Some x else None) ≡ None
 nowhere true b x is = ap (λ c. if c then Some x else None) is
 nowhere false b x is = refl
 
+-- what has a value but is closed off, or has none
+cannot_be : (valued closed holding : Bool) → (closed ≡ true → holding ≡ false) → (valued && not closed) ≡ false → (valued && holding) ≡ false
+cannot_be true true holding fails is = fails refl
+cannot_be true false holding fails is = absurd (true≢false is)
+cannot_be false closed holding fails is = refl
+
 pub closed_off_is_not_applicable : ClosedOffIsNotApplicable
 closed_off_is_not_applicable task i s statics closed =
-    elim (slice_get task.schemas i.schema) as (λ o. option_map_or (λ (schema : Schema). not (is_closed_off task schema.precondition i.objects)) o false ≡ false
+    elim (slice_get task.schemas i.schema) as (λ o. option_map_or (λ (schema : Schema). has_amount task schema i.objects && not (is_closed_off task schema.precondition i.objects)) o false ≡ false
     → option_and_then (leads_by task s i) o ≡ None) [
       | None ↦ λ _. refl
       | Some schema ↦ λ is.
-          nowhere (fits task schema i.objects) (holds task schema.precondition i.objects s) _
-          (closed_off-fails task schema.precondition i.objects s statics (not-false (is_closed_off task schema.precondition i.objects) is))
+          nowhere (fits task schema i.objects) (can_apply task schema i.objects s) _
+          (cannot_be (has_amount task schema i.objects) (is_closed_off task schema.precondition i.objects) (holds task schema.precondition i.objects s)
+          (closed_off-fails task schema.precondition i.objects s statics) is)
     ] closed
 
 -- so only a kept instance leads anywhere

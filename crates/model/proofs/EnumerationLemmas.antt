@@ -4,13 +4,13 @@ use Rattle.std.proofs.Common.{◌≡◌, ◌∙◌, ℕ, zero, suc, ◌+◌, ◌
 use Rattle.std.specs.Prelude.{slice_get, slice_index, nat_lt, filter, cond}
 use Rattle.std.specs.List.{list_all, list_any, flat_map}
 use Rattle.std.specs.Option.{option_map_or}
-use Rattle.std.proofs.lemmas.Bool.{and_parts, or_cases, or_left, or_right, ltb-true}
+use Rattle.std.proofs.lemmas.Bool.{and_parts, and_right, or_cases, or_left, or_right, ltb-true}
 use Rattle.std.proofs.lemmas.List.{length-append, drop_all, map-append}
 use Rattle.std.proofs.lemmas.List.Folds.{list_any-append}
 use Rattle.std.proofs.lemmas.List.Elements.{filter-append}
 use Rattle.model.specs.Task.{Atom, LiftedAtom, Term, variable, object, Formula, Formulas, atom, equal, and, or, imply, exists, forall, no_formula, more_formulas, Schema, Task, Instance}
 use Rattle.model.specs.Task as task_of
-use Rattle.model.specs.Meaning.{object_of, objects_of, ground_atom, initial_state}
+use Rattle.model.specs.Meaning.{object_of, objects_of, ground_atom, initial_state, has_amount}
 use Rattle.model.specs.Instances.{product, instances_of_schema, instances_from}
 use Rattle.model.specs.SureLiterals.{Literal, is_true, is_false, are_same, are_different, literal_holds, sure, sure_not, all_sure}
 use Rattle.model.specs.ClosedOff.{is_fixed, is_closed_off, is_kept}
@@ -189,7 +189,7 @@ pub begun-pruned : (task : Task) (schema : ℕ) (objects : List ℕ) (left : Lis
 begun-pruned task schema objects left pruned =
     begun-none task schema objects left (λ rest.
     elim (slice_get task.schemas schema) as (λ o. option_map_or (λ (s : Schema). closed_within task s.precondition objects) o false ≡ true
-    → option_map_or (λ (s : Schema). not (is_closed_off task s.precondition (objects ++ rest))) o false ≡ false) [
+    → option_map_or (λ (s : Schema). has_amount task s (objects ++ rest) && not (is_closed_off task s.precondition (objects ++ rest))) o false ≡ false) [
       | None ↦ λ none. refl
-      | Some s ↦ λ closed. ap not (closed-later task s.precondition objects rest closed)
+      | Some s ↦ λ closed. and_right (has_amount task s (objects ++ rest)) (not (is_closed_off task s.precondition (objects ++ rest))) (ap not (closed-later task s.precondition objects rest closed))
     ] pruned)

@@ -3,10 +3,10 @@ use Rattle.std.specs.Prelude.{◌≡◌, ℕ, ◌+◌, Bool, true, false, ◌&&�
 use Rattle.std.proofs.Common.{◌∙◌, ap, arith}
 use Rattle.std.specs.Option.{option_and_then}
 use Rattle.std.specs.FinSet.{contains, len, from_list, len-insert, len-empty, contains-from_list}
-use Rattle.model.specs.Task.{Union, Atom, LiftedAtom, Formula, and, Effect, Task, Instance}
+use Rattle.model.specs.Task.{Union, Atom, LiftedAtom, Formula, and, Effect, by_number, Task, Instance}
 use Rattle.model.specs.Runs.{System, run, Solves}
 use Rattle.model.specs.Meaning.{State, atom_cmp, ground_atom, fits, step, changes_of, after_changes, system_of, Change}
-use Rattle.model.specs.Examples.{formulas, go, go_task, tie, tie_task, move, walk_to, a_to_a, a_to_b, b_to_c, instance, ground, doer, doing, LeadsWith, priced, WorkedExamples}
+use Rattle.model.specs.Examples.{formulas, go, go_task, tie, tie_task, move, walk_to, a_to_a, a_to_b, b_to_c, instance, ground, doer, doing, LeadsWith, priced, go_along, by_length, a_to_c, b_to_b, WorkedExamples}
 use Rattle.model.proofs.Atoms.{atoms_total}
 use Rattle.model.proofs.Steps.{holds_where, state_after, true_after, contains-state_after, holds-after, is_in, leads, leads_nowhere}
 
@@ -116,7 +116,7 @@ twice_of has_metric = changes_of (priced has_metric) go.effect [] ∷ once_of ha
 
 -- either action of the task with costs leads on
 goes : (has_metric : Bool) (s : State) → step (priced has_metric) s (instance 0 []) ≡ Some (after_changes (priced has_metric) s (changes_of (priced has_metric) go.effect []))
-goes has_metric s = leads (priced has_metric) s (instance 0 []) (record go { cost = 3 }) refl refl refl
+goes has_metric s = leads (priced has_metric) s (instance 0 []) (record go { increase = by_number 3 }) refl refl refl
 
 goes_free : (has_metric : Bool) (s : State) → step (priced has_metric) s (instance 1 []) ≡ Some (after_changes (priced has_metric) s (changes_of (priced has_metric) go.effect []))
 goes_free has_metric s = leads (priced has_metric) s (instance 1 []) go refl refl refl
@@ -132,6 +132,36 @@ goes_on has_metric a b first second =
       two (system_of t) (state_after t go_task.init []) (state_after t go_task.init (once_of has_metric)) (state_after t go_task.init (twice_of has_metric)) a b first second,
       holds-after t go_task.init (twice_of has_metric) go_task.goal [],
     )
+
+-- ---- values
+
+abbrev go_to_b : Bool → List (List Change)
+go_to_b has_metric = changes_of (by_length has_metric) go_along.effect (0 ∷ 1 ∷ []) ∷ []
+
+abbrev go_to_c : Bool → List (List Change)
+go_to_c has_metric = changes_of (by_length has_metric) go_along.effect (1 ∷ 2 ∷ []) ∷ go_to_b has_metric
+
+-- the state after these changes
+abbrev along : (has_metric : Bool) → List (List Change) → State
+along has_metric changes = state_after (by_length has_metric) (by_length has_metric).init changes
+
+goes_to_b : (has_metric : Bool) → step (by_length has_metric) (along has_metric []) a_to_b ≡ Some (along has_metric (go_to_b has_metric))
+goes_to_b has_metric =
+    leads (by_length has_metric) (along has_metric []) a_to_b go_along refl refl (contains-state_after (by_length has_metric) (by_length has_metric).init [] (ground 0 (0 ∷ [])))
+
+goes_to_c : (has_metric : Bool) → step (by_length has_metric) (along has_metric (go_to_b has_metric)) b_to_c ≡ Some (along has_metric (go_to_c has_metric))
+goes_to_c has_metric =
+    leads (by_length has_metric) (along has_metric (go_to_b has_metric)) b_to_c go_along refl refl
+    (contains-state_after (by_length has_metric) (by_length has_metric).init (go_to_b has_metric) (ground 0 (1 ∷ [])))
+
+-- the one way to the goal
+solves_along : (has_metric : Bool) → Solves (system_of (by_length has_metric)) (a_to_b ∷ b_to_c ∷ [])
+solves_along has_metric = (
+  along has_metric (go_to_c has_metric),
+  two (system_of (by_length has_metric)) (along has_metric []) (along has_metric (go_to_b has_metric)) (along has_metric (go_to_c has_metric)) a_to_b b_to_c
+      (goes_to_b has_metric) (goes_to_c has_metric),
+  contains-state_after (by_length has_metric) (by_length has_metric).init (go_to_c has_metric) (ground 0 (2 ∷ [])),
+)
 
 -- ---- together
 
@@ -255,4 +285,23 @@ worked_examples = record {
   sum_of_costs = (goes_on true (instance 0 []) (instance 0 []) (goes true _) (goes true _), refl);
   sum_with_none = (goes_on true (instance 0 []) (instance 1 []) (goes true _) (goes_free true _), refl);
   count_of_steps = (goes_on false (instance 0 []) (instance 1 []) (goes false _) (goes_free false _), refl);
+  by_its_objects = refl;
+  by_their_order = refl;
+  by_a_value_of_zero = refl;
+  a_value_without_the_metric = refl;
+  leads_with_a_value = goes_to_b;
+  value_elsewhere = λ has_metric.
+      leads_nowhere (by_length has_metric) (along has_metric []) b_to_c go_along refl refl (contains-state_after (by_length has_metric) (by_length has_metric).init [] (ground 0 (1 ∷ [])));
+  instance_without_a_value = refl;
+  nowhere_without_a_value = λ has_metric state. leads_nowhere (by_length has_metric) state a_to_c go_along refl refl refl;
+  sum_of_values = (solves_along true, refl);
+  count_of_steps_with_values = (solves_along false, refl);
+  step_without_a_value = λ has_metric. record {
+    counted_from_one = omega arith;
+    before = along has_metric (go_to_b has_metric);
+    next = b_to_b;
+    runs = one (system_of (by_length has_metric)) (along has_metric []) (along has_metric (go_to_b has_metric)) a_to_b (goes_to_b has_metric);
+    stands_there = refl;
+    is_not_applicable = leads_nowhere (by_length has_metric) (along has_metric (go_to_b has_metric)) b_to_b go_along refl refl refl;
+  };
 }

@@ -11,7 +11,7 @@ use Rattle.std.proofs.lemmas.Bool.{or_cases, or_left, or_right, and_parts, and_f
 use Rattle.std.proofs.lemmas.List.{length-map}
 use Rattle.std.proofs.lemmas.List.Elements.{All-contains}
 use Rattle.model.specs.Task.{Atom, Schema, Task, Instance}
-use Rattle.model.specs.Meaning.{State, atom_cmp, initial_state, holds, fits, GroundLiteral, adds, deletes, Change, changes_of, changes_of_instance, literals_in, added_by, deleted_by, after_literals, after_changes, step, meets_goal, cost_of, system_of}
+use Rattle.model.specs.Meaning.{State, atom_cmp, initial_state, holds, fits, can_apply, GroundLiteral, adds, deletes, Change, changes_of, changes_of_instance, literals_in, added_by, deleted_by, after_literals, after_changes, step, meets_goal, cost_of, system_of}
 use Rattle.model.specs.Fluents.{touches, is_fluent, HasInitialStatics}
 use Rattle.model.specs.ClosedOff.{kept_instances, counts, counting_changes}
 use Rattle.model.specs.NumberedAtoms.{stands_in, with_atoms, atom_of_literal, touched_by, initial_fluent_atoms, numbered_atoms, are_distinct, AreNumbered, HasNumberedFluents}
@@ -36,11 +36,11 @@ pub step-changes : (task : Task) (s next : State) (i : Instance) → step task s
 step-changes task s next i leads =
     elim (slice_get task.schemas i.schema) as (λ o. option_and_then by o ≡ Some next → after_changes task s (option_map_or (λ (schema : Schema). changes_of task schema.effect i.objects) o []) ≡ next) [
       | None ↦ λ none. absurd (cc)
-      | Some schema ↦ λ some. leads_to (fits task schema i.objects) (holds task schema.precondition i.objects s) _ next some
+      | Some schema ↦ λ some. leads_to (fits task schema i.objects) (can_apply task schema i.objects s) _ next some
     ] leads
   where
     by : Schema → Option State
-    by schema = if fits task schema i.objects && holds task schema.precondition i.objects s then Some (after_changes task s (changes_of task schema.effect i.objects)) else None
+    by schema = if fits task schema i.objects && can_apply task schema i.objects s then Some (after_changes task s (changes_of task schema.effect i.objects)) else None
 
 -- those that count are enough
 pub literals_in-counting : (task : Task) (s : State) (changes : List Change) → HasInitialStatics task s → literals_in task s (filter (counts task) changes) ≡ literals_in task s changes

@@ -5,7 +5,7 @@ use Rattle.std.specs.List.{list_any, flat_map, filter_map, range_with_len}
 use Rattle.std.specs.Option.{option_map, option_map_or, option_and_then}
 use Rattle.std.specs.FinSet.{contains-from_list}
 use Rattle.model.specs.Task.{Atom, Formula, Schema, Task, Instance}
-use Rattle.model.specs.Meaning.{State, initial_state, fits, holds, Change, changes_of, changes_of_instance, after_changes, cost_of, step}
+use Rattle.model.specs.Meaning.{State, initial_state, fits, holds, has_amount, can_apply, Change, changes_of, changes_of_instance, after_changes, cost_of, step}
 use Rattle.model.specs.Fluents.{static_atoms}
 use Rattle.model.specs.Instances.{all_instances}
 use Rattle.model.specs.SureLiterals.{Literal, is_true, is_false, are_same, are_different, literal_holds, sure}
@@ -37,10 +37,10 @@ pub closed_off-is : (task : Task) (f : Formula) (binding : List ℕ) → is_clos
 closed_off-is task f binding = λ i. list_any (λ l. is_fixed task l && not (literal-holds task l i)) (sure task f binding)
 
 abbrev pub kept : Task → List Instance
-kept task = filter (λ j. option_map_or (λ schema. not (closed_off task schema.precondition j.objects)) (slice_get task.schemas j.schema) false) (all_instances task)
+kept task = filter (λ j. option_map_or (λ schema. has_amount task schema j.objects && not (closed_off task schema.precondition j.objects)) (slice_get task.schemas j.schema) false) (all_instances task)
 
 pub kept-is : (task : Task) → kept_instances task ≡ kept task
-kept-is task = λ i. filter (λ j. option_map_or (λ schema. not (closed_off-is task schema.precondition j.objects i)) (slice_get task.schemas j.schema) false) (all_instances task)
+kept-is task = λ i. filter (λ j. option_map_or (λ schema. has_amount task schema j.objects && not (closed_off-is task schema.precondition j.objects i)) (slice_get task.schemas j.schema) false) (all_instances task)
 
 -- ---- what counts, and what has a number
 
@@ -90,7 +90,7 @@ module _ (task : Task) (atoms : List Atom) where
 
     abbrev by_schema : Instance → Schema → Option (List Bool)
     by_schema j schema =
-        if fits task schema j.objects && holds_packed schema.precondition j.objects then Some (map (true_after task true_atoms (changes_of task schema.effect j.objects ∷ [])) atoms)
+        if fits task schema j.objects && (has_amount task schema j.objects && holds_packed schema.precondition j.objects) then Some (map (true_after task true_atoms (changes_of task schema.effect j.objects ∷ [])) atoms)
         else None
 
     abbrev pub leads_packed : ℕ → Option (List Bool)
@@ -106,12 +106,12 @@ module _ (task : Task) (atoms : List Atom) where
         elim (slice_get task.schemas j.schema) as (λ o. option_map (bits_of_state atoms) (option_and_then by o) ≡ option_and_then (by_schema j) o) [
           | None ↦ refl
           | Some schema ↦
-              mapped (fits task schema j.objects) (holds task schema.precondition j.objects (state_of_bits task atoms bits)) (after_changes task (state_of_bits task atoms bits) (changes_of task schema.effect j.objects))
-              ∙ (λ i. if fits task schema j.objects && holds-after task true_atoms [] schema.precondition j.objects i then Some (map (λ q. contains-state_after task true_atoms (changes_of task schema.effect j.objects ∷ []) q i) atoms) else None)
+              mapped (fits task schema j.objects) (can_apply task schema j.objects (state_of_bits task atoms bits)) (after_changes task (state_of_bits task atoms bits) (changes_of task schema.effect j.objects))
+              ∙ (λ i. if fits task schema j.objects && (has_amount task schema j.objects && holds-after task true_atoms [] schema.precondition j.objects i) then Some (map (λ q. contains-state_after task true_atoms (changes_of task schema.effect j.objects ∷ []) q i) atoms) else None)
         ]
       where
         by : Schema → Option State
-        by schema = if fits task schema j.objects && holds task schema.precondition j.objects (state_of_bits task atoms bits) then Some (after_changes task (state_of_bits task atoms bits) (changes_of task schema.effect j.objects)) else None
+        by schema = if fits task schema j.objects && can_apply task schema j.objects (state_of_bits task atoms bits) then Some (after_changes task (state_of_bits task atoms bits) (changes_of task schema.effect j.objects)) else None
 
     pub ground_step-is : (number : ℕ) → ground_step task atoms bits number ≡ leads_packed number
     ground_step-is number = λ i. option_and_then (λ j. by_instance j i) (slice_get (kept-is task i) number)

@@ -6,7 +6,7 @@ use Rattle.model.specs.Task.{Atom, LiftedAtom, variable, Formula, atom, not, Tas
 use Rattle.model.specs.Meaning.{step}
 use Rattle.model.specs.Fluents.{is_fluent}
 use Rattle.model.specs.Grounding.{state_of_bits, bits_of_state, ground_step, ground_system, GroundLimit, of_instances, of_atoms}
-use Rattle.model.specs.Examples.{ground, instance, priced, p, q, doer, trucks, seen, adds, walk_to}
+use Rattle.model.specs.Examples.{ground, instance, priced, by_length, p, q, doer, trucks, seen, adds, walk_to}
 use Rattle.model.specs.GroundingExamples.{adding_q, deleting_q, acting, Closes, Keeps, Numbers, Leads, Meets, Tells, unreached, conditional_task, at_places, at_a, AreGrounded}
 use Rattle.model.proofs.PackedStates.{contains-unnumbered}
 use Rattle.model.proofs.Steps.{leads_nowhere}
@@ -108,6 +108,13 @@ are_grounded = record {
   needs_false = refl;
   costs_three = cost-is (priced true) [] 0 ∙ refl;
   costs_nothing = cost-is (priced true) [] 1 ∙ refl;
+  only_with_a_value = λ has_metric. keeps refl;
+  its_value = cost-is (by_length true) at_places 0 ∙ refl;
+  the_next_value = cost-is (by_length true) at_places 1 ∙ refl;
+  a_value_of_zero = cost-is (by_length true) at_places 2 ∙ refl;
+  a_value_without_the_metric = cost-is (by_length false) at_places 0 ∙ refl;
+  leads_by_its_number = λ has_metric. leads refl;
+  value_and_closed_off = keeps refl;
   too_many_instances = tells refl;
   both_too_many = tells refl;
   too_many_atoms = tells refl;

@@ -8,7 +8,7 @@ use Rattle.std.proofs.lemmas.Bool.{and_parts, and_from}
 use Rattle.std.proofs.lemmas.Option.{slice_get_within}
 use Rattle.std.proofs.lemmas.List.Elements.{Contains-append_left, Contains-append_right, Contains-append_cases}
 use Rattle.model.specs.Task.{Object, Union, Schema, Task, Instance}
-use Rattle.model.specs.Meaning.{State, is_below, is_of, objects_of, step, holds, after_changes, changes_of, is_instance, fits}
+use Rattle.model.specs.Meaning.{State, is_below, is_of, objects_of, step, can_apply, after_changes, changes_of, is_instance, fits}
 use Rattle.model.specs.Instances.{product, instances_of_schema, instances_from, all_instances, leading_to, successors_of}
 use Rattle.model.proofs.ListLemmas.{Contains-here, Contains-cases, Contains-none, Contains-map, map-Contains, Contains-flat_map, flat_map-Contains, Contains-filter_map, filter_map-Contains, Contains-filter, filter-Contains, Contains-range}
 
@@ -18,7 +18,7 @@ is_instance_of task schema objects = option_map_or (λ s. fits task s objects) s
 abbrev step_of : Task → State → Option Schema → List ℕ → Option State
 step_of task state found objects =
     option_and_then (λ schema.
-    if fits task schema objects && holds task schema.precondition objects state then Some (after_changes task state (changes_of task schema.effect objects))
+    if fits task schema objects && can_apply task schema objects state then Some (after_changes task state (changes_of task schema.effect objects))
     else None)
     found
 
@@ -120,7 +120,7 @@ pub is_instance-of_step : (task : Task) (state : State) (i : Instance) (next : S
 is_instance-of_step task state i next leads =
     elim (slice_get task.schemas i.schema) as (λ o. step_of task state o i.objects ≡ Some next → is_instance_of task o i.objects ≡ true) [
       | None ↦ λ none. absurd (cc)
-      | Some schema ↦ λ some. first_test (fits task schema i.objects) (holds task schema.precondition i.objects state) _ next some
+      | Some schema ↦ λ some. first_test (fits task schema i.objects) (can_apply task schema i.objects state) _ next some
     ] leads
 
 pair_of_option_map : {X Y : Type 0} (j i : X) (o : Option Y) (y : Y) → option_map {U = X × Y} (λ (z : Y). (j, z)) o ≡ Some (i, y) → (j ≡ i) × (o ≡ Some y)

@@ -9,7 +9,7 @@ use Rattle.std.specs.FinSet.{contains, from_list, difference, contains-from_list
 use Rattle.std.proofs.lemmas.Bool.{or_parts, or_from, eq-eqb, false_from_ne_true}
 use Rattle.std.proofs.lemmas.List.Folds.{list_any-append}
 use Rattle.model.specs.Task.{Atom, LiftedAtom, Formula, EffectLiteral, add, delete, Effect, Effects, literal, both, each, when, no_effect, more_effects, Schema, Task, Instance}
-use Rattle.model.specs.Meaning.{State, atom_cmp, objects_of, ground_atom, GroundLiteral, adds, deletes, Change, ground_literal, change_under, changes_of, changes_of_all, literals_in, added_by, deleted_by, after_literals, after_changes, step, holds, fits, system_of, initial_state}
+use Rattle.model.specs.Meaning.{State, atom_cmp, objects_of, ground_atom, GroundLiteral, adds, deletes, Change, ground_literal, change_under, changes_of, changes_of_all, literals_in, added_by, deleted_by, after_literals, after_changes, step, holds, can_apply, fits, system_of, initial_state}
 use Rattle.model.specs.Runs.{run, IsReachable}
 use Rattle.model.specs.Fluents.{is_literal_of, touches, any_touches, is_fluent, static_atoms}
 use Rattle.model.specs.NumberedAtoms.{stands_in, atom_of_literal}
@@ -134,13 +134,13 @@ contains-step task s next i q static leads =
     elim (slice_get task.schemas i.schema) as (λ o. slice_get task.schemas i.schema ≡ o → option_and_then (next_by) o ≡ Some next → contains next q ≡ contains s q) [
       | None ↦ λ _ none. absurd (cc)
       | Some schema ↦ λ at some.
-          let is : after_changes task s (changes_of task schema.effect i.objects) ≡ next = given (fits task schema i.objects) (holds task schema.precondition i.objects s) _ next some in
+          let is : after_changes task s (changes_of task schema.effect i.objects) ≡ next = given (fits task schema i.objects) (can_apply task schema i.objects s) _ next some in
           ap (λ (t : State). contains t q) (sym is)
           ∙ contains-after task s q schema.effect i.objects (none_of_all (λ (x : Schema). touches q.predicate x.effect) task.schemas i.schema schema static at)
     ] refl leads
   where
     next_by : Schema → Option State
-    next_by schema = if fits task schema i.objects && holds task schema.precondition i.objects s then Some (after_changes task s (changes_of task schema.effect i.objects)) else None
+    next_by schema = if fits task schema i.objects && can_apply task schema i.objects s then Some (after_changes task s (changes_of task schema.effect i.objects)) else None
 
 contains-run : (task : Task) (q : Atom) → is_fluent task q.predicate ≡ false → (actions : List Instance) (s end : State) → run (system_of task) s actions ≡ Some end → contains end q ≡ contains s q
 contains-run task q static [] s end runs = let same : s ≡ end = cc in ap (λ (t : State). contains t q) (sym same)

@@ -7,7 +7,7 @@ use Rattle.std.specs.Ordering.{eq_by_cmp}
 use Rattle.std.specs.FinSet.{contains, from_list, difference, contains-from_list, contains-difference, contains-union}
 use Rattle.model.specs.Task.{Atom, Formula, Formulas, atom, equal, and, or, imply, exists, forall, no_formula, more_formulas, Schema, Task, Instance}
 use Rattle.model.specs.Task as task
-use Rattle.model.specs.Meaning.{State, atom_cmp, object_of, objects_of, ground_atom, GroundLiteral, Change, literals_in, added_by, deleted_by, after_changes, fits, holds, all_hold, some_holds, changes_of, step}
+use Rattle.model.specs.Meaning.{State, atom_cmp, object_of, objects_of, ground_atom, GroundLiteral, Change, literals_in, added_by, deleted_by, after_changes, fits, can_apply, holds, all_hold, some_holds, changes_of, step}
 use Rattle.model.proofs.Atoms.{atoms_total}
 
 -- ---- whether a formula holds where these atoms are true
@@ -99,15 +99,15 @@ holds-after t init changes f binding =
 -- ---- where an action leads
 
 module _ (t : Task) (s : State) (a : Instance) (schema : Schema) (is : slice_get t.schemas a.schema ≡ Some schema) (fit : fits t schema a.objects ≡ true) where
-  step_of_schema : step t s a ≡ cond (holds t schema.precondition a.objects s) (Some (after_changes t s (changes_of t schema.effect a.objects))) None
+  step_of_schema : step t s a ≡ cond (can_apply t schema a.objects s) (Some (after_changes t s (changes_of t schema.effect a.objects))) None
   step_of_schema =
-      ap (option_and_then (λ found. cond (fits t found a.objects && holds t found.precondition a.objects s) (Some (after_changes t s (changes_of t found.effect a.objects))) None)) is
-      ∙ ap (λ b. cond (b && holds t schema.precondition a.objects s) (Some (after_changes t s (changes_of t schema.effect a.objects))) None) fit
+      ap (option_and_then (λ found. cond (fits t found a.objects && can_apply t found a.objects s) (Some (after_changes t s (changes_of t found.effect a.objects))) None)) is
+      ∙ ap (λ b. cond (b && can_apply t schema a.objects s) (Some (after_changes t s (changes_of t schema.effect a.objects))) None) fit
 
-  -- where the precondition holds
-  pub leads : holds t schema.precondition a.objects s ≡ true → step t s a ≡ Some (after_changes t s (changes_of t schema.effect a.objects))
+  -- where the schema can be carried out
+  pub leads : can_apply t schema a.objects s ≡ true → step t s a ≡ Some (after_changes t s (changes_of t schema.effect a.objects))
   leads holding = step_of_schema ∙ ap (λ b. cond b (Some (after_changes t s (changes_of t schema.effect a.objects))) None) holding
 
   -- where it does not
-  pub leads_nowhere : holds t schema.precondition a.objects s ≡ false → step t s a ≡ None
+  pub leads_nowhere : can_apply t schema a.objects s ≡ false → step t s a ≡ None
   leads_nowhere failing = step_of_schema ∙ ap (λ b. cond b (Some (after_changes t s (changes_of t schema.effect a.objects))) None) failing

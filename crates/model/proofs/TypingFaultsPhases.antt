@@ -1,15 +1,21 @@
 -- The faults that are listed of a phase are those that the table has of it.
-use Rattle.std.proofs.Common.{◌≡◌, ℕ, zero, suc, ◌+◌, ◌<◌, length, inl, inr, Bool, true, false, ◌||◌, true≢false, List, [], ◌∷◌, ◌++◌, map, drop, Option, None, Some, refl, sym, subst, arith}
+use Rattle.std.proofs.Common.{◌≡◌, ◌≢◌, ℕ, zero, suc, ◌+◌, ◌<◌, length, inl, inr, Bool, true, false, not, ◌||◌, true≢false, List, [], ◌∷◌, ◌++◌, map, fold, drop, Option, None, Some, refl, sym, ap, ◌∙◌, subst, arith}
 use Rattle.std.specs.Prelude.{Contains, codes, slice_get, ◌==◌, if◌then◌else◌}
-use Rattle.std.specs.List.{flat_map}
+use Rattle.std.specs.List.{flat_map, list_any}
 use Rattle.std.specs.Option.{option_map_or}
-use Rattle.std.proofs.lemmas.Bool.{or_cases, or_left, eqb-false, ne_eqb}
-use Rattle.std.proofs.lemmas.List.{length-map}
+use Rattle.std.proofs.lemmas.Bool.{or_cases, or_left, eq-eqb, eqb-false, ne_eqb}
+use Rattle.std.proofs.Math.Bool.{or-false}
+use Rattle.std.proofs.lemmas.List.{append_assoc, length-map}
+use Rattle.std.proofs.lemmas.List.Concat.{flat_map-append}
+use Rattle.std.proofs.lemmas.List.Elements.{Contains-append_right}
+use Rattle.std.proofs.lemmas.List.Sums.{fold-append}
+use Rattle.model.specs.Task as task
+use Rattle.model.specs.Meaning.{value_in}
 use Rattle.model.specs.Trees.{domain_file, problem_file, Name, Domain, Problem}
 use Rattle.model.specs.Trees as tree
-use Rattle.model.specs.Typing.{Declared, Placed, placed, words_of, folded, is_same, declared_types, declared_objects, type_names, type_in, parents_of, DescendsFromItself, declares_cost, known_in_domain, known_in_problem, equals_in, TypingFault, refused, refused_word, repeated_after, repeated, one_after, type_faults, domain_name_faults, type_declaration_faults, comes_back, cycle_faults_from, cycle_faults, object_faults, argument_faults, declaration_faults, variable_faults, increase_words, body_faults, schema_faults, action_faults, formula_faults, effect_faults, fact_faults, init_faults, function_faults}
-use Rattle.model.specs.TypingFaults.{Phase, of_names, of_cycles, of_objects, of_predicates, of_functions, of_actions, of_init, of_goal, predicate_words, action_words, arguments_of, parameters_of, known_in, as_atom, IsRepeated, IsFaultIn, other_domain, type_again, object_declared, unknown_parent, many_types, type_cycle, type_of_object, object_again, many_objects, predicate_again, type_of_argument, many_arguments, function_again, metric_undeclared, action_again, of_parameters, in_precondition, in_effect, increase_undeclared, increase_again, in_init, cost_undeclared, cost_not_zero, cost_again, negated, in_goal}
-use Rattle.model.proofs.ListLemmas.{Contains-here, Contains-there, Contains-none, Contains-got, Contains-place, Contains-map, map-Contains, Contains-flat_map}
+use Rattle.model.specs.Typing.{Known, Declared, Placed, placed, words_of, folded, is_same, is_known, declared_types, declared_objects, type_names, type_in, parents_of, DescendsFromItself, declares_cost, known_in_domain, known_in_problem, in_function, is_named, atom_in, values_in, with_value, values_after, equals_in, TypingFault, refused, refused_word, repeated_after, repeated, one_after, type_faults, domain_name_faults, type_declaration_faults, comes_back, cycle_faults_from, cycle_faults, object_faults, argument_faults, declaration_faults, variable_faults, increase_words, increase_faults, amount_faults, body_faults, schema_faults, action_faults, formula_faults, effect_faults, fact_faults, differing, value_faults, facts_faults, init_faults, function_faults}
+use Rattle.model.specs.TypingFaults.{Phase, of_names, of_cycles, of_objects, of_predicates, of_functions, of_actions, of_init, of_goal, action_words, arguments_of, parameters_of, known_in, as_atom, HasType, IsRepeated, IsOtherValue, IsFaultIn, other_domain, type_again, object_declared, unknown_parent, many_types, type_cycle, type_of_object, object_again, many_objects, predicate_again, type_of_argument, many_arguments, function_again, type_of_function_argument, many_function_arguments, metric_undeclared, action_again, of_parameters, in_precondition, in_effect, increase_undeclared, increase_again, in_increase, in_init, cost_undeclared, cost_not_zero, cost_again, in_value, other_value, negated, in_goal}
+use Rattle.model.proofs.ListLemmas.{Contains-here, Contains-there, Contains-cases, Contains-none, Contains-got, Contains-place, Contains-map, map-Contains, Contains-flat_map}
 use Rattle.model.proofs.TypeDescent.{comes_back_from, descends_from_itself}
 use Rattle.model.proofs.TypingFaultsLemmas.{fault_at, Tells, AllTell, none_tells, both_tell, one_tells, flat_map_tell, refused_tell, unless_tells, when_tells, types_tell, on_left, on_right, unless_listed, when_listed, refused_listed, type_listed, Contains-one_after, one_after-Contains}
 use Rattle.model.proofs.TypingFaultsRepeats.{repeated_after-Contains, repeated-Contains, repeated_listed, known_listed}
@@ -103,6 +109,57 @@ cycle_listed parents number (x ∷ xs) are (suc place) w at back =
     on_right (if comes_back parents number then refused_word x.file 15 x.name else []) _
     (cycle_listed parents (number + 1) xs (after_first parents number x xs are) place w at (subst (DescendsFromItself parents) next back))
 
+-- ---- values of functions
+
+-- the values of some facts, and then of others
+values_after-append : (known : Known) (given : List task.FunctionValue) (first rest : List tree.Fact)
+    → values_after known given (first ++ rest) ≡ values_after known (values_after known given first) rest
+values_after-append known given first rest =
+    ap (fold with_value given) (flat_map-append (values_in known) first rest) ∙ fold-append with_value given (flat_map (values_in known) first) (flat_map (values_in known) rest)
+
+-- a value that differs from the one that is given
+record IsDiffering (given : List task.FunctionValue) (v : task.FunctionValue) : Type 0 where
+  value : ℕ
+  is_value : value_in given v.function ≡ Some value
+  differs : v.value ≢ value
+
+differing_is : (given : List task.FunctionValue) (v : task.FunctionValue) → differing given v ≡ true → IsDiffering given v
+differing_is given v other = by_value (value_in given v.function) refl other
+  where
+    by_value : (o : Option ℕ) → value_in given v.function ≡ o → option_map_or (λ value. not (value == v.value)) o false ≡ true → IsDiffering given v
+    by_value None is none = absurd (true≢false (sym none))
+    by_value (Some value) is other = record {
+      value = value;
+      is_value = is;
+      differs = λ same. absurd (true≢false (sym other ∙ ap not (eq-eqb value v.value (sym same))));
+    }
+
+-- the value that a fact gives
+abbrev value_of : Known → tree.InitialValue → task.FunctionValue
+value_of known v = record { function = atom_in (in_function known) v.function; value = v.value }
+
+-- a fact gives another value than those before it, where its value differs
+other_value_given : (known : Known) (facts before : List tree.Fact) (v : tree.InitialValue) (after : List tree.Fact) → facts ≡ before ++ tree.initial_value v ∷ after
+    → list_any (differing (values_after known [] before)) (values_in known (tree.initial_value v)) ≡ true → IsOtherValue known facts v
+other_value_given known facts before v after is other = by_named (is_named (in_function known) v.function) refl other
+  where
+    by_named : (named : Bool) → is_named (in_function known) v.function ≡ named
+        → list_any (differing (values_after known [] before)) (if named then value_of known v ∷ [] else []) ≡ true
+        → IsOtherValue known facts v
+    by_named false not_named none = absurd (true≢false (sym none))
+    by_named true named other =
+        let d = differing_is (values_after known [] before) (value_of known v) (sym (or-false (differing (values_after known [] before) (value_of known v))) ∙ other) in
+        record {
+          before = before;
+          after = after;
+          stands = is;
+          given = value_of known v;
+          gives = ap (λ b. if b then value_of known v ∷ [] else []) named;
+          value = d.value;
+          is_value = d.is_value;
+          differs = d.differs;
+        }
+
 -- ---- each fault of a phase's list is of the table
 
 -- a word that is refused as declared before, or for being `object`
@@ -134,20 +191,30 @@ objects_tell d p =
     (refused_tell _ _ (λ w at. object_again w (repeated-Contains (words_of (declared_objects d p)) w at))))
     (refused_tell _ _ (λ w at. many_objects w (one_after-Contains 65535 (words_of (declared_objects d p)) w at)))
 
+-- the words that these declare
+abbrev declaration_words : List tree.Predicate → List Placed
+declaration_words qs = map (λ (q : tree.Predicate). placed domain_file q.name) qs
+
+-- declarations of predicates, or of functions
+declarations_tell : {table : ℕ → Placed → Type 0} (types : List task.Name) (qs : List tree.Predicate)
+    → ((w : Placed) → IsRepeated (declaration_words qs) w → table 16 w)
+    → ((q : tree.Predicate) (w : Placed) → Contains qs q → HasType (arguments_of q) w → is_known types w.word ≡ false → table 14 w)
+    → ((q : tree.Predicate) (w : Placed) → Contains qs q → slice_get (words_of (arguments_of q)) 8 ≡ Some w → table 25 w)
+    → AllTell table (declaration_faults types qs)
+declarations_tell types qs again unknown many =
+    both_tell (refused_tell _ _ (λ w at. again w (repeated-Contains (declaration_words qs) w at)))
+    (flat_map_tell _ _ (λ q among. both_tell (types_tell types (arguments_of q) (λ w has is. unknown q w among has is))
+    (refused_tell _ _ (λ w at. many q w among (one_after-Contains 8 (words_of (arguments_of q)) w at)))))
+
 -- 4: predicates
 predicates_tell : (d : Domain) (p : Problem) → AllTell (IsFaultIn d p of_predicates) (phase_faults d p of_predicates)
-predicates_tell d p =
-    both_tell (refused_tell _ _ (λ w at. predicate_again w (repeated-Contains (predicate_words d) w at)))
-    (flat_map_tell _ _ (λ q among. both_tell (types_tell (type_names d) (arguments_of q) (λ w has unknown. type_of_argument q w among has unknown))
-    (refused_tell _ _ (λ w at. many_arguments q w among (one_after-Contains 8 (words_of (arguments_of q)) w at)))))
+predicates_tell d p = declarations_tell (type_names d) d.predicates predicate_again type_of_argument many_arguments
 
 -- 5: functions, and the metric
 functions_tell : (d : Domain) (p : Problem) → AllTell (IsFaultIn d p of_functions) (phase_faults d p of_functions)
-functions_tell d p = both_tell (refused_tell _ _ again) (by_metric p.metric refl)
+functions_tell d p =
+    both_tell (declarations_tell (type_names d) d.functions function_again type_of_function_argument many_function_arguments) (by_metric p.metric refl)
   where
-    again : (w : Placed) → Contains (drop 1 (map (placed domain_file) d.functions)) w → IsFaultIn d p of_functions 16 w
-    again w at = let there = later_of_map (placed domain_file) d.functions w at in subst (IsFaultIn d p of_functions 16) there.3 (function_again there.0 there.1 there.2)
-
     by_metric : (metric : Option Name) → p.metric ≡ metric → AllTell (IsFaultIn d p of_functions) (option_map_or (λ n. if declares_cost d then [] else refused_word problem_file 22 n) metric [])
     by_metric None is = none_tells
     by_metric (Some n) is = unless_tells (declares_cost d) 22 (placed problem_file n) (λ none. metric_undeclared n is none)
@@ -165,13 +232,20 @@ increase_tells d p a among w at = by_declared (declares_cost d) refl at
         let there = map-Contains (λ (i : tree.Increase). placed domain_file i.word) a.increases w at in
         subst (IsFaultIn d p of_actions 23) there.2 (increase_undeclared a there.0 among there.1 is)
 
+-- the faults of what an increase of it is by
+amount_tells : (d : Domain) (p : Problem) (a : tree.Action) (i : tree.Increase) → Contains d.actions a → Contains a.increases i → (amount : tree.Amount) → i.amount ≡ amount
+    → AllTell (IsFaultIn d p of_actions) (amount_faults domain_file (known_in d a) amount)
+amount_tells d p a i among at (tree.by_number n) is = none_tells
+amount_tells d p a i among at (tree.by_function f) is = atom_tells domain_file (in_function (known_in d a)) f (λ code w fault. in_increase a i f code w among at is fault)
+
 -- the faults of one action
 schema_tells : (d : Domain) (p : Problem) (a : tree.Action) → Contains d.actions a → AllTell (IsFaultIn d p of_actions) (schema_faults (known_in_domain d) a)
 schema_tells d p a among =
     both_tell (variables_tell (known_in_domain d) (parameters_of a) (λ code w fault. of_parameters a code w among fault))
-    (both_tell (both_tell (formula_tells domain_file (known_in d a) a.precondition (λ code w fault. in_precondition a code w among fault))
+    (both_tell (both_tell (both_tell (formula_tells domain_file (known_in d a) a.precondition (λ code w fault. in_precondition a code w among fault))
     (effect_tells domain_file (known_in d a) a.effect (λ code w fault. in_effect a code w among fault)))
     (refused_tell _ _ (increase_tells d p a among)))
+    (flat_map_tell _ _ (λ i at. amount_tells d p a i among at i.amount refl)))
 
 -- 6: actions
 actions_tell : (d : Domain) (p : Problem) → AllTell (IsFaultIn d p of_actions) (phase_faults d p of_actions)
@@ -188,10 +262,34 @@ fact_tells d p (tree.negated word a) among = one_tells 24 (placed problem_file w
 fact_tells d p (tree.initial_cost c) among =
     both_tell (unless_tells (declares_cost d) 23 (placed problem_file c.function) (λ none. cost_undeclared c among none))
     (unless_tells (c.amount == 0) 23 (placed problem_file c.number) (λ other. cost_not_zero c among (eqb-false c.amount 0 other)))
+fact_tells d p (tree.initial_value v) among =
+    subst (AllTell (IsFaultIn d p of_init)) (sym (ground_atom_as_atom problem_file (in_function (known_in_problem d p)) v.function))
+    (atom_tells problem_file (in_function (known_in_problem d p)) (as_atom v.function) (λ code w fault. in_value v code w among fault))
+
+-- the value that is given there is another one than was given before
+value_tells : (d : Domain) (p : Problem) (before : List tree.Fact) (f : tree.Fact) (rest : List tree.Fact) → p.init ≡ before ++ f ∷ rest
+    → AllTell (IsFaultIn d p of_init) (value_faults problem_file (known_in_problem d p) (values_after (known_in_problem d p) [] before) f)
+value_tells d p before (tree.fact a) rest is = none_tells
+value_tells d p before (tree.negated word a) rest is = none_tells
+value_tells d p before (tree.initial_cost c) rest is = none_tells
+value_tells d p before (tree.initial_value v) rest is =
+    let known = known_in_problem d p in
+    when_tells (list_any (differing (values_after known [] before)) (values_in known (tree.initial_value v))) 16 (placed problem_file v.function.predicate)
+    (λ other. other_value v (other_value_given known p.init before v rest is other))
+
+-- the facts after some others
+facts_tell : (d : Domain) (p : Problem) (before rest : List tree.Fact) → p.init ≡ before ++ rest
+    → AllTell (IsFaultIn d p of_init) (facts_faults problem_file (known_in_problem d p) (values_after (known_in_problem d p) [] before) rest)
+facts_tell d p before [] is = none_tells
+facts_tell d p before (f ∷ rest) is =
+    both_tell (both_tell (fact_tells d p f (subst (λ facts. Contains facts f) (sym is) (Contains-append_right before (f ∷ rest) f (Contains-here f rest))))
+    (value_tells d p before f rest is))
+    (subst (λ given. AllTell (IsFaultIn d p of_init) (facts_faults problem_file (known_in_problem d p) given rest)) (values_after-append (known_in_problem d p) [] before (f ∷ []))
+    (facts_tell d p (before ++ f ∷ []) rest (is ∙ sym (append_assoc before (f ∷ []) rest))))
 
 init_tells : (d : Domain) (p : Problem) → AllTell (IsFaultIn d p of_init) (phase_faults d p of_init)
 init_tells d p =
-    both_tell (flat_map_tell _ _ (fact_tells d p))
+    both_tell (facts_tell d p [] p.init refl)
     (refused_tell _ _ (λ w at. let there = later-Contains (equals_in problem_file p.init) w at in cost_again there.0 w there.1))
 
 -- each phase; 2, the cycles of types, and 8, the goal, at once
@@ -228,9 +326,20 @@ type_word_listed : (d : Domain) (p : Problem) (w : Placed) → Contains (repeate
 type_word_listed d p w at =
     on_right (domain_name_faults d p) _ (on_left _ _ (on_left _ _ (refused_listed 16 (repeated_after (codes "object" ∷ []) (words_of_types d)) w at)))
 
--- the faults of one predicate are in the list of their phase
-in_predicate : (d : Domain) (p : Problem) (q : tree.Predicate) {f : TypingFault} → Contains d.predicates q → Contains (argument_faults (type_names d) q) f → Contains (phase_faults d p of_predicates) f
-in_predicate d p q {f} among at = on_right (refused 16 (repeated (predicate_words d))) _ (Contains-flat_map (argument_faults (type_names d)) d.predicates q f among at)
+-- the faults of one declaration are in the list of all
+in_declaration : (types : List task.Name) (qs : List tree.Predicate) (q : tree.Predicate) {f : TypingFault} → Contains qs q → Contains (argument_faults types q) f → Contains (declaration_faults types qs) f
+in_declaration types qs q {f} among at = on_right (refused 16 (repeated (declaration_words qs))) _ (Contains-flat_map (argument_faults types) qs q f among at)
+
+-- a type of its arguments that is not known
+argument_type_listed : (types : List task.Name) (qs : List tree.Predicate) (q : tree.Predicate) (w : Placed) → Contains qs q → HasType (arguments_of q) w → is_known types w.word ≡ false
+    → Contains (declaration_faults types qs) (fault_at 14 w)
+argument_type_listed types qs q w among has unknown = in_declaration types qs q among (on_left _ _ (type_listed types (arguments_of q) w has unknown))
+
+-- an argument that is one too many
+argument_listed : (types : List task.Name) (qs : List tree.Predicate) (q : tree.Predicate) (w : Placed) → Contains qs q → slice_get (words_of (arguments_of q)) 8 ≡ Some w
+    → Contains (declaration_faults types qs) (fault_at 25 w)
+argument_listed types qs q w among at =
+    in_declaration types qs q among (on_right (type_faults types (arguments_of q)) _ (one_too_many_listed 8 (words_of (arguments_of q)) w at))
 
 -- the faults of one action are in the list of their phase
 in_action : (d : Domain) (p : Problem) (a : tree.Action) {f : TypingFault} → Contains d.actions a → Contains (schema_faults (known_in_domain d) a) f → Contains (phase_faults d p of_actions) f
@@ -250,8 +359,16 @@ increases_refused d a = drop (if declares_cost d then 1 else 0) (increase_words 
 
 in_increases : (d : Domain) (p : Problem) (a : tree.Action) (w : Placed) → Contains d.actions a → Contains (increases_refused d a) w → Contains (phase_faults d p of_actions) (fault_at 23 w)
 in_increases d p a w among at =
-    in_body d p a among (on_right (formula_faults domain_file (known_in d a) a.precondition ++ effect_faults domain_file (known_in d a) a.effect) _
-    (refused_listed 23 (increases_refused d a) w at))
+    in_body d p a among (on_left _ _ (on_right (formula_faults domain_file (known_in d a) a.precondition ++ effect_faults domain_file (known_in d a) a.effect) _
+    (refused_listed 23 (increases_refused d a) w at)))
+
+-- the faults of what an increase is by
+in_amount : (d : Domain) (p : Problem) (a : tree.Action) (i : tree.Increase) {f : TypingFault} → Contains d.actions a → Contains a.increases i
+    → Contains (amount_faults domain_file (known_in d a) i.amount) f → Contains (phase_faults d p of_actions) f
+in_amount d p a i {f} among there at =
+    in_body d p a among
+    (on_right (formula_faults domain_file (known_in d a) a.precondition ++ effect_faults domain_file (known_in d a) a.effect ++ increase_faults domain_file (known_in d a) a) _
+    (Contains-flat_map (λ (j : tree.Increase). amount_faults domain_file (known_in d a) j.amount) a.increases i f there at))
 
 -- what is past the first is refused, whether or not the total cost is declared
 later_refused : (d : Domain) (a : tree.Action) (w : Placed) → Contains (drop 1 (increase_words domain_file a)) w → Contains (increases_refused d a) w
@@ -265,9 +382,42 @@ later_refused d a w at = by_declared (declares_cost d)
     by_declared true = at
     by_declared false = past_first (increase_words domain_file a) at
 
--- the faults of a fact are in the list of their phase
+-- the faults of a fact are among those of all facts
+fact_listed : (known : Known) (given : List task.FunctionValue) (facts : List tree.Fact) (stands : tree.Fact) {f : TypingFault} → Contains facts stands
+    → Contains (fact_faults problem_file known stands) f → Contains (facts_faults problem_file known given facts) f
+fact_listed known given [] stands {f} among at = absurd (Contains-none stands among)
+fact_listed known given (first ∷ rest) stands {f} among at =
+    elim (Contains-cases first rest stands among) [
+      | inl here ↦ on_left _ _ (on_left _ _ (subst (λ fact. Contains (fact_faults problem_file known fact) f) (sym here) at))
+      | inr later ↦ on_right (fact_faults problem_file known first ++ value_faults problem_file known given first) _
+          (fact_listed known (values_after known given (first ∷ [])) rest stands later at)
+    ]
+
 in_facts : (d : Domain) (p : Problem) (stands : tree.Fact) {f : TypingFault} → Contains p.init stands → Contains (fact_faults problem_file (known_in_problem d p) stands) f → Contains (phase_faults d p of_init) f
-in_facts d p stands {f} among at = on_left _ _ (Contains-flat_map (fact_faults problem_file (known_in_problem d p)) p.init stands f among at)
+in_facts d p stands {f} among at = on_left _ _ (fact_listed (known_in_problem d p) [] p.init stands among at)
+
+-- another value of a function is among them, where it stands after facts that give it one
+value_listed : (known : Known) (given : List task.FunctionValue) (before : List tree.Fact) (fact : tree.Fact) (after : List tree.Fact) {f : TypingFault}
+    → Contains (value_faults problem_file known (values_after known given before) fact) f → Contains (facts_faults problem_file known given (before ++ fact ∷ after)) f
+value_listed known given [] fact after {f} at = on_left _ _ (on_right (fact_faults problem_file known fact) _ at)
+value_listed known given (first ∷ before) fact after {f} at =
+    on_right (fact_faults problem_file known first ++ value_faults problem_file known given first) _
+    (value_listed known (values_after known given (first ∷ [])) before fact after
+    (subst (λ values. Contains (value_faults problem_file known values fact) f) (values_after-append known given (first ∷ []) before) at))
+
+-- a value that is not the one that was given
+other_listed : (known : Known) (facts : List tree.Fact) (v : tree.InitialValue) → IsOtherValue known facts v
+    → Contains (facts_faults problem_file known [] facts) (fault_at 16 (placed problem_file v.function.predicate))
+other_listed known facts v other =
+    let given = values_after known [] other.before in
+    let f = fault_at 16 (placed problem_file v.function.predicate) in
+    let differs : differing given other.given ≡ true =
+    ap (λ o. option_map_or (λ value. not (value == other.given.value)) o false) other.is_value
+    ∙ ap not (ne_eqb other.value other.given.value (λ same. other.differs (sym same))) in
+    subst (λ all. Contains (facts_faults problem_file known [] all) f) (sym other.stands)
+    (value_listed known [] other.before (tree.initial_value v) other.after
+    (subst (λ values. Contains (if list_any (differing given) values then f ∷ [] else []) f) (sym other.gives)
+    (when_listed (differing given other.given || false) f (or_left (differing given other.given) false differs))))
 
 -- each entry of the table
 pub phase_listed : (d : Domain) (p : Problem) (phase : Phase) (code : ℕ) (w : Placed) → IsFaultIn d p phase code w → Contains (phase_faults d p phase) (fault_at code w)
@@ -286,22 +436,22 @@ phase_listed d p phase code w (many_objects v at) =
     on_right (type_faults (type_names d) (declared_objects d p) ++ refused 16 (repeated (words_of (declared_objects d p)))) _
     (one_too_many_listed 65535 (words_of (declared_objects d p)) v at)
 phase_listed d p phase code w (predicate_again v again) = on_left _ _ (again_listed v again)
-phase_listed d p phase code w (type_of_argument q v among has unknown) = in_predicate d p q among (on_left _ _ (type_listed (type_names d) (arguments_of q) v has unknown))
-phase_listed d p phase code w (many_arguments q v among at) =
-    in_predicate d p q among (on_right (type_faults (type_names d) (arguments_of q)) _ (one_too_many_listed 8 (words_of (arguments_of q)) v at))
-phase_listed d p phase code w (function_again place n at) =
-    on_left _ _ (refused_listed 16 (drop 1 (map (placed domain_file) d.functions)) (placed domain_file n) (map_of_later (placed domain_file) d.functions place n at))
+phase_listed d p phase code w (type_of_argument q v among has unknown) = argument_type_listed (type_names d) d.predicates q v among has unknown
+phase_listed d p phase code w (many_arguments q v among at) = argument_listed (type_names d) d.predicates q v among at
+phase_listed d p phase code w (function_again v again) = on_left _ _ (on_left _ _ (again_listed v again))
+phase_listed d p phase code w (type_of_function_argument q v among has unknown) = on_left _ _ (argument_type_listed (type_names d) d.functions q v among has unknown)
+phase_listed d p phase code w (many_function_arguments q v among at) = on_left _ _ (argument_listed (type_names d) d.functions q v among at)
 phase_listed d p phase code w (metric_undeclared n is none) =
-    on_right (refused 16 (drop 1 (map (placed domain_file) d.functions))) _
+    on_right (declaration_faults (type_names d) d.functions) _
     (subst (λ metric. Contains (option_map_or (λ m. if declares_cost d then [] else refused_word problem_file 22 m) metric []) (fault_at 22 (placed problem_file n))) (sym is)
     (unless_listed (declares_cost d) (fault_at 22 (placed problem_file n)) none))
 phase_listed d p phase code w (action_again v again) = on_left _ _ (again_listed v again)
 phase_listed d p phase code w (of_parameters a number v among fault) =
     in_action d p a among (on_left _ _ (variable_listed (known_in_domain d) (parameters_of a) number v fault))
 phase_listed d p phase code w (in_precondition a number v among fault) =
-    in_body d p a among (on_left _ _ (on_left _ _ (formula_listed domain_file (known_in d a) a.precondition number v fault)))
+    in_body d p a among (on_left _ _ (on_left _ _ (on_left _ _ (formula_listed domain_file (known_in d a) a.precondition number v fault))))
 phase_listed d p phase code w (in_effect a number v among fault) =
-    in_body d p a among (on_left _ _ (on_right (formula_faults domain_file (known_in d a) a.precondition) _ (effect_listed domain_file (known_in d a) a.effect number v fault)))
+    in_body d p a among (on_left _ _ (on_left _ _ (on_right (formula_faults domain_file (known_in d a) a.precondition) _ (effect_listed domain_file (known_in d a) a.effect number v fault))))
 phase_listed d p phase code w (increase_undeclared a i among at none) =
     in_increases d p a (placed domain_file i.word) among
     (subst (λ b. Contains (drop (if b then 1 else 0) (increase_words domain_file a)) (placed domain_file i.word)) (sym none)
@@ -309,6 +459,10 @@ phase_listed d p phase code w (increase_undeclared a i among at none) =
 phase_listed d p phase code w (increase_again a place i among at) =
     in_increases d p a (placed domain_file i.word) among
     (later_refused d a (placed domain_file i.word) (map_of_later (λ (j : tree.Increase). placed domain_file j.word) a.increases place i at))
+phase_listed d p phase code w (in_increase a i f number v among at is fault) =
+    in_amount d p a i among at
+    (subst (λ amount. Contains (amount_faults domain_file (known_in d a) amount) (fault_at number v)) (sym is)
+    (atom_listed domain_file (in_function (known_in d a)) f number v fault))
 phase_listed d p phase code w (in_init a number v among fault) =
     in_facts d p (tree.fact a) among
     (subst (λ faults. Contains faults (fault_at number v)) (sym (ground_atom_as_atom problem_file (known_in_problem d p) a))
@@ -320,8 +474,13 @@ phase_listed d p phase code w (cost_not_zero c among other) =
     (on_right (if declares_cost d then [] else refused_word problem_file 23 c.function) _
     (unless_listed (c.amount == 0) (fault_at 23 (placed problem_file c.number)) (ne_eqb c.amount 0 other)))
 phase_listed d p phase code w (cost_again place v at) =
-    on_right (flat_map (fact_faults problem_file (known_in_problem d p)) p.init) _
+    on_right (facts_faults problem_file (known_in_problem d p) [] p.init) _
     (refused_listed 23 (drop 1 (equals_in problem_file p.init)) v (Contains-later (equals_in problem_file p.init) place v at))
+phase_listed d p phase code w (in_value u number v among fault) =
+    in_facts d p (tree.initial_value u) among
+    (subst (λ faults. Contains faults (fault_at number v)) (sym (ground_atom_as_atom problem_file (in_function (known_in_problem d p)) u.function))
+    (atom_listed problem_file (in_function (known_in_problem d p)) (as_atom u.function) number v fault))
+phase_listed d p phase code w (other_value v other) = on_left _ _ (other_listed (known_in_problem d p) p.init v other)
 phase_listed d p phase code w (negated word a among) =
     in_facts d p (tree.negated word a) among (Contains-here (fault_at 24 (placed problem_file word)) [])
 phase_listed d p phase code w (in_goal number v fault) = formula_listed problem_file (known_in_problem d p) p.goal number v fault

@@ -1,9 +1,9 @@
 -- Worked examples: what the definitions say of small tasks, each chosen so that a wrong reading says otherwise.
-use Rattle.std.specs.Prelude.{◌≡◌, ℕ, Bool, true, false, List, [], ◌∷◌, ◌++◌, map, codes, replicate}
+use Rattle.std.specs.Prelude.{◌≡◌, ℕ, Bool, true, false, List, [], ◌∷◌, ◌++◌, map, codes, replicate, None, Some}
 use Rattle.std.specs.FinSet.{len}
-use Rattle.model.specs.Task.{ObjectType, Object, Union, Predicate, Atom, LiftedAtom, Term, variable, object, Formula, Formulas, atom, equal, and, not, forall, no_formula, more_formulas, EffectLiteral, add, delete, Effect, Effects, literal, both, each, when, no_effect, more_effects, by_number, Schema, Task, Instance}
+use Rattle.model.specs.Task.{ObjectType, Object, Union, Predicate, Atom, LiftedAtom, Term, variable, object, Formula, Formulas, atom, equal, and, not, forall, no_formula, more_formulas, EffectLiteral, add, delete, Effect, Effects, literal, both, each, when, no_effect, more_effects, by_number, by_function, FunctionValue, Schema, Task, Instance}
 use Rattle.model.specs.Runs.{IsVerdict, valid, not_applicable, goal_missed}
-use Rattle.model.specs.Meaning.{objects_of, ground_atom, GroundLiteral, Change, changes_of, is_instance, cost_of, initial_state, system_of}
+use Rattle.model.specs.Meaning.{State, objects_of, ground_atom, GroundLiteral, Change, changes_of, after_changes, is_instance, step, cost_of, initial_state, system_of}
 use Rattle.model.specs.Meaning as meaning
 use Rattle.model.specs.Instances.{all_instances}
 use Rattle.model.specs.WellTyped.{is_term, is_effect}
@@ -266,6 +266,47 @@ change condition binding l = record { condition = condition; binding = binding; 
 abbrev pub priced : Bool → Task
 priced has_metric = record go_task { schemas = record go { increase = by_number 3 } ∷ go ∷ []; has_metric = has_metric }
 
+-- ---- a task with a function
+
+-- from ?x to ?y, which increases the cost by the value of the function 0 for them:
+--   (:action go :parameters (?x ?y) :precondition (at ?x) :effect (and (not (at ?x)) (at ?y) (increase (total-cost) (len ?x ?y))))
+abbrev pub go_along : Schema
+go_along = record {
+  name = codes "go";
+  parameters = any 2;
+  precondition = atom (lifted 0 (variable 0 ∷ []));
+  effect = both (effects (literal (delete (lifted 0 (variable 0 ∷ []))) ∷ literal (add (lifted 0 (variable 1 ∷ []))) ∷ []));
+  increase = by_function (lifted 0 (variable 0 ∷ variable 1 ∷ []));
+}
+
+abbrev pub len_is : ℕ → ℕ → ℕ → FunctionValue
+len_is from to length = record { function = ground 0 (from ∷ to ∷ []); value = length }
+
+-- (:functions (len ?x ?y) (total-cost)); (:objects a b c); (:init (at a) (= (len a b) 4) (= (len b a) 6) (= (len b c) 0));
+-- (:goal (at c)); with the metric or without it
+abbrev pub by_length : Bool → Task
+by_length has_metric = record {
+  types = root ∷ [];
+  objects = untyped (codes "a") ∷ untyped (codes "b") ∷ untyped (codes "c") ∷ [];
+  predicates = record { name = codes "at"; arguments = any 1 } ∷ [];
+  functions = record { name = codes "len"; arguments = any 2 } ∷ fact (codes "total-cost") ∷ [];
+  schemas = go_along ∷ [];
+  init = ground 0 (0 ∷ []) ∷ [];
+  values = len_is 0 1 4 ∷ len_is 1 0 6 ∷ len_is 1 2 0 ∷ [];
+  goal = atom (lifted 0 (object 2 ∷ []));
+  has_metric = has_metric;
+}
+
+abbrev pub b_to_a : Instance
+b_to_a = instance 0 (1 ∷ 0 ∷ [])
+
+-- for which there is no value
+abbrev pub a_to_c : Instance
+a_to_c = instance 0 (0 ∷ 2 ∷ [])
+
+abbrev pub b_to_b : Instance
+b_to_b = instance 0 (1 ∷ 1 ∷ [])
+
 -- ---- what is true of them
 
 pub record WorkedExamples : Type 0 where
@@ -364,3 +405,19 @@ pub record WorkedExamples : Type 0 where
   pub sum_of_costs : IsVerdict (system_of (priced true)) (instance 0 [] ∷ instance 0 [] ∷ []) (valid 6)
   pub sum_with_none : IsVerdict (system_of (priced true)) (instance 0 [] ∷ instance 1 [] ∷ []) (valid 3)
   pub count_of_steps : IsVerdict (system_of (priced false)) (instance 0 [] ∷ instance 1 [] ∷ []) (valid 2)
+  -- An increase by a function is by its value for the instance's own objects, in their order, and 0 is a value. Without the
+  -- metric the instance costs 1 all the same.
+  pub by_its_objects : cost_of (by_length true) a_to_b ≡ 4
+  pub by_their_order : cost_of (by_length true) b_to_a ≡ 6
+  pub by_a_value_of_zero : cost_of (by_length true) b_to_c ≡ 0
+  pub a_value_without_the_metric : cost_of (by_length false) a_to_b ≡ 1
+  -- Where there is a value the precondition decides.
+  pub leads_with_a_value : (has_metric : Bool) → step (by_length has_metric) (initial_state (by_length has_metric)) a_to_b ≡ Some (after_changes (by_length has_metric) (initial_state (by_length has_metric)) (changes_of (by_length has_metric) go_along.effect (0 ∷ 1 ∷ [])))
+  pub value_elsewhere : (has_metric : Bool) → step (by_length has_metric) (initial_state (by_length has_metric)) b_to_c ≡ None
+  -- Where there is none an instance of the task leads nowhere in any state, with the metric and without it.
+  pub instance_without_a_value : is_instance (by_length true) a_to_c ≡ true
+  pub nowhere_without_a_value : (has_metric : Bool) (state : State) → step (by_length has_metric) state a_to_c ≡ None
+  -- The values along a list are summed, and a step that has none is not applicable.
+  pub sum_of_values : IsVerdict (system_of (by_length true)) (a_to_b ∷ b_to_c ∷ []) (valid 4)
+  pub count_of_steps_with_values : IsVerdict (system_of (by_length false)) (a_to_b ∷ b_to_c ∷ []) (valid 2)
+  pub step_without_a_value : (has_metric : Bool) → IsVerdict (system_of (by_length has_metric)) (a_to_b ∷ b_to_b ∷ b_to_c ∷ []) (not_applicable 2)

@@ -1,6 +1,6 @@
 -- Worked examples of words and refusals: what the definitions say of small files, each chosen so that a wrong reading
 -- says otherwise.
-use Rattle.std.specs.Prelude.{ℕ, List, [], ◌∷◌, ◌++◌, codes, Some}
+use Rattle.std.specs.Prelude.{ℕ, List, [], ◌∷◌, ◌++◌, codes, Some, None}
 use Rattle.model.specs.Fault.{Fault}
 use Rattle.model.specs.GrammarWords.{tokens_of}
 use Rattle.model.specs.Grammar.{IsDomain, IsProblem}
@@ -262,6 +262,19 @@ large_increase =
     effect_head
     (word opens (codes "(") 95 ∷ word name (codes "increase") 96 ∷ word opens (codes "(") 104 ∷ word name (codes "total-cost") 105 ∷ word closes (codes ")") 115 ∷ word number (codes "2147483648") 116 ∷ [])
 
+-- .. (increase(total-cost)(total-cost
+abbrev pub increase_by_the_total_cost : List Word
+increase_by_the_total_cost =
+    effect_head
+    (word opens (codes "(") 95 ∷ word name (codes "increase") 96 ∷ word opens (codes "(") 104 ∷ word name (codes "total-cost") 105 ∷ word closes (codes ")") 115 ∷ word opens (codes "(") 116
+    ∷ word name (codes "total-cost") 117 ∷ [])
+
+-- .. (increase(total-cost)f
+abbrev pub increase_by_a_bare_name : List Word
+increase_by_a_bare_name =
+    effect_head
+    (word opens (codes "(") 95 ∷ word name (codes "increase") 96 ∷ word opens (codes "(") 104 ∷ word name (codes "total-cost") 105 ∷ word closes (codes ")") 115 ∷ word name (codes "f") 116 ∷ [])
+
 -- .. (p 2147483648
 abbrev pub large_term : List Word
 large_term =
@@ -287,7 +300,7 @@ domain_of_effect effect increases = record {
   types = [];
   constants = [];
   predicates = [];
-  functions = named (codes "total-cost") 43 53 ∷ [];
+  functions = record { name = named (codes "total-cost") 43 53; parameters = [] } ∷ [];
   actions = record { name = named (codes "a") 72 73; parameters = []; precondition = tree.and (formulas []); effect = effect; increases = increases } ∷ [];
 }
 
@@ -319,7 +332,7 @@ abbrev pub effects_among_increases : Effect
 effects_among_increases = tree.both (effects (tree.both (effects []) ∷ tree.literal (tree.add (record { predicate = named (codes "q") 130 131; terms = [] })) ∷ []))
 
 abbrev pub both_increases : List Increase
-both_increases = record { word = named (codes "INCREASE") 100 108; amount = 7 } ∷ record { word = named (codes "increase") 133 141; amount = 0 } ∷ []
+both_increases = record { word = named (codes "INCREASE") 100 108; amount = tree.by_number 7 } ∷ record { word = named (codes "increase") 133 141; amount = tree.by_number 0 } ∷ []
 
 -- .. (forall(?x - t)(and(not(p ?x))(when(p)(q))(when(q)(and(p)(not(q))))))
 abbrev pub each_when : List Word
@@ -344,11 +357,17 @@ each_when_effect =
     ∷ tree.when (tree.atom (record { predicate = named (codes "q") 143 144; terms = [] })) (tree.add (record { predicate = named (codes "p") 150 151; terms = [] }) ∷ tree.delete (record { predicate = named (codes "q") 157 158; terms = [] }) ∷ []) ∷ []
     )))
 
--- (define (DOMAIN d)(:functions(fuel
-abbrev pub functions_of_another : List Word
-functions_of_another =
+-- (define (DOMAIN d)(:functions(and
+abbrev pub functions_of_a_reserved_word : List Word
+functions_of_a_reserved_word =
     domain_head
-    (word opens (codes "(") 18 ∷ word keyword (codes ":functions") 19 ∷ word opens (codes "(") 29 ∷ word name (codes "fuel") 30 ∷ [])
+    (word opens (codes "(") 18 ∷ word keyword (codes ":functions") 19 ∷ word opens (codes "(") 29 ∷ word name (codes "and") 30 ∷ [])
+
+-- (define (DOMAIN d)(:functions(total-cost ?x
+abbrev pub total_cost_of_a_variable : List Word
+total_cost_of_a_variable =
+    domain_head
+    (word opens (codes "(") 18 ∷ word keyword (codes ":functions") 19 ∷ word opens (codes "(") 29 ∷ word name (codes "total-cost") 30 ∷ word variable (codes "?x") 41 ∷ [])
 
 -- (define (DOMAIN d)(:functions(total-cost)- fuel
 abbrev pub functions_of_a_type : List Word
@@ -364,6 +383,41 @@ two_functions =
     (word opens (codes "(") 18 ∷ word keyword (codes ":functions") 19 ∷ word opens (codes "(") 29 ∷ word name (codes "total-cost") 30 ∷ word closes (codes ")") 40 ∷ word opens (codes "(") 41
     ∷ word name (codes "total-cost") 42 ∷ word closes (codes ")") 52 ∷ word dash (codes "-") 53 ∷ word name (codes "number") 55 ∷ word closes (codes ")") 61 ∷ word opens (codes "(") 62
     ∷ word keyword (codes ":predicates") 63 ∷ word closes (codes ")") 74 ∷ word closes (codes ")") 75 ∷ [])
+
+-- (define (DOMAIN d)(:functions(F ?x - t ?y)- number(total-cost))(:predicates)(:action a :parameters(?x):effect(increase(total-cost)(f ?x k))))
+abbrev pub functions_and_an_increase : List Word
+functions_and_an_increase =
+    domain_head
+    (word opens (codes "(") 18 ∷ word keyword (codes ":functions") 19 ∷ word opens (codes "(") 29 ∷ word name (codes "F") 30 ∷ word variable (codes "?x") 32 ∷ word dash (codes "-") 35
+    ∷ word name (codes "t") 37 ∷ word variable (codes "?y") 39 ∷ word closes (codes ")") 41 ∷ word dash (codes "-") 42 ∷ word name (codes "number") 44 ∷ word opens (codes "(") 50
+    ∷ word name (codes "total-cost") 51 ∷ word closes (codes ")") 61 ∷ word closes (codes ")") 62 ∷ word opens (codes "(") 63 ∷ word keyword (codes ":predicates") 64 ∷ word closes (codes ")") 75
+    ∷ word opens (codes "(") 76 ∷ word keyword (codes ":action") 77 ∷ word name (codes "a") 85 ∷ word keyword (codes ":parameters") 87 ∷ word opens (codes "(") 98 ∷ word variable (codes "?x") 99
+    ∷ word closes (codes ")") 101 ∷ word keyword (codes ":effect") 102 ∷ word opens (codes "(") 109 ∷ word name (codes "increase") 110 ∷ word opens (codes "(") 118
+    ∷ word name (codes "total-cost") 119 ∷ word closes (codes ")") 129 ∷ word opens (codes "(") 130 ∷ word name (codes "f") 131 ∷ word variable (codes "?x") 133 ∷ word name (codes "k") 136
+    ∷ word closes (codes ")") 137 ∷ word closes (codes ")") 138 ∷ word closes (codes ")") 139 ∷ word closes (codes ")") 140 ∷ [])
+
+-- its tree: names keep their letters, and variables after the last type are of none
+abbrev pub domain_of_functions : Domain
+domain_of_functions = record {
+  name = named (codes "d") 16 17;
+  types = [];
+  constants = [];
+  predicates = [];
+  functions =
+      record {
+        name = named (codes "F") 30 31;
+        parameters = record { names = named (codes "?x") 32 34 ∷ []; types = named (codes "t") 37 38 ∷ [] } ∷ record { names = named (codes "?y") 39 41 ∷ []; types = [] } ∷ [];
+      }
+      ∷ record { name = named (codes "total-cost") 51 61; parameters = [] } ∷ [];
+  actions =
+      record {
+        name = named (codes "a") 85 86;
+        parameters = record { names = named (codes "?x") 99 101 ∷ []; types = [] } ∷ [];
+        precondition = tree.and (formulas []);
+        effect = tree.both (effects []);
+        increases = record { word = named (codes "increase") 110 118; amount = tree.by_function (record { predicate = named (codes "f") 131 132; terms = tree.variable (named (codes "?x") 133 135) ∷ tree.object (named (codes "k") 136 137) ∷ [] }) } ∷ [];
+      } ∷ [];
+}
 
 -- (define (problem p)(:metric maximize
 abbrev pub maximized : List Word
@@ -390,11 +444,18 @@ metric_again =
     ∷ word opens (codes "(") 19 ∷ word keyword (codes ":metric") 20 ∷ word name (codes "minimize") 28 ∷ word opens (codes "(") 36 ∷ word name (codes "total-cost") 37 ∷ word closes (codes ")") 47
     ∷ word closes (codes ")") 48 ∷ word opens (codes "(") 49 ∷ word keyword (codes ":metric") 50 ∷ []
 
--- (define (problem p)(:init(=(fuel
-abbrev pub start_of_another : List Word
-start_of_another =
+-- (define (problem p)(:init(=(imply
+abbrev pub start_of_a_reserved_word : List Word
+start_of_a_reserved_word =
     word opens (codes "(") 0 ∷ word name (codes "define") 1 ∷ word opens (codes "(") 8 ∷ word name (codes "problem") 9 ∷ word name (codes "p") 17 ∷ word closes (codes ")") 18
-    ∷ word opens (codes "(") 19 ∷ word keyword (codes ":init") 20 ∷ word opens (codes "(") 25 ∷ word equals (codes "=") 26 ∷ word opens (codes "(") 27 ∷ word name (codes "fuel") 28 ∷ []
+    ∷ word opens (codes "(") 19 ∷ word keyword (codes ":init") 20 ∷ word opens (codes "(") 25 ∷ word equals (codes "=") 26 ∷ word opens (codes "(") 27 ∷ word name (codes "imply") 28 ∷ []
+
+-- (define (problem p)(:init(=(f a ?x
+abbrev pub value_of_a_variable : List Word
+value_of_a_variable =
+    word opens (codes "(") 0 ∷ word name (codes "define") 1 ∷ word opens (codes "(") 8 ∷ word name (codes "problem") 9 ∷ word name (codes "p") 17 ∷ word closes (codes ")") 18
+    ∷ word opens (codes "(") 19 ∷ word keyword (codes ":init") 20 ∷ word opens (codes "(") 25 ∷ word equals (codes "=") 26 ∷ word opens (codes "(") 27 ∷ word name (codes "f") 28
+    ∷ word name (codes "a") 30 ∷ word variable (codes "?x") 32 ∷ []
 
 -- (define (problem p)(:init(=(total-cost)2147483648
 abbrev pub start_too_large : List Word
@@ -402,6 +463,13 @@ start_too_large =
     word opens (codes "(") 0 ∷ word name (codes "define") 1 ∷ word opens (codes "(") 8 ∷ word name (codes "problem") 9 ∷ word name (codes "p") 17 ∷ word closes (codes ")") 18
     ∷ word opens (codes "(") 19 ∷ word keyword (codes ":init") 20 ∷ word opens (codes "(") 25 ∷ word equals (codes "=") 26 ∷ word opens (codes "(") 27 ∷ word name (codes "total-cost") 28
     ∷ word closes (codes ")") 38 ∷ word number (codes "2147483648") 39 ∷ []
+
+-- (define (problem p)(:init(=(f a b)2147483648
+abbrev pub value_too_large : List Word
+value_too_large =
+    word opens (codes "(") 0 ∷ word name (codes "define") 1 ∷ word opens (codes "(") 8 ∷ word name (codes "problem") 9 ∷ word name (codes "p") 17 ∷ word closes (codes ")") 18
+    ∷ word opens (codes "(") 19 ∷ word keyword (codes ":init") 20 ∷ word opens (codes "(") 25 ∷ word equals (codes "=") 26 ∷ word opens (codes "(") 27 ∷ word name (codes "f") 28
+    ∷ word name (codes "a") 30 ∷ word name (codes "b") 32 ∷ word closes (codes ")") 33 ∷ word number (codes "2147483648") 34 ∷ []
 
 -- (define (problem p)(:domain d)(:init(=(total-cost)0))(:goal(and))(:metric minimize(total-cost)))
 abbrev pub costs_in_a_problem : List Word
@@ -421,6 +489,31 @@ problem_of_costs = record {
   init = tree.initial_cost (record { equals = named (codes "=") 37 38; function = named (codes "total-cost") 39 49; amount = 0; number = named (codes "0") 50 51 }) ∷ [];
   goal = tree.and (formulas []);
   metric = Some (named (codes "total-cost") 83 93);
+}
+
+-- (define (problem p)(:domain d)(:init(=(f a b)7)(=(total-cost)0)(=(g)2147483647))(:goal(and)))
+abbrev pub values_in_a_problem : List Word
+values_in_a_problem =
+    word opens (codes "(") 0 ∷ word name (codes "define") 1 ∷ word opens (codes "(") 8 ∷ word name (codes "problem") 9 ∷ word name (codes "p") 17 ∷ word closes (codes ")") 18
+    ∷ word opens (codes "(") 19 ∷ word keyword (codes ":domain") 20 ∷ word name (codes "d") 28 ∷ word closes (codes ")") 29 ∷ word opens (codes "(") 30 ∷ word keyword (codes ":init") 31
+    ∷ word opens (codes "(") 36 ∷ word equals (codes "=") 37 ∷ word opens (codes "(") 38 ∷ word name (codes "f") 39 ∷ word name (codes "a") 41 ∷ word name (codes "b") 43
+    ∷ word closes (codes ")") 44 ∷ word number (codes "7") 45 ∷ word closes (codes ")") 46 ∷ word opens (codes "(") 47 ∷ word equals (codes "=") 48 ∷ word opens (codes "(") 49
+    ∷ word name (codes "total-cost") 50 ∷ word closes (codes ")") 60 ∷ word number (codes "0") 61 ∷ word closes (codes ")") 62 ∷ word opens (codes "(") 63 ∷ word equals (codes "=") 64
+    ∷ word opens (codes "(") 65 ∷ word name (codes "g") 66 ∷ word closes (codes ")") 67 ∷ word number (codes "2147483647") 68 ∷ word closes (codes ")") 78 ∷ word closes (codes ")") 79
+    ∷ word opens (codes "(") 80 ∷ word keyword (codes ":goal") 81 ∷ word opens (codes "(") 86 ∷ word name (codes "and") 87 ∷ word closes (codes ")") 90 ∷ word closes (codes ")") 91
+    ∷ word closes (codes ")") 92 ∷ []
+
+abbrev pub problem_of_values : Problem
+problem_of_values = record {
+  name = named (codes "p") 17 18;
+  domain = named (codes "d") 28 29;
+  objects = [];
+  init =
+      tree.initial_value (record { function = record { predicate = named (codes "f") 39 40; objects = named (codes "a") 41 42 ∷ named (codes "b") 43 44 ∷ [] }; value = 7 })
+      ∷ tree.initial_cost (record { equals = named (codes "=") 48 49; function = named (codes "total-cost") 50 60; amount = 0; number = named (codes "0") 61 62 })
+      ∷ tree.initial_value (record { function = record { predicate = named (codes "g") 66 67; objects = [] }; value = 2147483647 }) ∷ [];
+  goal = tree.and (formulas []);
+  metric = None;
 }
 
 -- what they are
@@ -462,20 +555,27 @@ pub record AreAsTold : Type 0 where
   pub increase_of_another : IsRefused domain_file other_function (fault 12 105 109)
   pub increase_unparenthesized : IsRefused domain_file bare_function (fault 7 105 109)
   pub increase_too_large : IsRefused domain_file large_increase (fault 13 116 126)
+  pub increase_by_total_cost : IsRefused domain_file increase_by_the_total_cost (fault 7 117 127)
+  pub increase_by_a_name : IsRefused domain_file increase_by_a_bare_name (fault 7 116 117)
   pub number_as_a_term : IsRefused domain_file large_term (fault 7 98 108)
   pub decrease_left_out : IsRefused domain_file decreased (fault 12 96 104)
   pub no_predicate : IsRefused domain_file total_cost_as_predicate (fault 7 96 106)
   pub effect_of_nothing : IsDomain (tokens_of empty_effect) (domain_of_effect (tree.both (effects [])) ([]))
-  pub increase_alone : IsDomain (tokens_of only_increase) (domain_of_effect (tree.both (effects [])) (record { word = named (codes "increase") 96 104; amount = 2147483647 } ∷ []))
+  pub increase_alone : IsDomain (tokens_of only_increase) (domain_of_effect (tree.both (effects [])) (record { word = named (codes "increase") 96 104; amount = tree.by_number 2147483647 } ∷ []))
   pub increases_among_effects : IsDomain (tokens_of two_increases) (domain_of_effect effects_among_increases both_increases)
   pub when_of_each : IsDomain (tokens_of each_when) (domain_of_effect (each_when_effect) ([]))
-  pub another_function : IsRefused domain_file functions_of_another (fault 12 30 34)
+  pub reserved_function : IsRefused domain_file functions_of_a_reserved_word (fault 7 30 33)
+  pub total_cost_of_objects : IsRefused domain_file total_cost_of_a_variable (fault 7 41 43)
   pub another_number_type : IsRefused domain_file functions_of_a_type (fault 7 43 47)
   pub maximize_left_out : IsRefused problem_file maximized (fault 12 28 36)
   pub minimize_another : IsRefused problem_file minimized_another (fault 12 37 41)
   pub minimize_no_function : IsRefused problem_file minimized_bare (fault 7 37 47)
   pub repeated_metric : IsRefused problem_file metric_again (fault 9 50 57)
-  pub another_start : IsRefused problem_file start_of_another (fault 12 28 32)
+  pub reserved_start : IsRefused problem_file start_of_a_reserved_word (fault 7 28 33)
+  pub value_of_no_object : IsRefused problem_file value_of_a_variable (fault 7 32 34)
   pub start_over_the_greatest : IsRefused problem_file start_too_large (fault 13 39 49)
-  pub functions_declared : IsDomain (tokens_of two_functions) (record { name = named (codes "d") 16 17; types = []; constants = []; predicates = []; functions = named (codes "total-cost") 30 40 ∷ named (codes "total-cost") 42 52 ∷ []; actions = [] })
+  pub value_over_the_greatest : IsRefused problem_file value_too_large (fault 13 34 44)
+  pub functions_declared : IsDomain (tokens_of two_functions) (record { name = named (codes "d") 16 17; types = []; constants = []; predicates = []; functions = record { name = named (codes "total-cost") 30 40; parameters = [] } ∷ record { name = named (codes "total-cost") 42 52; parameters = [] } ∷ []; actions = [] })
+  pub functions_with_variables : IsDomain (tokens_of functions_and_an_increase) domain_of_functions
   pub problem_with_costs : IsProblem (tokens_of costs_in_a_problem) problem_of_costs
+  pub problem_with_values : IsProblem (tokens_of values_in_a_problem) problem_of_values

@@ -2,7 +2,7 @@
 -- and what packed states mean. Each is chosen so that a wrong reading says otherwise.
 use Rattle.std.specs.Prelude.{◌≡◌, ℕ, Bool, true, false, List, [], ◌∷◌, Option, None, Some}
 use Rattle.model.specs.Task.{Union, Atom, LiftedAtom, variable, object, Formula, atom, equal, and, or, not, imply, exists, forall, add, delete, Effect, each, when, Task, Instance}
-use Rattle.model.specs.Examples.{formulas, ground, instance, walk_to, priced, trucks, vehicles, boats, seen, p, q, r, doer, doing, adds, deletes, all, the_truck, the_vehicle}
+use Rattle.model.specs.Examples.{formulas, ground, instance, walk_to, a_to_b, b_to_c, priced, go_along, by_length, b_to_a, trucks, vehicles, boats, seen, p, q, r, doer, doing, adds, deletes, all, the_truck, the_vehicle}
 use Rattle.model.specs.ClosedOff.{is_closed_off, kept_instances}
 use Rattle.model.specs.NumberedAtoms.{numbered_atoms, number_of}
 use Rattle.model.specs.NumberedLiterals.{NumberedLiteral, literals_of_instance, literals_of_goal, NumberedChange, counting_of_instance}
@@ -55,6 +55,10 @@ of_two precondition = acting (vehicles ∷ vehicles ∷ []) precondition (adds (
 -- goal.
 abbrev pub unreached : Task
 unreached = record (acting (trucks ∷ []) (atom (seen the_vehicle)) (adds (seen (variable 0))) []) { goal = atom (seen the_vehicle) }
+
+-- the same places and values, where an action needs that it goes to the place a
+abbrev pub closed_by_length : Task
+closed_by_length = record (by_length true) { schemas = record go_along { precondition = equal (variable 1) (object 0) } ∷ [] }
 
 -- changes under (and), under (and (and)), under none, and under a condition that is closed off
 abbrev pub conditional : Effect
@@ -167,6 +171,16 @@ pub record AreGrounded : Type 0 where
   -- An instance costs by its number what it costs, here with the metric.
   pub costs_three : (ground_system (priced true) []).cost 0 ≡ 3
   pub costs_nothing : (ground_system (priced true) []).cost 1 ≡ 0
+  -- An instance for whose objects its function has no value is not kept, with the metric and without it, and the others
+  -- cost by their numbers what the values are.
+  pub only_with_a_value : (has_metric : Bool) → Keeps (by_length has_metric) (a_to_b ∷ b_to_a ∷ b_to_c ∷ [])
+  pub its_value : (ground_system (by_length true) at_places).cost 0 ≡ 4
+  pub the_next_value : (ground_system (by_length true) at_places).cost 1 ≡ 6
+  pub a_value_of_zero : (ground_system (by_length true) at_places).cost 2 ≡ 0
+  pub a_value_without_the_metric : (ground_system (by_length false) at_places).cost 0 ≡ 1
+  pub leads_by_its_number : (has_metric : Bool) → Leads (by_length has_metric) at_places at_b 2 (Some at_c)
+  -- Nor is one that has a value and is closed off.
+  pub value_and_closed_off : Keeps closed_by_length (b_to_a ∷ [])
   -- A limit is told where there are more, and not where there are just as many; that of instances first.
   pub too_many_instances : Tells 3 2 (of_two (and (formulas []))) [] (Some of_instances)
   pub both_too_many : Tells 3 1 (of_two (and (formulas []))) [] (Some of_instances)

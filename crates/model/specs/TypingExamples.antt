@@ -2,7 +2,7 @@
 -- wrong reading says otherwise.
 use Rattle.std.specs.Prelude.{◌≡◌, ℕ, ◌+◌, Bool, true, false, List, [], ◌∷◌, ◌++◌, codes, map, None, Some, Contains}
 use Rattle.model.specs.Task as task
-use Rattle.model.specs.Task.{by_number, Schema, Task}
+use Rattle.model.specs.Task.{by_number, by_function, Schema, Task}
 use Rattle.model.specs.Trees as tree
 use Rattle.model.specs.Trees.{File, domain_file, problem_file, Name, Group, GroundAtom, Fact, Predicate, Increase, Action, Domain, Problem, Term, Atom, Formula, Effect, formulas, effects}
 use Rattle.model.specs.Meaning.{State, holds, changes_of_instance}
@@ -135,31 +135,62 @@ letters start (letter ∷ rest) = at start (letter ∷ []) ∷ letters (start + 
 abbrev pub with_precondition : Formula → Domain
 with_precondition formula = record fleet { actions = record park { precondition = formula } ∷ [] }
 
--- and with this effect, or with these increases where `:functions` declares this
+-- and with this effect, or with these increases where `:functions` declares these
 abbrev pub with_effect : Effect → Domain
 with_effect effect = record fleet { actions = record park { effect = effect } ∷ [] }
 
-abbrev pub with_increases : List Name → List Increase → Domain
+abbrev pub with_increases : List Predicate → List Increase → Domain
 with_increases functions increases = record fleet { functions = functions; actions = record park { increases = increases } ∷ [] }
 
--- (total-cost) at this offset, and (increase (total-cost) ..), whose word stands at this one
-abbrev pub total_cost : ℕ → Name
-total_cost start = at start (codes "total-cost")
+-- `total-cost` at this offset, its declaration, and (increase (total-cost) ..), whose word stands at this one
+abbrev pub total_cost_at : ℕ → Name
+total_cost_at start = at start (codes "total-cost")
+
+abbrev pub total_cost : ℕ → Predicate
+total_cost start = record { name = total_cost_at start; parameters = [] }
 
 abbrev pub increase : ℕ → ℕ → Increase
-increase start amount = record { word = at start (codes "increase"); amount = amount }
+increase start amount = record { word = at start (codes "increase"); amount = tree.by_number amount }
+
+-- the declaration (f ?x - v) of this name, whose words stand one after another
+abbrev pub function : ℕ → List ℕ → Predicate
+function start name = record { name = at start name; parameters = group (at (start + 1) (codes "?x") ∷ []) (at (start + 2) (codes "v") ∷ []) ∷ [] }
+
+-- `total-cost` and (length ?x - v) are declared, and no more
+abbrev pub of_length : List Predicate
+of_length = total_cost 35 ∷ function 36 (codes "length") ∷ []
+
+-- (increase (total-cost) (f ..)) of this function and these terms, whose word stands at 45 and whose function at 46
+abbrev pub increase_by : List ℕ → List Term → Increase
+increase_by name terms = record { word = at 45 (codes "increase"); amount = tree.by_function (atom (at 46 name) terms) }
+
+-- the domain in which the action increases the cost by that, and `total-cost` and (length ?x - v) are declared
+abbrev pub costs : List ℕ → List Term → Domain
+costs name terms = with_increases of_length (increase_by name terms ∷ [])
+
+-- the domain without increases
+abbrev pub lengths : Domain
+lengths = with_increases of_length []
+
+-- (= (f ..) ..) of this function, which stands at the offset, these objects, which stand after it, and this number
+abbrev pub value_of : ℕ → List ℕ → List Name → ℕ → Fact
+value_of start name objects value = tree.initial_value (record { function = record { predicate = at start name; objects = objects }; value = value })
+
+-- (= (length k) ..), where `length` stands at the offset and k at the one after it
+abbrev pub length_of_k : ℕ → ℕ → Fact
+length_of_k start value = value_of start (codes "length") (at (start + 1) (codes "k") ∷ []) value
 
 -- (= (total-cost) ..), whose words stand one after another
 abbrev pub starts_at : ℕ → ℕ → Fact
-starts_at start amount = tree.initial_cost (record { equals = at start (codes "="); function = total_cost (start + 1); amount = amount; number = at (start + 2) (codes "1") })
+starts_at start amount = tree.initial_cost (record { equals = at start (codes "="); function = total_cost_at (start + 1); amount = amount; number = at (start + 2) (codes "1") })
 
--- the same problem with these costs at the start
+-- the same problem with these costs, or values of functions, at the start
 abbrev pub with_start : List Fact → Problem
-with_start costs = record parked { init = parked.init ++ costs }
+with_start stated = record parked { init = parked.init ++ stated }
 
 -- and with the metric, whose word `total-cost` stands at 40
 abbrev pub with_metric : Problem
-with_metric = record parked { metric = Some (total_cost 40) }
+with_metric = record parked { metric = Some (total_cost_at 40) }
 
 -- (p t) as an effect, where t stands at the offset after it
 abbrev pub p_of : ℕ → Term → Effect
@@ -306,3 +337,50 @@ pub record AreTyped : Type 0 where
   pub its_cost : (task_of_trees (with_increases (total_cost 35 ∷ []) (increase 45 7 ∷ [])) with_metric).schemas ≡ record task_park { increase = by_number 7 } ∷ []
   pub has_its_metric : (task_of_trees (with_increases (total_cost 35 ∷ []) []) with_metric).has_metric ≡ true
   pub has_no_metric : (task_of_trees (with_increases (total_cost 35 ∷ []) (increase 45 7 ∷ [])) parked).has_metric ≡ false
+  -- A function is declared once, in letters of either case; it has known types, and at most 8 arguments.
+  pub function_again : HasFaults (with_increases (of_length ++ function 40 (codes "LENGTH") ∷ []) []) parked (fault domain_file 16 40) []
+  pub function_of_an_unknown_type : HasFaults (with_increases (record { name = at 35 (codes "length"); parameters = group (at 36 (codes "?x") ∷ []) (at 37 (codes "u") ∷ []) ∷ [] } ∷ []) []) parked
+      (fault domain_file 14 37) []
+  pub eight_arguments : IsWellTyped (with_increases (record { name = at 35 (codes "length"); parameters = untyped (letters 36 (codes "abcdefgh")) } ∷ []) []) parked
+  pub nine_arguments : HasFaults (with_increases (record { name = at 35 (codes "length"); parameters = untyped (letters 36 (codes "abcdefghi")) } ∷ []) []) parked (fault domain_file 25 44) []
+  -- It may have the name of a predicate, of a type, and of an action.
+  pub named_alike : IsWellTyped (with_increases (function 33 (codes "p") ∷ function 36 (codes "v") ∷ function 39 (codes "a") ∷ []) []) parked
+  -- What an increase is by is a function that is declared, of as many known terms, each of its types. No predicate is one.
+  pub by_a_length : IsWellTyped (costs (codes "Length") (variable 47 (codes "?y") ∷ [])) parked
+  pub by_an_unknown : HasFaults (costs (codes "p") (variable 47 (codes "?y") ∷ [])) parked (fault domain_file 17 46) []
+  pub by_another_count : HasFaults (costs (codes "length") []) parked (fault domain_file 18 46) []
+  pub by_another_type : HasFaults (record (costs (codes "length") (variable 47 (codes "?y") ∷ [])) {
+    types = untyped (at 10 (codes "t") ∷ at 12 (codes "v") ∷ []);
+    actions = record park {
+      effect = tree.both (effects []);
+      increases = increase_by (codes "length") (variable 47 (codes "?y") ∷ []) ∷ [];
+    } ∷ [];
+  }) (record parked { goal = nothing }) (fault domain_file 19 47) []
+  pub by_unknown_terms : HasFaults (with_increases (total_cost 35 ∷ record { name = at 36 (codes "length"); parameters = untyped (letters 37 (codes "xz")) } ∷ [])
+      (increase_by (codes "length") (variable 47 (codes "?x") ∷ tree.object (at 48 (codes "o")) ∷ []) ∷ [])) parked
+      (fault domain_file 17 47) (fault domain_file 17 48 ∷ [])
+  -- It needs `total-cost`, and each increase is looked at, as is the one that is refused.
+  pub by_a_length_alone : HasFaults (with_increases (function 36 (codes "length") ∷ []) (increase_by (codes "length") (variable 47 (codes "?y") ∷ []) ∷ [])) parked (fault domain_file 23 45) []
+  pub by_a_second : HasFaults (with_increases of_length (increase 44 1 ∷ increase_by (codes "n") [] ∷ [])) parked (fault domain_file 23 45) (fault domain_file 17 46 ∷ [])
+  -- No predicate is a function, and no function a predicate.
+  pub as_a_predicate : HasFaults lengths (with_goal (tree.atom (atom (at 30 (codes "length")) (tree.object (at 31 (codes "k")) ∷ [])))) (fault problem_file 17 30) []
+  -- A value is given to a function that is declared, of as many known objects, each of its types.
+  pub values_given : IsWellTyped lengths (with_start (length_of_k 22 5 ∷ value_of 24 (codes "LENGTH") (at 25 (codes "o") ∷ []) 7 ∷ []))
+  pub value_of_nothing : HasFaults fleet (with_start (length_of_k 22 5 ∷ [])) (fault problem_file 17 22) []
+  pub value_of_a_predicate : HasFaults lengths (with_start (value_of 22 (codes "p") (at 23 (codes "k") ∷ []) 5 ∷ [])) (fault problem_file 17 22) []
+  pub value_of_another_count : HasFaults lengths (with_start (value_of 22 (codes "length") [] 5 ∷ [])) (fault problem_file 18 22) []
+  pub value_of_another_type : HasFaults lengths (record (with_start (value_of 22 (codes "length") (at 23 (codes "o") ∷ []) 5 ∷ [])) { objects = untyped (at 10 (codes "o") ∷ []); goal = nothing })
+      (fault problem_file 19 23) []
+  pub value_of_an_unknown : HasFaults lengths (with_start (value_of 22 (codes "length") (at 23 (codes "n") ∷ []) 5 ∷ [])) (fault problem_file 17 23) []
+  -- The same number may be given again. Another may not: it is refused at the function's name, and the first counts.
+  pub given_again : IsWellTyped lengths (with_start (length_of_k 22 5 ∷ length_of_k 24 5 ∷ []))
+  pub given_another : HasFaults lengths (with_start (length_of_k 22 5 ∷ length_of_k 24 6 ∷ length_of_k 26 5 ∷ length_of_k 28 6 ∷ [])) (fault problem_file 16 24) (fault problem_file 16 28 ∷ [])
+  -- What is not known has no value: two numbers of it are no other fault.
+  pub given_to_an_unknown : HasFaults lengths (with_start (value_of 22 (codes "length") (at 23 (codes "n") ∷ []) 5 ∷ value_of 24 (codes "length") (at 25 (codes "n") ∷ []) 6 ∷ []))
+      (fault problem_file 17 23) (fault problem_file 17 25 ∷ [])
+  -- The functions are numbered as they stand, `total-cost` among them, and each value stands there once.
+  pub its_functions : (task_of_trees lengths parked).functions ≡ record { name = codes "total-cost"; arguments = [] } ∷ record { name = codes "length"; arguments = (2 ∷ []) ∷ [] } ∷ []
+  pub its_values : (task_of_trees lengths (with_start (value_of 22 (codes "length") (at 23 (codes "o") ∷ []) 7 ∷ length_of_k 24 5 ∷ value_of 26 (codes "LENGTH") (at 27 (codes "O") ∷ []) 7 ∷ []))).values
+      ≡ record { function = record { predicate = 1; objects = 1 ∷ [] }; value = 7 } ∷ record { function = record { predicate = 1; objects = 0 ∷ [] }; value = 5 } ∷ []
+  pub its_increase : (task_of_trees (costs (codes "Length") (variable 47 (codes "?Y") ∷ [])) parked).schemas
+      ≡ record task_park { increase = by_function (record { predicate = 1; terms = task.variable 0 ∷ [] }) } ∷ []

@@ -8,6 +8,6 @@ mod sections;
 pub use pddl_words::{Name, Term};
 pub use reader::{domain, examples_are_as_told, one_fault, one_reading, problem};
 pub use syntax_tree::{
-    Action, Atom, Domain, Effect, EffectLiteral, Fact, Formula, GroundAtom, Group, Increase,
-    InitialCost, Predicate, Problem, TaskFile,
+    Action, Amount, Atom, Domain, Effect, EffectLiteral, Fact, Formula, GroundAtom, Group,
+    Increase, InitialCost, InitialValue, Predicate, Problem, TaskFile,
 };

@@ -26,7 +26,7 @@ pub(crate) struct Contents<'a> {
     pub(crate) types: Vec<Group<'a>>,
     pub(crate) constants: Vec<Group<'a>>,
     pub(crate) predicates: Vec<Predicate<'a>>,
-    pub(crate) functions: Vec<Name<'a>>,
+    pub(crate) functions: Vec<Predicate<'a>>,
     pub(crate) actions: Vec<Action<'a>>,
     pub(crate) domain: Name<'a>,
     pub(crate) objects: Vec<Group<'a>>,

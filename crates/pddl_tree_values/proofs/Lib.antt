@@ -2,6 +2,6 @@ pub mod Names
 pub mod Read
 pub mod Looks
 pub mod Groups
-pub mod TotalCost
+pub mod FunctionLists
 pub mod EffectValues
 pub mod Seen

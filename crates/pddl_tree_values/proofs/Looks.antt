@@ -9,7 +9,8 @@ use Rattle.pddl_words.specs.declared.token.ReservedName.{ReservedName}
 use Rattle.pddl_tree_values.specs.Reading.{IsPut, and_first}
 use Rattle.pddl_tree_values.proofs.Read.{by_first, part_none, part_of, part_here, taken, bind_bind, bind_made, phrase_then}
 use Rattle.model.specs.GrammarWords as words
-use Rattle.model.specs.Grammar.{more, either_word, conditional, conditional_literal}
+use Rattle.model.specs.GrammarWords.{large_number}
+use Rattle.model.specs.Grammar.{amount, increase_amount, more, either_word, conditional, conditional_literal}
 
 -- `)` and `and` stand there
 pub is_closes : (o : Option Token) → closes_first o ≡ true → o ≡ Some closes
@@ -73,6 +74,12 @@ open_here s list at o = taken (listed s) list at opens o refl ∙ bind_made (par
 pub ruleset of_lists_inside = (open_here, not_open)
 
 pub ruleset of_words_inside = (part_here, not_open)
+
+-- what is told where an amount is wanted is what is told where a number is
+pub number_of_an_amount : (o : Option Token) → number_seen amount o ≡ number_seen increase_amount o
+number_of_an_amount None = refl
+number_of_an_amount (Some large_number) = refl
+number_of_an_amount (Some t) = refl
 
 -- ---- what is wanted is another thing, by its next word
 

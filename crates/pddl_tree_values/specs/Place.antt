@@ -25,5 +25,5 @@ wanted (place.Type l) = type (listed_view l)
 wanted place.UnderWhen = conditional
 wanted place.TotalCost = total_cost
 wanted place.Metric = minimize_word
-wanted place.Amount = amount
+wanted place.Number = amount
 wanted place.Elsewhere = close

@@ -1,60 +1,19 @@
-//! Action costs: `:functions`, `:metric`, and where the total cost is set or increased.
-ghost use Rattle.std.specs.Prelude.{◌≡◌, map, false};
-ghost use Rattle.model.specs.Grammar.{function_list, total_cost as wants_total_cost, listed};
+//! Costs: `:metric`, increases of the total cost, and the values in `:init`.
+ghost use Rattle.std.specs.Prelude.{◌≡◌};
+ghost use Rattle.model.specs.Grammar.{total_cost as wants_total_cost, increase_amount, atom, listed};
 ghost use Rattle.syntax_tree.specs.Name.{name_of};
-ghost use Rattle.pddl_words.specs.Token.{from, first};
-ghost use Rattle.pddl_tree_values.specs.Costs.{the_metric, the_cost, the_increase, the_initial_cost, cost_of};
-ghost use Rattle.pddl_tree_values.specs.Reading.{part, phrase, Reads, ReadsWords, ReadsOne, closes_first};
-ghost use Rattle.syntax_tree.specs.Tree.{increase_of, initial_cost_of};
+ghost use Rattle.pddl_tree_values.specs.Costs.{the_metric, the_increase, the_last_number, the_initial_fact};
+ghost use Rattle.pddl_tree_values.specs.Reading.{part, phrase, Reads, ReadsWords};
+ghost use Rattle.syntax_tree.specs.Tree.{amount_of, atom_of, increase_of, fact_of};
 
-use crate::look::{
-    Parsed, amount, close, is_close, is_dash, minimize, number_word, open, total_cost,
-};
-use crate::refusals::Place;
-use pddl_words::{Name, WordRefusal};
+use crate::lists::list;
+use crate::look::{Parsed, close, minimize, number, open, total_cost};
+use crate::refusals::{Place, refusal};
+use faults::Refused;
+use pddl_words::{Name, ReservedName, Token, WordRefusal, token_at};
 use std::alloc::Global;
-use syntax_tree::{Increase, InitialCost};
+use syntax_tree::{Amount, Atom, Fact, GroundAtom, Increase, InitialCost, InitialValue};
 use tokens::Word;
-
-/// The total cost with a number.
-#[derive(Clone, Copy)]
-struct CostWords<'a> {
-    /// The word `total-cost`.
-    function: Name<'a>,
-    /// The number, and its word.
-    amount: u32,
-    number: Name<'a>,
-}
-
-/// Functions, and `)`: their names, and the index after the parenthesis.
-#[tactic(auto, using(crate::proofs::TotalCost::of_functions))]
-pub fn functions<'a>(alloc: Global, words: &[Word<'a>], at: usize) -> Parsed<Vec<Name<'a>>>
-    ensures { Reads (part function_list) words.now at (λ names. map name_of names.items) result }
-{
-    let mut functions = Vec::new(alloc);
-    let mut next = at;
-    'functions: while !is_close(words, next) {
-        let (function, after) = function(words, next)?;
-        functions.push(function)?;
-        next = after;
-    }
-    Ok((functions, next + 1))
-}
-
-/// `( total-cost )`, and `- number` where a `-` follows: the function's name, and the index of what follows.
-#[tactic(auto, using(crate::proofs::TotalCost::of_function))]
-fn function<'a>(words: &[Word<'a>], at: usize) -> Parsed<Name<'a>>
-    requires { closes_first (first (from words.now at)) ≡ false }
-    ensures { ReadsOne (part function_list) words.now at name_of result }
-{
-    let inside = open(words, at, Place::Elsewhere)?;
-    let (function, next) = total_cost(words, inside)?;
-    if is_dash(words, next) {
-        let end = number_word(words, next + 1)?;
-        return Ok((function, end));
-    }
-    Ok((function, next))
-}
 
 /// `( total-cost )`: its name, and the index after the parenthesis.
 #[tactic(auto, using(crate::proofs::Looks::of_lists_inside))]
@@ -75,44 +34,89 @@ pub fn metric<'a>(words: &[Word<'a>], at: usize) -> Result<(Name<'a>, usize), Wo
     Ok((function, next))
 }
 
-/// `( total-cost )`, a number, and `)`: both, and the index after the last parenthesis.
-fn cost<'a>(words: &[Word<'a>], at: usize) -> Result<(CostWords<'a>, usize), WordRefusal>
-    ensures { ReadsWords (phrase the_cost) words.now at cost_of result }
-{
-    let (function, next) = listed_total_cost(words, at)?;
-    let ((amount, number), next) = amount(words, next)?;
-    let next = close(words, next)?;
-    let cost = CostWords {
-        function,
-        amount,
-        number,
-    };
-    Ok((cost, next))
-}
-
 /// What follows a word `increase`, and `)`: the increase, and the index after the parenthesis.
-pub(crate) fn increase<'a>(words: &[Word<'a>], at: usize, word: Name<'a>) -> Parsed<Increase<'a>>
+pub(crate) fn increase<'a>(
+    alloc: Global,
+    words: &[Word<'a>],
+    at: usize,
+    word: Name<'a>,
+) -> Parsed<Increase<'a>>
     ensures { Reads (phrase (the_increase (name_of word.entry))) words.now at increase_of result }
 {
-    let (cost, next) = cost(words, at)?;
-    let amount = cost.amount;
+    let (_function, next) = listed_total_cost(words, at)?;
+    let (amount, next) = amount(alloc, words, next)?;
+    let next = close(words, next)?;
     Ok((Increase { word, amount }, next))
 }
 
-/// What follows a `=` in `:init`, and `)`: the total cost at the start, and the index after the parenthesis.
-pub(crate) fn initial_cost<'a>(
+/// A number, or a function of terms in its parentheses: what an increase is by, and the index after it.
+#[tactic(auto, using(crate::proofs::Read::part_here, crate::proofs::Looks::number_of_an_amount))]
+fn amount<'a>(alloc: Global, words: &[Word<'a>], at: usize) -> Parsed<Amount<'a>>
+    ensures { Reads (part increase_amount) words.now at amount_of result }
+{
+    match token_at(words, at) {
+        Token::Number(number, _) => Ok((Amount::Number(number), at + 1)),
+        Token::Open => {
+            let (function, next) = function(alloc, words, at + 1)?;
+            Ok((Amount::Function(function), next))
+        }
+        _ => Err(Refused::At(refusal(words, at, Place::Number))),
+    }
+}
+
+/// A function of terms whose `(` was read, and the index after its `)`.
+#[tactic(auto, using(crate::proofs::Read::part_here))]
+fn function<'a>(alloc: Global, words: &[Word<'a>], at: usize) -> Parsed<Atom<'a>>
+    ensures { Reads (part atom) words.now at atom_of result }
+{
+    match token_at(words, at) {
+        Token::Free(_, predicate) => {
+            let (terms, next) = list(alloc, words, at + 1)?;
+            Ok((Atom { predicate, terms }, next))
+        }
+        _ => Err(Refused::At(refusal(words, at, Place::Elsewhere))),
+    }
+}
+
+/// What follows a `=` in `:init`, and `)`: the total cost at the start or the value of a function of objects, and the index
+/// after the parenthesis.
+#[tactic(auto, using(crate::proofs::Looks::of_words_inside))]
+pub(crate) fn initial_fact<'a>(
+    alloc: Global,
     words: &[Word<'a>],
     at: usize,
     equals: Name<'a>,
-) -> Result<(InitialCost<'a>, usize), WordRefusal>
-    ensures { ReadsWords (phrase (the_initial_cost (name_of equals.entry))) words.now at initial_cost_of result }
+) -> Parsed<Fact<'a>>
+    ensures { Reads (phrase (the_initial_fact (name_of equals.entry))) words.now at fact_of result }
 {
-    let (cost, next) = cost(words, at)?;
-    let initial = InitialCost {
-        equals,
-        function: cost.function,
-        amount: cost.amount,
-        number: cost.number,
-    };
-    Ok((initial, next))
+    let inside = open(words, at, Place::Elsewhere)?;
+    match token_at(words, inside) {
+        Token::Reserved(ReservedName::TotalCost, function) => {
+            let next = close(words, inside + 1)?;
+            let ((amount, number), next) = last_number(words, next)?;
+            let cost = InitialCost {
+                equals,
+                function,
+                amount,
+                number,
+            };
+            Ok((Fact::InitialCost(cost), next))
+        }
+        Token::Free(_, predicate) => {
+            let (objects, next) = list(alloc, words, inside + 1)?;
+            let ((value, _), next) = last_number(words, next)?;
+            let function = GroundAtom { predicate, objects };
+            Ok((Fact::InitialValue(InitialValue { function, value }), next))
+        }
+        _ => Err(Refused::At(refusal(words, inside, Place::Elsewhere))),
+    }
+}
+
+/// A number, and `)`: the number with its word, and the index after the parenthesis.
+fn last_number<'a>(words: &[Word<'a>], at: usize) -> Result<((u32, Name<'a>), usize), WordRefusal>
+    ensures { ReadsWords (phrase the_last_number) words.now at (λ v. (v.0, name_of v.1)) result }
+{
+    let (number, next) = number(words, at)?;
+    let next = close(words, next)?;
+    Ok((number, next))
 }

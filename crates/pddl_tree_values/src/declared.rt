@@ -1,11 +1,13 @@
-//! Declarations of predicates, and the facts of `:init`.
-ghost use Rattle.model.specs.Grammar.{listed, declaration, fact as wants_fact, ground_atom as wants_ground_atom};
-ghost use Rattle.pddl_tree_values.specs.Reading.{part, Reads};
+//! Declarations of predicates and functions, and the facts of `:init`.
+ghost use Rattle.std.specs.Prelude.{◌≡◌, map, false};
+ghost use Rattle.model.specs.Grammar.{listed, declaration, function_list, function_declaration, fact as wants_fact, ground_atom as wants_ground_atom};
+ghost use Rattle.pddl_words.specs.Token.{from, first};
+ghost use Rattle.pddl_tree_values.specs.Reading.{part, Reads, ReadsOne, closes_first};
 ghost use Rattle.syntax_tree.specs.Tree.{predicate_of, fact_of, ground_atom_of};
 
-use crate::costs::initial_cost;
+use crate::costs::initial_fact;
 use crate::lists::{Item, list};
-use crate::look::{Parsed, close, open};
+use crate::look::{Parsed, close, is_close, is_dash, number_word, open};
 use crate::refusals::{Listed, Place, refusal};
 use crate::typed_lists::typed;
 use faults::Refused;
@@ -29,6 +31,56 @@ impl<'a> Item<'a> for Predicate<'a> {
             }
             _ => Err(Refused::At(refusal(words, inside, Place::Elsewhere))),
         }
+    }
+}
+
+/// Functions, and `)`: their declarations, and the index after the parenthesis.
+#[tactic(auto, using(crate::proofs::FunctionLists::of_functions))]
+pub fn functions<'a>(alloc: Global, words: &[Word<'a>], at: usize) -> Parsed<Vec<Predicate<'a>>>
+    ensures { Reads (part function_list) words.now at (λ functions. map predicate_of functions.items) result }
+{
+    let mut functions = Vec::new(alloc);
+    let mut next = at;
+    'functions: while !is_close(words, next) {
+        let (function, after) = function(alloc, words, next)?;
+        functions.push(function)?;
+        next = after;
+    }
+    Ok((functions, next + 1))
+}
+
+/// A function's declaration in its parentheses, and `- number` where a `-` follows: the declaration, and the index of what
+/// follows.
+#[tactic(auto, using(crate::proofs::FunctionLists::of_function))]
+fn function<'a>(alloc: Global, words: &[Word<'a>], at: usize) -> Parsed<Predicate<'a>>
+    requires { closes_first (first (from words.now at)) ≡ false }
+    ensures { ReadsOne (part function_list) words.now at predicate_of result }
+{
+    let inside = open(words, at, Place::Elsewhere)?;
+    let (function, next) = declared_function(alloc, words, inside)?;
+    if is_dash(words, next) {
+        let end = number_word(words, next + 1)?;
+        return Ok((function, end));
+    }
+    Ok((function, next))
+}
+
+/// A function's declaration whose `(` was read, and the index after its `)`: `total-cost` has no arguments.
+#[tactic(auto, using(crate::proofs::Read::part_here))]
+fn declared_function<'a>(alloc: Global, words: &[Word<'a>], at: usize) -> Parsed<Predicate<'a>>
+    ensures { Reads (part function_declaration) words.now at predicate_of result }
+{
+    match token_at(words, at) {
+        Token::Reserved(ReservedName::TotalCost, name) => {
+            let next = close(words, at + 1)?;
+            let parameters = Vec::new(alloc);
+            Ok((Predicate { name, parameters }, next))
+        }
+        Token::Free(_, name) => {
+            let (parameters, next) = typed(alloc, words, at + 1, Listed::Variables)?;
+            Ok((Predicate { name, parameters }, next))
+        }
+        _ => Err(Refused::At(refusal(words, at, Place::Elsewhere))),
     }
 }
 
@@ -59,10 +111,7 @@ fn fact<'a>(alloc: Global, words: &[Word<'a>], at: usize) -> Parsed<Fact<'a>>
             let next = close(words, next)?;
             Ok((Fact::Negated(word, atom), next))
         }
-        Token::Equals(word) => {
-            let (cost, next) = initial_cost(words, at + 1, word)?;
-            Ok((Fact::InitialCost(cost), next))
-        }
+        Token::Equals(word) => initial_fact(alloc, words, at + 1, word),
         _ => Err(Refused::At(refusal(words, at, Place::Elsewhere))),
     }
 }

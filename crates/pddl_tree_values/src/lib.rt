@@ -1,5 +1,5 @@
 //! The values that stand in domain and problem files, read from their words: typed lists, formulas, effects, costs,
-//! predicates and facts; and what is told of a word that may not stand where it does.
+//! declarations and facts; and what is told of a word that may not stand where it does.
 #![tactic(auto)]
 
 mod costs;
@@ -13,7 +13,8 @@ mod refusals;
 mod typed_lists;
 mod values;
 
-pub use costs::{functions, metric};
+pub use costs::metric;
+pub use declared::functions;
 pub use effects::no_effect;
 pub use formulas::{formula, last, no_condition};
 pub use lists::{Item, Key, list};

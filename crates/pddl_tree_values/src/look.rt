@@ -198,7 +198,7 @@ pub(crate) fn total_cost<'a>(
 
 /// A number with its word, and the index after it.
 #[tactic(auto, using(crate::proofs::Read::part_here))]
-pub(crate) fn amount<'a>(
+pub(crate) fn number<'a>(
     words: &[Word<'a>],
     at: usize,
 ) -> Result<((u32, Name<'a>), usize), WordRefusal>
@@ -206,7 +206,7 @@ pub(crate) fn amount<'a>(
 {
     match token_at(words, at) {
         Token::Number(number, name) => Ok(((number, name), at + 1)),
-        _ => Err(refusal(words, at, Place::Amount)),
+        _ => Err(refusal(words, at, Place::Number)),
     }
 }
 

@@ -92,7 +92,7 @@ pub enum Place<'s> {
     /// After `:metric`.
     Metric,
     /// Where a number is wanted.
-    Amount,
+    Number,
     /// Anywhere else.
     Elsewhere,
 }
@@ -148,7 +148,7 @@ fn code_of(token: Token, place: Place) -> Code
         }
         (Token::Reserved(_, _) | Token::Free(_, _), Place::TotalCost) => Code::LeftOut,
         (Token::Free(FreeName::Maximize, _), Place::Metric) => Code::LeftOut,
-        (Token::LargeNumber, Place::Amount) => Code::NumberTooLarge,
+        (Token::LargeNumber, Place::Number) => Code::NumberTooLarge,
         _ => Code::BadForm,
     }
 }

@@ -35,7 +35,7 @@ pub fn effect_value<'a>(alloc: Global, words: &[Word<'a>], at: usize) -> Parsed<
         }
         Token::Reserved(ReservedName::And, _) => items(alloc, words, at + 1),
         Token::Reserved(ReservedName::Increase, word) => {
-            let (increase, next) = increase(words, at + 1, word)?;
+            let (increase, next) = increase(alloc, words, at + 1, word)?;
             let increases = vec![in alloc; increase]?;
             let effect = no_effect(alloc);
             Ok((EffectValue { effect, increases }, next))
@@ -60,7 +60,7 @@ fn items<'a>(alloc: Global, words: &[Word<'a>], at: usize) -> Parsed<EffectValue
         let inside = open(words, next, Place::Elsewhere)?;
         match increase_word(words, inside) {
             Some(word) => {
-                let (increase, after) = increase(words, inside + 1, word)?;
+                let (increase, after) = increase(alloc, words, inside + 1, word)?;
                 increases.push(increase)?;
                 next = after;
             }

@@ -3,7 +3,7 @@ use faults::NoMemory;
 use std::alloc::{AllocError, Global};
 use std::process::Abort;
 use std::test::Fail;
-use test_texts::{Texts, on_task};
+use test_texts::{Term, Texts, atom, on_task};
 use typing::{ObjectId, PredicateId, SchemaId, Task, TypeId, TypeUnion};
 
 /// Names with letters of either case.
@@ -71,7 +71,7 @@ precondition: Exists(TypeUnion([TypeId(0)]), Exists(TypeUnion([TypeId(0)]), \
 Imply(Equal(Variable(VariableId(0)), Variable(VariableId(3))), \
 Or([Atom(LiftedAtom { predicate: PredicateId(0), terms: [Variable(VariableId(1))] }), \
 And([Not(Atom(LiftedAtom { predicate: PredicateId(1), terms: [] }))])])))), \
-effect: Literal(Delete(LiftedAtom { predicate: PredicateId(1), terms: [] })), cost: 0 })
+effect: Literal(Delete(LiftedAtom { predicate: PredicateId(1), terms: [] })), increase: Number(0) })
 [Atom { predicate: PredicateId(0), objects: [ObjectId(1)] }, Atom { predicate: PredicateId(0), objects: [ObjectId(1)] }]
 Atom(LiftedAtom { predicate: PredicateId(0), terms: [Object(ObjectId(1))] })";
 
@@ -95,4 +95,60 @@ fn has_its_parts(rt: &impl Abort, alloc: Global, task: &Task) -> Result<(), Fail
 #[test]
 fn names_become_numbers(rt: HostRuntime) -> Result<(), Fail> {
     on_task(&rt, rt.alloc(), &MIXED, has_its_parts)
+}
+
+/// Functions of two objects and of none, and actions that increase the total cost by one of them, and by a number.
+const ROADS: Texts = [
+    "(define (domain roads) (:predicates (at ?x)) (:functions (total-cost) - number (Len ?x ?y) - number (toll))
+ (:action go :parameters (?x ?y) :effect (and (at ?y) (increase (total-cost) (len ?y ?x))))
+ (:action pay :parameters () :effect (increase (total-cost) 7)))",
+    "(define (problem r) (:domain roads) (:objects a b)
+ (:init (= (LEN a B) 12) (= (toll) 0) (= (total-cost) 0) (= (len A b) 12)) (:goal (and)))",
+];
+
+/// What names of functions and their numbers lead to: they have numbers of their own.
+fn functions_have_names(rt: &impl Abort, task: &Task) {
+    let named = (task.function_named(b"len"), task.function_named(b"at"));
+    let names = (
+        task.function_name(PredicateId(1)),
+        task.function_name(PredicateId(3)),
+    );
+    let wanted = (
+        (Some(PredicateId(1)), None),
+        (Some(b"len".as_slice()), None),
+    );
+    assert_eq!(rt; (named, names), wanted);
+}
+
+/// Functions and objects, and their values.
+#[rattlefmt::skip]
+static VALUES: [(Term, Option<u32>); 5] = [
+    ((1, &[0, 1]), Some(12)), ((2, &[]), Some(0)),
+    ((1, &[1, 0]), None), ((0, &[]), None), ((3, &[]), None),
+];
+
+/// What values the functions have.
+fn functions_have_values(rt: &impl Abort, task: &Task) {
+    for ((function, objects), value) in &VALUES {
+        assert_eq!(rt; task.value(&atom(*function, *objects)), *value);
+    }
+}
+
+/// What the actions increase the total cost by.
+const INCREASES: &str =
+    "Function(LiftedAtom { predicate: PredicateId(1), terms: [Variable(VariableId(1)), Variable(VariableId(0))] }) Number(7)";
+
+fn has_its_functions(rt: &impl Abort, alloc: Global, task: &Task) -> Result<(), Fail> {
+    functions_have_names(rt, task);
+    functions_have_values(rt, task);
+    let go = task.schema(SchemaId(0)).ok_or("no action")?;
+    let pay = task.schema(SchemaId(1)).ok_or("one action")?;
+    let told = format!(in alloc; "{:?} {:?}", go.increase, pay.increase)?;
+    assert_eq!(rt; told.as_str(), INCREASES);
+    Ok(())
+}
+
+#[test]
+fn functions_have_names_and_values(rt: HostRuntime) -> Result<(), Fail> {
+    on_task(&rt, rt.alloc(), &ROADS, has_its_functions)
 }

@@ -1,20 +1,21 @@
 //! Trees of domains and problems in memory, and what is told of words that stop too early.
 use faults::{Code, Fault, Refusal, Span};
 use pddl_tree::{
-    Action, Domain, Effect, EffectLiteral, Fact, Formula, Group, Name, Problem, Term, domain,
-    problem,
+    Action, Amount, Domain, Effect, EffectLiteral, Fact, Formula, Group, Increase, Name, Predicate,
+    Problem, Term, domain, problem,
 };
 use std::test::Fail;
 use test_texts::{read_domain, read_problem};
 use tokens::scan;
 
 const GO: &[u8] =
-    b"(define (domain go) (:predicates (p) (q ?x)) (:functions (total-cost) - number) (:action go :parameters (?a)
- :effect (and (not (p)) (increase (total-cost) 12) (forall (?b) (q ?a)) (when (p) (and (not (p)) (Q b))))))";
+    b"(define (domain go) (:predicates (p) (q ?x)) (:functions (Len ?c) (total-cost) - number)
+ (:action go :parameters (?a) :effect (and (not (p)) (increase (total-cost) 12) (forall (?b) (q ?a))
+ (when (p) (and (not (p)) (Q b))) (increase (total-cost) (len ?a)))))";
 
 const TRIP: &[u8] =
     b"(define (problem trip) (:domain go) (:objects a B) (:metric minimize (total-cost))
- (:init (p) (= (total-cost) 07) (q a)) (:goal (and (p) (or) (not (q B))
+ (:init (p) (= (total-cost) 07) (q a) (= (LEN B) 3)) (:goal (and (p) (or) (not (q B))
  (imply (p) (q a)) (= ?x B) (exists (?x ?y - (either place truck) ?z) (q ?y)) (forall () (p)))))";
 
 /// The words that stand before this place are refused there, since more is wanted.
@@ -53,8 +54,35 @@ fn is_go(domain: &Domain) -> bool {
             (domain.name.text, domain.name.span) == (b"go".as_slice(), span)
                 && q.name.text == b"q".as_slice()
                 && is_untyped(&q.parameters, &[b"?x"])
-                && are(&domain.functions, &[b"total-cost"])
+                && are_functions(&domain.functions)
                 && is_going(action)
+        }
+        _ => false,
+    }
+}
+
+/// Whether they are the functions of `GO`: one of an object, and the total cost.
+fn are_functions(functions: &[Predicate]) -> bool {
+    match functions {
+        [len, total] => {
+            len.name.text == b"Len".as_slice()
+                && is_untyped(&len.parameters, &[b"?c"])
+                && total.name.text == b"total-cost".as_slice()
+                && total.parameters.is_empty()
+        }
+        _ => false,
+    }
+}
+
+/// Whether they are the increases of the action: one by a number, and one by the function of its variable.
+fn are_increases(increases: &[Increase]) -> bool {
+    match increases {
+        [first, second] => {
+            first.word.text == b"increase".as_slice()
+                && matches!(first.amount, Amount::Number(12))
+                && matches!(&second.amount, Amount::Function(function)
+                    if function.predicate.text == b"len".as_slice()
+                        && is_only(&function.terms, true, b"?a"))
         }
         _ => false,
     }
@@ -68,8 +96,7 @@ fn is_going(action: &Action) -> bool {
                 && is_untyped(&action.parameters, &[b"?a"])
                 && conditions.is_empty()
                 && are_changes(changes)
-                && matches!(action.increases.as_slice(), [one]
-                    if (one.word.text, one.amount) == (b"increase".as_slice(), 12))
+                && are_increases(&action.increases)
         }
         _ => false,
     }
@@ -149,7 +176,7 @@ fn are(names: &[Name], texts: &[&[u8]]) -> bool {
 fn is_unary(fact: &Fact, predicate: &[u8]) -> bool {
     match fact {
         Fact::Atom(atom) => atom.predicate.text == predicate && atom.objects.len() == 1,
-        Fact::Negated(_, _) | Fact::InitialCost(_) => false,
+        Fact::Negated(_, _) | Fact::InitialCost(_) | Fact::InitialValue(_) => false,
     }
 }
 
@@ -159,14 +186,22 @@ fn is_start(fact: &Fact) -> bool {
         if (start.function.text, start.amount) == (b"total-cost".as_slice(), 7))
 }
 
+/// Whether it is the value of the function of one object.
+fn is_value(fact: &Fact) -> bool {
+    matches!(fact, Fact::InitialValue(it)
+        if (it.function.predicate.text, it.value) == (b"LEN".as_slice(), 3)
+            && are(&it.function.objects, &[b"B"]))
+}
+
 /// Whether it is the tree of `TRIP`.
 fn is_trip(problem: &Problem) -> bool {
     match problem.init.as_slice() {
-        [_, start, fact] => {
+        [_, start, fact, value] => {
             (problem.name.text, problem.domain.text) == (b"trip".as_slice(), b"go".as_slice())
                 && is_untyped(&problem.objects, &[b"a", b"B"])
                 && is_start(start)
                 && is_unary(fact, b"q")
+                && is_value(value)
                 && matches!(problem.metric, Some(name) if name.text == b"total-cost".as_slice())
                 && matches!(&problem.goal, Formula::And(parts) if are_of_each_form(parts))
         }

@@ -6,6 +6,6 @@ mod tree;
 
 pub use name::{Name, Term};
 pub use tree::{
-    Action, Amount, Atom, Domain, Effect, EffectLiteral, Fact, Formula, GroundAtom, Group, Increase,
-    InitialCost, InitialValue, Predicate, Problem, TaskFile,
+    Action, Amount, Atom, Domain, Effect, EffectLiteral, Fact, Formula, GroundAtom, Group,
+    Increase, InitialCost, InitialValue, Predicate, Problem, TaskFile,
 };

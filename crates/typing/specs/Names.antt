@@ -1,5 +1,5 @@
 -- What the declared names stand for, and the faults of declaring them and of what is stated of them, in the model's terms.
-use Rattle.std.specs.Prelude.{◌≡◌, ℕ, Bool, List, [], ◌∷◌, ◌++◌, map}
+use Rattle.std.specs.Prelude.{◌≡◌, ℕ, List, [], ◌∷◌, ◌++◌, map}
 use Rattle.std.specs.Global.{Vec}
 use Rattle.std.specs.List.{flat_map}
 use Rattle.typing_formulas.specs.declared.atoms.TypeId.{TypeId}
@@ -11,10 +11,10 @@ use Rattle.typing.specs.declared.names.Start.{Start}
 use Rattle.typing_formulas.specs.declared.schemas.Predicate.{Predicate}
 use Rattle.typing_formulas.specs.declared.schemas.Schema.{Schema}
 use Rattle.typing_formulas.specs.Scope.{names_in, narrow_atoms_in}
-use Rattle.typing_formulas.specs.TaskParts.{atom_of, formula_of, object_entry_of, predicate_of, schema_of, type_entry_of}
+use Rattle.typing_formulas.specs.TaskParts.{atom_of, formula_of, object_entry_of, predicate_of, schema_of, type_entry_of, value_of}
 use Rattle.model.specs.Trees as tree
 use Rattle.model.specs.Trees.{File, problem_file}
-use Rattle.model.specs.Typing.{first_filled, init_faults, formula_faults, function_faults, domain_name_faults, type_declaration_faults, cycle_faults, object_faults, declaration_faults, action_faults, type_names, types_of, objects_of, predicates_of, declares_cost, known_in_domain, known_in_problem, schema_in, formula_in, Known, TypingFault}
+use Rattle.model.specs.Typing.{first_filled, init_faults, formula_faults, function_faults, domain_name_faults, type_declaration_faults, cycle_faults, object_faults, declaration_faults, action_faults, type_names, types_of, objects_of, predicates_of, functions_of, values_after, known_in_domain, known_in_problem, schema_in, formula_in, Known, TypingFault}
 
 -- the faults of the types: those of the first phase that has any
 abbrev pub type_faults_of : tree.Domain → tree.Problem → List TypingFault
@@ -33,20 +33,20 @@ stated_faults_in file known p = first_filled (init_faults file known p.init ∷ 
 abbrev pub contents_faults : tree.Domain → tree.Problem → List TypingFault
 contents_faults d p = first_filled (object_faults d p ∷ domain_faults d p ∷ stated_faults_in problem_file (known_in_problem d p) p ∷ [])
 
--- what may be named where these are the types, the objects and the predicates, with or without the total cost
-abbrev pub known_in : Types → List (Vec ℕ × TypeId) → List (Vec ℕ × Predicate) → Bool → Known
-known_in t objects predicates has_cost = record {
+-- what may be named where these are the types, the objects, the predicates and the functions
+abbrev pub known_in : Types → List (Vec ℕ × TypeId) → List (Vec ℕ × Predicate) → List (Vec ℕ × Predicate) → Known
+known_in t objects predicates functions = record {
   type_names = names_in t.names.names.keys;
   types = map type_entry_of t.all.entries;
   predicates = map predicate_of predicates;
+  functions = map predicate_of functions;
   variables = [];
   objects = map object_entry_of objects;
-  has_cost = has_cost;
 }
 
 -- what may be named in the problem
 abbrev pub known_by : Types → Objects → Names → Known
-known_by t o n = known_in t o.all.entries n.predicates.entries n.has_cost
+known_by t o n = known_in t o.all.entries n.predicates.entries n.functions.entries
 
 -- these are the types that the domain declares
 pub record AreTypesOf (d : tree.Domain) (t : Types) : Type 0 where
@@ -56,7 +56,7 @@ pub record AreTypesOf (d : tree.Domain) (t : Types) : Type 0 where
 -- these are the names that the domain declares over its types
 pub record AreDeclared (d : tree.Domain) (n : Names) : Type 0 where
   pub predicates : map predicate_of n.predicates.entries ≡ predicates_of d
-  pub has_cost : n.has_cost ≡ declares_cost d
+  pub functions : map predicate_of n.functions.entries ≡ functions_of d
   pub schemas : map schema_of n.schemas.entries ≡ map (schema_in (known_in_domain d)) d.actions
 
 -- these are the schemas of the domain, which has no fault there
@@ -68,6 +68,7 @@ pub record AreSchemasOf (known : Known) (d : tree.Domain) (entries : List (Vec �
 pub record Starts (file : File) (known : Known) (p : tree.Problem) (s : Start) : Type 0 where
   pub right : stated_faults_in file known p ≡ []
   pub init : map atom_of s.init.items ≡ flat_map (narrow_atoms_in known) p.init
+  pub values : map value_of s.values.entries ≡ values_after known [] p.init
   pub goal : formula_of s.goal ≡ formula_in file known p.goal
 
 -- nothing but the types of the pair has a fault, and these are its objects, its names, and what it states

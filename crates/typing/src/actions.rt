@@ -11,7 +11,7 @@ ghost use Rattle.model.specs.Typing as typing;
 ghost use Rattle.std.specs.List.{flat_map};
 
 use crate::effects::effect;
-use crate::functions::{check_increases, increase};
+use crate::functions::increase;
 use crate::{Schema, TaskFault, TaskFile, TypeUnion};
 use faults::NoMemory;
 use indexmap::{IndexMap, IndexSet};
@@ -36,18 +36,18 @@ fn body(
       map parts.union_of parameters.items,
       typing.formula_in (file_of globals.now.file) (known_over globals.now variables.old.entries) (read.formula_of action.now.precondition),
       typing.effect_in (file_of globals.now.file) (known_over globals.now variables.old.entries) (read.effect_of action.now.effect),
-      typing.increase_of (read.action_of action.now),
+      typing.increase_of (known_over globals.now variables.old.entries) (read.action_of action.now),
     )) }
     ensures finds { OnOk result (Finds walk.old walk.new (typing.body_faults (file_of globals.now.file) (known_over globals.now variables.old.entries) (read.action_of action.now))) }
 {
     let precondition = formula(alloc, walk, globals, variables, &action.precondition)?;
     let effect = effect(alloc, walk, globals, variables, &action.effect)?;
-    check_increases(walk, globals.file, globals.has_cost, action);
+    let increase = increase(alloc, walk, globals, variables, action)?;
     Ok(Schema {
         parameters,
         precondition,
         effect,
-        cost: increase(action),
+        increase,
     })
 }
 
@@ -73,8 +73,8 @@ fn schema_over(
         type_names: globals.type_names,
         types: globals.types,
         predicates: globals.predicates,
+        functions: globals.functions,
         objects: globals.objects,
-        has_cost: globals.has_cost,
     };
     body(alloc, walk, &inner, &mut variables, parameters, action)
 }

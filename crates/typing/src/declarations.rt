@@ -1,5 +1,5 @@
-//! The predicates of a domain.
-ghost use Rattle.std.specs.Prelude.{◌≡◌, [], ◌∷◌, ◌++◌, false, if◌then◌else◌, map, IfErr, IfOk, OnOk};
+//! What a domain declares by names with arguments: its predicates, and its functions.
+ghost use Rattle.std.specs.Prelude.{◌≡◌, [], ◌∷◌, ◌++◌, false, fold, if◌then◌else◌, map, IfErr, IfOk, OnOk};
 ghost use Rattle.typing_formulas.specs.TaskParts as parts;
 ghost use Rattle.typing_formulas.specs.Scope.{names_in};
 ghost use Rattle.typing.specs.Task.{TellsLeastOf};
@@ -34,7 +34,7 @@ fn arguments(
     types.unions(alloc, room, declared)
 }
 
-/// Declares a predicate. One that is declared before is refused.
+/// Declares a predicate or a function. One that is declared before is refused.
 fn declare_predicate(
     alloc: Global,
     walk: &mut Walk,
@@ -57,13 +57,14 @@ fn declare_predicate(
     Ok(())
 }
 
-/// The predicates that a list declares.
+/// The predicates, or functions, that a list declares.
 fn table(
     alloc: Global,
     walk: &mut Walk,
     types: &TypeNames,
     declarations: &[Declaration<'_>],
 ) -> Result<IndexMap<Vec<u8>, Predicate>, NoMemory>
+    ensures names { IfOk result (λ m. typing.names_of_predicates (map parts.predicate_of m.entries) ≡ fold typing.with_name [] (map (λ q. read.name_of q.name) declarations.now)) }
     ensures table { IfOk result (λ m. typing.repeated (map (λ q. typing.placed domain_file (read.name_of q.name)) declarations.now) ≡ []
         → map parts.predicate_of m.entries ≡ map (λ q. typing.predicate_in (names_in types.now.names.keys) (read.predicate_of q)) declarations.now) }
     ensures finds { OnOk result (Finds walk.old walk.new (typing.refused 16 (typing.repeated (map (λ q. typing.placed domain_file (read.name_of q.name)) declarations.now)))) }
@@ -107,6 +108,23 @@ fn check_declarations(
     Ok(())
 }
 
+/// The predicates, or functions, that a list declares. What is wrong with the declarations is found on the walk.
+pub(crate) fn declared(
+    alloc: Global,
+    walk: &mut Walk,
+    types: &TypeNames,
+    declarations: &[Declaration<'_>],
+) -> Result<IndexMap<Vec<u8>, Predicate>, NoMemory>
+    ensures names { IfOk result (λ m. typing.names_of_predicates (map parts.predicate_of m.entries) ≡ fold typing.with_name [] (map (λ q. q.name) (map read.predicate_of declarations.now))) }
+    ensures table { IfOk result (λ m. typing.declaration_faults (names_in types.now.names.keys) (map read.predicate_of declarations.now) ≡ []
+        → map parts.predicate_of m.entries ≡ map (typing.predicate_in (names_in types.now.names.keys)) (map read.predicate_of declarations.now)) }
+    ensures finds { OnOk result (Finds walk.old walk.new (typing.declaration_faults (names_in types.now.names.keys) (map read.predicate_of declarations.now))) }
+{
+    let table = table(alloc, walk, types, declarations)?;
+    check_declarations(alloc, walk, types, declarations)?;
+    Ok(table)
+}
+
 /// The domain's predicates.
 pub(crate) fn predicates(
     alloc: Global,
@@ -119,8 +137,6 @@ pub(crate) fn predicates(
     ensures err { IfErr result (TellsLeastOf (typing.declaration_faults (names_in types.now.names.keys) (read.domain_of domain.now).predicates)) }
 {
     let mut walk = Walk::new(alloc);
-    let declarations = domain.predicates.as_slice();
-    let predicates = table(alloc, &mut walk, types, declarations)?;
-    check_declarations(alloc, &mut walk, types, declarations)?;
+    let predicates = declared(alloc, &mut walk, types, &domain.predicates)?;
     walk.finish(predicates)
 }

@@ -1,35 +1,24 @@
 //! The functions of a domain, the metric of a problem and what actions increase the total cost by.
-ghost use Rattle.std.specs.Prelude.{◌≡◌, [], drop, if◌then◌else◌, map, IfErr, IfOk};
-ghost use Rattle.std.specs.Option.{option_map, option_map_or};
+ghost use Rattle.std.specs.Prelude.{◌≡◌, [], ◌++◌, drop, if◌then◌else◌, map, slice_get, IfErr, IfOk, OnOk};
+ghost use Rattle.std.specs.List.{flat_map};
+ghost use Rattle.std.specs.Option.{option_map_or};
+ghost use Rattle.typing_formulas.specs.TaskParts as parts;
+ghost use Rattle.typing_formulas.specs.Scope.{known_over, names_in};
 ghost use Rattle.typing.specs.Task.{file_of, TellsLeastOf};
 ghost use Rattle.typing_formulas.specs.Walk.{Finds};
 ghost use Rattle.syntax_tree.specs.Tree as read;
-ghost use Rattle.model.specs.Trees.{domain_file, problem_file};
+ghost use Rattle.model.specs.Trees.{problem_file};
+ghost use Rattle.model.specs.Task as task;
 ghost use Rattle.model.specs.Typing as typing;
 
-use crate::{TaskFault, TaskFile};
-use faults::Code;
+use crate::declarations::declared;
+use crate::{Increase, Predicate, TaskFault, TaskFile, TypeUnion};
+use faults::{Code, NoMemory};
+use indexmap::IndexMap;
 use std::alloc::Global;
-use syntax_tree::{Action, Domain, Increase, Name, Problem};
-use typing_formulas::Walk;
-
-/// Refuses words that are declared again.
-fn refuse_functions(walk: &mut Walk, words: &[Name<'_>])
-    ensures { Finds walk.old walk.new (typing.refused 16 (map (λ n. typing.placed domain_file (read.name_of n)) words.now)) }
-{
-    for word in words {
-        walk.refuse(TaskFile::Domain, Code::Duplicate, word);
-    }
-}
-
-/// The functions after the first are refused: there is one alone, the total cost.
-fn check_functions(walk: &mut Walk, words: &[Name<'_>])
-    ensures { Finds walk.old walk.new (typing.refused 16 (drop 1 (map (λ n. typing.placed domain_file (read.name_of n)) words.now))) }
-{
-    if let Some((_, others)) = words.split_first() {
-        refuse_functions(walk, others);
-    }
-}
+use syntax_tree as tree;
+use syntax_tree::{Action, Amount, Domain, Name, Problem};
+use typing_formulas::{Globals, TypeNames, Walk, declares_cost};
 
 /// The metric is refused where the total cost is not declared.
 fn check_metric(walk: &mut Walk, has_cost: bool, metric: Option<&Name<'_>>)
@@ -41,27 +30,28 @@ fn check_metric(walk: &mut Walk, has_cost: bool, metric: Option<&Name<'_>>)
     }
 }
 
-/// Whether the domain declares the total cost.
-pub(crate) fn declared(
+/// The domain's functions, where these are its types, and where the problem's metric is right.
+pub(crate) fn functions(
     alloc: Global,
+    types: &TypeNames,
     domain: &Domain<'_>,
     problem: &Problem<'_>,
-) -> Result<bool, TaskFault>
+) -> Result<IndexMap<Vec<u8>, Predicate>, TaskFault>
+    requires { names_in types.now.names.keys ≡ typing.type_names (read.domain_of domain.now) }
     ensures ok { IfOk result
-        (λ b. (typing.function_faults (read.domain_of domain.now) (read.problem_of problem.now) ≡ [])
-        × (b ≡ typing.declares_cost (read.domain_of domain.now))) }
+        (λ m. (typing.function_faults (read.domain_of domain.now) (read.problem_of problem.now) ≡ [])
+        × (map parts.predicate_of m.entries ≡ typing.functions_of (read.domain_of domain.now))) }
     ensures err { IfErr result (TellsLeastOf (typing.function_faults (read.domain_of domain.now) (read.problem_of problem.now))) }
 {
     let mut walk = Walk::new(alloc);
-    let functions = domain.functions.as_slice();
-    let has_cost = !functions.is_empty();
-    check_functions(&mut walk, functions);
+    let functions = declared(alloc, &mut walk, types, &domain.functions)?;
+    let has_cost = declares_cost(&functions);
     check_metric(&mut walk, has_cost, problem.metric.as_ref());
-    walk.finish(has_cost)
+    walk.finish(functions)
 }
 
 /// Refuses each of some increases.
-fn refuse_increases(walk: &mut Walk, file: TaskFile, increases: &[Increase<'_>])
+fn refuse_increases(walk: &mut Walk, file: TaskFile, increases: &[tree::Increase<'_>])
     ensures { Finds walk.old walk.new (typing.refused 23 (map (λ i. typing.placed (file_of file) (read.name_of i.word)) increases.now)) }
 {
     for increase in increases {
@@ -70,7 +60,7 @@ fn refuse_increases(walk: &mut Walk, file: TaskFile, increases: &[Increase<'_>])
 }
 
 /// The increases of an action after the first are refused, and the first too where the total cost is not declared.
-pub(crate) fn check_increases(walk: &mut Walk, file: TaskFile, has_cost: bool, action: &Action<'_>)
+fn check_increases(walk: &mut Walk, file: TaskFile, has_cost: bool, action: &Action<'_>)
     ensures { Finds walk.old walk.new (typing.refused 23 (drop (if has_cost then 1 else 0) (typing.increase_words (file_of file) (read.action_of action.now)))) }
 {
     let increases = action.increases.as_slice();
@@ -81,12 +71,79 @@ pub(crate) fn check_increases(walk: &mut Walk, file: TaskFile, has_cost: bool, a
     }
 }
 
-/// What an action increases the total cost by.
-pub(crate) fn increase(action: &Action<'_>) -> u32
-    ensures { result ≡ typing.increase_of (read.action_of action.now) }
+/// What an increase is by.
+fn amount(
+    alloc: Global,
+    walk: &mut Walk,
+    globals: &Globals<'_>,
+    variables: &IndexMap<Vec<u8>, TypeUnion>,
+    given: &Amount<'_>,
+) -> Result<Increase, NoMemory>
+    ensures value { IfOk result (λ i. parts.increase_of i ≡ typing.increase_in (known_over globals.now variables.now.entries) (read.amount_of given.now)) }
+    ensures finds { OnOk result (Finds walk.old walk.new (typing.amount_faults (file_of globals.now.file) (known_over globals.now variables.now.entries) (read.amount_of given.now))) }
 {
-    match action.increases.first() {
-        Some(increase) => increase.amount,
-        None => 0,
+    match given {
+        Amount::Number(number) => Ok(Increase::Number(*number)),
+        Amount::Function(function) => {
+            let scope = globals.with(variables);
+            let functions = scope.in_function();
+            Ok(Increase::Function(functions.lifted_atom(alloc, walk, function)?))
+        }
     }
+}
+
+/// What is wrong with the functions that some increases are by.
+fn check_amounts(
+    alloc: Global,
+    walk: &mut Walk,
+    globals: &Globals<'_>,
+    variables: &IndexMap<Vec<u8>, TypeUnion>,
+    increases: &[tree::Increase<'_>],
+) -> Result<(), NoMemory>
+    ensures { OnOk result (Finds walk.old walk.new (flat_map (λ i. typing.amount_faults (file_of globals.now.file) (known_over globals.now variables.now.entries) (read.amount_of i.amount)) increases.now)) }
+{
+    for increase in increases {
+        amount(alloc, walk, globals, variables, &increase.amount)?;
+    }
+    Ok(())
+}
+
+/// What the first of some increases is by, and 0 where there is none.
+fn first_amount(
+    alloc: Global,
+    walk: &mut Walk,
+    globals: &Globals<'_>,
+    variables: &IndexMap<Vec<u8>, TypeUnion>,
+    increases: &[tree::Increase<'_>],
+) -> Result<Increase, NoMemory>
+    ensures value { IfOk result (λ i. parts.increase_of i
+        ≡ option_map_or (λ j. typing.increase_in (known_over globals.now variables.now.entries) j.amount) (slice_get (map read.increase_of increases.now) 0) (task.by_number 0)) }
+    ensures finds { OnOk result (Finds walk.old walk.new (flat_map (λ i. typing.amount_faults (file_of globals.now.file) (known_over globals.now variables.now.entries) (read.amount_of i.amount)) increases.now)) }
+{
+    match increases.split_first() {
+        Some((first, others)) => {
+            let increase = amount(alloc, walk, globals, variables, &first.amount)?;
+            check_amounts(alloc, walk, globals, variables, others)?;
+            Ok(increase)
+        }
+        None => Ok(Increase::Number(0)),
+    }
+}
+
+/// What an action increases the total cost by: what its first increase is by, and 0 where it has none.
+pub(crate) fn increase(
+    alloc: Global,
+    walk: &mut Walk,
+    globals: &Globals<'_>,
+    variables: &IndexMap<Vec<u8>, TypeUnion>,
+    action: &Action<'_>,
+) -> Result<Increase, NoMemory>
+    ensures value { IfOk result (λ i. parts.increase_of i ≡ typing.increase_of (known_over globals.now variables.now.entries) (read.action_of action.now)) }
+    ensures finds { OnOk result (Finds walk.old walk.new
+        (typing.increase_faults (file_of globals.now.file) (known_over globals.now variables.now.entries) (read.action_of action.now)
+        ++ flat_map (λ i. typing.amount_faults (file_of globals.now.file) (known_over globals.now variables.now.entries) i.amount) (read.action_of action.now).increases)) }
+{
+    let scope = globals.with(variables);
+    check_increases(walk, globals.file, scope.has_cost(), action);
+    first_amount(alloc, walk, globals, variables, &action.increases)
 }

@@ -32,7 +32,7 @@ pub(crate) struct Objects {
 #[derive(Drop)]
 pub(crate) struct Names {
     pub(crate) predicates: IndexMap<Vec<u8>, Predicate>,
-    pub(crate) has_cost: bool,
+    pub(crate) functions: IndexMap<Vec<u8>, Predicate>,
     pub(crate) schemas: IndexMap<Vec<u8>, Schema>,
 }
 
@@ -40,6 +40,7 @@ pub(crate) struct Names {
 #[derive(Drop)]
 pub(crate) struct Start {
     pub(crate) init: Vec<Atom>,
+    pub(crate) values: IndexMap<Atom, u32>,
     pub(crate) goal: Formula,
 }
 
@@ -125,34 +126,34 @@ impl Names {
         ensures err { IfErr result (TellsLeastOf (domain_faults (domain_of domain.now) (problem_of problem.now))) }
     {
         let predicates = declarations::predicates(alloc, &types.names, domain)?;
-        let has_cost = functions::declared(alloc, domain, problem)?;
-        let schemas = Names::schemas(alloc, types, objects, &predicates, has_cost, domain)?;
+        let functions = functions::functions(alloc, &types.names, domain, problem)?;
+        let schemas = Names::schemas(alloc, types, objects, &predicates, &functions, domain)?;
         Ok(Names {
             predicates,
-            has_cost,
+            functions,
             schemas,
         })
     }
 
-    /// The actions that a domain declares, over its types, constants and predicates, with or without the total cost.
+    /// The actions that a domain declares, over its types, constants, predicates and functions.
     fn schemas(
         alloc: Global,
         types: &Types,
         objects: &Objects,
         predicates: &IndexMap<Vec<u8>, Predicate>,
-        has_cost: bool,
+        functions: &IndexMap<Vec<u8>, Predicate>,
         domain: &Domain<'_>,
     ) -> Result<IndexMap<Vec<u8>, Schema>, TaskFault>
-        ensures ok { IfOk result (λ m. AreSchemasOf (known_in types.now objects.now.constants.entries predicates.now.entries has_cost) (domain_of domain.now) m.entries) }
-        ensures err { IfErr result (TellsLeastOf (action_faults (known_in types.now objects.now.constants.entries predicates.now.entries has_cost) (domain_of domain.now).actions)) }
+        ensures ok { IfOk result (λ m. AreSchemasOf (known_in types.now objects.now.constants.entries predicates.now.entries functions.now.entries) (domain_of domain.now) m.entries) }
+        ensures err { IfErr result (TellsLeastOf (action_faults (known_in types.now objects.now.constants.entries predicates.now.entries functions.now.entries) (domain_of domain.now).actions)) }
     {
         let globals = Globals {
             file: TaskFile::Domain,
             type_names: &types.names,
             types: &types.all,
             predicates,
+            functions,
             objects: &objects.constants,
-            has_cost,
         };
         actions::schemas(alloc, &globals, domain)
     }
@@ -173,8 +174,8 @@ impl Names {
             type_names: &types.names,
             types: &types.all,
             predicates: &self.predicates,
+            functions: &self.functions,
             objects: &objects.all,
-            has_cost: self.has_cost,
         };
         Start::stated_in(alloc, &globals, problem)
     }
@@ -198,6 +199,10 @@ impl Start {
         let variables = IndexMap::new(alloc);
         let init = statements::init(alloc, globals, &variables, problem)?;
         let goal = statements::goal(alloc, globals, problem)?;
-        Ok(Start { init, goal })
+        Ok(Start {
+            init: init.atoms,
+            values: init.values,
+            goal,
+        })
     }
 }

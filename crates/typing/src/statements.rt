@@ -5,6 +5,7 @@ ghost use Rattle.typing.specs.Task.{file_of, TellsLeastOf};
 ghost use Rattle.typing_formulas.specs.Scope.{known_of, known_outside, known_over, narrow_atoms_in};
 ghost use Rattle.typing_formulas.specs.Walk.{found, least_of, Finds};
 ghost use Rattle.syntax_tree.specs.Tree as read;
+ghost use Rattle.model.specs.Trees as tree;
 ghost use Rattle.model.specs.Typing as typing;
 ghost use Rattle.std.specs.List.{flat_map};
 
@@ -12,27 +13,85 @@ use crate::{Atom, Formula, TaskFault, TaskFile, TypeUnion};
 use faults::{Code, NoMemory};
 use indexmap::IndexMap;
 use std::alloc::Global;
-use syntax_tree::{Fact, InitialCost, Problem};
+use syntax_tree::{Fact, InitialCost, InitialValue, Problem};
 use typing_formulas::formulas::formula;
 use typing_formulas::{Globals, Scope, Walk};
+
+/// What the initial state states: the atoms that are true in it, and the values of functions.
+#[derive(Drop)]
+pub(crate) struct Initial {
+    pub(crate) atoms: Vec<Atom>,
+    pub(crate) values: IndexMap<Atom, u32>,
+}
 
 /// The total cost at the start is refused where it is not declared, and where it is not 0.
 fn check_initial_cost(walk: &mut Walk, scope: &Scope<'_>, cost: &InitialCost<'_>)
     ensures { Finds walk.old walk.new (typing.initial_cost_faults (file_of scope.now.file) (known_of scope.now) (read.initial_cost_of cost.now)) }
 {
-    walk.refuse_unless(scope.has_cost, scope.file, Code::BadCost, &cost.function);
+    walk.refuse_unless(scope.has_cost(), scope.file, Code::BadCost, &cost.function);
     walk.refuse_unless(cost.amount == 0, scope.file, Code::BadCost, &cost.number);
 }
 
-/// Adds an atom of the initial state. A negated one is refused.
+/// Gives this value to a function of objects, unless it has one. Another than the first is refused.
+fn put_value(
+    walk: &mut Walk,
+    file: TaskFile,
+    values: &mut IndexMap<Atom, u32>,
+    function: Atom,
+    given: &InitialValue<'_>,
+) -> Result<(), NoMemory>
+    ensures value { OnOk result (map parts.value_of values.new.entries ≡ typing.with_value (map parts.value_of values.old.entries) (record { function = parts.atom_of function; value = given.now.value })) }
+    ensures finds { OnOk result (Finds walk.old walk.new
+        (if typing.differing (map parts.value_of values.old.entries) (record { function = parts.atom_of function; value = given.now.value })
+        then typing.refused_word (file_of file) 16 (read.name_of given.now.function.predicate) else [])) }
+{
+    match values.get(&function).copied() {
+        Some(first) => {
+            let same = first == given.value;
+            walk.refuse_unless(same, file, Code::Duplicate, &given.function.predicate);
+            Ok(())
+        }
+        None => {
+            values.insert(function, given.value)?;
+            Ok(())
+        }
+    }
+}
+
+/// Adds the value of a function of objects, where each of its names is known. Another than was given before is refused.
+fn add_value(
+    walk: &mut Walk,
+    scope: &Scope<'_>,
+    values: &mut IndexMap<Atom, u32>,
+    given: &InitialValue<'_>,
+) -> Result<(), NoMemory>
+    ensures value { OnOk result (map parts.value_of values.new.entries
+        ≡ typing.values_after (known_of scope.now) (map parts.value_of values.old.entries) (tree.initial_value (read.initial_value_of given.now) ∷ [])) }
+    ensures finds { OnOk result (Finds walk.old walk.new
+        (typing.fact_faults (file_of scope.now.file) (known_of scope.now) (tree.initial_value (read.initial_value_of given.now))
+        ++ typing.value_faults (file_of scope.now.file) (known_of scope.now) (map parts.value_of values.old.entries) (tree.initial_value (read.initial_value_of given.now)))) }
+{
+    let functions = scope.in_function();
+    match functions.named_atom(walk, &given.function)? {
+        Some(function) => put_value(walk, scope.file, values, function, given),
+        None => Ok(()),
+    }
+}
+
+/// Adds an atom of the initial state, or the value of a function. A negated atom is refused.
 fn add_fact(
     walk: &mut Walk,
     scope: &Scope<'_>,
     atoms: &mut Vec<Atom>,
+    values: &mut IndexMap<Atom, u32>,
     fact: &Fact<'_>,
 ) -> Result<(), NoMemory>
-    ensures value { OnOk result (map parts.atom_of atoms.new.items ≡ map parts.atom_of atoms.old.items ++ narrow_atoms_in (known_of scope.now) (read.fact_of fact.now)) }
-    ensures finds { OnOk result (Finds walk.old walk.new (typing.fact_faults (file_of scope.now.file) (known_of scope.now) (read.fact_of fact.now))) }
+    ensures atoms { OnOk result (map parts.atom_of atoms.new.items ≡ map parts.atom_of atoms.old.items ++ narrow_atoms_in (known_of scope.now) (read.fact_of fact.now)) }
+    ensures values { OnOk result (map parts.value_of values.new.entries
+        ≡ typing.values_after (known_of scope.now) (map parts.value_of values.old.entries) (read.fact_of fact.now ∷ [])) }
+    ensures finds { OnOk result (Finds walk.old walk.new
+        (typing.fact_faults (file_of scope.now.file) (known_of scope.now) (read.fact_of fact.now)
+        ++ typing.value_faults (file_of scope.now.file) (known_of scope.now) (map parts.value_of values.old.entries) (read.fact_of fact.now))) }
 {
     match fact {
         Fact::Atom(atom) => {
@@ -47,24 +106,27 @@ fn add_fact(
             check_initial_cost(walk, scope, cost);
             Ok(())
         }
+        Fact::InitialValue(value) => add_value(walk, scope, values, value),
     }
 }
 
-/// The atoms of a list, as they stand.
-fn atoms(
+/// What a list of facts states: its atoms as they stand, and its values, each function of the same objects once.
+fn stated(
     alloc: Global,
     walk: &mut Walk,
     scope: &Scope<'_>,
     facts: &[Fact<'_>],
-) -> Result<Vec<Atom>, NoMemory>
-    ensures value { IfOk result (λ v. map parts.atom_of v.items ≡ flat_map (λ f. narrow_atoms_in (known_of scope.now) (read.fact_of f)) facts.now) }
-    ensures finds { OnOk result (Finds walk.old walk.new (flat_map (λ f. typing.fact_faults (file_of scope.now.file) (known_of scope.now) (read.fact_of f)) facts.now)) }
+) -> Result<Initial, NoMemory>
+    ensures atoms { IfOk result (λ s. map parts.atom_of s.atoms.items ≡ flat_map (narrow_atoms_in (known_of scope.now)) (map read.fact_of facts.now)) }
+    ensures values { IfOk result (λ s. map parts.value_of s.values.entries ≡ typing.values_after (known_of scope.now) [] (map read.fact_of facts.now)) }
+    ensures finds { OnOk result (Finds walk.old walk.new (typing.facts_faults (file_of scope.now.file) (known_of scope.now) [] (map read.fact_of facts.now))) }
 {
     let mut atoms = Vec::with_capacity(alloc, facts.len())?;
+    let mut values = IndexMap::new(alloc);
     for fact in facts {
-        add_fact(walk, scope, &mut atoms, fact)?;
+        add_fact(walk, scope, &mut atoms, &mut values, fact)?;
     }
-    Ok(atoms)
+    Ok(Initial { atoms, values })
 }
 
 /// Refuses a second `=`. It gives whether one is still to come that is the first.
@@ -79,6 +141,7 @@ fn check_equals(walk: &mut Walk, file: TaskFile, none_yet: bool, fact: &Fact<'_>
         }
         Fact::Atom(_) => none_yet,
         Fact::Negated(_, _) => none_yet,
+        Fact::InitialValue(_) => none_yet,
     }
 }
 
@@ -92,22 +155,23 @@ fn check_all_equals(walk: &mut Walk, file: TaskFile, facts: &[Fact<'_>])
     }
 }
 
-/// The atoms of the initial state, where these variables are in scope.
+/// The atoms and the values of the initial state, where these variables are in scope.
 pub(crate) fn init(
     alloc: Global,
     globals: &Globals<'_>,
     variables: &IndexMap<Vec<u8>, TypeUnion>,
     problem: &Problem<'_>,
-) -> Result<Vec<Atom>, TaskFault>
+) -> Result<Initial, TaskFault>
     ensures ok { IfOk result
-        (λ v. (typing.init_faults (file_of globals.now.file) (known_over globals.now variables.now.entries) (read.problem_of problem.now).init ≡ [])
-        × (map parts.atom_of v.items ≡ flat_map (narrow_atoms_in (known_over globals.now variables.now.entries)) (read.problem_of problem.now).init)) }
+        (λ s. (typing.init_faults (file_of globals.now.file) (known_over globals.now variables.now.entries) (read.problem_of problem.now).init ≡ [])
+        × ((map parts.atom_of s.atoms.items ≡ flat_map (narrow_atoms_in (known_over globals.now variables.now.entries)) (read.problem_of problem.now).init)
+        × (map parts.value_of s.values.entries ≡ typing.values_after (known_over globals.now variables.now.entries) [] (read.problem_of problem.now).init))) }
     ensures err { IfErr result (TellsLeastOf (typing.init_faults (file_of globals.now.file) (known_over globals.now variables.now.entries) (read.problem_of problem.now).init)) }
 {
     let mut walk = Walk::new(alloc);
     let facts = problem.init.as_slice();
     let scope = globals.with(variables);
-    let init = atoms(alloc, &mut walk, &scope, facts)?;
+    let init = stated(alloc, &mut walk, &scope, facts)?;
     check_all_equals(&mut walk, globals.file, facts);
     walk.finish(init)
 }

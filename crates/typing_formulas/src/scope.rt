@@ -1,7 +1,10 @@
 //! Names of atoms become numbers.
 ghost use Rattle.std.specs.Prelude.{◌≡◌, ◌≤◌, length};
 ghost use Rattle.syntax_tree.specs.Tree as read;
-ghost use Rattle.model.specs.Typing.{word_of};
+ghost use Rattle.typing_formulas.specs.TaskParts as task_parts;
+ghost use Rattle.model.specs.Typing.{names_of_predicates, total_cost, is_same, word_of};
+ghost use Rattle.std.specs.Prelude.{map};
+ghost use Rattle.std.specs.List.{list_any};
 
 use crate::type_names::TypeNames;
 use crate::types::{all_below, is_below};
@@ -57,6 +60,13 @@ pub struct Scope<'s> {
     ghost few: { length objects.now.entries ≤ 65535 },
 }
 
+/// Whether the total cost is among these functions.
+pub fn declares_cost(functions: &IndexMap<Vec<u8>, Predicate>) -> bool
+    ensures { result ≡ list_any (is_same total_cost) (names_of_predicates (map task_parts.predicate_of functions.now.entries)) }
+{
+    functions.contains_key(b"total-cost".as_slice())
+}
+
 impl Globals<'_> {
     ghost use Rattle.typing_formulas.specs.Scope.{known_of, known_over};
 
@@ -78,7 +88,7 @@ impl Globals<'_> {
 }
 
 impl Scope<'_> {
-    ghost use Rattle.std.specs.Prelude.{[], slice_get, is_some, if◌then◌else◌, map, take, IfOk, OnOk};
+    ghost use Rattle.std.specs.Prelude.{[], slice_get, is_some, if◌then◌else◌, map, take, None, Some, IfOk, OnOk};
     ghost use Rattle.std.specs.Option.{option_map, option_map_or};
     ghost use Rattle.syntax_tree.specs.Tree.{file_of};
     ghost use Rattle.typing_formulas.specs.Scope.{argument_faults, arguments_at, known_of, narrow_atom_in};
@@ -86,7 +96,30 @@ impl Scope<'_> {
     ghost use Rattle.typing_formulas.specs.TaskParts as parts;
     ghost use Rattle.model.specs.Task.{variable, object};
     ghost use Rattle.model.specs.Trees as tree;
-    ghost use Rattle.model.specs.Typing.{atom_faults, fits_in, fits_wanted, ground_atom_faults, lifted_atom_in, names_of_objects, names_of_predicates, names_of_variables, number_in, predicate_faults, refused_word, term_faults, term_in, terms_faults, unknown_faults};
+    ghost use Rattle.model.specs.Typing.{atom_faults, atom_in, fits_in, fits_wanted, ground_atom_faults, has_cost, in_function, is_named, lifted_atom_in, names_of_objects, names_of_predicates, names_of_variables, number_in, predicate_faults, refused_word, term_faults, term_in, terms_faults, unknown_faults};
+
+    /// Whether the total cost is declared.
+    pub fn has_cost(&self) -> bool
+        ensures { result ≡ has_cost (known_of self.now) }
+    {
+        declares_cost(self.functions)
+    }
+
+    /// What may be named in a function of terms or objects: the functions stand in the place of the predicates.
+    pub fn in_function(&self) -> Scope<'_>
+        ensures file { result.file ≡ self.now.file }
+        ensures known { known_of result ≡ in_function (known_of self.now) }
+    {
+        Scope {
+            file: self.file,
+            type_names: self.type_names,
+            types: self.types,
+            predicates: self.functions,
+            functions: self.functions,
+            variables: self.variables,
+            objects: self.objects,
+        }
+    }
 
     /// The predicate of this name, which stands with this count of terms.
     fn predicate(
@@ -319,6 +352,38 @@ impl Scope<'_> {
         let predicate = self.predicate(walk, &atom.predicate, given.len())?;
         let objects = self.ground_objects(walk, predicate, given)?;
         Ok(Atom { predicate, objects })
+    }
+
+    /// Whether each name of an atom of the initial state is known, and it has no more objects than it may have. Given is
+    /// the atom that [`Scope::atom`] made of it.
+    fn is_named(&self, given: &GroundAtom<'_>, atom: &Atom) -> bool
+        requires { parts.atom_of atom.now ≡ narrow_atom_in (known_of self.now) (read.ground_atom_of given.now) }
+        ensures { result ≡ is_named (known_of self.now) (read.ground_atom_of given.now) }
+    {
+        let count = self.objects.len();
+        atom.predicate.0 < self.predicates.len()
+            && given.objects.len() <= MAX_ARGUMENTS
+            && atom
+                .objects
+                .iter()
+                .all(|object| (object.0 as usize) < count)
+    }
+
+    /// An atom of the initial state, if each of its names is known and it has no more objects than it may have.
+    pub fn named_atom(
+        &self,
+        walk: &mut Walk,
+        given: &GroundAtom<'_>,
+    ) -> Result<Option<Atom>, NoMemory>
+        ensures value { IfOk result (λ o. option_map parts.atom_of o ≡ (if is_named (known_of self.now) (read.ground_atom_of given.now) then Some (atom_in (known_of self.now) (read.ground_atom_of given.now)) else None)) }
+        ensures finds { OnOk result (Finds walk.old walk.new (ground_atom_faults (file_of self.now.file) (known_of self.now) (read.ground_atom_of given.now))) }
+    {
+        let atom = self.atom(walk, given)?;
+        if self.is_named(given, &atom) {
+            Ok(Some(atom))
+        } else {
+            Ok(None)
+        }
     }
 }
 
