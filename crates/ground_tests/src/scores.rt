@@ -1,7 +1,7 @@
 //! Scores of states of more than two words.
 use faults::NoMemory;
 use packed_state::Packed;
-use potentials::Potentials;
+use potentials_improved::Potentials;
 use std::alloc::Global;
 use std::test::Fail;
 

@@ -1,6 +1,6 @@
+pub mod ListLemmas
+pub mod GroundLemmas
+pub mod LossLemmas
 mod ScoreLemmas
-mod FairLemmas
-mod ClimbLemmas
-mod TouchingLemmas
-mod WordLemmas
-mod EstimateLemmas
+pub mod FairLemmas
+pub mod WordLemmas

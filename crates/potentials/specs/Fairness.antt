@@ -1,5 +1,5 @@
 -- What is told of potentials.
-use Rattle.std.specs.Prelude.{◌≡◌, ℕ, List, Some, slice_get, All, Contains}
+use Rattle.std.specs.Prelude.{List, All}
 use Rattle.model.specs.Task.{Atom, Task, Instance}
 use Rattle.model.specs.Meaning.{cost_of}
 use Rattle.model.specs.ClosedOff.{kept_instances}
@@ -12,11 +12,6 @@ use Rattle.potentials.specs.declared.fairness.Fairness.TheVariants as told
 -- each kept instance is fair at its cost
 abbrev pub AreInstancesFair : Task → List Atom → PotentialFunction → Type 0
 AreInstancesFair task atoms p = All (λ (i : Instance). IsFairAt (cost_of task i) task atoms p.weights i) (kept_instances task)
-
--- each of the instances of these numbers is fair
-abbrev pub AreFairAt : Task → List Atom → PotentialFunction → List ℕ → Type 0
-AreFairAt task atoms p numbers =
-    (n : ℕ) (i : Instance) → Contains numbers n → slice_get (kept_instances task) n ≡ Some i → IsFairAt (cost_of task i) task atoms p.weights i
 
 abbrev pub Tells : Task → List Atom → PotentialFunction → Fairness → Type 0
 Tells task atoms p Fair = AreFair task atoms p

@@ -1,7 +1,4 @@
 pub mod Potentials
 pub mod Fairness
-pub mod FairPotentials
-pub mod Climb
-pub mod Touching
+pub mod Swing
 pub mod Words
-pub mod Drafted

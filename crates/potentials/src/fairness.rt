@@ -1,17 +1,19 @@
 //! Whether potentials are fair.
-ghost use Rattle.std.specs.Prelude.{◌≡◌, ◌<◌, ◌↔◌, ◌≤ℤ◌, pos, Some, IfOk, MatchOption, IsTrue, All, length, slice_get};
+ghost use Rattle.std.specs.Prelude.{◌≡◌, ◌<◌, ◌↔◌, ◌≤ℤ◌, pos, Some, IfOk, MatchOption, IsTrue, length, slice_get};
 ghost use Rattle.grounding.specs.Ground.{task_in, atoms_in};
 ghost use Rattle.model.specs.Task.{Instance};
 ghost use Rattle.model.specs.Meaning.{cost_of};
 ghost use Rattle.model.specs.ClosedOff.{kept_instances};
 ghost use Rattle.potential_functions.specs.Fair.{IsFairAt, IsFairAtGoals, IsFirstUnfair};
 ghost use Rattle.potentials.specs.Potentials.{potentials_of};
-ghost use Rattle.potentials.specs.Fairness.{AreInstancesFair, AreFairAt, Tells};
+ghost use Rattle.potentials.specs.Fairness.{AreInstancesFair, Tells};
 
+use crate::goals::goal_gives_at_most;
+use crate::instances::instance_count;
+use crate::losses::loses_at_most;
 use crate::potentials::Potentials;
 use faults::NoMemory;
 use grounding::Ground;
-use potentials_draft::{goal_gives_at_most, instance_count, loses_at_most};
 use std::alloc::Global;
 
 /// Whether potentials are fair for a ground task, or what of them is not.
@@ -67,22 +69,8 @@ impl Potentials {
         None
     }
 
-    /// Whether each of the instances of these numbers is fair.
-    pub(crate) fn are_fair_at(&self, ground: &Ground<'_>, numbers: &[u32]) -> bool
-        requires width { length (potentials_of self.now).weights ≡ length (atoms_in ground.now) }
-        requires within { All (λ n. n < length (kept_instances (task_in ground.now))) numbers.now }
-        ensures { IsTrue result ↔ AreFairAt (task_in ground.now) (atoms_in ground.now) (potentials_of self.now) numbers.now }
-    {
-        for place in 0..numbers.len() {
-            if !self.is_fair_at(ground, numbers[place]) {
-                return false;
-            }
-        }
-        true
-    }
-
     /// Whether the instance of this number is fair.
-    fn is_fair_at(&self, ground: &Ground<'_>, number: u32) -> bool
+    pub fn is_fair_at(&self, ground: &Ground<'_>, number: u32) -> bool
         requires width { length (potentials_of self.now).weights ≡ length (atoms_in ground.now) }
         requires within { number < length (kept_instances (task_in ground.now)) }
         ensures { (i : Instance) → slice_get (kept_instances (task_in ground.now)) number ≡ Some i

@@ -1,17 +1,20 @@
 //! Potentials: weights of atoms by which a state has a value, which is a lower bound of what is still to pay where they are
-//! fair.
+//! fair; and what instances lose and goals give, at most, by which it is told whether they are.
 #![tactic(auto)]
 
-mod climb;
-mod drafted;
-mod estimate;
-mod fair_potentials;
 mod fairness;
-mod improve;
+mod goals;
+mod instances;
+mod losses;
 mod potentials;
-mod touching;
+mod range;
+mod swing;
 mod words;
 
-pub use fair_potentials::Fair;
 pub use fairness::Fairness;
-pub use potentials::Potentials;
+pub use goals::{goal_gives, goal_gives_at_most};
+pub use instances::instance_count;
+pub use losses::loses_at_most;
+pub use potentials::{Potentials, or_zero};
+pub use range::{MAX_WEIGHT, is_in_range};
+pub use swing::{Swing, says, touches};

@@ -4,11 +4,11 @@ ghost use Rattle.std.proofs.Props.{props};
 ghost use Rattle.potential_functions.specs.PotentialFunctions as potential;
 ghost use Rattle.potential_functions.specs.PotentialFunctions.{IsInRange};
 
+use crate::range::{are_in_range, is_in_range};
 use crate::words::gained_in_word;
 use faults::NoMemory;
 use grounding::Ground;
 use packed_state::Packed;
-use potentials_draft::{are_in_range, is_in_range};
 use std::alloc::Global;
 
 /// A potential function: a constant and a weight for each numbered atom, each from -2147483647 to 2147483647.
@@ -111,7 +111,7 @@ impl Potentials {
     }
 
     /// The weight of the atom of this number.
-    pub(crate) fn weight(&self, number: u32) -> i64
+    pub fn weight(&self, number: u32) -> i64
         requires { number < length (potentials_of self.now).weights }
         ensures value { result ≡ potential.weight (potentials_of self.now).weights number }
         ensures range { IsInRange result }
@@ -120,7 +120,7 @@ impl Potentials {
     }
 
     /// Changes the weight of the atom of this number.
-    pub(crate) fn set_weight(&mut self, number: u32, weight: i64)
+    pub fn set_weight(&mut self, number: u32, weight: i64)
         requires within { number < length (potentials_of self.old).weights }
         requires range { IsInRange weight }
         ensures { potentials_of self.new ≡ record { constant = (potentials_of self.old).constant; weights = set (potentials_of self.old).weights number weight } }
@@ -129,7 +129,7 @@ impl Potentials {
     }
 
     /// Changes the constant.
-    pub(crate) fn set_constant(&mut self, constant: i64)
+    pub fn set_constant(&mut self, constant: i64)
         requires { IsInRange constant }
         ensures { potentials_of self.new ≡ record { constant = constant; weights = (potentials_of self.old).weights } }
     {
@@ -138,7 +138,7 @@ impl Potentials {
 }
 
 /// The greater of 0 and the number.
-pub(crate) fn or_zero(number: i64) -> u64
+pub fn or_zero(number: i64) -> u64
     ensures { result ≡ potential.or_zero number }
 {
     if number > 0 { number as u64 } else { 0 }

@@ -4,7 +4,7 @@ ghost use Rattle.std.specs.Int.{bit_at};
 ghost use Rattle.potential_functions.specs.PotentialFunctions.{weight, IsInRange};
 ghost use Rattle.potentials.specs.Words as model;
 
-use potentials_draft::weight_at;
+use crate::losses::weight_at;
 
 /// What the atoms of one word gain, whose lowest bit stands for the number `first`, where the bits `changed` have become
 /// those of `after`. Only the bits that are set in `changed` are looked at.

@@ -2,7 +2,7 @@
 ghost use Rattle.std.specs.Prelude.{[], IfOk, IsTrue};
 ghost use Rattle.typing.specs.Task.{task_of};
 ghost use Rattle.grounding.specs.Ground.{task_in, atoms_in, IsGroundOf};
-ghost use Rattle.potentials.specs.FairPotentials.{potentials_in, AreOf};
+ghost use Rattle.potentials_improved.specs.FairPotentials.{potentials_in, AreOf};
 ghost use Rattle.solver.specs.Improved.{AreSettledOrHigh};
 ghost use Rattle.solver.specs.Solver.{IsTrueAnswer};
 ghost use Rattle.model.specs.WellTyped.{is_task};
@@ -17,7 +17,7 @@ use faults::{NoMemory, Refused};
 use formulas::Plan;
 use grounding::{Ground, GroundLimit};
 use packed_state::PooledStore;
-use potentials::Fair;
+use potentials_improved::Fair;
 use search::{Outcome, best_first};
 use std::alloc::Global;
 use typing::Task;

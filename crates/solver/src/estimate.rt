@@ -1,12 +1,12 @@
 //! The estimate that a search goes by.
 ghost use Rattle.std.specs.Prelude.{IfOk};
 ghost use Rattle.grounding.specs.Ground.{task_in, atoms_in};
-ghost use Rattle.potentials.specs.FairPotentials.{potentials_in, AreOf};
+ghost use Rattle.potentials_improved.specs.FairPotentials.{potentials_in, AreOf};
 ghost use Rattle.solver.specs.Improved.{AreSettledOrHigh};
 
 use faults::NoMemory;
 use grounding::Ground;
-use potentials::{Fair, Potentials};
+use potentials_improved::{Fair, Improve, Potentials};
 use std::alloc::Global;
 
 /// In how many rounds potentials are made better, at most. Each raises the initial state's value, or is the last.
@@ -22,8 +22,5 @@ pub(crate) fn improved_potentials<'g, 't>(
 {
     let zero = Potentials::zero(alloc, ground)?;
     let potentials = zero.improve(alloc, ground, IMPROVING_ROUNDS)?;
-    match Fair::new(alloc, potentials, ground)? {
-        Some(fair) => Ok(fair),
-        None => unreachable!(),
-    }
+    Ok(Fair::known(potentials, ground))
 }

@@ -10,7 +10,7 @@ use Rattle.grounding.specs.declared.ground.Ground.{Ground}
 use Rattle.grounding.specs.Ground.{task_in, atoms_in}
 use Rattle.potential_functions.specs.PotentialFunctions.{value}
 use Rattle.potential_functions.specs.Fair.{AreFair}
-use Rattle.potentials.specs.FairPotentials.{potentials_in}
+use Rattle.potentials_improved.specs.FairPotentials.{potentials_in}
 use Rattle.model.specs.Claims.{bound, none}
 use Rattle.model.specs.ClosedOff.{kept_instances}
 use Rattle.model.specs.Grounding.{ground_system}

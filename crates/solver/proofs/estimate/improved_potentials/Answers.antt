@@ -1,6 +1,6 @@
 use Rattle.std.proofs.Common.{◌∙◌, length}
 use Rattle.grounding.specs.Ground.{atoms_in}
-use Rattle.potentials.specs.Potentials.{potentials_of}
+use Rattle.potentials_improved.specs.Potentials.{potentials_of}
 use Rattle.solver.proofs.PotentialLemmas.{zero-width}
 use Rattle.solver.proofs.estimate.improved_potentials.Goals as goal
 

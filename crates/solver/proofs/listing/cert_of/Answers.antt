@@ -7,7 +7,7 @@ use Rattle.search.specs.Outcome as search
 use Rattle.certificate_lines.specs.Lines.{claim_of}
 use Rattle.certificate.specs.CertificateParts.{certificate_of_parts}
 use Rattle.potential_functions.specs.PotentialFunctions.{PotentialFunction, value}
-use Rattle.potentials.specs.FairPotentials.{potentials_in, ground_in}
+use Rattle.potentials_improved.specs.FairPotentials.{potentials_in, ground_in}
 use Rattle.grounding.specs.Ground.{task_in, atoms_in}
 use Rattle.solver.specs.Listing.{state_line}
 use Rattle.solver.proofs.ListingLemmas.{found_widths, within_limits}

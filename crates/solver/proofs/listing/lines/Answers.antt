@@ -5,7 +5,7 @@ use Rattle.packed_state.specs.Packed.{bits_of}
 use Rattle.packed_state.specs.PooledView.{pooled_states}
 use Rattle.certificate_lines.specs.Lines.{line_of}
 use Rattle.potential_functions.specs.PotentialFunctions.{value}
-use Rattle.potentials.specs.Potentials.{potentials_of}
+use Rattle.potentials_improved.specs.Potentials.{potentials_of}
 use Rattle.solver.proofs.LoopLemmas.{width_at, lines_next}
 use Rattle.solver.proofs.listing.lines.Goals as goal
 

@@ -4,7 +4,7 @@ use Rattle.packed_state.specs.PooledView.{pooled_width, pooled_states}
 use Rattle.certificate_lines.specs.Lines as parts
 use Rattle.search.specs.Outcome as search
 use Rattle.potential_functions.specs.PotentialFunctions.{value}
-use Rattle.potentials.specs.Potentials.{potentials_of}
+use Rattle.potentials_improved.specs.Potentials.{potentials_of}
 use Rattle.solver.specs.Listing.{state_line}
 use Rattle.solver.proofs.listing.lines.Given as goal
 

@@ -5,7 +5,7 @@ use Rattle.std.specs.Prelude.{All}
 use Rattle.grounding.specs.Ground.{task_in, atoms_in}
 use Rattle.potential_functions.specs.PotentialFunctions.{IsInRange}
 use Rattle.potentials.specs.Potentials.{potentials_of}
-use Rattle.potentials_draft.proofs.GroundLemmas.{few-atoms}
+use Rattle.potentials.proofs.GroundLemmas.{few-atoms}
 use Rattle.potentials.proofs.FairLemmas.{below-counting, decides-fair}
 use Rattle.potentials.proofs.potentials.Potentials.is_fair_at.Goals as goal
 

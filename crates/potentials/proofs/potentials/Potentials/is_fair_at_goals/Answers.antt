@@ -4,7 +4,7 @@ use Rattle.std.proofs.lemmas.Int.{ints}
 use Rattle.grounding.specs.Ground.{task_in, atoms_in}
 use Rattle.potential_functions.specs.PotentialFunctions.{IsInRange}
 use Rattle.potentials.specs.Potentials.{potentials_of}
-use Rattle.potentials_draft.proofs.GroundLemmas.{few-atoms}
+use Rattle.potentials.proofs.GroundLemmas.{few-atoms}
 use Rattle.potentials.proofs.FairLemmas.{goal-is, decides-goals}
 use Rattle.potentials.proofs.potentials.Potentials.is_fair_at_goals.Goals as goal
 

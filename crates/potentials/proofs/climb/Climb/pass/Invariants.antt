@@ -1,6 +1,0 @@
-use Rattle.grounding.specs.Ground.{task_in, atoms_in}
-use Rattle.potentials.specs.Climb.{IsPass}
-use Rattle.potentials.proofs.climb.Climb.pass.Given as goal
-
-abbrev pub invariant-loop-atom : goal.invariant-loop-atom
-invariant-loop-atom l = IsPass (task_in l.ground) (atoms_in l.ground) l.atom l.initial.self l.self l.raised

@@ -1,8 +1,0 @@
-use Rattle.std.proofs.Common.{take}
-use Rattle.grounding.specs.Ground.{task_in, atoms_in}
-use Rattle.potentials.specs.Potentials.{potentials_of}
-use Rattle.potentials.specs.Fairness.{AreFairAt}
-use Rattle.potentials.proofs.potentials.Potentials.are_fair_at.Given as goal
-
-abbrev pub invariant-loop-place : goal.invariant-loop-place
-invariant-loop-place l = AreFairAt (task_in l.ground) (atoms_in l.ground) (potentials_of l.self) (take l.place l.numbers)

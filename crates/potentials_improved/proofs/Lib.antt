@@ -1,0 +1,3 @@
+mod EstimateLemmas
+mod ClimbLemmas
+mod TouchingLemmas

@@ -1,0 +1,204 @@
+-- Instances that do not touch an atom lose the same whatever its weight.
+use Rattle.std.proofs.Common.{◌≡◌, ◌∙◌, ℕ, zero, suc, ◌+◌, ◌<◌, inl, inr, Bool, true, false, true≢false, ◌||◌, ◌==◌, List, [], ◌∷◌, ◌++◌, Some, map, take, get_or, set, length, refl, sym, ap, subst, arith, ℤ, pos, ◌≤ℤ◌}
+use Rattle.std.specs.Prelude.{if◌then◌else◌, ◌⊎◌, All, Contains, slice_get}
+use Rattle.std.proofs.lemmas.Bool.{cases_eq, eq-eqb, eqb-true, iff_false}
+use Rattle.std.proofs.lemmas.Option.{slice_get-get_or}
+use Rattle.std.proofs.lemmas.List.Elements.{All-contains, All-contains_itself}
+use Rattle.std.proofs.lemmas.List.{take_more}
+use Rattle.model.proofs.ListLemmas.{Contains-here, Contains-there, Contains-cases, Contains-none, Contains-got, Contains-map}
+use Rattle.grounding.specs.declared.changes.CountingChange.{CountingChange}
+use Rattle.grounding.specs.Changes.{counting_of}
+use Rattle.potentials.proofs.ListLemmas.{map-take-more}
+use Rattle.model.specs.Task.{Atom, Task, Instance}
+use Rattle.model.specs.Meaning.{cost_of}
+use Rattle.model.specs.ClosedOff.{kept_instances}
+use Rattle.model.specs.NumberedLiterals.{NumberedLiteral, NumberedChange, literals_of_instance, counting_of_instance, counting_of_number}
+use Rattle.potential_functions.specs.PotentialFunctions.{PotentialFunction, weight}
+use Rattle.potential_functions.specs.Fair.{touches, worst, loses, loses_at_most, IsFairAt}
+use Rattle.potential_functions.proofs.Sums.{sum-alike}
+use Rattle.potential_functions.proofs.Settling.{weight-other, potentials, IsNoneBetter}
+use Rattle.potential_functions.proofs.Numbers.{counting-named, counting-below}
+use Rattle.potentials.specs.Fairness.{AreInstancesFair}
+use Rattle.potentials_improved.specs.declared.touching.Touching.{Touching}
+use Rattle.potentials_improved.specs.Touching.{row_of, IsTouching, IsAdded, AreFairAt}
+use Rattle.potentials.proofs.LossLemmas.{touches-append}
+use Rattle.potentials.proofs.FairLemmas.{Decides}
+
+-- what is read of a list stands there
+got-again : {X : Type 0} (xs : List X) (n : ℕ) (d : X) → n < length xs → get_or xs n d ≡ get_or xs n (get_or xs n d)
+got-again [] n d within = absurd (omega arith)
+got-again (x ∷ xs) zero d within = refl
+got-again (x ∷ xs) (suc n) d within = got-again xs n d (omega arith)
+
+loses-untouched : (count : ℕ) (literals : List NumberedLiteral) (changes : List NumberedChange) (weights : List ℤ) (n : ℕ) (w : ℤ) → touches changes n ≡ false
+    → loses_at_most count (set weights n w) literals changes ≡ loses_at_most count weights literals changes
+loses-untouched count literals changes weights n w untouched =
+    sum-alike count (loses literals changes (set weights n w)) (loses literals changes weights)
+    (λ k below. elim (cases_eq k n) [
+      | inl is ↦
+          let here : touches changes k ≡ false = subst (λ j. touches changes j ≡ false) (sym is) untouched in
+          ap (λ b. if b then worst literals changes (weight (set weights n w) k) k else pos 0) here ∙ sym (ap (λ b. if b then worst literals changes (weight weights k) k else pos 0) here)
+      | inr other ↦ ap (λ v. if touches changes k then worst literals changes v k else pos 0) (weight-other weights n k w other)
+    ])
+
+module _ (task : Task) (atoms : List Atom) where
+  pub fair-by_touching : (p q : PotentialFunction) (c : ℤ) (a : ℕ) (w : ℤ) (t : Touching) → IsTouching task atoms (length (kept_instances task)) t → AreInstancesFair task atoms p
+      → q ≡ potentials c (set p.weights a w) → AreFairAt task atoms q (row_of t a) → AreInstancesFair task atoms (potentials c (set p.weights a w))
+  fair-by_touching p q c a w t are fair is tested k d below =
+      let i = get_or (kept_instances task) k d in
+      let named = slice_get-get_or (kept_instances task) k d below in
+      elim (touches (counting_of_instance task atoms i) a) as (λ b. touches (counting_of_instance task atoms i) a ≡ b → IsFairAt (cost_of task i) task atoms (set p.weights a w) i) [
+        | true ↦ λ touched. subst (λ (x : PotentialFunction). IsFairAt (cost_of task i) task atoms x.weights i) is
+            (tested k i (are.covers a k below (ap (λ l. touches l a) (counting-named atoms task k i named) ∙ touched)) named)
+        | false ↦ λ untouched. record {
+          within = subst (λ z. z ≤ℤ pos (cost_of task i)) (sym (loses-untouched (length atoms) (literals_of_instance task atoms i) (counting_of_instance task atoms i) p.weights a w untouched)) (fair k d below).within;
+        }
+      ] refl
+
+  pub none-unfair_among : (p q : PotentialFunction) (c : ℤ) (weights : List ℤ) (numbers : List ℕ) → q ≡ potentials c weights → (AreFairAt task atoms q numbers → ⊥) → IsNoneBetter task atoms p weights
+  none-unfair_among p q c weights numbers is unfair =
+      subst (λ (x : PotentialFunction). IsNoneBetter task atoms p x.weights) is
+      (record { none = λ m fits fair. absurd (unfair (λ n i among named. at fair.instances i (Contains-got (kept_instances task) n i named))) })
+    where
+      at : All (λ (i : Instance). IsFairAt (cost_of task i) task atoms q.weights i) (kept_instances task) → (i : Instance) → Contains (kept_instances task) i → IsFairAt (cost_of task i) task atoms q.weights i
+      at all i among = All-contains (λ (i : Instance). IsFairAt (cost_of task i) task atoms q.weights i) (kept_instances task) i all among
+
+-- ---- rows
+
+Contains-before : {X : Type 0} (xs : List X) (x y : X) → Contains xs y → Contains (xs ++ x ∷ []) y
+Contains-before [] x y among = absurd (Contains-none y among)
+Contains-before (z ∷ xs) x y among = elim (Contains-cases z xs y among) [
+  | inl is ↦ subst (Contains (z ∷ (xs ++ x ∷ []))) is (Contains-here z (xs ++ x ∷ []))
+  | inr later ↦ Contains-there z (xs ++ x ∷ []) y (Contains-before xs x y later)
+]
+
+Contains-last : {X : Type 0} (xs : List X) (x : X) → Contains (xs ++ x ∷ []) x
+Contains-last [] x = Contains-here x []
+Contains-last (z ∷ xs) x = Contains-there z (xs ++ x ∷ []) x (Contains-last xs x)
+
+Contains-appended : {X : Type 0} (xs : List X) (x y : X) → Contains (xs ++ x ∷ []) y → Contains xs y ⊎ (y ≡ x)
+Contains-appended [] x y among = elim (Contains-cases x [] y among) [
+  | inl is ↦ inr (sym is)
+  | inr none ↦ absurd (Contains-none y none)
+]
+Contains-appended (z ∷ xs) x y among = elim (Contains-cases z (xs ++ x ∷ []) y among) [
+  | inl is ↦ inl (subst (Contains (z ∷ xs)) is (Contains-here z xs))
+  | inr later ↦ elim (Contains-appended xs x y later) [
+    | inl within ↦ inl (Contains-there z xs y within)
+    | inr is ↦ inr is
+  ]
+]
+
+pub added-none : (number : ℕ) (t : Touching) → IsAdded number [] t t
+added-none number t = record { width = refl; kept = λ a n among. among; only = λ a n among. inl among; added = λ a touched. absurd (true≢false (sym touched)) }
+
+-- one change more
+pub added-more : (number : ℕ) (done : List NumberedChange) (c : NumberedChange) (old mid new : Touching) → IsAdded number done old mid → length new.rows.items ≡ length mid.rows.items
+    → ((a : ℕ) → row_of new a ≡ (if a == c.atom then row_of mid a ++ number ∷ [] else row_of mid a)) → IsAdded number (done ++ c ∷ []) old new
+added-more number done c old mid new so width rows = record {
+  width = width ∙ so.width;
+  kept = λ a n among. into a n (so.kept a n among);
+  only = λ a n among. out a n among;
+  added = λ a touched. made a (sym (touches-append done c a) ∙ touched);
+}
+  where
+    into : (a n : ℕ) → Contains (row_of mid a) n → Contains (row_of new a) n
+    into a n among = subst (λ r. Contains r n) (sym (rows a)) (of_bit (a == c.atom))
+      where
+        of_bit : (b : Bool) → Contains (if b then row_of mid a ++ number ∷ [] else row_of mid a) n
+        of_bit true = Contains-before (row_of mid a) number n among
+        of_bit false = among
+
+    out : (a n : ℕ) → Contains (row_of new a) n → Contains (row_of old a) n ⊎ (n ≡ number)
+    out a n among = of_bit (a == c.atom) (subst (λ r. Contains r n) (rows a) among)
+      where
+        of_bit : (b : Bool) → Contains (if b then row_of mid a ++ number ∷ [] else row_of mid a) n → Contains (row_of old a) n ⊎ (n ≡ number)
+        of_bit true last = elim (Contains-appended (row_of mid a) number n last) [
+          | inl earlier ↦ so.only a n earlier
+          | inr is ↦ inr is
+        ]
+        of_bit false earlier = so.only a n earlier
+
+    made : (a : ℕ) → (touches done a || c.atom == a) ≡ true → Contains (row_of new a) number
+    made a touched = of_bit (touches done a) refl touched
+      where
+        of_bit : (b : Bool) → touches done a ≡ b → (b || c.atom == a) ≡ true → Contains (row_of new a) number
+        of_bit true before e = into a number (so.added a before)
+        of_bit false before e =
+            let here : a == c.atom ≡ true = eq-eqb a c.atom (sym (eqb-true c.atom a e)) in
+            subst (λ r. Contains r number) (sym (rows a ∙ ap (λ b. if b then row_of mid a ++ number ∷ [] else row_of mid a) here)) (Contains-last (row_of mid a) number)
+
+module _ (task : Task) (atoms : List Atom) where
+  pub touching-none : (t : Touching) → length t.rows.items ≡ length atoms → ((a : ℕ) → row_of t a ≡ []) → IsTouching task atoms 0 t
+  touching-none t width empty = record {
+    width = width;
+    within = λ a n among. absurd (Contains-none n (subst (λ r. Contains r n) (empty a) among));
+    covers = λ a n below. absurd (omega arith);
+  }
+
+  -- one instance more
+  pub touching-more : (number : ℕ) (old new : Touching) (changes : List NumberedChange) → IsTouching task atoms number old → changes ≡ counting_of_number task atoms number → IsAdded number changes old new
+      → IsTouching task atoms (number + 1) new
+  touching-more number old new changes so are more = record {
+    width = more.width ∙ so.width;
+    within = λ a n among. elim (more.only a n among) [
+      | inl earlier ↦ let below = so.within a n earlier in omega arith
+      | inr is ↦ omega arith
+    ];
+    covers = λ a n below touched. elim (cases_eq n number) [
+      | inl is ↦ subst (Contains (row_of new a)) (sym is) (more.added a (ap (λ l. touches l a) are ∙ subst (λ k. touches (counting_of_number task atoms k) a ≡ true) is touched))
+      | inr other ↦ more.kept a n (so.covers a n (omega arith) touched)
+    ];
+  }
+
+-- ---- the instances of a row
+
+module _ (task : Task) (atoms : List Atom) (p : PotentialFunction) where
+  pub fair_at-none : AreFairAt task atoms p []
+  fair_at-none n i among named = absurd (Contains-none n among)
+
+  -- one number more
+  pub fair_at-next : (numbers : List ℕ) (place d : ℕ) (answer : Bool) → place < length numbers → Decides task atoms p answer (get_or numbers place d) → answer ≡ true
+      → AreFairAt task atoms p (take place numbers) → AreFairAt task atoms p (take (place + 1) numbers)
+  fair_at-next numbers place d answer within decides passes before n i among named =
+      let x = get_or numbers place d in
+      elim (Contains-appended (take place numbers) x n (subst (λ l. Contains l n) (take_more numbers place x within ∙ ap (λ y. take place numbers ++ y ∷ []) (sym (got-again numbers place d within))) among)) [
+        | inl earlier ↦ before n i earlier named
+        | inr is ↦ (decides i (subst (λ k. slice_get (kept_instances task) k ≡ Some i) is named)).0 passes
+      ]
+
+  pub unfair_at : (numbers : List ℕ) (place d : ℕ) (answer : Bool) → place < length numbers → get_or numbers place d < length (kept_instances task) → Decides task atoms p answer (get_or numbers place d) → answer ≡ false
+      → AreFairAt task atoms p numbers → ⊥
+  unfair_at numbers place d answer within below decides fails all =
+      let x = get_or numbers place d in
+      let i = get_or (kept_instances task) x (record { schema = 0; objects = [] }) in
+      let named = slice_get-get_or (kept_instances task) x (record { schema = 0; objects = [] }) below in
+      iff_false (decides i named) fails (all x i (All-contains_itself numbers place d within) named)
+
+-- the numbers of a row are of instances
+pub row-below : (task : Task) (atoms : List Atom) (t : Touching) (a : ℕ) (numbers : List ℕ) → IsTouching task atoms (length (kept_instances task)) t → numbers ≡ row_of t a
+    → All (λ n. n < length (kept_instances task)) numbers
+row-below task atoms t a numbers are is =
+    subst (All (λ n. n < length (kept_instances task))) (sym is) (λ k d below. are.within a (get_or (row_of t a) k d) (All-contains_itself (row_of t a) k d below))
+
+-- ---- what the code reads of a list
+
+pub atom-below : (xs : List CountingChange) (place m k : ℕ) (d : CountingChange) → All (λ (c : NumberedChange). c.atom < m) (map counting_of xs) → place < length xs → k ≡ m → (get_or xs place d).atom < k
+atom-below xs place m k d all within is =
+    subst (λ l. (get_or xs place d).atom < l) (sym is)
+    (All-contains (λ (c : NumberedChange). c.atom < m) (map counting_of xs) (counting_of (get_or xs place d)) all (Contains-map counting_of xs (get_or xs place d) (All-contains_itself xs place d within)))
+
+pub atoms-below : (task : Task) (atoms : List Atom) (n number : ℕ) (t : Touching) (changes : List NumberedChange) → IsTouching task atoms n t → changes ≡ counting_of_number task atoms number
+    → All (λ (c : NumberedChange). c.atom < length t.rows.items) changes
+atoms-below task atoms n number t changes so are =
+    subst (All (λ (c : NumberedChange). c.atom < length t.rows.items)) (sym are)
+    (λ k d below. subst (λ l. (get_or (counting_of_number task atoms number) k d).atom < l) (sym so.width)
+    (counting-below atoms task number (get_or (counting_of_number task atoms number) k d) (All-contains_itself (counting_of_number task atoms number) k d below)))
+
+-- one change more of the code's list
+pub added-at : (number : ℕ) (xs : List CountingChange) (place : ℕ) (d : CountingChange) (old mid new : Touching) → place < length xs → IsAdded number (map counting_of (take place xs)) old mid
+    → length new.rows.items ≡ length mid.rows.items → ((a : ℕ) → row_of new a ≡ (if a == (get_or xs place d).atom then row_of mid a ++ number ∷ [] else row_of mid a))
+    → IsAdded number (map counting_of (take (place + 1) xs)) old new
+added-at number xs place d old mid new within so width rows =
+    subst (λ l. IsAdded number l old new) (sym (map-take-more counting_of xs place (get_or xs place d) within (got-again xs place d within)))
+    (added-more number (map counting_of (take place xs)) (counting_of (get_or xs place d)) old mid new so width rows)

@@ -1,0 +1,50 @@
+-- Fair potentials on the way to better ones.
+use Rattle.std.specs.Prelude.{◌≡◌, ℕ, ◌<◌, Bool, true, false, ℤ, pos, ◌+ℤ◌, ◌≤ℤ◌, List, set, length}
+use Rattle.model.specs.Task.{Atom, Task}
+use Rattle.model.specs.NumberedLiterals.{literals_of_goal}
+use Rattle.model.specs.Grounding.{ground_system}
+use Rattle.potential_functions.specs.PotentialFunctions.{score, or_zero, IsInRange}
+use Rattle.potential_functions.specs.Fair.{goal_gives_at_most, AreFair}
+use Rattle.potential_functions.specs.Settled.{initial_value}
+use Rattle.potential_functions.proofs.Settling.{potentials, IsNoneBetter, IsTried}
+use Rattle.potentials.specs.Potentials.{potentials_of}
+use Rattle.potentials_improved.specs.declared.climb.Climb.{Climb}
+use Rattle.potentials_improved.specs.declared.climb.Next.{Next}
+
+abbrev pub worth : Task → List Atom → Climb → ℕ
+worth task atoms c = initial_value task atoms (potentials_of c.potentials)
+
+pub record IsClimb (task : Task) (atoms : List Atom) (c : Climb) : Type 0 where
+  pub width : length c.potentials.weights.items ≡ length atoms
+  pub fair : AreFair task atoms (potentials_of c.potentials)
+  pub goal : c.goal ≡ goal_gives_at_most (length atoms) c.potentials.weights.items (literals_of_goal task atoms)
+  pub score : c.score ≡ score (potentials_of c.potentials) (ground_system task atoms).initial
+  pub greatest : (k : ℤ) → IsInRange k → (k +ℤ c.goal) ≤ℤ pos 0 → k ≤ℤ c.potentials.constant
+
+-- what the changed weight gives, with the greatest constant that goes with it: better than what there is
+pub record IsNext (task : Task) (atoms : List Atom) (c : Climb) (n : ℕ) (w : ℤ) (next : Next) : Type 0 where
+  pub goal : next.goal ≡ goal_gives_at_most (length atoms) (set c.potentials.weights.items n w) (literals_of_goal task atoms)
+  pub score : next.score ≡ score (potentials next.constant (set c.potentials.weights.items n w)) (ground_system task atoms).initial
+  pub range : IsInRange next.constant
+  pub meets : (next.constant +ℤ next.goal) ≤ℤ pos 0
+  pub greatest : (k : ℤ) → IsInRange k → (k +ℤ next.goal) ≤ℤ pos 0 → k ≤ℤ next.constant
+  pub better : worth task atoms c < or_zero next.score
+
+pub record IsWeightTried (task : Task) (atoms : List Atom) (old new : Climb) (n : ℕ) (w : ℤ) (raised : Bool) : Type 0 where
+  pub climb : IsClimb task atoms new
+  pub better : raised ≡ true → worth task atoms old < worth task atoms new
+  pub same : raised ≡ false → potentials_of new.potentials ≡ potentials_of old.potentials
+  pub none : raised ≡ false → IsInRange w → IsNoneBetter task atoms (potentials_of old.potentials) (set old.potentials.weights.items n w)
+
+pub record IsAtomTried (task : Task) (atoms : List Atom) (old new : Climb) (n : ℕ) (raised : Bool) : Type 0 where
+  pub climb : IsClimb task atoms new
+  pub better : raised ≡ true → worth task atoms old < worth task atoms new
+  pub same : raised ≡ false → potentials_of new.potentials ≡ potentials_of old.potentials
+  pub tried : raised ≡ false → IsTried task atoms (potentials_of old.potentials) n
+
+-- the atoms below n are tried
+pub record IsPass (task : Task) (atoms : List Atom) (n : ℕ) (old new : Climb) (raised : Bool) : Type 0 where
+  pub climb : IsClimb task atoms new
+  pub better : raised ≡ true → worth task atoms old < worth task atoms new
+  pub same : raised ≡ false → potentials_of new.potentials ≡ potentials_of old.potentials
+  pub tried : raised ≡ false → (k : ℕ) → k < n → IsTried task atoms (potentials_of old.potentials) k

@@ -1,0 +1,33 @@
+-- Which instances touch an atom, as the code keeps them.
+use Rattle.std.specs.Prelude.{◌≡◌, ℕ, ◌<◌, ◌⊎◌, true, List, [], Some, length, slice_get, Contains}
+use Rattle.std.specs.Option.{option_map_or}
+use Rattle.std.specs.Global.{Vec}
+use Rattle.model.specs.Task.{Atom, Task, Instance}
+use Rattle.model.specs.Meaning.{cost_of}
+use Rattle.model.specs.ClosedOff.{kept_instances}
+use Rattle.model.specs.NumberedLiterals.{NumberedChange, counting_of_number}
+use Rattle.potential_functions.specs.PotentialFunctions.{PotentialFunction}
+use Rattle.potential_functions.specs.Fair.{touches, IsFairAt}
+use Rattle.potentials_improved.specs.declared.touching.Touching.{Touching}
+
+-- the numbers at the place of this atom
+abbrev pub row_of : Touching → ℕ → List ℕ
+row_of t a = option_map_or (λ (v : Vec ℕ). v.items) (slice_get t.rows.items a) []
+
+-- The numbers are of instances of the task, and each instance below this number that touches an atom stands in its row.
+pub record IsTouching (task : Task) (atoms : List Atom) (count : ℕ) (t : Touching) : Type 0 where
+  pub width : length t.rows.items ≡ length atoms
+  pub within : (a n : ℕ) → Contains (row_of t a) n → n < count
+  pub covers : (a n : ℕ) → n < count → touches (counting_of_number task atoms n) a ≡ true → Contains (row_of t a) n
+
+-- the number is added to the row of each atom that the changes touch, and nothing else is
+pub record IsAdded (number : ℕ) (changes : List NumberedChange) (old new : Touching) : Type 0 where
+  pub width : length new.rows.items ≡ length old.rows.items
+  pub kept : (a n : ℕ) → Contains (row_of old a) n → Contains (row_of new a) n
+  pub only : (a n : ℕ) → Contains (row_of new a) n → Contains (row_of old a) n ⊎ (n ≡ number)
+  pub added : (a : ℕ) → touches changes a ≡ true → Contains (row_of new a) number
+
+-- each of the instances of these numbers is fair
+abbrev pub AreFairAt : Task → List Atom → PotentialFunction → List ℕ → Type 0
+AreFairAt task atoms p numbers =
+    (n : ℕ) (i : Instance) → Contains numbers n → slice_get (kept_instances task) n ≡ Some i → IsFairAt (cost_of task i) task atoms p.weights i

@@ -1,0 +1,259 @@
+//! Steps from fair potentials to better ones.
+ghost use Rattle.std.specs.Prelude.{◌≡◌, ◌<◌, ◌≤◌, ◌||◌, ℤ, ◌+ℤ◌, ◌≤ℤ◌, neg_ℤ, pos, set, if◌then◌else◌, IfSome, IfNone, length};
+ghost use Rattle.packed_state.specs.Packed.{bits_of};
+ghost use Rattle.grounding.specs.Ground.{task_in, atoms_in};
+ghost use Rattle.model.specs.ClosedOff.{kept_instances};
+ghost use Rattle.model.specs.NumberedLiterals.{literals_of_goal};
+ghost use Rattle.model.specs.Grounding.{ground_system};
+ghost use Rattle.potential_functions.specs.PotentialFunctions.{IsInRange};
+ghost use Rattle.potential_functions.specs.PotentialFunctions as potential;
+ghost use Rattle.potential_functions.specs.Fair as model;
+ghost use Rattle.potential_functions.specs.Fair.{AreFair};
+ghost use Rattle.potential_functions.specs.Settled.{initial_value};
+ghost use Rattle.potential_functions.proofs.Settling.{IsNoneBetter};
+ghost use Rattle.potentials.specs.Potentials.{potentials_of};
+ghost use Rattle.potentials_improved.specs.Touching.{IsTouching};
+ghost use Rattle.potentials_improved.specs.Climb.{IsClimb, IsNext, IsWeightTried, IsAtomTried, IsPass, worth};
+
+use crate::touching::{Touching, are_fair_at};
+use grounding::Ground;
+use packed_state::Packed;
+use potentials::{
+    MAX_WEIGHT, Potentials, goal_gives, goal_gives_at_most, is_in_range, or_zero, says,
+};
+
+/// Fair potentials of the greatest constant, with what they give at most at a goal, and with their score in the initial
+/// state.
+#[derive(Drop)]
+pub(crate) struct Climb {
+    pub(crate) potentials: Potentials,
+    pub(crate) goal: i64,
+    pub(crate) score: i64,
+}
+
+/// What a changed weight gives.
+#[derive(Clone, Copy)]
+pub(crate) struct Next {
+    pub(crate) constant: i64,
+    pub(crate) goal: i64,
+    pub(crate) score: i64,
+}
+
+/// The greatest constant in range of potentials that give this at most at a goal.
+pub(crate) fn greatest_constant(goal: i64) -> i64
+    requires { goal ≤ℤ pos 2147483647 }
+    ensures range { IsInRange result }
+    ensures meets { (result +ℤ goal) ≤ℤ pos 0 }
+    ensures greatest { (k : ℤ) → IsInRange k → (k +ℤ goal) ≤ℤ pos 0 → k ≤ℤ result }
+{
+    if goal < -MAX_WEIGHT {
+        return MAX_WEIGHT;
+    }
+    -goal
+}
+
+impl Climb {
+    /// That of these potentials, with the greatest constant that they may have.
+    pub(crate) fn new(mut potentials: Potentials, ground: &Ground<'_>, initial: &Packed) -> Climb
+        requires width { length (potentials_of potentials).weights ≡ length (atoms_in ground.now) }
+        requires fair { AreFair (task_in ground.now) (atoms_in ground.now) (potentials_of potentials) }
+        requires initial { bits_of initial.now ≡ (ground_system (task_in ground.now) (atoms_in ground.now)).initial }
+        ensures climb { IsClimb (task_in ground.now) (atoms_in ground.now) result }
+        ensures no_lower { initial_value (task_in ground.now) (atoms_in ground.now) (potentials_of potentials) ≤ worth (task_in ground.now) (atoms_in ground.now) result }
+    {
+        let goal = goal_gives_at_most(ground.goal_literals(), potentials.weights());
+        let constant = greatest_constant(goal);
+        potentials.set_constant(constant);
+        let score = potentials.score(initial);
+        Climb {
+            potentials,
+            goal,
+            score,
+        }
+    }
+
+    /// What they give at most at a goal with the changed weight.
+    fn moved_goal(&self, ground: &Ground<'_>, atom: u32, weight: i64) -> i64
+        requires climb { IsClimb (task_in ground.now) (atoms_in ground.now) self.now }
+        requires within { atom < length (atoms_in ground.now) }
+        requires range { IsInRange weight }
+        ensures { result ≡ model.goal_gives_at_most (length (atoms_in ground.now)) (set self.now.potentials.weights.items atom weight) (literals_of_goal (task_in ground.now) (atoms_in ground.now)) }
+    {
+        let old = self.potentials.weight(atom);
+        let literals = ground.goal_literals();
+        let is_false = says(literals, atom, false);
+        let is_true = says(literals, atom, true);
+        let before = goal_gives(is_false, is_true, old);
+        let after = goal_gives(is_false, is_true, weight);
+        exchanged(self.goal, before, after)
+    }
+
+    /// Their score in the initial state with the changed weight and this constant.
+    fn moved_score(
+        &self,
+        ground: &Ground<'_>,
+        initial: &Packed,
+        atom: u32,
+        weight: i64,
+        constant: i64,
+    ) -> i64
+        requires climb { IsClimb (task_in ground.now) (atoms_in ground.now) self.now }
+        requires initial { bits_of initial.now ≡ (ground_system (task_in ground.now) (atoms_in ground.now)).initial }
+        requires within { atom < length (atoms_in ground.now) }
+        requires weight { IsInRange weight }
+        requires constant { IsInRange constant }
+        ensures { result ≡ potential.score (record { constant = constant; weights = set self.now.potentials.weights.items atom weight }) (ground_system (task_in ground.now) (atoms_in ground.now)).initial }
+    {
+        let old = self.potentials.weight(atom);
+        let is_true = initial.has(atom);
+        let before = given(is_true, old);
+        let after = given(is_true, weight);
+        let moved = exchanged(self.score, self.potentials.constant(), constant);
+        exchanged(moved, before, after)
+    }
+
+    /// What the changed weight gives, if that is better.
+    fn next(&self, ground: &Ground<'_>, initial: &Packed, atom: u32, weight: i64) -> Option<Next>
+        requires climb { IsClimb (task_in ground.now) (atoms_in ground.now) self.now }
+        requires initial { bits_of initial.now ≡ (ground_system (task_in ground.now) (atoms_in ground.now)).initial }
+        requires within { atom < length (atoms_in ground.now) }
+        requires range { IsInRange weight }
+        ensures none { IfNone result (IsNoneBetter (task_in ground.now) (atoms_in ground.now) (potentials_of self.now.potentials) (set self.now.potentials.weights.items atom weight)) }
+        ensures some { IfSome result (IsNext (task_in ground.now) (atoms_in ground.now) self.now atom weight) }
+    {
+        let goal = self.moved_goal(ground, atom, weight);
+        if goal > MAX_WEIGHT {
+            return None;
+        }
+        let constant = greatest_constant(goal);
+        let score = self.moved_score(ground, initial, atom, weight, constant);
+        if or_zero(score) <= or_zero(self.score) {
+            return None;
+        }
+        Some(Next {
+            constant,
+            goal,
+            score,
+        })
+    }
+
+    /// Takes the weight, if it makes them better.
+    fn try_weight(
+        &mut self,
+        ground: &Ground<'_>,
+        touching: &Touching,
+        initial: &Packed,
+        atom: u32,
+        weight: i64,
+    ) -> bool
+        requires climb { IsClimb (task_in ground.now) (atoms_in ground.now) self.old }
+        requires touching { IsTouching (task_in ground.now) (atoms_in ground.now) (length (kept_instances (task_in ground.now))) touching.now }
+        requires initial { bits_of initial.now ≡ (ground_system (task_in ground.now) (atoms_in ground.now)).initial }
+        requires within { atom < length (atoms_in ground.now) }
+        ensures { IsWeightTried (task_in ground.now) (atoms_in ground.now) self.old self.new atom weight result }
+    {
+        if !is_in_range(weight) {
+            return false;
+        }
+        match self.next(ground, initial, atom, weight) {
+            Some(next) => self.take_if_fair(ground, touching, atom, weight, next),
+            None => false,
+        }
+    }
+
+    /// Takes the weight and what it gives, if each instance that touches the atom is fair then. The others stay fair.
+    fn take_if_fair(
+        &mut self,
+        ground: &Ground<'_>,
+        touching: &Touching,
+        atom: u32,
+        weight: i64,
+        next: Next,
+    ) -> bool
+        requires climb { IsClimb (task_in ground.now) (atoms_in ground.now) self.old }
+        requires touching { IsTouching (task_in ground.now) (atoms_in ground.now) (length (kept_instances (task_in ground.now))) touching.now }
+        requires within { atom < length (atoms_in ground.now) }
+        requires range { IsInRange weight }
+        requires next { IsNext (task_in ground.now) (atoms_in ground.now) self.old atom weight next }
+        ensures { IsWeightTried (task_in ground.now) (atoms_in ground.now) self.old self.new atom weight result }
+    {
+        let old = self.potentials.weight(atom);
+        self.potentials.set_weight(atom, weight);
+        if !are_fair_at(&self.potentials, ground, touching.of(atom)) {
+            self.potentials.set_weight(atom, old);
+            return false;
+        }
+        self.potentials.set_constant(next.constant);
+        self.goal = next.goal;
+        self.score = next.score;
+        true
+    }
+
+    /// Tries the weight of the atom that is one less, and the one that is one more.
+    fn try_atom(
+        &mut self,
+        ground: &Ground<'_>,
+        touching: &Touching,
+        initial: &Packed,
+        atom: u32,
+    ) -> bool
+        requires climb { IsClimb (task_in ground.now) (atoms_in ground.now) self.old }
+        requires touching { IsTouching (task_in ground.now) (atoms_in ground.now) (length (kept_instances (task_in ground.now))) touching.now }
+        requires initial { bits_of initial.now ≡ (ground_system (task_in ground.now) (atoms_in ground.now)).initial }
+        requires within { atom < length (atoms_in ground.now) }
+        ensures { IsAtomTried (task_in ground.now) (atoms_in ground.now) self.old self.new atom result }
+    {
+        let old = self.potentials.weight(atom);
+        if self.try_weight(ground, touching, initial, atom, old - 1) {
+            return true;
+        }
+        self.try_weight(ground, touching, initial, atom, old + 1)
+    }
+
+    /// Tries each atom once.
+    pub(crate) fn pass(
+        &mut self,
+        ground: &Ground<'_>,
+        touching: &Touching,
+        initial: &Packed,
+    ) -> bool
+        requires climb { IsClimb (task_in ground.now) (atoms_in ground.now) self.old }
+        requires touching { IsTouching (task_in ground.now) (atoms_in ground.now) (length (kept_instances (task_in ground.now))) touching.now }
+        requires initial { bits_of initial.now ≡ (ground_system (task_in ground.now) (atoms_in ground.now)).initial }
+        ensures { IsPass (task_in ground.now) (atoms_in ground.now) (length (atoms_in ground.now)) self.old self.new result }
+    {
+        let mut raised = false;
+        for atom in 0..ground.width() {
+            let better = self.try_atom(ground, touching, initial, atom);
+            raised = either(raised, better);
+        }
+        raised
+    }
+}
+
+/// The sum with one of its parts exchanged.
+fn exchanged(sum: i64, before: i64, after: i64) -> i64
+    requires least { neg_ℤ (pos 4503599627370496) ≤ℤ sum }
+    requires most { sum ≤ℤ pos 4503599627370496 }
+    requires before { IsInRange before }
+    requires after { IsInRange after }
+    ensures { result ≡ ((sum +ℤ neg_ℤ before) +ℤ after) }
+{
+    sum - before + after
+}
+
+/// What an atom of this weight gives.
+fn given(is_true: bool, weight: i64) -> i64
+    requires { IsInRange weight }
+    ensures value { result ≡ (if is_true then weight else pos 0) }
+    ensures range { IsInRange result }
+{
+    if is_true { weight } else { 0 }
+}
+
+/// Whether one of the two is true.
+fn either(one: bool, other: bool) -> bool
+    ensures { result ≡ (one || other) }
+{
+    one || other
+}

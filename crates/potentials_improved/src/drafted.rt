@@ -1,0 +1,91 @@
+//! Potentials whose weights are those of a draft, where they are good for that.
+ghost use Rattle.std.specs.Prelude.{◌≡◌, IfOk, IfSome, length};
+ghost use Rattle.grounding.specs.Ground.{task_in, atoms_in};
+ghost use Rattle.packed_state.specs.Packed.{bits_of};
+ghost use Rattle.model.specs.Grounding.{ground_system};
+ghost use Rattle.potential_functions.specs.Fair.{AreFair};
+ghost use Rattle.potentials.specs.Potentials.{potentials_of};
+ghost use Rattle.potentials_improved.specs.Drafted.{IsNoWorse};
+
+use crate::aims::Aim;
+use crate::climb::greatest_constant;
+use crate::draft::Draft;
+use crate::samples::sampled;
+use crate::tables::Tables;
+use faults::NoMemory;
+use grounding::Ground;
+use packed_state::Packed;
+use potentials::{Fairness, MAX_WEIGHT, Potentials, goal_gives_at_most};
+use std::alloc::Global;
+
+/// Fair potentials that are no worse than these: those of a draft, or else these.
+pub(crate) fn drafted(
+    alloc: Global,
+    potentials: Potentials,
+    ground: &Ground<'_>,
+    initial: &Packed,
+) -> Result<Potentials, NoMemory>
+    requires width { length (potentials_of potentials).weights ≡ length (atoms_in ground.now) }
+    requires fair { AreFair (task_in ground.now) (atoms_in ground.now) (potentials_of potentials) }
+    requires initial { bits_of initial.now ≡ (ground_system (task_in ground.now) (atoms_in ground.now)).initial }
+    ensures { IfOk result (λ p. IsNoWorse (task_in ground.now) (atoms_in ground.now) (potentials_of potentials) (potentials_of p)) }
+{
+    let weights = drafted_weights(alloc, ground, initial, potentials.weights())?;
+    match if_no_worse(alloc, &potentials, ground, initial, weights)? {
+        Some(better) => Ok(better),
+        None => Ok(potentials),
+    }
+}
+
+/// Weights that may be better than these: the value of the initial state is raised first, and then the average value of
+/// states on the way from it, where that of the initial state gets no lower.
+///
+/// Both aims are from Seipp, Pommerening & Helmert 2015, "New Optimization Functions for Potential Heuristics".
+fn drafted_weights(
+    alloc: Global,
+    ground: &Ground<'_>,
+    initial: &Packed,
+    weights: &[i64],
+) -> Result<Vec<i64>, NoMemory> {
+    let tables = Tables::new(alloc, ground)?;
+    let mut draft = Draft::new(alloc, ground, &tables, initial, weights)?;
+    draft.improve(&tables)?;
+    if let Some(samples) = sampled(alloc, ground, initial)? {
+        draft.aim_at(samples);
+        draft.improve(&tables)?;
+    }
+    Ok(draft.into_weights())
+}
+
+/// Potentials of these weights and the greatest constant, if they are fair and no worse than the others.
+fn if_no_worse(
+    alloc: Global,
+    potentials: &Potentials,
+    ground: &Ground<'_>,
+    initial: &Packed,
+    weights: Vec<i64>,
+) -> Result<Option<Potentials>, NoMemory>
+    requires width { length (potentials_of potentials.now).weights ≡ length (atoms_in ground.now) }
+    requires initial { bits_of initial.now ≡ (ground_system (task_in ground.now) (atoms_in ground.now)).initial }
+    ensures { IfOk result (λ o. IfSome o (λ p. IsNoWorse (task_in ground.now) (atoms_in ground.now) (potentials_of potentials.now) (potentials_of p))) }
+{
+    if weights.len() != ground.width() as usize {
+        return Ok(None);
+    }
+    let Some(mut other) = Potentials::new(0, weights) else {
+        return Ok(None);
+    };
+    let goal = goal_gives_at_most(ground.goal_literals(), other.weights());
+    if goal > MAX_WEIGHT {
+        return Ok(None);
+    }
+    other.set_constant(greatest_constant(goal));
+    if other.value(initial) < potentials.value(initial) {
+        return Ok(None);
+    }
+    match other.fair(alloc, ground)? {
+        Fairness::Fair => Ok(Some(other)),
+        Fairness::Instance(_) => Ok(None),
+        Fairness::Goal => Ok(None),
+    }
+}

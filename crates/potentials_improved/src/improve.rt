@@ -1,0 +1,58 @@
+//! Better potentials.
+ghost use Rattle.std.specs.Prelude.{◌≡◌, IfOk, length};
+ghost use Rattle.grounding.specs.Ground.{task_in, atoms_in};
+ghost use Rattle.potential_functions.specs.PotentialFunctions.{PotentialFunction};
+ghost use Rattle.potential_functions.specs.Fair.{AreFair};
+ghost use Rattle.potential_functions.specs.Settled.{IsImproved};
+ghost use Rattle.potentials.specs.Potentials.{potentials_of};
+
+use crate::climb::Climb;
+use crate::drafted::drafted;
+use crate::touching::Touching;
+use faults::NoMemory;
+use grounding::Ground;
+use potentials::Potentials;
+use std::alloc::Global;
+
+/// What can be made better of potentials.
+pub trait Improve: Sized {
+    /// The potentials that they are.
+    ghost potentials_in: { Self → PotentialFunction };
+
+    /// Fair potentials whose value in the initial state is no lower, and which are settled, or have there a value that is
+    /// higher by at least the number of rounds.
+    ///
+    /// Several weights are moved at once first, as long as that is better, and then single ones, a pass over all atoms a
+    /// round.
+    fn improve(
+        self,
+        alloc: Global,
+        ground: &Ground<'_>,
+        rounds: u32,
+    ) -> Result<Potentials, NoMemory>
+        requires width { length (potentials_in self).weights ≡ length (atoms_in ground.now) }
+        requires fair { AreFair (task_in ground.now) (atoms_in ground.now) (potentials_in self) }
+        ensures { IfOk result (λ p. IsImproved (task_in ground.now) (atoms_in ground.now) rounds (potentials_in self) (potentials_of p)) };
+}
+
+impl Improve for Potentials {
+    ghost potentials_in = { potentials_of };
+
+    fn improve(
+        self,
+        alloc: Global,
+        ground: &Ground<'_>,
+        rounds: u32,
+    ) -> Result<Potentials, NoMemory> {
+        let initial = ground.initial(alloc)?;
+        let drafted = drafted(alloc, self, ground, &initial)?;
+        let touching = Touching::new(alloc, ground)?;
+        let mut climb = Climb::new(drafted, ground, &initial);
+        for _ in 0..rounds {
+            if !climb.pass(ground, &touching, &initial) {
+                return Ok(climb.potentials);
+            }
+        }
+        Ok(climb.potentials)
+    }
+}

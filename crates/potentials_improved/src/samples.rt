@@ -1,0 +1,118 @@
+//! States on the way from the initial one, by walks that go where chance leads.
+use crate::aims::Aim;
+use faults::NoMemory;
+use grounding::Ground;
+use packed_state::Packed;
+use potentials::instance_count;
+use std::alloc::Global;
+
+/// How many walks there are, each of which gives one state.
+const WALKS: u32 = 32;
+
+/// The most steps of a walk.
+const MAX_STEPS: u32 = 64;
+
+/// How many instances a walk may look at.
+const MAX_LOOKS: u32 = 65_536;
+
+/// Numbers by chance, the same ones each time.
+#[derive(Drop)]
+struct Chance {
+    state: u64,
+}
+
+/// A walk: the state that it has come to, and room for what comes next.
+#[derive(Drop)]
+struct Walk {
+    state: Packed,
+    next: Packed,
+    applicable: Vec<u32>,
+    chance: Chance,
+}
+
+/// The ends of some walks from the initial state, if there are not so many instances that no walk may take a step.
+pub(crate) fn sampled(
+    alloc: Global,
+    ground: &Ground<'_>,
+    initial: &Packed,
+) -> Result<Option<Aim>, NoMemory> {
+    let most = most_steps(instance_count(ground));
+    if most == 0 {
+        return Ok(None);
+    }
+    let mut aim = Aim::none(alloc, ground.width())?;
+    let mut walk = Walk::new(alloc, ground.width())?;
+    for _ in 0..WALKS {
+        walk.start(initial);
+        walk.go(ground, most)?;
+        aim.add(&walk.state)?;
+    }
+    Ok(Some(aim))
+}
+
+/// The most steps that a walk may take, where there are so many instances.
+fn most_steps(instances: u32) -> u32 {
+    if instances == 0 {
+        return 0;
+    }
+    (MAX_LOOKS / instances).min(MAX_STEPS)
+}
+
+impl Chance {
+    /// The next number below this one, and 0 where that is 0: by the linear congruential generator of Knuth's MMIX.
+    fn below(&mut self, bound: usize) -> usize {
+        self.state = self
+            .state
+            .wrapping_mul(6_364_136_223_846_793_005)
+            .wrapping_add(1_442_695_040_888_963_407);
+        if bound == 0 {
+            return 0;
+        }
+        (self.state >> 33) as usize % bound
+    }
+}
+
+impl Walk {
+    /// One that has not begun.
+    fn new(alloc: Global, width: u32) -> Result<Walk, NoMemory> {
+        Ok(Walk {
+            state: Packed::empty(alloc, width)?,
+            next: Packed::empty(alloc, width)?,
+            applicable: Vec::new(alloc),
+            chance: Chance { state: 1 },
+        })
+    }
+
+    /// Goes back to the initial state.
+    fn start(&mut self, initial: &Packed) {
+        if self.state.width() == initial.width() {
+            self.state.copy_from(initial);
+        }
+    }
+
+    /// Takes a number of steps by chance, at most so many, and fewer where no instance is applicable any more.
+    fn go(&mut self, ground: &Ground<'_>, most: u32) -> Result<(), NoMemory> {
+        let steps = self.chance.below(most as usize + 1);
+        for _ in 0..steps {
+            if !self.step(ground)? {
+                return Ok(());
+            }
+        }
+        Ok(())
+    }
+
+    /// Goes on by an applicable instance that chance picks, if there is one; tells whether there is.
+    fn step(&mut self, ground: &Ground<'_>) -> Result<bool, NoMemory> {
+        if self.state.width() != ground.width() || self.next.width() != ground.width() {
+            return Ok(false);
+        }
+        ground.applicable(&self.state, &mut self.applicable)?;
+        let place = self.chance.below(self.applicable.len());
+        let Some(number) = self.applicable.get(place) else {
+            return Ok(false);
+        };
+        ground.successor(*number, &self.state, &mut self.next);
+        std::mem::swap(&mut self.state, &mut self.next);
+        Ok(true)
+    }
+}
