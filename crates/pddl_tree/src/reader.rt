@@ -42,7 +42,8 @@ use tokens::Word;
 /// - `NumberTooLarge`: a number over 2,147,483,647 where a number may stand.
 /// - `LeftOut`: the keyword of a section or part that the language profile leaves out, where one is wanted, or the name
 ///   of a form that it leaves out, as `preference`; the `(` of an `(either ..)` as the type of a name; `when` or `forall`
-///   at the head of a list under a `when`; or a function or a metric other than that of the total cost.
+///   at the head of a list under a `when`; a function other than `total-cost` as what is increased or as the metric; or
+///   `maximize`.
 /// - `UnknownSection`: any other keyword where that of a section or part is wanted.
 /// - `UnknownRequirement`: a keyword in `:requirements` that is no key.
 /// - `MissingSection`: the `)` of the file without `:predicates`, or of an action without `:parameters`.

@@ -87,11 +87,11 @@ pub enum Place<'s> {
     Type(Listed),
     /// At the head of a list under a `when`.
     UnderWhen,
-    /// Where `total-cost` is wanted.
+    /// Where `total-cost` alone may stand.
     TotalCost,
     /// After `:metric`.
     Metric,
-    /// Where a number is wanted.
+    /// Where a number may stand.
     Number,
     /// Anywhere else.
     Elsewhere,
@@ -123,7 +123,8 @@ pub fn refusal(words: &[Word], at: usize, place: Place) -> WordRefusal
 }
 
 /// What is told of a word, or of none: the first line that fits. A keyword that may not stand where one is wanted stands
-/// already or is none; an `(either ..)` is left out as the type of a name, and so are other functions and other metrics.
+/// already or is none; an `(either ..)` is left out as the type of a name, and so are other metrics, and other functions
+/// where `total-cost` alone may stand.
 fn code_of(token: Token, place: Place) -> Code
     ensures { number_of result ≡ number_seen (wanted place.entry) (seen token.entry) }
 {
