@@ -1,1 +1,4 @@
 pub mod Filling
+pub mod Readings
+pub mod TableLemmas
+pub mod WrittenFiles

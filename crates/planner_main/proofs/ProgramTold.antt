@@ -7,13 +7,13 @@ use Rattle.devices.specs.Devices.{AppendsBeginning}
 use Rattle.solver.specs.declared.answer.Answer.{Answer}
 use Rattle.solver.specs.Solver.{IsTrueAnswer}
 use Rattle.command_line.specs.Orders.{Asks, Asked, Wanted}
-use Rattle.planner_main_files.specs.Written.{NamedText, HoldsBeginning, with_file, with_files, AreWritten, AreWrittenPartly}
+use Rattle.devices.specs.Written.{NamedText, HoldsBeginning, with_file, with_files, AreWritten, AreWrittenPartly}
 use Rattle.planner_main.specs.Failures.{is_failure}
 use Rattle.planner_main_output.specs.Json.{line_of_members, of_answer}
 use Rattle.planner_main.specs.Solution.{TellsAnswer, cert_file, plan_file}
 use Rattle.planner_main_output.specs.Answer.{status_of, text_of, told_of}
 use Rattle.planner_main.specs.Program.{IsTold, IsToldPartly, nothing, in_a_file, on_the_output, IsAnswer, IsAnswerTo, IsAnswerText, OnTwo, Tells, TellsPartly, TellsFor, TellsPartlyFor}
-use Rattle.planner_main_files.specs.Texts.{AreKept}
+use Rattle.devices.specs.Texts.{AreKept}
 use Rattle.planner_main.proofs.ProgramWords.{answered_status}
 use Rattle.model.specs.Task.{Task}
 use Rattle.model.specs.Files.{IsTaskOf}

@@ -12,7 +12,7 @@ use Rattle.command_line.specs.Orders.{Asks, IsCommand, Wanted, to_solve, to_vali
 use Rattle.command_line.specs.View.{IsOfWords}
 use Rattle.command_line.specs.declared.fault.WordsFault.{WordsFault}
 use Rattle.command_line.proofs.OrderLemmas.{one_wanted}
-use Rattle.planner_main_files.specs.Written.{NamedText}
+use Rattle.devices.specs.Written.{NamedText}
 use Rattle.planner_main_answers.specs.Checked.{IsInputFault}
 use Rattle.planner_main_output.specs.Check.{IsLineOf}
 use Rattle.certificate_listing.specs.declared.refusal.Refusal.{Refusal}
@@ -20,7 +20,7 @@ use Rattle.certificate_listing.specs.declared.refusal.Refusal.TheVariants as ref
 use Rattle.cert_checker.specs.declared.checker.Accepted.{Accepted}
 use Rattle.model.specs.Task.{Task}
 use Rattle.planner_main.specs.Program.{IsTextIfNamed, OnTwo, OnThree, OnInputs, IsAnswerTo, Refuses, fault_in, IsFaultFor, IsOneOf, IsToldOn, IsToldOfWords, SaysOfWords, NamesInput, HasFailed, HasNotFailed, CountsFailure, CountsEither, device_failure, inputs_of}
-use Rattle.planner_main_files.specs.Texts.{IsText, AreKept}
+use Rattle.devices.specs.Texts.{IsText, AreKept}
 use Rattle.planner_main_answers.specs.declared.task_file.File.{File}
 use Rattle.planner_main_answers.specs.declared.task_file.FileFault as file
 use Rattle.faults.specs.declared.code.Code.{Code}

@@ -17,8 +17,8 @@ use Rattle.command_line.specs.declared.fault.WordsFault.{WordsFault}
 use Rattle.planner_main_answers.specs.Checked.{IsHandedIn, IsInputFault, IsTrueCheck}
 use Rattle.planner_main_output.specs.Check.{IsLineOf}
 use Rattle.planner_main_output.specs.Verdict.{told_verdict, status_of}
-use Rattle.planner_main_files.specs.Texts.{AreKept, IsText}
-use Rattle.planner_main_files.specs.Written.{NamedText, AreWritten, AreWrittenPartly}
+use Rattle.devices.specs.Texts.{AreKept, IsText}
+use Rattle.devices.specs.Written.{NamedText, AreWritten, AreWrittenPartly}
 use Rattle.planner_main.specs.Solution.{TellsAnswer}
 use Rattle.model.specs.Runs.{Verdict}
 use Rattle.certificate_listing.specs.declared.refusal.Refusal.{Refusal}

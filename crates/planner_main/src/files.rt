@@ -1,2 +1,2 @@
 //! Files by name: those of the machine, and a table of them in memory.
-pub use planner_main_files::{Files, SystemFiles, Table};
+pub use devices::{Files, SystemFiles, Table};

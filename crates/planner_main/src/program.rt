@@ -5,7 +5,7 @@ ghost use Rattle.command_line.specs.View.{texts, wanted_of};
 ghost use Rattle.planner_main.specs.Failures.{device_line, no_memory_line};
 ghost use Rattle.planner_main.specs.Failures.{is_failure};
 ghost use Rattle.planner_main.specs.Program.{Tells, TellsFor, TellsPartly, TellsPartlyFor, Refuses, HasFailed, HasNotFailed, CountsEither, NamesInput, IsFaultFor, IsOneOf, IsUnread, SaysOfWords, fault_in, inputs_of};
-ghost use Rattle.planner_main_files.specs.Texts.{AreKept};
+ghost use Rattle.devices.specs.Texts.{AreKept};
 ghost use Rattle.devices.specs.Devices.{IsWritten};
 
 mod checking;
@@ -16,8 +16,7 @@ mod verdict;
 use crate::report::{Failure, tell, tell_words};
 use checking::{Names, tell_check};
 use command_line::{Limit, Order, read_words};
-use devices::Sink;
-use planner_main_files::Files;
+use devices::{Files, Sink};
 use solution::{Wanted, tell_solution};
 use solver::Limits;
 use std::alloc::Global;

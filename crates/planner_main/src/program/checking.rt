@@ -7,18 +7,17 @@ ghost use Rattle.planner_main_output.specs.Check.{IsLineOf};
 ghost use Rattle.certificate_reader.specs.Reader.{source_of};
 ghost use Rattle.planner_main_answers.specs.Checked.{IsInputFault};
 ghost use Rattle.planner_main_answers.specs.Files.{text_in};
-ghost use Rattle.planner_main_files.specs.Texts.{items_in};
+ghost use Rattle.devices.specs.Texts.{items_in};
 ghost use Rattle.planner_main.specs.Asked.{asked_of_check};
 ghost use Rattle.planner_main.specs.Program.{CountsEither, CountsFailure, HasNotFailed, IsCheckText, IsCheckedIn, IsOneOf, IsTextIfNamed, IsTold, IsToldPartly, IsUnread, OnInputs, fault_in, if_named};
-ghost use Rattle.planner_main_files.specs.Texts.{AreKept};
+ghost use Rattle.devices.specs.Texts.{AreKept};
 ghost use Rattle.devices.specs.Devices.{CountsDevice, IsKept};
 
 use crate::program::inputs::{Pair, read_pair};
 use crate::report::Failure;
 use certificate_reader::CertReader;
-use devices::{Sink, Source, WriteFault, write_all};
+use devices::{Files, Sink, Source, WriteFault, read_file, write_all};
 use planner_main_answers::{Checked, check_files};
-use planner_main_files::{Files, read_file};
 use planner_main_output::checked_text;
 use std::alloc::Global;
 

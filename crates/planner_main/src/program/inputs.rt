@@ -1,11 +1,10 @@
 //! The texts of the files that are read.
 ghost use Rattle.std.specs.Prelude.{◌≡◌, ℕ, Err, IfOk, IsErr, IsTrue, List};
-ghost use Rattle.planner_main_files.specs.Texts.{AreKept, IsText};
+ghost use Rattle.devices.specs.Texts.{AreKept, IsText};
 ghost use Rattle.devices.specs.declared.device.WriteFault.TheVariants.{Device};
 ghost use Rattle.devices.specs.Devices.{CountsDevice};
 
-use devices::WriteFault;
-use planner_main_files::{Files, read_file};
+use devices::{Files, WriteFault, read_file};
 use std::alloc::Global;
 
 /// The texts of a domain file and a problem file.

@@ -2,14 +2,13 @@
 ghost use Rattle.std.specs.Prelude.{◌≡◌, ℕ, IfErr, IfOk, IfSome, IsTrue, List, [], ◌∷◌};
 ghost use Rattle.planner_main_answers.specs.Files.{told_in};
 ghost use Rattle.planner_main.specs.Program.{CountsEither, CountsFailure, HasNotFailed, IsOneOf, IsTold, IsToldPartly, IsUnread, IsVerdictLine, IsVerdictText, OnThree, fault_in};
-ghost use Rattle.planner_main_files.specs.Texts.{AreKept};
+ghost use Rattle.devices.specs.Texts.{AreKept};
 ghost use Rattle.model.specs.Files.{IsFileFault};
 
 use crate::program::inputs::read_pair;
 use crate::report::Failure;
-use devices::{Sink, write_all};
+use devices::{Files, Sink, read_file, write_all};
 use planner_main_answers::{FileFault, validate_files};
-use planner_main_files::{Files, read_file};
 use planner_main_output::told_verdict;
 use std::alloc::Global;
 

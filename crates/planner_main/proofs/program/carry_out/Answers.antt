@@ -3,7 +3,7 @@ use Rattle.std.specs.Prelude.{IfErr, IfOk, IfSome, IsTrue}
 use Rattle.command_line.specs.Orders.{Wanted}
 use Rattle.command_line.specs.View.{wanted_of}
 use Rattle.planner_main.specs.Program.{IsFaultFor, IsOneOf, IsUnread, TellsFor, TellsPartlyFor, fault_in, inputs_of}
-use Rattle.planner_main_files.specs.Texts.{AreKept}
+use Rattle.devices.specs.Texts.{AreKept}
 use Rattle.planner_main.proofs.OrderWanted.{wanted_of_check, wanted_of_solve}
 use Rattle.planner_main.proofs.program.carry_out.Goals as goal
 

@@ -2,7 +2,7 @@ use Rattle.std.proofs.Common.{ℕ}
 use Rattle.std.specs.Global.{Vec}
 use Rattle.typing.specs.Task.{task_of}
 use Rattle.planner_main_answers.specs.Checked.{IsInputFault}
-use Rattle.planner_main_files.specs.Texts.{items_in}
+use Rattle.devices.specs.Texts.{items_in}
 use Rattle.planner_main.proofs.CertificateTold.{checked_in_told, told_failures, told_no_fault, told_unfailed}
 use Rattle.planner_main.proofs.program.checking.check_texts.Goals as goal
 

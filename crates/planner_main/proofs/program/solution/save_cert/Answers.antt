@@ -2,7 +2,7 @@ use Rattle.typing.specs.Task.{task_of}
 use Rattle.certificate.specs.Certificate.{certificate_of}
 use Rattle.certificate_text.specs.CertificateNames.{certificate_text}
 use Rattle.planner_main.proofs.PlanFiles.{cert_of_plan, cert_of_none}
-use Rattle.planner_main_files.proofs.WrittenFiles.{written_alone, partly_alone}
+use Rattle.devices.proofs.WrittenFiles.{written_alone, partly_alone}
 use Rattle.planner_main.proofs.program.solution.save_cert.Goals as goal
 
 pub returns-in-Plan-clause-written : goal.returns-in-Plan-clause-written

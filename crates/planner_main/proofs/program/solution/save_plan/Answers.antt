@@ -1,6 +1,6 @@
 use Rattle.typing.specs.Task.{task_of}
 use Rattle.planner_main.proofs.PlanFiles.{plan_of_text}
-use Rattle.planner_main_files.proofs.WrittenFiles.{written_alone, partly_alone}
+use Rattle.devices.proofs.WrittenFiles.{written_alone, partly_alone}
 use Rattle.planner_main.proofs.program.solution.save_plan.Goals as goal
 
 pub returns-in-Plan-clause-written : goal.returns-in-Plan-clause-written

@@ -1,0 +1,75 @@
+//! Files by name: those of the machine, and a table of them in memory. How a text is read, and how one is written.
+ghost use Rattle.std.specs.Prelude.{◌≡◌, ◌≢◌, ℕ, ◌<◌, Bool, false, List, [], Option, None, Some, Err, IfOk, IfSome, IsTrue, OnErr, OnOk};
+ghost use Rattle.devices.specs.declared.device.WriteFault.TheVariants.{Device};
+ghost use Rattle.devices.specs.Devices.{CountsDevice, IsKept, one_more};
+ghost use Rattle.devices.specs.Written.{HoldsBeginning};
+
+mod reading;
+mod system;
+mod table;
+mod writing;
+
+use crate::device::{Sink, Source, WriteFault};
+pub use reading::read_file;
+pub use system::SystemFiles;
+pub use table::Table;
+pub use writing::{Bytes, Document, write_file};
+
+/// Files by name. A name that cannot be opened, created or closed is a failure.
+pub trait Files {
+    /// A file that is open for reading.
+    type Input: Source + Drop;
+
+    /// A file that is open for writing.
+    type Output: Sink + Drop;
+
+    /// How often a call has failed. At 18446744073709551615 the count stays.
+    ghost failures: { Self → ℕ };
+
+    /// The bytes of the file of a name, where they are known.
+    ghost contents: { Self → List ℕ → Option (List ℕ) } = { λ _ _. None };
+
+    /// Whether there is no file of a name, where that is known.
+    ghost is_missing: { Self → List ℕ → Bool } = { λ _ _. false };
+
+    /// Whether the bytes of files that are written here are known.
+    ghost is_known: { Bool } = { false };
+
+    /// Opens the file of this name for reading, from its first byte on. No read of it has failed yet.
+    fn open(&mut self, name: &str) -> Result<Self::Input, WriteFault>
+        ensures failures { CountsDevice (failures self.old) (failures self.new) result }
+        ensures missing { IsTrue (is_missing self.old name.now) → result ≡ Err Device }
+        ensures fresh { IfOk result (λ input. Self.Input.failures input ≡ 0) }
+        ensures bytes { IfOk result (λ input. IsKept (contents self.old name.now) (Self.Input.remaining input)) }
+        ensures kept { (other : List ℕ) → contents self.new other ≡ contents self.old other }
+        ensures still { (other : List ℕ) → is_missing self.new other ≡ is_missing self.old other };
+
+    /// Ends the reading of a file. A file of which a read has failed is one failure.
+    fn finish(&mut self, input: Self::Input)
+        ensures unfailed { Self.Input.failures input ≡ 0 → failures self.new ≡ failures self.old }
+        ensures failed { 0 < Self.Input.failures input → failures self.new ≡ one_more (failures self.old) }
+        ensures kept { (other : List ℕ) → contents self.new other ≡ contents self.old other }
+        ensures still { (other : List ℕ) → is_missing self.new other ≡ is_missing self.old other };
+
+    /// Makes an empty file of this name, in place of one that is there, and opens it for writing. No write of it has
+    /// failed yet. Until it is closed the file is as it was, or empty; each other file is as it was, and where the call
+    /// is refused each file is.
+    fn create(&mut self, name: &str) -> Result<Self::Output, WriteFault>
+        ensures failures { CountsDevice (failures self.old) (failures self.new) result }
+        ensures fresh { IfOk result (λ output. Self.Output.failures output ≡ 0) }
+        ensures named { IsTrue is_known → IfOk result (λ output. Self.Output.name output ≡ name.now) }
+        ensures empty { IsTrue is_known → IfOk result (λ output. Self.Output.taken output ≡ Some []) }
+        ensures made { HoldsBeginning (contents self.old name.now) (contents self.new name.now) [] }
+        ensures kept { (other : List ℕ) → other ≢ name.now → contents self.new other ≡ contents self.old other }
+        ensures refused { OnErr result (contents self.new name.now ≡ contents self.old name.now) };
+
+    /// Ends the writing of a file: only then is it sure to hold what was written. A file of which a write has failed
+    /// is a failure. Where the call fails, the file is as it was or holds a beginning of what was written; each other
+    /// file is as it was.
+    fn close(&mut self, output: Self::Output) -> Result<(), WriteFault>
+        ensures failures { CountsDevice (failures self.old) (failures self.new) result }
+        ensures failed { 0 < Self.Output.failures output → result ≡ Err Device }
+        ensures written { IsTrue is_known → OnOk result (contents self.new (Self.Output.name output) ≡ Self.Output.taken output) }
+        ensures beginning { IsTrue is_known → IfSome (Self.Output.taken output) (HoldsBeginning (contents self.old (Self.Output.name output)) (contents self.new (Self.Output.name output))) }
+        ensures kept { IsTrue is_known → (other : List ℕ) → other ≢ Self.Output.name output → contents self.new other ≡ contents self.old other };
+}

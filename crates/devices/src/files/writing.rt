@@ -1,0 +1,52 @@
+//! The writing of a whole file.
+ghost use Rattle.std.specs.Prelude.{◌≡◌, ◌≢◌, ℕ, IsTrue, List, OnOk, Some};
+ghost use Rattle.std.specs.Io.KnownBytes.{Appends};
+ghost use Rattle.devices.specs.Written.{HoldsBeginning};
+ghost use Rattle.devices.specs.Devices.{AppendsBeginning, CountsDevice};
+
+use crate::device::{Sink, WriteFault, write_all};
+use crate::files::Files;
+
+/// A text that can be written to any device.
+pub trait Document {
+    /// Its bytes.
+    ghost text: { Self → List ℕ };
+
+    /// Writes it. A sink that fails has taken some beginning of it.
+    fn write_to<S: Sink>(&self, sink: &mut S) -> Result<(), WriteFault>
+        ensures ok { OnOk result (Appends (S.taken sink.old) (S.taken sink.new) (text self.now)) }
+        ensures beginning { AppendsBeginning (S.taken sink.old) (S.taken sink.new) (text self.now) }
+        ensures failures { CountsDevice (S.failures sink.old) (S.failures sink.new) result }
+        ensures name { S.name sink.new ≡ S.name sink.old };
+}
+
+/// A text that stands in memory.
+#[derive(Clone, Copy)]
+pub struct Bytes<'a>(pub &'a [u8]);
+
+impl Document for Bytes<'_> {
+    ghost text = { λ bytes. bytes.0.now };
+
+    fn write_to<S: Sink>(&self, sink: &mut S) -> Result<(), WriteFault> {
+        write_all(sink, self.0)
+    }
+}
+
+/// Writes this document to the file of this name, in place of what it had. It is a device's failure where the file cannot
+/// be made or closed, or a write of it fails: then the file is as it was, or holds a beginning of the document.
+pub fn write_file<F: Files, D: Document>(
+    files: &mut F,
+    name: &str,
+    document: &D,
+) -> Result<(), WriteFault>
+    ensures held { IsTrue F.is_known → OnOk result (F.contents files.new name.now ≡ Some (D.text document.now)) }
+    ensures partly { IsTrue F.is_known → HoldsBeginning (F.contents files.old name.now) (F.contents files.new name.now) (D.text document.now) }
+    ensures kept { IsTrue F.is_known → (other : List ℕ) → other ≢ name.now → F.contents files.new other ≡ F.contents files.old other }
+    ensures failures { CountsDevice (F.failures files.old) (F.failures files.new) result }
+{
+    let mut output = files.create(name)?;
+    let written = document.write_to(&mut output);
+    // It is closed first, since a closing counts a write that failed.
+    files.close(output)?;
+    written
+}
