@@ -1,4 +1,4 @@
-use Rattle.pddl_tree_values.proofs.Names.{refl, sym, ◌∙◌, ap, map, made, bind, free, name_of}
+use Rattle.pddl_tree_values.proofs.Names.{refl, sym, ◌∙◌, ap, made, bind, free, name_of}
 use Rattle.model.specs.Grammar.{valued, the_total_cost, a_function}
 use Rattle.pddl_tree_values.proofs.Read.{taken}
 use Rattle.pddl_tree_values.proofs.Looks.{by_reserved}
