@@ -1,10 +1,12 @@
-use Rattle.std.proofs.Common.{◌≡◌, ◌∙◌, [], ◌++◌, map, fold, None, ap, sym}
+use Rattle.std.proofs.Common.{◌≡◌, ◌∙◌, [], ◌++◌, if◌then◌else◌, map, fold, None, ap}
 use Rattle.std.specs.List.{list_any}
+use Rattle.std.specs.Option.{option_map_or}
+use Rattle.typing_formulas.specs.Scope.{names_in}
 use Rattle.typing_formulas.specs.Walk.{found, least_of}
 use Rattle.typing_formulas.specs.TaskParts as parts
 use Rattle.syntax_tree.specs.Tree as read
-use Rattle.syntax_tree.specs.declared.tree.Predicate.{Predicate}
 use Rattle.model.specs.Trees as tree
+use Rattle.model.specs.Trees.{problem_file}
 use Rattle.model.specs.Typing as typing
 use Rattle.typing_formulas.proofs.Empty as empty
 use Rattle.typing_formulas.proofs.Found as finding
@@ -25,7 +27,9 @@ returns c =
     ∙ cost_declared (typing.type_names d) d.functions in
     let metric = metric_told has c.as_ref.result c.args.problem.now.metric c.as_ref.ensures.value ∙ ap (λ b. metric_faults b p.metric) is in
     let total : least_of c.check_metric.new.walk ≡ found None (typing.function_faults d p) =
-    finding.found_after (least_of c.new-walk.result) (least_of c.declared.new.walk) _ _ _ c.in_ok-functions.ensures.finds c.check_metric.ensures
+    finding.found_after (least_of c.new-walk.result) (least_of c.declared.new.walk) _
+    (typing.declaration_faults (names_in c.args.types.now.names.keys) (map read.predicate_of c.deref.result.now))
+    (option_map_or (λ n. if has then [] else typing.refused_word problem_file 22 (read.name_of n.now)) c.as_ref.result []) c.in_ok-functions.ensures.finds c.check_metric.ensures
     ∙ (λ i. found (c.new-walk.ensures i) (declared i ++ metric i)) in
     let table : typing.function_faults d p ≡ [] → map parts.predicate_of functions.entries ≡ typing.functions_of d =
     λ none. c.in_ok-functions.ensures.table (declared ∙ empty.nil_left (typing.declaration_faults (typing.type_names d) d.functions) (metric_faults (typing.declares_cost d) p.metric) none)
