@@ -5,3 +5,4 @@ pub mod Groups
 pub mod FunctionLists
 pub mod EffectValues
 pub mod Seen
+pub mod InitialFacts
