@@ -7,3 +7,4 @@ pub mod Groups
 pub mod FunctionLists
 pub mod EffectValues
 pub mod Seen
+pub mod InitialFacts
