@@ -3,8 +3,8 @@ use Rattle.pddl_tree_values.proofs.Names.{◌≡◌, ℕ, ◌+◌, true, false, 
 use Rattle.std.proofs.Common.{Bool, ◌&&◌}
 use Rattle.std.specs.List.{list_all}
 use Rattle.model.proofs.Tests.{passes_map}
-use Rattle.pddl_words.specs.declared.token.SectionKeyword as code
-use Rattle.pddl_words.specs.declared.refusal.WordRefusal.{WordRefusal}
+use Rattle.pddl_tree_values.specs.declared.token.SectionKeyword as code
+use Rattle.pddl_tree_values.specs.declared.word_fault.WordRefusal.{WordRefusal}
 use Rattle.pddl_tree.specs.Sections.{sections_on, section_into, IsNotNew}
 use Rattle.pddl_tree_values.proofs.Read.{taken, phrase_then, read_in_turn}
 use Rattle.pddl_tree_values.proofs.Looks.{is_closes, refused_here, told_first, told_along}

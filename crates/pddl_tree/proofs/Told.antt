@@ -4,7 +4,7 @@ use Rattle.std.proofs.Common.{◌≢◌}
 use Rattle.std.specs.Prelude.{IfSome, slice_get}
 use Rattle.std.proofs.lemmas.List.{length-drop, length-map}
 use Rattle.std.proofs.lemmas.Option.{slice_get_past, slice_get-map}
-use Rattle.pddl_words.specs.Refusal.{fault_of}
+use Rattle.pddl_tree_values.specs.Refusal.{fault_of}
 use Rattle.pddl_tree.specs.Head.{at_end, no_more, after_head}
 use Rattle.pddl_tree.specs.Sections.{sections_on}
 use Rattle.pddl_tree_values.proofs.Read.{ends_as, run_part}

@@ -2,10 +2,10 @@
 use Rattle.std.specs.Prelude.{◌≡◌, ℕ, ◌<◌, ◌≤◌, ◌⊎◌, List, [], ◌∷◌, length, take, fold, Result, Ok, Err, ⊤}
 use Rattle.tokens.specs.declared.word.Word.{Word}
 use Rattle.syntax_tree.specs.declared.name.Name as code
-use Rattle.pddl_words.specs.declared.refusal.WordRefusal.{WordRefusal}
+use Rattle.pddl_tree_values.specs.declared.word_fault.WordRefusal.{WordRefusal}
 use Rattle.syntax_tree.specs.Name.{name_of}
-use Rattle.pddl_words.specs.Token.{from}
-use Rattle.pddl_words.specs.Refusal.{WordFault}
+use Rattle.pddl_tree_values.specs.Token.{from}
+use Rattle.pddl_tree_values.specs.Refusal.{WordFault}
 use Rattle.pddl_tree_values.specs.Reading.{Reading, made, stops, bind, part, phrase, Stops, Tells}
 use Rattle.model.specs.GrammarWords.{Token}
 use Rattle.model.specs.Trees.{File, Name}

@@ -6,8 +6,8 @@ use Rattle.syntax_tree.specs.Tree.{formula_of, groups_of, predicate_of, action_o
 use Rattle.pddl_tree.specs.declared.sections.Contents.{Contents}
 use Rattle.tokens.specs.declared.word.Word.{Word}
 use Rattle.faults.specs.Fault.{number_of}
-use Rattle.pddl_words.specs.declared.refusal.WordRefusal.{WordRefusal}
-use Rattle.pddl_words.specs.Token.{from, first}
+use Rattle.pddl_tree_values.specs.declared.word_fault.WordRefusal.{WordRefusal}
+use Rattle.pddl_tree_values.specs.Token.{from, first}
 use Rattle.pddl_tree_values.specs.Reading.{number_seen}
 use Rattle.model.specs.Trees.{File, Name, Action}
 use Rattle.model.specs.GrammarWords.{PartKeyword, SectionKeyword, keyword, of_section}

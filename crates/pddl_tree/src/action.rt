@@ -2,7 +2,7 @@
 ghost use Rattle.std.specs.Prelude.{◌≡◌, [], IfOk, IfErr, map, Some, false};
 ghost use Rattle.model.specs.GrammarWords.{keyword, of_part};
 ghost use Rattle.model.specs.Grammar as grammar;
-ghost use Rattle.pddl_words.specs.Token.{from, first, part_view};
+ghost use Rattle.pddl_tree_values.specs.Token.{from, first, part_view};
 ghost use Rattle.pddl_tree_values.specs.Reading.{part, phrase, Reads, ReadsInto, GoesOn, Stops, closes_first};
 ghost use Rattle.syntax_tree.specs.Name.{name_of};
 ghost use Rattle.syntax_tree.specs.Tree.{action_of, formula_of};
@@ -10,12 +10,12 @@ ghost use Rattle.pddl_tree.specs.Sections.{the_action, parts_on, part_into};
 
 use faults::Refused;
 use pddl_tree_values::{
-    Listed, Parsed, Place, action_name, effect_value, formula, has_part, is_close, no_condition,
-    no_effect, open, put, refusal, replace, typed,
+    Keyword, Listed, Parsed, PartKeyword, Place, Token, WordFault, WordRefusal, action_name,
+    effect_value, formula, has_part, is_close, no_condition, no_effect, open, put, refusal,
+    replace, token_at, typed,
 };
-use pddl_words::{Keyword, Name, PartKeyword, Token, WordFault, WordRefusal, token_at};
 use std::alloc::Global;
-use syntax_tree::{Action, Formula};
+use syntax_tree::{Action, Formula, Name};
 use tokens::Word;
 
 /// An action of which no part was read: what may be left out is `(and)`.

@@ -18,8 +18,8 @@ ghost use Rattle.model.specs.Grammar.{EachIsOneDomain, EachIsOneProblem, IsDomai
 ghost use Rattle.model.specs.Refusals.{IsWhole, IsRefused, span_of_place};
 ghost use Rattle.model.specs.GrammarExamples.{AreAsTold};
 ghost use Rattle.syntax_tree.specs.Name.{name_of};
-ghost use Rattle.pddl_words.specs.Token.{from};
-ghost use Rattle.pddl_words.specs.Refusal.{told, fault_of};
+ghost use Rattle.pddl_tree_values.specs.Token.{from};
+ghost use Rattle.pddl_tree_values.specs.Refusal.{told, fault_of};
 ghost use Rattle.pddl_tree_values.specs.Reading.{phrase, Stops};
 ghost use Rattle.pddl_tree.specs.Sections.{contents_of, sections_on};
 ghost use Rattle.pddl_tree.specs.Head.{HasHead, HasNoHead, ReadsHead, ReadsAll, no_more};
@@ -27,10 +27,9 @@ ghost use Rattle.syntax_tree.specs.Tree.{file_of, domain_of, problem_of};
 
 use crate::sections::{Contents, sections};
 use faults::{Fault, Refusal, Refused, Span};
-use pddl_tree_values::{Place, close, define, kind, name, open, refusal};
-use pddl_words::{Name, WordFault, WordRefusal};
+use pddl_tree_values::{Place, WordFault, WordRefusal, close, define, kind, name, open, refusal};
 use std::alloc::Global;
-use syntax_tree::{Domain, Problem, TaskFile};
+use syntax_tree::{Domain, Name, Problem, TaskFile};
 use tokens::Word;
 
 /// The domain that the words are: the whole file, in the words of its text.

@@ -4,7 +4,7 @@ ghost use Rattle.std.specs.List.{list_all};
 ghost use Rattle.model.specs.GrammarWords.{opens, keyword, of_section};
 ghost use Rattle.model.specs.Grammar as grammar;
 ghost use Rattle.syntax_tree.specs.Name.{name_of};
-ghost use Rattle.pddl_words.specs.Token.{from, first, section_view};
+ghost use Rattle.pddl_tree_values.specs.Token.{from, first, section_view};
 ghost use Rattle.pddl_tree_values.specs.Reading.{part, phrase, Reads, ReadsInto, GoesOn, Stops, closes_first};
 ghost use Rattle.syntax_tree.specs.Tree.{file_of};
 ghost use Rattle.pddl_tree.specs.Sections.{contents_of, sections_on, section_into, the_domain, IsNotNew};
@@ -12,12 +12,12 @@ ghost use Rattle.pddl_tree.specs.Sections.{contents_of, sections_on, section_int
 use crate::action::action;
 use faults::{NoMemory, Refused, Span};
 use pddl_tree_values::{
-    Key, Listed, Parsed, Place, allowed, close, functions, has_section, is_close, last, list,
-    metric, name, no_condition, open, put, refusal, replace, required, typed,
+    Key, Keyword, Listed, Parsed, Place, SectionKeyword, Token, WordFault, WordRefusal, allowed,
+    close, functions, has_section, is_close, last, list, metric, name, no_condition, open, put,
+    refusal, replace, required, token_at, typed,
 };
-use pddl_words::{Keyword, Name, SectionKeyword, Token, WordFault, WordRefusal, token_at};
 use std::alloc::Global;
-use syntax_tree::{Action, Fact, Formula, Group, Predicate, TaskFile};
+use syntax_tree::{Action, Fact, Formula, Group, Name, Predicate, TaskFile};
 use tokens::Word;
 
 /// What stands in a file's sections; what does not is empty.

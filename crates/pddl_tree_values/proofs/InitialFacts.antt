@@ -3,7 +3,7 @@ use Rattle.pddl_tree_values.proofs.Names.{◌≡◌, ℕ, ◌+◌, List, Some, R
 use Rattle.std.specs.Result.{IsErrAnd}
 use Rattle.syntax_tree.specs.declared.tree.Fact.{Fact}
 use Rattle.syntax_tree.specs.Tree.{fact_of}
-use Rattle.pddl_words.specs.declared.refusal.WordRefusal.{WordRefusal}
+use Rattle.pddl_tree_values.specs.declared.word_fault.WordRefusal.{WordRefusal}
 use Rattle.pddl_tree_values.specs.Costs.{the_last_number, the_initial_fact}
 use Rattle.pddl_tree_values.proofs.Read.{phrase_then}
 use Rattle.pddl_tree_values.proofs.Looks.{open_here, passed, told_first, told_along}

@@ -1,3 +1,5 @@
+pub mod Here
+pub mod Numbers
 pub mod Names
 pub mod Read
 pub mod Looks

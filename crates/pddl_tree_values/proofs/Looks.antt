@@ -4,8 +4,8 @@ use Rattle.std.specs.Prelude.{Result, Ok, Err}
 use Rattle.std.specs.Result.{IsErrAnd}
 use Rattle.std.proofs.lemmas.Result.{err_from_is_err_and}
 use Rattle.std.proofs.lemmas.List.{map-append, append_assoc, append-nil}
-use Rattle.pddl_words.specs.Token.{reserved_view}
-use Rattle.pddl_words.specs.declared.token.ReservedName.{ReservedName}
+use Rattle.pddl_tree_values.specs.Token.{reserved_view}
+use Rattle.pddl_tree_values.specs.declared.token.ReservedName.{ReservedName}
 use Rattle.pddl_tree_values.specs.Reading.{IsPut, and_first}
 use Rattle.pddl_tree_values.proofs.Read.{by_first, part_none, part_of, part_here, taken, bind_bind, bind_made, phrase_then}
 use Rattle.model.specs.GrammarWords as words

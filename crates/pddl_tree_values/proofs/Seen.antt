@@ -1,12 +1,12 @@
 -- Whether a keyword is among some.
 use Rattle.pddl_tree_values.proofs.Names.{◌≡◌, ◌||◌, List, [], ◌∷◌, map, refl, part_view, section_view, is_section, has_part, has_section}
 use Rattle.std.specs.List.{list_any}
-use Rattle.pddl_words.specs.declared.token.PartKeyword.{PartKeyword}
-use Rattle.pddl_words.specs.declared.token.PartKeyword.TheVariants as part
-use Rattle.pddl_words.specs.contracts.token.PartKeywordPartialEq.TheImpl as part_impl
-use Rattle.pddl_words.specs.declared.token.SectionKeyword.{SectionKeyword}
-use Rattle.pddl_words.specs.declared.token.SectionKeyword.TheVariants as section
-use Rattle.pddl_words.specs.contracts.token.SectionKeywordPartialEq.TheImpl as section_impl
+use Rattle.pddl_tree_values.specs.declared.token.PartKeyword.{PartKeyword}
+use Rattle.pddl_tree_values.specs.declared.token.PartKeyword.TheVariants as part
+use Rattle.pddl_tree_values.specs.contracts.token.PartKeywordPartialEq.TheImpl as part_impl
+use Rattle.pddl_tree_values.specs.declared.token.SectionKeyword.{SectionKeyword}
+use Rattle.pddl_tree_values.specs.declared.token.SectionKeyword.TheVariants as section
+use Rattle.pddl_tree_values.specs.contracts.token.SectionKeywordPartialEq.TheImpl as section_impl
 use Rattle.model.specs.Grammar.{is_part}
 
 same_part : (y k : PartKeyword) → (part_impl.ghosts).eq y k ≡ is_part (part_view k) (part_view y)

@@ -1,3 +1,5 @@
+pub mod Token
+pub mod Refusal
 pub mod Reading
 pub mod Place
 pub mod Typed

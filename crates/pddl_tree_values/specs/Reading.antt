@@ -2,11 +2,11 @@
 -- stop and by which number. And what a call of the reader answers, in these terms.
 use Rattle.std.specs.Prelude.{◌≡◌, ℕ, suc, zero, ◌+◌, ◌<◌, ◌≤◌, Bool, true, false, List, [], ◌∷◌, Option, Some, None, Result, Ok, Err, length}
 use Rattle.tokens.specs.declared.word.Word.{Word}
-use Rattle.pddl_words.specs.Token.{from, first}
+use Rattle.pddl_tree_values.specs.Token.{from, first}
 use Rattle.faults.specs.declared.refused.Refused.TheVariants.{At, NoMemory}
 use Rattle.faults.specs.Fault.{number_of}
-use Rattle.pddl_words.specs.declared.refusal.WordRefusal.{WordRefusal}
-use Rattle.pddl_words.specs.Refusal.{WordFault}
+use Rattle.pddl_tree_values.specs.declared.word_fault.WordRefusal.{WordRefusal}
+use Rattle.pddl_tree_values.specs.Refusal.{WordFault}
 use Rattle.pddl_tree_values.specs.declared.refusals.Place.{Place}
 use Rattle.pddl_tree_values.specs.Place.{wanted}
 use Rattle.model.specs.GrammarWords.{Token, opens, closes, reserved, and}

@@ -4,9 +4,9 @@ use Rattle.std.specs.Option.{option_and_then}
 use Rattle.faults.specs.Fault.{number_of}
 use Rattle.tokens.specs.declared.word.Word.{Word}
 use Rattle.syntax_tree.specs.declared.name.Name.{Name}
-use Rattle.pddl_words.specs.declared.refusal.WordRefusal.{WordRefusal}
+use Rattle.pddl_tree_values.specs.declared.word_fault.WordRefusal.{WordRefusal}
 use Rattle.syntax_tree.specs.Name.{name_of}
-use Rattle.pddl_words.specs.Token.{from, first}
+use Rattle.pddl_tree_values.specs.Token.{from, first}
 use Rattle.pddl_tree_values.specs.Reading.{number_seen}
 use Rattle.model.specs.Trees as tree
 use Rattle.model.specs.GrammarWords.{Token, closes, dash}

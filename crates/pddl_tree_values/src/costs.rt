@@ -9,10 +9,11 @@ ghost use Rattle.syntax_tree.specs.Tree.{amount_of, atom_of, increase_of, fact_o
 use crate::lists::list;
 use crate::look::{Parsed, close, minimize, number, open, total_cost};
 use crate::refusals::{Place, refusal};
+use crate::token::{ReservedName, Token, token_at};
+use crate::word_fault::WordRefusal;
 use faults::Refused;
-use pddl_words::{Name, ReservedName, Token, WordRefusal, token_at};
 use std::alloc::Global;
-use syntax_tree::{Amount, Atom, Fact, GroundAtom, Increase, InitialCost, InitialValue};
+use syntax_tree::{Amount, Atom, Fact, GroundAtom, Increase, InitialCost, InitialValue, Name};
 use tokens::Word;
 
 /// `( total-cost )`: its name, and the index after the parenthesis.

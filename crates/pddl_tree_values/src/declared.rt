@@ -1,7 +1,7 @@
 //! Declarations of predicates and functions, and the facts of `:init`.
 ghost use Rattle.std.specs.Prelude.{◌≡◌, map, false};
 ghost use Rattle.model.specs.Grammar.{listed, declaration, function_list, function_declaration, fact as wants_fact, ground_atom as wants_ground_atom};
-ghost use Rattle.pddl_words.specs.Token.{from, first};
+ghost use Rattle.pddl_tree_values.specs.Token.{from, first};
 ghost use Rattle.pddl_tree_values.specs.Reading.{part, Reads, ReadsOne, closes_first};
 ghost use Rattle.syntax_tree.specs.Tree.{predicate_of, fact_of, ground_atom_of};
 
@@ -9,9 +9,9 @@ use crate::costs::initial_fact;
 use crate::lists::{Item, list};
 use crate::look::{Parsed, close, is_close, is_dash, number_word, open};
 use crate::refusals::{Listed, Place, refusal};
+use crate::token::{ReservedName, Token, token_at};
 use crate::typed_lists::typed;
 use faults::Refused;
-use pddl_words::{ReservedName, Token, token_at};
 use std::alloc::Global;
 use syntax_tree::{Fact, GroundAtom, Predicate};
 use tokens::Word;

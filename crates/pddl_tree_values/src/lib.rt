@@ -1,5 +1,5 @@
 //! The values that stand in domain and problem files, read from their words: typed lists, formulas, effects, costs,
-//! declarations and facts; and what is told of a word that may not stand where it does.
+//! declarations and facts; what a word is to the grammar; and what is told of one that may not stand where it does.
 #![tactic(auto)]
 
 mod costs;
@@ -10,8 +10,10 @@ mod lists;
 mod look;
 mod placing;
 mod refusals;
+mod token;
 mod typed_lists;
 mod values;
+mod word_fault;
 
 pub use costs::metric;
 pub use declared::functions;
@@ -21,5 +23,7 @@ pub use lists::{Item, Key, list};
 pub use look::{Parsed, action_name, close, define, is_close, kind, name, open};
 pub use placing::{put, replace};
 pub use refusals::{Listed, Place, allowed, has_part, has_section, refusal, required};
+pub use token::{FreeName, Keyword, PartKeyword, ReservedName, SectionKeyword, Token, token_at};
 pub use typed_lists::typed;
 pub use values::{EffectValue, effect_value};
+pub use word_fault::{WordFault, WordRefusal};

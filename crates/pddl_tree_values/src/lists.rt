@@ -6,9 +6,10 @@ ghost use Rattle.pddl_tree_values.specs.Reading.{part, Reads};
 
 use crate::look::{Parsed, is_close, name, term};
 use crate::refusals::{Place, refusal};
+use crate::token::{Keyword, Token, token_at};
 use faults::Refused;
-use pddl_words::{Keyword, Name, Term, Token, token_at};
 use std::alloc::Global;
+use syntax_tree::{Name, Term};
 use tokens::Word;
 
 /// What a list may be of.

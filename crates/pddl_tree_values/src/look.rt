@@ -3,7 +3,7 @@ ghost use Rattle.std.specs.Prelude.{◌≡◌, ◌<◌, IfSome, IsTrue, length};
 ghost use Rattle.std.specs.Option.{option_map, option_and_then};
 ghost use Rattle.model.specs.Grammar.{a_name, action_name as wants_action_name, term as wants_term, close as wants_close, either_word as wants_either, define_word, kind_word, total_cost as wants_total_cost, amount as wants_amount, number_type, minimize_word};
 ghost use Rattle.syntax_tree.specs.Name.{name_of, term_of};
-ghost use Rattle.pddl_words.specs.Token.{from, first};
+ghost use Rattle.pddl_tree_values.specs.Token.{from, first};
 ghost use Rattle.syntax_tree.specs.Tree.{file_of};
 ghost use Rattle.pddl_tree_values.specs.Place.{listed_view};
 ghost use Rattle.pddl_tree_values.specs.Reading.{part, Passes, ReadsWords, Opens, closes_first, and_first};
@@ -11,8 +11,9 @@ ghost use Rattle.pddl_tree_values.specs.Costs.{dash_first, increase_in};
 ghost use Rattle.pddl_tree_values.specs.Typed.{NamesOne, ends_group_first};
 
 use crate::refusals::{Listed, Place, refusal};
-use pddl_words::{FreeName, Name, ReservedName, Term, Token, WordFault, WordRefusal, token_at};
-use syntax_tree::TaskFile;
+use crate::token::{FreeName, ReservedName, Token, token_at};
+use crate::word_fault::{WordFault, WordRefusal};
+use syntax_tree::{Name, TaskFile, Term};
 use tokens::Word;
 
 /// Something that was read, and the index of the word after it; else the first word that may not stand there, by its

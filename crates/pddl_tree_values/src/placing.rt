@@ -4,7 +4,7 @@ ghost use Rattle.std.specs.Prelude.{◌≡◌};
 ghost use Rattle.pddl_tree_values.specs.Reading.{IsPut};
 
 use crate::look::Parsed;
-use pddl_words::WordFault;
+use crate::word_fault::WordFault;
 
 /// Puts a value where another stands.
 pub fn replace<T: Drop>(place: &mut T, value: T)

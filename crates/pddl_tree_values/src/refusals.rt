@@ -1,16 +1,15 @@
 //! What is told of a word that may not stand where it does: the table of refusals, by what is wanted at the place.
 ghost use Rattle.std.specs.Prelude.{◌≡◌, map};
 ghost use Rattle.faults.specs.Fault.{number_of};
-ghost use Rattle.pddl_words.specs.Token.{from, first, seen, part_view, section_view};
+ghost use Rattle.pddl_tree_values.specs.Token.{from, first, seen, part_view, section_view};
 ghost use Rattle.model.specs.Grammar as grammar;
 ghost use Rattle.pddl_tree_values.specs.Reading.{number_seen};
 ghost use Rattle.syntax_tree.specs.Tree.{file_of};
 ghost use Rattle.pddl_tree_values.specs.Place.{wanted};
 
+use crate::token::{FreeName, Keyword, PartKeyword, ReservedName, SectionKeyword, Token, token_at};
+use crate::word_fault::WordRefusal;
 use faults::Code;
-use pddl_words::{
-    FreeName, Keyword, PartKeyword, ReservedName, SectionKeyword, Token, WordRefusal, token_at,
-};
 use syntax_tree::TaskFile;
 use tokens::Word;
 

@@ -2,7 +2,7 @@
 ghost use Rattle.std.specs.Prelude.{◌≡◌, map, false};
 ghost use Rattle.model.specs.Grammar.{listed, typed as wants_typed, type as wants_type, variables};
 ghost use Rattle.syntax_tree.specs.Name.{name_of};
-ghost use Rattle.pddl_words.specs.Token.{from, first};
+ghost use Rattle.pddl_tree_values.specs.Token.{from, first};
 ghost use Rattle.pddl_tree_values.specs.Place.{listed_view};
 ghost use Rattle.pddl_tree_values.specs.Reading.{part, phrase, Reads, ReadsOne, closes_first};
 ghost use Rattle.syntax_tree.specs.Tree.{group_of, groups_of};
@@ -11,10 +11,10 @@ ghost use Rattle.pddl_tree_values.specs.Typed.{the_either};
 use crate::lists::list;
 use crate::look::{Parsed, either_word, ends_group, is_close, listed_name, name, open};
 use crate::refusals::{Listed, Place, refusal};
+use crate::token::{Token, token_at};
 use faults::Refused;
-use pddl_words::{Name, Token, token_at};
 use std::alloc::Global;
-use syntax_tree::Group;
+use syntax_tree::{Group, Name};
 use tokens::Word;
 
 /// A typed list, and `)`: its groups, and the index after the parenthesis.

@@ -8,7 +8,7 @@ use crate::costs::increase;
 use crate::effects::{effect, no_effect};
 use crate::look::{Parsed, increase_word, is_close, open};
 use crate::refusals::Place;
-use pddl_words::{ReservedName, Token, token_at};
+use crate::token::{ReservedName, Token, token_at};
 use std::alloc::Global;
 use syntax_tree::{Effect, Increase};
 use tokens::Word;

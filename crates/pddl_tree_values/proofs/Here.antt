@@ -4,7 +4,7 @@ use Rattle.std.proofs.lemmas.List.{drop_more, drop-map}
 use Rattle.tokens.specs.declared.word.Word.{Word}
 use Rattle.tokens.specs.Word.{word_of}
 use Rattle.model.specs.GrammarWords.{Token, token_of}
-use Rattle.pddl_words.specs.Token.{from, first}
+use Rattle.pddl_tree_values.specs.Token.{from, first}
 
 abbrev token : Word → Token
 token w = token_of (word_of w)

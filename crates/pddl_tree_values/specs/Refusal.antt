@@ -2,7 +2,7 @@
 use Rattle.std.specs.Prelude.{ℕ, List, Option, None, Some}
 use Rattle.faults.specs.declared.refused.Refused.{Refused}
 use Rattle.faults.specs.declared.refused.Refused.TheVariants.{At, NoMemory}
-use Rattle.pddl_words.specs.declared.refusal.WordRefusal.{WordRefusal}
+use Rattle.pddl_tree_values.specs.declared.word_fault.WordRefusal.{WordRefusal}
 use Rattle.faults.specs.Fault.{number_of}
 use Rattle.model.specs.Fault as fault
 use Rattle.model.specs.Words.{Word}

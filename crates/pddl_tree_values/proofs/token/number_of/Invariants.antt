@@ -3,8 +3,8 @@ use Rattle.std.specs.Char.{to_ascii_lowercase}
 use Rattle.std.specs.Str.{str_to_ascii_lowercase}
 use Rattle.model.specs.Limits.{max_number}
 use Rattle.model.specs.GrammarWords.{number_of_digits}
-use Rattle.pddl_words.proofs.Numbers.{with_digit}
-use Rattle.pddl_words.proofs.token.number_of.Given as goal
+use Rattle.pddl_tree_values.proofs.Numbers.{with_digit}
+use Rattle.pddl_tree_values.proofs.token.number_of.Given as goal
 
 abbrev pub invariant-loop-digit : goal.invariant-loop-digit
 invariant-loop-digit l = record {

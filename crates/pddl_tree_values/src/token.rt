@@ -7,7 +7,7 @@ ghost use Rattle.tokens.specs.Word.{word_of};
 ghost use Rattle.model.specs.GrammarWords as words;
 ghost use Rattle.model.specs.GrammarWords.{is_among, left_out_names, number_of_digits, requirement_keys, left_out_keywords};
 ghost use Rattle.syntax_tree.specs.Name.{name_of};
-ghost use Rattle.pddl_words.specs.Token.{seen, keyword_view, small, IsToken, first, from};
+ghost use Rattle.pddl_tree_values.specs.Token.{seen, keyword_view, small, IsToken, first, from};
 
 use syntax_tree::Name;
 use tokens::{Kind, Word};

@@ -3,7 +3,7 @@ use Rattle.std.proofs.Common.{◌≡◌, ℕ, zero, suc, ◌+◌, ◌-◌, ◌*�
 use Rattle.std.proofs.lemmas.Bool.Decides.{nat_tests}
 use Rattle.std.specs.Char.{to_ascii_lowercase}
 use Rattle.model.specs.Limits.{max_number}
-use Rattle.pddl_words.specs.Token.{small}
+use Rattle.pddl_tree_values.specs.Token.{small}
 
 -- a number with one digit more
 abbrev pub with_digit : ℕ → ℕ → ℕ

@@ -1,8 +1,8 @@
 use Rattle.std.proofs.Common.{arith, ◌∙◌, ◌-◌, ap}
 use Rattle.std.specs.Str.{str_to_ascii_lowercase}
 use Rattle.model.specs.GrammarWords.{number_of_digits}
-use Rattle.pddl_words.proofs.Numbers.{too_large}
-use Rattle.pddl_words.proofs.token.number_of.Goals as goal
+use Rattle.pddl_tree_values.proofs.Numbers.{too_large}
+use Rattle.pddl_tree_values.proofs.token.number_of.Goals as goal
 
 pub returns-then-more-from : goal.returns-then-more-from
 returns-then-more-from c =

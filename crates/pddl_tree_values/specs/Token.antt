@@ -2,18 +2,18 @@
 use Rattle.std.specs.Prelude.{ℕ, nat_le, if◌then◌else◌, List, [], ◌∷◌, map, drop, Option, None, Some, ⊤}
 use Rattle.tokens.specs.declared.word.Word.{Word}
 use Rattle.tokens.specs.Word.{word_of}
-use Rattle.pddl_words.specs.declared.token.FreeName.{FreeName}
-use Rattle.pddl_words.specs.declared.token.FreeName.TheVariants as free
-use Rattle.pddl_words.specs.declared.token.ReservedName.{ReservedName}
-use Rattle.pddl_words.specs.declared.token.ReservedName.TheVariants as reserved
-use Rattle.pddl_words.specs.declared.token.SectionKeyword.{SectionKeyword}
-use Rattle.pddl_words.specs.declared.token.SectionKeyword.TheVariants as section
-use Rattle.pddl_words.specs.declared.token.PartKeyword.{PartKeyword}
-use Rattle.pddl_words.specs.declared.token.PartKeyword.TheVariants as part
-use Rattle.pddl_words.specs.declared.token.Keyword.{Keyword}
-use Rattle.pddl_words.specs.declared.token.Keyword.TheVariants as keyword
-use Rattle.pddl_words.specs.declared.token.Token.{Token}
-use Rattle.pddl_words.specs.declared.token.Token.TheVariants as token
+use Rattle.pddl_tree_values.specs.declared.token.FreeName.{FreeName}
+use Rattle.pddl_tree_values.specs.declared.token.FreeName.TheVariants as free
+use Rattle.pddl_tree_values.specs.declared.token.ReservedName.{ReservedName}
+use Rattle.pddl_tree_values.specs.declared.token.ReservedName.TheVariants as reserved
+use Rattle.pddl_tree_values.specs.declared.token.SectionKeyword.{SectionKeyword}
+use Rattle.pddl_tree_values.specs.declared.token.SectionKeyword.TheVariants as section
+use Rattle.pddl_tree_values.specs.declared.token.PartKeyword.{PartKeyword}
+use Rattle.pddl_tree_values.specs.declared.token.PartKeyword.TheVariants as part
+use Rattle.pddl_tree_values.specs.declared.token.Keyword.{Keyword}
+use Rattle.pddl_tree_values.specs.declared.token.Keyword.TheVariants as keyword
+use Rattle.pddl_tree_values.specs.declared.token.Token.{Token}
+use Rattle.pddl_tree_values.specs.declared.token.Token.TheVariants as token
 use Rattle.syntax_tree.specs.Name.{name_of}
 use Rattle.model.specs.Limits.{max_number}
 use Rattle.model.specs.GrammarWords as words

@@ -1,2 +1,0 @@
-pub mod Token
-pub mod Refusal
