@@ -2,7 +2,7 @@
 //! The numbered atoms are those of being at `a`, `b` and `c`; the kept instances are the two hops, and then the leap.
 use faults::NoMemory;
 use grounding::Ground;
-use potentials_improved::{Fair, Fairness, Potentials};
+use potentials_improved::{Fair, Fairness, Improve, Potentials};
 use std::alloc::Global;
 use std::process::Abort;
 use std::test::Fail;
