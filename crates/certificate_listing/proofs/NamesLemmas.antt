@@ -1,6 +1,6 @@
 -- Names and what they name.
 use Rattle.std.proofs.Common.{◌≡◌, ℕ, zero, suc, ◌<◌, ◌≤◌, Bool, true, false, List, [], ◌∷◌, map, length, get_or, cond, Option, None, Some, refl, sym, ap, ◌∙◌, subst, true≢false, arith}
-use Rattle.std.specs.Prelude.{IsTrue, ◌==◌, slice_get, nat_le, nat_lt}
+use Rattle.std.specs.Prelude.{IsTrue, ◌==◌, slice_get, nat_lt}
 use Rattle.std.specs.Cmp.{first_so, second_so}
 use Rattle.std.specs.List.{position, position_or_len}
 use Rattle.std.specs.Option.{option_map_or}
@@ -9,7 +9,7 @@ use Rattle.std.proofs.lemmas.Bool.{eqb-true, leb-true, ltb-true}
 use Rattle.std.proofs.lemmas.List.Sums.{passes_at_first}
 use Rattle.model.specs.Task.{Name, Atom, Predicate, Task}
 use Rattle.model.specs.Meaning.{is_of}
-use Rattle.model.specs.WellTyped.{is_atom, is_task, max_arguments}
+use Rattle.model.specs.WellTyped.{is_atom, is_task, has_few_arguments, max_arguments}
 use Rattle.model.specs.Resolution.{is_same}
 use Rattle.model.specs.PlanText.{object_names}
 use Rattle.model.proofs.Tests.{passes_got}
@@ -64,8 +64,8 @@ few_objects task a well typed =
     → option_map_or (λ (p : Predicate). pointwise (is_of task) p.arguments a.objects) o false ≡ true → length a.objects ≤ 8) [
       | None ↦ λ at none. absurd (true≢false (sym none))
       | Some p ↦ λ at fit.
-          let few = passes_got (λ (p : Predicate). nat_le (length p.arguments) max_arguments) task.predicates a.predicate p at
-          (second_so _ _ (first_so _ _ (first_so _ _ (first_so _ _ well)))) in
+          let few = passes_got has_few_arguments task.predicates a.predicate p at
+          (first_so _ _ (second_so _ _ (first_so _ _ (first_so _ _ (first_so _ _ well))))) in
           subst (λ n. n ≤ 8) (as_long (is_of task) p.arguments a.objects fit) (leb-true (length p.arguments) max_arguments few)
     ] refl typed
 

@@ -16,14 +16,14 @@ use Rattle.typing_formulas.specs.declared.schemas.Formula.{Formula}
 use Rattle.typing_formulas.specs.declared.schemas.Effect.{Effect}
 use Rattle.typing_formulas.specs.declared.schemas.Effect as effect
 use Rattle.typing.specs.TaskParts.{object_of, term_of, lifted_atom_of, effect_literal_of, effect_of, formula_of}
-use Rattle.formulas.specs.State.{is_bound, FitsFormula, FitsEffect, FitsLiteral, FitsLiterals}
+use Rattle.formulas.specs.State.{FitsFormula, FitsEffect, FitsLiteral, FitsLiterals}
 use Rattle.formulas.specs.Changes.{after_some}
 use Rattle.model.specs.Task as task
 use Rattle.model.specs.WellTyped.{is_task, is_lifted_atom, is_formula, is_effect, is_effect_literal, max_arguments}
 use Rattle.model.specs.Meaning.{State, Change, added_by, deleted_by, GroundLiteral, ground_atom, ground_literal, change_under, holds, literals_in, changes_of}
 use Rattle.model.proofs.Atoms.{difference-append, union-append, difference-none, difference-one, union-none, union-one, added_by-append, deleted_by-append}
 use Rattle.formulas.proofs.Quantifiers.{among, among-with, among-without}
-use Rattle.formulas.proofs.Tasks.{terms_few, lifted_bound}
+use Rattle.formulas.proofs.Tasks.{terms_few}
 use Rattle.formulas.proofs.Trees.{changes_by_parts}
 
 pub after-none : (adds : Bool) (s : State) → after_some adds s [] ≡ s
@@ -131,12 +131,6 @@ module _ (t : task.Task) (l : EffectLiteral) (a : LiftedAtom) (objects : List Ob
 
   pub delete_few : l ≡ Delete a → IsTrue (is_task t) → length a.terms.items ≤ max_arguments
   delete_few is well = terms_few t given.scope a well (typed_delete is)
-
-  pub add_bound : l ≡ Add a → IsTrue (list_all (is_bound (length objects)) (map term_of a.terms.items))
-  add_bound is = lifted_bound t given.scope objects (lifted_atom_of a) (typed_add is) given.fits
-
-  pub delete_bound : l ≡ Delete a → IsTrue (list_all (is_bound (length objects)) (map term_of a.terms.items))
-  delete_bound is = lifted_bound t given.scope objects (lifted_atom_of a) (typed_delete is) given.fits
 
 -- what one literal leaves of a state
 module _ (b : List ℕ) (s : State) (l : EffectLiteral) (a : LiftedAtom) (adds : Bool) where

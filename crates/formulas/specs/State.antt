@@ -1,5 +1,5 @@
 -- States, instances and plans of the code, in the model's terms, and when objects may stand for variables.
-use Rattle.std.specs.Prelude.{ℕ, Bool, true, nat_lt, IsTrue, List, map}
+use Rattle.std.specs.Prelude.{ℕ, Bool, IsTrue, List, map}
 use Rattle.std.specs.Cmp.Lexicographic.{pointwise}
 use Rattle.std.specs.FinSet.{from_list}
 use Rattle.std.specs.List.{list_all}
@@ -20,11 +20,6 @@ instance_of i = record { schema = i.schema.0; objects = map object_of i.objects.
 -- the plan's instances, in order
 abbrev pub plan_of : Plan → List task.Instance
 plan_of p = map instance_of p.steps.items
-
--- a term that is a variable is one of the first so many
-abbrev pub is_bound : ℕ → task.Term → Bool
-is_bound scope (task.variable parameter) = nat_lt parameter scope
-is_bound scope (task.object number) = true
 
 -- There are types of variables for which something is well-typed, and of which these objects are, one for each.
 pub record FitsScope (t : task.Task) (is_typed : List task.Union → Bool) (objects : List ℕ) : Type 0 where

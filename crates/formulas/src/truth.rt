@@ -1,9 +1,9 @@
 //! Truth: which atoms terms name, and whether a formula holds.
-ghost use Rattle.std.specs.Prelude.{◌≡◌, ◌≤◌, length, map, IsTrue};
+ghost use Rattle.std.specs.Prelude.{◌≡◌, ◌≤◌, length, map};
 ghost use Rattle.std.specs.List.{list_all, list_any};
 ghost use Rattle.typing.specs.TaskParts.{atom_of, object_of, formula_of, lifted_atom_of, term_of, union_of};
 ghost use Rattle.typing.specs.Task.{task_of};
-ghost use Rattle.formulas.specs.State.{is_bound, state_of, FitsFormula, FitsFormulas};
+ghost use Rattle.formulas.specs.State.{state_of, FitsFormula, FitsFormulas};
 ghost use Rattle.model.specs.Task.{exists, forall};
 ghost use Rattle.model.specs.Meaning as meaning;
 
@@ -123,8 +123,7 @@ pub fn meets_goal(task: &Task, state: &State) -> bool
 
 /// The atom that a predicate of some terms becomes, where the variables have these objects.
 pub(crate) fn ground_atom(atom: &LiftedAtom, binding: &Binding) -> Atom
-    requires few { length atom.now.terms.items ≤ MAX_ARGUMENTS }
-    requires bound { IsTrue (list_all (is_bound (length binding.now.items)) (map term_of atom.now.terms.items)) }
+    requires { length atom.now.terms.items ≤ MAX_ARGUMENTS }
     ensures { atom_of result ≡ meaning.ground_atom (map object_of binding.now.items) (lifted_atom_of atom.now) }
 {
     let mut objects = ArrayVec::new();
@@ -137,13 +136,12 @@ pub(crate) fn ground_atom(atom: &LiftedAtom, binding: &Binding) -> Atom
     }
 }
 
-/// The object that the term names, where the variables have these objects.
+/// The object that the term names, where the variables have these objects: the first one, where its variable has none.
 pub(crate) fn named_by(term: &Term, binding: &Binding) -> ObjectId
-    requires { IsTrue (is_bound (length binding.now.items) (term_of term.now)) }
     ensures { result.0 ≡ meaning.object_of (map object_of binding.now.items) (term_of term.now) }
 {
     match term {
-        Term::Variable(variable) => binding[variable.0],
+        Term::Variable(variable) => binding.get(variable.0).copied().unwrap_or_default(),
         Term::Object(object) => *object,
     }
 }

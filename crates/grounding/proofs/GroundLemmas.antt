@@ -1,5 +1,5 @@
 -- What is kept for an instance, found by its number.
-use Rattle.std.proofs.Common.{arith, ◌≡◌, ◌∙◌, ℕ, ◌<◌, ◌+◌, Bool, true, false, List, [], ◌∷◌, ◌++◌, map, length, take, drop, get_or, append_assoc, Option, None, Some, refl, sym, ap, true≢false}
+use Rattle.std.proofs.Common.{arith, ◌≡◌, ◌∙◌, ℕ, ◌<◌, ◌+◌, Bool, true, false, List, [], ◌∷◌, ◌++◌, map, length, take, drop, get_or, append_assoc, Option, None, Some, inl, inr, refl, sym, ap, subst, true≢false}
 use Rattle.std.specs.Prelude.{IfOk, Result, Ok, Err, slice_get, is_none}
 use Rattle.std.specs.Global.{Box, Vec}
 use Rattle.std.specs.List.{cons_option}
@@ -18,10 +18,11 @@ use Rattle.model.proofs.ListLemmas.{drop-here}
 use Rattle.grounding.specs.declared.changes.CountingChange.{CountingChange}
 use Rattle.grounding.specs.declared.changes.ChangeCondition.{ChangeCondition}
 use Rattle.grounding.specs.NumberedEffects.{NumberedEffect, counted_effect, counted_effects, change_of_effect}
-use Rattle.grounding.specs.Changes.{counting_of, guard_in, effect_in, AreCompiled, AreChangesOf}
+use Rattle.grounding.specs.Changes.{counting_of, guard_in, effect_in, IsCompiled, AreCompiled, AreChangesOf}
 use Rattle.grounding.specs.Preconditions.{IsPrecondition}
 use Rattle.grounding.specs.Ground.{task_in, atoms_in}
 use Rattle.grounding.proofs.EffectLemmas.{changes-of_effects}
+use Rattle.grounding.proofs.InPlaceLemmas.{got-push}
 use Rattle.grounding.proofs.StepLemmas.{kept-is_instance}
 
 pub got : {X : Type 0} (xs : List X) (k : ℕ) (x : X) → k < length xs → x ≡ get_or xs k x → slice_get xs k ≡ Some x
@@ -107,6 +108,15 @@ effects-more t atoms xs k x now before whole at is all =
     joined : (o : Option NumberedEffect) (rest : List NumberedEffect) → cons_option o [] ++ rest ≡ cons_option o rest
     joined None rest = refl
     joined (Some e) rest = refl
+
+-- one more that is compiled
+pub compiled-more : (t : Task) (atoms : List Atom) (before after : List CountingChange) (last : CountingChange) → after ≡ before ++ last ∷ []
+    → AreCompiled t atoms before → IsCompiled t atoms last.condition → AreCompiled t atoms after
+compiled-more t atoms before after last is all here k c at =
+    elim (got-push before last c k (ap (λ (l : List CountingChange). slice_get l k) (sym is) ∙ at)) [
+      | inl earlier ↦ all k c earlier
+      | inr there ↦ subst (λ (d : CountingChange). IsCompiled t atoms d.condition) there.1 here
+    ]
 
 pub both-parts : {E : Type 0} (t : Task) (atoms : List Atom) (i : Instance) (changes : List Change) → changes ≡ changes_of_instance t i → (r : Result (Vec CountingChange) E)
     → IfOk r (λ (found : Vec CountingChange). map effect_in found.items ≡ counted_effects t atoms changes) → IfOk r (λ (found : Vec CountingChange). AreCompiled t atoms found.items)

@@ -8,7 +8,7 @@ pub record AreSoFar {X Y : Type 0} (belongs : X → Y → Type 0) (xs : List X) 
   pub as_many : length ys ≡ count
   pub each : (n : ℕ) (x : X) (y : Y) → slice_get xs n ≡ Some x → slice_get ys n ≡ Some y → belongs x y
 
-got-push : {Y : Type 0} (ys : List Y) (y z : Y) (n : ℕ) → slice_get (ys ++ y ∷ []) n ≡ Some z → (slice_get ys n ≡ Some z) ⊎ ((n ≡ length ys) × (y ≡ z))
+pub got-push : {Y : Type 0} (ys : List Y) (y z : Y) (n : ℕ) → slice_get (ys ++ y ∷ []) n ≡ Some z → (slice_get ys n ≡ Some z) ⊎ ((n ≡ length ys) × (y ≡ z))
 got-push [] y z zero at = inr (refl, cc)
 got-push [] y z (suc n) at = absurd (cc)
 got-push (x ∷ ys) y z zero at = inl at

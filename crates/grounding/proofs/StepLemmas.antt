@@ -1,16 +1,17 @@
--- Steps of the ground task: an instance is applicable where its precondition holds, and then sets the bits of the changes
--- that count and happen.
-use Rattle.std.proofs.Common.{◌≡◌, ◌∙◌, ◌≤◌, ℕ, Bool, true, false, ◌&&◌, List, length, None, Some, is_some, refl, sym, ap, arith}
+-- Steps of the ground task: an instance, which is kept, is applicable where its precondition holds, and then sets the bits
+-- of the changes that count and happen.
+use Rattle.std.proofs.Common.{◌≡◌, ◌∙◌, ◌≤◌, ℕ, Bool, true, false, not, ◌&&◌, List, length, None, Some, is_some, refl, sym, ap, arith}
 use Rattle.std.specs.Prelude.{slice_get, if◌then◌else◌, IsTrue}
 use Rattle.std.specs.Option.{option_map, option_map_or, option_and_then}
 use Rattle.std.specs.FinSet.{contains-from_list}
 use Rattle.std.specs.List.{range_with_len}
+use Rattle.std.proofs.lemmas.Bool.{and_parts}
 use Rattle.std.proofs.lemmas.List.FromFn.{length-range_with_len}
 use Rattle.std.proofs.lemmas.List.Sums.{length-filter, count_by-le-length}
 use Rattle.model.specs.Task.{Atom, Schema, Task, Instance}
-use Rattle.model.specs.Meaning.{State, holds, fits, is_instance, literals_in, after_changes, changes_of, step}
+use Rattle.model.specs.Meaning.{State, holds, has_amount, can_apply, fits, is_instance, literals_in, after_changes, changes_of, step}
 use Rattle.model.specs.Fluents.{is_fluent, HasInitialStatics}
-use Rattle.model.specs.ClosedOff.{kept_instances, counting_changes}
+use Rattle.model.specs.ClosedOff.{is_closed_off, kept_instances, counting_changes}
 use Rattle.model.specs.NumberedAtoms.{stands_in, are_distinct}
 use Rattle.model.specs.Grounding.{state_of_bits, bits_of_state, ground_step}
 use Rattle.formulas.proofs.Quantifiers.{among}
@@ -46,20 +47,25 @@ module _ (t : Task) (atoms : List Atom) (bits : List Bool) (number : ℕ) (i : I
   ground_step-named : ground_step t atoms bits number ≡ option_map (bits_of_state atoms) (step t before i)
   ground_step-named = ap (option_and_then (λ (j : Instance). option_map (bits_of_state atoms) (step t before j))) named
 
-  some_if : (b h : Bool) (x : State) → b ≡ true → is_some (option_map (bits_of_state atoms) (if b && h then Some x else None)) ≡ h
-  some_if true true x is = refl
-  some_if true false x is = refl
-  some_if false h x is = absurd (cc)
+  some_if : (b v h : Bool) (x : State) → b ≡ true → v ≡ true → is_some (option_map (bits_of_state atoms) (if b && (v && h) then Some x else None)) ≡ h
+  some_if true true true x is valued = refl
+  some_if true true false x is valued = refl
+  some_if true false h x is valued = absurd (cc)
+  some_if false v h x is valued = absurd (cc)
 
-  -- it is applicable where its precondition holds
+  -- it is applicable where its precondition holds, as what it increases the cost by has a value
   pub applies : (schema : Schema) → slice_get t.schemas i.schema ≡ Some schema → is_some (ground_step t atoms bits number) ≡ holds t schema.precondition i.objects before
   applies schema at =
       let of : fits t schema i.objects ≡ true =
       sym (ap (λ o. option_map_or (λ (s : Schema). fits t s i.objects) o false) at) ∙ kept-is_instance t number i named in
+      let kept : (has_amount t schema i.objects && not (is_closed_off t schema.precondition i.objects)) ≡ true =
+      sym (ap (λ o. option_map_or (λ (s : Schema). has_amount t s i.objects && not (is_closed_off t s.precondition i.objects)) o false) at)
+      ∙ (kept-Contains t i (Contains-got (kept_instances t) number i named)).1 in
       ap is_some ground_step-named
       ∙ ap (λ o. is_some (option_map (bits_of_state atoms) (option_and_then (λ (s : Schema).
-      if fits t s i.objects && holds t s.precondition i.objects before then Some (after_changes t before (changes_of t s.effect i.objects)) else None) o))) at
-      ∙ some_if (fits t schema i.objects) (holds t schema.precondition i.objects before) (after_changes t before (changes_of t schema.effect i.objects)) of
+      if fits t s i.objects && can_apply t s i.objects before then Some (after_changes t before (changes_of t s.effect i.objects)) else None) o))) at
+      ∙ some_if (fits t schema i.objects) (has_amount t schema i.objects) (holds t schema.precondition i.objects before) (after_changes t before (changes_of t schema.effect i.objects)) of
+      (and_parts (has_amount t schema i.objects) (not (is_closed_off t schema.precondition i.objects)) kept).0
 
   -- and then its changes that count set bits
   pub leads-bits : are_distinct atoms ≡ true → ((a : Atom) → stands_in atoms a ≡ true → is_fluent t a.predicate ≡ true) → length bits ≡ length atoms

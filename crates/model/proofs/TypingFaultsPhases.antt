@@ -112,7 +112,7 @@ cycle_listed parents number (x ∷ xs) are (suc place) w at back =
 -- ---- values of functions
 
 -- the values of some facts, and then of others
-values_after-append : (known : Known) (given : List task.FunctionValue) (first rest : List tree.Fact)
+pub values_after-append : (known : Known) (given : List task.FunctionValue) (first rest : List tree.Fact)
     → values_after known given (first ++ rest) ≡ values_after known (values_after known given first) rest
 values_after-append known given first rest =
     ap (fold with_value given) (flat_map-append (values_in known) first rest) ∙ fold-append with_value given (flat_map (values_in known) first) (flat_map (values_in known) rest)
@@ -397,13 +397,13 @@ in_facts : (d : Domain) (p : Problem) (stands : tree.Fact) {f : TypingFault} →
 in_facts d p stands {f} among at = on_left _ _ (fact_listed (known_in_problem d p) [] p.init stands among at)
 
 -- another value of a function is among them, where it stands after facts that give it one
-value_listed : (known : Known) (given : List task.FunctionValue) (before : List tree.Fact) (fact : tree.Fact) (after : List tree.Fact) {f : TypingFault}
-    → Contains (value_faults problem_file known (values_after known given before) fact) f → Contains (facts_faults problem_file known given (before ++ fact ∷ after)) f
-value_listed known given [] fact after {f} at = on_left _ _ (on_right (fact_faults problem_file known fact) _ at)
-value_listed known given (first ∷ before) fact after {f} at =
+value_listed : (known : Known) (given : List task.FunctionValue) (before : List tree.Fact) (f : tree.Fact) (after : List tree.Fact) {told : TypingFault}
+    → Contains (value_faults problem_file known (values_after known given before) f) told → Contains (facts_faults problem_file known given (before ++ f ∷ after)) told
+value_listed known given [] f after at = on_left _ _ (on_right (fact_faults problem_file known f) _ at)
+value_listed known given (first ∷ before) f after {told} at =
     on_right (fact_faults problem_file known first ++ value_faults problem_file known given first) _
-    (value_listed known (values_after known given (first ∷ [])) before fact after
-    (subst (λ values. Contains (value_faults problem_file known values fact) f) (values_after-append known given (first ∷ []) before) at))
+    (value_listed known (values_after known given (first ∷ [])) before f after
+    (subst (λ values. Contains (value_faults problem_file known values f) told) (values_after-append known given (first ∷ []) before) at))
 
 -- a value that is not the one that was given
 other_listed : (known : Known) (facts : List tree.Fact) (v : tree.InitialValue) → IsOtherValue known facts v

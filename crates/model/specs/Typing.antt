@@ -165,8 +165,8 @@ value_faults file known given _ = []
 -- of facts, where these values were given before them
 abbrev pub facts_faults : File → Known → List task.FunctionValue → List tree.Fact → List TypingFault
 facts_faults file known given [] = []
-facts_faults file known given (fact ∷ facts) =
-    fact_faults file known fact ++ value_faults file known given fact ++ facts_faults file known (values_after known given (fact ∷ [])) facts
+facts_faults file known given (f ∷ facts) =
+    fact_faults file known f ++ value_faults file known given f ++ facts_faults file known (values_after known given (f ∷ [])) facts
 
 -- and 23: each `=` after the first
 abbrev pub init_faults : File → Known → List tree.Fact → List TypingFault

@@ -8,7 +8,7 @@ use Rattle.std.specs.Ordering.{eq_by_cmp}
 use Rattle.std.specs.FinSet.{contains}
 use Rattle.std.proofs.lemmas.Bool.{and_parts, and_from, or_right, eqb-true, eq-eqb, not-true, false_from_ne_true}
 use Rattle.model.specs.Task.{Atom, Formula, and, no_formula, Schema, Task, Instance}
-use Rattle.model.specs.Meaning.{State, atom_cmp, fits, holds, GroundLiteral, adds, deletes, Change, changes_of, literals_in, added_by, deleted_by, after_changes, step}
+use Rattle.model.specs.Meaning.{State, atom_cmp, fits, holds, has_amount, can_apply, GroundLiteral, adds, deletes, Change, changes_of, literals_in, added_by, deleted_by, after_changes, step}
 use Rattle.model.specs.Fluents.{HasInitialStatics}
 use Rattle.model.specs.SureLiterals.{Literal, is_true, is_false, are_same, are_different, literal_holds, sure}
 use Rattle.model.specs.ClosedOff.{is_empty_and, is_unconditional, counting_changes}
@@ -234,15 +234,16 @@ module _ (atoms : List Atom) (distinct : are_distinct atoms ≡ true) (n : ℕ) 
     -- its precondition holds
     precondition-holds : (schema : Schema) → slice_get task.schemas i.schema ≡ Some schema → holds task schema.precondition i.objects s ≡ true
     precondition-holds schema named =
-        held (fits task schema i.objects) (holds task schema.precondition i.objects s) (after_changes task s (changes_of task schema.effect i.objects)) (sym (ap (option_and_then by) named) ∙ leads)
+        held (fits task schema i.objects) (has_amount task schema i.objects) (holds task schema.precondition i.objects s) (after_changes task s (changes_of task schema.effect i.objects)) (sym (ap (option_and_then by) named) ∙ leads)
       where
         by : Schema → Option State
-        by other = if fits task other i.objects && holds task other.precondition i.objects s then Some (after_changes task s (changes_of task other.effect i.objects)) else None
+        by other = if fits task other i.objects && can_apply task other i.objects s then Some (after_changes task s (changes_of task other.effect i.objects)) else None
 
-        held : (x y : Bool) (t : State) → (if x && y then Some t else None) ≡ Some next → y ≡ true
-        held true true t is = refl
-        held true false t is = absurd (cc)
-        held false y t is = absurd (cc)
+        held : (x v y : Bool) (t : State) → (if x && (v && y) then Some t else None) ≡ Some next → y ≡ true
+        held true true true t is = refl
+        held true true false t is = absurd (cc)
+        held true false y t is = absurd (cc)
+        held false v y t is = absurd (cc)
 
     -- what the literals of the instance say of the atom is so before
     instance-says : (value : Bool) → says (literals_of_instance task atoms i) n value ≡ true → contains s a ≡ value

@@ -8,7 +8,7 @@ use Rattle.std.specs.Ordering.{eq_by_cmp}
 use Rattle.std.proofs.lemmas.Bool.{or_cases, and_parts, and_from, eqb-true, eq-eqb}
 use Rattle.std.proofs.lemmas.List.Folds.{list_all-append}
 use Rattle.model.specs.Task.{ObjectType, Object, Union, Atom, LiftedAtom, Term, variable, object, Predicate, Formula, EffectLiteral, add, delete, Effect, Effects, literal, both, each, when, no_effect, more_effects, Schema, Task, Instance}
-use Rattle.model.specs.WellTyped.{is_term, is_lifted_atom, is_atom, is_formula, is_effect_literal, is_effect, are_effects, is_schema, is_whole_chain, is_task, max_arguments, max_variables}
+use Rattle.model.specs.WellTyped.{is_term, is_lifted_atom, is_atom, is_formula, is_effect_literal, is_effect, are_effects, is_increase, is_schema, is_whole_chain, has_few_arguments, is_task, max_variables}
 use Rattle.model.specs.Meaning.{atom_cmp, supertypes_of, is_below, is_of, object_of, ground_atom, Change, ground_literal, change_under, changes_of, changes_of_all, fits, is_instance}
 use Rattle.model.specs.Fluents.{is_fluent}
 use Rattle.model.specs.ClosedOff.{kept_instances, counts}
@@ -201,13 +201,13 @@ module _ (task : Task) (whole : chains task ≡ true) where
 effect_typed : (task : Task) (schema : Schema) (objects : List ℕ) → chains task ≡ true → is_schema task schema ≡ true → fits task schema objects ≡ true
     → list_all (is_typed task) (changes_of task schema.effect objects) ≡ true
 effect_typed task schema objects whole typed fit =
-    let few = nat_le (length schema.parameters) max_variables in
+    let few = nat_le (length schema.parameters) max_variables && is_increase task schema.parameters schema.increase in
     let condition = is_formula task schema.parameters schema.precondition in
     let effect = (and_parts (few && condition) (is_effect task schema.parameters schema.effect) typed).1 in
     changes_typed task whole schema.effect schema.parameters objects fit effect
 
 abbrev arities : Task → Bool
-arities task = list_all (λ (p : Predicate). nat_le (length p.arguments) max_arguments) task.predicates
+arities task = list_all has_few_arguments task.predicates && list_all has_few_arguments task.functions
 
 -- the types, schemas and initial atoms of a well-typed task are
 parts_typed : (task : Task) → is_task task ≡ true → (chains task ≡ true) × (list_all (is_schema task) task.schemas ≡ true) × (list_all (is_atom task) task.init ≡ true)

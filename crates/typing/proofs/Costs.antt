@@ -1,22 +1,43 @@
 -- What the walks over functions, the metric and the costs at the start find.
-use Rattle.std.proofs.Common.{◌≡◌, ◌∙◌, Bool, true, false, not, ◌==◌, List, [], ◌∷◌, map, drop, length, slice_get, is_some, Option, None, Some, refl, ap, Bor, arith, if◌then◌else◌}
+use Rattle.std.proofs.Common.{◌≡◌, ◌∙◌, Bool, true, false, ◌||◌, List, [], ◌∷◌, ◌++◌, map, fold, drop, is_some, Option, None, Some, refl, sym, ap, Bor, if◌then◌else◌}
+use Rattle.std.specs.Cmp.Lexicographic.{same_text}
+use Rattle.std.specs.List.{list_any}
 use Rattle.std.specs.Option.{option_map, option_map_or, option_copied}
-use Rattle.std.proofs.lemmas.Bool.{eqb-true}
+use Rattle.std.proofs.lemmas.List.Folds.{list_any-append}
+use Rattle.std.proofs.Math.Bool.{or-false, or_assoc}
 use Rattle.syntax_tree.specs.declared.name.Name.{Name}
 use Rattle.syntax_tree.specs.Tree.{name_of}
+use Rattle.model.specs.Task as task
 use Rattle.model.specs.Trees.{File, problem_file}
 use Rattle.model.specs.Trees as tree
-use Rattle.model.specs.Typing.{Placed, TypingFault, placed, refused, refused_word}
+use Rattle.model.specs.Typing.{Placed, TypingFault, folded, is_same, is_known, names_of_predicates, placed, predicate_in, refused, refused_word, total_cost, with_name}
 use Rattle.typing_formulas.specs.Walk.{found}
+use Rattle.typing_formulas.proofs.Found.{map-map}
 
--- a function is declared where the list of them is not empty
-pub declares_some : (words : List Name) → not (length words == 0) ≡ is_some (slice_get (map name_of words) 0)
-declares_some [] = refl
-declares_some (word ∷ words) = by (length (word ∷ words) == 0) refl
+-- whether a name is among those that are declared, and with one more, and after some more
+any_with : (q : task.Name) (before : List task.Name) (name : tree.Name) → list_any (is_same q) (with_name before name) ≡ (list_any (is_same q) before || is_same q (folded name))
+any_with q before name = by (is_known before name) refl
   where
-    by : (b : Bool) → (length (word ∷ words) == 0) ≡ b → not b ≡ true
-    by true e = absurd (omega (arith, eqb-true (length (word ∷ words)) 0 e))
-    by false e = refl
+    either : (b : Bool) → is_known before name ≡ true → is_same q (folded name) ≡ b → list_any (is_same q) before ≡ (list_any (is_same q) before || b)
+    either false known same = sym (or-false (list_any (is_same q) before))
+    either true known same = let here = ap (λ r. list_any (is_same r) before) (same_text q (folded name) (sym same)) ∙ known in here ∙ sym (ap (λ b. b || true) here)
+
+    by : (b : Bool) → is_known before name ≡ b → list_any (is_same q) (if b then before else before ++ folded name ∷ []) ≡ (list_any (is_same q) before || is_same q (folded name))
+    by true known = either (is_same q (folded name)) known refl
+    by false new = list_any-append (is_same q) before (folded name ∷ []) ∙ ap (λ b. list_any (is_same q) before || b) (or-false (is_same q (folded name)))
+
+any_with_names : (q : task.Name) (before : List task.Name) (names : List tree.Name) → list_any (is_same q) (fold with_name before names) ≡ (list_any (is_same q) before || list_any (is_same q) (map folded names))
+any_with_names q before [] = sym (or-false (list_any (is_same q) before))
+any_with_names q before (name ∷ names) =
+    any_with_names q (with_name before name) names ∙ ap (λ b. b || list_any (is_same q) (map folded names)) (any_with q before name)
+    ∙ or_assoc (list_any (is_same q) before) (is_same q (folded name)) (list_any (is_same q) (map folded names))
+
+-- so the total cost is declared where it is among the names of the table
+pub cost_declared : (types : List task.Name) (qs : List tree.Predicate)
+    → list_any (is_same total_cost) (fold with_name [] (map (λ (q : tree.Predicate). q.name) qs)) ≡ list_any (is_same total_cost) (names_of_predicates (map (predicate_in types) qs))
+cost_declared types qs =
+    any_with_names total_cost [] (map (λ (q : tree.Predicate). q.name) qs)
+    ∙ ap (list_any (is_same total_cost)) (map-map folded (λ (q : tree.Predicate). q.name) qs ∙ sym (map-map (λ (p : task.Predicate). p.name) (predicate_in types) qs))
 
 -- what is found of the metric
 abbrev pub metric_faults : Bool → Option tree.Name → List TypingFault

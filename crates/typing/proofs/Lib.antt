@@ -3,6 +3,7 @@ pub mod EffectTrees
 pub mod Declaring
 pub mod ParentChains
 pub mod Costs
+pub mod Values
 pub mod ChainSteps
 pub mod WellTyped
 pub mod Tasks

@@ -1,4 +1,5 @@
--- A schema of the task, told by its shape: what its parameters have to be, its precondition, its effect and what it costs.
+-- A schema of the task, told by its shape: what its parameters have to be, its precondition, its effect and what it increases the
+-- total cost by.
 use Rattle.std.specs.Prelude.{◌≡◌, ℕ, ◌≤◌, true, nat_le, List, length, slice_get, IsTrue, Option, None, Some, refl}
 use Rattle.std.proofs.Common.{sym, subst, arith}
 use Rattle.std.specs.Cmp.{first_so, second_so}
@@ -11,7 +12,7 @@ use Rattle.model.specs.WellTyped.{max_variables, is_task, is_schema}
 use Rattle.model.proofs.Tests.{passes_got}
 
 abbrev pub Shape : Type 0
-Shape = List task.Union × task.Formula × task.Effect × ℕ
+Shape = List task.Union × task.Formula × task.Effect × task.Increase
 
 -- the schema of this shape that a look-up found
 pub found : (o : Option task.Schema) (shape : Shape) → Some shape ≡ option_map shape_of_schema o → (s : task.Schema) × (o ≡ Some s) × (shape ≡ shape_of_schema s)
@@ -31,4 +32,4 @@ module _ (t : task.Task) (schema : ℕ) (shape : Shape) (is : Some shape ≡ opt
   -- a schema of a well-typed task has few parameters
   pub few_parameters : IsTrue (is_task t) → length shape.0 ≤ max_variables
   few_parameters well =
-      subst (λ (s : Shape). length s.0 ≤ max_variables) (sym it.2) (few_here (length it.0.parameters) (first_so _ _ (first_so _ _ (typed_schema well))))
+      subst (λ (s : Shape). length s.0 ≤ max_variables) (sym it.2) (few_here (length it.0.parameters) (first_so _ _ (first_so _ _ (first_so _ _ (typed_schema well)))))

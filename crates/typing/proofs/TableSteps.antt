@@ -1,7 +1,8 @@
 -- A table that is filled along a list, where no name is declared twice.
-use Rattle.std.proofs.Common.{◌≤◌, ◌≡◌, ℕ, ◌+◌, Bool, true, false, List, [], ◌∷◌, ◌++◌, map, length, refl, ap, sym, ◌∙◌, if◌then◌else◌, drop, get_or, ◌<◌}
+use Rattle.std.proofs.Common.{◌≤◌, ◌≡◌, ℕ, ◌+◌, Bool, true, false, List, [], ◌∷◌, ◌++◌, map, fold, length, refl, ap, sym, ◌∙◌, if◌then◌else◌, drop, get_or, ◌<◌}
 use Rattle.std.proofs.lemmas.List.{append_assoc, append-nil, drop_more, drop_all}
 use Rattle.model.specs.Task as task
+use Rattle.model.specs.Trees as tree
 use Rattle.model.specs.Typing.{Placed, is_known, with_name, repeated_after}
 use Rattle.typing_formulas.proofs.Found.{got_twice}
 
@@ -54,6 +55,18 @@ numbered_step placed_as made one by_one label xs i d l old new whole labels adde
       ap (λ ss. ss ++ made ((i + 1) + 1) (drop (i + 1) xs)) (added again.0) ∙ append_assoc old (one (i + 1) x ∷ []) (made ((i + 1) + 1) (drop (i + 1) xs))
           ∙ ap (λ ss. old ++ ss) (sym (by_one (i + 1) x (drop (i + 1) xs))) ∙ ap (λ ys. old ++ made (i + 1) ys) (sym split) ∙ h.1,
     )
+
+-- the names of the table, whether or not one is declared twice
+pub names_step : {X : Type 0} (label : X → tree.Name) (xs : List X) (i : ℕ) (x : X) → i < length xs → x ≡ get_or xs i x
+    → (old new whole : List task.Name) → new ≡ with_name old (label x)
+    → fold with_name old (map label (drop i xs)) ≡ whole → fold with_name new (map label (drop (i + 1) xs)) ≡ whole
+names_step label xs i x l is old new whole adds h =
+    let split : drop i xs ≡ x ∷ drop (i + 1) xs = drop_more xs i x l ∙ ap (λ y. y ∷ drop (i + 1) xs) (sym is) in
+    ap (λ ns. fold with_name ns (map label (drop (i + 1) xs))) adds ∙ ap (λ ys. fold with_name old (map label ys)) (sym split) ∙ h
+
+pub names_end : {X : Type 0} (label : X → tree.Name) (xs : List X) (i : ℕ) → length xs ≤ i → (names whole : List task.Name)
+    → fold with_name names (map label (drop i xs)) ≡ whole → names ≡ whole
+names_end label xs i l names whole h = sym (ap (λ ys. fold with_name names (map label ys)) (drop_all i xs l)) ∙ h
 
 -- the whole table
 pub table_end : {X S : Type 0} (made : X → S) (xs : List X) (i : ℕ) → length xs ≤ i → (shown whole : List S) → shown ++ map made (drop i xs) ≡ whole → shown ≡ whole

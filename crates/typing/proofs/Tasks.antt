@@ -7,7 +7,7 @@ use Rattle.std.proofs.lemmas.List.{length-map, take_all, map-append}
 use Rattle.model.specs.Task as task
 use Rattle.model.specs.Trees as tree
 use Rattle.model.specs.Trees.{File, domain_file, problem_file}
-use Rattle.model.specs.Typing.{TypingFault, Declared, Known, folded, names_of, names_of_objects, number_in, type_in, type_names, parents_of, types_of, Descends, whole_chain, comes_back, type_faults, words_of, one_after, refused, repeated, repeated_after, predicate_faults, terms_faults, arguments_in, ground_atom_faults, initial_cost_faults, fact_faults, init_faults, function_faults, formula_faults, domain_name_faults, type_declaration_faults, cycle_faults, object_faults, declaration_faults, action_faults, argument_faults, schema_faults, atom_in, atoms_in, object_in, declared_types, declared_constants, declared, equals_in, predicates_of, known_in_domain, known_in_problem, task_of_trees, faults_of, first_filled, ListsNoFault}
+use Rattle.model.specs.Typing.{TypingFault, Declared, Known, folded, names_of, names_of_objects, number_in, type_in, type_names, parents_of, types_of, Descends, whole_chain, comes_back, type_faults, words_of, one_after, refused, repeated, repeated_after, predicate_faults, terms_faults, arguments_in, ground_atom_faults, initial_cost_faults, fact_faults, facts_faults, init_faults, function_faults, formula_faults, domain_name_faults, type_declaration_faults, cycle_faults, object_faults, declaration_faults, action_faults, argument_faults, schema_faults, atom_in, atoms_in, object_in, declared_types, declared_constants, declared, equals_in, in_function, predicate_in, predicates_of, known_in_domain, known_in_problem, task_of_trees, faults_of, first_filled, ListsNoFault}
 use Rattle.model.specs.WellTyped.{is_task}
 use Rattle.model.proofs.Tests.{passes_got}
 use Rattle.typing.specs.declared.names.Contents.{Contents}
@@ -21,7 +21,7 @@ use Rattle.typing_formulas.proofs.Empty.{nil_left, nil_right, not_refused, and_t
 use Rattle.typing.proofs.ParentChains.{all_whole, descends_on_chain, type_at, among_Contains, Contains_among}
 use Rattle.typing_formulas.proofs.Declared.{names_are}
 use Rattle.typing.proofs.Declaring.{parents_low, none_comes_back}
-use Rattle.typing.proofs.WellTyped.{Fits, declared_count, arities_fit, schemas_fit, facts_fit, formula_fits}
+use Rattle.typing.proofs.WellTyped.{Fits, declared_count, arities_fit, schemas_fit, facts_fit, own_faults, formula_fits}
 
 -- ---- objects
 
@@ -54,6 +54,8 @@ narrow_is_all file known low (tree.fact a ∷ fs) e =
     λ i. record { predicate = (atom_in known a).predicate; objects = whole i } ∷ rest i
 narrow_is_all file known low (tree.negated word a ∷ fs) e = absurd (cc)
 narrow_is_all file known low (tree.initial_cost c ∷ fs) e = narrow_is_all file known low fs (nil_right (initial_cost_faults file known c) (flat_map (fact_faults file known) fs) e)
+narrow_is_all file known low (tree.initial_value v ∷ fs) e =
+    narrow_is_all file known low fs (nil_right (ground_atom_faults file (in_function known) v.function) (flat_map (fact_faults file known) fs) e)
 
 -- ---- the faults of the phases, phase by phase
 
@@ -96,12 +98,16 @@ module _ (d : tree.Domain) (p : tree.Problem) (no_type : type_faults_of d p ≡ 
   no_declaration : declaration_faults (type_names d) d.predicates ≡ []
   no_declaration = (none_filled _ _ no_other).0
 
+  no_function : declaration_faults (type_names d) d.functions ≡ []
+  no_function = nil_left (declaration_faults (type_names d) d.functions) _ (none_filled _ _ (none_filled (declaration_faults (type_names d) d.predicates) _ no_other).1).0
+
   no_action : action_faults (known_in_domain d) d.actions ≡ []
   no_action = (none_filled _ _ (none_filled (function_faults d p) _ (none_filled (declaration_faults (type_names d) d.predicates) _ no_other).1).1).0
 
   no_init : flat_map (fact_faults problem_file (known_in_problem d p)) p.init ≡ []
   no_init =
-      nil_left (flat_map (fact_faults problem_file (known_in_problem d p)) p.init) (refused 23 (drop 1 (equals_in problem_file p.init))) (none_filled (init_faults problem_file (known_in_problem d p) p.init) _ no_stated).0
+      own_faults problem_file (known_in_problem d p) [] p.init
+      (nil_left (facts_faults problem_file (known_in_problem d p) [] p.init) (refused 23 (drop 1 (equals_in problem_file p.init))) (none_filled (init_faults problem_file (known_in_problem d p) p.init) _ no_stated).0)
 
   no_goal : formula_faults problem_file (known_in_problem d p) p.goal ≡ []
   no_goal = (none_filled _ _ (none_filled (init_faults problem_file (known_in_problem d p) p.init) _ no_stated).1).0
@@ -117,8 +123,12 @@ module _ (d : tree.Domain) (p : tree.Problem) (no_type : type_faults_of d p ≡ 
       let once = not_refused 16 (repeated_after (codes "object" ∷ []) (words_of (declared_types d))) (nil_left twice_types (type_faults (type_names d) (declared_types d)) (nil_left (twice_types ++ type_faults (type_names d) (declared_types d)) many_types no_names)) in
       omega (arith, ap length (names_are (declared_types d) once), length-map (names_of (declared_types d)) folded, length-map (declared_types d) (λ (x : Declared). x.name), length-map (declared_types d) (λ (x : Declared). type_in (type_names d) x.types))
 
+  few_arguments : (qs : List tree.Predicate) → declaration_faults (type_names d) qs ≡ [] → list_all (λ (q : task.Predicate). nat_le (length q.arguments) 8) (map (predicate_in (type_names d)) qs) ≡ true
+  few_arguments qs none =
+      arities_fit (type_names d) qs (nil_right (refused 16 (repeated (map (λ (q : tree.Predicate). record { file = domain_file; word = q.name }) qs))) (flat_map (argument_faults (type_names d)) qs) none)
+
   pub low_arguments : list_all (λ (q : task.Predicate). nat_le (length q.arguments) 8) (predicates_of d) ≡ true
-  low_arguments = arities_fit (type_names d) d.predicates (nil_right (refused 16 (repeated (map (λ (q : tree.Predicate). record { file = domain_file; word = q.name }) d.predicates))) (flat_map (argument_faults (type_names d)) d.predicates) no_declaration)
+  low_arguments = few_arguments d.predicates no_declaration
 
   -- each parent is a type, and no type comes back
   some_type : 0 < length (type_names d)
@@ -152,14 +162,14 @@ module _ (d : tree.Domain) (p : tree.Problem) (no_type : type_faults_of d p ≡ 
   typed =
       let t = task_of_trees d p in
       let known = known_in_problem d p in
-      let fits : Fits t [] known = record { types = refl; predicates = refl; variables = refl; objects = λ n o e. e } in
+      let fits : Fits t [] known = record { types = refl; predicates = refl; functions = refl; variables = refl; objects = λ n o e. e } in
       and_true _ _
       (and_true _ _
       (and_true _ _
       (and_true _ _
       (all_whole (parents_of d) parents_fit none_back (type_names d) 0 (type_names d) (omega (arith, count_types)))
-      low_arguments)
-      (schemas_fit t (known_in_domain d) refl refl
+      (and_true _ _ low_arguments (few_arguments d.functions no_function)))
+      (schemas_fit t (known_in_domain d) refl refl refl
       (λ n o e. ap (λ os. slice_get os n) (map-append (object_in (type_names d)) (declared_constants d) (declared problem_file p.objects)) ∙ got_first (map (object_in (type_names d)) (declared_constants d)) (map (object_in (type_names d)) (declared problem_file p.objects)) n o e)
       d.actions
       (nil_right (refused 16 (repeated (map (λ (a : tree.Action). record { file = domain_file; word = a.name }) d.actions))) (flat_map (schema_faults (known_in_domain d)) d.actions) no_action)))
@@ -186,14 +196,14 @@ module _ (d : tree.Domain) (p : tree.Problem) where
         subst (λ fs. TellsLeastOf fs e) (sym (faults_by_parts d p)) (tells_later (type_faults_of d p) _ no_type e (tells_here (contents_faults d p) [] e h))
 
     pub made_by_phases : (types : Types) → AreTypesOf d types → (contents : Contents) → AreContents d p contents → (has_metric : Bool) → has_metric ≡ is_some p.metric
-        → IsMade d p (task_of_parts types.all.entries contents.objects.all.entries contents.names.predicates.entries contents.names.schemas.entries contents.start.init.items contents.start.goal has_metric)
+        → IsMade d p (task_of_parts types.all.entries contents.objects.all.entries contents.names.predicates.entries contents.names.functions.entries contents.names.schemas.entries contents.start.init.items contents.start.values.entries contents.start.goal has_metric)
     made_by_phases types are contents hold has_metric metric =
         let names = contents.names in let start = contents.start in
         let known = known_in_problem d p in
         let same_init = hold.start.init ∙ narrow_is_all problem_file known (low_arguments d p no_type hold.no_other hold.start.right) p.init (no_init d p no_type hold.no_other hold.start.right) in
-        let made : task.Task = task_of_parts types.all.entries contents.objects.all.entries names.predicates.entries names.schemas.entries start.init.items start.goal has_metric in
+        let made : task.Task = task_of_parts types.all.entries contents.objects.all.entries names.predicates.entries names.functions.entries names.schemas.entries start.init.items start.values.entries start.goal has_metric in
         let same : made ≡ task_of_trees d p =
-        λ i. record { types = are.all i; objects = hold.objects i; predicates = hold.names.predicates i; schemas = hold.names.schemas i; init = same_init i; goal = hold.start.goal i; has_metric = metric i } in
+        λ i. record { types = are.all i; objects = hold.objects i; predicates = hold.names.predicates i; functions = hold.names.functions i; schemas = hold.names.schemas i; init = same_init i; values = hold.start.values i; goal = hold.start.goal i; has_metric = metric i } in
         record {
           well_typed = faults_by_parts d p ∙ (λ i. first_filled (no_type i ∷ first_filled (hold.no_object i ∷ hold.no_other i ∷ hold.start.right i ∷ []) ∷ []));
           same = same;

@@ -10,9 +10,9 @@ use Rattle.std.proofs.lemmas.Option.{slice_get-map}
 use Rattle.model.specs.Task as task
 use Rattle.model.specs.Trees as tree
 use Rattle.model.specs.Trees.{File, domain_file}
-use Rattle.model.specs.Typing.{Known, Placed, Variable, Declared, declared, folded, is_same, is_known, number_in, names_of_objects, names_of_predicates, names_of_variables, unions_in, union_in, repeated, one_after, refused, refused_word, words_of, unknown_faults, faults_against, predicate_faults, predicate_in_known, arguments_in, fits_in, term_faults, misfit_faults, terms_faults, atom_faults, formula_faults, formulas_faults, effect_literal_faults, effect_faults, effects_faults, increase_faults, ground_atom_faults, initial_cost_faults, fact_faults, type_faults, argument_faults, schema_faults, term_in, lifted_atom_in, formula_in, formulas_in, effect_literal_in, effect_in, effects_in, atom_in, atoms_in, predicate_in, known_in_action, schema_in, known_with, known_among, variable_faults, one_too_many, exists_each, forall_each, exists_over, forall_over, each_of}
+use Rattle.model.specs.Typing.{Known, Placed, Variable, Declared, declared, folded, is_same, is_known, number_in, names_of_objects, names_of_predicates, names_of_variables, unions_in, union_in, repeated, one_after, refused, refused_word, words_of, unknown_faults, faults_against, predicate_faults, predicate_in_known, arguments_in, fits_in, term_faults, misfit_faults, terms_faults, atom_faults, formula_faults, formulas_faults, effect_literal_faults, effect_faults, effects_faults, increase_faults, amount_faults, ground_atom_faults, initial_cost_faults, fact_faults, value_faults, facts_faults, type_faults, argument_faults, schema_faults, term_in, lifted_atom_in, formula_in, formulas_in, effect_literal_in, effect_in, effects_in, atom_in, atoms_in, values_after, predicate_in, in_function, increase_in, known_in_action, schema_in, known_with, known_among, variable_faults, one_too_many, exists_each, forall_each, exists_over, forall_over, each_of}
 use Rattle.model.specs.Meaning.{is_below_in, is_of}
-use Rattle.model.specs.WellTyped.{is_term, is_some_term, is_lifted_atom, is_atom, is_formula, are_formulas, is_effect_literal, is_effect, are_effects, is_schema}
+use Rattle.model.specs.WellTyped.{is_term, is_some_term, is_lifted_atom, is_atom, is_formula, are_formulas, is_effect_literal, is_effect, are_effects, is_increase, is_schema}
 use Rattle.typing_formulas.proofs.Lists.{list_any-position}
 use Rattle.typing.proofs.Declaring.{variables_are, few_variables}
 use Rattle.typing_formulas.proofs.Empty.{nil_left, nil_right, within, and_true}
@@ -55,6 +55,7 @@ right_word file word false e = absurd (cc)
 pub record Fits (t : task.Task) (scope : List task.Union) (known : Known) : Type 0 where
   pub types : known.types ≡ t.types
   pub predicates : known.predicates ≡ t.predicates
+  pub functions : known.functions ≡ t.functions
   pub variables : map (λ (v : Variable). v.types) known.variables ≡ scope
   pub objects : (n : ℕ) (o : task.Object) → slice_get known.objects n ≡ Some o → slice_get t.objects n ≡ Some o
 
@@ -143,6 +144,33 @@ module _ (t : task.Task) (scope : List task.Union) (file : File) (known : Known)
       and_true _ _ (ground_atom_fits a (nil_left (ground_atom_faults file known a) (flat_map (fact_faults file known) fs) e)) (facts_fit fs (nil_right (ground_atom_faults file known a) (flat_map (fact_faults file known) fs) e))
   facts_fit (tree.negated word a ∷ fs) e = absurd (cc)
   facts_fit (tree.initial_cost c ∷ fs) e = facts_fit fs (nil_right (initial_cost_faults file known c) (flat_map (fact_faults file known) fs) e)
+  facts_fit (tree.initial_value v ∷ fs) e = facts_fit fs (nil_right (ground_atom_faults file (in_function known) v.function) (flat_map (fact_faults file known) fs) e)
+
+-- the facts have no fault of their own where all together have none
+pub own_faults : (file : File) (known : Known) (given : List task.FunctionValue) (fs : List tree.Fact) → facts_faults file known given fs ≡ [] → flat_map (fact_faults file known) fs ≡ []
+own_faults file known given [] e = refl
+own_faults file known given (f ∷ fs) e =
+    let own = fact_faults file known f in let other = value_faults file known given f in
+    let after = values_after known given (f ∷ []) in
+    let rest = facts_faults file known after fs in
+    λ i. nil_left own other (nil_left (own ++ other) rest e) i ++ own_faults file known after fs (nil_right (own ++ other) rest e) i
+
+-- what an increase is by, a function with the functions in the place of the predicates
+increase_fits : (t : task.Task) (scope : List task.Union) (file : File) (known : Known) → Fits t scope known → (amount : tree.Amount) → amount_faults file known amount ≡ []
+    → is_increase t scope (increase_in known amount) ≡ true
+increase_fits t scope file known fits (tree.by_number n) e = refl
+increase_fits t scope file known fits (tree.by_function f) e =
+    let functions : task.Task = record t { predicates = t.functions } in
+    let fit : Fits functions scope (in_function known) =
+    record { types = fits.types; predicates = fits.functions; functions = fits.functions; variables = fits.variables; objects = fits.objects } in
+    atom_fits functions scope file (in_function known) fit f e
+
+increase_of_fits : (t : task.Task) (scope : List task.Union) (file : File) (known : Known) → Fits t scope known → (increases : List tree.Increase)
+    → flat_map (λ (i : tree.Increase). amount_faults file known i.amount) increases ≡ []
+    → is_increase t scope (option_map_or (λ (i : tree.Increase). increase_in known i.amount) (slice_get increases 0) (task.by_number 0)) ≡ true
+increase_of_fits t scope file known fits [] e = refl
+increase_of_fits t scope file known fits (i ∷ others) e =
+    increase_fits t scope file known fits i.amount (nil_left (amount_faults file known i.amount) (flat_map (λ (j : tree.Increase). amount_faults file known j.amount) others) e)
 
 -- ---- formulas
 
@@ -202,6 +230,7 @@ brings_in t scope known fits low xs e =
       fits = record {
         types = fits.types;
         predicates = fits.predicates;
+        functions = fits.functions;
         variables = variables_are known.type_names known.variables xs (nil_right unknown twice (nil_left (unknown ++ twice) shadows first)) (nil_right (unknown ++ twice) shadows first)
             ∙ ap (λ us. us ++ unions_in known.type_names xs) fits.variables;
         objects = fits.objects;
@@ -302,7 +331,7 @@ arities_fit types (q ∷ qs) e =
 
 -- ---- actions
 
-module _ (t : task.Task) (known : Known) (types : known.types ≡ t.types) (predicates : known.predicates ≡ t.predicates)
+module _ (t : task.Task) (known : Known) (types : known.types ≡ t.types) (predicates : known.predicates ≡ t.predicates) (functions : known.functions ≡ t.functions)
     (objects : (n : ℕ) (o : task.Object) → slice_get known.objects n ≡ Some o → slice_get t.objects n ≡ Some o) where
   schema_fits : (a : tree.Action) → schema_faults known a ≡ [] → is_schema t (schema_in known a) ≡ true
   schema_fits a e =
@@ -312,13 +341,17 @@ module _ (t : task.Task) (known : Known) (types : known.types ≡ t.types) (pred
       let precondition = formula_faults domain_file inner a.precondition in
       let effect = effect_faults domain_file inner a.effect in
       let increases = increase_faults domain_file inner a in
-      let all = (precondition ++ effect) ++ increases in
+      let amounts = flat_map (λ (i : tree.Increase). amount_faults domain_file inner i.amount) a.increases in
+      let all = ((precondition ++ effect) ++ increases) ++ amounts in
       let us = unions_in known.type_names xs in
       let none : Known = record known { variables = [] } in
-      let fits : Fits t [] none = record { types = types; predicates = predicates; variables = refl; objects = objects } in
+      let fits : Fits t [] none = record { types = types; predicates = predicates; functions = functions; variables = refl; objects = objects } in
       let brought = brings_in t [] none fits (omega arith) xs (nil_left heads all e) in
-      let body = nil_left (precondition ++ effect) increases (nil_right heads all e) in
-      and_true _ _ (and_true _ _ (le_true (length us) 16 (omega (arith, brought.few))) (formula_fits t domain_file us inner brought.fits (omega (arith, brought.few)) a.precondition (nil_left precondition effect body)))
+      let of_body = nil_right heads all e in
+      let body = nil_left (precondition ++ effect) increases (nil_left ((precondition ++ effect) ++ increases) amounts of_body) in
+      and_true _ _ (and_true _ _ (and_true _ _ (le_true (length us) 16 (omega (arith, brought.few)))
+      (increase_of_fits t us domain_file inner brought.fits a.increases (nil_right ((precondition ++ effect) ++ increases) amounts of_body)))
+      (formula_fits t domain_file us inner brought.fits (omega (arith, brought.few)) a.precondition (nil_left precondition effect body)))
       (effect_fits t domain_file us inner brought.fits (omega (arith, brought.few)) a.effect (nil_right precondition effect body))
 
   pub schemas_fit : (as' : List tree.Action) → flat_map (schema_faults known) as' ≡ [] → list_all (is_schema t) (map (schema_in known) as') ≡ true

@@ -7,3 +7,5 @@ pub mod Tells
 pub mod Empty
 pub mod Declared
 pub mod Arguments
+pub mod Named
+pub mod AtomEquality

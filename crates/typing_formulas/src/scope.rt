@@ -1,10 +1,9 @@
 //! Names of atoms become numbers.
-ghost use Rattle.std.specs.Prelude.{◌≡◌, ◌≤◌, length};
-ghost use Rattle.syntax_tree.specs.Tree as read;
-ghost use Rattle.typing_formulas.specs.TaskParts as task_parts;
-ghost use Rattle.model.specs.Typing.{names_of_predicates, total_cost, is_same, word_of};
-ghost use Rattle.std.specs.Prelude.{map};
+ghost use Rattle.std.specs.Prelude.{◌≡◌, ◌≤◌, length, map};
 ghost use Rattle.std.specs.List.{list_any};
+ghost use Rattle.syntax_tree.specs.Tree as read;
+ghost use Rattle.typing_formulas.specs.TaskParts as parts;
+ghost use Rattle.model.specs.Typing.{names_of_predicates, total_cost, is_same, word_of};
 
 use crate::type_names::TypeNames;
 use crate::types::{all_below, is_below};
@@ -62,7 +61,7 @@ pub struct Scope<'s> {
 
 /// Whether the total cost is among these functions.
 pub fn declares_cost(functions: &IndexMap<Vec<u8>, Predicate>) -> bool
-    ensures { result ≡ list_any (is_same total_cost) (names_of_predicates (map task_parts.predicate_of functions.now.entries)) }
+    ensures { result ≡ list_any (is_same total_cost) (names_of_predicates (map parts.predicate_of functions.now.entries)) }
 {
     functions.contains_key(b"total-cost".as_slice())
 }
@@ -88,12 +87,12 @@ impl Globals<'_> {
 }
 
 impl Scope<'_> {
-    ghost use Rattle.std.specs.Prelude.{[], slice_get, is_some, if◌then◌else◌, map, take, None, Some, IfOk, OnOk};
+    ghost use Rattle.std.specs.Prelude.{[], nat_lt, slice_get, is_some, if◌then◌else◌, take, None, Some, IfOk, OnOk};
+    ghost use Rattle.std.specs.List.{list_all};
     ghost use Rattle.std.specs.Option.{option_map, option_map_or};
     ghost use Rattle.syntax_tree.specs.Tree.{file_of};
     ghost use Rattle.typing_formulas.specs.Scope.{argument_faults, arguments_at, known_of, narrow_atom_in};
     ghost use Rattle.typing_formulas.specs.Walk.{Finds};
-    ghost use Rattle.typing_formulas.specs.TaskParts as parts;
     ghost use Rattle.model.specs.Task.{variable, object};
     ghost use Rattle.model.specs.Trees as tree;
     ghost use Rattle.model.specs.Typing.{atom_faults, atom_in, fits_in, fits_wanted, ground_atom_faults, has_cost, in_function, is_named, lifted_atom_in, names_of_objects, names_of_predicates, names_of_variables, number_in, predicate_faults, refused_word, term_faults, term_in, terms_faults, unknown_faults};
@@ -354,19 +353,23 @@ impl Scope<'_> {
         Ok(Atom { predicate, objects })
     }
 
+    /// Whether each of some objects is known.
+    fn all_known(&self, objects: &[ObjectId]) -> bool
+        ensures { result ≡ list_all (λ n. nat_lt n (length (known_of self.now).objects)) (map parts.object_of objects.now) }
+    {
+        let count = self.objects.len();
+        objects.iter().all(|object| (object.0 as usize) < count)
+    }
+
     /// Whether each name of an atom of the initial state is known, and it has no more objects than it may have. Given is
     /// the atom that [`Scope::atom`] made of it.
     fn is_named(&self, given: &GroundAtom<'_>, atom: &Atom) -> bool
         requires { parts.atom_of atom.now ≡ narrow_atom_in (known_of self.now) (read.ground_atom_of given.now) }
         ensures { result ≡ is_named (known_of self.now) (read.ground_atom_of given.now) }
     {
-        let count = self.objects.len();
         atom.predicate.0 < self.predicates.len()
             && given.objects.len() <= MAX_ARGUMENTS
-            && atom
-                .objects
-                .iter()
-                .all(|object| (object.0 as usize) < count)
+            && self.all_known(&atom.objects)
     }
 
     /// An atom of the initial state, if each of its names is known and it has no more objects than it may have.

@@ -3,24 +3,16 @@ use Rattle.std.specs.FinSet.{insert, remove}
 use Rattle.typing.specs.Task.{task_of}
 use Rattle.typing.specs.TaskParts.{object_of}
 use Rattle.formulas.specs.State.{state_of}
-use Rattle.formulas.proofs.CarriedOut.{add_few, delete_few, add_bound, delete_bound, add_added, add_left, delete_deleted, delete_left}
+use Rattle.formulas.proofs.CarriedOut.{add_few, delete_few, add_added, add_left, delete_deleted, delete_left}
 use Rattle.formulas.proofs.change.carry_out_one.Goals as goal
 
-pub ground_atom-requires-clause-few : goal.ground_atom-requires-clause-few
-ground_atom-requires-clause-few c =
+pub ground_atom-requires : goal.ground_atom-requires
+ground_atom-requires c =
     add_few (task_of c.args.task.now) c.args.literal.now c.in-Add.atom c.args.binding.now.items c.requires c.in-Add.is c.args.task.now.well_typed
 
-pub ground_atom-requires-clause-bound : goal.ground_atom-requires-clause-bound
-ground_atom-requires-clause-bound c =
-    add_bound (task_of c.args.task.now) c.args.literal.now c.in-Add.atom c.args.binding.now.items c.requires c.in-Add.is
-
-pub ground_atom-requires-then-not-adds-clause-few : goal.ground_atom-requires-then-not-adds-clause-few
-ground_atom-requires-then-not-adds-clause-few c =
+pub ground_atom-requires-then-not-adds : goal.ground_atom-requires-then-not-adds
+ground_atom-requires-then-not-adds c =
     delete_few (task_of c.args.task.now) c.args.literal.now c.in-Delete.atom c.args.binding.now.items c.requires c.in-Delete.is c.args.task.now.well_typed
-
-pub ground_atom-requires-then-not-adds-clause-bound : goal.ground_atom-requires-then-not-adds-clause-bound
-ground_atom-requires-then-not-adds-clause-bound c =
-    delete_bound (task_of c.args.task.now) c.args.literal.now c.in-Delete.atom c.args.binding.now.items c.requires c.in-Delete.is
 
 pub returns-in_ok-insert-in-Add : goal.returns-in_ok-insert-in-Add
 returns-in_ok-insert-in-Add c =

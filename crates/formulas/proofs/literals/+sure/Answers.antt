@@ -11,19 +11,15 @@ use Rattle.model.specs.Meaning.{is_of}
 use Rattle.model.specs.SureLiterals.{Literal, sure}
 use Rattle.model.specs.WellTyped.{is_formula}
 use Rattle.model.proofs.Tests.{passes_at, passes_map}
-use Rattle.formulas.proofs.Tasks.{atom_few, atom_bound}
+use Rattle.formulas.proofs.Tasks.{atom_few}
 use Rattle.formulas.proofs.Trees.{typed_by_all, sure_by_parts}
 use Rattle.formulas.proofs.Quantifiers.{added_with, added_without, one_more, one_less, extended_fits}
 use Rattle.formulas.proofs.literals.+sure.Goals.{add_sure_of_each-then-is_of+in_ok-add_sure, add_sure_of_each-else-is_of}
 use Rattle.formulas.proofs.literals.+sure.Goals as goal
 
-pub add_sure-ground_atom-requires-clause-few : goal.add_sure-ground_atom-requires-clause-few
-add_sure-ground_atom-requires-clause-few t c =
+pub add_sure-ground_atom-requires : goal.add_sure-ground_atom-requires
+add_sure-ground_atom-requires t c =
     atom_few (task_of c.args.task.now) c.args.formula.now c.in-Atom.atom c.args.binding.now.items c.in-Atom.is c.requires c.args.task.now.well_typed
-
-pub add_sure-ground_atom-requires-clause-bound : goal.add_sure-ground_atom-requires-clause-bound
-add_sure-ground_atom-requires-clause-bound t c =
-    atom_bound (task_of c.args.task.now) c.args.formula.now c.in-Atom.atom c.args.binding.now.items c.in-Atom.is c.requires
 
 pub add_sure-add_sure-requires : goal.add_sure-add_sure-requires
 add_sure-add_sure-requires t c =

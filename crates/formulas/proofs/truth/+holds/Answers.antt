@@ -7,7 +7,7 @@ use Rattle.typing.specs.TaskParts.{object_of, formula_of, union_of}
 use Rattle.model.specs.Task.{Formula}
 use Rattle.model.specs.Meaning as meaning
 use Rattle.model.specs.WellTyped.{is_formula}
-use Rattle.formulas.proofs.Tasks.{atom_few, atom_bound}
+use Rattle.formulas.proofs.Tasks.{atom_few}
 use Rattle.model.proofs.Tests.{passes_at, passes_not, passes_whole, passes_map}
 use Rattle.formulas.proofs.FluentPredicates.{any_here, any_nowhere}
 use Rattle.formulas.proofs.Trees.{list_any_map, holds_by_all, typed_by_all, holds_by_some, typed_by_some}
@@ -17,13 +17,9 @@ use Rattle.formulas.proofs.truth.+holds.Goals as goal
 
 -- ---- formulas
 
-pub holds-ground_atom-requires-clause-few : goal.holds-ground_atom-requires-clause-few
-holds-ground_atom-requires-clause-few g t c =
+pub holds-ground_atom-requires : goal.holds-ground_atom-requires
+holds-ground_atom-requires g t c =
     atom_few (task_of c.args.task.now) c.args.formula.now c.in-Atom.atom c.args.binding.now.items c.in-Atom.is c.requires c.args.task.now.well_typed
-
-pub holds-ground_atom-requires-clause-bound : goal.holds-ground_atom-requires-clause-bound
-holds-ground_atom-requires-clause-bound g t c =
-    atom_bound (task_of c.args.task.now) c.args.formula.now c.in-Atom.atom c.args.binding.now.items c.in-Atom.is c.requires
 
 pub holds-all_hold-requires : goal.holds-all_hold-requires
 holds-all_hold-requires g t c κs within = (

@@ -2,13 +2,8 @@ use Rattle.std.proofs.Common.{◌∙◌, ap, map, length, arith}
 use Rattle.typing_formulas.specs.declared.atoms.Term.TheVariants.{Variable}
 use Rattle.typing.specs.TaskParts.{object_of, term_of}
 use Rattle.model.specs.Meaning as meaning
-use Rattle.formulas.proofs.Tasks.{bound_at, named_more, named_whole}
+use Rattle.formulas.proofs.Tasks.{named_more, named_whole}
 use Rattle.formulas.proofs.truth.ground_atom.Goals as goal
-
-pub named_by-requires : goal.named_by-requires
-named_by-requires c =
-    bound_at (length c.args.binding.now.items) c.deref-term-items.result.now c.args.atom.now.terms.items c.loop-term.term-index (Variable record { 0 = 0 })
-    c.deref-term-items.ensures.value c.requires.bound c.loop-term-test.true
 
 pub loop-term-preserved : goal.loop-term-preserved
 loop-term-preserved c = (
@@ -26,4 +21,4 @@ returns c =
     λ i. record { predicate = c.args.atom.now.predicate.0; objects = objects i }
 
 pub push-requires : goal.push-requires
-push-requires c = (omega arith, omega (arith, c.requires.few, c.loop-term.invariant.0, ap length c.deref-term-items.ensures.value))
+push-requires c = (omega arith, omega (arith, c.requires, c.loop-term.invariant.0, ap length c.deref-term-items.ensures.value))

@@ -17,6 +17,6 @@ returns-clause-added c = λ new.
     let key = c.in_ok-key.key in let schema = c.in_ok-schema.schema in let shape = c.in_ok-schema.ensures.shape in
     let made = typing.schema_in (known_outside c.args.globals.now) (read.action_of c.args.action.now) in
     let shows : parts.schema_of (key, schema) ≡ made =
-    λ j. record { name = c.in_ok-key.ensures.ok j; parameters = (shape j).0; precondition = (shape j).1; effect = (shape j).2; cost = (shape j).3 } in
+    λ j. record { name = c.in_ok-key.ensures.ok j; parameters = (shape j).0; precondition = (shape j).1; effect = (shape j).2; increase = (shape j).3 } in
     ap (map parts.schema_of) c.in_ok-insert.ensures.entries
     ∙ tables.shown-insert parts.schema_of (λ s. s.name) (λ e. refl) (read.name_of c.args.action.now.name) key c.in_ok-key.ensures.ok schema made shows c.args.schemas.now.entries new

@@ -26,7 +26,7 @@ returns-clause-shape c =
     let is = same (goal.at.returns-clause-shape c).In_ok-parameters in
     let parameters = c.in_ok-parameters.ensures ∙ ap (typing.unions_in known.type_names) c.requires in
     IfOk-weaker c.body.result _ (λ s. parts.shape_of s ≡ parts.shape_of_schema (typing.schema_in known a))
-    (λ s shape. shape ∙ (λ j. (parameters j, typing.formula_in domain_file (is j) a.precondition, typing.effect_in domain_file (is j) a.effect, typing.increase_of a))) c.body.ensures.shape
+    (λ s shape. shape ∙ (λ j. (parameters j, typing.formula_in domain_file (is j) a.precondition, typing.effect_in domain_file (is j) a.effect, typing.increase_of (is j) a))) c.body.ensures.shape
 
 pub returns-clause-finds : goal.returns-clause-finds
 returns-clause-finds c =

@@ -21,6 +21,13 @@ loop-declaration-preserved c =
     record {
       finds = finding.found_declared placed_as xs i x c.loop-declaration-test.true c.declaration-item.is (typing.names_of_predicates before) (typing.names_of_predicates after)
           (least_of c.loop-declaration.walk) (least_of c.declare_predicate.new.walk) _ c.in_ok-declare_predicate.ensures.names c.in_ok-declare_predicate.ensures.finds c.loop-declaration.invariant.finds;
+      names = tables.names_step (λ (q : Predicate). read.name_of q.name) xs i x c.loop-declaration-test.true c.declaration-item.is (typing.names_of_predicates before) (typing.names_of_predicates after) _
+          c.in_ok-declare_predicate.ensures.names c.loop-declaration.invariant.names;
       table = λ once. tables.table_step placed_as made (λ (p : task.Predicate). p.name) xs i x c.loop-declaration-test.true c.declaration-item.is
           before after (map made xs) c.in_ok-declare_predicate.ensures.names c.in_ok-declare_predicate.ensures.added (c.loop-declaration.invariant.table once);
     }
+
+pub returns-clause-names : goal.returns-clause-names
+returns-clause-names c =
+    tables.names_end (λ (q : Predicate). read.name_of q.name) c.args.declarations.now c.loop-declaration.declaration-index c.loop-declaration-test.false
+    (typing.names_of_predicates (map parts.predicate_of c.loop-declaration.predicates.entries)) _ c.loop-declaration.invariant.names

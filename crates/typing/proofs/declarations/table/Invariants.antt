@@ -1,4 +1,4 @@
-use Rattle.std.proofs.Common.{◌≡◌, [], ◌++◌, map, drop}
+use Rattle.std.proofs.Common.{◌≡◌, [], ◌++◌, map, fold, drop}
 use Rattle.typing_formulas.specs.Walk.{found, least_of}
 use Rattle.typing_formulas.specs.TaskParts as parts
 use Rattle.typing_formulas.specs.Scope.{names_in}
@@ -11,6 +11,8 @@ abbrev pub invariant-loop-declaration : goal.invariant-loop-declaration
 invariant-loop-declaration l = record {
   finds : found (least_of l.walk) (typing.refused 16 (typing.repeated_after (typing.names_of_predicates (map parts.predicate_of l.predicates.entries)) (map (λ q. typing.placed domain_file (read.name_of q.name)) (drop l.declaration-index l.declarations))))
       ≡ found (least_of l.initial.walk) (typing.refused 16 (typing.repeated_after [] (map (λ q. typing.placed domain_file (read.name_of q.name)) l.declarations)));
+  names : fold typing.with_name (typing.names_of_predicates (map parts.predicate_of l.predicates.entries)) (map (λ q. read.name_of q.name) (drop l.declaration-index l.declarations))
+      ≡ fold typing.with_name [] (map (λ q. read.name_of q.name) l.declarations);
   table : typing.repeated_after [] (map (λ q. typing.placed domain_file (read.name_of q.name)) l.declarations) ≡ []
       → (typing.repeated_after (typing.names_of_predicates (map parts.predicate_of l.predicates.entries)) (map (λ q. typing.placed domain_file (read.name_of q.name)) (drop l.declaration-index l.declarations)) ≡ [])
       × (map parts.predicate_of l.predicates.entries ++ map (λ q. typing.predicate_in (names_in l.types.names.keys) (read.predicate_of q)) (drop l.declaration-index l.declarations)

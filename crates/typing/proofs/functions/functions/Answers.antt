@@ -1,29 +1,40 @@
-use Rattle.std.proofs.Common.{◌≡◌, ◌∙◌, ◌++◌, List, map, drop, not, is_some, slice_get, None, ap, sym}
+use Rattle.std.proofs.Common.{◌≡◌, ◌∙◌, [], ◌++◌, if◌then◌else◌, map, fold, None, ap}
+use Rattle.std.specs.List.{list_any}
+use Rattle.std.specs.Option.{option_map_or}
+use Rattle.typing_formulas.specs.Scope.{names_in}
 use Rattle.typing_formulas.specs.Walk.{found, least_of}
-use Rattle.syntax_tree.specs.declared.name.Name.{Name}
+use Rattle.typing_formulas.specs.TaskParts as parts
 use Rattle.syntax_tree.specs.Tree as read
-use Rattle.model.specs.Trees.{domain_file}
+use Rattle.model.specs.Trees as tree
+use Rattle.model.specs.Trees.{problem_file}
 use Rattle.model.specs.Typing as typing
+use Rattle.typing_formulas.proofs.Empty as empty
 use Rattle.typing_formulas.proofs.Found as finding
 use Rattle.typing_formulas.proofs.Tells as telling
-use Rattle.typing.proofs.Costs.{declares_some, metric_faults, metric_told}
-use Rattle.typing.proofs.functions.declared.Goals as goal
+use Rattle.typing.proofs.Costs.{cost_declared, metric_faults, metric_told}
+use Rattle.typing.proofs.functions.functions.Goals as goal
 
 pub returns : goal.returns
 returns c =
     let d = read.domain_of c.args.domain.now in let p = read.problem_of c.args.problem.now in
-    let xs = c.as_slice-functions.result.now in let ys = c.args.domain.now.functions.items in
-    let is_read = c.as_slice-functions.ensures.value in
-    let has = not c.is_empty-has_cost.result in
-    let is : has ≡ typing.declares_cost d = ap not c.is_empty-has_cost.ensures ∙ declares_some xs ∙ ap (λ ws. is_some (slice_get (map read.name_of ws) 0)) is_read in
-    let again = λ (ns : List Name). typing.refused 16 (drop 1 (map (λ n. typing.placed domain_file (read.name_of n)) ns)) in
-    let same : again xs ≡ typing.refused 16 (drop 1 (map (typing.placed domain_file) (map read.name_of ys))) =
-    ap again is_read ∙ ap (λ ws. typing.refused 16 (drop 1 ws)) (sym (finding.map-map (typing.placed domain_file) read.name_of ys)) in
+    let functions = c.in_ok-functions.functions in let has = c.declares_cost-has_cost.result in
+    -- the declarations, with the names of the types
+    let declared : typing.declaration_faults _ (map read.predicate_of c.deref.result.now) ≡ typing.declaration_faults (typing.type_names d) d.functions =
+    λ i. typing.declaration_faults (c.requires i) (map read.predicate_of (c.deref.ensures.value i)) in
+    let is : has ≡ typing.declares_cost d =
+    c.declares_cost-has_cost.ensures ∙ ap (list_any (typing.is_same typing.total_cost)) c.in_ok-functions.ensures.names
+    ∙ ap (λ zs. list_any (typing.is_same typing.total_cost) (fold typing.with_name [] (map (λ (q : tree.Predicate). q.name) (map read.predicate_of zs)))) c.deref.ensures.value
+    ∙ cost_declared (typing.type_names d) d.functions in
     let metric = metric_told has c.as_ref.result c.args.problem.now.metric c.as_ref.ensures.value ∙ ap (λ b. metric_faults b p.metric) is in
     let total : least_of c.check_metric.new.walk ≡ found None (typing.function_faults d p) =
-    finding.found_after (least_of c.new-walk.result) (least_of c.check_functions.new.walk) _ (again xs) _ c.check_functions.ensures c.check_metric.ensures
-    ∙ (λ i. found (c.new-walk.ensures i) (same i ++ metric i)) in
+    finding.found_after (least_of c.new-walk.result) (least_of c.declared.new.walk) _
+    (typing.declaration_faults (names_in c.args.types.now.names.keys) (map read.predicate_of c.deref.result.now))
+    (option_map_or (λ n. if has then [] else typing.refused_word problem_file 22 (read.name_of n.now)) c.as_ref.result []) c.in_ok-functions.ensures.finds c.check_metric.ensures
+    ∙ (λ i. found (c.new-walk.ensures i) (declared i ++ metric i)) in
+    let table : typing.function_faults d p ≡ [] → map parts.predicate_of functions.entries ≡ typing.functions_of d =
+    λ none. c.in_ok-functions.ensures.table (declared ∙ empty.nil_left (typing.declaration_faults (typing.type_names d) d.functions) (metric_faults (typing.declares_cost d) p.metric) none)
+    ∙ (λ i. map (typing.predicate_in (c.requires i)) (map read.predicate_of (c.deref.ensures.value i))) in
     record {
-      ok = telling.given (λ b. b ≡ typing.declares_cost d) has (typing.function_faults d p) _ total (λ _. is) c.finish.result c.finish.ensures.none;
+      ok = telling.given (λ m. map parts.predicate_of m.entries ≡ typing.functions_of d) functions (typing.function_faults d p) _ total table c.finish.result c.finish.ensures.none;
       err = telling.tells_result (typing.function_faults d p) _ total c.finish.result c.finish.ensures.some;
     }

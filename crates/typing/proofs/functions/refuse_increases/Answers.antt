@@ -1,4 +1,4 @@
-use Rattle.std.proofs.Common.{◌∙◌, ◌+◌, ap, sym, map, drop}
+use Rattle.std.proofs.Common.{◌≡◌, ◌∙◌, ◌∷◌, ◌+◌, ap, sym, map, drop}
 use Rattle.std.proofs.lemmas.List.{drop_more, drop_all}
 use Rattle.typing.specs.Task.{file_of}
 use Rattle.typing_formulas.specs.Walk.{found, least_of}
@@ -15,8 +15,10 @@ pub loop-increase-preserved : goal.loop-increase-preserved
 unfolding word
 loop-increase-preserved c =
     let xs = c.args.increases.now in let i = c.loop-increase.increase-index in
+    let x = c.increase-item.result in
+    let split : drop i xs ≡ x ∷ drop (i + 1) xs = drop_more xs i x c.loop-increase-test.true ∙ ap (λ y. y ∷ drop (i + 1) xs) (sym c.increase-item.is) in
     ap (λ o. found o (typing.refused 23 (map (word c.args.file) (drop (i + 1) xs)))) c.refuse.ensures
-    ∙ ap (λ ys. found (least_of c.loop-increase.walk) (typing.refused 23 (map (word c.args.file) ys))) (sym (drop_more xs i _ c.loop-increase-test.true))
+    ∙ ap (λ ys. found (least_of c.loop-increase.walk) (typing.refused 23 (map (word c.args.file) ys))) (sym split)
     ∙ c.loop-increase.invariant
 
 pub returns : goal.returns

@@ -27,9 +27,9 @@ known c = λ i. record {
   type_names = c.requires.names i;
   types = c.requires.all i;
   predicates = c.in_ok-names.ensures.ok.1.predicates i;
+  functions = c.in_ok-names.ensures.ok.1.functions i;
   variables = [];
   objects = (objects_named c.in_ok-objects.ensures.ok c.requires.names).all i;
-  has_cost = c.in_ok-names.ensures.ok.1.has_cost i;
 }
 
 pub returns-in_err-objects-clause-err : goal.returns-in_err-objects-clause-err

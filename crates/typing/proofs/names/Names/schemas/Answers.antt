@@ -5,5 +5,5 @@ use Rattle.typing.proofs.names.Names.schemas.Goals as goal
 
 pub returns-clause-ok : goal.returns-clause-ok
 returns-clause-ok c =
-    IfOk-weaker c.schemas.result _ (λ m. AreSchemasOf (known_in c.args.types.now c.args.objects.now.constants.entries c.args.predicates.now.entries c.args.has_cost) (domain_of c.args.domain.now) m.entries)
+    IfOk-weaker c.schemas.result _ (λ m. AreSchemasOf (known_in c.args.types.now c.args.objects.now.constants.entries c.args.predicates.now.entries c.args.functions.now.entries) (domain_of c.args.domain.now) m.entries)
     (λ m are. record { right = are.0; schemas = are.1 }) c.schemas.ensures.ok

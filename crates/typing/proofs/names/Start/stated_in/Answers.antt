@@ -4,7 +4,7 @@ use Rattle.syntax_tree.specs.Tree.{problem_of}
 use Rattle.typing.specs.Task.{file_of, TellsLeastOf}
 use Rattle.typing_formulas.specs.Scope.{known_outside, known_over, narrow_atoms_in}
 use Rattle.typing.specs.Names.{stated_faults_in}
-use Rattle.model.specs.Typing.{init_faults, formula_faults, first_filled}
+use Rattle.model.specs.Typing.{init_faults, formula_faults, first_filled, values_after}
 use Rattle.typing_formulas.proofs.Tells.{tells_here, tells_later}
 use Rattle.faults.proofs.Results.{passed_on}
 use Rattle.typing.proofs.names.Start.stated_in.Goals.{After-new-variables}
@@ -36,6 +36,7 @@ returns-clause-ok c =
     let none = ap (λ k. init_faults file k p.init) (sym is) ∙ c.in_ok-init.ensures.ok.0 in
     record {
       right = λ i. first_filled (none i ∷ c.in_ok-goal.ensures.ok.0 i ∷ []);
-      init = c.in_ok-init.ensures.ok.1 ∙ ap (λ k. flat_map (narrow_atoms_in k) p.init) is;
+      init = c.in_ok-init.ensures.ok.1.0 ∙ ap (λ k. flat_map (narrow_atoms_in k) p.init) is;
+      values = c.in_ok-init.ensures.ok.1.1 ∙ ap (λ k. values_after k [] p.init) is;
       goal = c.in_ok-goal.ensures.ok.1;
     }

@@ -1,0 +1,80 @@
+-- What facts that give values to functions do to those that were given before, and what is wrong with them.
+use Rattle.std.proofs.Common.{◌≡◌, ◌∙◌, ℕ, ◌+◌, ◌<◌, ◌≤◌, ◌==◌, Bool, true, false, not, is_some, List, [], ◌∷◌, ◌++◌, map, length, drop, get_or, Option, None, Some, refl, sym, ap, if◌then◌else◌}
+use Rattle.std.specs.List.{list_any}
+use Rattle.std.specs.Option.{option_map_or}
+use Rattle.std.proofs.lemmas.List.{drop_more, drop_all}
+use Rattle.std.proofs.Math.Bool.{or-false}
+use Rattle.model.specs.Task as task
+use Rattle.model.specs.Meaning.{value_in}
+use Rattle.model.specs.Trees as tree
+use Rattle.model.specs.Trees.{File}
+use Rattle.model.specs.Typing.{Known, TypingFault, atom_in, differing, fact_faults, facts_faults, in_function, is_named, value_faults, values_after, values_in, with_value}
+use Rattle.model.proofs.TypingFaultsPhases.{values_after-append}
+use Rattle.typing_formulas.specs.Walk.{found}
+use Rattle.typing_formulas.proofs.Found.{found-append}
+
+-- ---- one value more
+
+module _ (values : List task.FunctionValue) (v : task.FunctionValue) where
+  -- a function of these objects has a value
+  pub kept_before : (first : ℕ) → value_in values v.function ≡ Some first → values ≡ with_value values v
+  kept_before first is = ap (λ o. if is_some {T = ℕ} o then values else values ++ v ∷ []) (sym is)
+
+  pub told_by_first : (first : ℕ) → value_in values v.function ≡ Some first → (other : List TypingFault)
+      → (if first == v.value then [] else other) ≡ (if differing values v then other else [])
+  told_by_first first is other = turned (first == v.value) ∙ ap (λ o. if option_map_or (λ value. not (value == v.value)) o false then other else []) (sym is)
+    where
+      turned : (b : Bool) → (if b then [] else other) ≡ (if not b then other else [])
+      turned true = refl
+      turned false = refl
+
+  -- it has none
+  pub put_last : value_in values v.function ≡ None → values ++ v ∷ [] ≡ with_value values v
+  put_last is = ap (λ o. if is_some {T = ℕ} o then values else values ++ v ∷ []) (sym is)
+
+  pub not_told : value_in values v.function ≡ None → (other : List TypingFault) → [] ≡ (if differing values v then other else [])
+  not_told is other = ap (λ o. if option_map_or (λ value. not (value == v.value)) o false then other else []) (sym is)
+
+-- the fault of a value whose names are known
+pub told_of_named : (known : Known) (values : List task.FunctionValue) (v : tree.InitialValue) (function : task.Atom)
+    → Some function ≡ (if is_named (in_function known) v.function then Some (atom_in (in_function known) v.function) else None) → (other : List TypingFault)
+    → (if differing values (record { function = function; value = v.value }) then other else [])
+    ≡ (if list_any (differing values) (values_in known (tree.initial_value v)) then other else [])
+told_of_named known values v function named other = by (is_named (in_function known) v.function) named
+  where
+    by : (b : Bool) → Some function ≡ (if b then Some (atom_in (in_function known) v.function) else None)
+        → (if differing values (record { function = function; value = v.value }) then other else [])
+        ≡ (if list_any (differing values) (if b then record { function = atom_in (in_function known) v.function; value = v.value } ∷ [] else []) then other else [])
+    by false none = absurd (cc)
+    by true is =
+        let same : function ≡ atom_in (in_function known) v.function = cc in
+        (λ i. if differing values (record { function = same i; value = v.value }) then other else [])
+        ∙ ap (λ b. if b then other else []) (sym (or-false (differing values (record { function = atom_in (in_function known) v.function; value = v.value }))))
+
+-- ---- one fact more of a list
+
+module _ {X : Type 0} (known : Known) (seen : X → tree.Fact) (xs : List X) (i : ℕ) where
+  module _ (x : X) (below : i < length xs) (is : x ≡ get_or xs i x) (old new : List task.FunctionValue) (adds : new ≡ values_after known old (seen x ∷ [])) where
+    split : drop i xs ≡ x ∷ drop (i + 1) xs
+    split = drop_more xs i x below ∙ ap (λ y. y ∷ drop (i + 1) xs) (sym is)
+
+    pub values_step : (whole : List task.FunctionValue) → values_after known old (map seen (drop i xs)) ≡ whole → values_after known new (map seen (drop (i + 1) xs)) ≡ whole
+    values_step whole h =
+        ap (λ values. values_after known values (map seen (drop (i + 1) xs))) adds ∙ sym (values_after-append known old (seen x ∷ []) (map seen (drop (i + 1) xs)))
+        ∙ ap (λ ys. values_after known old (map seen ys)) (sym split) ∙ h
+
+    pub facts_step : (file : File) (least told whole : Option TypingFault) → told ≡ found least (fact_faults file known (seen x) ++ value_faults file known old (seen x))
+        → found least (facts_faults file known old (map seen (drop i xs))) ≡ whole → found told (facts_faults file known new (map seen (drop (i + 1) xs))) ≡ whole
+    facts_step file least told whole finds h =
+        let rest = map seen (drop (i + 1) xs) in
+        let own = fact_faults file known (seen x) ++ value_faults file known old (seen x) in
+        (λ j. found (finds j) (facts_faults file known (adds j) rest)) ∙ sym (found-append least own (facts_faults file known (values_after known old (seen x ∷ [])) rest))
+        ∙ ap (λ ys. found least (facts_faults file known old (map seen ys))) (sym split) ∙ h
+
+  -- and none more
+  module _ (past : length xs ≤ i) (values : List task.FunctionValue) where
+    pub values_end : (whole : List task.FunctionValue) → values_after known values (map seen (drop i xs)) ≡ whole → values ≡ whole
+    values_end whole h = sym (ap (λ ys. values_after known values (map seen ys)) (drop_all i xs past)) ∙ h
+
+    pub facts_end : (file : File) (least whole : Option TypingFault) → found least (facts_faults file known values (map seen (drop i xs))) ≡ whole → least ≡ whole
+    facts_end file least whole h = sym (ap (λ ys. found least (facts_faults file known values (map seen ys))) (drop_all i xs past)) ∙ h

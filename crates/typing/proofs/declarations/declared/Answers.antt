@@ -1,0 +1,47 @@
+use Rattle.std.proofs.Common.{◌≡◌, ◌∙◌, List, [], ◌++◌, map, fold, ap, sym}
+use Rattle.std.specs.List.{flat_map}
+use Rattle.typing_formulas.specs.Walk.{found, least_of}
+use Rattle.typing_formulas.specs.Scope.{names_in}
+use Rattle.syntax_tree.specs.Tree as read
+use Rattle.model.specs.Trees.{domain_file}
+use Rattle.model.specs.Typing as typing
+use Rattle.typing_formulas.proofs.Found as finding
+use Rattle.typing_formulas.proofs.Empty as empty
+use Rattle.syntax_tree.specs.declared.tree.Predicate.{Predicate}
+use Rattle.model.specs.Task as task
+use Rattle.model.specs.Trees as tree
+use Rattle.std.proofs.lemmas.List.Folds.{flat_map-map}
+use Rattle.typing.proofs.declarations.declared.Goals as goal
+
+-- the faults of declaring them, one declaration after another
+twice : List Predicate → List typing.TypingFault
+twice qs = typing.refused 16 (typing.repeated (map (λ (q : Predicate). typing.placed domain_file (read.name_of q.name)) qs))
+
+inner : List task.Name → List Predicate → List typing.TypingFault
+inner names qs = flat_map (λ (q : Predicate). typing.argument_faults names (read.predicate_of q)) qs
+
+-- are those of all
+all_faults : (names : List task.Name) (qs : List Predicate) → twice qs ++ inner names qs ≡ typing.declaration_faults names (map read.predicate_of qs)
+unfolding twice inner
+all_faults names qs =
+    λ i. typing.refused 16 (typing.repeated (sym (finding.map-map (λ (q : tree.Predicate). typing.placed domain_file q.name) read.predicate_of qs) i))
+    ++ sym (flat_map-map (typing.argument_faults names) read.predicate_of qs) i
+
+pub returns-clause-names : goal.returns-clause-names
+returns-clause-names c =
+    c.in_ok-table.ensures.names ∙ ap (fold typing.with_name []) (sym (finding.map-map (λ (q : tree.Predicate). q.name) read.predicate_of c.args.declarations.now))
+
+pub returns-clause-table : goal.returns-clause-table
+unfolding twice inner
+returns-clause-table c none =
+    let xs = c.args.declarations.now in let names = names_in c.args.types.now.names.keys in
+    let once = empty.nil_left (twice xs) (inner names xs) (all_faults names xs ∙ none) in
+    c.in_ok-table.ensures.table (empty.not_refused 16 (typing.repeated (map (λ (q : Predicate). typing.placed domain_file (read.name_of q.name)) xs)) once)
+    ∙ sym (finding.map-map (typing.predicate_in names) read.predicate_of xs)
+
+pub returns-clause-finds : goal.returns-clause-finds
+unfolding twice inner
+returns-clause-finds c =
+    let xs = c.args.declarations.now in let names = names_in c.args.types.now.names.keys in
+    finding.found_after (least_of c.args.walk.now) (least_of c.table.new.walk) _ (twice xs) (inner names xs) c.in_ok-table.ensures.finds c.in_ok-check_declarations.ensures
+    ∙ ap (found (least_of c.args.walk.now)) (all_faults names xs)

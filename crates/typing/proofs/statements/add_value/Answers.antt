@@ -1,0 +1,29 @@
+use Rattle.std.proofs.Common.{◌≡◌, ◌∙◌, None, Some, if◌then◌else◌, map, ap, sym}
+use Rattle.std.specs.Option.{option_map}
+use Rattle.typing_formulas.specs.Scope.{known_of}
+use Rattle.typing_formulas.specs.Walk.{found, least_of}
+use Rattle.typing_formulas.specs.TaskParts as parts
+use Rattle.syntax_tree.specs.Tree as read
+use Rattle.model.specs.Trees as tree
+use Rattle.model.specs.Typing as typing
+use Rattle.typing_formulas.proofs.Found.{found_after}
+use Rattle.typing_formulas.proofs.Tells.{on_ok_weaker}
+use Rattle.typing.proofs.Values.{told_of_named}
+use Rattle.typing.proofs.statements.add_value.Goals as goal
+
+pub returns-in-Some-clause-finds : goal.returns-in-Some-clause-finds
+returns-in-Some-clause-finds c =
+    let known = known_of c.args.scope.now in let file = read.file_of c.args.scope.now.file in
+    let v = read.initial_value_of c.args.given.now in
+    let values = map parts.value_of c.args.values.now.entries in
+    let is_known = c.in_function-functions.ensures.known in
+    let other = typing.refused_word file 16 v.function.predicate in
+    let named : Some (parts.atom_of c.in-Some.function) ≡ (if typing.is_named (typing.in_function known) v.function then Some (typing.atom_in (typing.in_function known) v.function) else None) =
+    sym (ap (option_map parts.atom_of) c.in-Some.is) ∙ c.in_ok-function.ensures.value
+    ∙ ap (λ k. if typing.is_named k v.function then Some (typing.atom_in k v.function) else None) is_known in
+    let own = typing.ground_atom_faults file (typing.in_function known) v.function in
+    let first : least_of c.named_atom.new.walk ≡ found (least_of c.args.walk.now) own =
+    c.in_ok-function.ensures.finds ∙ (λ i. found (least_of c.args.walk.now) (typing.ground_atom_faults (ap read.file_of c.in_function-functions.ensures.file i) (is_known i) v.function)) in
+    on_ok_weaker c.put_value.result
+    (λ finds. found_after (least_of c.args.walk.now) (least_of c.named_atom.new.walk) _ own (typing.value_faults file known values (tree.initial_value v)) first
+    (finds ∙ ap (found (least_of c.named_atom.new.walk)) (told_of_named known values v (parts.atom_of c.in-Some.function) named other))) c.put_value.ensures.finds

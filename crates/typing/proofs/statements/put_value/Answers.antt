@@ -1,0 +1,52 @@
+use Rattle.std.proofs.Common.{◌≡◌, ◌∙◌, map, ap, sym}
+use Rattle.indexmap.proofs.CallerLemmas.{insert_entry-new}
+use Rattle.typing_formulas.specs.Walk.{found, least_of}
+use Rattle.typing_formulas.specs.TaskParts as parts
+use Rattle.syntax_tree.specs.Tree.{file_of, name_of}
+use Rattle.std.proofs.lemmas.List.{map_push}
+use Rattle.model.specs.Task as task
+use Rattle.model.specs.Meaning.{value_in}
+use Rattle.model.specs.Typing as typing
+use Rattle.typing_formulas.proofs.AtomEquality.{atom_eq, value-alike}
+use Rattle.typing.proofs.Values.{kept_before, told_by_first, put_last, not_told}
+use Rattle.typing.proofs.statements.put_value.Goals.{After-copied}
+use Rattle.typing.proofs.statements.put_value.Goals as goal
+
+-- the value that the function of these objects has
+looked : (c : After-copied) → value_in (map parts.value_of c.args.values.now.entries) (parts.atom_of c.args.function) ≡ c.copied.result
+looked c = sym (c.copied.ensures ∙ c.get.ensures.value ∙ value-alike c.args.function c.args.values.now.entries)
+
+-- the value that is given
+value : After-copied → task.FunctionValue
+value c = record { function = parts.atom_of c.args.function; value = c.args.given.now.value }
+
+pub returns-in-Some-clause-value : goal.returns-in-Some-clause-value
+unfolding value
+returns-in-Some-clause-value c =
+    let s = (goal.at.returns-in-Some-clause-value c).After-copied in
+    kept_before (map parts.value_of c.args.values.now.entries) (value s) c.in-Some.first (looked s ∙ c.in-Some.is)
+
+pub returns-in-Some-clause-finds : goal.returns-in-Some-clause-finds
+unfolding value
+returns-in-Some-clause-finds c =
+    let s = (goal.at.returns-in-Some-clause-finds c).After-copied in
+    c.refuse_unless.ensures
+    ∙ ap (found (least_of c.args.walk.now))
+    (told_by_first (map parts.value_of c.args.values.now.entries) (value s) c.in-Some.first (looked s ∙ c.in-Some.is) (typing.refused_word (file_of c.args.file) 16 (name_of c.args.given.now.function.predicate)))
+
+pub returns-in_ok-insert-in-None-clause-value : goal.returns-in_ok-insert-in-None-clause-value
+unfolding value
+returns-in_ok-insert-in-None-clause-value c =
+    let s = (goal.at.returns-in_ok-insert-in-None-clause-value c).After-copied in
+    let entries = c.args.values.now.entries in
+    ap (map parts.value_of) (c.in_ok-insert-in-None.ensures.entries
+    ∙ insert_entry-new atom_eq c.args.values.now c.args.function c.args.given.now.value (value-alike c.args.function entries ∙ looked s ∙ c.in-None.is))
+    ∙ map_push parts.value_of entries (c.args.function, c.args.given.now.value)
+    ∙ put_last (map parts.value_of entries) (value s) (looked s ∙ c.in-None.is)
+
+pub returns-in_ok-insert-in-None-clause-finds : goal.returns-in_ok-insert-in-None-clause-finds
+unfolding value
+returns-in_ok-insert-in-None-clause-finds c =
+    let s = (goal.at.returns-in_ok-insert-in-None-clause-finds c).After-copied in
+    ap (found (least_of c.args.walk.now))
+    (not_told (map parts.value_of c.args.values.now.entries) (value s) (looked s ∙ c.in-None.is) (typing.refused_word (file_of c.args.file) 16 (name_of c.args.given.now.function.predicate)))
