@@ -1,7 +1,7 @@
 -- The parts of the code's certificates, in the model's terms.
 use Rattle.std.specs.Prelude.{ℤ, List, map}
-use Rattle.typing_formulas.specs.declared.atoms.Atom.{Atom}
-use Rattle.typing_formulas.specs.TaskParts.{atom_of}
+use Rattle.task_parts.specs.declared.atoms.Atom.{Atom}
+use Rattle.task_parts.specs.TaskParts.{atom_of}
 use Rattle.certificate_lines.specs.declared.line.Claim.{Claim}
 use Rattle.certificate_lines.specs.declared.line.StateLine.{StateLine}
 use Rattle.certificate_lines.specs.Lines.{claim_of, line_of}

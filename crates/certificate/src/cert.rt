@@ -6,7 +6,7 @@ ghost use Rattle.certificate_lines.specs.Lines.{claim_of, line_of};
 ghost use Rattle.certificate.specs.CertificateParts.{certificate_of_parts};
 
 use certificate_lines::{Claim, MAX_ATOMS, MAX_STATE_LINES, MAX_WEIGHT, NUMBER_LIMIT, StateLine};
-use typing_formulas::Atom;
+use task_parts::Atom;
 
 /// A claim with the potential function and the listing of states that are to show it, within the limits of a certificate's
 /// text: at most 1,048,576 atoms, with a weight for each, and 16,777,216 state lines, the constant and each weight at most
@@ -26,7 +26,7 @@ impl Cert {
     ghost use Rattle.std.specs.Prelude.{is_some, IfSome, ◌≤◌};
     ghost use Rattle.certificate.specs.Certificate.{certificate_of};
     ghost use Rattle.certificate_lines.specs.declared.line.TheConstants.{MAX_ATOMS, MAX_STATE_LINES};
-    ghost use Rattle.typing_formulas.specs.TaskParts.{atom_of};
+    ghost use Rattle.task_parts.specs.TaskParts.{atom_of};
 
     /// The certificate of these parts, and `None` where they exceed a limit of a certificate's text.
     pub fn new(

@@ -5,4 +5,4 @@ mod code;
 mod refused;
 
 pub use code::Code;
-pub use refused::{Fault, NoMemory, Refusal, Refused, Span};
+pub use refused::{Fault, NoMemory, Refused, Span, TextRefusal};

@@ -14,7 +14,7 @@ pub struct Span {
 
 /// A text is refused by this code, for what stands at this place of it.
 #[derive(Clone, Copy, Debug, PartialEq, Eq)]
-pub struct Refusal {
+pub struct TextRefusal {
     /// What is wrong.
     pub code: Code,
     /// Where it stands.
@@ -48,7 +48,7 @@ pub enum Refused<R> {
 }
 
 /// Why a text was not read.
-pub type Fault = Refused<Refusal>;
+pub type Fault = Refused<TextRefusal>;
 
 impl<R> From<NoMemory> for Refused<R> {
     ghost use Rattle.std.specs.Prelude.{◌≡◌};

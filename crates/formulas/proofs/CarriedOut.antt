@@ -8,13 +8,13 @@ use Rattle.std.specs.Global.{Vec}
 use Rattle.std.proofs.lemmas.List.{take_all, take_more}
 use Rattle.std.proofs.Common.{append-nil}
 use Rattle.std.proofs.lemmas.Grind.{flat_map-append}
-use Rattle.typing_formulas.specs.declared.atoms.ObjectId.{ObjectId}
-use Rattle.typing_formulas.specs.declared.atoms.LiftedAtom.{LiftedAtom}
-use Rattle.typing_formulas.specs.declared.schemas.EffectLiteral.{EffectLiteral}
-use Rattle.typing_formulas.specs.declared.schemas.EffectLiteral.TheVariants.{Add, Delete}
-use Rattle.typing_formulas.specs.declared.schemas.Formula.{Formula}
-use Rattle.typing_formulas.specs.declared.schemas.Effect.{Effect}
-use Rattle.typing_formulas.specs.declared.schemas.Effect as effect
+use Rattle.task_parts.specs.declared.atoms.ObjectId.{ObjectId}
+use Rattle.task_parts.specs.declared.atoms.LiftedAtom.{LiftedAtom}
+use Rattle.task_parts.specs.declared.schemas.EffectLiteral.{EffectLiteral}
+use Rattle.task_parts.specs.declared.schemas.EffectLiteral.TheVariants.{Add, Delete}
+use Rattle.task_parts.specs.declared.schemas.Formula.{Formula}
+use Rattle.task_parts.specs.declared.schemas.Effect.{Effect}
+use Rattle.task_parts.specs.declared.schemas.Effect as effect
 use Rattle.typing.specs.TaskParts.{object_of, term_of, lifted_atom_of, effect_literal_of, effect_of, formula_of}
 use Rattle.formulas.specs.State.{FitsFormula, FitsEffect, FitsLiteral, FitsLiterals}
 use Rattle.formulas.specs.Changes.{after_some}

@@ -3,10 +3,10 @@ use Rattle.std.specs.Prelude.{◌≡◌, ℕ, ◌+◌, ◌<◌, ◌≤◌, List,
 use Rattle.std.proofs.Common.{sym, ◌∙◌, ap, get_or}
 use Rattle.std.specs.Global.{Vec}
 use Rattle.std.proofs.lemmas.List.{take_all, take_more, map-append, append_assoc}
-use Rattle.typing_formulas.specs.declared.schemas.EffectLiteral.{EffectLiteral}
-use Rattle.typing_formulas.specs.declared.schemas.Formula.{Formula}
-use Rattle.typing_formulas.specs.declared.schemas.Effect.{Effect}
-use Rattle.typing_formulas.specs.declared.schemas.Effect as effect
+use Rattle.task_parts.specs.declared.schemas.EffectLiteral.{EffectLiteral}
+use Rattle.task_parts.specs.declared.schemas.Formula.{Formula}
+use Rattle.task_parts.specs.declared.schemas.Effect.{Effect}
+use Rattle.task_parts.specs.declared.schemas.Effect as effect
 use Rattle.typing.specs.TaskParts.{effect_literal_of, effect_of, formula_of}
 use Rattle.formulas.proofs.CarriedOut.{map_twice}
 use Rattle.model.specs.Task as task

@@ -4,7 +4,7 @@ use Rattle.std.proofs.Common.{sym, ◌∙◌, ap, subst}
 use Rattle.std.specs.Cmp.{first_so, second_so}
 use Rattle.std.specs.Cmp.Lexicographic.{pointwise}
 use Rattle.std.specs.Option.{option_map, option_map_or}
-use Rattle.typing_formulas.specs.declared.atoms.LiftedAtom.{LiftedAtom}
+use Rattle.task_parts.specs.declared.atoms.LiftedAtom.{LiftedAtom}
 use Rattle.typing.specs.TaskParts.{lifted_atom_of, shape_of_schema}
 use Rattle.formulas.specs.State.{FitsFormula, FitsEffect}
 use Rattle.model.specs.Task as task

@@ -10,7 +10,7 @@ use Rattle.std.proofs.lemmas.List.{length-map, map_push, map-id, append_assoc, a
 use Rattle.std.proofs.lemmas.List.Folds.{list_all-append, list_any-append}
 use Rattle.std.proofs.lemmas.List.FromFn.{filter_of_map_range_with_len_more}
 use Rattle.std.proofs.Math.Seq.{take-append_seam}
-use Rattle.typing_formulas.specs.declared.atoms.ObjectId.{ObjectId}
+use Rattle.task_parts.specs.declared.atoms.ObjectId.{ObjectId}
 use Rattle.typing.specs.TaskParts.{object_of}
 use Rattle.formulas.specs.State.{FitsFormula, FitsEffect}
 use Rattle.model.specs.Task as task

@@ -10,11 +10,11 @@ use Rattle.std.proofs.lemmas.Bool.Decides.{nat_tests}
 use Rattle.std.proofs.lemmas.List.{take_all, take_more, map-append}
 use Rattle.std.proofs.lemmas.Option.{slice_get_within}
 use Rattle.std.proofs.Math.ListN.{length-map}
-use Rattle.typing_formulas.specs.declared.atoms.ObjectId.{ObjectId}
-use Rattle.typing_formulas.specs.declared.atoms.Term.{Term}
-use Rattle.typing_formulas.specs.declared.atoms.LiftedAtom.{LiftedAtom}
-use Rattle.typing_formulas.specs.declared.schemas.Formula.{Formula}
-use Rattle.typing_formulas.specs.declared.schemas.Formula as formula
+use Rattle.task_parts.specs.declared.atoms.ObjectId.{ObjectId}
+use Rattle.task_parts.specs.declared.atoms.Term.{Term}
+use Rattle.task_parts.specs.declared.atoms.LiftedAtom.{LiftedAtom}
+use Rattle.task_parts.specs.declared.schemas.Formula.{Formula}
+use Rattle.task_parts.specs.declared.schemas.Formula as formula
 use Rattle.typing.specs.TaskParts.{object_of, term_of, lifted_atom_of, formula_of}
 use Rattle.formulas.specs.State.{FitsFormula}
 use Rattle.model.specs.Task as task

@@ -8,8 +8,8 @@ use Rattle.std.specs.Option.{option_map_or}
 use Rattle.std.proofs.lemmas.Bool.{and_parts, and_from, or_cases, or_left, or_right, ltb-true}
 use Rattle.std.proofs.lemmas.List.Folds.{list_any-append, list_all-append}
 use Rattle.std.proofs.lemmas.List.Elements.{filter-append}
-use Rattle.typing_formulas.specs.declared.schemas.Formula.{Formula}
-use Rattle.typing_formulas.specs.declared.schemas.Formula as formula
+use Rattle.task_parts.specs.declared.schemas.Formula.{Formula}
+use Rattle.task_parts.specs.declared.schemas.Formula as formula
 use Rattle.typing.specs.TaskParts.{formula_of}
 use Rattle.formulas.proofs.Trees.{formulas_in, formula_of-And}
 use Rattle.model.specs.Task as task

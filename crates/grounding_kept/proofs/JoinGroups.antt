@@ -7,8 +7,8 @@ use Rattle.std.specs.BTreeSet.{BTreeSet}
 use Rattle.std.specs.FinSet.{contains, contains-from_list}
 use Rattle.std.proofs.lemmas.Bool.{ltb-true, ltb-false, or_left, or_right}
 use Rattle.std.proofs.lemmas.Option.{slice_get_within, slice_get-map, slice_get_read}
-use Rattle.typing_formulas.specs.declared.atoms.Atom.{Atom}
-use Rattle.typing_formulas.specs.declared.atoms.ObjectId.{ObjectId}
+use Rattle.task_parts.specs.declared.atoms.Atom.{Atom}
+use Rattle.task_parts.specs.declared.atoms.ObjectId.{ObjectId}
 use Rattle.typing.specs.TaskParts.{atom_of, object_of, term_of, lifted_atom_of, union_of}
 use Rattle.grounding_kept.specs.declared.joins.Joint.{Joint}
 use Rattle.grounding_kept.specs.declared.joins.Join.{Join}

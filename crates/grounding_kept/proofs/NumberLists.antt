@@ -13,7 +13,7 @@ use Rattle.std.proofs.lemmas.Option.{slice_get_within, slice_get_read, slice_get
 use Rattle.indexmap.specs.IndexSet.{insert_key}
 use Rattle.faults.specs.declared.refused.Refused.TheVariants.{At, NoMemory}
 use Rattle.grounding_kept.specs.declared.fault.GroundLimit.TheVariants.{Instances, Atoms}
-use Rattle.typing_formulas.specs.declared.atoms.Atom.{Atom}
+use Rattle.task_parts.specs.declared.atoms.Atom.{Atom}
 use Rattle.typing.specs.TaskParts.{atom_of}
 use Rattle.formulas.proofs.Equality.{atom_eq, equal_atoms, same_atoms, one_atom}
 use Rattle.model.specs.Task as task

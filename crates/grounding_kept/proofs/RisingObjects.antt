@@ -12,8 +12,8 @@ use Rattle.std.proofs.lemmas.Bool.{ltb-true, ltb-false}
 use Rattle.std.proofs.lemmas.Cmp.{ranked}
 use Rattle.std.proofs.lemmas.Map.Keys.{sorted_head, sorted_tail}
 use Rattle.std.proofs.lemmas.Option.{slice_get_within}
-use Rattle.typing_formulas.specs.declared.atoms.ObjectId.{ObjectId}
-use Rattle.typing_formulas.specs.contracts.atoms.ObjectIdOrd.TheImpl as object_ord
+use Rattle.task_parts.specs.declared.atoms.ObjectId.{ObjectId}
+use Rattle.task_parts.specs.contracts.atoms.ObjectIdOrd.TheImpl as object_ord
 use Rattle.typing.specs.TaskParts.{object_of}
 use Rattle.model.specs.Task as task
 use Rattle.model.specs.Task.{Task, Union}

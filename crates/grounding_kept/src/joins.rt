@@ -3,7 +3,7 @@ ghost use Rattle.std.specs.Prelude.{◌≡◌, true, false, length, map, filter,
 ghost use Rattle.std.specs.Bool.{OnTrue};
 ghost use Rattle.std.specs.Option.{option_map, option_map_or};
 ghost use Rattle.std.specs.List.Sorted.{IsStrictlySortedBy};
-ghost use Rattle.typing_formulas.specs.contracts.atoms.ObjectIdOrd.TheImpl as object_ord;
+ghost use Rattle.task_parts.specs.contracts.atoms.ObjectIdOrd.TheImpl as object_ord;
 ghost use Rattle.typing.specs.Task.{task_of};
 ghost use Rattle.typing.specs.TaskParts.{atom_of, object_of, formula_of, term_of, union_of};
 ghost use Rattle.model.specs.Task as model_task;

@@ -26,7 +26,7 @@ ghost use Rattle.pddl_tree.specs.Head.{HasHead, HasNoHead, ReadsHead, ReadsAll, 
 ghost use Rattle.syntax_tree.specs.Tree.{file_of, domain_of, problem_of};
 
 use crate::sections::{Contents, sections};
-use faults::{Fault, Refusal, Refused, Span};
+use faults::{Fault, Refused, Span, TextRefusal};
 use pddl_tree_values::{Place, WordFault, WordRefusal, close, define, kind, name, open, refusal};
 use std::alloc::Global;
 use syntax_tree::{Domain, Name, Problem, TaskFile};
@@ -142,7 +142,7 @@ fn fault(words: &[Word], refusal: WordFault) -> Fault
     ensures { told_by result ≡ fault_of (map word_of words.now) (told refusal) }
 {
     match refusal {
-        Refused::At(WordRefusal { code, at }) => Refused::At(Refusal {
+        Refused::At(WordRefusal { code, at }) => Refused::At(TextRefusal {
             code,
             span: span_at(words, at),
         }),

@@ -3,7 +3,7 @@ use Rattle.std.proofs.Common.{◌≡◌, ℕ, ◌≤◌, List, [], ◌∷◌, �
 use Rattle.std.specs.Prelude.{is_some}
 use Rattle.std.proofs.lemmas.List.{map-append}
 use Rattle.tokens.specs.Told.{told_by}
-use Rattle.faults.specs.declared.refused.Refusal.{Refusal}
+use Rattle.faults.specs.declared.refused.TextRefusal.{TextRefusal}
 use Rattle.faults.specs.declared.refused.Refused.TheVariants.{At}
 use Rattle.model.specs.Fault.{Span, Fault}
 use Rattle.model.specs.Task.{Task, Instance}
@@ -45,11 +45,11 @@ module _ (task : Task) (steps : List Step) (step : Step) where
       }) h
 
   -- after the first at fault nothing is taken
-  pub none_taken : (o : Option Refusal) → is_some o ≡ true → (plan : List Instance) → MeanOrRefused task steps o plan → MeanOrRefused task (steps ++ step ∷ []) o plan
+  pub none_taken : (o : Option TextRefusal) → is_some o ≡ true → (plan : List Instance) → MeanOrRefused task steps o plan → MeanOrRefused task (steps ++ step ∷ []) o plan
   none_taken None refused plan mean = absurd (true≢false (sym refused))
   none_taken (Some refusal) refused plan first = stays_first (told_by (At refusal)) first
 
-  pub instance_taken : {A : Type 0} (f : A → Instance) (items more : List A) (x : A) → more ≡ items ++ x ∷ [] → (o : Option Refusal) → is_some o ≡ false → MeanOrRefused task steps o (map f items)
+  pub instance_taken : {A : Type 0} (f : A → Instance) (items more : List A) (x : A) → more ≡ items ++ x ∷ [] → (o : Option TextRefusal) → is_some o ≡ false → MeanOrRefused task steps o (map f items)
       → Means task step (f x) → MeanOrRefused task (steps ++ step ∷ []) o (map f more)
   instance_taken f items more x more_is None unrefused mean means = more_mean f items more x more_is mean means
   instance_taken f items more x more_is (Some refusal) unrefused mean means = absurd (true≢false unrefused)

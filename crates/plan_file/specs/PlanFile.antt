@@ -9,7 +9,7 @@ use Rattle.plan_file.specs.declared.text.Turn.{Turn}
 use Rattle.plan_file.specs.declared.text.Turn.TheVariants.{Goes, Ends}
 use Rattle.plan_file.specs.declared.steps.Meaning.{Meaning}
 use Rattle.tokens.specs.Told.{told_by}
-use Rattle.faults.specs.declared.refused.Refusal.{Refusal}
+use Rattle.faults.specs.declared.refused.TextRefusal.{TextRefusal}
 use Rattle.faults.specs.declared.refused.Refused.TheVariants.{At}
 use Rattle.formulas.specs.State.{instance_of}
 use Rattle.tokens.specs.Cut.{cut}
@@ -93,7 +93,7 @@ pub record IsFirstFault (task : Task) (steps : List text.Step) (fault : Fault) :
   pub wrong : IsStepFault task step fault
 
 -- the steps name these instances, or the first that is at fault is refused so
-abbrev pub MeanOrRefused : Task → List text.Step → Option Refusal → List Instance → Type 0
+abbrev pub MeanOrRefused : Task → List text.Step → Option TextRefusal → List Instance → Type 0
 MeanOrRefused task steps None plan = AllMean task steps plan
 MeanOrRefused task steps (Some refusal) plan = IfSome (told_by (At refusal)) (IsFirstFault task steps)
 

@@ -14,7 +14,7 @@ ghost use Rattle.model.specs.PlanText as text;
 ghost use Rattle.model.specs.PlanText.{Means, AllMean, IsNumberOf, AreNumbersOf, IsStepFault, schema_names, object_names};
 
 use crate::word::Word;
-use faults::{Code, Fault, NoMemory, Refusal, Refused};
+use faults::{Code, Fault, NoMemory, Refused, TextRefusal};
 use formulas::{Binding, Instance};
 use std::alloc::Global;
 use typing::{ObjectId, SchemaId, Task, TypeUnion};
@@ -25,7 +25,7 @@ pub(super) struct Meaning {
     /// The instances of the steps before the first at fault.
     instances: Vec<Instance>,
     /// What is told of the first at fault.
-    refusal: Option<Refusal>,
+    refusal: Option<TextRefusal>,
     /// Where each name is folded: it grows to the longest.
     buffer: Vec<u8>,
 }

@@ -6,7 +6,7 @@ ghost use Rattle.tokens.specs.Form.{view};
 ghost use Rattle.model.specs.Words.{is_gap};
 ghost use Rattle.model.specs.PlanText.{is_stamp};
 
-use faults::{Code, Fault, NoMemory, Refusal, Refused, Span};
+use faults::{Code, Fault, NoMemory, Refused, Span, TextRefusal};
 use tokens::{Form, is_name, part_end};
 
 /// What a word may be in a step.
@@ -115,7 +115,7 @@ pub(super) fn refusal(code: Code, start: usize, end: usize) -> Fault
     ensures { told_by result ≡ Some (record { code = number_of code; span = record { start = start; end = end } }) }
 {
     let span = Span { start, end };
-    Refused::At(Refusal { code, span })
+    Refused::At(TextRefusal { code, span })
 }
 
 /// Whether these bytes begin as those of a time stamp do: with a digit, `.` or `[`.

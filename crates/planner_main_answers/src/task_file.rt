@@ -9,7 +9,7 @@ ghost use Rattle.model.specs.Files as told;
 ghost use Rattle.model.specs.Trees.{domain_file, problem_file};
 ghost use Rattle.model.specs.Files.{IsDomainText, IsProblemText, IsTextFault, IsTaskOf, IsTaskFault};
 
-use faults::{Code, Fault, NoMemory, Refusal, Refused, Span};
+use faults::{Code, Fault, NoMemory, Refused, Span, TextRefusal};
 use std::alloc::{AllocError, Global};
 use std::fmt;
 use thiserror::Error;
@@ -72,7 +72,7 @@ impl FileFault {
         ensures { told_in result ≡ in_file file (told_by fault) }
     {
         match fault {
-            Refused::At(Refusal { code, span }) => FileFault::At { file, code, span },
+            Refused::At(TextRefusal { code, span }) => FileFault::At { file, code, span },
             Refused::NoMemory => FileFault::NoMemory,
         }
     }

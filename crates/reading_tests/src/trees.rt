@@ -1,5 +1,5 @@
 //! Trees of domains and problems in memory, and what is told of words that stop too early.
-use faults::{Code, Fault, Refusal, Span};
+use faults::{Code, Fault, Span, TextRefusal};
 use pddl_tree::{
     Action, Amount, Domain, Effect, EffectLiteral, Fact, Formula, Group, Increase, Name, Predicate,
     Problem, Term, domain, problem,
@@ -20,7 +20,7 @@ const TRIP: &[u8] =
 
 /// The words that stand before this place are refused there, since more is wanted.
 fn refused_at(end: usize) -> Option<Fault> {
-    Some(Fault::At(Refusal {
+    Some(Fault::At(TextRefusal {
         code: Code::BadForm,
         span: Span { start: end, end },
     }))

@@ -4,7 +4,7 @@ use Rattle.std.specs.Prelude.{All, slice_get}
 use Rattle.std.specs.List.{AllZip}
 use Rattle.std.proofs.lemmas.List.{take_more, map-append}
 use Rattle.std.proofs.lemmas.List.Elements.{All-contains}
-use Rattle.typing_formulas.specs.declared.atoms.Atom as code_atom
+use Rattle.task_parts.specs.declared.atoms.Atom as code_atom
 use Rattle.std.specs.Option.{option_map}
 use Rattle.std.proofs.lemmas.Option.{slice_get-map}
 use Rattle.typing.specs.TaskParts.{atom_of, object_of}

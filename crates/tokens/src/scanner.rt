@@ -9,7 +9,7 @@ ghost use Rattle.model.specs.Words.{longest_text, ReadsAs, Reads, IsTold};
 use crate::form::{Form, part_end};
 use crate::run::kind_of_run;
 use crate::word::{Kind, Word};
-use faults::{Code, Fault, Refusal, Span};
+use faults::{Code, Fault, Span, TextRefusal};
 use std::alloc::Global;
 
 /// How many bytes a text may have.
@@ -92,7 +92,7 @@ fn refusal(code: Code, start: usize, end: usize) -> Fault
     ensures { told_by result
         ≡ Some (record { code = number_of code; span = record { start = start; end = end } }) }
 {
-    Fault::At(Refusal {
+    Fault::At(TextRefusal {
         code,
         span: Span { start, end },
     })

@@ -11,8 +11,8 @@ use Rattle.model.specs.Task as task
 use Rattle.model.specs.Trees.{File, problem_file}
 use Rattle.model.specs.Trees as tree
 use Rattle.model.specs.Typing.{Placed, TypingFault, folded, is_same, is_known, names_of_predicates, placed, predicate_in, refused, refused_word, total_cost, with_name}
-use Rattle.typing_formulas.specs.Walk.{found}
-use Rattle.typing_formulas.proofs.Found.{map-map}
+use Rattle.task_parts.specs.Walk.{found}
+use Rattle.task_parts.proofs.Found.{map-map}
 
 -- whether a name is among those that are declared, and with one more, and after some more
 any_with : (q : task.Name) (before : List task.Name) (name : tree.Name) → list_any (is_same q) (with_name before name) ≡ (list_any (is_same q) before || is_same q (folded name))

@@ -6,7 +6,7 @@ use Rattle.std.specs.Cmp.{first_so, second_so}
 use Rattle.std.specs.Option.{option_map}
 use Rattle.std.proofs.lemmas.Bool.Decides.{nat_tests}
 use Rattle.std.proofs.lemmas.Option.{none-some, same_Some}
-use Rattle.typing_formulas.specs.TaskParts.{shape_of_schema}
+use Rattle.task_parts.specs.TaskParts.{shape_of_schema}
 use Rattle.model.specs.Task as task
 use Rattle.model.specs.WellTyped.{max_variables, is_task, is_schema}
 use Rattle.model.proofs.Tests.{passes_got}

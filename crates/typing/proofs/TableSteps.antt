@@ -4,7 +4,7 @@ use Rattle.std.proofs.lemmas.List.{append_assoc, append-nil, drop_more, drop_all
 use Rattle.model.specs.Task as task
 use Rattle.model.specs.Trees as tree
 use Rattle.model.specs.Typing.{Placed, is_known, with_name, repeated_after}
-use Rattle.typing_formulas.proofs.Found.{got_twice}
+use Rattle.task_parts.proofs.Found.{got_twice}
 
 -- a name that is not declared again: so are those after it, and it is new
 pub not_again : (before : List task.Name) (w : Placed) (rest : List Placed) → repeated_after before (w ∷ rest) ≡ []

@@ -13,13 +13,13 @@ use Rattle.model.proofs.Tests.{passes_got}
 use Rattle.typing.specs.declared.names.Contents.{Contents}
 use Rattle.typing.specs.declared.names.Types.{Types}
 use Rattle.typing.specs.Names.{type_faults_of, domain_faults, contents_faults, stated_faults_in, AreContents, AreTypesOf}
-use Rattle.typing_formulas.specs.TaskParts.{task_of_parts}
+use Rattle.task_parts.specs.TaskParts.{task_of_parts}
 use Rattle.typing.specs.Task.{TaskFault, TellsLeastOf, TellsLeastFault}
-use Rattle.typing_formulas.specs.Scope.{narrow_atoms_in}
-use Rattle.typing_formulas.proofs.Tells.{tells_here, tells_later}
-use Rattle.typing_formulas.proofs.Empty.{nil_left, nil_right, not_refused, and_true}
+use Rattle.task_parts.specs.Scope.{narrow_atoms_in}
+use Rattle.task_parts.proofs.Tells.{tells_here, tells_later}
+use Rattle.task_parts.proofs.Empty.{nil_left, nil_right, not_refused, and_true}
 use Rattle.typing.proofs.ParentChains.{all_whole, descends_on_chain, type_at, among_Contains, Contains_among}
-use Rattle.typing_formulas.proofs.Declared.{names_are}
+use Rattle.task_parts.proofs.Declared.{names_are}
 use Rattle.typing.proofs.Declaring.{parents_low, none_comes_back}
 use Rattle.typing.proofs.WellTyped.{Fits, declared_count, arities_fit, schemas_fit, facts_fit, own_faults, formula_fits}
 

@@ -10,8 +10,8 @@ use Rattle.model.specs.Trees as tree
 use Rattle.model.specs.Trees.{File}
 use Rattle.model.specs.Typing.{Known, TypingFault, atom_in, differing, fact_faults, facts_faults, in_function, is_named, value_faults, values_after, values_in, with_value}
 use Rattle.model.proofs.TypingFaultsPhases.{values_after-append}
-use Rattle.typing_formulas.specs.Walk.{found}
-use Rattle.typing_formulas.proofs.Found.{found-append}
+use Rattle.task_parts.specs.Walk.{found}
+use Rattle.task_parts.proofs.Found.{found-append}
 
 -- ---- one value more
 

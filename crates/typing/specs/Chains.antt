@@ -1,8 +1,8 @@
 -- The types that a domain declares, in the model's terms.
 use Rattle.std.specs.Prelude.{◌≡◌, ℕ, List, [], ◌∷◌, codes, map}
 use Rattle.std.specs.Global.{Vec}
-use Rattle.typing_formulas.specs.declared.atoms.TypeId.{TypeId}
-use Rattle.typing_formulas.specs.TaskParts.{type_entry_of}
+use Rattle.task_parts.specs.declared.atoms.TypeId.{TypeId}
+use Rattle.task_parts.specs.TaskParts.{type_entry_of}
 use Rattle.model.specs.Task as task
 use Rattle.model.specs.Typing.{Declared, TypingFault, folded, names_of, parents_in, whole_chain, types_from, cycle_faults_from, repeated_after, words_of}
 

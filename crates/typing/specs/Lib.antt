@@ -1,5 +1,5 @@
-pub use Rattle.typing_formulas.specs.TaskParts
-pub use Rattle.typing_formulas.specs.Refusals
+pub use Rattle.task_parts.specs.TaskParts
+pub use Rattle.task_parts.specs.Refusals
 pub mod Task
 pub mod Chains
 pub mod Objects

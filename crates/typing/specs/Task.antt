@@ -1,9 +1,9 @@
 -- The code's task and the faults that it tells, in the model's terms.
 use Rattle.typing.specs.declared.task.Task.{Task}
 pub use Rattle.syntax_tree.specs.Tree.{file_of}
-pub use Rattle.typing_formulas.specs.Refusals.{refusal_of, TaskFault, TellsLeastOf}
+pub use Rattle.task_parts.specs.Refusals.{refusal_of, TaskFault, TellsLeastOf}
 use Rattle.faults.specs.declared.refused.Refused.TheVariants.{At, NoMemory}
-use Rattle.typing_formulas.specs.TaskParts.{task_of_parts}
+use Rattle.task_parts.specs.TaskParts.{task_of_parts}
 use Rattle.model.specs.Task as task
 use Rattle.model.specs.Trees as tree
 use Rattle.model.specs.TypingFaults as typing_faults

@@ -1,10 +1,10 @@
 //! The actions of a domain.
 ghost use Rattle.std.specs.Prelude.{◌≡◌, [], ◌∷◌, ◌++◌, false, if◌then◌else◌, map, IfErr, IfOk, OnOk};
-ghost use Rattle.typing_formulas.specs.TaskParts as parts;
-ghost use Rattle.typing_formulas.specs.TypedLists.{declared_of};
-ghost use Rattle.typing_formulas.specs.Scope.{known_outside, known_over};
+ghost use Rattle.task_parts.specs.TaskParts as parts;
+ghost use Rattle.task_parts.specs.TypedLists.{declared_of};
+ghost use Rattle.task_parts.specs.Scope.{known_outside, known_over};
 ghost use Rattle.typing.specs.Task.{file_of, TellsLeastOf};
-ghost use Rattle.typing_formulas.specs.Walk.{Finds};
+ghost use Rattle.task_parts.specs.Walk.{Finds};
 ghost use Rattle.syntax_tree.specs.Tree as read;
 ghost use Rattle.model.specs.Trees.{domain_file};
 ghost use Rattle.model.specs.Typing as typing;
@@ -17,11 +17,11 @@ use faults::NoMemory;
 use indexmap::{IndexMap, IndexSet};
 use std::alloc::Global;
 use syntax_tree::{Action, Domain};
-use typing_formulas::domain::declare;
-use typing_formulas::formulas::formula;
-use typing_formulas::typed_lists::{Declared, collect};
-use typing_formulas::variables::declare_variables;
-use typing_formulas::{Globals, Walk};
+use task_parts::domain::declare;
+use task_parts::formulas::formula;
+use task_parts::typed_lists::{Declared, collect};
+use task_parts::variables::declare_variables;
+use task_parts::{Globals, Walk};
 
 /// What an action with these parameters declares, where these variables are in scope.
 fn body(

@@ -1,11 +1,11 @@
 //! Chains of types, from a type to its parent and on up to `object`.
 ghost use Rattle.std.specs.Prelude.{◌≡◌, ◌≤◌, ◌<◌, ◌+◌, [], ◌∷◌, ◌++◌, false, if◌then◌else◌, codes, length, map, slice_index, IfErr, IfOk, OnOk};
-ghost use Rattle.typing_formulas.specs.TaskParts as parts;
-ghost use Rattle.typing_formulas.specs.TypedLists.{declared_of};
-ghost use Rattle.typing_formulas.specs.Scope.{names_in};
+ghost use Rattle.task_parts.specs.TaskParts as parts;
+ghost use Rattle.task_parts.specs.TypedLists.{declared_of};
+ghost use Rattle.task_parts.specs.Scope.{names_in};
 ghost use Rattle.typing.specs.Task.{TellsLeastOf};
 ghost use Rattle.typing.specs.Chains.{AreTypes, cycles, type_numbered};
-ghost use Rattle.typing_formulas.specs.Walk.{Finds};
+ghost use Rattle.task_parts.specs.Walk.{Finds};
 ghost use Rattle.syntax_tree.specs.Tree as read;
 ghost use Rattle.model.specs.Typing as typing;
 
@@ -13,8 +13,8 @@ use crate::{TaskFault, TypeId};
 use faults::{Code, NoMemory};
 use indexmap::IndexMap;
 use std::alloc::Global;
-use typing_formulas::typed_lists::Declared;
-use typing_formulas::{TypeNames, Walk};
+use task_parts::typed_lists::Declared;
+use task_parts::{TypeNames, Walk};
 
 /// The parent of a type, and `object` where there is no such type.
 fn parent(parents: &[TypeId], id: TypeId) -> TypeId

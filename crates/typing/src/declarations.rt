@@ -1,9 +1,9 @@
 //! What a domain declares by names with arguments: its predicates, and its functions.
 ghost use Rattle.std.specs.Prelude.{◌≡◌, [], ◌∷◌, ◌++◌, false, fold, if◌then◌else◌, map, IfErr, IfOk, OnOk};
-ghost use Rattle.typing_formulas.specs.TaskParts as parts;
-ghost use Rattle.typing_formulas.specs.Scope.{names_in};
+ghost use Rattle.task_parts.specs.TaskParts as parts;
+ghost use Rattle.task_parts.specs.Scope.{names_in};
 ghost use Rattle.typing.specs.Task.{TellsLeastOf};
-ghost use Rattle.typing_formulas.specs.Walk.{Finds};
+ghost use Rattle.task_parts.specs.Walk.{Finds};
 ghost use Rattle.syntax_tree.specs.Tree as read;
 ghost use Rattle.model.specs.Trees.{domain_file};
 ghost use Rattle.model.specs.Typing as typing;
@@ -14,10 +14,10 @@ use faults::NoMemory;
 use indexmap::IndexMap;
 use std::alloc::Global;
 use syntax_tree::{Domain, Predicate as Declaration};
-use typing_formulas::domain::refuse_again;
-use typing_formulas::typed_lists::{collect, limit};
-use typing_formulas::types::check_all;
-use typing_formulas::{TypeNames, Walk};
+use task_parts::domain::refuse_again;
+use task_parts::typed_lists::{collect, limit};
+use task_parts::types::check_all;
+use task_parts::{TypeNames, Walk};
 
 /// What each argument of a declaration has to be.
 fn arguments(

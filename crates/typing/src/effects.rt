@@ -1,10 +1,10 @@
 //! Names of effects become numbers.
 ghost use Rattle.std.specs.Prelude.{◌≡◌, ◌++◌, map, IfOk, OnOk};
 ghost use Rattle.std.specs.List.{flat_map};
-ghost use Rattle.typing_formulas.specs.TaskParts as parts;
-ghost use Rattle.typing_formulas.specs.Scope.{known_over};
+ghost use Rattle.task_parts.specs.TaskParts as parts;
+ghost use Rattle.task_parts.specs.Scope.{known_over};
 ghost use Rattle.typing.specs.Task.{file_of};
-ghost use Rattle.typing_formulas.specs.Walk.{Finds};
+ghost use Rattle.task_parts.specs.Walk.{Finds};
 ghost use Rattle.syntax_tree.specs.Tree as read;
 ghost use Rattle.model.specs.Task as task;
 ghost use Rattle.model.specs.Typing as typing;
@@ -15,8 +15,8 @@ use indexmap::IndexMap;
 use std::alloc::Global;
 use syntax_tree as tree;
 use syntax_tree::Group;
-use typing_formulas::formulas::{enter, formula};
-use typing_formulas::{Globals, Walk};
+use task_parts::formulas::{enter, formula};
+use task_parts::{Globals, Walk};
 
 /// A literal of an effect.
 fn literal(

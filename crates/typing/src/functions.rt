@@ -2,10 +2,10 @@
 ghost use Rattle.std.specs.Prelude.{◌≡◌, [], ◌++◌, drop, if◌then◌else◌, map, slice_get, IfErr, IfOk, OnOk};
 ghost use Rattle.std.specs.List.{flat_map};
 ghost use Rattle.std.specs.Option.{option_map_or};
-ghost use Rattle.typing_formulas.specs.TaskParts as parts;
-ghost use Rattle.typing_formulas.specs.Scope.{known_over, names_in};
+ghost use Rattle.task_parts.specs.TaskParts as parts;
+ghost use Rattle.task_parts.specs.Scope.{known_over, names_in};
 ghost use Rattle.typing.specs.Task.{file_of, TellsLeastOf};
-ghost use Rattle.typing_formulas.specs.Walk.{Finds};
+ghost use Rattle.task_parts.specs.Walk.{Finds};
 ghost use Rattle.syntax_tree.specs.Tree as read;
 ghost use Rattle.model.specs.Trees.{problem_file};
 ghost use Rattle.model.specs.Task as task;
@@ -18,7 +18,7 @@ use indexmap::IndexMap;
 use std::alloc::Global;
 use syntax_tree as tree;
 use syntax_tree::{Action, Amount, Domain, Name, Problem};
-use typing_formulas::{Globals, TypeNames, Walk, declares_cost};
+use task_parts::{Globals, TypeNames, Walk, declares_cost};
 
 /// The metric is refused where the total cost is not declared.
 fn check_metric(walk: &mut Walk, has_cost: bool, metric: Option<&Name<'_>>)

@@ -15,7 +15,7 @@ mod task;
 
 pub use laws::{examples_are_typed, supertypes_are_those_above};
 pub use task::Task;
-pub use typing_formulas::{
+pub use task_parts::{
     Atom, Effect, EffectLiteral, Formula, Increase, LiftedAtom, MAX_ARGUMENTS, MAX_OBJECTS,
     MAX_VARIABLES, ObjectId, Predicate, PredicateId, Schema, SchemaId, TaskFault, TaskFile,
     TaskRefusal, Term, TypeId, TypeUnion, VariableId,

@@ -8,8 +8,8 @@ use crate::{
 use indexmap::IndexMap;
 use std::alloc::Global;
 use syntax_tree::{Domain, Problem};
-use typing_formulas::typed_lists::collect;
-use typing_formulas::{Globals, TypeNames, domain};
+use task_parts::typed_lists::collect;
+use task_parts::{Globals, TypeNames, domain};
 
 /// The types of a domain, by name: each in the place of its number.
 #[derive(Drop)]
@@ -183,7 +183,7 @@ impl Names {
 
 impl Start {
     ghost use Rattle.typing.specs.Task.{file_of, TellsLeastOf};
-    ghost use Rattle.typing_formulas.specs.Scope.{known_outside};
+    ghost use Rattle.task_parts.specs.Scope.{known_outside};
     ghost use Rattle.typing.specs.Names.{stated_faults_in, Starts};
     ghost use Rattle.syntax_tree.specs.Tree.{problem_of};
 

@@ -1,11 +1,11 @@
 //! The domain's constants and the problem's objects, and their types.
 ghost use Rattle.std.specs.Prelude.{◌≡◌, ◌≤◌, [], ◌∷◌, ◌++◌, false, if◌then◌else◌, length, map, List, IfErr, IfOk, OnOk};
-ghost use Rattle.typing_formulas.specs.TaskParts as parts;
-ghost use Rattle.typing_formulas.specs.TypedLists.{declared_of};
+ghost use Rattle.task_parts.specs.TaskParts as parts;
+ghost use Rattle.task_parts.specs.TypedLists.{declared_of};
 ghost use Rattle.typing.specs.Objects.{AreMade, AreObjects};
-ghost use Rattle.typing_formulas.specs.Scope.{names_in};
+ghost use Rattle.task_parts.specs.Scope.{names_in};
 ghost use Rattle.typing.specs.Task.{TellsLeastOf};
-ghost use Rattle.typing_formulas.specs.Walk.{Finds};
+ghost use Rattle.task_parts.specs.Walk.{Finds};
 ghost use Rattle.syntax_tree.specs.Tree as read;
 ghost use Rattle.model.specs.Trees.{domain_file, problem_file};
 ghost use Rattle.model.specs.Typing as typing;
@@ -16,10 +16,10 @@ use faults::NoMemory;
 use indexmap::IndexMap;
 use std::alloc::Global;
 use syntax_tree::{Domain, Group, Problem};
-use typing_formulas::domain::refuse_again;
-use typing_formulas::typed_lists::{Declared, add, collect, limit};
-use typing_formulas::types::check_all;
-use typing_formulas::{TypeNames, Walk};
+use task_parts::domain::refuse_again;
+use task_parts::typed_lists::{Declared, add, collect, limit};
+use task_parts::types::check_all;
+use task_parts::{TypeNames, Walk};
 
 /// Declares an object. One that is declared before is refused.
 fn declare_object(

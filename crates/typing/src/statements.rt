@@ -1,9 +1,9 @@
 //! What a problem states: its initial state and its goal.
 ghost use Rattle.std.specs.Prelude.{◌≡◌, [], ◌∷◌, ◌++◌, drop, if◌then◌else◌, map, IfErr, IfOk, OnOk};
-ghost use Rattle.typing_formulas.specs.TaskParts as parts;
+ghost use Rattle.task_parts.specs.TaskParts as parts;
 ghost use Rattle.typing.specs.Task.{file_of, TellsLeastOf};
-ghost use Rattle.typing_formulas.specs.Scope.{known_of, known_outside, known_over, narrow_atoms_in};
-ghost use Rattle.typing_formulas.specs.Walk.{found, least_of, Finds};
+ghost use Rattle.task_parts.specs.Scope.{known_of, known_outside, known_over, narrow_atoms_in};
+ghost use Rattle.task_parts.specs.Walk.{found, least_of, Finds};
 ghost use Rattle.syntax_tree.specs.Tree as read;
 ghost use Rattle.model.specs.Trees as tree;
 ghost use Rattle.model.specs.Typing as typing;
@@ -14,8 +14,8 @@ use faults::{Code, NoMemory};
 use indexmap::IndexMap;
 use std::alloc::Global;
 use syntax_tree::{Fact, InitialCost, InitialValue, Problem};
-use typing_formulas::formulas::formula;
-use typing_formulas::{Globals, Scope, Walk};
+use task_parts::formulas::formula;
+use task_parts::{Globals, Scope, Walk};
 
 /// What the initial state states: the atoms that are true in it, and the values of functions.
 #[derive(Drop)]

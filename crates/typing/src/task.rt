@@ -1,6 +1,6 @@
 //! The task of a domain and a problem.
 ghost use Rattle.std.specs.Prelude.{IsTrue, ◌≤◌, length};
-ghost use Rattle.typing_formulas.specs.TaskParts.{task_of_parts};
+ghost use Rattle.task_parts.specs.TaskParts.{task_of_parts};
 ghost use Rattle.model.specs.WellTyped.{is_task};
 
 use crate::names::{Contents, Types};
@@ -12,7 +12,7 @@ use faults::NoMemory;
 use indexmap::IndexMap;
 use std::alloc::Global;
 use syntax_tree::{Domain, Problem};
-use typing_formulas::types::{self, is_below};
+use task_parts::types::{self, is_below};
 
 /// A planning task: a well-typed pair of a domain and a problem, with numbers for names.
 #[derive(Drop)]
@@ -37,7 +37,7 @@ impl Task {
     ghost use Rattle.typing.specs.Task.{task_of, TellsFault, TellsLeastFault};
     ghost use Rattle.model.specs.TypingFaults as typing_faults;
     ghost use Rattle.syntax_tree.specs.Tree.{domain_of, problem_of};
-    ghost use Rattle.typing_formulas.specs.TaskParts.{atom_of, formula_of, object_of, predicate_id_of, schema_id_of, shape_of, shape_of_schema, type_of, union_of};
+    ghost use Rattle.task_parts.specs.TaskParts.{atom_of, formula_of, object_of, predicate_id_of, schema_id_of, shape_of, shape_of_schema, type_of, union_of};
     ghost use Rattle.model.specs.Meaning.{supertypes_of, is_of, is_below, objects_of, value_in};
     ghost use Rattle.model.specs.Typing.{is_same, task_of_trees, ListsNoFault};
 

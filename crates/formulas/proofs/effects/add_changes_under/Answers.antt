@@ -1,6 +1,6 @@
 use Rattle.std.proofs.Common.{◌∙◌, sym, map}
 use Rattle.typing.specs.Task.{task_of}
-use Rattle.typing_formulas.specs.declared.schemas.EffectLiteral.{EffectLiteral}
+use Rattle.task_parts.specs.declared.schemas.EffectLiteral.{EffectLiteral}
 use Rattle.typing.specs.TaskParts.{object_of, formula_of, effect_literal_of}
 use Rattle.formulas.specs.Effects.{change_of}
 use Rattle.model.specs.Meaning.{Change, change_under}

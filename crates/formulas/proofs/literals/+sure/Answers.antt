@@ -1,8 +1,8 @@
 use Rattle.std.proofs.Common.{rules, arith, ℕ, ◌∙◌, ap, sym, subst, map, ◌++◌, ◌∷◌, [], List}
 use Rattle.std.specs.List.{flat_map}
 use Rattle.std.proofs.lemmas.List.{take_all}
-use Rattle.typing_formulas.specs.declared.atoms.ObjectId.{ObjectId}
-use Rattle.typing_formulas.specs.declared.schemas.Formula.{the_lemmas}
+use Rattle.task_parts.specs.declared.atoms.ObjectId.{ObjectId}
+use Rattle.task_parts.specs.declared.schemas.Formula.{the_lemmas}
 use Rattle.typing.specs.Task.{task_of}
 use Rattle.formulas.specs.State.{FitsFormula}
 use Rattle.formulas.specs.Literals.{literal_of}

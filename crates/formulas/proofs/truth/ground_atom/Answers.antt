@@ -1,5 +1,5 @@
 use Rattle.std.proofs.Common.{◌∙◌, ap, map, length, arith}
-use Rattle.typing_formulas.specs.declared.atoms.Term.TheVariants.{Variable}
+use Rattle.task_parts.specs.declared.atoms.Term.TheVariants.{Variable}
 use Rattle.typing.specs.TaskParts.{object_of, term_of}
 use Rattle.model.specs.Meaning as meaning
 use Rattle.formulas.proofs.Tasks.{named_more, named_whole}

@@ -1,6 +1,6 @@
 use Rattle.std.proofs.Common.{[], ◌∷◌, ap, map}
 use Rattle.faults.proofs.Results.{passed_on}
-use Rattle.typing_formulas.specs.declared.atoms.Atom.{Atom}
+use Rattle.task_parts.specs.declared.atoms.Atom.{Atom}
 use Rattle.typing.specs.TaskParts.{atom_of}
 use Rattle.model.specs.NumberedAtoms.{with_atoms}
 use Rattle.model.proofs.NumberingLemmas.{numbered-end}

@@ -1,6 +1,6 @@
 use Rattle.std.proofs.Common.{◌≡◌, filter, map}
 use Rattle.std.specs.Map.Iter.{deref}
-use Rattle.typing_formulas.specs.declared.atoms.ObjectId.{ObjectId}
+use Rattle.task_parts.specs.declared.atoms.ObjectId.{ObjectId}
 use Rattle.typing.specs.Task.{task_of}
 use Rattle.typing.specs.TaskParts.{union_of}
 use Rattle.model.specs.Meaning.{is_of}

@@ -1,9 +1,9 @@
-use Rattle.typing_formulas.specs.Walk.{least_of}
-use Rattle.typing_formulas.specs.Scope.{names_in}
+use Rattle.task_parts.specs.Walk.{least_of}
+use Rattle.task_parts.specs.Scope.{names_in}
 use Rattle.syntax_tree.specs.Tree as read
 use Rattle.model.specs.Trees.{domain_file}
 use Rattle.model.specs.Typing as typing
-use Rattle.typing_formulas.proofs.Found as finding
+use Rattle.task_parts.proofs.Found as finding
 use Rattle.syntax_tree.specs.declared.tree.Action.{Action}
 use Rattle.typing.proofs.actions.declare_actions.Goals as goal
 

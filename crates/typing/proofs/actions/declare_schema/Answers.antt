@@ -1,10 +1,10 @@
 use Rattle.std.proofs.Common.{◌≡◌, ◌∙◌, map, refl, ap}
-use Rattle.typing_formulas.specs.TaskParts as parts
-use Rattle.typing_formulas.specs.Scope.{known_outside}
+use Rattle.task_parts.specs.TaskParts as parts
+use Rattle.task_parts.specs.Scope.{known_outside}
 use Rattle.syntax_tree.specs.Tree as read
 use Rattle.model.specs.Task as task
 use Rattle.model.specs.Typing as typing
-use Rattle.typing_formulas.proofs.Tables as tables
+use Rattle.task_parts.proofs.Tables as tables
 use Rattle.typing.proofs.actions.declare_schema.Goals as goal
 
 pub returns-clause-names : goal.returns-clause-names

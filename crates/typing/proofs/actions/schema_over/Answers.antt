@@ -1,13 +1,13 @@
 use Rattle.std.proofs.Common.{◌≡◌, ◌∙◌, [], map, ap}
 use Rattle.std.proofs.lemmas.Result.{IfOk-weaker}
-use Rattle.typing_formulas.specs.TaskParts as parts
-use Rattle.typing_formulas.specs.Scope.{known_outside, variable_entry_of}
-use Rattle.typing_formulas.specs.Walk.{found, least_of}
+use Rattle.task_parts.specs.TaskParts as parts
+use Rattle.task_parts.specs.Scope.{known_outside, variable_entry_of}
+use Rattle.task_parts.specs.Walk.{found, least_of}
 use Rattle.syntax_tree.specs.Tree as read
 use Rattle.model.specs.Trees.{domain_file}
 use Rattle.model.specs.Typing as typing
-use Rattle.typing_formulas.proofs.Found.{found_after}
-use Rattle.typing_formulas.proofs.Tells.{on_ok_weaker}
+use Rattle.task_parts.proofs.Found.{found_after}
+use Rattle.task_parts.proofs.Tells.{on_ok_weaker}
 use Rattle.typing.proofs.actions.schema_over.Goals.{In_ok-parameters}
 use Rattle.typing.proofs.actions.schema_over.Goals as goal
 

@@ -1,14 +1,14 @@
 use Rattle.std.proofs.Common.{◌≡◌, ◌∙◌, List, [], ◌++◌, map, None, ap, sym}
 use Rattle.std.specs.List.{flat_map}
-use Rattle.typing_formulas.specs.Walk.{found, least_of}
-use Rattle.typing_formulas.specs.TaskParts as parts
-use Rattle.typing_formulas.specs.Scope.{known_outside}
+use Rattle.task_parts.specs.Walk.{found, least_of}
+use Rattle.task_parts.specs.TaskParts as parts
+use Rattle.task_parts.specs.Scope.{known_outside}
 use Rattle.syntax_tree.specs.Tree as read
 use Rattle.model.specs.Trees.{domain_file}
 use Rattle.model.specs.Typing as typing
-use Rattle.typing_formulas.proofs.Found as finding
-use Rattle.typing_formulas.proofs.Tells as telling
-use Rattle.typing_formulas.proofs.Empty as empty
+use Rattle.task_parts.proofs.Found as finding
+use Rattle.task_parts.proofs.Tells as telling
+use Rattle.task_parts.proofs.Empty as empty
 use Rattle.syntax_tree.specs.declared.tree.Action.{Action}
 use Rattle.model.specs.Trees as tree
 use Rattle.std.proofs.lemmas.List.Folds.{flat_map-map}

@@ -1,13 +1,13 @@
 use Rattle.std.proofs.Common.{map}
-use Rattle.typing_formulas.specs.Walk.{least_of}
-use Rattle.typing_formulas.specs.TaskParts as parts
-use Rattle.typing_formulas.specs.Scope.{known_outside}
+use Rattle.task_parts.specs.Walk.{least_of}
+use Rattle.task_parts.specs.TaskParts as parts
+use Rattle.task_parts.specs.Scope.{known_outside}
 use Rattle.syntax_tree.specs.Tree as read
 use Rattle.model.specs.Trees.{domain_file}
 use Rattle.model.specs.Task as task
 use Rattle.model.specs.Typing as typing
 use Rattle.typing.proofs.TableSteps as tables
-use Rattle.typing_formulas.proofs.Found as finding
+use Rattle.task_parts.proofs.Found as finding
 use Rattle.syntax_tree.specs.declared.tree.Action.{Action}
 use Rattle.typing.proofs.actions.table.Goals as goal
 

@@ -1,10 +1,10 @@
 use Rattle.std.proofs.Common.{◌∙◌, map, refl, ap}
 use Rattle.typing.specs.Chains.{type_numbered}
 use Rattle.model.specs.Task as task
-use Rattle.typing_formulas.specs.TaskParts as parts
-use Rattle.typing_formulas.specs.TypedLists.{declared_of}
+use Rattle.task_parts.specs.TaskParts as parts
+use Rattle.task_parts.specs.TypedLists.{declared_of}
 use Rattle.syntax_tree.specs.Tree as read
-use Rattle.typing_formulas.proofs.Tables as tables
+use Rattle.task_parts.proofs.Tables as tables
 use Rattle.typing.proofs.chains.add_type.Goals as goal
 
 pub returns-clause-names : goal.returns-clause-names

@@ -1,7 +1,7 @@
 use Rattle.std.proofs.Common.{map}
-use Rattle.typing_formulas.specs.TaskParts as parts
-use Rattle.typing_formulas.specs.TypedLists.{declared_of}
-use Rattle.typing_formulas.specs.Walk.{least_of}
+use Rattle.task_parts.specs.TaskParts as parts
+use Rattle.task_parts.specs.TypedLists.{declared_of}
+use Rattle.task_parts.specs.Walk.{least_of}
 use Rattle.typing.proofs.ChainSteps.{cycle_step, cycle_end}
 use Rattle.typing.proofs.chains.check_cycles.Goals as goal
 

@@ -1,7 +1,7 @@
 use Rattle.std.proofs.Common.{◌≡◌, ◌+◌, map, drop}
-use Rattle.typing_formulas.specs.Walk.{found, least_of}
-use Rattle.typing_formulas.specs.TaskParts as parts
-use Rattle.typing_formulas.specs.TypedLists.{declared_of}
+use Rattle.task_parts.specs.Walk.{found, least_of}
+use Rattle.task_parts.specs.TaskParts as parts
+use Rattle.task_parts.specs.TypedLists.{declared_of}
 use Rattle.model.specs.Typing as typing
 use Rattle.typing.proofs.chains.check_cycles.Given as goal
 

@@ -1,13 +1,13 @@
 use Rattle.std.proofs.Common.{◌∙◌, ◌+◌, List, [], ◌∷◌, ◌++◌, codes, map, refl, ap, sym}
 use Rattle.std.proofs.lemmas.List.{append-nil, drop_all}
-use Rattle.typing_formulas.specs.TaskParts as parts
-use Rattle.typing_formulas.specs.TypedLists.{declared_of, placed_of}
+use Rattle.task_parts.specs.TaskParts as parts
+use Rattle.task_parts.specs.TypedLists.{declared_of, placed_of}
 use Rattle.syntax_tree.specs.Tree as read
 use Rattle.model.specs.Task as task
 use Rattle.model.specs.Typing as typing
 use Rattle.typing.specs.Chains.{type_numbered}
-use Rattle.typing_formulas.specs.declared.typed_lists.Declared.{Declared}
-use Rattle.typing_formulas.proofs.Found.{map-map}
+use Rattle.task_parts.specs.declared.typed_lists.Declared.{Declared}
+use Rattle.task_parts.proofs.Found.{map-map}
 use Rattle.typing.proofs.TableSteps as tables
 use Rattle.typing.proofs.chains.table.Goals as goal
 

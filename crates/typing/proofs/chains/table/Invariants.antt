@@ -1,6 +1,6 @@
 use Rattle.std.proofs.Common.{◌≡◌, ◌+◌, ◌++◌, [], ◌∷◌, codes, map, drop}
-use Rattle.typing_formulas.specs.TaskParts as parts
-use Rattle.typing_formulas.specs.TypedLists.{placed_of}
+use Rattle.task_parts.specs.TaskParts as parts
+use Rattle.task_parts.specs.TypedLists.{placed_of}
 use Rattle.syntax_tree.specs.Tree as read
 use Rattle.model.specs.Typing as typing
 use Rattle.typing.proofs.chains.table.Given as goal

@@ -1,12 +1,12 @@
 use Rattle.std.proofs.Common.{◌≡◌, ◌∙◌, [], ◌∷◌, codes, map, None, ap}
 use Rattle.std.proofs.lemmas.Result.{IfOk-weaker}
-use Rattle.typing_formulas.specs.TaskParts as parts
-use Rattle.typing_formulas.specs.TypedLists.{declared_of}
-use Rattle.typing_formulas.specs.Scope.{names_in}
-use Rattle.typing_formulas.specs.Walk.{found, least_of}
+use Rattle.task_parts.specs.TaskParts as parts
+use Rattle.task_parts.specs.TypedLists.{declared_of}
+use Rattle.task_parts.specs.Scope.{names_in}
+use Rattle.task_parts.specs.Walk.{found, least_of}
 use Rattle.model.specs.Typing as typing
 use Rattle.typing.specs.Chains.{AreTypes, cycles}
-use Rattle.typing_formulas.proofs.Tells as telling
+use Rattle.task_parts.proofs.Tells as telling
 use Rattle.typing.proofs.chains.types.Goals as goal
 
 pub returns : goal.returns

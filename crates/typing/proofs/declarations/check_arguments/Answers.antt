@@ -1,11 +1,11 @@
 use Rattle.std.proofs.Common.{◌∙◌, ◌++◌, List, ap, map}
-use Rattle.typing_formulas.specs.TypedLists.{declared_of}
-use Rattle.typing_formulas.specs.Walk.{found, least_of}
-use Rattle.typing_formulas.specs.Scope.{names_in}
+use Rattle.task_parts.specs.TypedLists.{declared_of}
+use Rattle.task_parts.specs.Walk.{found, least_of}
+use Rattle.task_parts.specs.Scope.{names_in}
 use Rattle.syntax_tree.specs.Tree as read
 use Rattle.model.specs.Trees.{domain_file}
 use Rattle.model.specs.Typing as typing
-use Rattle.typing_formulas.proofs.Found.{found_after}
+use Rattle.task_parts.proofs.Found.{found_after}
 use Rattle.typing.proofs.declarations.check_arguments.Goals as goal
 
 pub returns : goal.returns

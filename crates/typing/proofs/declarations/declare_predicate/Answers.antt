@@ -1,12 +1,12 @@
 use Rattle.std.proofs.Common.{◌∙◌, [], ◌∷◌, map, refl, ap, sym, if◌then◌else◌, is_some}
-use Rattle.typing_formulas.specs.declared.schemas.Predicate.{Predicate}
-use Rattle.typing_formulas.specs.Walk.{found, least_of}
-use Rattle.typing_formulas.specs.TaskParts as parts
-use Rattle.typing_formulas.specs.Scope.{names_in}
+use Rattle.task_parts.specs.declared.schemas.Predicate.{Predicate}
+use Rattle.task_parts.specs.Walk.{found, least_of}
+use Rattle.task_parts.specs.TaskParts as parts
+use Rattle.task_parts.specs.Scope.{names_in}
 use Rattle.syntax_tree.specs.Tree as read
 use Rattle.model.specs.Trees.{domain_file}
 use Rattle.model.specs.Typing as typing
-use Rattle.typing_formulas.proofs.Tables as tables
+use Rattle.task_parts.proofs.Tables as tables
 use Rattle.typing.proofs.declarations.declare_predicate.Goals as goal
 
 pub returns : goal.returns

@@ -1,12 +1,12 @@
 use Rattle.std.proofs.Common.{◌≡◌, ◌∙◌, List, [], ◌++◌, map, fold, ap, sym}
 use Rattle.std.specs.List.{flat_map}
-use Rattle.typing_formulas.specs.Walk.{found, least_of}
-use Rattle.typing_formulas.specs.Scope.{names_in}
+use Rattle.task_parts.specs.Walk.{found, least_of}
+use Rattle.task_parts.specs.Scope.{names_in}
 use Rattle.syntax_tree.specs.Tree as read
 use Rattle.model.specs.Trees.{domain_file}
 use Rattle.model.specs.Typing as typing
-use Rattle.typing_formulas.proofs.Found as finding
-use Rattle.typing_formulas.proofs.Empty as empty
+use Rattle.task_parts.proofs.Found as finding
+use Rattle.task_parts.proofs.Empty as empty
 use Rattle.syntax_tree.specs.declared.tree.Predicate.{Predicate}
 use Rattle.model.specs.Task as task
 use Rattle.model.specs.Trees as tree

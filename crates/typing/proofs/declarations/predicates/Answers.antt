@@ -1,10 +1,10 @@
 use Rattle.std.proofs.Common.{◌≡◌, ◌∙◌, [], map, None, ap}
-use Rattle.typing_formulas.specs.Walk.{found, least_of}
-use Rattle.typing_formulas.specs.TaskParts as parts
-use Rattle.typing_formulas.specs.Scope.{names_in}
+use Rattle.task_parts.specs.Walk.{found, least_of}
+use Rattle.task_parts.specs.TaskParts as parts
+use Rattle.task_parts.specs.Scope.{names_in}
 use Rattle.syntax_tree.specs.Tree as read
 use Rattle.model.specs.Typing as typing
-use Rattle.typing_formulas.proofs.Tells as telling
+use Rattle.task_parts.proofs.Tells as telling
 use Rattle.typing.proofs.declarations.predicates.Goals as goal
 
 pub returns : goal.returns

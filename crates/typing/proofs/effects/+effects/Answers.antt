@@ -1,6 +1,6 @@
 use Rattle.typing.specs.Task.{file_of}
-use Rattle.typing_formulas.specs.Scope.{known_over}
-use Rattle.typing_formulas.specs.Walk.{least_of}
+use Rattle.task_parts.specs.Scope.{known_over}
+use Rattle.task_parts.specs.Walk.{least_of}
 use Rattle.typing.proofs.EffectTrees.{both_by_parts, both_faults_by_parts}
 use Rattle.typing.proofs.effects.+effects.Goals as goal
 

@@ -1,9 +1,9 @@
 use Rattle.std.proofs.Common.{◌≡◌, map, take, drop}
 use Rattle.std.specs.List.{flat_map}
-use Rattle.typing_formulas.specs.TaskParts as parts
-use Rattle.typing_formulas.specs.Scope.{known_over}
+use Rattle.task_parts.specs.TaskParts as parts
+use Rattle.task_parts.specs.Scope.{known_over}
 use Rattle.typing.specs.Task.{file_of}
-use Rattle.typing_formulas.specs.Walk.{found, least_of}
+use Rattle.task_parts.specs.Walk.{found, least_of}
 use Rattle.syntax_tree.specs.Tree as read
 use Rattle.model.specs.Typing as typing
 use Rattle.typing.proofs.effects.+effects.Given as goal

@@ -1,11 +1,11 @@
 use Rattle.std.proofs.Common.{refl}
 use Rattle.typing.specs.Task.{file_of}
-use Rattle.typing_formulas.specs.Scope.{known_over}
-use Rattle.typing_formulas.specs.Walk.{least_of}
+use Rattle.task_parts.specs.Scope.{known_over}
+use Rattle.task_parts.specs.Walk.{least_of}
 use Rattle.syntax_tree.specs.declared.tree.Increase.{Increase}
 use Rattle.syntax_tree.specs.Tree as read
 use Rattle.model.specs.Typing as typing
-use Rattle.typing_formulas.proofs.Found as finding
+use Rattle.task_parts.proofs.Found as finding
 use Rattle.typing.proofs.functions.check_amounts.Goals as goal
 
 pub loop-increase-preserved : goal.loop-increase-preserved

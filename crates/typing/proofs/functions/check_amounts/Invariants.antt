@@ -1,8 +1,8 @@
 use Rattle.std.proofs.Common.{◌≡◌, drop}
 use Rattle.std.specs.List.{flat_map}
 use Rattle.typing.specs.Task.{file_of}
-use Rattle.typing_formulas.specs.Scope.{known_over}
-use Rattle.typing_formulas.specs.Walk.{found, least_of}
+use Rattle.task_parts.specs.Scope.{known_over}
+use Rattle.task_parts.specs.Walk.{found, least_of}
 use Rattle.syntax_tree.specs.Tree as read
 use Rattle.model.specs.Typing as typing
 use Rattle.typing.proofs.functions.check_amounts.Given as goal

@@ -1,16 +1,16 @@
 use Rattle.std.proofs.Common.{◌≡◌, ◌∙◌, [], ◌++◌, if◌then◌else◌, map, fold, None, ap}
 use Rattle.std.specs.List.{list_any}
 use Rattle.std.specs.Option.{option_map_or}
-use Rattle.typing_formulas.specs.Scope.{names_in}
-use Rattle.typing_formulas.specs.Walk.{found, least_of}
-use Rattle.typing_formulas.specs.TaskParts as parts
+use Rattle.task_parts.specs.Scope.{names_in}
+use Rattle.task_parts.specs.Walk.{found, least_of}
+use Rattle.task_parts.specs.TaskParts as parts
 use Rattle.syntax_tree.specs.Tree as read
 use Rattle.model.specs.Trees as tree
 use Rattle.model.specs.Trees.{problem_file}
 use Rattle.model.specs.Typing as typing
-use Rattle.typing_formulas.proofs.Empty as empty
-use Rattle.typing_formulas.proofs.Found as finding
-use Rattle.typing_formulas.proofs.Tells as telling
+use Rattle.task_parts.proofs.Empty as empty
+use Rattle.task_parts.proofs.Found as finding
+use Rattle.task_parts.proofs.Tells as telling
 use Rattle.typing.proofs.Costs.{cost_declared, metric_faults, metric_told}
 use Rattle.typing.proofs.functions.functions.Goals as goal
 

@@ -1,13 +1,13 @@
 use Rattle.std.proofs.Common.{◌≡◌, ◌≤◌, ◌∙◌, [], ◌++◌, map, length, None, ap, arith}
-use Rattle.typing_formulas.specs.Walk.{found, least_of}
-use Rattle.typing_formulas.specs.TaskParts as parts
-use Rattle.typing_formulas.specs.TypedLists.{declared_of}
-use Rattle.typing_formulas.specs.Scope.{names_in}
+use Rattle.task_parts.specs.Walk.{found, least_of}
+use Rattle.task_parts.specs.TaskParts as parts
+use Rattle.task_parts.specs.TypedLists.{declared_of}
+use Rattle.task_parts.specs.Scope.{names_in}
 use Rattle.model.specs.Typing as typing
 use Rattle.std.proofs.lemmas.List.{length-map}
-use Rattle.typing_formulas.proofs.Found as finding
-use Rattle.typing_formulas.proofs.Tells as telling
-use Rattle.typing_formulas.proofs.Empty as empty
+use Rattle.task_parts.proofs.Found as finding
+use Rattle.task_parts.proofs.Tells as telling
+use Rattle.task_parts.proofs.Empty as empty
 use Rattle.typing.proofs.objects.all.Goals as goal
 
 pub returns : goal.returns

@@ -1,10 +1,10 @@
 use Rattle.std.proofs.Common.{◌∙◌, [], ◌∷◌, map, refl, ap, sym, if◌then◌else◌, is_some}
-use Rattle.typing_formulas.specs.Walk.{found, least_of}
-use Rattle.typing_formulas.specs.TaskParts as parts
-use Rattle.typing_formulas.specs.TypedLists.{declared_of}
-use Rattle.typing_formulas.specs.Scope.{names_in}
+use Rattle.task_parts.specs.Walk.{found, least_of}
+use Rattle.task_parts.specs.TaskParts as parts
+use Rattle.task_parts.specs.TypedLists.{declared_of}
+use Rattle.task_parts.specs.Scope.{names_in}
 use Rattle.model.specs.Typing as typing
-use Rattle.typing_formulas.proofs.Tables as tables
+use Rattle.task_parts.proofs.Tables as tables
 use Rattle.typing.proofs.objects.declare_object.Goals as goal
 
 pub returns : goal.returns

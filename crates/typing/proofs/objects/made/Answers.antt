@@ -1,10 +1,10 @@
 use Rattle.std.proofs.Common.{◌≡◌, ◌≤◌, ◌∙◌, [], ◌++◌, map, length, ap, sym, arith}
 use Rattle.std.proofs.lemmas.List.{length-map, length-append, map-append}
-use Rattle.typing_formulas.specs.Scope.{names_in}
-use Rattle.typing_formulas.specs.TaskParts.{object_entry_of}
-use Rattle.typing_formulas.specs.TypedLists.{declared_of}
+use Rattle.task_parts.specs.Scope.{names_in}
+use Rattle.task_parts.specs.TaskParts.{object_entry_of}
+use Rattle.task_parts.specs.TypedLists.{declared_of}
 use Rattle.model.specs.Typing as typing
-use Rattle.typing_formulas.proofs.Empty as empty
+use Rattle.task_parts.proofs.Empty as empty
 use Rattle.typing.proofs.objects.made.Goals.{In_ok-constants}
 use Rattle.typing.proofs.objects.made.Goals as goal
 

@@ -1,8 +1,8 @@
 use Rattle.std.proofs.Common.{◌∙◌, ◌++◌, map, ap, subst, IfErr}
 use Rattle.syntax_tree.specs.Tree as read
-use Rattle.typing_formulas.specs.Scope.{names_in}
+use Rattle.task_parts.specs.Scope.{names_in}
 use Rattle.typing.specs.Task.{TellsLeastOf}
-use Rattle.typing_formulas.specs.TypedLists.{declared_of}
+use Rattle.task_parts.specs.TypedLists.{declared_of}
 use Rattle.model.specs.Trees.{domain_file, problem_file}
 use Rattle.model.specs.Typing as typing
 use Rattle.typing.proofs.objects.of_pair.Goals as goal

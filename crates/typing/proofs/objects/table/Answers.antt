@@ -1,14 +1,14 @@
 use Rattle.std.proofs.Common.{◌∙◌, [], map, ap, sym}
-use Rattle.typing_formulas.specs.Walk.{found, least_of}
-use Rattle.typing_formulas.specs.TaskParts as parts
-use Rattle.typing_formulas.specs.TypedLists.{declared_of, placed_of}
-use Rattle.typing_formulas.specs.Scope.{names_in}
+use Rattle.task_parts.specs.Walk.{found, least_of}
+use Rattle.task_parts.specs.TaskParts as parts
+use Rattle.task_parts.specs.TypedLists.{declared_of, placed_of}
+use Rattle.task_parts.specs.Scope.{names_in}
 use Rattle.model.specs.Task as task
 use Rattle.model.specs.Typing as typing
 use Rattle.std.proofs.lemmas.List.{drop_all}
-use Rattle.typing_formulas.specs.declared.typed_lists.Declared.{Declared}
+use Rattle.task_parts.specs.declared.typed_lists.Declared.{Declared}
 use Rattle.typing.proofs.TableSteps as tables
-use Rattle.typing_formulas.proofs.Found as finding
+use Rattle.task_parts.proofs.Found as finding
 use Rattle.typing.proofs.objects.table.Goals as goal
 
 pub loop-one-preserved : goal.loop-one-preserved

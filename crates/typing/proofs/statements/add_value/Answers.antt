@@ -1,13 +1,13 @@
 use Rattle.std.proofs.Common.{◌≡◌, ◌∙◌, None, Some, if◌then◌else◌, map, ap, sym}
 use Rattle.std.specs.Option.{option_map}
-use Rattle.typing_formulas.specs.Scope.{known_of}
-use Rattle.typing_formulas.specs.Walk.{found, least_of}
-use Rattle.typing_formulas.specs.TaskParts as parts
+use Rattle.task_parts.specs.Scope.{known_of}
+use Rattle.task_parts.specs.Walk.{found, least_of}
+use Rattle.task_parts.specs.TaskParts as parts
 use Rattle.syntax_tree.specs.Tree as read
 use Rattle.model.specs.Trees as tree
 use Rattle.model.specs.Typing as typing
-use Rattle.typing_formulas.proofs.Found.{found_after}
-use Rattle.typing_formulas.proofs.Tells.{on_ok_weaker}
+use Rattle.task_parts.proofs.Found.{found_after}
+use Rattle.task_parts.proofs.Tells.{on_ok_weaker}
 use Rattle.typing.proofs.Values.{told_of_named}
 use Rattle.typing.proofs.statements.add_value.Goals as goal
 

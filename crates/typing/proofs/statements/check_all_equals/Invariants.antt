@@ -1,6 +1,6 @@
 use Rattle.std.proofs.Common.{◌≡◌, map, drop, if◌then◌else◌}
 use Rattle.typing.specs.Task.{file_of}
-use Rattle.typing_formulas.specs.Walk.{found, least_of}
+use Rattle.task_parts.specs.Walk.{found, least_of}
 use Rattle.syntax_tree.specs.Tree as read
 use Rattle.model.specs.Typing as typing
 use Rattle.typing.proofs.statements.check_all_equals.Given as goal

@@ -1,11 +1,11 @@
 use Rattle.std.proofs.Common.{◌≡◌, ◌∙◌, None, ap}
 use Rattle.typing.specs.Task.{file_of}
-use Rattle.typing_formulas.specs.Scope.{known_outside, known_over}
-use Rattle.typing_formulas.specs.Walk.{found, least_of}
-use Rattle.typing_formulas.specs.TaskParts as parts
+use Rattle.task_parts.specs.Scope.{known_outside, known_over}
+use Rattle.task_parts.specs.Walk.{found, least_of}
+use Rattle.task_parts.specs.TaskParts as parts
 use Rattle.syntax_tree.specs.Tree as read
 use Rattle.model.specs.Typing as typing
-use Rattle.typing_formulas.proofs.Tells as telling
+use Rattle.task_parts.proofs.Tells as telling
 use Rattle.typing.proofs.statements.goal.Goals as goal
 
 pub returns : goal.returns

@@ -1,13 +1,13 @@
 use Rattle.std.proofs.Common.{◌≡◌, ◌∙◌, [], map, drop, None, ap}
 use Rattle.std.specs.List.{flat_map}
 use Rattle.typing.specs.Task.{file_of}
-use Rattle.typing_formulas.specs.Scope.{known_over, narrow_atoms_in}
-use Rattle.typing_formulas.specs.Walk.{found, least_of}
-use Rattle.typing_formulas.specs.TaskParts as parts
+use Rattle.task_parts.specs.Scope.{known_over, narrow_atoms_in}
+use Rattle.task_parts.specs.Walk.{found, least_of}
+use Rattle.task_parts.specs.TaskParts as parts
 use Rattle.syntax_tree.specs.Tree as read
 use Rattle.model.specs.Typing as typing
-use Rattle.typing_formulas.proofs.Found.{found_after}
-use Rattle.typing_formulas.proofs.Tells as telling
+use Rattle.task_parts.proofs.Found.{found_after}
+use Rattle.task_parts.proofs.Tells as telling
 use Rattle.typing.proofs.statements.init.Goals as goal
 
 pub returns : goal.returns

@@ -1,6 +1,6 @@
 use Rattle.std.proofs.Common.{List, [], map, sym, subst}
 use Rattle.std.specs.Prelude.{ℤ, pos}
-use Rattle.typing_formulas.specs.declared.atoms.Atom as code
+use Rattle.task_parts.specs.declared.atoms.Atom as code
 use Rattle.typing.specs.TaskParts.{atom_of}
 use Rattle.model.specs.Claims.{bound}
 use Rattle.certificate_listing.specs.Told.{HaveTold}

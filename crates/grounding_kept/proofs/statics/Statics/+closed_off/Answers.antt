@@ -1,6 +1,6 @@
 use Rattle.std.proofs.Common.{rules, arith, ◌≡◌, ℕ, Bool, ◌∙◌, ap, sym, subst, map, length, ◌++◌, ◌∷◌, []}
-use Rattle.typing_formulas.specs.declared.atoms.ObjectId.{ObjectId}
-use Rattle.typing_formulas.specs.declared.schemas.Formula.{the_lemmas}
+use Rattle.task_parts.specs.declared.atoms.ObjectId.{ObjectId}
+use Rattle.task_parts.specs.declared.schemas.Formula.{the_lemmas}
 use Rattle.typing.specs.Task.{task_of}
 use Rattle.formulas.specs.State.{state_of, FitsFormula}
 use Rattle.typing.specs.TaskParts.{object_of, formula_of, union_of}

@@ -7,7 +7,7 @@ use Rattle.typing.specs.declared.names.Objects.{Objects}
 use Rattle.model.specs.Task.{Name}
 use Rattle.model.specs.Trees.{problem_file, Domain, Problem}
 use Rattle.model.specs.Typing.{object_faults, objects_faults, declared_objects, declared_constants, known_in_problem, object_in, type_names}
-use Rattle.typing_formulas.proofs.Tells.{tells_here, tells_later}
+use Rattle.task_parts.proofs.Tells.{tells_here, tells_later}
 use Rattle.faults.proofs.Results.{passed_on}
 use Rattle.typing.proofs.names.Contents.over.Goals.{In_ok-objects, In_ok-names}
 use Rattle.typing.proofs.names.Contents.over.Goals as goal

@@ -1,10 +1,10 @@
 use Rattle.std.proofs.Common.{◌≡◌, [], ◌∷◌, ◌∙◌, map, ap, sym, subst}
 use Rattle.syntax_tree.specs.Tree.{domain_of, problem_of}
 use Rattle.typing.specs.Task.{TellsLeastOf}
-use Rattle.typing_formulas.specs.TaskParts as parts
+use Rattle.task_parts.specs.TaskParts as parts
 use Rattle.typing.specs.Names.{domain_faults, known_in}
 use Rattle.model.specs.Typing.{declaration_faults, function_faults, action_faults, known_in_domain, predicates_of, predicate_in, schema_in, type_names, first_filled}
-use Rattle.typing_formulas.proofs.Tells.{tells_here, tells_later}
+use Rattle.task_parts.proofs.Tells.{tells_here, tells_later}
 use Rattle.faults.proofs.Results.{passed_on}
 use Rattle.typing.proofs.names.Names.declared.Goals.{In_ok-predicates, In_ok-functions}
 use Rattle.typing.proofs.names.Names.declared.Goals as goal

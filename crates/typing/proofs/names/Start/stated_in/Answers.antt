@@ -2,10 +2,10 @@ use Rattle.std.proofs.Common.{◌≡◌, ◌∙◌, [], ◌∷◌, ap, sym, subs
 use Rattle.std.specs.List.{flat_map}
 use Rattle.syntax_tree.specs.Tree.{problem_of}
 use Rattle.typing.specs.Task.{file_of, TellsLeastOf}
-use Rattle.typing_formulas.specs.Scope.{known_outside, known_over, narrow_atoms_in}
+use Rattle.task_parts.specs.Scope.{known_outside, known_over, narrow_atoms_in}
 use Rattle.typing.specs.Names.{stated_faults_in}
 use Rattle.model.specs.Typing.{init_faults, formula_faults, first_filled, values_after}
-use Rattle.typing_formulas.proofs.Tells.{tells_here, tells_later}
+use Rattle.task_parts.proofs.Tells.{tells_here, tells_later}
 use Rattle.faults.proofs.Results.{passed_on}
 use Rattle.typing.proofs.names.Start.stated_in.Goals.{After-new-variables}
 use Rattle.typing.proofs.names.Start.stated_in.Goals as goal

@@ -2,19 +2,19 @@ use Rattle.std.proofs.Common.{◌≡◌, ◌≤◌, ◌∙◌, [], ◌∷◌, �
 use Rattle.std.proofs.lemmas.List.{length-map}
 use Rattle.syntax_tree.specs.Tree.{domain_of, problem_of, group_of}
 use Rattle.typing.specs.Chains.{cycles}
-use Rattle.typing_formulas.specs.Scope.{names_in}
+use Rattle.task_parts.specs.Scope.{names_in}
 use Rattle.typing.specs.Task.{TellsLeastOf}
-use Rattle.typing_formulas.specs.TaskParts.{type_entry_of}
-use Rattle.typing_formulas.specs.TypedLists.{declared_of}
+use Rattle.task_parts.specs.TaskParts.{type_entry_of}
+use Rattle.task_parts.specs.TypedLists.{declared_of}
 use Rattle.typing.specs.Names.{type_faults_of}
 use Rattle.model.specs.Trees.{domain_file}
 use Rattle.model.specs.Trees as tree
 use Rattle.model.specs.Typing as typing
-use Rattle.typing_formulas.proofs.Empty as empty
+use Rattle.task_parts.proofs.Empty as empty
 use Rattle.model.specs.Typing.{first_filled}
-use Rattle.typing_formulas.proofs.Declared.{names_are}
+use Rattle.task_parts.proofs.Declared.{names_are}
 use Rattle.typing.proofs.Declaring.{length-types}
-use Rattle.typing_formulas.proofs.Tells.{tells_here, tells_later}
+use Rattle.task_parts.proofs.Tells.{tells_here, tells_later}
 use Rattle.faults.proofs.Results.{passed_on}
 use Rattle.typing.proofs.names.Types.declared.Goals.{In_ok-names, In_ok-all}
 use Rattle.typing.proofs.names.Types.declared.Goals as goal

@@ -1,8 +1,8 @@
 use Rattle.std.proofs.Common.{◌∙◌, map, ap, refl, sym}
 use Rattle.typing.specs.Task.{task_of}
-use Rattle.typing_formulas.specs.TaskParts.{object_of, union_of}
+use Rattle.task_parts.specs.TaskParts.{object_of, union_of}
 use Rattle.model.specs.Meaning.{is_of}
-use Rattle.typing_formulas.proofs.Lists.{kept_so, kept_not}
+use Rattle.task_parts.proofs.Lists.{kept_so, kept_not}
 use Rattle.typing.proofs.task.Task.objects_of.Goals.{then-is_of+in_ok-push, else-is_of}
 use Rattle.typing.proofs.task.Task.objects_of.Goals as goal
 

@@ -2,7 +2,7 @@ use Rattle.std.proofs.Common.{◌≡◌, map}
 use Rattle.std.specs.Prelude.{filter}
 use Rattle.std.specs.List.{range_with_len}
 use Rattle.typing.specs.Task.{task_of}
-use Rattle.typing_formulas.specs.TaskParts.{object_of, union_of}
+use Rattle.task_parts.specs.TaskParts.{object_of, union_of}
 use Rattle.model.specs.Meaning.{is_of}
 use Rattle.typing.proofs.task.Task.objects_of.Given as goal
 

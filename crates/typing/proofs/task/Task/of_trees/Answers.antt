@@ -1,7 +1,7 @@
 use Rattle.std.proofs.Common.{◌∙◌, sym}
 use Rattle.syntax_tree.specs.Tree.{domain_of, problem_of, name_of}
 use Rattle.typing.specs.Task.{TellsLeastFault}
-use Rattle.typing_formulas.specs.TaskParts.{task_of_parts}
+use Rattle.task_parts.specs.TaskParts.{task_of_parts}
 use Rattle.typing.proofs.Tasks.{made_by_phases, told_of_types, told_of_contents, IsMade}
 use Rattle.typing.proofs.Costs.{is_some-map}
 use Rattle.faults.proofs.Results.{passed_on}

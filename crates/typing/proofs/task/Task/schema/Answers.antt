@@ -2,7 +2,7 @@ use Rattle.std.proofs.Common.{◌≡◌, ◌∙◌, ap, sym, Some, slice_get, ar
 use Rattle.std.specs.Option.{option_map}
 use Rattle.std.proofs.lemmas.List.{length-map}
 use Rattle.std.proofs.lemmas.Option.{slice_get-map}
-use Rattle.typing_formulas.specs.TaskParts.{shape_of, shape_of_schema, schema_of, union_of}
+use Rattle.task_parts.specs.TaskParts.{shape_of, shape_of_schema, schema_of, union_of}
 use Rattle.typing.specs.Task.{task_of}
 use Rattle.typing.proofs.Shapes.{few_parameters}
 use Rattle.typing.proofs.task.Task.schema.Goals as goal

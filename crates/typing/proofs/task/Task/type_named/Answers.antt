@@ -1,7 +1,7 @@
 use Rattle.std.proofs.Common.{◌∙◌, ap, refl}
 use Rattle.std.specs.Option.{option_map}
-use Rattle.typing_formulas.specs.TaskParts as parts
-use Rattle.typing_formulas.proofs.Tables.{named_at}
+use Rattle.task_parts.specs.TaskParts as parts
+use Rattle.task_parts.proofs.Tables.{named_at}
 use Rattle.typing.proofs.task.Task.type_named.Goals as goal
 
 pub returns-in_err-number : goal.returns-in_err-number

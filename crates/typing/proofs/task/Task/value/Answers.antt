@@ -1,5 +1,5 @@
 use Rattle.std.proofs.Common.{◌∙◌}
-use Rattle.typing_formulas.proofs.AtomEquality.{value-alike}
+use Rattle.task_parts.proofs.AtomEquality.{value-alike}
 use Rattle.typing.proofs.task.Task.value.Goals as goal
 
 pub returns : goal.returns

@@ -1,0 +1,72 @@
+-- What the names of formulas, effects and atoms stand for, in the model's terms.
+use Rattle.std.specs.Prelude.{◌≡◌, ℕ, List, [], ◌∷◌, map, take, ◌++◌, slice_get, Option}
+use Rattle.std.specs.Global.{Vec}
+use Rattle.std.specs.Map.{keys_of}
+use Rattle.std.specs.Option.{option_map_or}
+use Rattle.task_parts.specs.declared.schemas.TypeUnion.{TypeUnion}
+use Rattle.task_parts.specs.declared.scope.Globals.{Globals}
+use Rattle.task_parts.specs.declared.scope.Scope.{Scope}
+use Rattle.task_parts.specs.TaskParts.{object_entry_of, predicate_of, type_entry_of, union_of}
+use Rattle.model.specs.Task as task
+use Rattle.model.specs.Trees as tree
+use Rattle.model.specs.Trees.{File}
+use Rattle.model.specs.Typing.{Known, TypingFault, Variable, atom_in, term_faults, misfit_faults}
+
+-- the names that a table has
+abbrev pub names_in : List (Vec ℕ) → List task.Name
+names_in keys = map (λ name. name.items) keys
+
+-- the names that a table has for something
+abbrev pub keys_in : {V : Type 0} → List (Vec ℕ × V) → List task.Name
+keys_in entries = names_in (keys_of entries)
+
+abbrev pub variable_entry_of : Vec ℕ × TypeUnion → Variable
+variable_entry_of entry = record { name = entry.0.items; types = union_of entry.1 }
+
+abbrev pub known_of : Scope → Known
+known_of s = record {
+  type_names = names_in s.type_names.now.names.keys;
+  types = map type_entry_of s.types.now.entries;
+  predicates = map predicate_of s.predicates.now.entries;
+  functions = map predicate_of s.functions.now.entries;
+  variables = map variable_entry_of s.variables.now.entries;
+  objects = map object_entry_of s.objects.now.entries;
+}
+
+-- the variables that were in scope stand first among those that are
+abbrev pub BeginsWith : List (Vec ℕ × TypeUnion) → List (Vec ℕ × TypeUnion) → Type 0
+BeginsWith before after = (more : List (Vec ℕ × TypeUnion)) × (after ≡ before ++ more)
+
+-- what may be named in a file where these are the variables in scope
+abbrev pub known_over : Globals → List (Vec ℕ × TypeUnion) → Known
+known_over g variables = record {
+  type_names = names_in g.type_names.now.names.keys;
+  types = map type_entry_of g.types.now.entries;
+  predicates = map predicate_of g.predicates.now.entries;
+  functions = map predicate_of g.functions.now.entries;
+  variables = map variable_entry_of variables;
+  objects = map object_entry_of g.objects.now.entries;
+}
+
+-- what may be named where no variable is in scope
+abbrev pub known_outside : Globals → Known
+known_outside g = known_over g []
+
+-- what each argument of the predicate of this number has to be, if there is one
+abbrev pub arguments_at : Known → ℕ → List task.Union
+arguments_at known number = option_map_or (λ (p : task.Predicate). p.arguments) (slice_get known.predicates number) []
+
+-- the faults of a term where this is wanted
+abbrev pub argument_faults : File → Known → Option task.Union → tree.Term → List TypingFault
+argument_faults file known wanted term = term_faults file known term ++ misfit_faults file known wanted term
+
+-- an atom with as many of its objects as a predicate may have
+abbrev pub narrow_atom_in : Known → tree.GroundAtom → task.Atom
+narrow_atom_in known f = let a = atom_in known f in record { predicate = a.predicate; objects = take 8 a.objects }
+
+-- the atoms of the initial state, each with as many of its objects
+abbrev pub narrow_atoms_in : Known → tree.Fact → List task.Atom
+narrow_atoms_in known (tree.fact a) = narrow_atom_in known a ∷ []
+narrow_atoms_in known (tree.negated word a) = []
+narrow_atoms_in known (tree.initial_cost c) = []
+narrow_atoms_in known (tree.initial_value v) = []

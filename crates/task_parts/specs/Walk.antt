@@ -1,0 +1,29 @@
+-- What the walks over the trees find, in the model's terms.
+use Rattle.std.specs.Prelude.{◌≡◌, List, fold, Option, None, Some, if◌then◌else◌}
+use Rattle.std.specs.Option.{option_map}
+use Rattle.faults.specs.declared.refused.Refused.TheVariants.{At, NoMemory}
+use Rattle.task_parts.specs.declared.walk.Walk.{Walk}
+use Rattle.task_parts.specs.Refusals.{TaskFault, refusal_of}
+use Rattle.model.specs.Typing as typing
+
+abbrev pub least_of : Walk → Option typing.TypingFault
+least_of w = option_map refusal_of w.least
+
+-- the least of what was found before and of this fault
+abbrev pub earlier : Option typing.TypingFault → typing.TypingFault → Option typing.TypingFault
+earlier None f = Some f
+earlier (Some least) f = if typing.is_before f least then Some f else Some least
+
+-- the least of what was found before and of these faults
+abbrev pub found : Option typing.TypingFault → List typing.TypingFault → Option typing.TypingFault
+found before faults = fold earlier before faults
+
+-- the fault is told that was found; want of memory says nothing of it
+abbrev pub TellsFound : Option typing.TypingFault → TaskFault → Type 0
+TellsFound least NoMemory = Unit {0}
+TellsFound None (At r) = ⊥
+TellsFound (Some f) (At r) = refusal_of r ≡ f
+
+-- the walk went on to have found these faults too
+abbrev pub Finds : Walk → Walk → List typing.TypingFault → Type 0
+Finds old new faults = least_of new ≡ found (least_of old) faults

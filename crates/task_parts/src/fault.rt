@@ -1,0 +1,38 @@
+//! Why a pair of a domain and a problem is no task.
+ghost use Rattle.std.specs.Prelude.{◌≡◌};
+ghost use Rattle.task_parts.specs.Refusals.{refusal_of};
+ghost use Rattle.model.specs.Typing.{is_before};
+
+use faults::{Code, Refused, Span};
+use syntax_tree::TaskFile;
+
+/// A pair of a domain and a problem is not well-typed: this file is refused by this code, for what stands at this place
+/// of it.
+#[derive(Clone, Copy, Debug, PartialEq, Eq)]
+pub struct TaskRefusal {
+    /// The file that the place is in.
+    pub file: TaskFile,
+    /// What is wrong.
+    pub code: Code,
+    /// Where it stands.
+    pub span: Span,
+}
+
+/// Why a pair of a domain and a problem is no task.
+pub type TaskFault = Refused<TaskRefusal>;
+
+impl TaskRefusal {
+    /// Whether this refusal is told rather than the other: the domain comes before the problem, then the least start,
+    /// and then the lower number.
+    pub(crate) fn is_before(&self, other: &TaskRefusal) -> bool
+        ensures { result ≡ is_before (refusal_of self.now) (refusal_of other.now) }
+    {
+        if self.file != other.file {
+            self.file == TaskFile::Domain
+        } else if self.span.start != other.span.start {
+            self.span.start < other.span.start
+        } else {
+            self.code.number() < other.code.number()
+        }
+    }
+}

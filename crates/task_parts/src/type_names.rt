@@ -1,0 +1,120 @@
+//! The names of types become numbers.
+ghost use Rattle.std.specs.Prelude.{◌≡◌, ◌≤◌, [], ◌∷◌, length, map, IfOk};
+ghost use Rattle.task_parts.specs.TaskParts as parts;
+
+use crate::typed_lists::Declared;
+use crate::walk::fold;
+use crate::{TypeId, TypeUnion};
+use faults::NoMemory;
+use indexmap::IndexSet;
+use std::alloc::Global;
+use syntax_tree::Name;
+
+/// The names of the types, `object` first: each in the place of its number.
+#[derive(Drop)]
+pub struct TypeNames {
+    /// The names, in lower case.
+    pub names: IndexSet<Vec<u8>>,
+    ghost few: { length names.keys ≤ 4096 },
+}
+
+/// The type `object` alone.
+fn object_alone(alloc: Global) -> Result<Vec<TypeId>, NoMemory>
+    ensures { IfOk result (λ v. map parts.type_of v.items ≡ 0 ∷ []) }
+{
+    let mut alone = Vec::with_capacity(alloc, 1)?;
+    alone.push(TypeId(0))?;
+    Ok(alone)
+}
+
+impl TypeNames {
+    ghost use Rattle.task_parts.specs.TypedLists.{declared_of};
+    ghost use Rattle.task_parts.specs.Scope.{names_in};
+    ghost use Rattle.syntax_tree.specs.Tree as read;
+    ghost use Rattle.model.specs.Typing as typing;
+
+    /// The number of a name: its place, or how many there are where it has none.
+    fn number(&self, room: &mut Vec<u8>, name: &Name<'_>) -> Result<TypeId, NoMemory>
+        ensures { IfOk result (λ t. t.0 ≡ typing.number_in (names_in self.now.names.keys) (read.name_of name.now)) }
+    {
+        fold(room, name)?;
+        match self.names.get_index_of(room.as_slice()) {
+            Some(number) => Ok(TypeId(number as u16)),
+            None => Ok(TypeId(self.names.len() as u16)),
+        }
+    }
+
+    /// The type that is written after a `-`, or `object`.
+    pub fn declared_type(&self, room: &mut Vec<u8>, types: &[Name<'_>]) -> Result<TypeId, NoMemory>
+        ensures { IfOk result (λ t. t.0 ≡ typing.type_in (names_in self.now.names.keys) (map read.name_of types.now)) }
+    {
+        match types.first() {
+            Some(name) => self.number(room, name),
+            None => Ok(TypeId(0)),
+        }
+    }
+
+    /// The numbers of names.
+    fn numbers(
+        &self,
+        alloc: Global,
+        room: &mut Vec<u8>,
+        types: &[Name<'_>],
+    ) -> Result<Vec<TypeId>, NoMemory>
+        ensures { IfOk result (λ v. map parts.type_of v.items ≡ map (λ n. typing.number_in (names_in self.now.names.keys) (read.name_of n)) types.now) }
+    {
+        let mut numbers = Vec::with_capacity(alloc, types.len())?;
+        for name in types {
+            numbers.push(self.number(room, name)?)?;
+        }
+        Ok(numbers)
+    }
+
+    /// The types that are written after a `-`, or `object`.
+    pub(crate) fn union(
+        &self,
+        alloc: Global,
+        room: &mut Vec<u8>,
+        types: &[Name<'_>],
+    ) -> Result<TypeUnion, NoMemory>
+        ensures { IfOk result (λ u. parts.union_of u ≡ typing.union_in (names_in self.now.names.keys) (map read.name_of types.now)) }
+    {
+        if types.is_empty() {
+            Ok(TypeUnion(object_alone(alloc)?))
+        } else {
+            Ok(TypeUnion(self.numbers(alloc, room, types)?))
+        }
+    }
+
+    /// What each of the declared has to be.
+    pub fn unions(
+        &self,
+        alloc: Global,
+        room: &mut Vec<u8>,
+        declared: &[Declared<'_>],
+    ) -> Result<Vec<TypeUnion>, NoMemory>
+        ensures { IfOk result (λ v. map parts.union_of v.items ≡ typing.unions_in (names_in self.now.names.keys) (map declared_of declared.now)) }
+    {
+        let mut unions = Vec::with_capacity(alloc, declared.len())?;
+        for one in declared {
+            unions.push(self.union(alloc, room, one.types)?)?;
+        }
+        Ok(unions)
+    }
+
+    /// The parents of the types, `object` its own.
+    pub fn parents(
+        &self,
+        alloc: Global,
+        room: &mut Vec<u8>,
+        declared: &[Declared<'_>],
+    ) -> Result<Vec<TypeId>, NoMemory>
+        ensures { IfOk result (λ v. map parts.type_of v.items ≡ typing.parents_in (names_in self.now.names.keys) (map declared_of declared.now)) }
+    {
+        let mut parents = object_alone(alloc)?;
+        for one in declared {
+            parents.push(self.declared_type(room, one.types)?)?;
+        }
+        Ok(parents)
+    }
+}

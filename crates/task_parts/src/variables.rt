@@ -1,0 +1,141 @@
+//! Variables come into scope: the parameters of an action, and those of a quantifier.
+ghost use Rattle.std.specs.Prelude.{◌≡◌, [], if◌then◌else◌, map, OnOk};
+ghost use Rattle.task_parts.specs.TypedLists.{declared_of};
+ghost use Rattle.task_parts.specs.Scope.{names_in, variable_entry_of, BeginsWith};
+ghost use Rattle.task_parts.specs.Walk.{Finds};
+ghost use Rattle.model.specs.Typing as typing;
+
+use crate::domain::declare;
+use crate::type_names::TypeNames;
+use crate::typed_lists::{Declared, limit};
+use crate::types::check_all;
+use crate::walk::Walk;
+use crate::{MAX_VARIABLES, TypeUnion};
+use faults::{Code, NoMemory};
+use indexmap::{IndexMap, IndexSet};
+use std::alloc::Global;
+
+/// The variables that stand in the list before are refused.
+fn check_repeated(alloc: Global, walk: &mut Walk, declared: &[Declared<'_>]) -> Result<(), NoMemory>
+    ensures { OnOk result (Finds walk.old walk.new (typing.refused 16 (typing.repeated (typing.words_of (map declared_of declared.now))))) }
+{
+    let mut names = IndexSet::new(alloc);
+    for one in declared {
+        declare(alloc, walk, one.file, &mut names, &one.name)?;
+    }
+    Ok(())
+}
+
+/// A variable is refused whose name is in scope.
+fn check_shadow(
+    walk: &mut Walk,
+    variables: &IndexMap<Vec<u8>, TypeUnion>,
+    one: &Declared<'_>,
+) -> Result<(), NoMemory>
+    ensures { OnOk result (Finds walk.old walk.new
+        (if typing.is_known (typing.names_of_variables (map variable_entry_of variables.now.entries)) (declared_of one.now).name then typing.refused_word (declared_of one.now).file 20 (declared_of one.now).name else [])) }
+{
+    walk.fold(&one.name)?;
+    let known = variables.contains_key(walk.folded.as_slice());
+    walk.refuse_unless(!known, one.file, Code::Shadowed, &one.name);
+    Ok(())
+}
+
+/// The variables are refused whose names are in scope.
+fn check_shadows(
+    walk: &mut Walk,
+    variables: &IndexMap<Vec<u8>, TypeUnion>,
+    declared: &[Declared<'_>],
+) -> Result<(), NoMemory>
+    ensures { OnOk result (Finds walk.old walk.new
+        (typing.refused 20 (typing.known_among (typing.names_of_variables (map variable_entry_of variables.now.entries)) (typing.words_of (map declared_of declared.now))))) }
+{
+    for one in declared {
+        check_shadow(walk, variables, one)?;
+    }
+    Ok(())
+}
+
+/// The variable that makes 17 in scope is refused, where this many are in scope already.
+fn limit_scope(walk: &mut Walk, count: usize, declared: &[Declared<'_>])
+    ensures { Finds walk.old walk.new (typing.refused 25 (typing.one_too_many count (typing.words_of (map declared_of declared.now)))) }
+{
+    if count <= MAX_VARIABLES {
+        limit(walk, declared, MAX_VARIABLES - count);
+    }
+}
+
+/// What is wrong with a list of variables, where these are in scope already.
+fn check_variables(
+    alloc: Global,
+    walk: &mut Walk,
+    types: &TypeNames,
+    variables: &IndexMap<Vec<u8>, TypeUnion>,
+    declared: &[Declared<'_>],
+) -> Result<(), NoMemory>
+    ensures { OnOk result (Finds walk.old walk.new
+        (typing.variable_faults (names_in types.now.names.keys) (map variable_entry_of variables.now.entries) (map declared_of declared.now))) }
+{
+    check_all(walk, &types.names, declared)?;
+    check_repeated(alloc, walk, declared)?;
+    check_shadows(walk, variables, declared)?;
+    limit_scope(walk, variables.len(), declared);
+    Ok(())
+}
+
+/// Brings a variable into scope, where none of its name is.
+fn add_variable(
+    alloc: Global,
+    room: &mut Vec<u8>,
+    types: &TypeNames,
+    variables: &mut IndexMap<Vec<u8>, TypeUnion>,
+    declared: &Declared<'_>,
+) -> Result<(), NoMemory>
+    ensures variables { OnOk result (map variable_entry_of variables.new.entries
+        ≡ typing.with_variable (map variable_entry_of variables.old.entries) (typing.variable_in (names_in types.now.names.keys) (declared_of declared.now))) }
+    ensures kept { OnOk result (BeginsWith variables.old.entries variables.new.entries) }
+{
+    let key = declared.name.text.to_ascii_lowercase(alloc)?;
+    if variables.contains_key(key.as_slice()) {
+        return Ok(());
+    }
+    let union = types.union(alloc, room, declared.types)?;
+    variables.insert(key, union)?;
+    Ok(())
+}
+
+/// Brings the variables of a list into scope, each once.
+fn add_variables(
+    alloc: Global,
+    room: &mut Vec<u8>,
+    types: &TypeNames,
+    variables: &mut IndexMap<Vec<u8>, TypeUnion>,
+    declared: &[Declared<'_>],
+) -> Result<(), NoMemory>
+    ensures variables { OnOk result (map variable_entry_of variables.new.entries
+        ≡ typing.variables_after (names_in types.now.names.keys) (map variable_entry_of variables.old.entries) (map declared_of declared.now)) }
+    ensures kept { OnOk result (BeginsWith variables.old.entries variables.new.entries) }
+{
+    for one in declared {
+        add_variable(alloc, room, types, variables, one)?;
+    }
+    Ok(())
+}
+
+/// Brings the variables of a list into scope, each once, and finds what is wrong with them.
+pub fn declare_variables(
+    alloc: Global,
+    walk: &mut Walk,
+    types: &TypeNames,
+    variables: &mut IndexMap<Vec<u8>, TypeUnion>,
+    declared: &[Declared<'_>],
+) -> Result<(), NoMemory>
+    ensures variables { OnOk result (map variable_entry_of variables.new.entries
+        ≡ typing.variables_after (names_in types.now.names.keys) (map variable_entry_of variables.old.entries) (map declared_of declared.now)) }
+    ensures kept { OnOk result (BeginsWith variables.old.entries variables.new.entries) }
+    ensures finds { OnOk result (Finds walk.old walk.new
+        (typing.variable_faults (names_in types.now.names.keys) (map variable_entry_of variables.old.entries) (map declared_of declared.now))) }
+{
+    check_variables(alloc, walk, types, variables, declared)?;
+    add_variables(alloc, &mut walk.folded, types, variables, declared)
+}
