@@ -1,6 +1,8 @@
 //! The laws that are stated of all values, and proved: each is called once.
-use cert_checker::{closed_claim_holds, examples_are_judged, solving_list_stays_listed};
-use certificate_listing::{closed_certificates_are_accepted, written_certificates_read_back};
+use cert_checker::{
+    closed_certificates_are_accepted, closed_claim_holds, examples_are_judged,
+    solving_list_stays_listed, written_certificates_read_back,
+};
 use formulas::{formula_examples_are_judged, one_state, sure_literals_hold};
 use grounding::{
     atoms_are_numbered, closed_off_is_not_applicable, ground_task_is_bisimilar,
@@ -39,7 +41,7 @@ fn laws_are_called() {
     grounding_examples_are_judged();
     exactly_one_verdict_is_true();
     worked_examples_are_true();
-    certificate_reader::texts_are_certificates_one_for_one();
+    certificate::texts_are_certificates_one_for_one();
     written_certificates_read_back();
     closed_certificates_are_accepted();
     solved_certificates_are_accepted();
