@@ -230,11 +230,16 @@ typed_atoms task (a ∷ atoms) all =
     let more = typed_atoms task atoms (λ k b below. all (suc k) b (omega (arith, below))) in
     λ i. here i && more i
 
+-- what is written of a closed certificate within the limits says this certificate
+pub closed_reads_back : (task : Task) (c : Certificate) → IsTrue (is_task task) → IsTrue (has_atom_names task) → IsTrue (keeps_limits c) → IsClosedFor task c
+    → IsTextOf task (certificate_text task c) c
+closed_reads_back task c well has_names keeps closed = written_reads_back task c well has_names (typed_atoms task c.atoms closed.atoms_are_fluent) keeps
+
 pub closed_is_accepted : (task : Task) (c : Certificate) (plan : Option (List Instance)) → IsTrue (is_task task) → IsTrue (has_atom_names task) → IsTrue (keeps_limits c)
     → IsClosedFor task c → IsPlanWithin task c.claim plan → IsAccepted task (certificate_text task c) plan
 closed_is_accepted task c plan well has_names keeps closed within = record {
   certificate = c;
-  is_text = written_reads_back task c well has_names (typed_atoms task c.atoms closed.atoms_are_fluent) keeps;
+  is_text = closed_reads_back task c well has_names keeps closed;
   closed = closed;
   within = within;
 }

@@ -3,7 +3,8 @@ use Rattle.std.proofs.Common.{◌≡◌, ℕ, ◌+◌, ◌<◌, List, [], ◌++�
 use Rattle.std.specs.Io.KnownBytes.{Appends}
 use Rattle.std.specs.List.{flat_map}
 use Rattle.std.proofs.KnownBytes.{Appends-nil, Appends-trans}
-use Rattle.std.specs.Prelude.{min, zip}
+use Rattle.std.specs.Prelude.{min, zip, slice_get, Some}
+use Rattle.std.proofs.lemmas.Option.{slice_get_within, get_or_from_slice_get}
 use Rattle.std.proofs.Math.ListN.{get_or-map}
 use Rattle.std.proofs.lemmas.List.{length-map}
 use Rattle.std.proofs.lemmas.Slice.Zip.{get_or-zip, length-zip}
@@ -73,3 +74,7 @@ module _ {X Y W : Type 0} (f : Y × W → List ℕ) (v : X → Y) (xs : List X) 
 
   pub pairs_all : n ≡ min (length xs) (length ws) → flat_map f (take n pairs) ≡ flat_map f pairs
   pairs_all past = parts_all f pairs n (omega (arith, length-zip (map v xs) ws, length-map xs v, past))
+
+-- one piece more, where it is read at its place
+pub line_more : {Y : Type 0} (f : Y → List ℕ) (ys : List Y) (i : ℕ) (y : Y) → slice_get ys i ≡ Some y → flat_map f (take (i + 1) ys) ≡ flat_map f (take i ys) ++ f y
+line_more f ys i y at = parts_more f ys i y (slice_get_within ys i y at) (get_or_from_slice_get ys i y y at)

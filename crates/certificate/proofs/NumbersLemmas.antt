@@ -1,11 +1,12 @@
 -- The numbers of sets, and what they say of a listing.
 use Rattle.std.proofs.Common.{◌≡◌, ℕ, zero, suc, ◌<◌, ◌≤◌, Bool, true, false, List, [], ◌∷◌, get_or, inl, inr, map, length, refl, sym, ap, ◌∙◌, subst, arith}
-use Rattle.std.specs.Prelude.{◌&&◌, ◌==◌, All, Contains, nat_le}
+use Rattle.std.specs.Prelude.{◌&&◌, ◌==◌, All, Contains, Some, nat_le, slice_get}
 use Rattle.std.specs.List.{list_all, list_any, range_with_len}
 use Rattle.std.specs.Cmp.{both_ways}
-use Rattle.std.specs.Option.{option_map_or}
-use Rattle.std.proofs.lemmas.Bool.{and_parts, eq-eqb, eqb-true, or_cases, or_left, or_right}
+use Rattle.std.specs.Option.{option_map, option_map_or}
+use Rattle.std.proofs.lemmas.Bool.{and_parts, eq-eqb, eqb-true, leb-true, or_cases, or_left, or_right}
 use Rattle.std.proofs.lemmas.List.{ext_get_or, length-map}
+use Rattle.std.proofs.lemmas.Option.{slice_get-map}
 use Rattle.std.proofs.lemmas.List.Elements.{All-cons, All-nil, All-contains, All-map, All-tail}
 use Rattle.packed_state.specs.Sets.{at_width, has, set_of}
 use Rattle.packed_state.specs.declared.pooled.PooledStore.{PooledStore}
@@ -21,6 +22,7 @@ use Rattle.certificate_reader.proofs.OneText.{rise_more}
 use Rattle.certificate.specs.ListedSets.{Marked, line_with, lines_with, marked, numbers_of}
 use Rattle.certificate.specs.declared.listing.Listing.{Listing}
 use Rattle.certificate.specs.ListingParts.{mark_of}
+use Rattle.certificate.specs.declared.listing_parts.Mark.{Mark}
 use Rattle.certificate.specs.declared.listing_parts.States.{States}
 use Rattle.certificate.specs.ListingParts.{certificate_with, potentials_in}
 use Rattle.certificate.specs.Listing.{certificate_in, store_in}
@@ -100,6 +102,22 @@ all_rise count (mark ∷ marks) (set ∷ sets) same keep =
     All-cons (Rises count) set sets (and_parts (is_number line.cost && option_map_or is_number line.cut true) (rise count 0 line.atoms) here).1
     (all_rise count marks sets (omega (arith, same)) more)
 
+-- as many as there are of both
+lines_count : (marks : List Marked) (sets : List (List Bool)) → length marks ≡ length sets → length (lines_with marks sets) ≡ length sets
+lines_count [] sets same = same
+lines_count (mark ∷ marks) [] same = absurd (omega (arith, same))
+lines_count (mark ∷ marks) (set ∷ sets) same = ap suc (lines_count marks sets (omega (arith, same)))
+
+line_at : (marks : List Marked) (sets : List (List Bool)) (i : ℕ) (mark : Marked) (set : List Bool) → slice_get marks i ≡ Some mark → slice_get sets i ≡ Some set
+    → slice_get (lines_with marks sets) i ≡ Some (line_with mark set)
+line_at [] sets i mark set at_mark at_set = absurd (cc)
+line_at (m ∷ marks) [] i mark set at_mark at_set = absurd (cc)
+line_at (m ∷ marks) (s ∷ sets) zero mark set at_mark at_set =
+    let same_mark : m ≡ mark = cc in
+    let same_set : s ≡ set = cc in
+    λ i. Some (line_with (same_mark i) (same_set i))
+line_at (m ∷ marks) (s ∷ sets) (suc i) mark set at_mark at_set = line_at marks sets i mark set at_mark at_set
+
 sets_of_lines : (width : ℕ) (marks : List Marked) (sets : List (List Bool)) → length marks ≡ length sets → All (λ (set : List Bool). length set ≡ width) sets
     → map (λ (l : StateLine). set_of width l.atoms) (lines_with marks sets) ≡ sets
 sets_of_lines width [] [] same long = refl
@@ -165,6 +183,24 @@ module _ (listing : Listing) where
 
   pub marks_are : map mark_of listing.states.marks.items ≡ map marked (certificate_in listing).lines
   marks_are = sym (marked_back marks sets as_many)
+
+  -- there is a set for each line, and there are few
+  pub count_of_lines : length (certificate_in listing).lines ≡ length (pooled_states (store_in listing))
+  count_of_lines = lines_count marks sets as_many
+
+  pub few_lines : length (certificate_in listing).lines ≤ 16777216
+  few_lines =
+      let c = certificate_in listing in
+      let most = is_claim c.claim && nat_le (length c.atoms) 1048576 in
+      let kept = and_parts (most && nat_le (length c.lines) 16777216 && list_all (is_state_line count) c.lines) (are_potentials count c.potentials) listing.within_limits in
+      leb-true (length c.lines) 16777216 (and_parts most (nat_le (length c.lines) 16777216) (and_parts (most && nat_le (length c.lines) 16777216) (list_all (is_state_line count) c.lines) kept.0).0).1
+
+  -- a line by its mark and its set
+  pub line_read : (i : ℕ) (read : List Mark) (mark : Mark) (set : List Bool) → map mark_of read ≡ map marked (certificate_in listing).lines → slice_get read i ≡ Some mark
+      → slice_get (pooled_states (store_in listing)) i ≡ Some set → slice_get (certificate_in listing).lines i ≡ Some (line_with (mark_of mark) set)
+  line_read i read mark set are at_mark at_set =
+      line_at marks sets i (mark_of mark) set
+      (ap (λ (ms : List Marked). slice_get ms i) (sym (are ∙ sym marks_are)) ∙ slice_get-map mark_of read i ∙ ap (option_map mark_of) at_mark) at_set
 
   -- the sets are those of the lines' numbers
   pub sets_are : map (λ (l : StateLine). set_of (pooled_width (store_in listing)) l.atoms) (certificate_in listing).lines ≡ pooled_states (store_in listing)

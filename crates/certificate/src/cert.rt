@@ -19,7 +19,7 @@ pub struct Cert {
     atoms: Vec<Atom>,
     weights: Vec<i64>,
     lines: Vec<StateLine>,
-    ghost within_limits: { IsTrue (keeps_limits (certificate_of_parts claim constant atoms.items weights.items lines.items)) },
+    pub ghost within_limits: { IsTrue (keeps_limits (certificate_of_parts claim constant atoms.items weights.items lines.items)) },
 }
 
 impl Cert {

@@ -7,6 +7,7 @@ mod line_text;
 mod listing;
 mod listing_parts;
 mod widening;
+mod writable;
 mod writer;
 
 pub use cert::Cert;
@@ -19,4 +20,4 @@ pub use devices::{
 };
 pub use listing::Listing;
 pub use listing_parts::{Beginning, Mark, States};
-pub use writer::write_cert;
+pub use writer::{write_cert, write_listing};

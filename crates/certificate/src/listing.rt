@@ -18,7 +18,7 @@ use typing::Atom;
 pub struct Listing {
     beginning: Beginning,
     states: States,
-    ghost within_limits: { IsTrue (keeps_limits (certificate_with beginning states)) },
+    pub ghost within_limits: { IsTrue (keeps_limits (certificate_with beginning states)) },
     ghost marked: { length states.marks.items ≡ length (pooled_states states.sets) },
 }
 

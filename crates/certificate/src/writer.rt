@@ -5,15 +5,18 @@ ghost use Rattle.std.specs.List.{flat_map};
 ghost use Rattle.devices.specs.Devices.{AppendsBeginning, CountsDevice};
 ghost use Rattle.typing.specs.Task.{task_of};
 ghost use Rattle.typing.specs.TaskParts.{atom_of};
-ghost use Rattle.certificate_reader.specs.Lines.{line_of};
 ghost use Rattle.certificate.specs.Certificate.{certificate_of};
+ghost use Rattle.certificate.specs.Listing.{certificate_in};
 ghost use Rattle.certificate_definitions.specs.CertificateNames.{certificate_text};
 ghost use Rattle.certificate.specs.Gathering.{IsPassedOn, atom_line, state_line};
 
 use crate::cert::Cert;
 use crate::line_text::{add_atom, add_head, add_last, add_state};
+use crate::listing::Listing;
+use crate::writable::WritableCert;
 use certificate_reader::StateLine;
 use devices::{Sink, WriteFault, write_all};
+use packed_state::Packed;
 use std::alloc::Global;
 use typing::{Atom, Task};
 
@@ -43,11 +46,44 @@ pub fn write_cert<W: Sink>(
     ensures failures { CountsDevice (W.failures out.old) (W.failures out.new) result }
     ensures name { W.name out.new ≡ W.name out.old }
 {
+    write_text(alloc, task, cert, out)
+}
+
+/// Writes the text of a listing of the task's states, as `write_cert` does of a certificate that is made in memory.
+///
+/// # Errors
+/// The device failed, or memory was refused. It has then taken a beginning of the text.
+pub fn write_listing<W: Sink>(
+    alloc: Global,
+    task: &Task,
+    listing: &Listing,
+    out: &mut W,
+) -> Result<(), WriteFault>
+    ensures text { OnOk result (Appends (W.taken out.old) (W.taken out.new) (certificate_text (task_of task.now) (certificate_in listing.now))) }
+    ensures beginning { AppendsBeginning (W.taken out.old) (W.taken out.new) (certificate_text (task_of task.now) (certificate_in listing.now)) }
+    ensures failures { CountsDevice (W.failures out.old) (W.failures out.new) result }
+    ensures name { W.name out.new ≡ W.name out.old }
+{
+    write_text(alloc, task, listing, out)
+}
+
+/// Writes the text of what is a certificate of the task.
+fn write_text<C: WritableCert, W: Sink>(
+    alloc: Global,
+    task: &Task,
+    cert: &C,
+    out: &mut W,
+) -> Result<(), WriteFault>
+    ensures text { OnOk result (Appends (W.taken out.old) (W.taken out.new) (certificate_text (task_of task.now) (C.certificate cert.now))) }
+    ensures beginning { AppendsBeginning (W.taken out.old) (W.taken out.new) (certificate_text (task_of task.now) (C.certificate cert.now)) }
+    ensures failures { CountsDevice (W.failures out.old) (W.failures out.new) result }
+    ensures name { W.name out.new ≡ W.name out.old }
+{
     let mut held = Vec::new(alloc);
     add_head(cert.claim(), cert.constant(), &mut held)?;
     write_atoms(task, cert.atoms(), cert.weights(), &mut held, out)?;
-    write_states(cert.lines(), &mut held, out)?;
-    add_last(cert.lines().len(), &mut held)?;
+    write_states(alloc, cert, &mut held, out)?;
+    add_last(cert.line_count(), &mut held)?;
     write_all(out, held.as_slice())
 }
 
@@ -72,18 +108,30 @@ fn write_atoms<W: Sink>(
 }
 
 /// Writes the lines of the listed states behind the bytes that are held.
-fn write_states<W: Sink>(
-    states: &[StateLine],
+fn write_states<C: WritableCert, W: Sink>(
+    alloc: Global,
+    cert: &C,
     held: &mut Vec<u8>,
     out: &mut W,
 ) -> Result<(), WriteFault>
-    ensures text { OnOk result (IsPassedOn (W.taken out.old) (W.taken out.new) held.old.items held.new.items (flat_map state_line (map line_of states.now))) }
-    ensures beginning { AppendsBeginning (W.taken out.old) (W.taken out.new) (held.old.items ++ flat_map state_line (map line_of states.now)) }
+    ensures text { OnOk result (IsPassedOn (W.taken out.old) (W.taken out.new) held.old.items held.new.items (flat_map state_line (C.certificate cert.now).lines)) }
+    ensures beginning { AppendsBeginning (W.taken out.old) (W.taken out.new) (held.old.items ++ flat_map state_line (C.certificate cert.now).lines) }
     ensures failures { CountsDevice (W.failures out.old) (W.failures out.new) result }
     ensures name { W.name out.new ≡ W.name out.old }
 {
-    for state in states {
-        add_state(state, held)?;
+    let Ok(mut set) = Packed::empty(alloc, cert.width()) else {
+        return Err(WriteFault::NoMemory);
+    };
+    let mut line = StateLine {
+        cost: 0,
+        cut: None,
+        atoms: Vec::new(alloc),
+    };
+    for place in 0..cert.line_count() {
+        let Ok(()) = cert.read_line(place, &mut set, &mut line) else {
+            return Err(WriteFault::NoMemory);
+        };
+        add_state(&line, held)?;
         pass_on(held, out)?;
     }
     Ok(())

@@ -3,8 +3,8 @@ use Rattle.std.proofs.Common.{◌≡◌, ℕ, List, [], ◌∷◌, sym, ap, subs
 use Rattle.std.specs.Prelude.{Option, Some}
 use Rattle.std.specs.Borrow.{Bor}
 use Rattle.formulas.specs.declared.plan.Plan.{Plan}
-use Rattle.certificate.specs.declared.cert.Cert.{Cert}
-use Rattle.certificate.specs.Certificate.{certificate_of}
+use Rattle.certificate.specs.declared.listing.Listing.{Listing}
+use Rattle.certificate.specs.Listing.{certificate_in}
 use Rattle.certificate_definitions.specs.CertificateNames.{certificate_text}
 use Rattle.solver.specs.declared.answer.Answer.{Answer}
 use Rattle.solver.specs.declared.answer.Answer.TheVariants as answer
@@ -15,19 +15,19 @@ use Rattle.planner_main.specs.Solution.{cert_file, plan_file}
 
 -- What is wanted to be written of an answer that is a plan, or that there is none.
 module _ (task : Task) (a : Answer) (name : Option (Bor (List ℕ))) (word : Bor (List ℕ)) (named : name ≡ Some word) where
-  pub cert_of_plan : (steps : Plan) (cost : ℕ) (cert : Cert) → a ≡ answer.Plan steps cost cert
-      → cert_file task a (text_in name) ≡ record { name = word.now; text = certificate_text task (certificate_of cert) } ∷ []
+  pub cert_of_plan : (steps : Plan) (cost : ℕ) (cert : Listing) → a ≡ answer.Plan steps cost cert
+      → cert_file task a (text_in name) ≡ record { name = word.now; text = certificate_text task (certificate_in cert) } ∷ []
   cert_of_plan steps cost cert is =
-      subst (λ a. cert_file task a (text_in name) ≡ record { name = word.now; text = certificate_text task (certificate_of cert) } ∷ []) (sym is)
+      subst (λ a. cert_file task a (text_in name) ≡ record { name = word.now; text = certificate_text task (certificate_in cert) } ∷ []) (sym is)
       (ap (λ name. cert_file task (answer.Plan steps cost cert) (text_in name)) named)
 
-  pub cert_of_none : (cert : Cert) → a ≡ answer.Unsolvable cert
-      → cert_file task a (text_in name) ≡ record { name = word.now; text = certificate_text task (certificate_of cert) } ∷ []
+  pub cert_of_none : (cert : Listing) → a ≡ answer.Unsolvable cert
+      → cert_file task a (text_in name) ≡ record { name = word.now; text = certificate_text task (certificate_in cert) } ∷ []
   cert_of_none cert is =
-      subst (λ a. cert_file task a (text_in name) ≡ record { name = word.now; text = certificate_text task (certificate_of cert) } ∷ []) (sym is)
+      subst (λ a. cert_file task a (text_in name) ≡ record { name = word.now; text = certificate_text task (certificate_in cert) } ∷ []) (sym is)
       (ap (λ name. cert_file task (answer.Unsolvable cert) (text_in name)) named)
 
-  pub plan_of_text : (text : List ℕ) → text ≡ text_of task a → (steps : Plan) (cost : ℕ) (cert : Cert) → a ≡ answer.Plan steps cost cert
+  pub plan_of_text : (text : List ℕ) → text ≡ text_of task a → (steps : Plan) (cost : ℕ) (cert : Listing) → a ≡ answer.Plan steps cost cert
       → plan_file task a (text_in name) ≡ record { name = word.now; text = text } ∷ []
   plan_of_text text told steps cost cert is =
       subst (λ text. plan_file task a (text_in name) ≡ record { name = word.now; text = text } ∷ []) (sym told)

@@ -3,7 +3,7 @@ use Rattle.std.specs.Prelude.{◌≡◌, ℕ, Bool, List, [], ◌∷◌, ◌++�
 use Rattle.formulas.specs.State.{plan_of}
 use Rattle.solver.specs.declared.answer.Answer.{Answer}
 use Rattle.solver.specs.declared.answer.Answer.TheVariants.{Plan, Unsolvable, Unknown}
-use Rattle.certificate.specs.Certificate.{certificate_of}
+use Rattle.certificate.specs.Listing.{certificate_in}
 use Rattle.certificate_definitions.specs.CertificateNames.{certificate_text}
 use Rattle.devices.specs.Written.{NamedText}
 use Rattle.planner_main_output.specs.Answer.{status_of, told_of}
@@ -17,8 +17,8 @@ in_file (Some name) text = record { name = name; text = text } ∷ []
 
 -- what is written to the file of a certificate: that of a plan, or of there being none
 abbrev pub cert_file : Task → Answer → Option (List ℕ) → List NamedText
-cert_file task (Plan steps cost cert) name = in_file name (certificate_text task (certificate_of cert))
-cert_file task (Unsolvable cert) name = in_file name (certificate_text task (certificate_of cert))
+cert_file task (Plan steps cost cert) name = in_file name (certificate_text task (certificate_in cert))
+cert_file task (Unsolvable cert) name = in_file name (certificate_text task (certificate_in cert))
 cert_file task (Unknown limit) name = []
 
 -- what is written to the file of a plan

@@ -1,21 +1,22 @@
 //! Laws of the texts that the program writes and reads. They are proved; the calls do nothing.
-ghost use Rattle.std.specs.Prelude.{◌≡◌, ℕ, [], IsTrue, List, None, Option};
+ghost use Rattle.std.specs.Prelude.{◌≡◌, ℕ, [], List, None, Option};
 ghost use Rattle.model.specs.Task.{Task, Instance};
 ghost use Rattle.model.specs.Files.{IsTaskOf};
 ghost use Rattle.model.specs.Claims.{Claim};
 ghost use Rattle.model.specs.Limits.{max_numbered_atoms};
 ghost use Rattle.model.specs.Grounding.{limit_told};
-ghost use Rattle.certificate_definitions.specs.Certificates.{Certificate, keeps_limits};
+ghost use Rattle.certificate_definitions.specs.Certificates.{Certificate};
 ghost use Rattle.certificate_definitions.specs.CertificateRefusals.{IsPlanWithin};
-ghost use Rattle.certificate_definitions.specs.CertificateNames.{certificate_text};
+ghost use Rattle.certificate_definitions.specs.CertificateNames.{IsTextOf, certificate_text};
 ghost use Rattle.certificate_definitions.specs.CertificateChecking.{IsAccepted};
 ghost use Rattle.solver.specs.Listing.{IsShownBy};
 
-/// What is written of the certificate of an answer, of a task that is read from files, is a text that `check` accepts, with
-/// the answer's plan or without, where it keeps as many instances.
+/// What is written of the certificate of an answer, of a task that is read from files, is a text that says this certificate,
+/// and `check` accepts it, with the answer's plan or without, where it keeps as many instances.
 pub fn solved_certificates_are_accepted()
     ensures { (domain problem : List ℕ) (task : Task) (claim : Claim) (c : Certificate) (most_states most : ℕ) (plan : Option (List Instance))
-        → IsTaskOf domain problem task → IsShownBy task claim most_states c → IsTrue (keeps_limits c)
+        → IsTaskOf domain problem task → IsShownBy task claim most_states c
         → limit_told most max_numbered_atoms task [] ≡ None → IsPlanWithin task claim plan
-        → IsAccepted task (certificate_text task c) plan × (limit_told most max_numbered_atoms task c.atoms ≡ None) }
+        → IsTextOf task (certificate_text task c) c × IsAccepted task (certificate_text task c) plan
+        × (limit_told most max_numbered_atoms task c.atoms ≡ None) }
 {}

@@ -14,7 +14,10 @@ use Rattle.search.specs.declared.nodes.Node.{Node}
 use Rattle.search.specs.Outcome as search
 use Rattle.search.specs.Outcome.{AreFound, AreExpandedWithin}
 use Rattle.solver.specs.Improved.{AreSettledOrHigh, HasSettledOrHigh}
-use Rattle.solver.specs.Listing.{numbers_in, state_line, found_certificate, IsShownBy, AreOpenWithin}
+use Rattle.certificate.specs.declared.listing_parts.Mark.{Mark}
+use Rattle.certificate.specs.ListedSets.{lines_with}
+use Rattle.certificate.specs.ListingParts.{mark_of}
+use Rattle.solver.specs.Listing.{mark_of_line, numbers_in, state_line, found_certificate, IsShownBy, AreOpenWithin}
 use Rattle.solver.proofs.TypedLemmas.{numbered_typed}
 use Rattle.solver.proofs.GroundLemmas.{length-reachable, distinct_states}
 use Rattle.solver.proofs.PotentialLemmas.{most_value, value-most, potentials-pass, value-packed}
@@ -140,6 +143,18 @@ length-lines value [] nodes one = refl
 length-lines value (s ∷ states) [] one = absurd (omega (arith, one))
 length-lines value (s ∷ states) (node ∷ nodes) one = ap suc (length-lines value states nodes (omega (arith, one)))
 
+-- the lines of the marks and the states are those of the found states
+pub lines_of_marks : (value : List Bool → ℕ) (states : List (List Bool)) (nodes : List Node)
+    → lines_with (map mark_of_line (search.lines_of value states nodes)) states ≡ map state_line (search.lines_of value states nodes)
+lines_of_marks value [] nodes = refl
+lines_of_marks value (s ∷ states) [] = refl
+lines_of_marks value (s ∷ states) (node ∷ nodes) = ap (λ lines. state_line (search.line_of value s node) ∷ lines) (lines_of_marks value states nodes)
+
+pub as_many_marks : (value : List Bool → ℕ) (marks : List Mark) (states : List (List Bool)) (nodes : List Node) → length nodes ≡ length states
+    → map mark_of marks ≡ map mark_of_line (search.lines_of value states nodes) → length marks ≡ length states
+as_many_marks value marks states nodes one are =
+    sym (length-map marks mark_of) ∙ ap length are ∙ length-map (search.lines_of value states nodes) mark_of_line ∙ length-lines value states nodes one
+
 -- a listing closed by some values is closed by others that are no lower at its cuts
 closed_higher : {S A : Type 0} (t : System S A) (value value' : S → ℕ) (claim : Claim) (lines : List (Line S)) → ((line : Line S) → Contains lines line → value line.state ≤ value' line.state)
     → IsClosed t value claim lines → IsClosed t value' claim lines
@@ -211,8 +226,8 @@ module _ (task : Task) (claim : Claim) (most : ℕ) (p : PotentialFunction) (sta
         let long : length line.state ≡ length atoms = ap (λ (l : Line (List Bool)). length l.state) is ∙ found_width k s there in
         value-packed task p line.state long
 
-    pub shown_by : is_task task ≡ true → length p.weights ≡ length atoms → AreFair task atoms p → IsShownBy task claim (length states) made
-    shown_by well many fair = record {
+    pub shown_by : is_task task ≡ true → length p.weights ≡ length atoms → AreFair task atoms p → keeps_limits made ≡ true → IsShownBy task claim (length states) made
+    shown_by well many fair kept = record {
       claims = refl;
       closed = record {
         one_weight_an_atom = many;
@@ -231,6 +246,7 @@ module _ (task : Task) (claim : Claim) (most : ℕ) (p : PotentialFunction) (sta
       };
       within_limit = omega (arith, length-map lines state_line, length-lines (value p) states nodes found.one_for_each);
       atoms = refl;
+      within_limits = kept;
     }
 
     pub open_within : (cost : ℕ) → AreExpandedWithin (value p) cost states nodes → AreOpenWithin task cost made
@@ -287,7 +303,7 @@ found_widths task claim most p states nodes known numbered found k d below =
 
 -- what is shown with so many states is shown with more
 more_allowed : {task : Task} {claim : Claim} {count most : ℕ} {certificate : Certificate} → IsShownBy task claim count certificate → count ≤ most → IsShownBy task claim most certificate
-more_allowed given le = record { claims = given.claims; closed = given.closed; within_limit = omega (arith, given.within_limit, le); atoms = given.atoms }
+more_allowed given le = record { claims = given.claims; closed = given.closed; within_limit = omega (arith, given.within_limit, le); atoms = given.atoms; within_limits = given.within_limits }
 
 module _ (task : Task) (claim : Claim) (most : ℕ) (p : PotentialFunction) (states : List (List Bool)) (nodes : List Node) (known : List Atom) (numbered : known ≡ numbered_atoms task [])
     (found : AreFound (ground_system task known) (value p) claim most states nodes) (certificate : Certificate) (is : certificate ≡ found_certificate claim known p states nodes) where
@@ -297,10 +313,11 @@ module _ (task : Task) (claim : Claim) (most : ℕ) (p : PotentialFunction) (sta
   is_made : made task claim most p states nodes ≡ certificate
   is_made = sym (is ∙ ap (λ (l : List Atom). found_certificate claim l p states nodes) numbered)
 
-  pub shown : (max_states : ℕ) → length states ≤ max_states → is_task task ≡ true → length p.weights ≡ length known → AreFair task known p
+  pub shown : (max_states : ℕ) → length states ≤ max_states → is_task task ≡ true → length p.weights ≡ length known → AreFair task known p → keeps_limits certificate ≡ true
       → IsShownBy task claim max_states certificate
-  shown max_states le well many fair =
-      more_allowed (subst (IsShownBy task claim (length states)) is_made (shown_by task claim most p states nodes same_found well (many ∙ ap length numbered) (subst (λ (l : List Atom). AreFair task l p) numbered fair))) le
+  shown max_states le well many fair kept =
+      more_allowed (subst (IsShownBy task claim (length states)) is_made
+      (shown_by task claim most p states nodes same_found well (many ∙ ap length numbered) (subst (λ (l : List Atom). AreFair task l p) numbered fair) (ap keeps_limits is_made ∙ kept))) le
 
   pub opened_within : (cost : ℕ) → AreExpandedWithin (value p) cost states nodes → AreOpenWithin task cost certificate
   opened_within cost within = subst (AreOpenWithin task cost) is_made (open_within task claim most p states nodes same_found cost within)

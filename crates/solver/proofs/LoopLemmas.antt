@@ -1,24 +1,30 @@
 -- The steps of the loops: one line, one instance or one atom more.
-use Rattle.std.proofs.Common.{◌≡◌, ◌∙◌, ℕ, zero, suc, ◌+◌, ◌<◌, Bool, List, [], ◌∷◌, ◌++◌, length, map, take, get_or, Some, sym, ap, subst, arith}
-use Rattle.std.specs.Prelude.{All, slice_get}
-use Rattle.std.specs.List.{AllZip}
+use Rattle.std.proofs.Common.{◌≡◌, ◌∙◌, ℕ, zero, suc, ◌+◌, ◌<◌, Bool, true, false, not, inl, inr, List, [], ◌∷◌, ◌++◌, length, map, take, get_or, Some, refl, sym, ap, subst, arith}
+use Rattle.std.specs.Prelude.{All, Contains, slice_get, if◌then◌else◌}
+use Rattle.std.specs.List.{AllZip, list_any, take-map}
 use Rattle.std.proofs.lemmas.List.{take_more, map-append}
 use Rattle.std.proofs.lemmas.List.Elements.{All-contains}
 use Rattle.task_parts.specs.declared.atoms.Atom as code_atom
 use Rattle.std.specs.Option.{option_map}
-use Rattle.std.proofs.lemmas.Option.{slice_get-map}
+use Rattle.std.proofs.lemmas.Option.{slice_get-map, slice_get-get_or}
+use Rattle.std.proofs.lemmas.Bool.{and_parts, not-true, true≢false}
+use Rattle.std.proofs.lemmas.Map.Views.{Contains-from_any}
 use Rattle.typing.specs.TaskParts.{atom_of, object_of}
 use Rattle.formulas.specs.declared.instance.Instance as code
 use Rattle.formulas.specs.State.{instance_of}
-use Rattle.certificate_reader.specs.declared.line.StateLine as code_line
-use Rattle.certificate_reader.specs.Lines.{line_of}
+use Rattle.certificate.specs.declared.listing_parts.Mark.{Mark}
+use Rattle.certificate.specs.ListingParts.{mark_of}
 use Rattle.search.specs.declared.nodes.Node.{Node}
 use Rattle.search.specs.Outcome as search
-use Rattle.solver.specs.Listing.{state_line}
-use Rattle.model.specs.Task.{Task, Instance}
+use Rattle.solver.specs.Listing.{mark_of_line}
+use Rattle.model.specs.Task.{Task, Instance, Atom}
+use Rattle.model.specs.NumberedAtoms.{stands_in, are_distinct}
+use Rattle.model.proofs.NumberingLemmas.{stands_in-got}
+use Rattle.formulas.proofs.Equality.{atom_eq, equal_atoms, one_atom}
+use Rattle.indexmap.specs.IndexSet.{insert_key}
 use Rattle.model.specs.ClosedOff.{kept_instances}
 use Rattle.model.specs.Grounding.{NamesKept}
-use Rattle.model.proofs.ListLemmas.{Contains-got}
+use Rattle.model.proofs.ListLemmas.{Contains-got, Contains-cases, Contains-map, Contains-none}
 
 -- ---- the lines
 
@@ -39,15 +45,15 @@ width_at width states all k bits at = All-contains (λ (b : List Bool). length b
 plus_one : (k : ℕ) → k + 1 ≡ suc k
 plus_one k = omega arith
 
-pub lines_next : (value : List Bool → ℕ) (lines new : List code_line.StateLine) (line : code_line.StateLine) (states : List (List Bool)) (nodes : List Node) (i : ℕ) (s : List Bool) (node : Node)
-    → map line_of lines ≡ map state_line (search.lines_of value (take i states) (take i nodes)) → new ≡ lines ++ line ∷ [] → line_of line ≡ state_line (search.line_of value s node)
-    → slice_get states i ≡ Some s → slice_get nodes i ≡ Some node → map line_of new ≡ map state_line (search.lines_of value (take (i + 1) states) (take (i + 1) nodes))
-lines_next value lines new line states nodes i s node so_far pushed is at_s at_n =
-    ap (map line_of) pushed ∙ map-append line_of lines (line ∷ [])
+pub marks_next : (value : List Bool → ℕ) (marks new : List Mark) (mark : Mark) (states : List (List Bool)) (nodes : List Node) (i : ℕ) (s : List Bool) (node : Node)
+    → map mark_of marks ≡ map mark_of_line (search.lines_of value (take i states) (take i nodes)) → new ≡ marks ++ mark ∷ [] → mark_of mark ≡ mark_of_line (search.line_of value s node)
+    → slice_get states i ≡ Some s → slice_get nodes i ≡ Some node → map mark_of new ≡ map mark_of_line (search.lines_of value (take (i + 1) states) (take (i + 1) nodes))
+marks_next value marks new mark states nodes i s node so_far pushed is at_s at_n =
+    ap (map mark_of) pushed ∙ map-append mark_of marks (mark ∷ [])
     ∙ (λ j. so_far j ++ is j ∷ [])
-    ∙ sym (ap (λ k. map state_line (search.lines_of value (take k states) (take k nodes))) (plus_one i)
-    ∙ ap (map state_line) (lines_more value states nodes i s node at_s at_n)
-    ∙ map-append state_line (search.lines_of value (take i states) (take i nodes)) (search.line_of value s node ∷ []))
+    ∙ sym (ap (λ k. map mark_of_line (search.lines_of value (take k states) (take k nodes))) (plus_one i)
+    ∙ ap (map mark_of_line) (lines_more value states nodes i s node at_s at_n)
+    ∙ map-append mark_of_line (search.lines_of value (take i states) (take i nodes)) (search.line_of value s node ∷ []))
 
 -- ---- the instances
 
@@ -68,12 +74,33 @@ named_next steps new one task numbers i d below so_far pushed here =
 
 -- ---- the atoms
 
-pub atoms_next : (copy new : List code_atom.Atom) (one : code_atom.Atom) (atoms : List code_atom.Atom) (i : ℕ) (d : code_atom.Atom) → i < length atoms → map atom_of copy ≡ map atom_of (take i atoms)
-    → new ≡ copy ++ one ∷ [] → atom_of one ≡ atom_of (get_or atoms i d) → map atom_of new ≡ map atom_of (take (i + 1) atoms)
-atoms_next copy new one atoms i d below so_far pushed is =
-    ap (map atom_of) pushed ∙ map-append atom_of copy (one ∷ [])
+-- where no atom stands twice, the one at a place does not stand before it
+none_before : (atoms : List Atom) (i : ℕ) (a : Atom) → are_distinct atoms ≡ true → slice_get atoms i ≡ Some a → Contains (take i atoms) a → ⊥
+none_before [] i a distinct at among = absurd (cc)
+none_before (b ∷ atoms) zero a distinct at among = Contains-none a among
+none_before (b ∷ atoms) (suc i) a distinct at among =
+    let parts = and_parts (not (stands_in atoms b)) (are_distinct atoms) distinct in
+    elim (Contains-cases b (take i atoms) a among) [
+      | inl is ↦ true≢false (sym (ap (stands_in atoms) is ∙ stands_in-got atoms i a at) ∙ not-true (stands_in atoms b) parts.0)
+      | inr later ↦ none_before atoms i a parts.1 at later
+    ]
+
+pub atoms_next : (keys new : List code_atom.Atom) (one : code_atom.Atom) (atoms : List code_atom.Atom) (i : ℕ) (d : code_atom.Atom) → are_distinct (map atom_of atoms) ≡ true → i < length atoms
+    → map atom_of keys ≡ map atom_of (take i atoms) → new ≡ insert_key atom_eq keys one → atom_of one ≡ atom_of (get_or atoms i d) → map atom_of new ≡ map atom_of (take (i + 1) atoms)
+atoms_next keys new one atoms i d distinct below so_far inserted is =
+    ap (map atom_of) (inserted ∙ ap (λ b. if b then keys else keys ++ one ∷ []) (absent (list_any (atom_eq one) keys) refl)) ∙ map-append atom_of keys (one ∷ [])
     ∙ (λ j. so_far j ++ is j ∷ [])
     ∙ sym (ap (map atom_of) (take_more atoms i d below) ∙ map-append atom_of (take i atoms) (get_or atoms i d ∷ []))
+  where
+    stands : slice_get (map atom_of atoms) i ≡ Some (atom_of one)
+    stands = slice_get-map atom_of atoms i ∙ ap (option_map atom_of) (slice_get-get_or atoms i d below) ∙ ap Some (sym is)
+
+    absent : (there : Bool) → list_any (atom_eq one) keys ≡ there → there ≡ false
+    absent false found = refl
+    absent true found =
+        absurd (none_before (map atom_of atoms) i (atom_of one) distinct stands
+        (subst (λ (as : List Atom). Contains as (atom_of one)) (so_far ∙ sym (take-map atom_of i atoms))
+        (Contains-map atom_of keys one (Contains-from_any (λ a b alike. one_atom a b (equal_atoms a b alike)) one keys found))))
 
 -- the instance that has the number
 pub names_kept : (task : Task) (instances : List code.Instance) (n : ℕ) (there one : code.Instance) → map instance_of instances ≡ kept_instances task → slice_get instances n ≡ Some there

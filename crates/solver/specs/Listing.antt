@@ -1,5 +1,5 @@
 -- What the certificate of a search's found states is made of.
-use Rattle.std.specs.Prelude.{◌≡◌, ℕ, ◌+◌, ◌≤◌, Bool, List, [], length, map, Contains, None}
+use Rattle.std.specs.Prelude.{◌≡◌, ℕ, ◌+◌, ◌≤◌, Bool, IsTrue, List, [], length, map, Contains, None}
 use Rattle.std.specs.List.{filter, range_with_len}
 use Rattle.packed_state.specs.Sets.{has}
 use Rattle.search.specs.declared.nodes.Node.{Node}
@@ -8,7 +8,8 @@ use Rattle.model.specs.Task.{Task, Atom}
 use Rattle.model.specs.Meaning.{State}
 use Rattle.model.specs.Claims.{Claim, Line}
 use Rattle.potential_functions.specs.PotentialFunctions.{PotentialFunction, value}
-use Rattle.certificate_definitions.specs.Certificates.{Certificate, StateLine, IsClosedFor, lines_of, value_of}
+use Rattle.certificate_definitions.specs.Certificates.{Certificate, StateLine, IsClosedFor, keeps_limits, lines_of, value_of}
+use Rattle.certificate.specs.ListedSets.{Marked}
 use Rattle.model.specs.NumberedAtoms.{numbered_atoms}
 
 -- the numbers of the atoms that are true in the packed state, rising
@@ -19,6 +20,10 @@ numbers_in bits = filter (has bits) (range_with_len 0 (length bits))
 abbrev pub state_line : Line (List Bool) → StateLine
 state_line line = record { cost = line.cost; cut = line.cut; atoms = numbers_in line.state }
 
+-- its cost, and with what it is cut
+abbrev pub mark_of_line : {S : Type 0} → Line S → Marked
+mark_of_line line = record { cost = line.cost; cut = line.cut }
+
 -- the certificate that lists these found states, each expanded one as open and each other as a cut with its value
 abbrev pub found_certificate : Claim → List Atom → PotentialFunction → List (List Bool) → List Node → Certificate
 found_certificate claim atoms p states nodes = record {
@@ -28,13 +33,14 @@ found_certificate claim atoms p states nodes = record {
   lines = map state_line (search.lines_of (value p) states nodes);
 }
 
--- The certificate is closed for the task, claims this, and lists at most `max_states` states by the numbered atoms, each
--- at the place that is its number.
+-- The certificate is closed for the task, claims this, keeps the limits of a certificate's text, and lists at most
+-- `max_states` states by the numbered atoms, each at the place that is its number.
 pub record IsShownBy (task : Task) (claim : Claim) (max_states : ℕ) (certificate : Certificate) : Type 0 where
   pub claims : certificate.claim ≡ claim
   pub closed : IsClosedFor task certificate
   pub within_limit : length certificate.lines ≤ max_states
   pub atoms : certificate.atoms ≡ numbered_atoms task []
+  pub within_limits : IsTrue (keeps_limits certificate)
 
 -- each open state of the certificate costs, with its value, at most this
 abbrev pub AreOpenWithin : Task → ℕ → Certificate → Type 0

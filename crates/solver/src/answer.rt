@@ -12,7 +12,7 @@ use crate::limits::Limits;
 use crate::listing::cert_of;
 use crate::steps::plan_of;
 use crate::system::GroundSystem;
-use certificate::{Cert, Claim};
+use certificate::{Claim, Listing};
 use faults::{NoMemory, Refused};
 use formulas::Plan;
 use grounding::{Ground, GroundLimit};
@@ -32,12 +32,12 @@ pub enum Answer {
         /// What they cost together.
         cost: u64,
         /// It shows that no plan costs less.
-        cert: Cert,
+        cert: Listing,
     },
     /// There is no plan.
     Unsolvable {
         /// It shows that there is none.
-        cert: Cert,
+        cert: Listing,
     },
     /// A limit is exceeded, and nothing is said of plans.
     Unknown(Limit),
@@ -116,11 +116,11 @@ fn solve_by(
             states,
         } => {
             let steps = plan_of(alloc, ground, &steps)?;
-            let cert = cert_of(alloc, estimate, Claim::Bound(cost), &states)?;
+            let cert = cert_of(alloc, estimate, Claim::Bound(cost), states)?;
             Ok(Answer::Plan { steps, cost, cert })
         }
         Outcome::Exhausted { states } => {
-            let cert = cert_of(alloc, estimate, Claim::Unsolvable, &states)?;
+            let cert = cert_of(alloc, estimate, Claim::Unsolvable, states)?;
             Ok(Answer::Unsolvable { cert })
         }
         Outcome::States => Ok(Answer::Unknown(Limit::States)),

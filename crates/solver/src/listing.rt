@@ -1,5 +1,6 @@
 //! The certificate that the found states of a search make: each is a line, open where it was expanded and cut where it
-//! waits, and its atoms are the task's numbered ones; and the potentials by which they were found.
+//! waits, and its atoms are the task's numbered ones; and the potentials by which they were found. The store of the search
+//! is that of the certificate, so that no state is copied.
 //!
 //! That an optimal planner shows its cost by a certificate is from Mugdan, Christen and Eriksson, "Optimality Certificates
 //! for Classical Planning" (ICAPS 2023). What differs is the form: here a certificate lists single states, each with the
@@ -10,9 +11,9 @@ ghost use Rattle.std.specs.Prelude.{◌≡◌, ◌≤◌, Bool, List, All, [], l
 ghost use Rattle.typing.specs.TaskParts.{atom_of};
 ghost use Rattle.packed_state.specs.Packed.{bits_of};
 ghost use Rattle.packed_state.specs.PooledView.{pooled_states};
-ghost use Rattle.certificate_reader.specs.Lines as parts;
 ghost use Rattle.certificate_reader.specs.Lines.{claim_of};
-ghost use Rattle.certificate.specs.Certificate.{certificate_of};
+ghost use Rattle.certificate.specs.Listing.{certificate_in};
+ghost use Rattle.certificate.specs.ListingParts as parts;
 ghost use Rattle.certificate_reader.specs.declared.line.TheConstants.{MAX_ATOMS, MAX_STATE_LINES};
 ghost use Rattle.search.specs.Outcome as search;
 ghost use Rattle.search.specs.Outcome.{AreFound};
@@ -20,14 +21,15 @@ ghost use Rattle.grounding.specs.Ground.{task_in, atoms_in};
 ghost use Rattle.potential_functions.specs.PotentialFunctions.{value};
 ghost use Rattle.potentials_improved.specs.Potentials.{potentials_of};
 ghost use Rattle.potentials_improved.specs.FairPotentials.{potentials_in, ground_in};
-ghost use Rattle.solver.specs.Listing.{state_line, found_certificate};
-ghost use Rattle.model.specs.NumberedAtoms.{numbered_atoms};
+ghost use Rattle.solver.specs.Listing.{found_certificate, mark_of_line};
+ghost use Rattle.model.specs.NumberedAtoms.{numbered_atoms, are_distinct};
 ghost use Rattle.model.specs.Grounding.{ground_system};
 ghost use Rattle.certificate_definitions.specs.Certificates.{is_claim};
 
-use certificate::{Cert, Claim, StateLine};
+use certificate::{Beginning, Claim, Listing, Mark, States};
 use faults::NoMemory;
 use formulas::Atom;
+use indexmap::IndexSet;
 use packed_state::{Packed, PooledStore, StateStore};
 use potentials_improved::{Fair, Potentials};
 use search::{FoundStates, Node};
@@ -38,74 +40,69 @@ pub(crate) fn cert_of(
     alloc: Global,
     fair: &Fair<'_, '_>,
     claim: Claim,
-    found: &FoundStates<PooledStore>,
-) -> Result<Cert, NoMemory>
+    found: FoundStates<PooledStore>,
+) -> Result<Listing, NoMemory>
     requires claim { IsTrue (is_claim (claim_of claim)) }
     requires atoms { atoms_in (ground_in fair.now) ≡ numbered_atoms (task_in (ground_in fair.now)) [] }
     requires few { length (atoms_in (ground_in fair.now)) ≤ MAX_ATOMS }
-    requires found { AreFound (ground_system (task_in (ground_in fair.now)) (atoms_in (ground_in fair.now))) (value (potentials_in fair.now)) (claim_of claim) MAX_STATE_LINES (pooled_states found.now.store) found.now.nodes.items }
-    ensures { IfOk result (λ cert. certificate_of cert ≡ found_certificate (claim_of claim) (atoms_in (ground_in fair.now)) (potentials_in fair.now) (pooled_states found.now.store) found.now.nodes.items) }
+    requires found { AreFound (ground_system (task_in (ground_in fair.now)) (atoms_in (ground_in fair.now))) (value (potentials_in fair.now)) (claim_of claim) MAX_STATE_LINES (pooled_states found.store) found.nodes.items }
+    ensures { IfOk result (λ cert. certificate_in cert ≡ found_certificate (claim_of claim) (atoms_in (ground_in fair.now)) (potentials_in fair.now) (pooled_states found.store) found.nodes.items) }
 {
     let potentials = fair.potentials();
-    let atoms = copied(alloc, fair.ground().atoms().as_slice())?;
-    let weights = Vec::from_slice(alloc, potentials.weights())?;
-    let lines = lines(alloc, potentials, found)?;
-    match Cert::new(claim, potentials.constant(), atoms, weights, lines) {
-        Some(cert) => Ok(cert),
-        None => unreachable!(),
-    }
+    let beginning = Beginning {
+        claim,
+        constant: potentials.constant(),
+        atoms: copied(alloc, fair.ground().atoms().as_slice())?,
+        weights: Vec::from_slice(alloc, potentials.weights())?,
+    };
+    let marks = marks(alloc, potentials, &found)?;
+    let sets = found.store;
+    Ok(Listing::new(beginning, States { marks, sets }))
 }
 
-/// The same atoms, in order.
-fn copied(alloc: Global, atoms: &[Atom]) -> Result<Vec<Atom>, NoMemory>
-    ensures { IfOk result (λ copy. map atom_of copy.items ≡ map atom_of atoms.now) }
+/// The same atoms, in order, of which no two are the same.
+fn copied(alloc: Global, atoms: &[Atom]) -> Result<IndexSet<Atom>, NoMemory>
+    requires { IsTrue (are_distinct (map atom_of atoms.now)) }
+    ensures { IfOk result (λ copy. map atom_of copy.keys ≡ map atom_of atoms.now) }
 {
-    let mut copy = Vec::new(alloc);
+    let mut copy = IndexSet::with_capacity(alloc, atoms.len())?;
     for atom in atoms {
-        copy.push(atom.clone()?)?;
+        copy.insert(atom.clone()?)?;
     }
     Ok(copy)
 }
 
-/// A line for each found state, in order.
-fn lines(
+/// A mark for each found state, in order.
+fn marks(
     alloc: Global,
     potentials: &Potentials,
     found: &FoundStates<PooledStore>,
-) -> Result<Vec<StateLine>, NoMemory>
+) -> Result<Vec<Mark>, NoMemory>
     requires one_for_each { length found.now.nodes.items ≡ length (pooled_states found.now.store) }
     requires few { length (pooled_states found.now.store) ≤ MAX_STATE_LINES }
     requires width { All (λ (bits : List Bool). length bits ≡ length (potentials_of potentials.now).weights) (pooled_states found.now.store) }
-    ensures { IfOk result (λ lines. map parts.line_of lines.items ≡ map state_line (search.lines_of (value (potentials_of potentials.now)) (pooled_states found.now.store) found.now.nodes.items)) }
+    ensures { IfOk result (λ marks. map parts.mark_of marks.items ≡ map mark_of_line (search.lines_of (value (potentials_of potentials.now)) (pooled_states found.now.store) found.now.nodes.items)) }
 {
     let mut state = Packed::empty(alloc, found.store.width())?;
-    let mut lines = Vec::new(alloc);
+    let mut marks = Vec::with_capacity(alloc, found.nodes.len())?;
     for place in 0..found.nodes.len() {
         found.store.get(place as u32, &mut state);
-        lines.push(line_of(alloc, potentials, &state, found.nodes[place])?)?;
+        marks.push(mark_of(potentials, &state, found.nodes[place]))?;
     }
-    Ok(lines)
+    Ok(marks)
 }
 
-/// The line of a state that was reached so. Its value is computed only where it is a cut.
-fn line_of(
-    alloc: Global,
-    potentials: &Potentials,
-    state: &Packed,
-    node: Node,
-) -> Result<StateLine, NoMemory>
+/// The mark of a state that was reached so. Its value is computed only where it is a cut.
+fn mark_of(potentials: &Potentials, state: &Packed, node: Node) -> Mark
     requires { length (bits_of state.now) ≡ length (potentials_of potentials.now).weights }
-    ensures { IfOk result (λ line. parts.line_of line ≡ state_line (search.line_of (value (potentials_of potentials.now)) (bits_of state.now) node)) }
+    ensures { parts.mark_of result ≡ mark_of_line (search.line_of (value (potentials_of potentials.now)) (bits_of state.now) node) }
 {
-    let atoms = state.numbers(alloc)?;
-    let cut = if node.is_expanded {
-        None
-    } else {
-        Some(potentials.value(state))
-    };
-    Ok(StateLine {
+    Mark {
         cost: node.cost,
-        cut,
-        atoms,
-    })
+        cut: if node.is_expanded {
+            None
+        } else {
+            Some(potentials.value(state))
+        },
+    }
 }

@@ -9,7 +9,7 @@ ghost use Rattle.planner_main_output.specs.Answer.{text_of};
 ghost use Rattle.devices.specs.Written.{AreWritten, AreWrittenPartly, NamedText};
 ghost use Rattle.devices.specs.Devices.{CountsDevice};
 ghost use Rattle.typing.specs.Task.{task_of};
-ghost use Rattle.certificate.specs.Certificate.{certificate_of};
+ghost use Rattle.certificate.specs.Listing.{certificate_in};
 ghost use Rattle.certificate_definitions.specs.CertificateNames.{certificate_text};
 ghost use Rattle.solver.specs.Solver.{IsTrueAnswer};
 ghost use Rattle.model.specs.Files.{IsTaskFault, IsTaskOf};
@@ -17,7 +17,7 @@ ghost use Rattle.model.specs.PlanWriting.{has_names};
 
 use crate::program::inputs::read_pair;
 use crate::report::Failure;
-use certificate::{Cert, write_cert};
+use certificate::{Listing, write_listing};
 use devices::{Bytes, Document, Files, Sink, WriteFault, write_all, write_file};
 use planner_main_answers::{Solved, solve_files};
 use planner_main_output::{answer_text, json_text, told};
@@ -156,13 +156,13 @@ fn save_plan<F: Files>(
 struct CertText<'a> {
     alloc: Global,
     task: &'a Task,
-    cert: &'a Cert,
+    cert: &'a Listing,
 }
 
 impl Document for CertText<'_> {
-    ghost text = { λ it. certificate_text (task_of it.task.now) (certificate_of it.cert.now) };
+    ghost text = { λ it. certificate_text (task_of it.task.now) (certificate_in it.cert.now) };
 
     fn write_to<S: Sink>(&self, sink: &mut S) -> Result<(), WriteFault> {
-        write_cert(self.alloc, self.task, self.cert, sink)
+        write_listing(self.alloc, self.task, self.cert, sink)
     }
 }

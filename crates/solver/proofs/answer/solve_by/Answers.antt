@@ -5,7 +5,7 @@ use Rattle.typing.specs.TaskParts.{atom_of}
 use Rattle.formulas.specs.State.{plan_of}
 use Rattle.packed_state.specs.PooledView.{pooled_states}
 use Rattle.search.specs.Outcome.{AreFound, AreMoreReachable}
-use Rattle.certificate.specs.Certificate.{certificate_of}
+use Rattle.certificate.specs.Listing.{certificate_in}
 use Rattle.grounding.specs.declared.ground.Ground.{Ground}
 use Rattle.grounding.specs.Ground.{task_in, atoms_in}
 use Rattle.potential_functions.specs.PotentialFunctions.{value}
@@ -71,7 +71,7 @@ returns-in_ok-cert-in-Found c =
     let states = pooled_states c.in-Found.states.store in
     let nodes = c.in-Found.states.nodes.items in
     let cost = c.in-Found.cost in
-    let cert = certificate_of c.in_ok-cert-in-Found.cert in
+    let cert = certificate_in c.in_ok-cert-in-Found.cert in
     let numbered = c.requires.ground.atoms in
     let numbers = c.in-Found.steps.items in
     let plan = plan_of c.in_ok-steps-in-Found.steps in
@@ -85,7 +85,7 @@ returns-in_ok-cert-in-Found c =
       optimal,
       plan_cost task atoms numbered numbers plan cost named found.1,
       all_instances_of_plan task plan optimal.0,
-      shown task (bound cost) most p states nodes atoms numbered found.2 cert made c.args.limits.states (omega (arith, found.2.within_limit, c.states.ensures)) c.requires.typed many fair,
+      shown task (bound cost) most p states nodes atoms numbered found.2 cert made c.args.limits.states (omega (arith, found.2.within_limit, c.states.ensures)) c.requires.typed many fair c.in_ok-cert-in-Found.cert.within_limits,
       settled_or_high task (bound cost) most p states nodes atoms numbered found.2 cert made c.requires.improved,
       opened_within task (bound cost) most p states nodes atoms numbered found.2 cert made cost found.4,
       c.requires.ground.within,
@@ -110,7 +110,7 @@ returns-in_ok-cert-in-Exhausted c =
     let most = c.states.result in
     let states = pooled_states c.in-Exhausted.states.store in
     let nodes = c.in-Exhausted.states.nodes.items in
-    let cert = certificate_of c.in_ok-cert-in-Exhausted.cert in
+    let cert = certificate_in c.in_ok-cert-in-Exhausted.cert in
     let numbered = c.requires.ground.atoms in
     let found = outcome_by (ground_system task atoms) p pooled_states most _ _ c.in-Exhausted.is c.in_ok-outcome.ensures in
     let many : length p.weights ≡ length atoms = subst (λ (h : Ground). length p.weights ≡ length (atoms_in h)) c.requires.fair.ground f.width in
@@ -118,7 +118,7 @@ returns-in_ok-cert-in-Exhausted c =
     let made : cert ≡ found_certificate none atoms p states nodes =
     c.in_ok-cert-in-Exhausted.ensures ∙ ap (λ (h : Ground). found_certificate none (atoms_in h) p states nodes) c.requires.fair.ground in (
       task_unsolvable task atoms numbered found.0,
-      shown task none most p states nodes atoms numbered found.1 cert made c.args.limits.states (omega (arith, found.1.within_limit, c.states.ensures)) c.requires.typed many fair,
+      shown task none most p states nodes atoms numbered found.1 cert made c.args.limits.states (omega (arith, found.1.within_limit, c.states.ensures)) c.requires.typed many fair c.in_ok-cert-in-Exhausted.cert.within_limits,
       settled_or_high task none most p states nodes atoms numbered found.1 cert made c.requires.improved,
       c.requires.ground.within,
     )

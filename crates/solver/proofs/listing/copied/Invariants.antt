@@ -4,4 +4,4 @@ use Rattle.solver.proofs.listing.copied.Given as goal
 
 -- the atoms so far
 abbrev pub invariant-loop-atom : goal.invariant-loop-atom
-invariant-loop-atom l = map atom_of l.copy.items ≡ map atom_of (take l.atom-index l.atoms)
+invariant-loop-atom l = map atom_of l.copy.keys ≡ map atom_of (take l.atom-index l.atoms)
