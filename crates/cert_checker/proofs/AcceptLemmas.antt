@@ -2,23 +2,23 @@
 use Rattle.std.proofs.Common.{◌≡◌, ℕ, List, ◌++◌, Option, None, Some, inr, sym, ap, ◌∙◌, subst, append-nil, arith}
 use Rattle.std.specs.Prelude.{IfErr, IfOk, OnOk, Ok, Err, Result}
 use Rattle.std.specs.Io.KnownBytes.{Consumes, IsAtEnd}
-use Rattle.certificate_text.specs.CertificateNames.{IsTextOf}
-use Rattle.certificate_text.specs.CertificateChecking.{IsAccepted, IsLineFault}
+use Rattle.certificate_definitions.specs.CertificateNames.{IsTextOf}
+use Rattle.certificate_definitions.specs.CertificateChecking.{IsAccepted, IsLineFault}
 use Rattle.certificate_reader.specs.declared.reader.CertReader.{CertReader}
 use Rattle.certificate_reader.specs.Reader.{source_of}
-use Rattle.certificate_listing.specs.declared.refusal.Refusal.{Refusal}
-use Rattle.certificate_listing.specs.declared.refusal.Refusal.TheVariants as refusal
-use Rattle.certificate_listing.specs.declared.refusal.RefusalCode.{RefusalCode}
-use Rattle.certificate_listing.specs.declared.refusal.RefusalCode.TheVariants as code
-use Rattle.certificate_listing.specs.RefusalCode.{number_of}
-use Rattle.certificate_listing.specs.Reading.{CountsRefusal, IsLineRefusal, IsRead, IsToldAt}
-use Rattle.certificate_listing.proofs.AcceptedLemmas.{accepted_has_no_fault, one_certificate}
+use Rattle.cert_checker.specs.declared.refusal.Refusal.{Refusal}
+use Rattle.cert_checker.specs.declared.refusal.Refusal.TheVariants as refusal
+use Rattle.cert_checker.specs.declared.refusal.RefusalCode.{RefusalCode}
+use Rattle.cert_checker.specs.declared.refusal.RefusalCode.TheVariants as code
+use Rattle.cert_checker.specs.RefusalCode.{number_of}
+use Rattle.cert_checker.specs.Reading.{CountsRefusal, IsLineRefusal, IsRead, IsToldAt}
+use Rattle.cert_checker.proofs.AcceptedLemmas.{accepted_has_no_fault, one_certificate}
 use Rattle.model.specs.Task.{Task, Instance}
 use Rattle.model.specs.Claims.{Claim}
 use Rattle.model.specs.Limits.{max_numbered_atoms}
 use Rattle.model.specs.Grounding.{limit_told}
-use Rattle.certificate_text.specs.Certificates.{Certificate, IsClosedFor}
-use Rattle.certificate_text.specs.CertificateRefusals.{IsPlanWithin}
+use Rattle.certificate_definitions.specs.Certificates.{Certificate, IsClosedFor}
+use Rattle.certificate_definitions.specs.CertificateRefusals.{IsPlanWithin}
 use Rattle.cert_checker.specs.declared.checker.Accepted.{Accepted}
 use Rattle.cert_checker.specs.declared.checker.Accepted.TheVariants.{Optimal, AtLeast, Unsolvable}
 use Rattle.cert_checker.specs.CertChecker.{Answers, IsFirstRefusal, IsNoFault, IsShown, IsTrueRefusal}

@@ -3,8 +3,8 @@ use Rattle.std.proofs.Common.{◌≡◌, ℕ, ◌≤◌, arith, List, length, Op
 use Rattle.std.specs.Prelude.{Contains, IfErr, MatchOption, OnOk, Result, Ok, Err, None, Some}
 use Rattle.std.proofs.lemmas.Option.{slice_get_within}
 use Rattle.formulas.specs.State.{instance_of}
-use Rattle.certificate_listing.specs.declared.refusal.Refusal.{Refusal}
-use Rattle.certificate_listing.specs.declared.refusal.Refusal.TheVariants as refusal
+use Rattle.cert_checker.specs.declared.refusal.Refusal.{Refusal}
+use Rattle.cert_checker.specs.declared.refusal.Refusal.TheVariants as refusal
 use Rattle.cert_checker.specs.Reasons.{reason_of}
 use Rattle.cert_checker.specs.CertChecker.{IsTrueRefusal, IsNoFault}
 use Rattle.cert_checker.specs.CheckedLines.{IsLineClosed, IsRightUpTo}
@@ -16,10 +16,10 @@ use Rattle.model.specs.Task.{Task, Instance}
 use Rattle.model.specs.Runs.{System, cost_of_all, Solves, CostsAtLeast, IsOptimal, valid, IsVerdict}
 use Rattle.model.specs.Meaning.{State}
 use Rattle.model.specs.Claims.{Line}
-use Rattle.certificate_text.specs.Certificates.{Certificate, lines_of, IsClosedFor}
-use Rattle.certificate_text.specs.CertificateRefusals.{Reason, limit, unfair, IsPlanWithin, IsWrong, IsWrongLine}
+use Rattle.certificate_definitions.specs.Certificates.{Certificate, lines_of, IsClosedFor}
+use Rattle.certificate_definitions.specs.CertificateRefusals.{Reason, limit, unfair, IsPlanWithin, IsWrong, IsWrongLine}
 use Rattle.model.proofs.ListLemmas.{Contains-place}
-use Rattle.certificate_text.proofs.CertificateRefusalsLemmas.{right, right_line}
+use Rattle.certificate_definitions.proofs.CertificateRefusalsLemmas.{right, right_line}
 
 pub on_ok : {T E : Type 0} {P : Type 0} (r : Result T E) → P → OnOk r P
 on_ok (Ok v) p = p

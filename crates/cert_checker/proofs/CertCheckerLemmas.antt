@@ -13,8 +13,8 @@ use Rattle.model.specs.Task.{Task, Instance}
 use Rattle.model.specs.Meaning.{State, system_of}
 use Rattle.model.specs.Instances.{successors_of}
 use Rattle.model.specs.Claims.{Allows, Line, IsListedWithin}
-use Rattle.certificate_text.specs.Certificates.{Certificate, StateLine, are_potentials, is_claim, is_number, is_state_line, keeps_limits, lines_of, rise, state_of_line}
-use Rattle.certificate_text.specs.CertificateRefusals.{IsListed}
+use Rattle.certificate_definitions.specs.Certificates.{Certificate, StateLine, are_potentials, is_claim, is_number, is_state_line, keeps_limits, lines_of, rise, state_of_line}
+use Rattle.certificate_definitions.specs.CertificateRefusals.{IsListed}
 use Rattle.model.proofs.ListLemmas.{Contains-cases, Contains-none}
 use Rattle.model.proofs.InstancesLemmas.{Contains-successors}
 

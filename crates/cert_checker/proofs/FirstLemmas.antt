@@ -4,9 +4,9 @@ use Rattle.std.specs.Prelude.{All, MatchOption, Result, Ok, Err, IfErr, slice_ge
 use Rattle.std.proofs.lemmas.List.Elements.{All-contains}
 use Rattle.std.proofs.lemmas.List.{length-take, get_or-take, take-map}
 use Rattle.std.proofs.lemmas.Option.{slice_get_within, slice_get-get_or, get_or_from_slice_get}
-use Rattle.certificate_listing.specs.declared.refusal.Refusal.{Refusal}
-use Rattle.certificate_listing.specs.declared.refusal.Refusal.TheVariants as refusal
-use Rattle.certificate_listing.specs.declared.refusal.RefusalCode.{RefusalCode}
+use Rattle.cert_checker.specs.declared.refusal.Refusal.{Refusal}
+use Rattle.cert_checker.specs.declared.refusal.Refusal.TheVariants as refusal
+use Rattle.cert_checker.specs.declared.refusal.RefusalCode.{RefusalCode}
 use Rattle.cert_checker.specs.Reasons.{reason_of}
 use Rattle.cert_checker.specs.CertChecker.{IsFirstRefusal, IsFirstSuccessor, IsFirstToLeave}
 use Rattle.cert_checker.specs.FluentAtoms.{AreFluent}
@@ -22,9 +22,9 @@ use Rattle.model.specs.Limits.{max_numbered_atoms}
 use Rattle.model.specs.Grounding.{limit_told}
 use Rattle.model.specs.Claims.{none, Line, IsListedWithin}
 use Rattle.potential_functions.specs.Fair.{AreFair}
-use Rattle.certificate_text.specs.Certificates.{Certificate, StateLine, lines_of, IsClosedFor}
-use Rattle.certificate_text.specs.CertificateRefusals.{Reason, state_line, IsFirst}
-use Rattle.certificate_text.proofs.CertificateRefusalsLemmas.{apart}
+use Rattle.certificate_definitions.specs.Certificates.{Certificate, StateLine, lines_of, IsClosedFor}
+use Rattle.certificate_definitions.specs.CertificateRefusals.{Reason, state_line, IsFirst}
+use Rattle.certificate_definitions.proofs.CertificateRefusalsLemmas.{apart}
 
 both_of : (P Q : Reason → Type 0) (o : Option Reason) → MatchOption o ⊥ P → MatchOption o ⊥ Q → MatchOption o ⊥ (λ reason. P reason × Q reason)
 both_of P Q (Some reason) p q = (p, q)

@@ -1,3 +1,13 @@
+pub mod NamesLemmas
+pub mod ToldLemmas
+pub mod ListedLemmas
+pub mod PlacedLemmas
+pub mod AtomsLemmas
+pub mod ReadingLemmas
+pub mod ListingLemmas
+pub mod SplitLemmas
+pub mod AcceptedLemmas
+pub mod WrittenLemmas
 pub mod CertCheckerLemmas
 pub mod RefusalsLemmas
 pub mod WeightsLemmas

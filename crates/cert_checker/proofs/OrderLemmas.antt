@@ -14,13 +14,13 @@ use Rattle.model.specs.Limits.{max_numbered_atoms}
 use Rattle.model.specs.Grounding.{limit_told}
 use Rattle.model.specs.Claims.{none, Allows, Line, IsListedWithin}
 use Rattle.model.specs.Fluents.{is_fluent}
-use Rattle.certificate_text.specs.Certificates.{Certificate, lines_of, IsClosedFor}
-use Rattle.certificate_text.specs.CertificateRefusals.{Reason, not_fluent, repeated, no_initial, unfair, unfair_goal, goal_open, successor_missing, successor_dearer, cut_weak, cut_not_allowed, plan_invalid, plan_dearer, limit, IsWrongLine, IsWrong, IsFirst, stage_of, rank_of, state_line}
+use Rattle.certificate_definitions.specs.Certificates.{Certificate, lines_of, IsClosedFor}
+use Rattle.certificate_definitions.specs.CertificateRefusals.{Reason, not_fluent, repeated, no_initial, unfair, unfair_goal, goal_open, successor_missing, successor_dearer, cut_weak, cut_not_allowed, plan_invalid, plan_dearer, limit, IsWrongLine, IsWrong, IsFirst, stage_of, rank_of, state_line}
 use Rattle.potential_functions.specs.Fair.{IsFairAt, AreFair}
 use Rattle.potentials.specs.Fairness.{AreInstancesFair}
 use Rattle.cert_checker.specs.FluentAtoms.{AreFluent}
 use Rattle.cert_checker.specs.CheckedLines.{CutsAreAllowed, IsLineClosed, IsRightUpTo}
-use Rattle.certificate_text.proofs.CertificateRefusalsLemmas.{apart, right_line}
+use Rattle.certificate_definitions.proofs.CertificateRefusalsLemmas.{apart, right_line}
 
 -- ---- what is known of a beginning of the certificate
 

@@ -12,14 +12,14 @@ use Rattle.std.proofs.lemmas.List.FromFn.{get_or-map-range_with_len, length-map-
 use Rattle.std.proofs.lemmas.List.Elements.{All-contains}
 use Rattle.std.proofs.lemmas.Option.{slice_get_within}
 use Rattle.packed_state.specs.Sets.{set_of}
-use Rattle.certificate_listing.proofs.NumbersLemmas.{is_among, among-Contains, Contains-among}
+use Rattle.certificate.proofs.NumbersLemmas.{is_among, among-Contains, Contains-among}
 use Rattle.cert_checker.specs.FluentAtoms.{AreFluent}
 use Rattle.cert_checker.specs.PackedLines.{NamesAtoms}
 use Rattle.model.specs.Task.{Atom, Task}
 use Rattle.model.specs.WellTyped.{is_atom}
 use Rattle.model.specs.Meaning.{atom_cmp}
 use Rattle.model.specs.Fluents.{is_fluent, static_atoms}
-use Rattle.certificate_text.specs.Certificates.{Certificate, StateLine, state_of_line, is_number, is_state_line, rise}
+use Rattle.certificate_definitions.specs.Certificates.{Certificate, StateLine, state_of_line, is_number, is_state_line, rise}
 use Rattle.model.specs.NumberedAtoms.{stands_in, are_distinct}
 use Rattle.model.specs.Grounding.{chosen, state_of_bits, bits_of_state}
 use Rattle.model.proofs.Atoms.{atoms_total, same_state, stands_in-append}

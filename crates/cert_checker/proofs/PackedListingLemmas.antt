@@ -6,9 +6,9 @@ use Rattle.std.proofs.lemmas.Option.{slice_get_within, slice_get-get_or}
 use Rattle.packed_state.specs.declared.pooled.PooledStore.{PooledStore}
 use Rattle.packed_state.specs.PooledView.{pooled_states, pooled_width}
 use Rattle.packed_state.specs.Store.{AreDistinct}
-use Rattle.certificate_listing.specs.declared.listing.Listing.{Listing}
-use Rattle.certificate_listing.specs.Listing.{certificate_in, store_in}
-use Rattle.certificate_listing.proofs.NumbersLemmas.{sets_are}
+use Rattle.certificate.specs.declared.listing.Listing.{Listing}
+use Rattle.certificate.specs.Listing.{certificate_in, store_in}
+use Rattle.certificate.proofs.NumbersLemmas.{sets_are}
 use Rattle.cert_checker.specs.FluentAtoms.{AreFluent}
 use Rattle.cert_checker.specs.CheckedLines.{HasCost, Stands, IsListedAt}
 use Rattle.cert_checker.specs.PackedLines.{packed_line, HoldsLines, IsPackedListing, NamesAtoms}
@@ -23,11 +23,11 @@ use Rattle.model.specs.Task.{Atom, Task}
 use Rattle.model.specs.Meaning.{State, initial_state}
 use Rattle.model.specs.Instances.{successors_of}
 use Rattle.model.specs.Claims.{Line}
-use Rattle.certificate_text.specs.Certificates.{Certificate, StateLine, is_state_line, keeps_limits, state_of_line, lines_of, value_of}
-use Rattle.certificate_text.specs.CertificateRefusals.{IsListed}
+use Rattle.certificate_definitions.specs.Certificates.{Certificate, StateLine, is_state_line, keeps_limits, state_of_line, lines_of, value_of}
+use Rattle.certificate_definitions.specs.CertificateRefusals.{IsListed}
 use Rattle.model.specs.NumberedAtoms.{numbered_atoms, HasNumberedFluents}
 use Rattle.model.specs.Grounding.{state_of_bits, bits_of_state, applicable_numbers, PacksStates}
-use Rattle.certificate_text.proofs.CertificateRefusalsLemmas.{apart}
+use Rattle.certificate_definitions.proofs.CertificateRefusalsLemmas.{apart}
 use Rattle.model.proofs.GroundTaskLemmas.{are_numbered, initial-numbered, packs_states}
 use Rattle.model.proofs.ListLemmas.{Contains-got, Contains-map, Contains-place, map-Contains}
 use Rattle.model.proofs.NumberingLemmas.{distinct-from_pairs}

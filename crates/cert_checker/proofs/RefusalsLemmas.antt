@@ -3,12 +3,12 @@ use Rattle.std.proofs.Common.{◌≡◌, ◌≢◌, ℕ, ◌+◌, ◌<◌, ◌�
 use Rattle.std.specs.Prelude.{◌↔◌, Result, Ok, Err, IfErr, IsTrue, AllPairs, Contains, MatchOption, nat_eq, slice_get}
 use Rattle.std.specs.Option.{option_eq}
 use Rattle.std.proofs.lemmas.Bool.{cases_order, eq-eqb, false≢true}
-use Rattle.certificate_listing.specs.declared.refusal.Refusal.{Refusal}
-use Rattle.certificate_listing.specs.declared.refusal.Refusal.TheVariants as refusal
-use Rattle.certificate_listing.specs.declared.refusal.RefusalCode.{RefusalCode}
-use Rattle.certificate_listing.specs.declared.states.Mark.{Mark}
-use Rattle.certificate_listing.specs.Listed.{mark_of}
-use Rattle.certificate_listing.specs.Sets.{Marked, marked}
+use Rattle.cert_checker.specs.declared.refusal.Refusal.{Refusal}
+use Rattle.cert_checker.specs.declared.refusal.Refusal.TheVariants as refusal
+use Rattle.cert_checker.specs.declared.refusal.RefusalCode.{RefusalCode}
+use Rattle.certificate.specs.declared.listing_parts.Mark.{Mark}
+use Rattle.certificate.specs.ListingParts.{mark_of}
+use Rattle.certificate.specs.ListedSets.{Marked, marked}
 use Rattle.std.proofs.lemmas.List.{length-map}
 use Rattle.cert_checker.specs.Reasons.{reason_of}
 use Rattle.cert_checker.specs.CheckedLines.{HasCost, Stands, IsListedAt, IsTrueAnyway}
@@ -17,11 +17,11 @@ use Rattle.model.specs.Task.{Task, Instance}
 use Rattle.model.specs.Meaning.{State, step, meets_goal, system_of}
 use Rattle.model.specs.Instances.{successors_of}
 use Rattle.model.specs.Claims.{Claim, Allows, Line, IsListedWithin}
-use Rattle.certificate_text.specs.Certificates.{Certificate, lines_of, value_of}
-use Rattle.certificate_text.specs.CertificateRefusals.{goal_open, successor_missing, successor_dearer, cut_weak, IsWrongLine, IsListed, state_line}
+use Rattle.certificate_definitions.specs.Certificates.{Certificate, lines_of, value_of}
+use Rattle.certificate_definitions.specs.CertificateRefusals.{goal_open, successor_missing, successor_dearer, cut_weak, IsWrongLine, IsListed, state_line}
 use Rattle.model.proofs.ListLemmas.{Contains-place, Contains-map}
 use Rattle.model.proofs.InstancesLemmas.{successors-Contains}
-use Rattle.certificate_text.proofs.CertificateRefusalsLemmas.{apart}
+use Rattle.certificate_definitions.proofs.CertificateRefusalsLemmas.{apart}
 
 -- ---- a refusal with its line
 

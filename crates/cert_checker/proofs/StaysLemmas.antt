@@ -13,7 +13,7 @@ use Rattle.model.specs.Meaning.{system_of}
 use Rattle.model.specs.Fluents.{is_fluent}
 use Rattle.model.specs.NumberedAtoms.{numbered_atoms}
 use Rattle.model.specs.Claims.{Claim, Line, IsClosed, ClaimHolds, IsLowerBound}
-use Rattle.certificate_text.specs.Certificates.{Certificate, lines_of, value_of, IsClosedFor}
+use Rattle.certificate_definitions.specs.Certificates.{Certificate, lines_of, value_of, IsClosedFor}
 use Rattle.model.proofs.ClaimsLemmas.{claim-of_closed}
 use Rattle.model.proofs.GroundTaskLemmas.{are_numbered, numbered-distinct, numbered-fluent}
 use Rattle.model.proofs.NumberingLemmas.{distinct-from_pairs, Contains-stands_in}

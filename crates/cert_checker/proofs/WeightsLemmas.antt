@@ -21,7 +21,7 @@ use Rattle.potential_functions.specs.Fair.{touches, worst, loses, instance_loses
 use Rattle.potential_functions.proofs.Sums.{sum-alike}
 use Rattle.potential_functions.proofs.Ranges.{zero-range}
 use Rattle.potentials.specs.Fairness.{AreInstancesFair}
-use Rattle.certificate_text.specs.Certificates.{Certificate, is_claim, is_weight, is_state_line, are_potentials, keeps_limits}
+use Rattle.certificate_definitions.specs.Certificates.{Certificate, is_claim, is_weight, is_state_line, are_potentials, keeps_limits}
 use Rattle.cert_checker.specs.Weights.{HasItsWeights}
 use Rattle.cert_checker.specs.CertChecker.{IsFirstToLose, IsUnfair}
 

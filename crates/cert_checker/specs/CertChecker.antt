@@ -2,8 +2,8 @@
 use Rattle.std.specs.Prelude.{◌≡◌, ℕ, ◌+◌, ◌<◌, List, Contains, slice_get, MatchOption, Option, None, Some, IsSome}
 use Rattle.cert_checker.specs.declared.checker.Accepted.{Accepted}
 use Rattle.cert_checker.specs.declared.checker.Accepted.TheVariants.{Optimal, AtLeast, Unsolvable}
-use Rattle.certificate_listing.specs.declared.refusal.Refusal.{Refusal}
-use Rattle.certificate_listing.specs.declared.refusal.Refusal.TheVariants as refusal
+use Rattle.cert_checker.specs.declared.refusal.Refusal.{Refusal}
+use Rattle.cert_checker.specs.declared.refusal.Refusal.TheVariants as refusal
 use Rattle.formulas.specs.State.{instance_of}
 use Rattle.cert_checker.specs.Reasons.{reason_of}
 use Rattle.model.specs.Task.{Task, Instance}
@@ -14,8 +14,8 @@ use Rattle.model.specs.NumberedAtoms.{numbered_atoms}
 use Rattle.model.specs.Instances.{successors_of}
 use Rattle.model.specs.Claims.{Claim, bound, none, Line, IsListedWithin}
 use Rattle.potential_functions.specs.Fair.{IsFairAt, IsFirstUnfair}
-use Rattle.certificate_text.specs.Certificates.{Certificate, lines_of}
-use Rattle.certificate_text.specs.CertificateRefusals.{Reason, limit, unfair, successor_missing, successor_dearer, IsFirst, IsListed, HasState, IsWrong, IsWrongLine}
+use Rattle.certificate_definitions.specs.Certificates.{Certificate, lines_of}
+use Rattle.certificate_definitions.specs.CertificateRefusals.{Reason, limit, unfair, successor_missing, successor_dearer, IsFirst, IsListed, HasState, IsWrong, IsWrongLine}
 
 -- What an accepted certificate shows is true, of all lists of instances: the plan that was handed in is optimal at
 -- this cost; every list that solves costs at least this; no list solves.

@@ -1,6 +1,6 @@
 -- What the checker finds out of a certificate's lines, one after another.
 use Rattle.std.specs.Prelude.{◌≡◌, ◌≢◌, ℕ, ◌+◌, ◌<◌, ◌≤◌, IsTrue, List, length, AllPairs, Contains, slice_get, Option, None, Some}
-use Rattle.certificate_listing.specs.declared.refusal.Refusal.{Refusal}
+use Rattle.cert_checker.specs.declared.refusal.Refusal.{Refusal}
 use Rattle.cert_checker.specs.FluentAtoms.{AreFluent}
 use Rattle.cert_checker.specs.CertChecker.{IsFirstRefusal, IsTrueRefusal}
 use Rattle.model.specs.Task.{Task, Instance}
@@ -10,7 +10,7 @@ use Rattle.model.specs.Limits.{max_numbered_atoms}
 use Rattle.model.specs.Grounding.{limit_told}
 use Rattle.model.specs.Claims.{none, Allows, Line, IsListedWithin}
 use Rattle.potential_functions.specs.Fair.{AreFair}
-use Rattle.certificate_text.specs.Certificates.{Certificate, StateLine, lines_of, value_of}
+use Rattle.certificate_definitions.specs.Certificates.{Certificate, StateLine, lines_of, value_of}
 
 -- the refusal is true, whatever plan is handed in and whatever the limit of kept instances
 abbrev pub IsTrueAnyway : Task → Certificate → Refusal → Type 0

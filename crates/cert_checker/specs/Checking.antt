@@ -4,12 +4,12 @@ use Rattle.std.specs.Io.KnownBytes.{Consumes, IsAtEnd}
 use Rattle.model.specs.Task.{Task, Instance}
 use Rattle.model.specs.Limits.{max_numbered_atoms}
 use Rattle.model.specs.Grounding.{limit_told}
-use Rattle.certificate_text.specs.Certificates.{Certificate}
-use Rattle.certificate_text.specs.CertificateChecking.{IsAccepted}
+use Rattle.certificate_definitions.specs.Certificates.{Certificate}
+use Rattle.certificate_definitions.specs.CertificateChecking.{IsAccepted}
 use Rattle.certificate_reader.specs.declared.reader.CertReader.{CertReader}
 use Rattle.certificate_reader.specs.Reader.{source_of}
-use Rattle.certificate_listing.specs.declared.refusal.Refusal.{Refusal}
-use Rattle.certificate_listing.specs.Reading.{IsLineRefusal, IsRead}
+use Rattle.cert_checker.specs.declared.refusal.Refusal.{Refusal}
+use Rattle.cert_checker.specs.Reading.{IsLineRefusal, IsRead}
 use Rattle.cert_checker.specs.declared.checker.Accepted.{Accepted}
 use Rattle.cert_checker.specs.CertChecker.{Answers, IsFirstRefusal, IsTrueRefusal}
 

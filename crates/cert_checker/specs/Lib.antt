@@ -1,3 +1,9 @@
+pub mod RefusalCode
+pub mod CertFaults
+pub mod Told
+pub mod Listed
+pub mod Taking
+pub mod Reading
 pub mod Reasons
 pub mod CertChecker
 pub mod Checking

@@ -6,7 +6,7 @@ use Rattle.packed_state.specs.Sets.{set_of}
 use Rattle.cert_checker.specs.FluentAtoms.{AreFluent}
 use Rattle.model.specs.Task.{Atom, Task}
 use Rattle.model.specs.NumberedAtoms.{numbered_atoms}
-use Rattle.certificate_text.specs.Certificates.{Certificate, StateLine}
+use Rattle.certificate_definitions.specs.Certificates.{Certificate, StateLine}
 
 -- the line's numbers, as a set of numbers below the width
 abbrev pub packed_line : ℕ → StateLine → List Bool

@@ -2,12 +2,12 @@
 use Rattle.std.specs.Prelude.{◌≡◌, List, length}
 use Rattle.packed_state.specs.declared.packed.Packed.{Packed}
 use Rattle.packed_state.specs.Packed.{bits_of}
-use Rattle.certificate_listing.specs.Listing.{certificate_in}
+use Rattle.certificate.specs.Listing.{certificate_in}
 use Rattle.grounding.specs.Ground.{task_in, atoms_in}
 use Rattle.cert_checker.specs.declared.checker.packed.PackedListing.{PackedListing}
 use Rattle.model.specs.Task.{Atom, Task}
 use Rattle.model.specs.Meaning.{State}
-use Rattle.certificate_text.specs.Certificates.{Certificate}
+use Rattle.certificate_definitions.specs.Certificates.{Certificate}
 use Rattle.model.specs.Grounding.{state_of_bits}
 
 abbrev pub task_at : PackedListing → Task

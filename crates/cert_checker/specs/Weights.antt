@@ -1,7 +1,7 @@
 -- A certificate's potential function, for a ground task in which more atoms than the certificate's have numbers.
 use Rattle.std.specs.Prelude.{◌≡◌, ℕ, length}
 use Rattle.potential_functions.specs.PotentialFunctions.{PotentialFunction, weight}
-use Rattle.certificate_text.specs.Certificates.{Certificate}
+use Rattle.certificate_definitions.specs.Certificates.{Certificate}
 
 -- There is a weight for each number below the width: the one that the certificate gives to its atom, and else 0.
 pub record HasItsWeights (c : Certificate) (width : ℕ) (p : PotentialFunction) : Type 0 where

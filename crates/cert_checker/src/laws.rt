@@ -1,11 +1,15 @@
 //! Laws of certificates, over all tasks and all certificates. They are proved; the calls do nothing.
-ghost use Rattle.std.specs.Prelude.{List};
+ghost use Rattle.std.specs.Prelude.{IsTrue, List, Option};
 ghost use Rattle.model.specs.Task.{Task, Instance};
 ghost use Rattle.model.specs.Runs.{Solves};
 ghost use Rattle.model.specs.Meaning.{system_of};
 ghost use Rattle.model.specs.Claims.{ClaimHolds, IsLowerBound};
-ghost use Rattle.certificate_text.specs.CertificateExamples.{AreJudged};
-ghost use Rattle.certificate_text.specs.Certificates.{Certificate, lines_of, value_of, IsClosedFor};
+ghost use Rattle.model.specs.WellTyped.{is_task};
+ghost use Rattle.certificate_definitions.specs.CertificateExamples.{AreJudged};
+ghost use Rattle.certificate_definitions.specs.Certificates.{Certificate, lines_of, value_of, IsClosedFor, keeps_limits};
+ghost use Rattle.certificate_definitions.specs.CertificateRefusals.{IsPlanWithin};
+ghost use Rattle.certificate_definitions.specs.CertificateNames.{IsTextOf, are_atoms_of, certificate_text, has_atom_names};
+ghost use Rattle.certificate_definitions.specs.CertificateChecking.{IsAccepted};
 ghost use Rattle.cert_checker.specs.OnListing.{StaysListed};
 
 /// What a certificate that is closed for a task claims is true of all lists of instances, whatever their length; and the
@@ -26,4 +30,16 @@ pub fn solving_list_stays_listed()
 /// The worked examples of certificates: small ones that are closed, or what is wrong with them.
 pub fn examples_are_judged()
     ensures { AreJudged }
+{}
+
+/// What is written of a certificate within the limits, for a well-typed task, is a text that says this certificate.
+pub fn written_certificates_read_back()
+    ensures { (task : Task) (c : Certificate) → IsTrue (is_task task) → IsTrue (has_atom_names task) → IsTrue (are_atoms_of task c)
+        → IsTrue (keeps_limits c) → IsTextOf task (certificate_text task c) c }
+{}
+
+/// Where the certificate is closed for the task, that text is accepted, with any plan that is within its claim.
+pub fn closed_certificates_are_accepted()
+    ensures { (task : Task) (c : Certificate) (plan : Option (List Instance)) → IsTrue (is_task task) → IsTrue (has_atom_names task)
+        → IsTrue (keeps_limits c) → IsClosedFor task c → IsPlanWithin task c.claim plan → IsAccepted task (certificate_text task c) plan }
 {}

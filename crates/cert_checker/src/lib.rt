@@ -1,10 +1,19 @@
-//! The checker of certificates: it goes through a certificate's listing of states once, and what it accepts is true of
-//! every plan of the task.
+//! The checker of certificates: it reads a certificate's listing of states from its lines and goes through it once, and what
+//! it accepts is true of every plan of the task.
 #![tactic(auto)]
 
+mod beginning;
 mod checker;
 mod laws;
+mod listed_states;
+mod listing_reader;
+mod named_atoms;
+mod refusal;
 
-pub use certificate_listing::{Refusal, RefusalCode};
 pub use checker::{Accepted, check};
-pub use laws::{closed_claim_holds, examples_are_judged, solving_list_stays_listed};
+pub use laws::{
+    closed_certificates_are_accepted, closed_claim_holds, examples_are_judged,
+    solving_list_stays_listed, written_certificates_read_back,
+};
+pub use listing_reader::read_listing;
+pub use refusal::{Refusal, RefusalCode};

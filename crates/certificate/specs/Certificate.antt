@@ -1,7 +1,7 @@
 -- The code's certificate, in the model's terms.
 use Rattle.certificate.specs.declared.cert.Cert.{Cert}
 use Rattle.certificate.specs.CertificateParts.{certificate_of_parts}
-use Rattle.certificate_text.specs.Certificates as certificates
+use Rattle.certificate_definitions.specs.Certificates as certificates
 
 abbrev pub certificate_of : Cert → certificates.Certificate
 certificate_of c = certificate_of_parts c.claim c.constant c.atoms.items c.weights.items c.lines.items

@@ -1,2 +1,6 @@
 pub mod CertificateParts
 pub mod Certificate
+pub mod Gathering
+pub mod ListedSets
+pub mod ListingParts
+pub mod Listing

@@ -1,11 +1,11 @@
 //! Certificates in memory.
 ghost use Rattle.std.specs.Prelude.{◌≡◌, IsTrue, length, map};
 ghost use Rattle.std.specs.List.{list_all};
-ghost use Rattle.certificate_text.specs.Certificates.{is_number, is_weight, is_claim, rise, is_state_line, are_potentials, keeps_limits};
-ghost use Rattle.certificate_lines.specs.Lines.{claim_of, line_of};
+ghost use Rattle.certificate_definitions.specs.Certificates.{is_number, is_weight, is_claim, rise, is_state_line, are_potentials, keeps_limits};
+ghost use Rattle.certificate_reader.specs.Lines.{claim_of, line_of};
 ghost use Rattle.certificate.specs.CertificateParts.{certificate_of_parts};
 
-use certificate_lines::{Claim, MAX_ATOMS, MAX_STATE_LINES, MAX_WEIGHT, NUMBER_LIMIT, StateLine};
+use certificate_reader::{Claim, MAX_ATOMS, MAX_STATE_LINES, MAX_WEIGHT, NUMBER_LIMIT, StateLine};
 use task_parts::Atom;
 
 /// A claim with the potential function and the listing of states that are to show it, within the limits of a certificate's
@@ -25,7 +25,7 @@ pub struct Cert {
 impl Cert {
     ghost use Rattle.std.specs.Prelude.{is_some, IfSome, ◌≤◌};
     ghost use Rattle.certificate.specs.Certificate.{certificate_of};
-    ghost use Rattle.certificate_lines.specs.declared.line.TheConstants.{MAX_ATOMS, MAX_STATE_LINES};
+    ghost use Rattle.certificate_reader.specs.declared.line.TheConstants.{MAX_ATOMS, MAX_STATE_LINES};
     ghost use Rattle.task_parts.specs.TaskParts.{atom_of};
 
     /// The certificate of these parts, and `None` where they exceed a limit of a certificate's text.

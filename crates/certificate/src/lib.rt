@@ -1,13 +1,22 @@
-//! Certificates: what is claimed of all plans of a task, with the listing of states that shows it; and the devices that
-//! texts come from and go to.
+//! Certificates: what is claimed of all plans of a task, with the listing of states that shows it; what is written of one,
+//! and what is read of a text; and the devices that texts come from and go to.
 #![tactic(auto)]
 
 mod cert;
+mod line_text;
+mod listing;
+mod listing_parts;
+mod widening;
+mod writer;
 
 pub use cert::Cert;
-pub use certificate_lines::{
-    Claim, MAX_ATOMS, MAX_STATE_LINES, MAX_WEIGHT, NUMBER_LIMIT, StateLine,
+pub use certificate_reader::{
+    CertFault, CertLine, CertReader, Claim, LONGEST_LINE, MAX_ATOMS, MAX_STATE_LINES, MAX_WEIGHT,
+    NUMBER_LIMIT, NamedAtom, StateLine, TextFault, texts_are_certificates_one_for_one,
 };
 pub use devices::{
     Device, DeviceFault, Endless, FailsAt, InPieces, Memory, Sink, Source, WriteFault, write_all,
 };
+pub use listing::Listing;
+pub use listing_parts::{Beginning, Mark, States};
+pub use writer::write_cert;

@@ -3,11 +3,11 @@ use Rattle.std.proofs.Common.{◌≡◌, ◌≢◌, ℕ, inl, inr, List, [], ◌
 use Rattle.std.specs.Prelude.{IsTrue}
 use Rattle.std.specs.Option.{option_and_then}
 use Rattle.std.specs.Fmt.{decimal}
-use Rattle.certificate_text.specs.Certificates.{is_number}
-use Rattle.certificate_text.specs.CertificateText.{TextLine, version, claims, constant, atom, listed, last, is_line, line_text, MayFollow, IsOtherVersion, IsOneTooMany, HasLine, IsFaultAfter, other_version, malformed, too_many}
-use Rattle.certificate_text.specs.CertificateMachine.{Place, at_version, at_claim, at_constant, in_body, ended, next_place, place_from, place_after}
-use Rattle.certificate_text.proofs.Machine.{StandsBefore, stands, followed, place_same}
-use Rattle.certificate_text.proofs.TooMany.{IsTooManyAt, too_many_at, too_many_of}
+use Rattle.certificate_definitions.specs.Certificates.{is_number}
+use Rattle.certificate_definitions.specs.CertificateText.{TextLine, version, claims, constant, atom, listed, last, is_line, line_text, MayFollow, IsOtherVersion, IsOneTooMany, HasLine, IsFaultAfter, other_version, malformed, too_many}
+use Rattle.certificate_definitions.specs.CertificateMachine.{Place, at_version, at_claim, at_constant, in_body, ended, next_place, place_from, place_after}
+use Rattle.certificate_definitions.proofs.Machine.{StandsBefore, stands, followed, place_same}
+use Rattle.certificate_definitions.proofs.TooMany.{IsTooManyAt, too_many_at, too_many_of}
 use Rattle.certificate_reader.specs.Stages.{IsOver, atoms_at}
 
 -- ---- limits, in both words

@@ -7,11 +7,11 @@ use Rattle.std.specs.List.{position, position_or_len}
 use Rattle.std.proofs.lemmas.Bool.{eqb-true}
 use Rattle.std.proofs.lemmas.List.{get_or-take, length-take, take-append-drop, take_all}
 use Rattle.std.proofs.lemmas.List.Sums.{split_at_first, fails_before_first, passes_at_first}
-use Rattle.certificate_text.specs.Certificates.{is_number}
-use Rattle.certificate_lines.specs.declared.line.CertLine.{CertLine}
-use Rattle.certificate_text.specs.CertificateText.{TextLine, is_line, line_text, longest_line, whole_line, HasLine, IsFaultAfter, too_long, cut_short}
-use Rattle.certificate_text.specs.CertificateMachine.{Place, at_version, ended, next_place, place_after}
-use Rattle.certificate_text.proofs.Machine.{not_whole}
+use Rattle.certificate_definitions.specs.Certificates.{is_number}
+use Rattle.certificate_reader.specs.declared.line.CertLine.{CertLine}
+use Rattle.certificate_definitions.specs.CertificateText.{TextLine, is_line, line_text, longest_line, whole_line, HasLine, IsFaultAfter, too_long, cut_short}
+use Rattle.certificate_definitions.specs.CertificateMachine.{Place, at_version, ended, next_place, place_after}
+use Rattle.certificate_definitions.proofs.Machine.{not_whole}
 use Rattle.certificate_reader.specs.declared.stage.Stage.{Stage}
 use Rattle.certificate_reader.specs.declared.next.NextFault.{NextFault}
 use Rattle.certificate_reader.specs.declared.next.NextFault.TheVariants.{Text, Device, NoMemory}

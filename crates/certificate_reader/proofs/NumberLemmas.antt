@@ -11,7 +11,7 @@ use Rattle.itoa.proofs.Decimal.{IsAscii-signed_decimal}
 use Rattle.std.proofs.lemmas.Bool.{leb-true, ltb-true}
 use Rattle.std.proofs.lemmas.Fmt.{IsAscii-decimal, parse-decimal, parse-signed_decimal, signed_decimal_injective}
 use Rattle.std.proofs.lemmas.Str.{IsUtf8-from_ascii}
-use Rattle.certificate_text.specs.Certificates.{is_number, is_weight}
+use Rattle.certificate_definitions.specs.Certificates.{is_number, is_weight}
 
 module _ (n : ℕ) (is : IsTrue (is_number n)) where
   fits : n < 2 ^ 64

@@ -10,8 +10,8 @@ use Rattle.std.proofs.lemmas.Fmt.{decimal_injective}
 use Rattle.std.proofs.lemmas.List.{map-append}
 use Rattle.std.proofs.lemmas.Slice.Eq.{bytes_eq-Decides}
 use Rattle.model.specs.Claims.{Claim, bound, none}
-use Rattle.certificate_text.specs.Certificates.{is_number, rise}
-use Rattle.certificate_text.specs.CertificateText.{most_atoms}
+use Rattle.certificate_definitions.specs.Certificates.{is_number, rise}
+use Rattle.certificate_definitions.specs.CertificateText.{most_atoms}
 use Rattle.certificate_reader.specs.Words.{IsFirstWord, claim_rest, text_in, then_words, with_rest}
 use Rattle.certificate_reader.proofs.NumberLemmas.{is_below}
 use Rattle.certificate_reader.proofs.WordLemmas.{one_first}

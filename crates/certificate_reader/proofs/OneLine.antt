@@ -7,8 +7,8 @@ use Rattle.std.proofs.lemmas.Bool.{and_parts}
 use Rattle.std.proofs.lemmas.List.{append_cancel_left}
 use Rattle.model.specs.Claims.{Claim, bound, none}
 use Rattle.model.specs.PlanWriting.{is_lower_name}
-use Rattle.certificate_text.specs.Certificates.{is_claim, is_number, is_weight}
-use Rattle.certificate_text.specs.CertificateText.{NamedAtom, WeightedAtom, TextLine, version, claims, constant, atom, listed, last, is_line, line_text, longest_line}
+use Rattle.certificate_definitions.specs.Certificates.{is_claim, is_number, is_weight}
+use Rattle.certificate_definitions.specs.CertificateText.{NamedAtom, WeightedAtom, TextLine, version, claims, constant, atom, listed, last, is_line, line_text, longest_line}
 use Rattle.certificate_reader.specs.Words.{IsNumbered, IsReadAs, are_lower, atom_rest, claim_rest, is_word, line_head, line_rest, then_words}
 use Rattle.certificate_reader.proofs.WordLemmas.{one_first}
 use Rattle.certificate_reader.proofs.LineLemmas.{all_words, head_is_word, line_splits, lower_name_is_word, number_is_word, weight_is_word}
@@ -16,7 +16,7 @@ use Rattle.certificate_reader.proofs.NumberLemmas.{same_weight}
 use Rattle.certificate_reader.proofs.NumbersRead.{same_number, rising_are_numbers}
 use Rattle.certificate_reader.proofs.NamesRead.{names_are_words}
 use Rattle.certificate_reader.proofs.LinesRead.{IsCut, cut_of, open_parts, atom_text, inner_of, same_inner, unlike}
-use Rattle.certificate_text.specs.CertificateText.{most_atoms}
+use Rattle.certificate_definitions.specs.CertificateText.{most_atoms}
 use Rattle.std.proofs.Common.{◌≤◌}
 
 -- ---- claims

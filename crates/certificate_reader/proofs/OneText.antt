@@ -13,8 +13,8 @@ use Rattle.std.proofs.lemmas.Str.Parse.{tells_digits}
 use Rattle.model.specs.Words.{is_name, is_name_byte}
 use Rattle.model.specs.PlanWriting.{is_lower_name}
 use Rattle.model.specs.Claims.{Claim, bound, none}
-use Rattle.certificate_text.specs.Certificates.{StateLine, is_number, is_weight, rise}
-use Rattle.certificate_text.specs.CertificateText.{WeightedAtom, NamedCertificate, TextLine, version, claims, constant, atom, listed, last, after_blank, is_line, line_text, text_of, text_lines, keeps_text_limits, IsCertificateText, longest_line, most_atoms, most_states}
+use Rattle.certificate_definitions.specs.Certificates.{StateLine, is_number, is_weight, rise}
+use Rattle.certificate_definitions.specs.CertificateText.{WeightedAtom, NamedCertificate, TextLine, version, claims, constant, atom, listed, last, after_blank, is_line, line_text, text_of, text_lines, keeps_text_limits, IsCertificateText, longest_line, most_atoms, most_states}
 use Rattle.certificate_reader.specs.Words.{are_lower}
 use Rattle.certificate_reader.proofs.NumberLemmas.{is_below}
 use Rattle.certificate_reader.proofs.NumbersRead.{few_are_numbers, rise_parts}

@@ -1,3 +1,4 @@
+pub mod Lines
 pub mod Ends
 pub mod Words
 pub mod Parsing

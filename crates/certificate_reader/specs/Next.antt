@@ -5,10 +5,10 @@ use Rattle.std.specs.Io.KnownBytes.{Consumes, IsAtEnd, Keeps}
 use Rattle.devices.specs.Devices.{one_more}
 use Rattle.devices.specs.declared.device.WriteFault.{WriteFault}
 use Rattle.devices.specs.declared.device.WriteFault.TheVariants as device
-use Rattle.certificate_lines.specs.declared.line.CertLine.{CertLine}
-use Rattle.certificate_lines.specs.Lines.{text_line_of}
-use Rattle.certificate_text.specs.CertificateText.{TextLine, IsFaultAfter, longest_line, whole_line}
-use Rattle.certificate_text.specs.CertificateMachine.{Place, ended, next_place, place_after}
+use Rattle.certificate_reader.specs.declared.line.CertLine.{CertLine}
+use Rattle.certificate_reader.specs.Lines.{text_line_of}
+use Rattle.certificate_definitions.specs.CertificateText.{TextLine, IsFaultAfter, longest_line, whole_line}
+use Rattle.certificate_definitions.specs.CertificateMachine.{Place, ended, next_place, place_after}
 use Rattle.certificate_reader.specs.declared.stage.Stage.{Stage}
 use Rattle.certificate_reader.specs.declared.next.NextFault.{NextFault}
 use Rattle.certificate_reader.specs.declared.next.NextFault.TheVariants.{Text, Device, NoMemory}

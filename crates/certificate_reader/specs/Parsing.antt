@@ -1,12 +1,12 @@
 -- What is told of bytes that are to be a line.
 use Rattle.std.specs.Prelude.{◌≡◌, ◌≢◌, ℕ, List, ◌++◌, codes, Result, Ok, Err, IsTrue}
 use Rattle.std.specs.Fmt.{decimal}
-use Rattle.certificate_text.specs.Certificates.{is_number}
-use Rattle.certificate_lines.specs.declared.line.CertLine.{CertLine}
-use Rattle.certificate_lines.specs.Lines.{text_line_of}
-use Rattle.certificate_text.specs.CertificateText.{TextLine, is_line, line_text}
-use Rattle.certificate_reader.specs.declared.line.LineFault.{LineFault}
-use Rattle.certificate_reader.specs.declared.line.LineFault.TheVariants.{OtherVersion, Malformed, TooMany, NoMemory}
+use Rattle.certificate_definitions.specs.Certificates.{is_number}
+use Rattle.certificate_reader.specs.declared.line.CertLine.{CertLine}
+use Rattle.certificate_reader.specs.Lines.{text_line_of}
+use Rattle.certificate_definitions.specs.CertificateText.{TextLine, is_line, line_text}
+use Rattle.certificate_reader.specs.declared.parsing.LineFault.{LineFault}
+use Rattle.certificate_reader.specs.declared.parsing.LineFault.TheVariants.{OtherVersion, Malformed, TooMany, NoMemory}
 use Rattle.certificate_reader.specs.Words.{IsReadAs}
 
 -- the bytes are the line that is answered, where so many atoms are named; or the first line of another version; or neither

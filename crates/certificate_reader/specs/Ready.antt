@@ -2,8 +2,8 @@
 use Rattle.std.specs.Prelude.{◌≡◌, ◌≢◌, ℕ, ◌<◌, ◌≤◌, Bool, false, true, ◌||◌, nat_lt, List, [], ◌∷◌, ◌++◌, length, is_some, Option, None, Some}
 use Rattle.std.specs.List.{position, position_or_len}
 use Rattle.std.specs.Io.KnownBytes.{Consumes, IsAtEnd}
-use Rattle.certificate_text.specs.CertificateText.{longest_line}
-use Rattle.certificate_text.specs.CertificateMachine.{Place, at_version, at_claim, at_constant, in_body, ended}
+use Rattle.certificate_definitions.specs.CertificateText.{longest_line}
+use Rattle.certificate_definitions.specs.CertificateMachine.{Place, at_version, at_claim, at_constant, in_body, ended}
 use Rattle.certificate_reader.specs.declared.ready.Ready.{Ready}
 use Rattle.certificate_reader.specs.declared.ready.Ready.TheVariants.{Line, TooLong, End}
 use Rattle.certificate_reader.specs.Ends.{is_end}

@@ -1,17 +1,17 @@
 -- Where the code's reader stands, and what comes of a line there.
 use Rattle.std.specs.Prelude.{◌≡◌, ◌≢◌, ℕ, Bool, true, ◌&&◌, nat_le, List, ◌++◌, codes, None, Some, Result, Ok, Err, IsTrue}
 use Rattle.std.specs.Fmt.{decimal}
-use Rattle.certificate_text.specs.Certificates.{is_number}
-use Rattle.certificate_lines.specs.declared.line.CertLine.{CertLine}
-use Rattle.certificate_lines.specs.Lines.{text_line_of}
-use Rattle.certificate_text.specs.CertificateText.{TextLine, atom, listed, is_line, line_text, most_atoms, most_states}
-use Rattle.certificate_text.specs.CertificateMachine.{Place, at_version, at_claim, at_constant, in_body, ended, next_place}
+use Rattle.certificate_definitions.specs.Certificates.{is_number}
+use Rattle.certificate_reader.specs.declared.line.CertLine.{CertLine}
+use Rattle.certificate_reader.specs.Lines.{text_line_of}
+use Rattle.certificate_definitions.specs.CertificateText.{TextLine, atom, listed, is_line, line_text, most_atoms, most_states}
+use Rattle.certificate_definitions.specs.CertificateMachine.{Place, at_version, at_claim, at_constant, in_body, ended, next_place}
 use Rattle.certificate_reader.specs.declared.stage.Stage.{Stage}
 use Rattle.certificate_reader.specs.declared.stage.Stage.TheVariants as stage
 use Rattle.certificate_reader.specs.declared.stage.Step.{Step}
 use Rattle.certificate_reader.specs.declared.stage.Step.TheVariants as step
-use Rattle.certificate_reader.specs.declared.line.LineFault.{LineFault}
-use Rattle.certificate_reader.specs.declared.line.LineFault.TheVariants.{OtherVersion, Malformed, TooMany, NoMemory}
+use Rattle.certificate_reader.specs.declared.parsing.LineFault.{LineFault}
+use Rattle.certificate_reader.specs.declared.parsing.LineFault.TheVariants.{OtherVersion, Malformed, TooMany, NoMemory}
 
 abbrev pub place_of : Stage → Place
 place_of stage.Version = at_version

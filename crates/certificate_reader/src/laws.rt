@@ -1,6 +1,6 @@
 //! Laws of certificates' texts. They are proved; the calls do nothing.
 ghost use Rattle.std.specs.Prelude.{◌≡◌, ℕ, List};
-ghost use Rattle.certificate_text.specs.CertificateText.{NamedCertificate, IsCertificateText};
+ghost use Rattle.certificate_definitions.specs.CertificateText.{NamedCertificate, IsCertificateText};
 
 /// A certificate has at most one text, and a text is at most one certificate.
 pub fn texts_are_certificates_one_for_one()

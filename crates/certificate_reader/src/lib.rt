@@ -1,19 +1,24 @@
-//! Certificates, read from their texts.
+//! Certificates' texts: their lines, by what each says, and the reader that hands them out.
 #![tactic(auto)]
 
+mod first_word;
 mod laws;
 mod line;
-mod names;
+mod lower_names;
 mod next;
 mod number;
+mod parsing;
 mod parts;
 mod position;
 mod reader;
 mod ready;
 mod stage;
 mod waiting;
-mod word;
 
 pub use laws::texts_are_certificates_one_for_one;
+pub use line::{
+    CertLine, Claim, LONGEST_LINE, MAX_ATOMS, MAX_STATE_LINES, MAX_WEIGHT, NUMBER_LIMIT, NamedAtom,
+    StateLine,
+};
 pub use next::TextFault;
 pub use reader::{CertFault, CertReader};

@@ -1,244 +1,70 @@
-//! A line of a certificate's text, read.
-ghost use Rattle.std.specs.Prelude.{◌≡◌, ◌≢◌, ℕ, ◌≤◌, ◌++◌, codes, Err, IfNone, IfOk, IfSome, IsTrue, List, Some, length};
-ghost use Rattle.std.specs.Fmt.{decimal};
-ghost use Rattle.certificate_text.specs.Certificates.{is_number};
-ghost use Rattle.certificate_text.specs.CertificateText.{TextLine, is_line, line_text, listed, longest_line, most_atoms};
-ghost use Rattle.certificate_lines.specs.Lines.{line_of, named_atom_of, text_line_of};
-ghost use Rattle.certificate_text.specs.CertificateText as text;
-ghost use Rattle.certificate_reader.specs.Parsing.{IsParsed, IsParsedBehind};
-ghost use Rattle.certificate_reader.specs.Words.{IsReadAs, are_lower, atom_rest, with_rest};
+//! What a line of a certificate's text says.
 
-use crate::names::{copy, is_lower_name, names};
-use crate::number::{number, weight};
-use crate::parts::{claim, numbered};
-use crate::word::{first_word, is};
-use certificate_lines::{CertLine, NamedAtom, StateLine};
-use std::alloc::{AllocError, Global};
+/// The most atoms that a certificate may have.
+pub const MAX_ATOMS: usize = 1_048_576;
 
-/// Why bytes are not read as a line.
+/// The most state lines that a certificate may have.
+pub const MAX_STATE_LINES: usize = 16_777_216;
+
+/// The constant of a certificate's potential function and each of its weights is at most this, and no less than its negative.
+pub const MAX_WEIGHT: i64 = 2_147_483_647;
+
+/// Each cost and each bound in a certificate is below this number, 2 to the power 60.
+pub const NUMBER_LIMIT: u64 = 1_152_921_504_606_846_976;
+
+/// The most bytes that a line of a certificate's text may have, without its LF.
+pub const LONGEST_LINE: usize = 16_777_216;
+
+/// What a certificate claims of all plans.
 #[derive(Clone, Copy, Debug, PartialEq, Eq)]
-pub(crate) enum LineFault {
-    /// They are the first line of another version.
-    OtherVersion,
-    /// They are no line that may stand there.
-    Malformed,
-    /// They are one atom, or one state, more than there may be.
-    TooMany,
-    /// Memory that was asked for was refused.
-    NoMemory,
+pub enum Claim {
+    /// Every plan that solves the task costs at least this.
+    Bound(u64),
+    /// No plan solves the task.
+    Unsolvable,
 }
 
-impl From<AllocError> for LineFault {
-    ghost use Rattle.std.specs.Prelude.{◌≡◌};
-    ghost use Rattle.certificate_reader.specs.declared.line.LineFault.TheVariants.{NoMemory};
-
-    ghost from_gives = { λ _ fault. fault ≡ NoMemory };
-
-    fn from(_error: AllocError) -> LineFault {
-        LineFault::NoMemory
-    }
+/// A state of the listing: open, so that all its successors are listed too, or cut.
+#[derive(Debug, PartialEq, Eq, Drop)]
+pub struct StateLine {
+    /// The cost at which the state is listed.
+    pub cost: u64,
+    /// Of a cut, a lower bound of what is still to pay from the state on; `None` for an open state.
+    pub cut: Option<u64>,
+    /// The state's fluent atoms, by their places, from 0, among the certificate's atoms, rising.
+    pub atoms: Vec<u32>,
 }
 
-/// The line that these bytes are, without an LF, where so many atoms are named by their numbers.
-///
-/// # Errors
-/// [`LineFault::OtherVersion`] for `pddl-cert N` where N is not 1; [`LineFault::Malformed`] for all else that is no line;
-/// [`LineFault::NoMemory`] where memory is refused.
-pub(crate) fn parse(alloc: Global, bytes: &[u8], atom_count: usize) -> Result<CertLine, LineFault>
-    requires few { atom_count ≤ most_atoms }
-    requires short { length bytes.now ≤ longest_line }
-    ensures { IsParsed bytes.now atom_count result }
-{
-    let (word, behind) = first_word(bytes);
-    let Some(rest) = behind else {
-        return Err(LineFault::Malformed);
-    };
-    parse_behind(alloc, word, rest, atom_count)
+/// An atom by the names of its predicate and its objects, in lower case.
+#[derive(Debug, PartialEq, Eq, Drop)]
+pub struct NamedAtom {
+    /// The predicate's name.
+    pub predicate: Vec<u8>,
+    /// The objects' names, in order.
+    pub objects: Vec<Vec<u8>>,
 }
 
-/// The line that begins with this word, behind which the rest stands.
-fn parse_behind(
-    alloc: Global,
-    word: &[u8],
-    rest: &[u8],
-    atom_count: usize,
-) -> Result<CertLine, LineFault>
-    requires few { atom_count ≤ most_atoms }
-    requires short { length (with_rest word.now (Some rest.now)) ≤ longest_line }
-    ensures { IsParsedBehind word.now rest.now atom_count result }
-{
-    if is(word, b"open") {
-        return open_line(alloc, rest, atom_count);
-    }
-    if is(word, b"cut") {
-        return cut_line(alloc, rest, atom_count);
-    }
-    if is(word, b"atom") {
-        return atom_line(alloc, rest);
-    }
-    if is(word, b"end") {
-        return last_line(rest);
-    }
-    if is(word, b"claim") {
-        return claim_line(rest);
-    }
-    if is(word, b"constant") {
-        return constant_line(rest);
-    }
-    if is(word, b"pddl-cert") {
-        return head_line(rest);
-    }
-    Err(LineFault::Malformed)
-}
-
-/// The first line, of which the rest stands behind `pddl-cert`.
-fn head_line(rest: &[u8]) -> Result<CertLine, LineFault>
-    ensures { (atom_count : ℕ) → IsParsedBehind (codes "pddl-cert") rest.now atom_count result }
-{
-    match number(rest) {
-        Some(1) => Ok(CertLine::Head),
-        Some(_) => Err(LineFault::OtherVersion),
-        None => Err(LineFault::Malformed),
-    }
-}
-
-/// The line of the claim that stands behind `claim`.
-fn claim_line(rest: &[u8]) -> Result<CertLine, LineFault>
-    ensures { (atom_count : ℕ) → IsParsedBehind (codes "claim") rest.now atom_count result }
-{
-    match claim(rest) {
-        Some(claim) => Ok(CertLine::Claim(claim)),
-        None => Err(LineFault::Malformed),
-    }
-}
-
-/// The line of the constant that stands behind `constant`.
-fn constant_line(rest: &[u8]) -> Result<CertLine, LineFault>
-    ensures { (atom_count : ℕ) → IsParsedBehind (codes "constant") rest.now atom_count result }
-{
-    match weight(rest) {
-        Some(constant) => Ok(CertLine::Constant(constant)),
-        None => Err(LineFault::Malformed),
-    }
-}
-
-/// The last line, whose count stands behind `end`.
-fn last_line(rest: &[u8]) -> Result<CertLine, LineFault>
-    ensures { (atom_count : ℕ) → IsParsedBehind (codes "end") rest.now atom_count result }
-{
-    match number(rest) {
-        Some(count) => Ok(CertLine::Last { count }),
-        None => Err(LineFault::Malformed),
-    }
-}
-
-/// The line of the atom, with its weight, that stands behind `atom`.
-fn atom_line(alloc: Global, rest: &[u8]) -> Result<CertLine, LineFault>
-    requires short { length (with_rest (codes "atom") (Some rest.now)) ≤ longest_line }
-    ensures { (atom_count : ℕ) → IsParsedBehind (codes "atom") rest.now atom_count result }
-{
-    let (word, behind) = first_word(rest);
-    let Some(weight) = weight(word) else {
-        return Err(LineFault::Malformed);
-    };
-    let Some(behind) = behind else {
-        return Err(LineFault::Malformed);
-    };
-    match named_atom(alloc, behind)? {
-        Some(atom) => Ok(CertLine::Weight { weight, atom }),
-        None => Err(LineFault::Malformed),
-    }
-}
-
-/// The line of the open state that stands behind `open`.
-fn open_line(alloc: Global, rest: &[u8], atom_count: usize) -> Result<CertLine, LineFault>
-    requires few { atom_count ≤ most_atoms }
-    ensures { IsParsedBehind (codes "open") rest.now atom_count result }
-{
-    match open(alloc, rest, atom_count)? {
-        Some(line) => Ok(CertLine::Listed(line)),
-        None => Err(LineFault::Malformed),
-    }
-}
-
-/// The line of the cut that stands behind `cut`.
-fn cut_line(alloc: Global, rest: &[u8], atom_count: usize) -> Result<CertLine, LineFault>
-    requires few { atom_count ≤ most_atoms }
-    ensures { IsParsedBehind (codes "cut") rest.now atom_count result }
-{
-    match cut(alloc, rest, atom_count)? {
-        Some(line) => Ok(CertLine::Listed(line)),
-        None => Err(LineFault::Malformed),
-    }
-}
-
-/// The open state that stands behind `open`, and `None` where none does.
-fn open(alloc: Global, rest: &[u8], atom_count: usize) -> Result<Option<StateLine>, AllocError>
-    requires few { atom_count ≤ most_atoms }
-    ensures some { IfOk result (λ found. IfSome found (λ l. IsReadAs (codes "open") rest.now atom_count (listed (line_of l)))) }
-    ensures none { IfOk result (λ found. IfNone found ((line : TextLine) → IsReadAs (codes "open") rest.now atom_count line → ⊥)) }
-{
-    match numbered(alloc, rest, atom_count)? {
-        Some((cost, atoms)) => Ok(Some(StateLine {
-            cost,
-            cut: None,
-            atoms,
-        })),
-        None => Ok(None),
-    }
-}
-
-/// The cut that stands behind `cut`, and `None` where none does.
-fn cut(alloc: Global, rest: &[u8], atom_count: usize) -> Result<Option<StateLine>, AllocError>
-    requires few { atom_count ≤ most_atoms }
-    ensures some { IfOk result (λ found. IfSome found (λ l. IsReadAs (codes "cut") rest.now atom_count (listed (line_of l)))) }
-    ensures none { IfOk result (λ found. IfNone found ((line : TextLine) → IsReadAs (codes "cut") rest.now atom_count line → ⊥)) }
-{
-    let (word, behind) = first_word(rest);
-    let Some(cost) = number(word) else {
-        return Ok(None);
-    };
-    let Some(behind) = behind else {
-        return Ok(None);
-    };
-    match numbered(alloc, behind, atom_count)? {
-        Some((least, atoms)) => Ok(Some(StateLine {
-            cost,
-            cut: Some(least),
-            atoms,
-        })),
-        None => Ok(None),
-    }
-}
-
-/// The atom that stands behind a weight, and `None` where none does.
-fn named_atom(alloc: Global, rest: &[u8]) -> Result<Option<NamedAtom>, AllocError>
-    ensures some { IfOk result (λ found. IfSome found (λ a. IsTrue (are_lower (named_atom_of a)) × (atom_rest (named_atom_of a) ≡ rest.now))) }
-    ensures none { IfOk result (λ found. IfNone found ((a : text.NamedAtom) → IsTrue (are_lower a) → atom_rest a ≢ rest.now)) }
-{
-    let Some(inner) = in_parentheses(rest) else {
-        return Ok(None);
-    };
-    let (predicate, behind) = first_word(inner);
-    if !is_lower_name(predicate) {
-        return Ok(None);
-    }
-    match names(alloc, behind)? {
-        Some(objects) => Ok(Some(NamedAtom {
-            predicate: copy(alloc, predicate)?,
-            objects,
-        })),
-        None => Ok(None),
-    }
-}
-
-/// What stands in the parentheses, and `None` where there is something else.
-fn in_parentheses(rest: &[u8]) -> Option<&[u8]>
-    ensures some { IfSome result (λ inner. rest.now ≡ codes "(" ++ inner.now ++ codes ")") }
-    ensures none { IfNone result ((inner : List ℕ) → rest.now ≢ codes "(" ++ inner ++ codes ")") }
-{
-    match rest {
-        [b'(', inner @ .., b')'] => Some(inner),
-        _ => None,
-    }
+/// A line of a certificate's text, by what it says.
+#[derive(Debug, PartialEq, Eq, Drop)]
+pub enum CertLine {
+    /// The first line, with the version of the format: `pddl-cert 1`.
+    Head,
+    /// The claim: `claim bound 6`, `claim none`.
+    Claim(Claim),
+    /// The constant of the potential function: `constant 6`.
+    Constant(i64),
+    /// An atom and its weight: `atom -3 (at b)`.
+    Weight {
+        /// The weight.
+        weight: i64,
+        /// The atom.
+        atom: NamedAtom,
+    },
+    /// A state: `open 3 0 2`, `cut 6 0 1`.
+    Listed(StateLine),
+    /// The last line, with the count of the lines that list states: `end 2`.
+    Last {
+        /// How many lines list states.
+        count: u64,
+    },
 }

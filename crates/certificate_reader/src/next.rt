@@ -6,11 +6,11 @@ ghost use Rattle.certificate_reader.specs.Stages.{IsWithin, place_of};
 ghost use Rattle.certificate_reader.specs.Next.{CountsFault, HasEnd, IsEnd, IsNext, IsTaken};
 ghost use Rattle.devices.specs.Devices.{CountsDevice};
 
-use crate::line::LineFault;
+use crate::line::CertLine;
+use crate::parsing::LineFault;
 use crate::ready::{Ready, await_line};
 use crate::stage::{Stage, read_line};
 use crate::waiting::Waiting;
-use certificate_lines::CertLine;
 use devices::{Source, WriteFault};
 use std::alloc::Global;
 

@@ -2,9 +2,9 @@
 ghost use Rattle.std.specs.Prelude.{◌≡◌, ◌≢◌, ℕ, ℤ, IfNone, IfSome, IsTrue};
 ghost use Rattle.std.specs.Fmt.{decimal, signed_decimal};
 ghost use Rattle.std.specs.Str.{bytes_eq};
-ghost use Rattle.certificate_text.specs.Certificates.{is_number, is_weight};
+ghost use Rattle.certificate_definitions.specs.Certificates.{is_number, is_weight};
 
-use certificate_lines::{MAX_WEIGHT, NUMBER_LIMIT};
+use crate::line::{MAX_WEIGHT, NUMBER_LIMIT};
 use itoa::Buffer;
 use std::str;
 

@@ -3,14 +3,14 @@ ghost use Rattle.std.specs.Prelude.{◌≡◌, ◌≢◌, ℕ, ◌≤◌, ◌<�
 ghost use Rattle.std.specs.Fmt.{decimal};
 ghost use Rattle.std.specs.List.{list_all};
 ghost use Rattle.model.specs.Claims as model;
-ghost use Rattle.certificate_text.specs.Certificates.{is_claim, is_number, rise};
-ghost use Rattle.certificate_text.specs.CertificateText.{most_atoms};
-ghost use Rattle.certificate_lines.specs.Lines.{claim_of};
+ghost use Rattle.certificate_definitions.specs.Certificates.{is_claim, is_number, rise};
+ghost use Rattle.certificate_definitions.specs.CertificateText.{most_atoms};
+ghost use Rattle.certificate_reader.specs.Lines.{claim_of};
 ghost use Rattle.certificate_reader.specs.Words.{IsNumbered, claim_rest, text_in, then_words};
 
+use crate::first_word::{first_word, is};
+use crate::line::Claim;
 use crate::number::number;
-use crate::word::{first_word, is};
-use certificate_lines::Claim;
 use std::alloc::{AllocError, Global};
 
 /// The claim that the bytes are, and `None` where they are none.

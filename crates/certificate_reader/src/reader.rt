@@ -1,16 +1,16 @@
 //! The reader of a certificate's text, line by line.
 ghost use Rattle.std.specs.Prelude.{◌≡◌, ◌+◌, ℕ, ◌++◌, [], ◌∷◌, Err, IfErr, IfOk, IfNone, IfSome, is_err, IsTrue, List, false, length, true};
-ghost use Rattle.certificate_lines.specs.Lines.{text_line_of};
-ghost use Rattle.certificate_text.specs.CertificateText.{TextLine, AreWhole};
+ghost use Rattle.certificate_reader.specs.Lines.{text_line_of};
+ghost use Rattle.certificate_definitions.specs.CertificateText.{TextLine, AreWhole};
 ghost use Rattle.certificate_reader.specs.declared.reader.CertFault.TheVariants.{Failed};
 ghost use Rattle.certificate_reader.specs.Reader.{CountsCert, HasRead, HaveBegun, IsAdvance, IsAnswer, fault_at, has_come, has_failed, lines_read, source_of, waits_in};
 ghost use Rattle.certificate_reader.specs.Next.{CountsFault};
 
+use crate::line::CertLine;
 use crate::next::{NextFault, TextFault, is_at_end, next_line};
 use crate::position::Position;
 use crate::stage::Stage;
 use crate::waiting::Waiting;
-use certificate_lines::CertLine;
 use devices::Source;
 use std::alloc::Global;
 

@@ -5,8 +5,8 @@ ghost use Rattle.devices.specs.declared.device.WriteFault.TheVariants.{Device as
 ghost use Rattle.certificate_reader.specs.Waiting.{waiting_of};
 ghost use Rattle.certificate_reader.specs.Ready.{IsGrown, IsLineIn, IsReady, IsUnready, is_ready};
 
+use crate::line::LONGEST_LINE;
 use crate::waiting::Waiting;
-use certificate_lines::LONGEST_LINE;
 use devices::{Source, WriteFault};
 
 /// What waits of a text.

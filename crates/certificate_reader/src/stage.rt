@@ -1,12 +1,12 @@
 //! Where a reader stands in a certificate, and which line may come next.
 ghost use Rattle.std.specs.Prelude.{◌≡◌, ℕ, ◌≤◌, IsTrue, length};
-ghost use Rattle.certificate_text.specs.CertificateText.{WeightedAtom, atom, is_line, longest_line};
-ghost use Rattle.certificate_text.specs.CertificateMachine.{in_body};
-ghost use Rattle.certificate_lines.specs.Lines.{text_line_of};
+ghost use Rattle.certificate_definitions.specs.CertificateText.{WeightedAtom, atom, is_line, longest_line};
+ghost use Rattle.certificate_definitions.specs.CertificateMachine.{in_body};
+ghost use Rattle.certificate_reader.specs.Lines.{text_line_of};
 ghost use Rattle.certificate_reader.specs.Stages.{IsReadAt, IsStep, IsWithin, atoms_at, place_of};
 
-use crate::line::{LineFault, parse};
-use certificate_lines::{CertLine, MAX_ATOMS, MAX_STATE_LINES};
+use crate::line::{CertLine, MAX_ATOMS, MAX_STATE_LINES};
+use crate::parsing::{LineFault, parse};
 use std::alloc::Global;
 
 /// What may come next.

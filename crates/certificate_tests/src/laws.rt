@@ -1,12 +1,16 @@
 //! The laws of certificates that are stated of all values, and proved, each called once; and the numbers that the contracts
 //! name.
-use cert_checker::{closed_claim_holds, examples_are_judged, solving_list_stays_listed};
-use certificate::{MAX_ATOMS, MAX_STATE_LINES, NUMBER_LIMIT};
-use certificate_listing::{closed_certificates_are_accepted, written_certificates_read_back};
+use cert_checker::{
+    closed_certificates_are_accepted, closed_claim_holds, examples_are_judged,
+    solving_list_stays_listed, written_certificates_read_back,
+};
+use certificate::{
+    MAX_ATOMS, MAX_STATE_LINES, NUMBER_LIMIT, texts_are_certificates_one_for_one,
+};
 
 #[test]
 fn laws_of_certificates_are_called() {
-    certificate_reader::texts_are_certificates_one_for_one();
+    texts_are_certificates_one_for_one();
     written_certificates_read_back();
     closed_certificates_are_accepted();
     closed_claim_holds();

@@ -1,6 +1,5 @@
 //! The lines of certificates' texts, over devices that give bytes in pieces, that fail, and that never end.
-use certificate_lines::{CertLine, Claim, NamedAtom, StateLine};
-use certificate_reader::{CertFault, CertReader, TextFault};
+use certificate::{CertFault, CertLine, CertReader, Claim, NamedAtom, StateLine, TextFault};
 use devices::{Endless, FailsAt, InPieces, Memory, Source};
 use std::alloc::{AllocError, Global};
 use std::process::Abort;

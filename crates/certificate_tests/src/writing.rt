@@ -1,8 +1,7 @@
 //! Certificates that are written to sinks that fail.
 ghost use Rattle.std.specs.Prelude.{◌<◌};
 
-use certificate::{Cert, Claim, StateLine};
-use certificate_writer::write_cert;
+use certificate::{Cert, Claim, StateLine, write_cert};
 use devices::{FailsAt, InPieces, Memory, WriteFault};
 use faults::NoMemory;
 use std::alloc::{AllocError, Global};

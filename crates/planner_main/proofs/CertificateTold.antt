@@ -3,20 +3,20 @@ use Rattle.std.proofs.Common.{◌≡◌, ℕ, inl, inr, List, [], ◌++◌, sym,
 use Rattle.std.specs.Prelude.{Bool, Option, None, Some, IfSome, Result, Ok, Err, IfOk, IfErr}
 use Rattle.std.specs.Io.KnownBytes.{Consumes, IsAtEnd}
 use Rattle.devices.specs.Devices.{IsKept}
-use Rattle.certificate_text.specs.CertificateChecking.{IsLineFault}
+use Rattle.certificate_definitions.specs.CertificateChecking.{IsLineFault}
 use Rattle.certificate_reader.specs.declared.reader.CertReader.{CertReader}
 use Rattle.certificate_reader.specs.Reader.{source_of}
-use Rattle.certificate_listing.specs.declared.refusal.RefusalCode.{RefusalCode}
-use Rattle.certificate_listing.specs.declared.refusal.RefusalCode.TheVariants.{CertForm, CertVersion, Truncated, NotFluent, Repeated, NoInitial, Unfair, UnfairGoal, GoalOpen, SuccessorMissing, SuccessorDearer, CutWeak, CutNotAllowed, PlanInvalid, PlanDearer, Limit}
-use Rattle.certificate_listing.specs.declared.refusal.Refusal.{Refusal}
-use Rattle.certificate_listing.specs.declared.refusal.Refusal.TheVariants as refusal
-use Rattle.certificate_listing.specs.RefusalCode.{number_of}
-use Rattle.certificate_listing.specs.Reading.{CountsRefusal, IsRead, IsToldAt}
+use Rattle.cert_checker.specs.declared.refusal.RefusalCode.{RefusalCode}
+use Rattle.cert_checker.specs.declared.refusal.RefusalCode.TheVariants.{CertForm, CertVersion, Truncated, NotFluent, Repeated, NoInitial, Unfair, UnfairGoal, GoalOpen, SuccessorMissing, SuccessorDearer, CutWeak, CutNotAllowed, PlanInvalid, PlanDearer, Limit}
+use Rattle.cert_checker.specs.declared.refusal.Refusal.{Refusal}
+use Rattle.cert_checker.specs.declared.refusal.Refusal.TheVariants as refusal
+use Rattle.cert_checker.specs.RefusalCode.{number_of}
+use Rattle.cert_checker.specs.Reading.{CountsRefusal, IsRead, IsToldAt}
 use Rattle.cert_checker.specs.declared.checker.Accepted.{Accepted}
 use Rattle.cert_checker.specs.CertChecker.{IsFirstRefusal, IsShown, IsTrueRefusal}
 use Rattle.cert_checker.specs.Checking.{Accepts, Refuses}
 use Rattle.model.specs.Task.{Task, Instance}
-use Rattle.certificate_text.specs.Certificates.{Certificate}
+use Rattle.certificate_definitions.specs.Certificates.{Certificate}
 use Rattle.model.specs.Files.{FileFault, IsTaskOf}
 use Rattle.planner_main.specs.declared.failures.Failure.{Failure}
 use Rattle.planner_main.specs.Checked.{IsChecked, IsRefusedAs, IsTrueCheck}

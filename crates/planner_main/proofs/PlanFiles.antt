@@ -5,7 +5,7 @@ use Rattle.std.specs.Borrow.{Bor}
 use Rattle.formulas.specs.declared.plan.Plan.{Plan}
 use Rattle.certificate.specs.declared.cert.Cert.{Cert}
 use Rattle.certificate.specs.Certificate.{certificate_of}
-use Rattle.certificate_text.specs.CertificateNames.{certificate_text}
+use Rattle.certificate_definitions.specs.CertificateNames.{certificate_text}
 use Rattle.solver.specs.declared.answer.Answer.{Answer}
 use Rattle.solver.specs.declared.answer.Answer.TheVariants as answer
 use Rattle.model.specs.Task.{Task}

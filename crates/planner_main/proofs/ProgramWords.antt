@@ -15,8 +15,8 @@ use Rattle.command_line.proofs.OrderLemmas.{one_wanted}
 use Rattle.devices.specs.Written.{NamedText}
 use Rattle.planner_main.specs.Checked.{IsInputFault}
 use Rattle.planner_main.specs.CheckTold.{IsLineOf}
-use Rattle.certificate_listing.specs.declared.refusal.Refusal.{Refusal}
-use Rattle.certificate_listing.specs.declared.refusal.Refusal.TheVariants as refused
+use Rattle.cert_checker.specs.declared.refusal.Refusal.{Refusal}
+use Rattle.cert_checker.specs.declared.refusal.Refusal.TheVariants as refused
 use Rattle.cert_checker.specs.declared.checker.Accepted.{Accepted}
 use Rattle.model.specs.Task.{Task}
 use Rattle.planner_main.specs.Program.{IsTextIfNamed, OnTwo, OnThree, OnInputs, IsAnswerTo, Refuses, fault_in, IsFaultFor, IsOneOf, IsToldOn, IsToldOfWords, SaysOfWords, NamesInput, HasFailed, HasNotFailed, CountsFailure, CountsEither, device_failure, inputs_of}

@@ -1,11 +1,11 @@
 -- What the answer of the checker is told as.
 use Rattle.std.specs.Prelude.{◌≡◌, ℕ, Bool, ◌==◌, if◌then◌else◌, List, ◌++◌, codes, Result, Ok, Err}
 use Rattle.std.specs.Fmt.{decimal}
-use Rattle.certificate_listing.specs.declared.refusal.RefusalCode.{RefusalCode}
-use Rattle.certificate_listing.specs.declared.refusal.RefusalCode.TheVariants.{Unfair}
-use Rattle.certificate_listing.specs.declared.refusal.Refusal.{Refusal}
-use Rattle.certificate_listing.specs.declared.refusal.Refusal.TheVariants as refusal
-use Rattle.certificate_listing.specs.RefusalCode.{name_of, number_of}
+use Rattle.cert_checker.specs.declared.refusal.RefusalCode.{RefusalCode}
+use Rattle.cert_checker.specs.declared.refusal.RefusalCode.TheVariants.{Unfair}
+use Rattle.cert_checker.specs.declared.refusal.Refusal.{Refusal}
+use Rattle.cert_checker.specs.declared.refusal.Refusal.TheVariants as refusal
+use Rattle.cert_checker.specs.RefusalCode.{name_of, number_of}
 use Rattle.cert_checker.specs.declared.checker.Accepted.{Accepted}
 use Rattle.cert_checker.specs.declared.checker.Accepted.TheVariants.{Optimal, AtLeast, Unsolvable}
 use Rattle.formulas.specs.State.{instance_of}

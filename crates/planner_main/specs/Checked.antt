@@ -1,14 +1,14 @@
 -- What is true of a certificate for the task of two texts, and for the plan of a third one if that is handed in: by what came
 -- of the certificate to a reader, and by its whole text.
 use Rattle.std.specs.Prelude.{◌≡◌, ℕ, ◌⊎◌, List, Option, None, Some, Result, Ok, Err, IfOk, IfErr}
-use Rattle.certificate_text.specs.CertificateText.{TextLine, text_of}
-use Rattle.certificate_text.specs.CertificateNames.{IsTextOf}
-use Rattle.certificate_text.specs.CertificateChecking.{AreRight, IsAccepted, IsLineFault}
+use Rattle.certificate_definitions.specs.CertificateText.{TextLine, text_of}
+use Rattle.certificate_definitions.specs.CertificateNames.{IsTextOf}
+use Rattle.certificate_definitions.specs.CertificateChecking.{AreRight, IsAccepted, IsLineFault}
 use Rattle.certificate_reader.specs.declared.reader.CertReader.{CertReader}
 use Rattle.certificate_reader.specs.Reader.{source_of}
-use Rattle.certificate_listing.specs.declared.refusal.Refusal.{Refusal}
-use Rattle.certificate_listing.specs.declared.refusal.Refusal.TheVariants as refusal
-use Rattle.certificate_listing.specs.RefusalCode.{number_of}
+use Rattle.cert_checker.specs.declared.refusal.Refusal.{Refusal}
+use Rattle.cert_checker.specs.declared.refusal.Refusal.TheVariants as refusal
+use Rattle.cert_checker.specs.RefusalCode.{number_of}
 use Rattle.cert_checker.specs.declared.checker.Accepted.{Accepted}
 use Rattle.cert_checker.specs.CertChecker.{Answers, IsFirstRefusal, IsNoFault, IsShown, IsTrueRefusal}
 use Rattle.cert_checker.specs.Checking.{Accepts, Refuses}
@@ -16,7 +16,7 @@ use Rattle.model.specs.Task.{Task, Instance}
 use Rattle.model.specs.Limits.{max_numbered_atoms}
 use Rattle.model.specs.Grounding.{limit_told}
 use Rattle.model.specs.PlanText.{IsPlanText}
-use Rattle.certificate_text.specs.Certificates.{Certificate}
+use Rattle.certificate_definitions.specs.Certificates.{Certificate}
 use Rattle.model.specs.Files.{FileFault, IsTaskFault, IsFileFault}
 
 -- the text is this plan of the task; where no text is handed in, neither is a plan

@@ -4,7 +4,7 @@ use Rattle.formulas.specs.State.{plan_of}
 use Rattle.solver.specs.declared.answer.Answer.{Answer}
 use Rattle.solver.specs.declared.answer.Answer.TheVariants.{Plan, Unsolvable, Unknown}
 use Rattle.certificate.specs.Certificate.{certificate_of}
-use Rattle.certificate_text.specs.CertificateNames.{certificate_text}
+use Rattle.certificate_definitions.specs.CertificateNames.{certificate_text}
 use Rattle.devices.specs.Written.{NamedText}
 use Rattle.planner_main.specs.AnswerTold.{status_of, told_of}
 use Rattle.model.specs.Task.{Task}

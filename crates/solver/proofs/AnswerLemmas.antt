@@ -25,7 +25,7 @@ use Rattle.model.specs.Task.{Task, Atom, Instance}
 use Rattle.model.specs.Runs.{System, run, cost_of_all, Solves, IsOptimal, IsUnsolvable}
 use Rattle.model.specs.Claims.{Claim, bound, none, Line, IsClosed, IsLowerBound}
 use Rattle.model.specs.Meaning.{State, step, is_instance, system_of}
-use Rattle.certificate_text.specs.Certificates.{is_claim}
+use Rattle.certificate_definitions.specs.Certificates.{is_claim}
 use Rattle.potential_functions.specs.PotentialFunctions.{PotentialFunction, score, value, AreInRange}
 use Rattle.potential_functions.specs.Laws.{AreLowerBounds}
 use Rattle.model.specs.Fluents.{is_fluent}

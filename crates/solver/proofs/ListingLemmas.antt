@@ -26,7 +26,7 @@ use Rattle.model.specs.Meaning.{State, system_of}
 use Rattle.model.specs.Fluents.{is_fluent, static_atoms}
 use Rattle.model.specs.NumberedAtoms.{stands_in, are_distinct, numbered_atoms}
 use Rattle.model.specs.Grounding.{chosen, state_of_bits, ground_system, NamesKept}
-use Rattle.certificate_text.specs.Certificates.{Certificate, StateLine, is_number, is_claim, is_state_line, are_potentials, keeps_limits, rise, state_of_line, lines_of, value_of}
+use Rattle.certificate_definitions.specs.Certificates.{Certificate, StateLine, is_number, is_claim, is_state_line, are_potentials, keeps_limits, rise, state_of_line, lines_of, value_of}
 use Rattle.potential_functions.specs.PotentialFunctions.{PotentialFunction, value, AreInRange}
 use Rattle.potential_functions.specs.Fair.{AreFair}
 use Rattle.model.proofs.ListLemmas.{Contains-cases, Contains-none, map-Contains}

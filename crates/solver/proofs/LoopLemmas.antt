@@ -10,8 +10,8 @@ use Rattle.std.proofs.lemmas.Option.{slice_get-map}
 use Rattle.typing.specs.TaskParts.{atom_of, object_of}
 use Rattle.formulas.specs.declared.instance.Instance as code
 use Rattle.formulas.specs.State.{instance_of}
-use Rattle.certificate_lines.specs.declared.line.StateLine as code_line
-use Rattle.certificate_lines.specs.Lines.{line_of}
+use Rattle.certificate_reader.specs.declared.line.StateLine as code_line
+use Rattle.certificate_reader.specs.Lines.{line_of}
 use Rattle.search.specs.declared.nodes.Node.{Node}
 use Rattle.search.specs.Outcome as search
 use Rattle.solver.specs.Listing.{state_line}

@@ -19,7 +19,7 @@ use Rattle.potential_functions.proofs.Falls.{or_zero-most}
 use Rattle.potential_functions.proofs.Sums.{sum-range}
 use Rattle.potential_functions.proofs.Ranges.{given-range}
 use Rattle.search.specs.Estimates.{above_zero, value_by}
-use Rattle.certificate_text.specs.Certificates.{is_weight, are_potentials}
+use Rattle.certificate_definitions.specs.Certificates.{is_weight, are_potentials}
 use Rattle.solver.specs.Improved.{AreSettledOrHigh}
 use Rattle.solver.proofs.GroundLemmas.{length-reachable}
 

@@ -3,7 +3,7 @@ use Rattle.std.specs.Prelude.{◌≤◌, ◌⊎◌, List}
 use Rattle.model.specs.Task.{Task, Atom}
 use Rattle.potential_functions.specs.PotentialFunctions.{PotentialFunction}
 use Rattle.potential_functions.specs.Settled.{initial_value, IsSettled}
-use Rattle.certificate_text.specs.Certificates.{Certificate}
+use Rattle.certificate_definitions.specs.Certificates.{Certificate}
 
 -- Of the fair ones near them none gives the initial state a greater value, or they give it at least 8.
 abbrev pub AreSettledOrHigh : Task → List Atom → PotentialFunction → Type 0

@@ -8,7 +8,7 @@ use Rattle.model.specs.Task.{Task, Atom}
 use Rattle.model.specs.Meaning.{State}
 use Rattle.model.specs.Claims.{Claim, Line}
 use Rattle.potential_functions.specs.PotentialFunctions.{PotentialFunction, value}
-use Rattle.certificate_text.specs.Certificates.{Certificate, StateLine, IsClosedFor, lines_of, value_of}
+use Rattle.certificate_definitions.specs.Certificates.{Certificate, StateLine, IsClosedFor, lines_of, value_of}
 use Rattle.model.specs.NumberedAtoms.{numbered_atoms}
 
 -- the numbers of the atoms that are true in the packed state, rising

@@ -10,10 +10,10 @@ ghost use Rattle.std.specs.Prelude.{◌≡◌, ◌≤◌, Bool, List, All, [], l
 ghost use Rattle.typing.specs.TaskParts.{atom_of};
 ghost use Rattle.packed_state.specs.Packed.{bits_of};
 ghost use Rattle.packed_state.specs.PooledView.{pooled_states};
-ghost use Rattle.certificate_lines.specs.Lines as parts;
-ghost use Rattle.certificate_lines.specs.Lines.{claim_of};
+ghost use Rattle.certificate_reader.specs.Lines as parts;
+ghost use Rattle.certificate_reader.specs.Lines.{claim_of};
 ghost use Rattle.certificate.specs.Certificate.{certificate_of};
-ghost use Rattle.certificate_lines.specs.declared.line.TheConstants.{MAX_ATOMS, MAX_STATE_LINES};
+ghost use Rattle.certificate_reader.specs.declared.line.TheConstants.{MAX_ATOMS, MAX_STATE_LINES};
 ghost use Rattle.search.specs.Outcome as search;
 ghost use Rattle.search.specs.Outcome.{AreFound};
 ghost use Rattle.grounding.specs.Ground.{task_in, atoms_in};
@@ -23,7 +23,7 @@ ghost use Rattle.potentials_improved.specs.FairPotentials.{potentials_in, ground
 ghost use Rattle.solver.specs.Listing.{state_line, found_certificate};
 ghost use Rattle.model.specs.NumberedAtoms.{numbered_atoms};
 ghost use Rattle.model.specs.Grounding.{ground_system};
-ghost use Rattle.certificate_text.specs.Certificates.{is_claim};
+ghost use Rattle.certificate_definitions.specs.Certificates.{is_claim};
 
 use certificate::{Cert, Claim, StateLine};
 use faults::NoMemory;

@@ -1,13 +1,13 @@
 //! A certificate's listing in the ground task.
 ghost use Rattle.std.proofs.Props.{props};
 ghost use Rattle.grounding.specs.Ground.{task_in, atoms_in};
-ghost use Rattle.certificate_listing.specs.Listing.{certificate_in, store_in};
+ghost use Rattle.certificate.specs.Listing.{certificate_in, store_in};
 ghost use Rattle.cert_checker.specs.PackedLines.{IsPackedListing};
 ghost use Rattle.cert_checker.specs.Weights.{HasItsWeights};
 ghost use Rattle.potentials.specs.Potentials.{potentials_of};
 ghost use Rattle.std.specs.Prelude.{length};
 
-use certificate_listing::Listing;
+use certificate::Listing;
 use grounding::Ground;
 use packed_state::{Packed, StateStore};
 use potentials::Potentials;
@@ -30,8 +30,8 @@ impl<'a, 't> PackedListing<'a, 't> {
     ghost use Rattle.cert_checker.specs.CheckedLines.{HasCost, IsListedAt, Stands};
     ghost use Rattle.cert_checker.specs.PackedListing.{task_at, certificate_at, state_at, IsPacked};
     ghost use Rattle.model.specs.NumberedAtoms.{numbered_atoms};
-    ghost use Rattle.certificate_text.specs.Certificates.{lines_of, value_of};
-    ghost use Rattle.certificate_text.specs.CertificateRefusals.{IsListed};
+    ghost use Rattle.certificate_definitions.specs.Certificates.{lines_of, value_of};
+    ghost use Rattle.certificate_definitions.specs.CertificateRefusals.{IsListed};
 
     /// That of the certificate.
     pub(super) fn new(

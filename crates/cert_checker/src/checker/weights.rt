@@ -3,7 +3,7 @@ ghost use Rattle.std.specs.Prelude.{◌≡◌, ◌<◌, ◌≤◌, Some, IfErr, 
 ghost use Rattle.formulas.specs.State.{instance_of};
 ghost use Rattle.grounding.specs.Ground.{task_in, atoms_in};
 ghost use Rattle.potentials.specs.Potentials.{potentials_of};
-ghost use Rattle.certificate_listing.specs.Listing.{certificate_in};
+ghost use Rattle.certificate.specs.Listing.{certificate_in};
 ghost use Rattle.cert_checker.specs.FluentAtoms.{AreFluent};
 ghost use Rattle.cert_checker.specs.CheckedLines.{IsFirstGrounded, IsTrueAnyway};
 ghost use Rattle.cert_checker.specs.Weights.{HasItsWeights};
@@ -11,7 +11,8 @@ ghost use Rattle.model.specs.ClosedOff.{kept_instances};
 ghost use Rattle.model.specs.NumberedAtoms.{numbered_atoms};
 ghost use Rattle.potential_functions.specs.Fair.{AreFair};
 
-use certificate_listing::{Listing, Refusal, RefusalCode};
+use crate::refusal::{Refusal, RefusalCode};
+use certificate::Listing;
 use faults::NoMemory;
 use formulas::{Instance, copied};
 use grounding::Ground;

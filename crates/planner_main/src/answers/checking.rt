@@ -1,7 +1,7 @@
 //! From the bytes of a domain file and a problem file, and the text of a certificate, to what the certificate shows.
 ghost use Rattle.std.specs.Prelude.{◌≡◌, ℕ, List, Option, IfOk, IfErr, IfSome, IsErr, IsTrue, None};
 ghost use Rattle.typing.specs.Task.{task_of};
-ghost use Rattle.certificate_listing.specs.Reading.{CountsRefusal, IsFresh};
+ghost use Rattle.cert_checker.specs.Reading.{CountsRefusal, IsFresh};
 ghost use Rattle.certificate_reader.specs.Reader.{source_of};
 ghost use Rattle.planner_main.specs.Checked.{IsChecked, IsHandedIn, IsInputFault};
 ghost use Rattle.planner_main.specs.Files.{text_in, told_in};

@@ -5,10 +5,10 @@ ghost use Rattle.model.specs.Files.{IsTaskOf};
 ghost use Rattle.model.specs.Claims.{Claim};
 ghost use Rattle.model.specs.Limits.{max_numbered_atoms};
 ghost use Rattle.model.specs.Grounding.{limit_told};
-ghost use Rattle.certificate_text.specs.Certificates.{Certificate, keeps_limits};
-ghost use Rattle.certificate_text.specs.CertificateRefusals.{IsPlanWithin};
-ghost use Rattle.certificate_text.specs.CertificateNames.{certificate_text};
-ghost use Rattle.certificate_text.specs.CertificateChecking.{IsAccepted};
+ghost use Rattle.certificate_definitions.specs.Certificates.{Certificate, keeps_limits};
+ghost use Rattle.certificate_definitions.specs.CertificateRefusals.{IsPlanWithin};
+ghost use Rattle.certificate_definitions.specs.CertificateNames.{certificate_text};
+ghost use Rattle.certificate_definitions.specs.CertificateChecking.{IsAccepted};
 ghost use Rattle.solver.specs.Listing.{IsShownBy};
 
 /// What is written of the certificate of an answer, of a task that is read from files, is a text that `check` accepts, with

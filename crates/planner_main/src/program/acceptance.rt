@@ -1,6 +1,6 @@
 //! `check`: what a certificate shows, from files to the standard output.
 ghost use Rattle.std.specs.Prelude.{◌≡◌, ℕ, IfErr, IfOk, IfSome, IsErr, IsTrue, List, ◌∷◌, None, Option};
-ghost use Rattle.certificate_listing.specs.Reading.{CountsRefusal, IsFresh};
+ghost use Rattle.cert_checker.specs.Reading.{CountsRefusal, IsFresh};
 ghost use Rattle.typing.specs.Task.{task_of};
 ghost use Rattle.model.specs.PlanWriting.{has_names};
 ghost use Rattle.planner_main.specs.CheckTold.{IsLineOf};
@@ -15,7 +15,7 @@ ghost use Rattle.devices.specs.Devices.{CountsDevice, IsKept};
 
 use crate::program::inputs::{Pair, read_pair};
 use crate::failures::Failure;
-use certificate_reader::CertReader;
+use certificate::CertReader;
 use devices::{Files, Sink, Source, WriteFault, read_file, write_all};
 use crate::answers::{Checked, check_files};
 use crate::telling::checked_text;

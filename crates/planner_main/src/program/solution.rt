@@ -10,15 +10,14 @@ ghost use Rattle.devices.specs.Written.{AreWritten, AreWrittenPartly, NamedText}
 ghost use Rattle.devices.specs.Devices.{CountsDevice};
 ghost use Rattle.typing.specs.Task.{task_of};
 ghost use Rattle.certificate.specs.Certificate.{certificate_of};
-ghost use Rattle.certificate_text.specs.CertificateNames.{certificate_text};
+ghost use Rattle.certificate_definitions.specs.CertificateNames.{certificate_text};
 ghost use Rattle.solver.specs.Solver.{IsTrueAnswer};
 ghost use Rattle.model.specs.Files.{IsTaskFault, IsTaskOf};
 ghost use Rattle.model.specs.PlanWriting.{has_names};
 
 use crate::program::inputs::read_pair;
 use crate::failures::Failure;
-use certificate::Cert;
-use certificate_writer::write_cert;
+use certificate::{Cert, write_cert};
 use devices::{Bytes, Document, Files, Sink, WriteFault, write_all, write_file};
 use crate::answers::{Solved, solve_files};
 use crate::telling::{answer_text, json_text, told};

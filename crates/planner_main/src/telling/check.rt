@@ -3,7 +3,7 @@ ghost use Rattle.std.specs.Prelude.{◌≡◌, ℕ, IfOk, IsTrue};
 ghost use Rattle.std.specs.String.{string_bytes};
 ghost use Rattle.typing.specs.Task.{task_of};
 ghost use Rattle.formulas.specs.State.{instance_of};
-ghost use Rattle.certificate_listing.specs.Reading.{CountsRefusal};
+ghost use Rattle.cert_checker.specs.Reading.{CountsRefusal};
 ghost use Rattle.planner_main.specs.CheckTold.{IsLineOf, accepted_line, line_refused, plain_refused, told_accepted, told_line, told_plain, told_unfair, unfair_refused};
 ghost use Rattle.devices.specs.Devices.{CountsDevice};
 ghost use Rattle.model.specs.PlanWriting.{has_names};

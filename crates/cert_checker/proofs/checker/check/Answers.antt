@@ -4,7 +4,7 @@ use Rattle.faults.proofs.Results.{passed_on}
 use Rattle.typing.specs.Task.{task_of}
 use Rattle.formulas.specs.State.{plan_of}
 use Rattle.certificate_reader.specs.Reader.{source_of}
-use Rattle.certificate_listing.specs.Listing.{certificate_in}
+use Rattle.certificate.specs.Listing.{certificate_in}
 use Rattle.cert_checker.specs.CertChecker.{IsNoFault}
 use Rattle.cert_checker.specs.Checking.{Refuses}
 use Rattle.cert_checker.proofs.AcceptLemmas.{accepts_read, counts_judged, none_at_fault, not_refused, refuses_read}

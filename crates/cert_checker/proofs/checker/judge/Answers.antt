@@ -4,14 +4,14 @@ use Rattle.std.specs.Option.{option_map}
 use Rattle.std.proofs.lemmas.Result.{IfErr-weaker}
 use Rattle.typing.specs.Task.{task_of}
 use Rattle.formulas.specs.State.{plan_of}
-use Rattle.certificate_lines.specs.Lines.{claim_of}
+use Rattle.certificate_reader.specs.Lines.{claim_of}
 use Rattle.packed_state.specs.PooledView.{pooled_width}
-use Rattle.certificate_listing.specs.Listing.{certificate_in, store_in}
+use Rattle.certificate.specs.Listing.{certificate_in, store_in}
 use Rattle.model.specs.Meaning.{system_of}
 use Rattle.model.specs.Claims.{ClaimHolds}
 use Rattle.model.specs.Limits.{max_numbered_atoms}
 use Rattle.model.specs.Grounding.{limit_told}
-use Rattle.certificate_text.specs.Certificates.{Certificate, IsClosedFor}
+use Rattle.certificate_definitions.specs.Certificates.{Certificate, IsClosedFor}
 use Rattle.cert_checker.specs.CertChecker.{Answers, IsFirstRefusal, IsTrueRefusal}
 use Rattle.cert_checker.proofs.StaysLemmas.{closed_holds}
 use Rattle.cert_checker.proofs.AnswerLemmas.{closed_for, on_ok}

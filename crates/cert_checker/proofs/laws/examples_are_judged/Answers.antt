@@ -1,4 +1,4 @@
-use Rattle.certificate_text.proofs.CertificateExampleProofs.{are_judged}
+use Rattle.certificate_definitions.proofs.CertificateExampleProofs.{are_judged}
 use Rattle.cert_checker.proofs.laws.examples_are_judged.Goals as goal
 
 pub returns : goal.returns

@@ -1,7 +1,7 @@
 use Rattle.std.proofs.Common.{◌≡◌, drop, map}
 use Rattle.std.specs.List.{list_all}
-use Rattle.certificate_text.specs.Certificates.{is_state_line}
-use Rattle.certificate_lines.specs.Lines.{line_of}
+use Rattle.certificate_definitions.specs.Certificates.{is_state_line}
+use Rattle.certificate_reader.specs.Lines.{line_of}
 use Rattle.certificate.proofs.cert.are_state_lines.Given as goal
 
 -- the lines that are left decide

@@ -1,6 +1,6 @@
 use Rattle.std.proofs.Common.{◌≡◌, drop}
 use Rattle.std.specs.List.{list_all}
-use Rattle.certificate_text.specs.Certificates.{is_weight}
+use Rattle.certificate_definitions.specs.Certificates.{is_weight}
 use Rattle.certificate.proofs.cert.are_weights.Given as goal
 
 -- the weights that are left decide

@@ -1,5 +1,5 @@
 use Rattle.std.proofs.Common.{◌≡◌, drop}
-use Rattle.certificate_text.specs.Certificates.{rise}
+use Rattle.certificate_definitions.specs.Certificates.{rise}
 use Rattle.certificate.proofs.cert.rise.Given as goal
 
 -- the numbers that are left decide

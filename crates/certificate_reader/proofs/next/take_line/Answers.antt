@@ -1,4 +1,4 @@
-use Rattle.certificate_lines.specs.Lines.{text_line_of}
+use Rattle.certificate_reader.specs.Lines.{text_line_of}
 use Rattle.certificate_reader.specs.Stages.{place_of}
 use Rattle.certificate_reader.specs.Waiting.{waiting_of}
 use Rattle.certificate_reader.proofs.NextLemmas.{taken, other_version_told, malformed_told, too_many_told}

@@ -3,7 +3,7 @@ use Rattle.std.specs.Fmt.{signed_decimal}
 use Rattle.std.specs.Int.{w64}
 use Rattle.std.specs.Str.{bytes_eq}
 use Rattle.std.proofs.lemmas.Int.{to_z-of_z}
-use Rattle.certificate_text.specs.Certificates.{is_weight}
+use Rattle.certificate_definitions.specs.Certificates.{is_weight}
 use Rattle.certificate_reader.proofs.NumberLemmas.{weight_is_text, weight_is_read, weight_is_spelled_so}
 use Rattle.certificate_reader.proofs.number.weight.Goals as goal
 use Rattle.certificate_reader.proofs.number.weight.Goals.{else-is_weight-via-then-is_weight+else-is_weight_spelled, else-is_weight-via-else-is_weight}

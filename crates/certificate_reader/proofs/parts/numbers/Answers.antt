@@ -1,6 +1,6 @@
 use Rattle.std.proofs.Common.{◌<◌, ◌++◌, map, sym, ap, ◌∙◌, subst}
 use Rattle.std.specs.Fmt.{decimal}
-use Rattle.certificate_text.specs.Certificates.{rise}
+use Rattle.certificate_definitions.specs.Certificates.{rise}
 use Rattle.certificate_reader.specs.Words.{text_in, then_words}
 use Rattle.certificate_reader.proofs.NumbersRead.{bytes_left, fewer_left, no_numbers, one_more_read, one_more_rises, done_rise}
 use Rattle.certificate_reader.proofs.parts.numbers.Goals as goal

@@ -1,7 +1,7 @@
 -- What stood there is the numbers so far and then what is left, and a list that goes on from them rises where all of it does.
 use Rattle.std.proofs.Common.{◌≡◌, ℕ, List, ◌++◌, map}
 use Rattle.std.specs.Fmt.{decimal}
-use Rattle.certificate_text.specs.Certificates.{rise}
+use Rattle.certificate_definitions.specs.Certificates.{rise}
 use Rattle.certificate_reader.specs.Words.{text_in, then_words}
 use Rattle.certificate_reader.proofs.NumbersRead.{bytes_left}
 use Rattle.certificate_reader.proofs.parts.numbers.Given as goal

@@ -1,7 +1,7 @@
 -- What waits grew by what came, and no call has failed; where something waited at the start, nothing was read.
 use Rattle.std.proofs.Common.{◌≡◌, ◌-◌, ◌+◌, length}
 use Rattle.std.specs.Prelude.{IsTrue}
-use Rattle.certificate_text.specs.CertificateText.{longest_line}
+use Rattle.certificate_definitions.specs.CertificateText.{longest_line}
 use Rattle.certificate_reader.specs.Waiting.{waiting_of}
 use Rattle.certificate_reader.specs.Ready.{IsGrown, is_ready}
 use Rattle.certificate_reader.proofs.ready.await_line.Given as goal

@@ -1,7 +1,7 @@
 use Rattle.std.proofs.Common.{ap, sym, subst, IsTrue}
-use Rattle.certificate_lines.specs.Lines.{named_atom_of, text_line_of}
-use Rattle.certificate_text.specs.CertificateText.{is_line}
-use Rattle.certificate_text.specs.CertificateMachine.{in_body}
+use Rattle.certificate_reader.specs.Lines.{named_atom_of, text_line_of}
+use Rattle.certificate_definitions.specs.CertificateText.{is_line}
+use Rattle.certificate_definitions.specs.CertificateMachine.{in_body}
 use Rattle.certificate_reader.specs.Stages.{IsStep}
 use Rattle.certificate_reader.proofs.stage.after_body.Goals as goal
 

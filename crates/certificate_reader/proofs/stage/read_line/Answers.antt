@@ -1,6 +1,6 @@
 use Rattle.std.proofs.Common.{subst, IsTrue}
-use Rattle.certificate_lines.specs.Lines.{text_line_of}
-use Rattle.certificate_text.specs.CertificateText.{is_line}
+use Rattle.certificate_reader.specs.Lines.{text_line_of}
+use Rattle.certificate_definitions.specs.CertificateText.{is_line}
 use Rattle.certificate_reader.specs.Stages.{place_of}
 use Rattle.certificate_reader.proofs.PlaceRead.{misplaced}
 use Rattle.certificate_reader.proofs.stage.read_line.Goals as goal

@@ -4,7 +4,7 @@ use Rattle.std.proofs.lemmas.Bool.{false≢true}
 use Rattle.typing.specs.TaskParts.{atom_of}
 use Rattle.packed_state.specs.PooledView.{pooled_states}
 use Rattle.search.specs.Outcome as search
-use Rattle.certificate_lines.specs.Lines.{claim_of}
+use Rattle.certificate_reader.specs.Lines.{claim_of}
 use Rattle.certificate.specs.CertificateParts.{certificate_of_parts}
 use Rattle.potential_functions.specs.PotentialFunctions.{PotentialFunction, value}
 use Rattle.potentials_improved.specs.FairPotentials.{potentials_in, ground_in}

@@ -5,11 +5,11 @@ use Rattle.typing.specs.Task.{task_of}
 use Rattle.formulas.specs.State.{plan_of}
 use Rattle.validator.specs.Verdict.{verdict_of}
 use Rattle.model.specs.Runs.{cost_of_all, Solves, IsOptimal, IsVerdict}
-use Rattle.certificate_text.specs.CertificateRefusals.{plan_dearer, IsFirst}
+use Rattle.certificate_definitions.specs.CertificateRefusals.{plan_dearer, IsFirst}
 use Rattle.model.specs.Meaning.{system_of}
 use Rattle.model.specs.Claims.{bound, ClaimHolds}
-use Rattle.certificate_lines.specs.declared.line.Claim.{Claim}
-use Rattle.certificate_lines.specs.Lines.{claim_of}
+use Rattle.certificate_reader.specs.declared.line.Claim.{Claim}
+use Rattle.certificate_reader.specs.Lines.{claim_of}
 use Rattle.cert_checker.specs.CertChecker.{IsShown}
 use Rattle.cert_checker.proofs.AnswerLemmas.{claimed_cost, optimal, unsolved}
 use Rattle.cert_checker.proofs.OrderLemmas.{first_invalid, first_dearer}

@@ -1,8 +1,8 @@
 use Rattle.std.proofs.Common.{sym, ◌∙◌, refl, arith}
-use Rattle.certificate_lines.specs.Lines.{claim_of}
+use Rattle.certificate_reader.specs.Lines.{claim_of}
 use Rattle.cert_checker.specs.PackedListing.{task_at, certificate_at, state_at}
-use Rattle.certificate_listing.specs.declared.refusal.RefusalCode.TheVariants.{GoalOpen}
-use Rattle.certificate_text.specs.CertificateRefusals.{goal_open, state_line}
+use Rattle.cert_checker.specs.declared.refusal.RefusalCode.TheVariants.{GoalOpen}
+use Rattle.certificate_definitions.specs.CertificateRefusals.{goal_open, state_line}
 use Rattle.cert_checker.proofs.OrderLemmas.{first_in_line}
 use Rattle.cert_checker.proofs.FirstLemmas.{told_first}
 use Rattle.cert_checker.proofs.RefusalsLemmas.{told, wrong_goal, not_allowed}

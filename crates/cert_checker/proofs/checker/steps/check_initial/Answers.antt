@@ -1,8 +1,8 @@
-use Rattle.certificate_listing.specs.Listing.{store_in}
+use Rattle.certificate.specs.Listing.{store_in}
 use Rattle.packed_state.specs.Packed.{bits_of}
 use Rattle.cert_checker.specs.PackedListing.{task_at, atoms_at, certificate_at, state_at}
 use Rattle.model.specs.Meaning.{initial_state}
-use Rattle.certificate_text.specs.Certificates.{lines_of}
+use Rattle.certificate_definitions.specs.Certificates.{lines_of}
 use Rattle.cert_checker.proofs.CertCheckerLemmas.{listed_at_none}
 use Rattle.cert_checker.proofs.OrderLemmas.{atoms_right, states_right_all, first_initial}
 use Rattle.cert_checker.proofs.PackedListingLemmas.{initial_there, listed_apart}

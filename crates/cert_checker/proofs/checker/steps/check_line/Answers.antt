@@ -1,10 +1,10 @@
 use Rattle.std.proofs.Common.{◌≡◌, ◌<◌, List, ℕ, None, Some, get_or, length, map, subst, arith}
 use Rattle.std.proofs.lemmas.Option.{slice_get-get_or}
-use Rattle.certificate_listing.specs.declared.states.Mark.{Mark}
-use Rattle.certificate_listing.specs.declared.listing.Listing.{Listing}
-use Rattle.certificate_listing.specs.Listed.{mark_of}
-use Rattle.certificate_listing.specs.Sets.{marked}
-use Rattle.certificate_listing.specs.Listing.{certificate_in}
+use Rattle.certificate.specs.declared.listing_parts.Mark.{Mark}
+use Rattle.certificate.specs.declared.listing.Listing.{Listing}
+use Rattle.certificate.specs.ListingParts.{mark_of}
+use Rattle.certificate.specs.ListedSets.{marked}
+use Rattle.certificate.specs.Listing.{certificate_in}
 use Rattle.std.proofs.lemmas.Result.{on_ok_weaker}
 use Rattle.cert_checker.specs.CheckedLines.{HasCost}
 use Rattle.cert_checker.specs.PackedListing.{task_at, certificate_at, state_at}

@@ -4,7 +4,7 @@ use Rattle.std.proofs.lemmas.Bool.{cases_eq}
 use Rattle.cert_checker.specs.CertChecker.{IsFirstRefusal}
 use Rattle.cert_checker.specs.CheckedLines.{IsRightUpTo}
 use Rattle.cert_checker.specs.PackedListing.{task_at, certificate_at}
-use Rattle.certificate_text.specs.Certificates.{lines_of}
+use Rattle.certificate_definitions.specs.Certificates.{lines_of}
 use Rattle.model.specs.Task.{Instance}
 use Rattle.faults.proofs.Results.{passed_on}
 use Rattle.cert_checker.proofs.FirstLemmas.{right_to_line}

@@ -4,7 +4,7 @@ use Rattle.cert_checker.specs.CheckedLines.{IsLineClosed}
 use Rattle.cert_checker.specs.PackedListing.{task_at, certificate_at, IsPacked}
 use Rattle.model.specs.Meaning.{State}
 use Rattle.model.specs.Claims.{Line}
-use Rattle.certificate_text.specs.Certificates.{lines_of}
+use Rattle.certificate_definitions.specs.Certificates.{lines_of}
 use Rattle.cert_checker.proofs.checker.steps.check_lines.Given as goal
 
 -- the lines so far are closed

@@ -4,7 +4,7 @@ use Rattle.faults.proofs.Results.{passed_on}
 use Rattle.model.specs.Limits.{max_numbered_atoms}
 use Rattle.model.specs.Grounding.{limit_told}
 use Rattle.model.specs.Task.{Instance}
-use Rattle.certificate_text.specs.Certificates.{lines_of}
+use Rattle.certificate_definitions.specs.Certificates.{lines_of}
 use Rattle.cert_checker.specs.CertChecker.{IsFirstRefusal}
 use Rattle.cert_checker.specs.CheckedLines.{CutsAreAllowed, IsFirstGrounded, IsRightUpTo}
 use Rattle.cert_checker.specs.PackedListing.{task_at, certificate_at}

@@ -1,8 +1,8 @@
-use Rattle.certificate_listing.specs.Listing.{store_in}
+use Rattle.certificate.specs.Listing.{store_in}
 use Rattle.std.proofs.Common.{◌≡◌, ◌+◌, ℕ, None, Some, map, get_or, refl, subst, sym, arith}
 use Rattle.std.proofs.lemmas.List.{get_or_default}
 use Rattle.packed_state.specs.Packed.{bits_of}
-use Rattle.certificate_listing.specs.declared.refusal.RefusalCode.TheVariants.{SuccessorMissing, SuccessorDearer}
+use Rattle.cert_checker.specs.declared.refusal.RefusalCode.TheVariants.{SuccessorMissing, SuccessorDearer}
 use Rattle.cert_checker.specs.CertChecker.{IsFirstToLeave}
 use Rattle.cert_checker.specs.CheckedLines.{IsListedAt}
 use Rattle.cert_checker.specs.PackedListing.{IsPacked, task_at, atoms_at, certificate_at, state_at}
@@ -11,8 +11,8 @@ use Rattle.model.specs.Meaning.{State, step, system_of}
 use Rattle.model.specs.Grounding.{ground_system}
 use Rattle.model.specs.Instances.{successors_of}
 use Rattle.model.specs.Claims.{Line}
-use Rattle.certificate_text.specs.Certificates.{lines_of}
-use Rattle.certificate_text.specs.CertificateRefusals.{successor_missing, successor_dearer, state_line, IsListed}
+use Rattle.certificate_definitions.specs.Certificates.{lines_of}
+use Rattle.certificate_definitions.specs.CertificateRefusals.{successor_missing, successor_dearer, state_line, IsListed}
 use Rattle.cert_checker.proofs.CertCheckerLemmas.{AllListed-none, AllListed-more, listed_within, open_closed}
 use Rattle.model.proofs.GroundTaskLemmas.{length-step}
 use Rattle.cert_checker.proofs.GroundSuccessors.{leads_by, applies_at, next_by, cost_by}

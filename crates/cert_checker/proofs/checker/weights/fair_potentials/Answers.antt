@@ -4,7 +4,7 @@ use Rattle.formulas.specs.State.{instance_of}
 use Rattle.grounding.specs.Ground.{task_in, atoms_in}
 use Rattle.potentials.specs.Potentials.{potentials_of}
 use Rattle.potentials.specs.Fairness.{Tells}
-use Rattle.certificate_listing.specs.Listing.{certificate_in}
+use Rattle.certificate.specs.Listing.{certificate_in}
 use Rattle.model.specs.ClosedOff.{kept_instances}
 use Rattle.cert_checker.specs.Weights.{HasItsWeights}
 use Rattle.cert_checker.proofs.OrderLemmas.{atoms_right, states_right_all, first_unfair, first_unfair_goal}

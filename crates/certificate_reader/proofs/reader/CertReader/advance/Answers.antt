@@ -1,6 +1,6 @@
 use Rattle.std.proofs.Common.{◌∷◌, [], Some, refl, sym, ap, ◌∙◌, subst, length-append, arith}
-use Rattle.certificate_lines.specs.Lines.{text_line_of}
-use Rattle.certificate_text.proofs.Machine.{ends, stands}
+use Rattle.certificate_reader.specs.Lines.{text_line_of}
+use Rattle.certificate_definitions.proofs.Machine.{ends, stands}
 use Rattle.certificate_reader.specs.Stages.{place_of}
 use Rattle.certificate_reader.specs.Reader.{waits_in}
 use Rattle.certificate_reader.specs.Ready.{IsPrompt, come_at}

@@ -1,5 +1,5 @@
 use Rattle.std.proofs.Common.{◌≡◌, ◌+◌, length, sym, subst, arith, Err}
-use Rattle.certificate_text.proofs.Machine.{begins, stands}
+use Rattle.certificate_definitions.proofs.Machine.{begins, stands}
 use Rattle.certificate_reader.specs.Stages.{place_of}
 use Rattle.certificate_reader.specs.Reader.{IsAnswer}
 use Rattle.certificate_reader.proofs.ReaderLemmas.{begun, failed, few_lines, told_answer}

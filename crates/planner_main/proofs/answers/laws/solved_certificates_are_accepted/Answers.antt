@@ -1,8 +1,8 @@
 use Rattle.std.proofs.Common.{◌≡◌, None, sym, subst}
-use Rattle.certificate_listing.proofs.WrittenLemmas.{closed_is_accepted}
+use Rattle.cert_checker.proofs.WrittenLemmas.{closed_is_accepted}
 use Rattle.model.specs.Limits.{max_numbered_atoms}
 use Rattle.model.specs.Grounding.{limit_told}
-use Rattle.certificate_text.specs.CertificateRefusals.{IsPlanWithin}
+use Rattle.certificate_definitions.specs.CertificateRefusals.{IsPlanWithin}
 use Rattle.model.proofs.LimitsLemmas.{limits_alike}
 use Rattle.model.proofs.TaskNames.{task_has_atom_names}
 use Rattle.typing.proofs.TypedTasks.{task_is_typed}

@@ -1,6 +1,6 @@
 use Rattle.typing.specs.Task.{task_of}
 use Rattle.certificate.specs.Certificate.{certificate_of}
-use Rattle.certificate_text.specs.CertificateNames.{certificate_text}
+use Rattle.certificate_definitions.specs.CertificateNames.{certificate_text}
 use Rattle.planner_main.proofs.PlanFiles.{cert_of_plan, cert_of_none}
 use Rattle.devices.proofs.WrittenFiles.{written_alone, partly_alone}
 use Rattle.planner_main.proofs.program.solution.save_cert.Goals as goal

@@ -3,7 +3,7 @@ use Rattle.std.specs.Prelude.{Contains, slice_get}
 use Rattle.std.proofs.lemmas.Option.{slice_get-get_or}
 use Rattle.packed_state.specs.Packed.{bits_of}
 use Rattle.packed_state.specs.PooledView.{pooled_states}
-use Rattle.certificate_listing.specs.Listing.{store_in}
+use Rattle.certificate.specs.Listing.{store_in}
 use Rattle.cert_checker.specs.PackedListing.{task_at, atoms_at, certificate_at}
 use Rattle.cert_checker.proofs.PackedListingLemmas.{found_at, not_listed, place_within}
 use Rattle.cert_checker.proofs.RefusalsLemmas.{as_many_marks, has_cost}

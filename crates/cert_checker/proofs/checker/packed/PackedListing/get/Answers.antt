@@ -2,7 +2,7 @@ use Rattle.std.proofs.Common.{◌≡◌, Some, subst}
 use Rattle.std.specs.Prelude.{slice_get}
 use Rattle.packed_state.specs.Packed.{bits_of}
 use Rattle.packed_state.specs.PooledView.{pooled_states}
-use Rattle.certificate_listing.specs.Listing.{store_in}
+use Rattle.certificate.specs.Listing.{store_in}
 use Rattle.cert_checker.specs.PackedListing.{task_at, atoms_at, certificate_at}
 use Rattle.cert_checker.proofs.PackedListingLemmas.{stands_there}
 use Rattle.cert_checker.proofs.checker.packed.PackedListing.get.Goals as goal

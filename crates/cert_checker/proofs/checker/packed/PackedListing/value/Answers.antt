@@ -1,7 +1,7 @@
 use Rattle.std.proofs.Common.{◌∙◌, sym}
 use Rattle.packed_state.specs.Packed.{bits_of}
 use Rattle.potentials.specs.Potentials.{potentials_of}
-use Rattle.certificate_listing.specs.Listing.{store_in}
+use Rattle.certificate.specs.Listing.{store_in}
 use Rattle.cert_checker.specs.PackedListing.{task_at, atoms_at, certificate_at}
 use Rattle.cert_checker.proofs.PackedListingLemmas.{value_there}
 use Rattle.cert_checker.proofs.checker.packed.PackedListing.value.Goals as goal

@@ -1,0 +1,158 @@
+-- The lines of a text, taken one after another, to its end.
+use Rattle.std.proofs.Common.{◌≡◌, ℕ, ◌+◌, ◌-◌, ◌<◌, ◌≤◌, Bool, true, false, List, [], ◌∷◌, ◌++◌, map, length, Option, None, Some, refl, sym, ap, ◌∙◌, subst, append-nil, length-append, arith}
+use Rattle.std.specs.Prelude.{Ok, All, Contains}
+use Rattle.std.specs.List.{list_all}
+use Rattle.std.specs.Option.{option_map_or}
+use Rattle.std.proofs.lemmas.Bool.{and_parts}
+use Rattle.std.proofs.lemmas.List.{length-map}
+use Rattle.packed_state.specs.Sets.{set_of}
+use Rattle.typing.specs.TaskParts.{atom_of}
+use Rattle.model.specs.Task.{Atom, Task}
+use Rattle.model.specs.Claims.{Claim}
+use Rattle.certificate_definitions.specs.Certificates.{StateLine, rise}
+use Rattle.certificate_reader.specs.declared.line.CertLine.{CertLine}
+use Rattle.certificate_reader.specs.Lines.{claim_of, text_line_of}
+use Rattle.certificate_definitions.specs.CertificateText.{WeightedAtom, NamedCertificate, TextLine, AreWhole, BeginCertificate, atom, claims, constant, last, listed, most_atoms, text_lines, text_of, version}
+use Rattle.certificate_definitions.specs.CertificateNames.{AllName}
+use Rattle.certificate_reader.specs.declared.reader.CertReader.{CertReader}
+use Rattle.certificate_reader.specs.Reader.{IsAnswer, has_failed, lines_read}
+use Rattle.model.proofs.ListLemmas.{Contains-here, Contains-there}
+use Rattle.certificate.specs.ListedSets.{Marked, line_with, lines_with, marked}
+use Rattle.cert_checker.specs.Told.{atoms_told, is_body, names_told, states_told}
+use Rattle.certificate.specs.declared.listing_parts.Mark.{Mark}
+use Rattle.cert_checker.specs.Listed.{HaveListed, IsFit}
+use Rattle.certificate.specs.ListingParts.{mark_of}
+use Rattle.certificate.specs.declared.listing_parts.Beginning.{Beginning}
+use Rattle.certificate.specs.ListingParts.{potentials_in}
+use Rattle.cert_checker.specs.Taking.{HasTaken}
+use Rattle.cert_checker.specs.Reading.{IsAt, IsBegun, IsListedSoFar, IsRead}
+use Rattle.certificate.proofs.SetsLemmas.{numbers_back}
+use Rattle.cert_checker.proofs.ToldLemmas.{begin_front}
+use Rattle.cert_checker.proofs.PlacedLemmas.{atoms_of_text, body_follows, few_atoms_told, fit_there, named_length, states_of_text}
+use Rattle.cert_checker.proofs.ReadingLemmas.{at_last, at_next, few_read, have_begun}
+
+-- there are as many atoms as lines that give one
+names_length : (task : Task) (lines : List TextLine) (atoms : List Atom) → AllName task (names_told lines) atoms → length (atoms_told lines) ≡ length atoms
+names_length task lines atoms named = sym (length-map (atoms_told lines) (λ (a : WeightedAtom). a.atom)) ∙ named_length task (names_told lines) atoms named
+
+-- ---- lines, by marks and sets
+
+lines_back : (width : ℕ) (lines : List StateLine) → list_all (λ (l : StateLine). rise width 0 l.atoms) lines ≡ true
+    → lines_with (map marked lines) (map (λ (l : StateLine). set_of width l.atoms) lines) ≡ lines
+lines_back width [] rising = refl
+lines_back width (l ∷ lines) rising =
+    let (here, more) = and_parts (rise width 0 l.atoms) (list_all (λ (l : StateLine). rise width 0 l.atoms) lines) rising in
+    let line : line_with (marked l) (set_of width l.atoms) ≡ l = λ i. record { cost = l.cost; cut = l.cut; atoms = numbers_back width l.atoms here i } in
+    let rest = lines_back width lines more in
+    λ i. line i ∷ rest i
+
+claim_stands : (c : NamedCertificate) → Contains (text_lines c) (claims c.claim)
+claim_stands c =
+    let body : List TextLine = (map (λ a. atom a) c.atoms ++ map (λ l. listed l) c.lines) ++ last (length c.lines) ∷ [] in
+    Contains-there version (claims c.claim ∷ constant c.constant ∷ body) (claims c.claim) (Contains-here (claims c.claim) (constant c.constant ∷ body))
+
+constant_stands : (c : NamedCertificate) → Contains (text_lines c) (constant c.constant)
+constant_stands c =
+    let body : List TextLine = (map (λ a. atom a) c.atoms ++ map (λ l. listed l) c.lines) ++ last (length c.lines) ∷ [] in
+    Contains-there version (claims c.claim ∷ constant c.constant ∷ body) (constant c.constant)
+    (Contains-there (claims c.claim) (constant c.constant ∷ body) (constant c.constant) (Contains-here (constant c.constant) body))
+
+module _ {R : Type 0} (remaining : R → Option (List ℕ)) (task : Task) (first now : CertReader R) (beginning : Beginning) where
+  abbrev claim : Claim
+  claim = claim_of beginning.claim
+
+  abbrev atoms : List Atom
+  atoms = map atom_of beginning.atoms.keys
+
+  whole_begins : (lines : List TextLine) → AreWhole lines → BeginCertificate lines
+  whole_begins lines whole = ([], subst AreWhole (sym (append-nil lines)) whole)
+
+  pub few_begun : (next : Option CertLine) → IsBegun remaining task first now beginning next → length atoms ≤ most_atoms
+  few_begun (Some line) (before, at, told, no_state, body) =
+      let few = few_atoms_told before (begin_front before (text_line_of line) (have_begun remaining first now (before ++ text_line_of line ∷ []) at)) in
+      let same = names_length task before atoms told.named in
+      omega (arith, few, same)
+  few_begun None (lines, over, told, no_state) =
+      let few = few_atoms_told lines (whole_begins lines over.whole) in
+      let same = names_length task lines atoms told.named in
+      omega (arith, few, same)
+
+  module _ (width : ℕ) (marks : List Marked) (sets : List (List Bool)) where
+    -- nothing is listed yet
+    nothing : marks ≡ [] → sets ≡ [] → (lines : List TextLine) → states_told lines ≡ [] → HaveListed lines claim width marks sets
+    nothing no_marks no_sets lines none_told = record {
+      rising = ap (list_all (λ (l : StateLine). rise width 0 l.atoms)) none_told;
+      marks_are = no_marks ∙ ap (map marked) (sym none_told);
+      allowed = λ is_none. subst (All (λ (l : StateLine). l.cut ≡ None)) (sym none_told) (λ k d within. absurd (omega (arith, within)));
+      sets_are = no_sets ∙ ap (map (λ (l : StateLine). set_of width l.atoms)) (sym none_told);
+    }
+
+    pub none_listed : marks ≡ [] → sets ≡ [] → (next : Option CertLine) → IsBegun remaining task first now beginning next → IsListedSoFar remaining task first now beginning width marks sets next
+    none_listed no_marks no_sets (Some line) (before, at, told, no_state, body) = (before, at, told, nothing no_marks no_sets before no_state, body)
+    none_listed no_marks no_sets None (lines, over, told, no_state) = (lines, over, told, nothing no_marks no_sets lines no_state)
+
+    -- the next line is fit to be listed
+    pub fit_next : (line : CertLine) → width ≡ length atoms → IsListedSoFar remaining task first now beginning width marks sets (Some line) → IsFit width sets (text_line_of line)
+    fit_next line wide (before, at, told, have, body) =
+        subst (λ n. IsFit n sets (text_line_of line)) (names_length task before atoms told.named ∙ sym wide)
+        (fit_there before (text_line_of line) (have_begun remaining first now (before ++ text_line_of line ∷ []) at) sets
+        (ap length have.sets_are ∙ length-map (states_told before) (λ (l : StateLine). set_of width l.atoms)))
+
+    -- the text is read to its end
+    pub read_whole : IsListedSoFar remaining task first now beginning width marks sets None
+        → IsRead remaining task first now (record { claim = claim; atoms = atoms; potentials = potentials_in beginning; lines = lines_with marks sets })
+    read_whole (lines, over, told, have) = by_certificate over.whole
+      where
+        states_are : lines_with marks sets ≡ states_told lines
+        states_are = (λ i. lines_with (have.marks_are i) (have.sets_are i)) ∙ lines_back width (states_told lines) have.rising
+
+        by_certificate : AreWhole lines → IsRead remaining task first now (record { claim = claim; atoms = atoms; potentials = potentials_in beginning; lines = lines_with marks sets })
+        by_certificate (c, keeps, are) = record {
+          text = text_of lines;
+          consumed = over.consumed;
+          at_end = over.at_end;
+          is_text = record {
+            said = c;
+            text = record { within = keeps; lines = ap text_of (sym are) };
+            claim = sym (told.one_claim c.claim (subst (λ lines. Contains lines (claims c.claim)) are (claim_stands c)));
+            atoms = subst (λ (said : List WeightedAtom). AllName task (map (λ a. a.atom) said) atoms) (ap atoms_told (sym are) ∙ atoms_of_text c) told.named;
+            potentials =
+                let constant_is = told.one_constant c.constant (subst (λ lines. Contains lines (constant c.constant)) are (constant_stands c)) in
+                let weights_are = told.weighed ∙ ap (map (λ (a : WeightedAtom). a.weight)) (ap atoms_told (sym are) ∙ atoms_of_text c) in
+                λ i. record { constant = constant_is i; weights = weights_are i };
+            lines = sym (states_are ∙ ap states_told (sym are) ∙ states_of_text c);
+          };
+          lines = lines;
+          text_is = refl;
+          right = told.right;
+          fluent = told.fluent;
+          distinct = told.distinct;
+          allowed = λ is_none. subst (All (λ (l : StateLine). l.cut ≡ None)) (sym states_are) (have.allowed is_none);
+        }
+
+    -- what comes behind a line that was taken
+    module _ (before : List TextLine) (line : TextLine) (at : IsAt remaining first now (before ++ line ∷ [])) (told : HasTaken task (before ++ line ∷ []) beginning)
+        (have : HaveListed (before ++ line ∷ []) claim width marks sets) (body : is_body line ≡ true) (next : CertReader R) (going : has_failed next ≡ false) where
+      pub so_far_next : (answer : Option CertLine) → IsAnswer remaining now next (before ++ line ∷ []) (Ok answer) → IsListedSoFar remaining task first next beginning width marks sets answer
+      so_far_next (Some other) handed =
+          let there = at_next remaining first now (before ++ line ∷ []) at next (text_line_of other) handed going in (
+            before ++ line ∷ [],
+            there,
+            told,
+            have,
+            body_follows before line (text_line_of other) (have_begun remaining first next ((before ++ line ∷ []) ++ text_line_of other ∷ []) there) body,
+          )
+      so_far_next None over = (before ++ line ∷ [], at_last remaining first now (before ++ line ∷ []) at next over, told, have)
+
+      pub fewer_left : (answer : Option CertLine) → IsAnswer remaining now next (before ++ line ∷ []) (Ok answer)
+          → (20000000 - lines_read next) + option_map_or (λ (line : CertLine). 1) answer 0 < (20000000 - lines_read now) + 1
+      fewer_left (Some other) handed =
+          omega (arith, at.read.count, handed.read.count, length-append (before ++ line ∷ []) (text_line_of other ∷ []), few_read remaining first now (before ++ line ∷ []) at)
+      fewer_left None over = omega (arith, at.read.count, over.read.count, few_read remaining first now (before ++ line ∷ []) at)
+
+-- there is a mark for each set
+pub as_many_listed : {R : Type 0} (remaining : R → Option (List ℕ)) (task : Task) (first now : CertReader R) (beginning : Beginning) (width : ℕ) (marks : List Mark)
+    (sets : List (List Bool)) → IsListedSoFar remaining task first now beginning width (map mark_of marks) sets None → length marks ≡ length sets
+as_many_listed remaining task first now beginning width marks sets (lines, over, told, have) =
+    sym (length-map marks mark_of) ∙ ap length have.marks_are ∙ length-map (states_told lines) marked
+    ∙ sym (length-map (states_told lines) (λ (l : StateLine). set_of width l.atoms)) ∙ sym (ap length have.sets_are)

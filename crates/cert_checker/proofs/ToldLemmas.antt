@@ -1,0 +1,288 @@
+-- What one line more tells.
+use Rattle.std.proofs.Common.{◌≡◌, ◌≢◌, ℕ, ◌⊎◌, inl, inr, ⊎_elim, Bool, true, false, List, [], ◌∷◌, ◌++◌, map, None, Some, refl, sym, ap, ◌∙◌, subst, append_assoc, append-nil, true≢false, arith}
+use Rattle.std.specs.Prelude.{IsTrue, ◌&&◌, Contains, ℤ, pos}
+use Rattle.std.proofs.lemmas.List.{map-append}
+use Rattle.std.proofs.lemmas.List.Elements.{All-nil, All-push, Contains-push, Contains-push_cases, Contains-append_left, Contains-get_or}
+use Rattle.std.proofs.lemmas.List.Elements.{filter_map-append}
+use Rattle.std.proofs.lemmas.List.Quantifiers.{all_pairs_push}
+use Rattle.model.proofs.ListLemmas.{Contains-cases, Contains-here, Contains-map, Contains-there, Contains-none, Contains-filter_map, filter_map-Contains, map-Contains}
+use Rattle.model.specs.Task.{Atom, Task}
+use Rattle.model.specs.WellTyped.{is_atom}
+use Rattle.model.specs.Fluents.{is_fluent}
+use Rattle.model.specs.Claims.{Claim, bound, none}
+use Rattle.potential_functions.specs.PotentialFunctions.{PotentialFunction}
+use Rattle.certificate_definitions.specs.CertificateText.{NamedAtom, WeightedAtom, TextLine, version, claims, constant, atom, listed, last, BeginCertificate, AreWhole}
+use Rattle.certificate_definitions.specs.CertificateNames.{AllName, Names}
+use Rattle.certificate_definitions.specs.CertificateMachine.{Place, at_version, at_claim, at_constant, in_body, ended, next_place, place_after}
+use Rattle.certificate_definitions.specs.CertificateChecking.{AreRight, IsWrongAfter, not_fluent, repeated_atom, repeated_state, cut_not_allowed}
+use Rattle.certificate_definitions.proofs.Machine.{StandsBefore, never, stands, followed, place_of_beginning}
+use Rattle.cert_checker.specs.Told.{HaveTold, atom_in, atoms_told, names_told, state_in, states_told, weights_told}
+use Rattle.cert_checker.proofs.NamesLemmas.{one_named, same_names}
+
+-- ---- lists of lines
+
+-- an atom that stands in the lines is told, and one that is told stands there
+pub atom_told : (lines : List TextLine) (a : WeightedAtom) → Contains lines (atom a) → Contains (atoms_told lines) a
+atom_told lines a there = Contains-filter_map atom_in lines (atom a) a there refl
+
+pub told_atom : (lines : List TextLine) (a : WeightedAtom) → Contains (atoms_told lines) a → Contains lines (atom a)
+told_atom lines a told = let (line, there, is) = filter_map-Contains atom_in lines a told in subst (Contains lines) (line_is line is) there
+  where
+    line_is : (line : TextLine) → atom_in line ≡ Some a → line ≡ atom a
+    line_is version is = absurd (cc is)
+    line_is (claims claim) is = absurd (cc is)
+    line_is (constant k) is = absurd (cc is)
+    line_is (atom b) is = let same : b ≡ a = cc in ap (λ a. atom a) same
+    line_is (listed l) is = absurd (cc is)
+    line_is (last count) is = absurd (cc is)
+
+-- ---- where a line stands
+
+pub begin_front : (before : List TextLine) (line : TextLine) → BeginCertificate (before ++ line ∷ []) → BeginCertificate before
+begin_front before line (rest, whole) = (line ∷ rest, subst AreWhole (append_assoc before (line ∷ []) rest) whole)
+
+pub record IsPlaced (before : List TextLine) (line : TextLine) : Type 0 where
+  pub place : Place
+  pub at : place_after before ≡ Some place
+  pub stands : StandsBefore place before
+  pub next : Place
+  pub leads : next_place place line ≡ Some next
+
+pub placed : (before : List TextLine) (line : TextLine) → BeginCertificate (before ++ line ∷ []) → IsPlaced before line
+placed before line begun =
+    let (place, leads) = place_of_beginning before (begin_front before line begun) in
+    let (next, is) = followed before place leads line begun in
+    record { place = place; at = leads; stands = stands before place leads; next = next; leads = is }
+
+-- before the claim none stands
+only_claim : (before : List TextLine) (c d : Claim) → BeginCertificate (before ++ claims c ∷ []) → Contains before (claims d) → ⊥
+only_claim before c d begun there = let at = placed before (claims c) begun in by_place at.place at.stands at.next at.leads
+  where
+    by_place : (place : Place) → StandsBefore place before → (next : Place) → next_place place (claims c) ≡ Some next → ⊥
+    by_place at_version are next leads = never next leads
+    by_place at_claim are next leads = no_claim (subst (λ lines. Contains lines (claims d)) are there)
+      where
+        no_claim : Contains (version ∷ []) (claims d) → ⊥
+        no_claim there = ⊎_elim (λ same. absurd (cc same)) (λ none. Contains-none (claims d) none) (Contains-cases version [] (claims d) there)
+    by_place at_constant are next leads = never next leads
+    by_place (in_body n m) are next leads = never next leads
+    by_place ended are next leads = never next leads
+
+-- before the constant none stands
+only_constant : (before : List TextLine) (k d : ℤ) → BeginCertificate (before ++ constant k ∷ []) → Contains before (constant d) → ⊥
+only_constant before k d begun there = let at = placed before (constant k) begun in by_place at.place at.stands at.next at.leads
+  where
+    no_constant : (claim : Claim) → Contains (version ∷ claims claim ∷ []) (constant d) → ⊥
+    no_constant claim there =
+        ⊎_elim (λ same. absurd (cc same))
+        (λ later. ⊎_elim (λ same. absurd (cc same)) (λ none. Contains-none (constant d) none) (Contains-cases (claims claim) [] (constant d) later))
+        (Contains-cases version (claims claim ∷ []) (constant d) there)
+
+    by_place : (place : Place) → StandsBefore place before → (next : Place) → next_place place (constant k) ≡ Some next → ⊥
+    by_place at_version are next leads = never next leads
+    by_place at_claim are next leads = never next leads
+    by_place at_constant (claim, is, are) next leads = no_constant claim (subst (λ lines. Contains lines (constant d)) are there)
+    by_place (in_body n m) are next leads = never next leads
+    by_place ended are next leads = never next leads
+
+-- ---- one line more
+
+nothing_before : (front : List TextLine) (other : TextLine) (rest : List TextLine) → [] ≡ front ++ other ∷ rest → ⊥
+nothing_before [] other rest same = absurd (cc same)
+nothing_before (f ∷ front) other rest same = absurd (cc same)
+
+cons_parts : (a b : TextLine) (xs ys : List TextLine) → a ∷ xs ≡ b ∷ ys → (a ≡ b) × (xs ≡ ys)
+cons_parts a b xs ys same = (cc same, cc same)
+
+-- a line among some lines and one more is that one, or stands among them
+split_last : (before front rest : List TextLine) (line other : TextLine) → before ++ line ∷ [] ≡ front ++ other ∷ rest
+    → ((before ≡ front) × (line ≡ other)) ⊎ ((more : List TextLine) × (before ≡ front ++ other ∷ more))
+split_last [] [] rest line other same = inl (refl, (cons_parts line other [] rest same).0)
+split_last [] (f ∷ front) rest line other same = absurd (nothing_before front other rest (cons_parts line f [] (front ++ other ∷ rest) same).1)
+split_last (b ∷ before) [] rest line other same = inr (before, ap (λ b. b ∷ before) (cons_parts b other (before ++ line ∷ []) rest same).0)
+split_last (b ∷ before) (f ∷ front) rest line other same =
+    let (here, more) = cons_parts b f (before ++ line ∷ []) (front ++ other ∷ rest) same in
+    ⊎_elim (λ (fronts, lines). inl ((λ i. here i ∷ fronts i), lines)) (λ (left, is). inr (left, (λ i. here i ∷ is i))) (split_last before front rest line other more)
+
+-- no line is wrong where none was and the next is not
+right_more : (task : Task) (before : List TextLine) (line : TextLine) → AreRight task before → ((number : ℕ) → IsWrongAfter task before line number → ⊥)
+    → AreRight task (before ++ line ∷ [])
+right_more task before line right not_wrong front rest other number splits wrong =
+    ⊎_elim (λ (fronts, lines). not_wrong number (subst (λ front. IsWrongAfter task front line number) (sym fronts) (subst (λ line. IsWrongAfter task front line number) (sym lines) wrong)))
+    (λ (more, is). right front more other number is wrong) (split_last before front rest line other splits)
+
+-- a line that tells of no atom and no state is not wrong
+abbrev pub is_plain : TextLine → Bool
+is_plain version = true
+is_plain (claims claim) = true
+is_plain (constant k) = true
+is_plain (atom a) = false
+is_plain (listed l) = false
+is_plain (last count) = true
+
+plain_is_right : (task : Task) (before : List TextLine) (line : TextLine) (number : ℕ) → IsWrongAfter task before line number → is_plain line ≡ true → ⊥
+plain_is_right task before line number (not_fluent a none_is) plain = absurd (true≢false (sym plain))
+plain_is_right task before line number (repeated_atom a is there) plain = absurd (true≢false (sym plain))
+plain_is_right task before line number (repeated_state l there) plain = absurd (true≢false (sym plain))
+plain_is_right task before line number (cut_not_allowed l new cut there) plain = absurd (true≢false (sym plain))
+
+named_push : (task : Task) (names : List NamedAtom) (atoms : List Atom) (name : NamedAtom) (a : Atom) → AllName task names atoms → Names task name a
+    → AllName task (names ++ name ∷ []) (atoms ++ a ∷ [])
+named_push task [] [] name a are is = (is, tt)
+named_push task [] (b ∷ atoms) name a are is = absurd are
+named_push task (n ∷ names) [] name a are is = absurd are
+named_push task (n ∷ names) (b ∷ atoms) name a (here, are) is = (here, named_push task names atoms name a are is)
+
+-- what is named by one of these names is one of these atoms, and has one of these names
+atom_of_name : (task : Task) (names : List NamedAtom) (atoms : List Atom) (name : NamedAtom) → AllName task names atoms → Contains names name
+    → (a : Atom) × Contains atoms a × Names task name a
+atom_of_name task [] atoms name are there = absurd (Contains-none name there)
+atom_of_name task (n ∷ names) [] name are there = absurd are
+atom_of_name task (n ∷ names) (b ∷ atoms) name (here, are) there =
+    ⊎_elim (λ same. (b, Contains-here b atoms, subst (λ name. Names task name b) same here))
+    (λ later. let (a, stands, is) = atom_of_name task names atoms name are later in (a, Contains-there b atoms a stands, is)) (Contains-cases n names name there)
+
+name_of_atom : (task : Task) (names : List NamedAtom) (atoms : List Atom) (a : Atom) → AllName task names atoms → Contains atoms a
+    → (name : NamedAtom) × Contains names name × Names task name a
+name_of_atom task names [] a are there = absurd (Contains-none a there)
+name_of_atom task [] (b ∷ atoms) a are there = absurd are
+name_of_atom task (n ∷ names) (b ∷ atoms) a (here, are) there =
+    ⊎_elim (λ same. (n, Contains-here n names, subst (Names task n) same here))
+    (λ later. let (name, stands, is) = name_of_atom task names atoms a are later in (name, Contains-there n names name stands, is)) (Contains-cases b atoms a there)
+
+-- the names and the weights of some lines and one atom more
+names_more : (before : List TextLine) (a : WeightedAtom) → names_told (before ++ atom a ∷ []) ≡ names_told before ++ a.atom ∷ []
+names_more before a = ap (map (λ (a : WeightedAtom). a.atom)) (filter_map-append atom_in before (atom a ∷ [])) ∙ map-append (λ (a : WeightedAtom). a.atom) (atoms_told before) (a ∷ [])
+
+weights_more : (before : List TextLine) (a : WeightedAtom) → weights_told (before ++ atom a ∷ []) ≡ weights_told before ++ a.weight ∷ []
+weights_more before a = ap (map (λ (a : WeightedAtom). a.weight)) (filter_map-append atom_in before (atom a ∷ [])) ∙ map-append (λ (a : WeightedAtom). a.weight) (atoms_told before) (a ∷ [])
+
+-- no lines tell nothing
+pub told_nothing : (task : Task) → HaveTold task [] (bound 0) [] (record { constant = pos 0; weights = [] })
+told_nothing task = record {
+  one_claim = λ c there. absurd (Contains-none (claims c) there);
+  none_stands = λ same. absurd (cc same);
+  one_constant = λ k there. absurd (Contains-none (constant k) there);
+  named = tt;
+  weighed = refl;
+  fluent = All-nil (λ (a : Atom). IsTrue (is_atom task a && is_fluent task a.predicate));
+  distinct = λ i j d below within. absurd (omega (arith, within));
+  right = λ front rest line number splits wrong. nothing_before front line rest splits;
+}
+
+module _ (task : Task) (before : List TextLine) (claim : Claim) (atoms : List Atom) (potentials : PotentialFunction)
+    (told : HaveTold task before claim atoms potentials) where
+  no_atom_more : (line : TextLine) → atom_in line ≡ None → atoms_told (before ++ line ∷ []) ≡ atoms_told before
+  no_atom_more line none_in = filter_map-append atom_in before (line ∷ []) ∙ ap (λ more. atoms_told before ++ more) (none_more line none_in) ∙ append-nil (atoms_told before)
+    where
+      none_more : (line : TextLine) → atom_in line ≡ None → atoms_told (line ∷ []) ≡ []
+      none_more version is = refl
+      none_more (claims claim) is = refl
+      none_more (constant k) is = refl
+      none_more (atom a) is = absurd (cc is)
+      none_more (listed l) is = refl
+      none_more (last count) is = refl
+
+  named_still : (line : TextLine) → atom_in line ≡ None → AllName task (names_told (before ++ line ∷ [])) atoms
+  named_still line none_in = subst (λ (told : List WeightedAtom). AllName task (map (λ a. a.atom) told) atoms) (sym (no_atom_more line none_in)) told.named
+
+  weighed_still : (line : TextLine) → atom_in line ≡ None → potentials.weights ≡ weights_told (before ++ line ∷ [])
+  weighed_still line none_in = told.weighed ∙ ap (map (λ (a : WeightedAtom). a.weight)) (sym (no_atom_more line none_in))
+
+  pub told_claim : (c : Claim) → BeginCertificate (before ++ claims c ∷ []) → HaveTold task (before ++ claims c ∷ []) c atoms potentials
+  told_claim c begun = record {
+    one_claim = λ d there. ⊎_elim (λ earlier. absurd (only_claim before c d begun earlier)) (λ same. claim_same d same) (Contains-push_cases before (claims c) (claims d) there);
+    none_stands = λ none_is. subst (λ d. Contains (before ++ claims c ∷ []) (claims d)) none_is (Contains-push before (claims c));
+    one_constant = λ k there. ⊎_elim (λ earlier. told.one_constant k earlier) (λ same. absurd (cc same)) (Contains-push_cases before (claims c) (constant k) there);
+    named = named_still (claims c) refl;
+    weighed = weighed_still (claims c) refl;
+    fluent = told.fluent;
+    distinct = told.distinct;
+    right = right_more task before (claims c) told.right (λ number wrong. plain_is_right task before (claims c) number wrong refl);
+  }
+    where
+      claim_same : (d : Claim) → claims c ≡ claims d → c ≡ d
+      claim_same d same = cc same
+
+  pub told_constant : (k : ℤ) → BeginCertificate (before ++ constant k ∷ []) → HaveTold task (before ++ constant k ∷ []) claim atoms (record { constant = k; weights = potentials.weights })
+  told_constant k begun = record {
+    one_claim = λ d there. ⊎_elim (λ earlier. told.one_claim d earlier) (λ same. absurd (cc same)) (Contains-push_cases before (constant k) (claims d) there);
+    none_stands = λ none_is. Contains-append_left before (constant k ∷ []) (claims none) (told.none_stands none_is);
+    one_constant = λ d there. ⊎_elim (λ earlier. absurd (only_constant before k d begun earlier)) (λ same. constant_same d same) (Contains-push_cases before (constant k) (constant d) there);
+    named = named_still (constant k) refl;
+    weighed = weighed_still (constant k) refl;
+    fluent = told.fluent;
+    distinct = told.distinct;
+    right = right_more task before (constant k) told.right (λ number wrong. plain_is_right task before (constant k) number wrong refl);
+  }
+    where
+      constant_same : (d : ℤ) → constant k ≡ constant d → k ≡ d
+      constant_same d same = cc same
+
+  -- a line that tells neither the claim, nor the constant, nor an atom
+  pub told_else : (line : TextLine) → ((d : Claim) → line ≡ claims d → ⊥) → ((k : ℤ) → line ≡ constant k → ⊥) → atom_in line ≡ None
+      → ((number : ℕ) → IsWrongAfter task before line number → ⊥) → HaveTold task (before ++ line ∷ []) claim atoms potentials
+  told_else line no_claim no_constant no_atom is_right = record {
+    one_claim = λ d there. ⊎_elim (λ earlier. told.one_claim d earlier) (λ same. absurd (no_claim d same)) (Contains-push_cases before line (claims d) there);
+    none_stands = λ none_is. Contains-append_left before (line ∷ []) (claims none) (told.none_stands none_is);
+    one_constant = λ k there. ⊎_elim (λ earlier. told.one_constant k earlier) (λ same. absurd (no_constant k same)) (Contains-push_cases before line (constant k) there);
+    named = named_still line no_atom;
+    weighed = weighed_still line no_atom;
+    fluent = told.fluent;
+    distinct = told.distinct;
+    right = right_more task before line told.right is_right;
+  }
+
+  pub told_version : HaveTold task (before ++ version ∷ []) claim atoms potentials
+  told_version = told_else version (λ d same. cc same) (λ k same. cc same) refl (λ number wrong. plain_is_right task before version number wrong refl)
+
+  pub told_last : (count : ℕ) → HaveTold task (before ++ last count ∷ []) claim atoms potentials
+  told_last count = told_else (last count) (λ d same. cc same) (λ k same. cc same) refl (λ number wrong. plain_is_right task before (last count) number wrong refl)
+
+  module _ (said : WeightedAtom) (a : Atom) (names : Names task said.atom a) (typed : IsTrue (is_atom task a)) (changes : IsTrue (is_fluent task a.predicate)) where
+    right_atom : (Contains atoms a → ⊥) → (line : TextLine) (number : ℕ) → IsWrongAfter task before line number → line ≡ atom said → ⊥
+    right_atom new line number (not_fluent b none_is) same =
+        let here : b ≡ said = cc in absurd (none_is (a, subst (λ (b : WeightedAtom). Names task b.atom a) (sym here) names, typed, changes))
+    right_atom new line number (repeated_atom b is (earlier, there, earlier_is)) same =
+        let here : b ≡ said = cc in
+        let same_name : earlier.atom ≡ said.atom = earlier_is ∙ ap (λ (b : WeightedAtom). b.atom) here in
+        let (other, stands, other_is) = atom_of_name task (names_told before) atoms earlier.atom told.named
+        (Contains-map (λ (a : WeightedAtom). a.atom) (atoms_told before) earlier (atom_told before earlier there)) in
+        absurd (new (subst (Contains atoms) (one_named task said.atom other a (subst (λ name. Names task name other) same_name other_is) names) stands))
+    right_atom new line number (repeated_state l there) same = absurd (cc same)
+    right_atom new line number (cut_not_allowed l first cut there) same = absurd (cc same)
+
+    pub told_new_atom : (Contains atoms a → ⊥)
+        → HaveTold task (before ++ atom said ∷ []) claim (atoms ++ a ∷ []) (record { constant = potentials.constant; weights = potentials.weights ++ said.weight ∷ [] })
+    told_new_atom new = record {
+      one_claim = λ d there. ⊎_elim (λ earlier. told.one_claim d earlier) (λ same. absurd (cc same)) (Contains-push_cases before (atom said) (claims d) there);
+      none_stands = λ none_is. Contains-append_left before (atom said ∷ []) (claims none) (told.none_stands none_is);
+      one_constant = λ k there. ⊎_elim (λ earlier. told.one_constant k earlier) (λ same. absurd (cc same)) (Contains-push_cases before (atom said) (constant k) there);
+      named = subst (λ names. AllName task names (atoms ++ a ∷ [])) (sym (names_more before said)) (named_push task (names_told before) atoms said.atom a told.named names);
+      weighed = ap (λ weights. weights ++ said.weight ∷ []) told.weighed ∙ sym (weights_more before said);
+      fluent = All-push (λ (a : Atom). IsTrue (is_atom task a && is_fluent task a.predicate)) atoms a told.fluent (λ i. typed i && changes i);
+      distinct = all_pairs_push (λ (a b : Atom). a ≢ b) atoms a told.distinct (λ k d within same. new (subst (Contains atoms) same (Contains-get_or atoms k d within)));
+      right = right_more task before (atom said) told.right (λ number wrong. right_atom new (atom said) number wrong refl);
+    }
+
+    pub wrong_again : Contains atoms a → IsWrongAfter task before (atom said) 44
+    wrong_again stands =
+        let (name, among, is) = name_of_atom task (names_told before) atoms a told.named stands in
+        let (other, there, other_is) = map-Contains (λ (a : WeightedAtom). a.atom) (atoms_told before) name among in
+        repeated_atom said (a, names, typed, changes) (other, told_atom before other there, other_is ∙ same_names task name said.atom a is names)
+
+-- a line that lists no state adds none
+pub states_same : (lines : List TextLine) (line : TextLine) → state_in line ≡ None → states_told (lines ++ line ∷ []) ≡ states_told lines
+states_same lines line is = filter_map-append state_in lines (line ∷ []) ∙ ap (λ more. states_told lines ++ more) (alone line is) ∙ append-nil (states_told lines)
+  where
+    alone : (line : TextLine) → state_in line ≡ None → states_told (line ∷ []) ≡ []
+    alone version is = refl
+    alone (claims claim) is = refl
+    alone (constant k) is = refl
+    alone (atom a) is = refl
+    alone (listed l) is = absurd (cc is)
+    alone (last count) is = refl
+
+-- a line that lists no state lists none
+pub no_state_more : (lines : List TextLine) (line : TextLine) → state_in line ≡ None → states_told lines ≡ [] → states_told (lines ++ line ∷ []) ≡ []
+no_state_more lines line is none_before = states_same lines line is ∙ none_before

@@ -1,0 +1,101 @@
+-- How far a text has been read, and what is told of it.
+use Rattle.std.specs.Prelude.{◌≡◌, ◌≢◌, ◌&&◌, IsTrue, All, AllPairs, ℕ, Bool, true, false, List, [], ◌∷◌, ◌++◌, Option, Some, None, Result, Ok, Err}
+use Rattle.std.specs.Io.KnownBytes.{Consumes, IsAtEnd}
+use Rattle.devices.specs.Devices.{one_more}
+use Rattle.model.specs.Task.{Atom, Task}
+use Rattle.model.specs.WellTyped.{is_atom}
+use Rattle.model.specs.Fluents.{is_fluent}
+use Rattle.model.specs.Claims.{none}
+use Rattle.certificate_definitions.specs.Certificates.{Certificate, StateLine}
+use Rattle.certificate_definitions.specs.CertificateNames.{IsTextOf}
+use Rattle.certificate_reader.specs.declared.line.CertLine.{CertLine}
+use Rattle.certificate_reader.specs.Lines.{claim_of, text_line_of}
+use Rattle.certificate_definitions.specs.CertificateText.{TextLine, AreWhole, text_of}
+use Rattle.certificate_definitions.specs.CertificateChecking.{AreRight, IsLineFault}
+use Rattle.certificate_reader.specs.declared.reader.CertReader.{CertReader}
+use Rattle.certificate_reader.specs.Reader.{HasRead, has_failed, source_of, waits_in}
+use Rattle.certificate.specs.declared.listing_parts.Beginning.{Beginning}
+use Rattle.cert_checker.specs.declared.refusal.RefusalCode.{RefusalCode}
+use Rattle.cert_checker.specs.declared.refusal.RefusalCode.TheVariants.{Truncated}
+use Rattle.cert_checker.specs.declared.refusal.Refusal.{Refusal}
+use Rattle.cert_checker.specs.declared.refusal.Refusal.TheVariants as refusal
+use Rattle.cert_checker.specs.RefusalCode.{number_of}
+use Rattle.cert_checker.specs.Told.{is_body, states_told}
+use Rattle.certificate.specs.ListedSets.{Marked}
+use Rattle.cert_checker.specs.Listed.{HaveListed}
+use Rattle.cert_checker.specs.Taking.{HasTaken}
+
+-- a reader that has handed out nothing, and holds nothing
+pub record IsFresh {R : Type 0} (reader : CertReader R) : Type 0 where
+  pub read : HasRead reader []
+  pub waits : waits_in reader ≡ []
+  pub going : has_failed reader ≡ false
+
+-- From where it was first until now a reader has handed out these lines: they and what waits are what came.
+pub record IsAt {R : Type 0} (remaining : R → Option (List ℕ)) (first now : CertReader R) (lines : List TextLine) : Type 0 where
+  pub read : HasRead now lines
+  pub going : has_failed now ≡ false
+  pub bytes : List ℕ
+  pub consumed : Consumes (remaining (source_of first)) (remaining (source_of now)) bytes
+  pub splits : bytes ≡ text_of lines ++ waits_in now
+
+-- so, and the lines are all of a certificate, which ends with what came
+pub record IsAtLast {R : Type 0} (remaining : R → Option (List ℕ)) (first now : CertReader R) (lines : List TextLine) : Type 0 where
+  pub whole : AreWhole lines
+  pub consumed : Consumes (remaining (source_of first)) (remaining (source_of now)) (text_of lines)
+  pub at_end : IsAtEnd (remaining (source_of now))
+
+-- The number is told of this line of what came: of a text that ends too early where it has ended, and else whatever follows.
+abbrev pub IsToldAt : {R : Type 0} → (remaining : R → Option (List ℕ)) → Task → (first now : CertReader R) → RefusalCode → ℕ → Type 0
+IsToldAt remaining task first now Truncated line =
+    (bytes : List ℕ) × Consumes (remaining (source_of first)) (remaining (source_of now)) bytes × IsAtEnd (remaining (source_of now)) × IsLineFault task bytes 42 line
+IsToldAt remaining task first now code line =
+    (bytes : List ℕ) × Consumes (remaining (source_of first)) (remaining (source_of now)) bytes × ((more : List ℕ) → IsLineFault task (bytes ++ more) (number_of code) line)
+
+-- the refusal is that of a line; or memory was refused, or the device failed
+abbrev pub IsLineRefusal : {R : Type 0} → (remaining : R → Option (List ℕ)) → Task → (first now : CertReader R) → Refusal → Type 0
+IsLineRefusal remaining task first now (refusal.Line code line) = IsToldAt remaining task first now code line
+IsLineRefusal remaining task first now (refusal.Unfair i) = ⊥
+IsLineRefusal remaining task first now (refusal.Plain code) = ⊥
+IsLineRefusal remaining task first now refusal.NoMemory = Unit {0}
+IsLineRefusal remaining task first now refusal.Device = Unit {0}
+IsLineRefusal remaining task first now refusal.Failed = ⊥
+
+-- The lines up to the next one have told this; the next one lists a state, or is the last, or the text has ended.
+abbrev pub IsBegun : {R : Type 0} → (remaining : R → Option (List ℕ)) → Task → (first now : CertReader R) → Beginning → Option CertLine → Type 0
+IsBegun remaining task first now beginning (Some line) =
+    (before : List TextLine) × IsAt remaining first now (before ++ text_line_of line ∷ []) × HasTaken task before beginning
+    × (states_told before ≡ []) × (is_body (text_line_of line) ≡ true)
+IsBegun remaining task first now beginning None =
+    (lines : List TextLine) × IsAtLast remaining first now lines × HasTaken task lines beginning × (states_told lines ≡ [])
+
+-- the failure of a device counts one failure, another answer none
+abbrev pub CountsRefusal : {T : Type 0} → (before after : ℕ) → Result T Refusal → Type 0
+CountsRefusal before after (Ok read) = after ≡ before
+CountsRefusal before after (Err (refusal.Line code line)) = after ≡ before
+CountsRefusal before after (Err (refusal.Unfair i)) = after ≡ before
+CountsRefusal before after (Err (refusal.Plain code)) = after ≡ before
+CountsRefusal before after (Err refusal.NoMemory) = after ≡ before
+CountsRefusal before after (Err refusal.Device) = after ≡ one_more before
+CountsRefusal before after (Err refusal.Failed) = after ≡ before
+
+-- The lines up to the next one have told and listed this; the next one lists a state, or is the last, or the text has ended.
+abbrev pub IsListedSoFar : {R : Type 0} → (remaining : R → Option (List ℕ)) → Task → (first now : CertReader R) → Beginning → (width : ℕ) → List Marked → List (List Bool) → Option CertLine → Type 0
+IsListedSoFar remaining task first now beginning width marks sets (Some line) =
+    (before : List TextLine) × IsAt remaining first now (before ++ text_line_of line ∷ []) × HasTaken task before beginning
+    × HaveListed before (claim_of beginning.claim) width marks sets × (is_body (text_line_of line) ≡ true)
+IsListedSoFar remaining task first now beginning width marks sets None =
+    (lines : List TextLine) × IsAtLast remaining first now lines × HasTaken task lines beginning × HaveListed lines (claim_of beginning.claim) width marks sets
+
+-- What came to the end is the text of this certificate of the task, and nothing is wrong with any of its lines.
+pub record IsRead {R : Type 0} (remaining : R → Option (List ℕ)) (task : Task) (first now : CertReader R) (c : Certificate) : Type 0 where
+  pub text : List ℕ
+  pub consumed : Consumes (remaining (source_of first)) (remaining (source_of now)) text
+  pub at_end : IsAtEnd (remaining (source_of now))
+  pub is_text : IsTextOf task text c
+  pub lines : List TextLine
+  pub text_is : text ≡ text_of lines
+  pub right : AreRight task lines
+  pub fluent : All (λ (a : Atom). IsTrue (is_atom task a && is_fluent task a.predicate)) c.atoms
+  pub distinct : AllPairs (λ (a b : Atom). a ≢ b) c.atoms
+  pub allowed : c.claim ≡ none → All (λ (l : StateLine). l.cut ≡ None) c.lines

@@ -1,0 +1,110 @@
+//! What a certificate says before its states, read line by line.
+ghost use Rattle.std.specs.Prelude.{◌≡◌, ◌+◌, ◌++◌, ◌∷◌, [], IfErr, IfOk, List, OnOk, length};
+ghost use Rattle.typing.specs.Task.{task_of};
+ghost use Rattle.model.specs.Task as model;
+ghost use Rattle.certificate_reader.specs.Lines.{named_atom_of, text_line_of};
+ghost use Rattle.certificate_definitions.specs.CertificateText.{TextLine, BeginCertificate, atom};
+ghost use Rattle.cert_checker.specs.Taking.{HasTaken, IsTaken, IsWrongNow};
+ghost use Rattle.certificate_reader.specs.Reader.{source_of};
+ghost use Rattle.cert_checker.specs.Reading.{CountsRefusal, IsBegun, IsFresh, IsLineRefusal};
+
+use crate::named_atoms::fluent_atom_named;
+use crate::refusal::{Refusal, RefusalCode};
+use certificate::{Beginning, CertLine, CertReader, Claim, NamedAtom};
+use devices::Source;
+use indexmap::IndexSet;
+use std::alloc::Global;
+use typing::Task;
+
+/// What no lines have told: a bound of 0, which is always true, and the constant 0, until their lines come.
+fn nothing_told(alloc: Global) -> Beginning
+    ensures { (task : model.Task) → HasTaken task [] result }
+{
+    Beginning {
+        claim: Claim::Bound(0),
+        constant: 0,
+        atoms: IndexSet::new(alloc),
+        weights: Vec::new(alloc),
+    }
+}
+
+/// Takes the line of this number, from 1; a line that lists a state, or is the last, is handed back.
+fn take(
+    beginning: &mut Beginning,
+    task: &Task,
+    line: CertLine,
+    number: u64,
+) -> Result<Option<CertLine>, Refusal>
+    ensures taken { IfOk result (λ back. (before : List TextLine) → BeginCertificate (before ++ text_line_of line ∷ [])
+        → HasTaken (task_of task.now) before beginning.old → IsTaken (task_of task.now) before (text_line_of line) beginning.new back) }
+    ensures wrong { IfErr result (λ refusal. (before : List TextLine) → number ≡ length before + 1
+        → HasTaken (task_of task.now) before beginning.old → IsWrongNow (task_of task.now) before (text_line_of line) refusal) }
+{
+    match line {
+        CertLine::Head => Ok(None),
+        CertLine::Claim(claim) => {
+            beginning.claim = claim;
+            Ok(None)
+        }
+        CertLine::Constant(constant) => {
+            beginning.constant = constant;
+            Ok(None)
+        }
+        CertLine::Weight { weight, atom } => {
+            add_atom(beginning, task, &atom, weight, number)?;
+            Ok(None)
+        }
+        CertLine::Listed(_) | CertLine::Last { .. } => Ok(Some(line)),
+    }
+}
+
+/// Puts the atom of these names, which the line of this number gives, and its weight behind the others.
+fn add_atom(
+    beginning: &mut Beginning,
+    task: &Task,
+    name: &NamedAtom,
+    weight: i64,
+    number: u64,
+) -> Result<(), Refusal>
+    ensures told { OnOk result ((before : List TextLine) → HasTaken (task_of task.now) before beginning.old
+        → HasTaken (task_of task.now) (before ++ atom (record { weight = weight; atom = named_atom_of name.now }) ∷ []) beginning.new) }
+    ensures wrong { IfErr result (λ refusal. (before : List TextLine) → number ≡ length before + 1 → HasTaken (task_of task.now) before beginning.old
+        → IsWrongNow (task_of task.now) before (atom (record { weight = weight; atom = named_atom_of name.now })) refusal) }
+{
+    let Some(atom) = fluent_atom_named(task, name) else {
+        return Err(Refusal::Line {
+            code: RefusalCode::NotFluent,
+            line: number,
+        });
+    };
+    if !beginning.atoms.insert(atom)? {
+        return Err(Refusal::Line {
+            code: RefusalCode::Repeated,
+            line: number,
+        });
+    }
+    beginning.weights.push(weight)?;
+    Ok(())
+}
+
+/// Reads what stands before the states, and the line behind it; `None` where the text has ended before it.
+pub(crate) fn read_beginning<R: Source>(
+    alloc: Global,
+    task: &Task,
+    reader: &mut CertReader<R>,
+) -> Result<(Beginning, Option<CertLine>), Refusal>
+    requires { IsFresh reader.old }
+    ensures begun { IfOk result (λ read. IsBegun R.remaining (task_of task.now) reader.old reader.new read.0 read.1) }
+    ensures refused { IfErr result (IsLineRefusal R.remaining (task_of task.now) reader.old reader.new) }
+    ensures failures { CountsRefusal (R.failures (source_of reader.old)) (R.failures (source_of reader.new)) result }
+{
+    let mut beginning = nothing_told(alloc);
+    'lines: loop {
+        let Some(line) = reader.next_line()? else {
+            return Ok((beginning, None));
+        };
+        if let Some(line) = take(&mut beginning, task, line, reader.lines())? {
+            return Ok((beginning, Some(line)));
+        }
+    }
+}

@@ -1,0 +1,110 @@
+//! The states that a certificate lists, as sets of the numbers of its atoms.
+ghost use Rattle.std.specs.Prelude.{◌≡◌, ℕ, ◌+◌, ◌<◌, ◌↔◌, ◌++◌, ◌∷◌, [], All, IfErr, IfOk, IsSome, IsTrue, List, OnOk, length, map};
+ghost use Rattle.packed_state.specs.PooledView.{pooled_width, pooled_states};
+ghost use Rattle.packed_state.specs.Sets.{set_of};
+ghost use Rattle.model.specs.Task as model;
+ghost use Rattle.model.specs.Claims as claims;
+ghost use Rattle.potential_functions.specs.PotentialFunctions.{PotentialFunction};
+ghost use Rattle.certificate_definitions.specs.Certificates.{rise};
+ghost use Rattle.certificate_reader.specs.Lines.{claim_of, line_of, text_line_of};
+ghost use Rattle.certificate_definitions.specs.CertificateText.{TextLine, listed};
+ghost use Rattle.cert_checker.specs.Told.{HaveTold, is_body};
+ghost use Rattle.cert_checker.specs.Taking.{IsWrongNow};
+ghost use Rattle.cert_checker.specs.Listed.{HaveListed, IsAdded, IsFit};
+ghost use Rattle.certificate.specs.ListingParts.{mark_of};
+
+use crate::refusal::{Refusal, RefusalCode};
+use certificate::{CertLine, Claim, Mark, StateLine, States};
+use faults::NoMemory;
+use packed_state::{Packed, PooledStore, StateStore};
+use std::alloc::Global;
+
+/// Takes the line of this number, from 1, under this claim.
+fn take(
+    states: &mut States,
+    alloc: Global,
+    claim: Claim,
+    line: &StateLine,
+    number: u64,
+) -> Result<(), Refusal>
+    requires below { All (λ atom. atom < pooled_width states.old.sets) line.now.atoms.items }
+    requires rising { IsTrue (rise (pooled_width states.old.sets) 0 line.now.atoms.items) }
+    requires room { length (pooled_states states.old.sets) < 16777216 }
+    ensures width { pooled_width states.new.sets ≡ pooled_width states.old.sets }
+    ensures told { OnOk result ((task : model.Task) (before : List TextLine) (atoms : List model.Atom) (potentials : PotentialFunction) → HaveTold task before (claim_of claim) atoms potentials
+        → HaveListed before (claim_of claim) (pooled_width states.old.sets) (map mark_of states.old.marks.items) (pooled_states states.old.sets)
+        → HaveTold task (before ++ listed (line_of line.now) ∷ []) (claim_of claim) atoms potentials) }
+    ensures listed { OnOk result ((before : List TextLine)
+        → HaveListed before (claim_of claim) (pooled_width states.old.sets) (map mark_of states.old.marks.items) (pooled_states states.old.sets)
+        → HaveListed (before ++ listed (line_of line.now) ∷ []) (claim_of claim) (pooled_width states.old.sets) (map mark_of states.new.marks.items) (pooled_states states.new.sets)) }
+    ensures wrong { IfErr result (λ refusal. (task : model.Task) (before : List TextLine) (atoms : List model.Atom) (potentials : PotentialFunction) → number ≡ length before + 1
+        → HaveTold task before (claim_of claim) atoms potentials
+        → HaveListed before (claim_of claim) (pooled_width states.old.sets) (map mark_of states.old.marks.items) (pooled_states states.old.sets)
+        → IsWrongNow task before (listed (line_of line.now)) refusal) }
+{
+    if !add_set(alloc, &mut states.sets, &line.atoms)? {
+        return Err(Refusal::Line {
+            code: RefusalCode::Repeated,
+            line: number,
+        });
+    }
+    if is_cut_not_allowed(claim, line) {
+        return Err(Refusal::Line {
+            code: RefusalCode::CutNotAllowed,
+            line: number,
+        });
+    }
+    states.marks.push(Mark {
+        cost: line.cost,
+        cut: line.cut,
+    })?;
+    Ok(())
+}
+
+/// Takes the line of this number, from 1, under this claim, where it lists a state.
+pub(crate) fn take_line(
+    states: &mut States,
+    alloc: Global,
+    claim: Claim,
+    line: CertLine,
+    number: u64,
+) -> Result<(), Refusal>
+    requires fit { IsFit (pooled_width states.old.sets) (pooled_states states.old.sets) (text_line_of line) }
+    ensures width { pooled_width states.new.sets ≡ pooled_width states.old.sets }
+    ensures taken { OnOk result ((task : model.Task) (before : List TextLine) (atoms : List model.Atom) (potentials : PotentialFunction) → IsTrue (is_body (text_line_of line))
+        → HaveTold task before (claim_of claim) atoms potentials
+        → HaveListed before (claim_of claim) (pooled_width states.old.sets) (map mark_of states.old.marks.items) (pooled_states states.old.sets)
+        → HaveTold task (before ++ text_line_of line ∷ []) (claim_of claim) atoms potentials
+        × HaveListed (before ++ text_line_of line ∷ []) (claim_of claim) (pooled_width states.old.sets) (map mark_of states.new.marks.items) (pooled_states states.new.sets)) }
+    ensures wrong { IfErr result (λ refusal. (task : model.Task) (before : List TextLine) (atoms : List model.Atom) (potentials : PotentialFunction) → number ≡ length before + 1
+        → HaveTold task before (claim_of claim) atoms potentials
+        → HaveListed before (claim_of claim) (pooled_width states.old.sets) (map mark_of states.old.marks.items) (pooled_states states.old.sets)
+        → IsWrongNow task before (text_line_of line) refusal) }
+{
+    match line {
+        CertLine::Listed(line) => take(states, alloc, claim, &line, number),
+        _ => Ok(()),
+    }
+}
+
+/// Puts the set of these numbers behind the others, and answers `true`, if it is not among them.
+fn add_set(alloc: Global, sets: &mut PooledStore, numbers: &[u32]) -> Result<bool, NoMemory>
+    requires below { All (λ number. number < pooled_width sets.old) numbers.now }
+    requires room { length (pooled_states sets.old) < 16777216 }
+    ensures width { pooled_width sets.new ≡ pooled_width sets.old }
+    ensures added { IfOk result (IsAdded (pooled_states sets.old) (pooled_states sets.new) (set_of (pooled_width sets.old) numbers.now)) }
+{
+    let set = Packed::new(alloc, sets.width(), numbers)?;
+    let (_, is_new) = sets.insert_if_new(&set)?;
+    Ok(is_new)
+}
+
+/// Whether the line is a cut, and it is claimed that no plan solves the task.
+fn is_cut_not_allowed(claim: Claim, line: &StateLine) -> bool
+    ensures { IsTrue result ↔ ((claim_of claim ≡ claims.none) × IsSome line.now.cut) }
+{
+    match claim {
+        Claim::Bound(_) => false,
+        Claim::Unsolvable => line.cut.is_some(),
+    }
+}

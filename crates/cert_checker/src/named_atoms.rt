@@ -1,0 +1,61 @@
+//! Atoms by their names.
+ghost use Rattle.std.specs.Prelude.{◌≡◌, ℕ, ◌≤◌, IfNone, IfSome, IsTrue, List, length, map};
+ghost use Rattle.typing.specs.Task.{task_of};
+ghost use Rattle.typing.specs.TaskParts.{atom_of, object_of};
+ghost use Rattle.model.specs.Task as model;
+ghost use Rattle.model.specs.WellTyped.{is_atom};
+ghost use Rattle.model.specs.Fluents.{is_fluent};
+ghost use Rattle.model.specs.PlanText.{object_names};
+ghost use Rattle.certificate_reader.specs.Lines.{name_of, named_atom_of};
+ghost use Rattle.certificate_definitions.specs.CertificateNames.{AreNumbersOf, Names};
+ghost use Rattle.certificate_definitions.specs.CertificateChecking.{NamesFluent};
+
+use arrayvec::ArrayVec;
+use certificate::NamedAtom;
+use formulas::is_fluent_atom;
+use typing::{Atom, MAX_ARGUMENTS, ObjectId, Task};
+
+/// The atom of the task that has these names, if it is well-typed and some action changes its predicate.
+pub(crate) fn fluent_atom_named(task: &Task, name: &NamedAtom) -> Option<Atom>
+    ensures names { IfSome result (λ a. Names (task_of task.now) (named_atom_of name.now) (atom_of a)) }
+    ensures typed { IfSome result (λ a. IsTrue (is_atom (task_of task.now) (atom_of a))) }
+    ensures fluent { IfSome result (λ a. IsTrue (is_fluent (task_of task.now) (atom_of a).predicate)) }
+    ensures none { IfNone result (¬ NamesFluent (task_of task.now) (named_atom_of name.now)) }
+{
+    let Some(atom) = atom_named(task, name) else {
+        return None;
+    };
+    if is_fluent_atom(task, &atom) {
+        Some(atom)
+    } else {
+        None
+    }
+}
+
+/// The atom that has these names, and `None` where none of as many objects as an atom can have has.
+fn atom_named(task: &Task, name: &NamedAtom) -> Option<Atom>
+    ensures some { IfSome result (λ a. Names (task_of task.now) (named_atom_of name.now) (atom_of a)) }
+    ensures none { IfNone result ((a : model.Atom) → Names (task_of task.now) (named_atom_of name.now) a → length a.objects ≤ 8 → ⊥) }
+{
+    let predicate = task.predicate_named(&name.predicate)?;
+    let objects = objects_named(task, &name.objects)?;
+    Some(Atom { predicate, objects })
+}
+
+/// The objects of these names, in order, and `None` where there are none, or too many for an atom.
+fn objects_named(task: &Task, names: &[Vec<u8>]) -> Option<ArrayVec<ObjectId, MAX_ARGUMENTS>>
+    ensures some { IfSome result (λ found. AreNumbersOf (object_names (task_of task.now)) (map name_of names.now) (map object_of found.items)) }
+    ensures none { IfNone result ((numbers : List ℕ) → AreNumbersOf (object_names (task_of task.now)) (map name_of names.now) numbers
+        → length numbers ≤ 8 → ⊥) }
+{
+    let mut objects = ArrayVec::new();
+    for name in names {
+        let Some(object) = task.object_named(name) else {
+            return None;
+        };
+        if objects.try_push(object).is_err() {
+            return None;
+        }
+    }
+    Some(objects)
+}

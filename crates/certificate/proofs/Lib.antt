@@ -1,0 +1,6 @@
+pub mod LineTextLemmas
+pub mod GatheringLemmas
+pub mod WholeText
+pub mod SetsLemmas
+pub mod WideningLemmas
+pub mod NumbersLemmas

@@ -1,0 +1,62 @@
+-- The bytes of lines that are added piece by piece.
+use Rattle.std.proofs.Common.{◌≡◌, ℕ, List, [], ◌∷◌, ◌++◌, codes, map, refl, ap, ◌∙◌, append_assoc}
+use Rattle.std.specs.Prelude.{ℤ, Option, None, Some}
+use Rattle.std.specs.Fmt.{decimal, signed_decimal}
+use Rattle.std.specs.List.{flat_map}
+use Rattle.std.specs.Result.{OnOk}
+use Rattle.std.specs.Prelude.{Result, Ok, Err, is_ok, if◌then◌else◌}
+use Rattle.model.specs.Claims.{Claim}
+use Rattle.model.specs.Task.{Atom, Task}
+use Rattle.certificate_definitions.specs.Certificates.{StateLine}
+use Rattle.model.specs.PlanWriting.{object_name, object_text}
+use Rattle.certificate_definitions.specs.CertificateText.{after_blank, claims, constant, line_text, listed, version, whole_line}
+use Rattle.certificate_definitions.specs.CertificateNames.{predicate_name}
+use Rattle.certificate.specs.Gathering.{atom_line, cost_text, number_text, state_line}
+
+-- what the bytes are where the last piece was added
+pub where_added : {T E : Type 0} (r : Result T E) (new old piece whole : List ℕ) → new ≡ (if is_ok r then old ++ piece else old) → old ++ piece ≡ whole
+    → OnOk r (new ≡ whole)
+where_added (Ok value) new old piece whole added is = added ∙ is
+where_added (Err error) new old piece whole added is = tt
+
+-- a piece, and a piece behind it
+pub pieces : (old a b : List ℕ) → (old ++ a) ++ b ≡ old ++ (a ++ b)
+pieces old a b = append_assoc old a b
+
+five : (old a b n c d : List ℕ) → (((old ++ a) ++ b) ++ ((n ++ c) ++ d)) ++ n ≡ old ++ ((a ++ (b ++ n)) ++ ((c ++ d) ++ n))
+five old a b n c d = simp append_assoc
+
+pub head_text : (old : List ℕ) (claim : Claim) (k : ℤ)
+    → (((old ++ codes "pddl-cert 1\n") ++ line_text (claims claim)) ++ (codes "\nconstant " ++ signed_decimal k)) ++ codes "\n"
+    ≡ old ++ (whole_line version ++ whole_line (claims claim) ++ whole_line (constant k))
+head_text old claim k = five old (codes "pddl-cert 1\n") (line_text (claims claim)) (codes "\n") (codes "constant ") (signed_decimal k)
+
+-- the names of objects, as a plan's text spells them
+names_text : (task : Task) (objects : List ℕ) → flat_map (object_text task) objects ≡ flat_map after_blank (map (object_name task) objects)
+names_text task [] = refl
+names_text task (o ∷ objects) = ap (λ xs. object_text task o ++ xs) (names_text task objects)
+
+seven : (old a w b c d e n : List ℕ) → ((((old ++ (a ++ w)) ++ b) ++ c) ++ d) ++ (e ++ n) ≡ old ++ ((((((a ++ w) ++ b) ++ c) ++ d) ++ e) ++ n)
+seven old a w b c d e n = simp append_assoc
+
+pub atom_text : (task : Task) (a : Atom) (weight : ℤ) (old : List ℕ)
+    → (((((old ++ (codes "atom " ++ signed_decimal weight)) ++ codes " (") ++ predicate_name task a.predicate) ++ flat_map (object_text task) a.objects) ++ codes ")\n")
+    ≡ old ++ atom_line task (a, weight)
+atom_text task a weight old =
+    ap (λ xs. ((((old ++ (codes "atom " ++ signed_decimal weight)) ++ codes " (") ++ predicate_name task a.predicate) ++ xs) ++ codes ")\n") (names_text task a.objects)
+    ∙ seven old (codes "atom ") (signed_decimal weight) (codes " (") (predicate_name task a.predicate) (flat_map after_blank (map (object_name task) a.objects)) (codes ")") (codes "\n")
+
+-- the cost, and the numbers behind it, as they stand in a line
+cost_of_line : (l : StateLine) → cost_text l ++ flat_map number_text l.atoms ≡ line_text (listed l)
+cost_of_line l = by_cut l.cut
+  where
+    by_cut : (cut : Option ℕ) → cost_text (record { cost = l.cost; cut = cut; atoms = l.atoms }) ++ flat_map number_text l.atoms
+        ≡ line_text (listed (record { cost = l.cost; cut = cut; atoms = l.atoms }))
+    by_cut None = refl
+    by_cut (Some rest) = ap (λ xs. xs ++ flat_map number_text l.atoms) (append_assoc (codes "cut " ++ decimal l.cost) (codes " ") (decimal rest))
+
+pub state_text : (l : StateLine) (old : List ℕ) → ((old ++ cost_text l) ++ flat_map number_text l.atoms) ++ codes "\n" ≡ old ++ state_line l
+state_text l old =
+    ap (λ xs. xs ++ codes "\n") (append_assoc old (cost_text l) (flat_map number_text l.atoms))
+    ∙ append_assoc old (cost_text l ++ flat_map number_text l.atoms) (codes "\n")
+    ∙ ap (λ xs. old ++ (xs ++ codes "\n")) (cost_of_line l)

@@ -1,0 +1,182 @@
+-- The numbers of sets, and what they say of a listing.
+use Rattle.std.proofs.Common.{◌≡◌, ℕ, zero, suc, ◌<◌, ◌≤◌, Bool, true, false, List, [], ◌∷◌, get_or, inl, inr, map, length, refl, sym, ap, ◌∙◌, subst, arith}
+use Rattle.std.specs.Prelude.{◌&&◌, ◌==◌, All, Contains, nat_le}
+use Rattle.std.specs.List.{list_all, list_any, range_with_len}
+use Rattle.std.specs.Cmp.{both_ways}
+use Rattle.std.specs.Option.{option_map_or}
+use Rattle.std.proofs.lemmas.Bool.{and_parts, eq-eqb, eqb-true, or_cases, or_left, or_right}
+use Rattle.std.proofs.lemmas.List.{ext_get_or, length-map}
+use Rattle.std.proofs.lemmas.List.Elements.{All-cons, All-nil, All-contains, All-map, All-tail}
+use Rattle.packed_state.specs.Sets.{at_width, has, set_of}
+use Rattle.packed_state.specs.declared.pooled.PooledStore.{PooledStore}
+use Rattle.packed_state.specs.PooledStore.{rows_of}
+use Rattle.packed_state.specs.PooledView.{pooled_states, pooled_width}
+use Rattle.packed_state.specs.Store.{sets_in}
+use Rattle.packed_state.specs.Words.{bits_in}
+use Rattle.packed_state.proofs.PackedLemmas.{length-bits}
+use Rattle.potential_functions.specs.PotentialFunctions.{PotentialFunction}
+use Rattle.certificate_definitions.specs.Certificates.{StateLine, are_potentials, is_claim, is_number, is_state_line, is_weight, rise}
+use Rattle.model.proofs.ListLemmas.{Contains-cases, Contains-filter, Contains-here, Contains-none, Contains-range, Contains-there, filter-Contains}
+use Rattle.certificate_reader.proofs.OneText.{rise_more}
+use Rattle.certificate.specs.ListedSets.{Marked, line_with, lines_with, marked, numbers_of}
+use Rattle.certificate.specs.declared.listing.Listing.{Listing}
+use Rattle.certificate.specs.ListingParts.{mark_of}
+use Rattle.certificate.specs.declared.listing_parts.States.{States}
+use Rattle.certificate.specs.ListingParts.{certificate_with, potentials_in}
+use Rattle.certificate.specs.Listing.{certificate_in, store_in}
+use Rattle.certificate.proofs.SetsLemmas.{numbers_back, rise_below}
+use Rattle.certificate.proofs.WideningLemmas.{IsBelow, has-at_width, length-at_width}
+
+-- ---- the numbers of a set
+
+abbrev pub is_among : List ℕ → ℕ → Bool
+is_among numbers k = list_any (λ n. n == k) numbers
+
+pub among-Contains : (numbers : List ℕ) (k : ℕ) → is_among numbers k ≡ true → Contains numbers k
+among-Contains [] k among = absurd (cc)
+among-Contains (n ∷ numbers) k among =
+    elim (or_cases (n == k) (is_among numbers k) among) [
+      | inl here ↦ subst (λ m. Contains (n ∷ numbers) m) (eqb-true n k here) (Contains-here n numbers)
+      | inr later ↦ Contains-there n numbers k (among-Contains numbers k later)
+    ]
+
+pub Contains-among : (numbers : List ℕ) (k : ℕ) → Contains numbers k → is_among numbers k ≡ true
+Contains-among [] k at = absurd (Contains-none k at)
+Contains-among (n ∷ numbers) k at =
+    elim (Contains-cases n numbers k at) [
+      | inl same ↦ or_left (n == k) (is_among numbers k) (eq-eqb n k same)
+      | inr later ↦ or_right (n == k) (is_among numbers k) (Contains-among numbers k later)
+    ]
+
+has-within : (set : List Bool) (k : ℕ) → has set k ≡ true → k < length set
+has-within [] k is = absurd (cc)
+has-within (b ∷ set) zero is = omega arith
+has-within (b ∷ set) (suc k) is = omega (arith, has-within set k is)
+
+Contains-numbers : (set : List Bool) (k : ℕ) → has set k ≡ true → Contains (numbers_of set) k
+Contains-numbers set k is =
+    Contains-filter (has set) (range_with_len 0 (length set)) k (Contains-range 0 (length set) k (omega arith) (omega (arith, has-within set k is))) is
+
+-- a number is among those of a set just where it is in the set
+among_numbers : (set : List Bool) (k : ℕ) → is_among (numbers_of set) k ≡ has set k
+among_numbers set k =
+    both_ways (is_among (numbers_of set) k) (has set k) (λ among. (filter-Contains (has set) (range_with_len 0 (length set)) k (among-Contains (numbers_of set) k among)).1)
+    (λ is. Contains-among (numbers_of set) k (Contains-numbers set k is))
+
+-- the set of a set's numbers is this set, under whatever width
+pub set_back : (width : ℕ) (set : List Bool) → set_of width (numbers_of set) ≡ at_width width set
+set_back width set = λ i. map (λ k. among_numbers set k i) (range_with_len 0 width)
+
+same_width : (set : List Bool) → at_width (length set) set ≡ set
+same_width set = ext_get_or false (at_width (length set) set) set (length-at_width (length set) set) (λ k within. has-at_width (length set) set k (omega (arith, within, length-at_width (length set) set)))
+
+-- ---- rising numbers under another count
+
+abbrev Rises : ℕ → List Bool → Type 0
+Rises count set = rise count 0 (numbers_of set) ≡ true
+
+is_below : (count wide : ℕ) (set : List Bool) → count ≤ wide → Rises count set → IsBelow wide set
+is_below count wide set enough rises k is =
+    let below = All-contains (λ n. n < count) (numbers_of set) k (rise_below count 0 (numbers_of set) rises) (Contains-numbers set k is) in
+    omega (arith, below, enough)
+
+same_numbers : (count wide : ℕ) (set : List Bool) → count ≤ wide → Rises count set → numbers_of (at_width wide set) ≡ numbers_of set
+same_numbers count wide set enough rises = ap numbers_of (sym (set_back wide set)) ∙ numbers_back wide (numbers_of set) (rise_more count wide 0 (numbers_of set) enough rises)
+
+-- ---- lines of marks and sets
+
+pub marked_back : (marks : List Marked) (sets : List (List Bool)) → length marks ≡ length sets → map marked (lines_with marks sets) ≡ marks
+marked_back [] sets same = refl
+marked_back (mark ∷ marks) [] same = absurd (omega (arith, same))
+marked_back (mark ∷ marks) (set ∷ sets) same = λ i. mark ∷ marked_back marks sets (omega (arith, same)) i
+
+all_rise : (count : ℕ) (marks : List Marked) (sets : List (List Bool)) → length marks ≡ length sets → list_all (is_state_line count) (lines_with marks sets) ≡ true → All (Rises count) sets
+all_rise count [] [] same keep = All-nil (Rises count)
+all_rise count [] (set ∷ sets) same keep = absurd (omega (arith, same))
+all_rise count (mark ∷ marks) [] same keep = absurd (omega (arith, same))
+all_rise count (mark ∷ marks) (set ∷ sets) same keep =
+    let line = line_with mark set in
+    let (here, more) = and_parts (is_state_line count line) (list_all (is_state_line count) (lines_with marks sets)) keep in
+    All-cons (Rises count) set sets (and_parts (is_number line.cost && option_map_or is_number line.cut true) (rise count 0 line.atoms) here).1
+    (all_rise count marks sets (omega (arith, same)) more)
+
+sets_of_lines : (width : ℕ) (marks : List Marked) (sets : List (List Bool)) → length marks ≡ length sets → All (λ (set : List Bool). length set ≡ width) sets
+    → map (λ (l : StateLine). set_of width l.atoms) (lines_with marks sets) ≡ sets
+sets_of_lines width [] [] same long = refl
+sets_of_lines width [] (set ∷ sets) same long = absurd (omega (arith, same))
+sets_of_lines width (mark ∷ marks) [] same long = absurd (omega (arith, same))
+sets_of_lines width (mark ∷ marks) (set ∷ sets) same long =
+    let here : length set ≡ width = All-contains (λ (set : List Bool). length set ≡ width) (set ∷ sets) set long (Contains-here set sets) in
+    let first : set_of width (numbers_of set) ≡ set = set_back width set ∙ subst (λ w. at_width w set ≡ set) here (same_width set) in
+    λ i. first i ∷ sets_of_lines width marks sets (omega (arith, same)) (All-tail (λ (set : List Bool). length set ≡ width) set sets long) i
+
+lines_wide : (count wide : ℕ) (marks : List Marked) (sets : List (List Bool)) → count ≤ wide → length marks ≡ length sets → All (Rises count) sets
+    → lines_with marks (map (at_width wide) sets) ≡ lines_with marks sets
+lines_wide count wide [] [] enough same rise = refl
+lines_wide count wide [] (set ∷ sets) enough same rise = absurd (omega (arith, same))
+lines_wide count wide (mark ∷ marks) [] enough same rise = absurd (omega (arith, same))
+lines_wide count wide (mark ∷ marks) (set ∷ sets) enough same rises =
+    let here = same_numbers count wide set enough (All-contains (Rises count) (set ∷ sets) set rises (Contains-here set sets)) in
+    λ i. record { cost = mark.cost; cut = mark.cut; atoms = here i } ∷ lines_wide count wide marks sets enough (omega (arith, same)) (All-tail (Rises count) set sets rises) i
+
+-- ---- of a listing
+
+set_lengths : (store : PooledStore) → All (λ (set : List Bool). length set ≡ pooled_width store) (pooled_states store)
+unfolding sets_in
+set_lengths store = All-map (λ (set : List Bool). length set ≡ store.width) (bits_in store.width) (rows_of store.pool) (λ k d within. length-bits store.width (get_or (rows_of store.pool) k d))
+
+-- what the limits of a potential function say
+pub potential_parts : (count : ℕ) (p : PotentialFunction) → are_potentials count p ≡ true
+    → (is_weight p.constant ≡ true) × (length p.weights ≡ count) × (list_all is_weight p.weights ≡ true)
+potential_parts count p are =
+    let (first, weights) = and_parts (is_weight p.constant && (length p.weights == count)) (list_all is_weight p.weights) are in
+    let (constant_is, many) = and_parts (is_weight p.constant) (length p.weights == count) first in
+    (constant_is, eqb-true (length p.weights) count many, weights)
+
+module _ (listing : Listing) where
+  abbrev marks : List Marked
+  marks = map mark_of listing.states.marks.items
+
+  abbrev sets : List (List Bool)
+  sets = pooled_states (store_in listing)
+
+  abbrev count : ℕ
+  count = length (certificate_in listing).atoms
+
+  as_many : length marks ≡ length sets
+  as_many = length-map listing.states.marks.items mark_of ∙ listing.marked
+
+  -- the limits are those of the lines, and of the potential function
+  limits : (list_all (is_state_line count) (certificate_in listing).lines ≡ true) × (are_potentials count (certificate_in listing).potentials ≡ true)
+  limits =
+      let c = certificate_in listing in
+      let most = is_claim c.claim && nat_le (length c.atoms) 1048576 && nat_le (length c.lines) 16777216 in
+      let (first, potentials) = and_parts (most && list_all (is_state_line count) c.lines) (are_potentials count c.potentials) listing.within_limits in
+      ((and_parts most (list_all (is_state_line count) c.lines) first).1, potentials)
+
+  rises : All (Rises count) sets
+  rises = all_rise count marks sets as_many limits.0
+
+  pub constant_within : is_weight listing.beginning.constant ≡ true
+  constant_within = (potential_parts count (potentials_in listing.beginning) limits.1).0
+
+  pub weights_within : (length listing.beginning.weights.items ≡ count) × (list_all is_weight listing.beginning.weights.items ≡ true)
+  weights_within = let (_, many, weights) = potential_parts count (potentials_in listing.beginning) limits.1 in (many, weights)
+
+  pub marks_are : map mark_of listing.states.marks.items ≡ map marked (certificate_in listing).lines
+  marks_are = sym (marked_back marks sets as_many)
+
+  -- the sets are those of the lines' numbers
+  pub sets_are : map (λ (l : StateLine). set_of (pooled_width (store_in listing)) l.atoms) (certificate_in listing).lines ≡ pooled_states (store_in listing)
+  sets_are = sets_of_lines (pooled_width (store_in listing)) marks sets as_many (set_lengths (store_in listing))
+
+  module _ (wide : ℕ) (enough : length (certificate_in listing).atoms ≤ wide) where
+    pub all_below : All (IsBelow wide) (pooled_states (store_in listing))
+    all_below = λ k d within. is_below count wide (get_or sets k d) enough (rises k d within)
+
+    pub same_certificate : (states : States) → states.marks.items ≡ listing.states.marks.items → pooled_states states.sets ≡ map (at_width wide) (pooled_states (store_in listing))
+        → certificate_with listing.beginning states ≡ certificate_in listing
+    same_certificate states same are =
+        let lines = (λ i. lines_with (map mark_of (same i)) (are i)) ∙ lines_wide count wide marks sets enough as_many rises in
+        let c = certificate_in listing in
+        λ i. record { claim = c.claim; atoms = c.atoms; potentials = c.potentials; lines = lines i }

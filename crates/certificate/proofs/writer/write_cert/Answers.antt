@@ -1,0 +1,84 @@
+use Rattle.std.specs.Int.{w64}
+use Rattle.std.proofs.lemmas.Int.{to_z-of_z}
+use Rattle.std.proofs.Common.{rules, ◌≡◌, ◌∙◌, ◌++◌, [], ap, sym, subst, length}
+use Rattle.std.proofs.lemmas.List.{length-map}
+use Rattle.std.specs.Io.KnownBytes.{Appends}
+use Rattle.std.specs.List.{flat_map}
+use Rattle.std.specs.Prelude.{OnOk, zip}
+use Rattle.typing.specs.Task.{task_of}
+use Rattle.devices.specs.Devices.{AppendsBeginning}
+use Rattle.certificate_reader.specs.Lines.{line_of}
+use Rattle.certificate.specs.Certificate.{certificate_of}
+use Rattle.certificate_definitions.specs.CertificateText.{last, whole_line}
+use Rattle.certificate_definitions.specs.CertificateNames.{certificate_text}
+use Rattle.certificate.specs.Gathering.{IsPassedOn, atom_line, state_line}
+use Rattle.certificate.proofs.WholeText.{head, to_atoms, to_states, head_held, atoms_held, atoms_begun, states_held, states_begun, last_begun, all_held, all_begun, all_where_ok}
+use Rattle.certificate.proofs.writer.write_cert.Goals as goal
+use Rattle.certificate.proofs.writer.write_cert.Goals.{In_ok-add_head, In_ok-write_atoms, In_ok-write_states, In_ok-add_last}
+use Rattle.certificate.proofs.writer.write_cert.Given.{Over}
+
+-- what is passed on, or held, once the beginning, the atoms, the states and the last line were added
+first : (g : Over) (c : In_ok-add_head g) → IsPassedOn (g.W.Sink.taken c.args.out.now) (g.W.Sink.taken c.args.out.now) [] c.add_head.new.text.items
+    (head (certificate_of c.args.cert.now).claim (certificate_of c.args.cert.now).potentials.constant)
+first g c =
+    head_held _ (g.W.Sink.taken c.args.out.now) (task_of c.args.task.now) (certificate_of c.args.cert.now) c.new-held.result.items _ c.new-held.ensures.items
+    (c.in_ok-add_head.ensures ∙ (λ i. c.new-held.result.items ++ head (c.claim.ensures i) ((to_z-of_z w64 c.constant.result (search rules) ∙ c.constant.ensures) i)))
+
+second : (g : Over) (c : In_ok-write_atoms g) → IsPassedOn (g.W.Sink.taken c.args.out.now) (g.W.Sink.taken c.args.out.now) [] c.add_head.new.text.items
+    (head (certificate_of c.args.cert.now).claim (certificate_of c.args.cert.now).potentials.constant)
+    → IsPassedOn (g.W.Sink.taken c.args.out.now) (g.W.Sink.taken c.write_atoms.new.out) [] c.write_atoms.new.held.items
+    (to_atoms (task_of c.args.task.now) (certificate_of c.args.cert.now))
+second g c first =
+    let taken = g.W.Sink.taken c.args.out.now in
+    let task = task_of c.args.task.now in
+    let atoms_now = g.W.Sink.taken c.write_atoms.new.out in
+    atoms_held taken atoms_now task (certificate_of c.args.cert.now) _ _ first
+    (subst (λ atoms. IsPassedOn taken atoms_now c.add_head.new.text.items c.write_atoms.new.held.items (flat_map (atom_line task) atoms)) (λ i. zip (c.atoms.ensures.atoms i) (c.weights.ensures.weights i)) c.in_ok-write_atoms.ensures.text)
+
+third : (g : Over) (c : In_ok-write_states g) → IsPassedOn (g.W.Sink.taken c.args.out.now) (g.W.Sink.taken c.write_atoms.new.out) [] c.write_atoms.new.held.items
+    (to_atoms (task_of c.args.task.now) (certificate_of c.args.cert.now))
+    → IsPassedOn (g.W.Sink.taken c.args.out.now) (g.W.Sink.taken c.write_states.new.out) [] c.write_states.new.held.items
+    (to_states (task_of c.args.task.now) (certificate_of c.args.cert.now))
+third g c second =
+    let atoms_now = g.W.Sink.taken c.write_atoms.new.out in
+    let states_now = g.W.Sink.taken c.write_states.new.out in
+    states_held _ atoms_now (task_of c.args.task.now) (certificate_of c.args.cert.now) states_now _ _ second
+    (subst (λ lines. IsPassedOn atoms_now states_now c.write_atoms.new.held.items c.write_states.new.held.items (flat_map state_line lines)) c.lines.ensures.lines c.in_ok-write_states.ensures.text)
+
+whole : (g : Over) (c : In_ok-add_last g) → IsPassedOn (g.W.Sink.taken c.args.out.now) (g.W.Sink.taken c.write_states.new.out) [] c.write_states.new.held.items
+    (to_states (task_of c.args.task.now) (certificate_of c.args.cert.now))
+    → IsPassedOn (g.W.Sink.taken c.args.out.now) (g.W.Sink.taken c.write_states.new.out) [] c.add_last.new.text.items
+    (certificate_text (task_of c.args.task.now) (certificate_of c.args.cert.now))
+whole g c third =
+    let cert = certificate_of c.args.cert.now in
+    let count : length c.lines-2.result.now ≡ length cert.lines = sym (length-map c.lines-2.result.now line_of) ∙ ap length c.lines-2.ensures.lines in
+    all_held _ _ (task_of c.args.task.now) cert _ _ third (c.in_ok-add_last.ensures ∙ ap (λ n. c.write_states.new.held.items ++ whole_line (last n)) count)
+
+pub returns-in_err-write_atoms-clause-beginning : goal.returns-in_err-write_atoms-clause-beginning
+returns-in_err-write_atoms-clause-beginning g c =
+    let task = task_of c.args.task.now in
+    atoms_begun _ _ task (certificate_of c.args.cert.now) _ (first g (goal.at.returns-in_err-write_atoms-clause-beginning g c).In_ok-add_head)
+    (subst (λ atoms. AppendsBeginning (g.W.Sink.taken c.args.out.now) (g.W.Sink.taken c.write_atoms.new.out) (c.add_head.new.text.items ++ flat_map (atom_line task) atoms)) (λ i. zip (c.atoms.ensures.atoms i) (c.weights.ensures.weights i)) c.write_atoms.ensures.beginning)
+
+pub returns-in_err-write_states-clause-beginning : goal.returns-in_err-write_states-clause-beginning
+returns-in_err-write_states-clause-beginning g c =
+    let at = goal.at.returns-in_err-write_states-clause-beginning g c in
+    states_begun _ _ (task_of c.args.task.now) (certificate_of c.args.cert.now) _ _ (second g at.In_ok-write_atoms (first g at.In_ok-add_head))
+    (subst (λ lines. AppendsBeginning (g.W.Sink.taken c.write_atoms.new.out) (g.W.Sink.taken c.write_states.new.out) (c.write_atoms.new.held.items ++ flat_map state_line lines)) c.lines.ensures.lines c.write_states.ensures.beginning)
+
+pub returns-in_err-add_last-clause-beginning : goal.returns-in_err-add_last-clause-beginning
+returns-in_err-add_last-clause-beginning g c =
+    let at = goal.at.returns-in_err-add_last-clause-beginning g c in
+    last_begun _ _ (task_of c.args.task.now) (certificate_of c.args.cert.now) _ (third g at.In_ok-write_states (second g at.In_ok-write_atoms (first g at.In_ok-add_head)))
+
+pub returns-clause-text : goal.returns-clause-text
+returns-clause-text g c =
+    let at = goal.at.returns-clause-text g c in
+    all_where_ok _ _ (task_of c.args.task.now) (certificate_of c.args.cert.now) _ _ c.write_all.result (whole g at.In_ok-add_last (third g at.In_ok-write_states (second g at.In_ok-write_atoms (first g at.In_ok-add_head))))
+    (subst (λ bytes. OnOk c.write_all.result (Appends (g.W.Sink.taken c.write_states.new.out) (g.W.Sink.taken c.write_all.new.sink) bytes)) c.as_slice.ensures.value c.write_all.ensures.ok)
+
+pub returns-clause-beginning : goal.returns-clause-beginning
+returns-clause-beginning g c =
+    let at = goal.at.returns-clause-beginning g c in
+    all_begun _ _ (task_of c.args.task.now) (certificate_of c.args.cert.now) _ _ (whole g at.In_ok-add_last (third g at.In_ok-write_states (second g at.In_ok-write_atoms (first g at.In_ok-add_head))))
+    (subst (AppendsBeginning (g.W.Sink.taken c.write_states.new.out) (g.W.Sink.taken c.write_all.new.sink)) c.as_slice.ensures.value c.write_all.ensures.beginning)

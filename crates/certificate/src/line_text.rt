@@ -1,0 +1,140 @@
+//! The lines of a certificate's text, each added to the bytes of those before it.
+ghost use Rattle.std.specs.Prelude.{◌≡◌, ◌++◌, map, OnOk};
+ghost use Rattle.std.specs.List.{flat_map};
+ghost use Rattle.std.specs.Fmt.{decimal, signed_decimal};
+ghost use Rattle.typing.specs.Task.{task_of};
+ghost use Rattle.typing.specs.TaskParts.{atom_of, object_of};
+ghost use Rattle.model.specs.PlanWriting.{object_name, object_text};
+ghost use Rattle.certificate_reader.specs.Lines.{claim_of, line_of};
+ghost use Rattle.certificate_definitions.specs.CertificateText as line;
+ghost use Rattle.certificate_definitions.specs.CertificateText.{claims, last, line_text, version, whole_line};
+ghost use Rattle.certificate_definitions.specs.CertificateNames.{predicate_name};
+ghost use Rattle.certificate.specs.Gathering.{atom_line, cost_text, number_text, state_line};
+
+use certificate_reader::{Claim, StateLine};
+use itoa::Buffer;
+use std::alloc::AllocError;
+use typing::{Atom, ObjectId, PredicateId, Task};
+
+/// Adds the lines of the version, the claim and the constant.
+pub(crate) fn add_head(claim: Claim, constant: i64, text: &mut Vec<u8>) -> Result<(), AllocError>
+    ensures { OnOk result (text.new.items ≡ text.old.items ++ (whole_line version ++ whole_line (claims (claim_of claim)) ++ whole_line (line.constant constant))) }
+{
+    text.extend_from_slice(b"pddl-cert 1\n")?;
+    add_claim(claim, text)?;
+    add_weight(b"\nconstant ", constant, text)?;
+    text.extend_from_slice(b"\n")
+}
+
+/// Adds the claim, without its LF.
+fn add_claim(claim: Claim, text: &mut Vec<u8>) -> Result<(), AllocError>
+    ensures { OnOk result (text.new.items ≡ text.old.items ++ line_text (claims (claim_of claim))) }
+{
+    match claim {
+        Claim::Bound(least) => add_number(b"claim bound ", least, text),
+        Claim::Unsolvable => text.extend_from_slice(b"claim none"),
+    }
+}
+
+/// Adds the line of an atom, by its names, with its weight.
+pub(crate) fn add_atom(
+    task: &Task,
+    atom: &Atom,
+    weight: i64,
+    text: &mut Vec<u8>,
+) -> Result<(), AllocError>
+    ensures { OnOk result (text.new.items ≡ text.old.items ++ atom_line (task_of task.now) (atom_of atom.now, weight)) }
+{
+    add_weight(b"atom ", weight, text)?;
+    text.extend_from_slice(b" (")?;
+    text.extend_from_slice(predicate_name(task, atom.predicate))?;
+    add_names(task, atom.objects.as_slice(), text)?;
+    text.extend_from_slice(b")\n")
+}
+
+/// Adds the objects' names, with a blank before each.
+fn add_names(task: &Task, objects: &[ObjectId], text: &mut Vec<u8>) -> Result<(), AllocError>
+    ensures { OnOk result (text.new.items ≡ text.old.items ++ flat_map (object_text (task_of task.now)) (map object_of objects.now)) }
+{
+    for object in objects {
+        text.extend_from_slice(b" ")?;
+        text.extend_from_slice(object_name(task, *object))?;
+    }
+    Ok(())
+}
+
+/// Adds the line of a state.
+pub(crate) fn add_state(line: &StateLine, text: &mut Vec<u8>) -> Result<(), AllocError>
+    ensures { OnOk result (text.new.items ≡ text.old.items ++ state_line (line_of line.now)) }
+{
+    add_cost(line, text)?;
+    add_numbers(line.atoms.as_slice(), text)?;
+    text.extend_from_slice(b"\n")
+}
+
+/// Adds the numbers, with a blank before each.
+fn add_numbers(numbers: &[u32], text: &mut Vec<u8>) -> Result<(), AllocError>
+    ensures { OnOk result (text.new.items ≡ text.old.items ++ flat_map number_text numbers.now) }
+{
+    for number in numbers {
+        add_number(b" ", u64::from(*number), text)?;
+    }
+    Ok(())
+}
+
+/// Adds a state's cost, and before it whether the state is open or cut.
+fn add_cost(line: &StateLine, text: &mut Vec<u8>) -> Result<(), AllocError>
+    ensures { OnOk result (text.new.items ≡ text.old.items ++ cost_text (line_of line.now)) }
+{
+    match line.cut {
+        None => add_number(b"open ", line.cost, text),
+        Some(rest) => {
+            add_number(b"cut ", line.cost, text)?;
+            add_number(b" ", rest, text)
+        }
+    }
+}
+
+/// Adds the last line, with the count of the lines that list states.
+pub(crate) fn add_last(count: usize, text: &mut Vec<u8>) -> Result<(), AllocError>
+    ensures { OnOk result (text.new.items ≡ text.old.items ++ whole_line (last count)) }
+{
+    add_number(b"end ", count as u64, text)?;
+    text.extend_from_slice(b"\n")
+}
+
+/// Adds these bytes, and then a number in decimal digits.
+fn add_number(before: &[u8], number: u64, text: &mut Vec<u8>) -> Result<(), AllocError>
+    ensures { OnOk result (text.new.items ≡ text.old.items ++ (before.now ++ decimal number)) }
+{
+    text.extend_from_slice(before)?;
+    text.extend_from_slice(Buffer::new().format(number).as_bytes())
+}
+
+/// Adds these bytes, and then a constant or a weight in decimal digits, a `-` before it where it is negative.
+fn add_weight(before: &[u8], weight: i64, text: &mut Vec<u8>) -> Result<(), AllocError>
+    ensures { OnOk result (text.new.items ≡ text.old.items ++ (before.now ++ signed_decimal weight)) }
+{
+    text.extend_from_slice(before)?;
+    text.extend_from_slice(Buffer::new().format(weight).as_bytes())
+}
+
+/// The predicate's name; no bytes where there is no such predicate.
+fn predicate_name(task: &Task, predicate: PredicateId) -> &[u8]
+    ensures { result.now ≡ predicate_name (task_of task.now) predicate.0 }
+{
+    match task.predicate_name(predicate) {
+        Some(name) => name,
+        None => b"",
+    }
+}
+
+/// The object's name; no bytes where there is no such object.
+fn object_name(task: &Task, object: ObjectId) -> &[u8]
+    ensures { result.now ≡ object_name (task_of task.now) object.0 }
+{
+    match task.object_name(object) {
+        Some(name) => name,
+        None => b"",
+    }
+}

@@ -1,0 +1,104 @@
+//! The text of a certificate, on any device.
+ghost use Rattle.std.specs.Prelude.{◌≡◌, ◌++◌, [], map, zip, OnOk};
+ghost use Rattle.std.specs.Io.KnownBytes.{Appends};
+ghost use Rattle.std.specs.List.{flat_map};
+ghost use Rattle.devices.specs.Devices.{AppendsBeginning, CountsDevice};
+ghost use Rattle.typing.specs.Task.{task_of};
+ghost use Rattle.typing.specs.TaskParts.{atom_of};
+ghost use Rattle.certificate_reader.specs.Lines.{line_of};
+ghost use Rattle.certificate.specs.Certificate.{certificate_of};
+ghost use Rattle.certificate_definitions.specs.CertificateNames.{certificate_text};
+ghost use Rattle.certificate.specs.Gathering.{IsPassedOn, atom_line, state_line};
+
+use crate::cert::Cert;
+use crate::line_text::{add_atom, add_head, add_last, add_state};
+use certificate_reader::StateLine;
+use devices::{Sink, WriteFault, write_all};
+use std::alloc::Global;
+use typing::{Atom, Task};
+
+/// From how many bytes on what is held is written.
+const PIECE: usize = 65_536;
+
+/// Writes the text of a certificate of the task, a line at a time: the version, the claim and the constant, a line for
+/// each atom, by its names, a line for each listed state, and last how many states are listed.
+///
+/// # Errors
+/// The device failed, or memory was refused. It has then taken a beginning of the text.
+///
+/// # Examples
+/// ```
+/// let mut out = Memory::empty(alloc);
+/// write_cert(alloc, &task, &cert, &mut out)?;
+/// assert_eq!(rt; out.as_slice(), b"pddl-cert 1\nclaim none\nconstant 0\natom 0 (p)\nopen 0\nend 1\n");
+/// ```
+pub fn write_cert<W: Sink>(
+    alloc: Global,
+    task: &Task,
+    cert: &Cert,
+    out: &mut W,
+) -> Result<(), WriteFault>
+    ensures text { OnOk result (Appends (W.taken out.old) (W.taken out.new) (certificate_text (task_of task.now) (certificate_of cert.now))) }
+    ensures beginning { AppendsBeginning (W.taken out.old) (W.taken out.new) (certificate_text (task_of task.now) (certificate_of cert.now)) }
+    ensures failures { CountsDevice (W.failures out.old) (W.failures out.new) result }
+    ensures name { W.name out.new ≡ W.name out.old }
+{
+    let mut held = Vec::new(alloc);
+    add_head(cert.claim(), cert.constant(), &mut held)?;
+    write_atoms(task, cert.atoms(), cert.weights(), &mut held, out)?;
+    write_states(cert.lines(), &mut held, out)?;
+    add_last(cert.lines().len(), &mut held)?;
+    write_all(out, held.as_slice())
+}
+
+/// Writes the lines of the atoms, each with its weight, behind the bytes that are held.
+fn write_atoms<W: Sink>(
+    task: &Task,
+    atoms: &[Atom],
+    weights: &[i64],
+    held: &mut Vec<u8>,
+    out: &mut W,
+) -> Result<(), WriteFault>
+    ensures text { OnOk result (IsPassedOn (W.taken out.old) (W.taken out.new) held.old.items held.new.items (flat_map (atom_line (task_of task.now)) (zip (map atom_of atoms.now) weights.now))) }
+    ensures beginning { AppendsBeginning (W.taken out.old) (W.taken out.new) (held.old.items ++ flat_map (atom_line (task_of task.now)) (zip (map atom_of atoms.now) weights.now)) }
+    ensures failures { CountsDevice (W.failures out.old) (W.failures out.new) result }
+    ensures name { W.name out.new ≡ W.name out.old }
+{
+    for (atom, weight) in atoms.iter().zip(weights) {
+        add_atom(task, atom, *weight, held)?;
+        pass_on(held, out)?;
+    }
+    Ok(())
+}
+
+/// Writes the lines of the listed states behind the bytes that are held.
+fn write_states<W: Sink>(
+    states: &[StateLine],
+    held: &mut Vec<u8>,
+    out: &mut W,
+) -> Result<(), WriteFault>
+    ensures text { OnOk result (IsPassedOn (W.taken out.old) (W.taken out.new) held.old.items held.new.items (flat_map state_line (map line_of states.now))) }
+    ensures beginning { AppendsBeginning (W.taken out.old) (W.taken out.new) (held.old.items ++ flat_map state_line (map line_of states.now)) }
+    ensures failures { CountsDevice (W.failures out.old) (W.failures out.new) result }
+    ensures name { W.name out.new ≡ W.name out.old }
+{
+    for state in states {
+        add_state(state, held)?;
+        pass_on(held, out)?;
+    }
+    Ok(())
+}
+
+/// Writes the bytes that are held, where they are many.
+fn pass_on<W: Sink>(held: &mut Vec<u8>, out: &mut W) -> Result<(), WriteFault>
+    ensures text { OnOk result (IsPassedOn (W.taken out.old) (W.taken out.new) held.old.items held.new.items []) }
+    ensures beginning { AppendsBeginning (W.taken out.old) (W.taken out.new) held.old.items }
+    ensures failures { CountsDevice (W.failures out.old) (W.failures out.new) result }
+    ensures name { W.name out.new ≡ W.name out.old }
+{
+    if held.len() >= PIECE {
+        write_all(out, held.as_slice())?;
+        held.clear();
+    }
+    Ok(())
+}

@@ -1,0 +1,226 @@
+-- What the definitions say of the worked certificates.
+use Rattle.std.proofs.Common.{◌≡◌, ◌⊎◌, ◌+◌, ◌≤◌, inl, inr, Bool, true, false, true≢false, ◌&&◌, ◌||◌, [], ◌∷◌, None, Some, refl, sym, ◌∙◌, ap, subst, arith}
+use Rattle.std.specs.Prelude.{◌≢◌, ℕ, ℤ, pos, negsuc, ◌+ℤ◌, ◌≤ℤ◌, List, if◌then◌else◌, All, Contains, IsTrue}
+use Rattle.std.specs.Int.Signed.{le_z_yes}
+use Rattle.std.proofs.lemmas.Int.{ints}
+use Rattle.std.specs.Ordering.{eq_by_cmp}
+use Rattle.std.proofs.lemmas.Option.{same_Some}
+use Rattle.std.proofs.lemmas.List.Elements.{All-cons, All-nil}
+use Rattle.std.proofs.lemmas.List.Kept.{AllPairs-cons}
+use Rattle.std.specs.FinSet.{contains, from_list, contains-from_list}
+use Rattle.model.specs.Task.{Atom, Instance}
+use Rattle.model.specs.Examples.{instance, tie, tie_task}
+use Rattle.model.specs.ClosedOff.{kept_instances}
+use Rattle.model.specs.NumberedAtoms.{numbered_atoms}
+use Rattle.model.specs.Meaning.{State, cost_of, atom_cmp, step, changes_of, meets_goal}
+use Rattle.model.specs.WellTyped.{is_atom}
+use Rattle.model.specs.Claims.{bound, Line, IsListedWithin}
+use Rattle.model.specs.Fluents.{is_fluent}
+use Rattle.certificate_definitions.specs.Certificates.{StateLine, state_of_line}
+use Rattle.certificate_definitions.specs.Certificates.{IsClosedFor}
+use Rattle.certificate_definitions.specs.CertificateRefusals.{IsWrong, unfair, unfair_goal}
+use Rattle.certificate_definitions.specs.CertificateExamples.{AreJudged, opened, cut, linked, tied, claims, weighs}
+use Rattle.potential_functions.specs.PotentialFunctions.{PotentialFunction, or_zero, value_of_state}
+use Rattle.potential_functions.specs.Fair.{IsFairAt, IsFairAtGoals, AreFair}
+use Rattle.potential_functions.proofs.FairExampleProofs.{losing, is_fair_at, is_unfair_at}
+use Rattle.potential_functions.proofs.Zero.{zero-fair}
+use Rattle.model.proofs.GroundingComputes.{kept-is, numbered-is}
+use Rattle.model.proofs.Atoms.{atoms_total, same_state}
+use Rattle.model.proofs.Steps.{state_after, contains-state_after, leads}
+use Rattle.model.proofs.InstancesLemmas.{is_instance-of_step, Contains-all_instances}
+use Rattle.model.proofs.ListLemmas.{Contains-cases, Contains-none}
+
+abbrev line_of : StateLine → Line State
+line_of l = record { state = state_of_line tie_task (claims (bound 1) (tied ∷ []) []) l; cost = l.cost; cut = l.cut }
+
+-- the initial state, and the state after the instance
+abbrev start : State
+start = from_list {R = atom_cmp} (linked ∷ [])
+
+abbrev end : State
+end = from_list {R = atom_cmp} (tied ∷ linked ∷ [])
+
+abbrev the_instance : Instance
+the_instance = instance 0 (0 ∷ 0 ∷ [])
+
+abbrev after_it : State
+after_it = state_after tie_task (linked ∷ []) (changes_of tie_task tie.effect (0 ∷ 0 ∷ []) ∷ [])
+
+leads_on : step tie_task start the_instance ≡ Some after_it
+leads_on = leads tie_task start the_instance tie refl refl (contains-state_after tie_task (linked ∷ []) [] linked)
+
+same_end : end ≡ after_it
+same_end = same_state end after_it (λ q. contains-from_list atoms_total (tied ∷ linked ∷ []) q ∙ (by_tests (eq_by_cmp atom_cmp q tied) (eq_by_cmp atom_cmp q linked) ∙ sym (contains-state_after tie_task (linked ∷ []) (changes_of tie_task tie.effect (0 ∷ 0 ∷ []) ∷ []) q)))
+  where
+    by_tests : (t l : Bool) → (t || (l || false)) ≡ (((l || false) && true) || (t || false))
+    by_tests true true = refl
+    by_tests true false = refl
+    by_tests false true = refl
+    by_tests false false = refl
+
+-- the only instance, and where it leads
+only_instance : (a : Instance) (next : State) → step tie_task start a ≡ Some next → next ≡ end
+only_instance a next h = by_place (Contains-cases the_instance [] a (Contains-all_instances tie_task a (is_instance-of_step tie_task start a next h)))
+  where
+    by_place : (the_instance ≡ a) ⊎ Contains {X = Instance} [] a → next ≡ end
+    by_place (inl is) = let both : Some after_it ≡ Some next = sym leads_on ∙ ap (step tie_task start) is ∙ h in same_Some next end (sym both ∙ ap Some (sym same_end))
+    by_place (inr none) = absurd (Contains-none a none)
+
+apart : start ≡ end → ⊥
+apart e = true≢false (sym (contains-from_list atoms_total (tied ∷ linked ∷ []) tied) ∙ ap (λ s. contains s tied) (sym e) ∙ contains-from_list atoms_total (linked ∷ []) tied)
+
+-- what holds of both lines of a listing holds of each
+of_two : (P : Line State → Type 0) (k l line : Line State) → Contains (k ∷ l ∷ []) line → P k → P l → P line
+of_two P k l line at of_k of_l = by_first (Contains-cases k (l ∷ []) line at)
+  where
+    by_second : (l ≡ line) ⊎ Contains {X = Line State} [] line → P line
+    by_second (inl is) = subst P is of_l
+    by_second (inr none) = absurd (Contains-none line none)
+
+    by_first : (k ≡ line) ⊎ Contains (l ∷ []) line → P line
+    by_first (inl is) = subst P is of_k
+    by_first (inr later) = by_second (Contains-cases l [] line later)
+
+not_tied : contains start tied ≡ false
+not_tied = contains-from_list atoms_total (linked ∷ []) tied
+
+abbrev first : Line State
+first = line_of (opened 0 [])
+
+abbrev second : Line State
+second = line_of (cut 1 0 (0 ∷ []))
+
+one_line : (line : Line State) → Contains (first ∷ []) line → line.state ≡ after_it → start ≡ after_it
+one_line line at is = by_cases (Contains-cases first [] line at)
+  where
+    by_cases : (first ≡ line) ⊎ Contains {X = Line State} [] line → start ≡ after_it
+    by_cases (inl same) = ap (λ (l : Line State). l.state) same ∙ is
+    by_cases (inr none) = absurd (Contains-none line none)
+
+-- ---- potential functions
+
+abbrev weights_of : ℤ → List ℤ
+weights_of w = w ∷ []
+
+atoms_are : numbered_atoms tie_task (tied ∷ []) ≡ tied ∷ []
+atoms_are = numbered-is tie_task (tied ∷ []) ∙ refl
+
+kept_are : kept_instances tie_task ≡ the_instance ∷ []
+kept_are = kept-is tie_task ∙ refl
+
+abbrev potentials : ℤ → ℤ → PotentialFunction
+potentials constant w = record { constant = constant; weights = weights_of w }
+
+-- fair over the one atom, it is fair over the numbered atoms
+over_numbered : (p : PotentialFunction) → AreFair tie_task (tied ∷ []) p → AreFair tie_task (numbered_atoms tie_task (tied ∷ [])) p
+over_numbered p fair = subst (λ atoms. AreFair tie_task atoms p) (sym atoms_are) fair
+
+one_fair : (w : ℤ) → losing tie_task (tied ∷ []) (weights_of w) the_instance ≤ℤ pos 1
+    → All (λ (i : Instance). IsFairAt (cost_of tie_task i) tie_task (tied ∷ []) (weights_of w) i) (kept_instances tie_task)
+one_fair w within =
+    let P = λ (i : Instance). IsFairAt (cost_of tie_task i) tie_task (tied ∷ []) (weights_of w) i in
+    subst (All P) (sym kept_are) (All-cons P the_instance [] (is_fair_at tie_task (tied ∷ []) (weights_of w) the_instance within) (All-nil P))
+
+zero_is_fair : AreFair tie_task (numbered_atoms tie_task (tied ∷ [])) (potentials (pos 0) (pos 0))
+zero_is_fair = over_numbered (potentials (pos 0) (pos 0)) (zero-fair tie_task (tied ∷ []))
+
+worth_one : AreFair tie_task (numbered_atoms tie_task (tied ∷ [])) (potentials (pos 1) (negsuc 0))
+worth_one = over_numbered (potentials (pos 1) (negsuc 0)) (record { instances = one_fair (negsuc 0) (le_z_yes tt); goals = record { within = le_z_yes tt } })
+
+-- the initial state, cut
+abbrev start_cut : ℕ → Line State
+start_cut rest = line_of (cut 0 rest [])
+
+start_value : value_of_state (tied ∷ []) (potentials (pos 1) (negsuc 0)) start ≡ 1
+start_value = ap (λ b. or_zero (pos 1 +ℤ (pos 0 +ℤ (if b then negsuc 0 else pos 0)))) not_tied
+
+-- where nothing weighs, every state has the value 0
+end_value : value_of_state (tied ∷ []) (potentials (pos 0) (pos 0)) end ≡ 0
+end_value = ap (λ b. or_zero (pos 0 +ℤ (pos 0 +ℤ (if b then pos 0 else pos 0)))) (contains-from_list atoms_total (tied ∷ linked ∷ []) tied)
+
+the_one_line : (P : Line State → Type 0) (l line : Line State) → Contains (l ∷ []) line → P l → P line
+the_one_line P l line at of_l = by_first (Contains-cases l [] line at)
+  where
+    by_first : (l ≡ line) ⊎ Contains {X = Line State} [] line → P line
+    by_first (inl is) = subst P is of_l
+    by_first (inr none) = absurd (Contains-none line none)
+
+cut_closed : IsClosedFor tie_task (weighs (bound 1) (pos 1) (negsuc 0) (cut 0 1 [] ∷ []))
+cut_closed = record {
+  one_weight_an_atom = refl;
+  potentials_are_fair = worth_one;
+  atoms_are_fluent = All-cons (λ (a : Atom). IsTrue (is_atom tie_task a && is_fluent tie_task a.predicate)) tied [] refl (All-nil (λ (a : Atom). IsTrue (is_atom tie_task a && is_fluent tie_task a.predicate)));
+  atoms_are_distinct = λ i j d before within. absurd (omega (arith, before, within));
+  states_are_distinct = λ i j d before within. absurd (omega (arith, before, within));
+  listing_is_closed = record {
+    initial_listed = (start_cut 1, (0, omega arith, refl), refl, omega arith);
+    successors_listed = λ line a next at is_open leads.
+        the_one_line (λ (l : Line State). l.cut ≡ None → IsListedWithin (start_cut 1 ∷ []) next (l.cost + 1)) (start_cut 1) line at (λ not_cut. absurd (cc)) is_open;
+    open_goals_allowed = λ line at is_open goal. the_one_line (λ (l : Line State). l.cut ≡ None → 1 ≤ l.cost) (start_cut 1) line at (λ not_cut. absurd (cc)) is_open;
+    cuts_allowed = λ line rest at is_cut.
+        the_one_line (λ (l : Line State). l.cut ≡ Some rest → (rest ≤ value_of_state (tied ∷ []) (potentials (pos 1) (negsuc 0)) l.state) × (1 ≤ l.cost + rest)) (start_cut 1) line at
+        (λ is. let same : 1 ≡ rest = cc in (omega (arith, same, start_value), omega (arith, same))) is_cut;
+  };
+}
+
+-- worth two, it is lost by the instance, which costs one
+worth_two : IsWrong tie_task (weighs (bound 1) (pos 2) (negsuc 1) (cut 0 1 [] ∷ [])) None 1 unfair
+worth_two = (
+  the_instance,
+  subst (λ l. Contains l the_instance) (sym kept_are) (0, omega arith, refl),
+  subst (λ atoms. ¬ IsFairAt (cost_of tie_task the_instance) tie_task atoms (weights_of (negsuc 1)) the_instance) (sym atoms_are)
+      (is_unfair_at tie_task (tied ∷ []) (weights_of (negsuc 1)) the_instance 1 (pos 2) refl refl (λ h. absurd (omega (arith, ints)))),
+)
+
+one_left : IsWrong tie_task (weighs (bound 1) (pos 2) (negsuc 0) (cut 0 1 [] ∷ [])) None 1 unfair_goal
+one_left =
+    subst (λ atoms. ¬ IsFairAtGoals tie_task atoms (potentials (pos 2) (negsuc 0))) (sym atoms_are) (λ fair. more_than_none (pos 1) refl fair.within)
+  where
+    more_than_none : (z : ℤ) → z ≡ pos 1 → z ≤ℤ pos 0 → ⊥
+    more_than_none z is h = absurd (omega (arith, ints))
+
+pub are_judged : AreJudged
+are_judged = record {
+  link_is_static = refl;
+  tied_is_fluent = refl;
+  static_at_start = refl;
+  closed = record {
+    one_weight_an_atom = refl;
+    potentials_are_fair = zero_is_fair;
+    atoms_are_fluent = All-cons (λ (a : Atom). IsTrue (is_atom tie_task a && is_fluent tie_task a.predicate)) tied [] refl (All-nil (λ (a : Atom). IsTrue (is_atom tie_task a && is_fluent tie_task a.predicate)));
+    atoms_are_distinct = λ i j d before within. absurd (omega (arith, before, within));
+    states_are_distinct = AllPairs-cons (λ (k l : Line State). k.state ≢ l.state) first (second ∷ []) (All-cons (λ (l : Line State). first.state ≢ l.state) second [] apart (All-nil (λ (l : Line State). first.state ≢ l.state)))
+        (λ i j d before within. absurd (omega (arith, before, within)));
+    listing_is_closed = record {
+      initial_listed = (line_of (opened 0 []), (0, omega arith, refl), refl, omega arith);
+      successors_listed = λ line a next at is_open leads.
+          of_two (λ (l : Line State). l.cut ≡ None → step tie_task l.state a ≡ Some next → IsListedWithin (first ∷ second ∷ []) next (l.cost + 1)) first second line at
+          (λ _ leads. (second, (1, omega arith, refl), sym (only_instance a next leads), omega arith)) (λ not_cut _. absurd (cc)) is_open leads;
+      open_goals_allowed = λ line at is_open goal.
+          of_two (λ (l : Line State). l.cut ≡ None → IsTrue (meets_goal tie_task l.state) → 1 ≤ l.cost) first second line at
+          (λ _ met. absurd (true≢false (sym met ∙ not_tied))) (λ not_cut _. absurd (cc)) is_open goal;
+      cuts_allowed = λ line rest at is_cut.
+          of_two (λ (l : Line State). l.cut ≡ Some rest → (rest ≤ value_of_state (tied ∷ []) (potentials (pos 0) (pos 0)) l.state) × (1 ≤ l.cost + rest)) first second line at
+          (λ none. absurd (cc)) (λ is. let same : 0 ≡ rest = cc in (omega (arith, same), omega (arith, same))) is_cut;
+    };
+  };
+  cut_claims_too_little = (line_of (cut 1 0 (0 ∷ [])), 0, (1, refl, refl), refl, inr (λ h. absurd (omega (arith, h))));
+  open_goal = (line_of (opened 1 (0 ∷ [])), (1, refl, refl), refl, contains-from_list atoms_total (tied ∷ linked ∷ []) tied, λ h. absurd (omega (arith, h)));
+  cut_by_its_bound = (line_of (cut 1 1 (0 ∷ [])), 1, (1, refl, refl), refl, inl (let none = end_value in omega (arith, none)));
+  cut_without_bound = (line_of (cut 1 0 (0 ∷ [])), 0, (1, refl, refl), refl, refl);
+  missing = (line_of (opened 0 []), the_instance, after_it, ((0, refl, refl), refl, leads_on), λ listed. apart (one_line listed.0 listed.1 listed.2 ∙ sym same_end));
+  dear_start = λ listed.
+      of_two (λ (l : Line State). l.cost ≤ 0 → ⊥) (line_of (opened 1 [])) second listed.0 listed.1 (λ h. absurd (omega (arith, h))) (λ h. absurd (omega (arith, h))) listed.3;
+  cut_by_value = cut_closed;
+  claims_above_value = (start_cut 1, 1, (0, refl, refl), refl, inr (λ h. absurd (omega (arith, h))));
+  cut_above_value = (start_cut 2, 2, (0, refl, refl), refl, inl (let one = start_value in omega (arith, one)));
+  worth_more = worth_two;
+  left_at_goal = one_left;
+  static_atom = (linked, (0, refl, refl), refl);
+  atom_twice = inl (tied, 4, omega arith, (0, refl, refl), (1, refl, refl));
+  state_twice = inr (line_of (opened 0 []), line_of (cut 0 0 []), 5, omega arith, (0, refl, refl), (1, refl, refl), refl);
+  numbers_rise = refl;
+  weights_are_limited = refl;
+  least_weight = refl;
+  weight_missing = refl;
+}

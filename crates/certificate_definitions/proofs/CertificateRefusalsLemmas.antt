@@ -1,0 +1,88 @@
+-- Of a closed certificate nothing is wrong.
+use Rattle.std.proofs.Common.{◌≡◌, ℕ, ◌+◌, ◌<◌, ◌&&◌, List, get_or, Option, None, Some, inl, inr, refl, subst, arith}
+use Rattle.std.specs.Prelude.{◌≢◌, IsTrue, AllPairs, slice_get}
+use Rattle.std.proofs.lemmas.Option.{slice_get_within, get_or_from_slice_get}
+use Rattle.std.proofs.lemmas.List.Elements.{All-contains}
+use Rattle.model.specs.Task.{Atom, Task, Instance}
+use Rattle.model.specs.WellTyped.{is_atom}
+use Rattle.model.specs.Runs.{Solves}
+use Rattle.model.specs.Meaning.{State, cost_of, system_of}
+use Rattle.model.specs.ClosedOff.{kept_instances}
+use Rattle.model.specs.NumberedAtoms.{numbered_atoms}
+use Rattle.model.specs.Claims.{Claim, bound, none, Allows, Line}
+use Rattle.model.specs.Fluents.{is_fluent}
+use Rattle.certificate_definitions.specs.Certificates.{Certificate, lines_of, IsClosedFor}
+use Rattle.certificate_definitions.specs.CertificateRefusals.{Reason, not_fluent, repeated, no_initial, unfair, unfair_goal, goal_open, successor_missing, successor_dearer, cut_weak, cut_not_allowed, plan_invalid, plan_dearer, limit, IsWrongLine, IsWrong, IsPlanWithin}
+use Rattle.potential_functions.specs.Fair.{IsFairAt}
+use Rattle.model.proofs.ListLemmas.{Contains-got}
+
+-- ---- elements at their places
+
+-- what holds of each two holds of those at two places
+pub apart : {X : Type 0} (R : X → X → Type 0) (xs : List X) (i j : ℕ) (x y : X) → AllPairs R xs → i < j → slice_get xs i ≡ Some x → slice_get xs j ≡ Some y → R x y
+apart R xs i j x y pairs lt at_i at_j =
+    subst (λ b. R x b) (get_or_from_slice_get xs j y x at_j)
+    (subst (λ a. R a (get_or xs j x)) (get_or_from_slice_get xs i x x at_i) (pairs i j x lt (slice_get_within xs j y at_j)))
+
+plan_solves : (task : Task) (claim : Claim) (p : List Instance) → IsPlanWithin task claim (Some p) → Solves (system_of task) p
+plan_solves task (bound least) p within = within.0
+plan_solves task none p within = absurd within
+
+-- ---- a closed certificate's lines
+
+module _ (task : Task) (c : Certificate) (closed : IsClosedFor task c) where
+  abbrev listed : List (Line State)
+  listed = lines_of task c
+
+  pub right_line : (reason : Reason) (line : ℕ) → IsWrongLine task c reason line → ⊥
+  right_line not_fluent line (a, (place, told, at), wrong) =
+      let right = closed.atoms_are_fluent place a (slice_get_within c.atoms place a at) in
+      let here : IsTrue (is_atom task a && is_fluent task a.predicate) =
+      subst (λ (b : Atom). IsTrue (is_atom task b && is_fluent task b.predicate)) (get_or_from_slice_get c.atoms place a a at) right in
+      absurd (cc)
+  right_line repeated line (inl (a, before, lt, (j, told_j, at_j), (k, told_k, at_k))) =
+      apart (λ (a b : Atom). a ≢ b) c.atoms j k a a closed.atoms_are_distinct (omega arith) at_j at_k refl
+  right_line repeated line (inr (earlier, l, before, lt, (j, told_j, at_j), (k, told_k, at_k), same)) =
+      apart (λ (k l : Line State). k.state ≢ l.state) listed j k earlier l closed.states_are_distinct (omega arith) at_j at_k same
+  right_line goal_open line (l, (place, told, at), is_open, goal, denied) =
+      denied (closed.listing_is_closed.open_goals_allowed l (Contains-got listed place l at) is_open goal)
+  right_line successor_missing line (l, i, next, ((place, told, at), is_open, leads), missing) =
+      let there = closed.listing_is_closed.successors_listed l i next (Contains-got listed place l at) is_open leads in
+      missing (there.0, there.1, there.2)
+  right_line successor_dearer line (l, i, next, ((place, told, at), is_open, leads), is_listed, dearer) =
+      dearer (closed.listing_is_closed.successors_listed l i next (Contains-got listed place l at) is_open leads)
+  right_line cut_weak line (l, rest, (place, told, at), is_cut, inl more) =
+      let allowed = closed.listing_is_closed.cuts_allowed l rest (Contains-got listed place l at) is_cut in
+      omega (arith, allowed.0)
+  right_line cut_weak line (l, rest, (place, told, at), is_cut, inr denied) =
+      denied (closed.listing_is_closed.cuts_allowed l rest (Contains-got listed place l at) is_cut).1
+  right_line cut_not_allowed line (l, rest, (place, told, at), is_cut, is_none) =
+      let allowed = (closed.listing_is_closed.cuts_allowed l rest (Contains-got listed place l at) is_cut).1 in
+      subst (λ (claim : Claim). Allows claim (l.cost + rest)) is_none allowed
+  right_line no_initial line wrong = wrong
+  right_line unfair line wrong = wrong
+  right_line unfair_goal line wrong = wrong
+  right_line plan_invalid line wrong = wrong
+  right_line plan_dearer line wrong = wrong
+  right_line limit line wrong = wrong
+
+  -- and nothing else is wrong but the count of instances
+  pub right : (plan : Option (List Instance)) (most : ℕ) (reason : Reason) → IsPlanWithin task c.claim plan → IsWrong task c plan most reason → reason ≡ limit
+  right plan most no_initial within wrong = absurd (wrong closed.listing_is_closed.initial_listed)
+  right plan most unfair within (i, kept, wrong) =
+      absurd (wrong (All-contains (λ (i : Instance). IsFairAt (cost_of task i) task (numbered_atoms task c.atoms) c.potentials.weights i) (kept_instances task) i closed.potentials_are_fair.instances kept))
+  right plan most unfair_goal within wrong = absurd (wrong closed.potentials_are_fair.goals)
+  right None most plan_invalid within wrong = absurd wrong
+  right (Some p) most plan_invalid within wrong = absurd (wrong (plan_solves task c.claim p within))
+  right None most plan_dearer within wrong = absurd wrong
+  right (Some p) most plan_dearer within (least, claimed, solves, dearer) =
+      let most_of = subst (λ (claim : Claim). IsPlanWithin task claim (Some p)) claimed within in
+      absurd (omega (arith, most_of.1))
+  right plan most limit within wrong = refl
+  right plan most not_fluent within wrong = absurd wrong
+  right plan most repeated within wrong = absurd wrong
+  right plan most goal_open within wrong = absurd wrong
+  right plan most successor_missing within wrong = absurd wrong
+  right plan most successor_dearer within wrong = absurd wrong
+  right plan most cut_weak within wrong = absurd wrong
+  right plan most cut_not_allowed within wrong = absurd wrong

@@ -1,0 +1,132 @@
+-- What is one line too many, by the place where it stands.
+use Rattle.std.proofs.Common.{◌≡◌, ℕ, ◌+◌, ◌⊎◌, inl, inr, List, [], ◌∷◌, ◌++◌, map, length, Some, refl, sym, ap, ◌∙◌, subst, arith}
+use Rattle.std.specs.Prelude.{ℤ, IsTrue}
+use Rattle.model.specs.Claims.{Claim}
+use Rattle.certificate_definitions.specs.Certificates.{StateLine}
+use Rattle.certificate_definitions.specs.CertificateText.{WeightedAtom, TextLine, version, claims, constant, atom, listed, last, is_line, line_text, most_atoms, most_states, IsOneTooMany, atoms, states, head_lines}
+use Rattle.certificate_definitions.specs.CertificateMachine.{Place, at_version, at_claim, at_constant, in_body, ended, place_after}
+use Rattle.certificate_definitions.proofs.Machine.{StandsBefore, stands}
+
+-- The bytes are a line that may not stand at this place for the limit alone.
+abbrev pub IsTooManyAt : Place → List ℕ → Type 0
+IsTooManyAt (in_body n m) bytes =
+    ((m ≡ 0) × (n ≡ most_atoms) × ((a : WeightedAtom) × IsTrue (is_line n (atom a)) × (bytes ≡ line_text (atom a))))
+    ⊎ ((m ≡ most_states) × ((l : StateLine) × IsTrue (is_line n (listed l)) × (bytes ≡ line_text (listed l))))
+IsTooManyAt at_version bytes = ⊥
+IsTooManyAt at_claim bytes = ⊥
+IsTooManyAt at_constant bytes = ⊥
+IsTooManyAt ended bytes = ⊥
+
+-- ---- how many lines of a kind there are
+
+abbrev weight_of : (TextLine → ℕ) → List TextLine → ℕ
+weight_of weight [] = 0
+weight_of weight (line ∷ lines) = weight line + weight_of weight lines
+
+weight_append : (weight : TextLine → ℕ) (front rest : List TextLine) → weight_of weight (front ++ rest) ≡ weight_of weight front + weight_of weight rest
+weight_append weight [] rest = omega arith
+weight_append weight (line ∷ front) rest = let more = weight_append weight front rest in omega (arith, more)
+
+weight_none : {X : Type 0} (weight : TextLine → ℕ) (f : X → TextLine) → ((x : X) → weight (f x) ≡ 0) → (xs : List X) → weight_of weight (map f xs) ≡ 0
+weight_none weight f same [] = refl
+weight_none weight f same (x ∷ xs) = let more = weight_none weight f same xs in let here = same x in omega (arith, here, more)
+
+weight_each : {X : Type 0} (weight : TextLine → ℕ) (f : X → TextLine) → ((x : X) → weight (f x) ≡ 1) → (xs : List X) → weight_of weight (map f xs) ≡ length xs
+weight_each weight f same [] = refl
+weight_each weight f same (x ∷ xs) =
+    let more = weight_each weight f same xs in
+    let here = same x in
+    let long : length (x ∷ xs) ≡ 1 + length xs = omega arith in
+    omega (arith, here, more, long)
+
+abbrev atom_weight : TextLine → ℕ
+atom_weight (atom a) = 1
+atom_weight version = 0
+atom_weight (claims claim) = 0
+atom_weight (constant k) = 0
+atom_weight (listed l) = 0
+atom_weight (last count) = 0
+
+abbrev state_weight : TextLine → ℕ
+state_weight (listed l) = 1
+state_weight version = 0
+state_weight (claims claim) = 0
+state_weight (constant k) = 0
+state_weight (atom a) = 0
+state_weight (last count) = 0
+
+abbrev last_weight : TextLine → ℕ
+last_weight (last count) = 1
+last_weight version = 0
+last_weight (claims claim) = 0
+last_weight (constant k) = 0
+last_weight (atom a) = 0
+last_weight (listed l) = 0
+
+module _ (claim : Claim) (k : ℤ) (all : List WeightedAtom) (lines : List StateLine) where
+  atoms_in : weight_of atom_weight (head_lines claim k all lines) ≡ length all
+  atoms_in =
+      let split = weight_append atom_weight (map (λ a. atom a) all) (map (λ l. listed l) lines) in
+      let first = weight_each atom_weight (λ a. atom a) (λ a. refl) all in
+      let second = weight_none atom_weight (λ l. listed l) (λ l. refl) lines in
+      omega (arith, split, first, second)
+
+  states_in : weight_of state_weight (head_lines claim k all lines) ≡ length lines
+  states_in =
+      let split = weight_append state_weight (map (λ a. atom a) all) (map (λ l. listed l) lines) in
+      let first = weight_none state_weight (λ a. atom a) (λ a. refl) all in
+      let second = weight_each state_weight (λ l. listed l) (λ l. refl) lines in
+      omega (arith, split, first, second)
+
+  last_in : weight_of last_weight (head_lines claim k all lines) ≡ 0
+  last_in =
+      let split = weight_append last_weight (map (λ a. atom a) all) (map (λ l. listed l) lines) in
+      let first = weight_none last_weight (λ a. atom a) (λ a. refl) all in
+      let second = weight_none last_weight (λ l. listed l) (λ l. refl) lines in
+      omega (arith, split, first, second)
+
+-- the place behind such lines is behind so many atoms and states
+place_behind : (claim : Claim) (k : ℤ) (all : List WeightedAtom) (lines : List StateLine) (place : Place) → StandsBefore place (head_lines claim k all lines)
+    → place ≡ in_body (length all) (length lines)
+place_behind claim k all lines at_version stands = absurd (cc stands)
+place_behind claim k all lines at_claim stands = absurd (cc stands)
+place_behind claim k all lines at_constant (other, is, are) = absurd (cc are)
+place_behind claim k all lines (in_body n m) body =
+    let same_atoms : length all ≡ n =
+    sym (atoms_in claim k all lines) ∙ ap (weight_of atom_weight) body.lines_are ∙ atoms_in body.claim body.constant body.atoms body.states ∙ body.atom_count_is in
+    let same_states : length lines ≡ m =
+    sym (states_in claim k all lines) ∙ ap (weight_of state_weight) body.lines_are ∙ states_in body.claim body.constant body.atoms body.states ∙ body.state_count_is in
+    λ i. in_body (sym same_atoms i) (sym same_states i)
+place_behind claim k all lines ended (c, keeps, are) =
+    let none_first = last_in c.claim c.constant c.atoms c.lines in
+    let split = weight_append last_weight (head_lines c.claim c.constant c.atoms c.lines) (last (length c.lines) ∷ []) in
+    absurd (omega (arith, split, none_first, sym (last_in claim k all lines) ∙ ap (weight_of last_weight) (sym are)))
+
+-- ---- the limit, by the place
+
+module _ (before : List TextLine) (place : Place) (leads : place_after before ≡ Some place) (bytes : List ℕ) where
+  pub too_many_at : IsOneTooMany before bytes → IsTooManyAt place bytes
+  too_many_at (atoms claim k all a are full is same) =
+      let here : place ≡ in_body (length all) 0 = place_behind claim k all [] place (subst (StandsBefore place) are (stands before place leads)) in
+      subst (λ place. IsTooManyAt place bytes) (sym here)
+      (inl (refl, full, (a, subst (λ n. IsTrue (is_line n (atom a))) (sym full) is, same)))
+  too_many_at (states claim k all lines l are full is same) =
+      let here : place ≡ in_body (length all) (length lines) = place_behind claim k all lines place (subst (StandsBefore place) are (stands before place leads)) in
+      subst (λ place. IsTooManyAt place bytes) (sym here) (inr (full, (l, is, same)))
+
+no_states : (lines : List StateLine) → length lines ≡ 0 → lines ≡ []
+no_states [] empty = refl
+no_states (l ∷ lines) empty = absurd (omega (arith, empty))
+
+pub too_many_of : (before : List TextLine) (bytes : List ℕ) (place : Place) → StandsBefore place before → IsTooManyAt place bytes → IsOneTooMany before bytes
+too_many_of before bytes at_version stands over = absurd over
+too_many_of before bytes at_claim stands over = absurd over
+too_many_of before bytes at_constant stands over = absurd over
+too_many_of before bytes ended stands over = absurd over
+too_many_of before bytes (in_body n m) body (inl (none_yet, full, (a, is, same))) =
+    atoms body.claim body.constant body.atoms a
+    (body.lines_are ∙ ap (head_lines body.claim body.constant body.atoms) (no_states body.states (body.state_count_is ∙ none_yet)))
+    (body.atom_count_is ∙ full) (subst (λ n. IsTrue (is_line n (atom a))) full is) same
+too_many_of before bytes (in_body n m) body (inr (full, (l, is, same))) =
+    states body.claim body.constant body.atoms body.states l body.lines_are (body.state_count_is ∙ full)
+    (subst (λ n. IsTrue (is_line n (listed l))) (sym body.atom_count_is) is) same

@@ -1,0 +1,62 @@
+-- What is wrong with the lines of a certificate's text for a task, and which text is accepted for it. The lines are looked
+-- at in order, and the first at fault is told: by the text's own rules, or for what it says of the task.
+use Rattle.std.specs.Prelude.{◌≡◌, ℕ, ◌+◌, ◌⊎◌, IsTrue, List, [], ◌∷◌, ◌++◌, length, Contains, Option, IsSome}
+use Rattle.model.specs.Task.{Atom, Task, Instance}
+use Rattle.model.specs.WellTyped.{is_atom}
+use Rattle.model.specs.Fluents.{is_fluent}
+use Rattle.model.specs.Claims.{none}
+use Rattle.certificate_definitions.specs.Certificates.{Certificate, StateLine, IsClosedFor}
+use Rattle.certificate_definitions.specs.CertificateRefusals.{IsPlanWithin}
+use Rattle.certificate_definitions.specs.CertificateText.{NamedAtom, WeightedAtom, TextLine, claims, atom, listed, whole_line, text_of, BeginCertificate, IsFaultAfter}
+use Rattle.certificate_definitions.specs.CertificateNames.{Names, IsTextOf}
+
+-- these are the names of a well-typed atom of a fluent predicate
+abbrev pub NamesFluent : Task → NamedAtom → Type 0
+NamesFluent task name = (a : Atom) × Names task name a × IsTrue (is_atom task a) × IsTrue (is_fluent task a.predicate)
+
+-- one of these lines has this atom
+abbrev pub HasAtom : List TextLine → NamedAtom → Type 0
+HasAtom lines name = (a : WeightedAtom) × Contains lines (atom a) × (a.atom ≡ name)
+
+-- one of these lines lists this set of atoms
+abbrev pub ListsAtoms : List TextLine → List ℕ → Type 0
+ListsAtoms lines atoms = (l : StateLine) × Contains lines (listed l) × (l.atoms ≡ atoms)
+
+-- The line says what is wrong of the task, after these lines, and the number is told.
+pub data IsWrongAfter (task : Task) (before : List TextLine) : TextLine → ℕ → Type 0 where
+  -- an atom that is not one of the task's, or whose predicate is static
+  not_fluent : (a : WeightedAtom) → ¬ NamesFluent task a.atom → IsWrongAfter task before (atom a) 43
+  -- an atom that stood in a line before, with whatever weight
+  repeated_atom : (a : WeightedAtom) → NamesFluent task a.atom → HasAtom before a.atom → IsWrongAfter task before (atom a) 44
+  -- a state that stood in a line before
+  repeated_state : (l : StateLine) → ListsAtoms before l.atoms → IsWrongAfter task before (listed l) 44
+  -- a cut, where it is claimed that no list of actions solves
+  cut_not_allowed : (l : StateLine) → ¬ ListsAtoms before l.atoms → IsSome l.cut → Contains before (claims none) → IsWrongAfter task before (listed l) 52
+
+-- nothing is wrong with any of these lines, after those before it
+abbrev pub AreRight : Task → List TextLine → Type 0
+AreRight task lines = (before after : List TextLine) (line : TextLine) (number : ℕ) → lines ≡ before ++ line ∷ after → ¬ IsWrongAfter task before line number
+
+-- what comes after these lines begins with a line that is wrong, by what it says of the task
+abbrev pub IsWrongHere : Task → List TextLine → List ℕ → ℕ → Type 0
+IsWrongHere task before bytes number =
+    (line : TextLine) × (more : List ℕ) × (bytes ≡ whole_line line ++ more) × BeginCertificate (before ++ line ∷ []) × IsWrongAfter task before line number
+
+-- The number is told of this line, counted from 1, which is the first at fault: the lines before it begin a certificate,
+-- and nothing is wrong with them.
+pub record IsLineFault (task : Task) (text : List ℕ) (number line : ℕ) : Type 0 where
+  pub before : List TextLine
+  pub bytes : List ℕ
+  pub splits : text ≡ text_of before ++ bytes
+  pub begins : BeginCertificate before
+  pub right : AreRight task before
+  pub line_is : line ≡ length before + 1
+  pub at_fault : IsFaultAfter before bytes number ⊎ IsWrongHere task before bytes number
+
+-- The text is that of a certificate that is closed for the task, and no plan is handed in, or one that solves the task and
+-- costs no more than is claimed.
+pub record IsAccepted (task : Task) (text : List ℕ) (plan : Option (List Instance)) : Type 0 where
+  pub certificate : Certificate
+  pub is_text : IsTextOf task text certificate
+  pub closed : IsClosedFor task certificate
+  pub within : IsPlanWithin task certificate.claim plan

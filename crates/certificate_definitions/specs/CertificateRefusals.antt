@@ -1,0 +1,147 @@
+-- What is wrong with a certificate, or with the plan that was handed in with it, where the checker refuses it.
+use Rattle.std.specs.Prelude.{◌≡◌, ℕ, ◌+◌, ◌<◌, ◌≤◌, ◌⊎◌, ◌&&◌, false, IsTrue, List, length, Contains, slice_get, Option, None, Some, IsSome, MatchOption}
+use Rattle.model.specs.Task.{Atom, Task, Instance}
+use Rattle.model.specs.WellTyped.{is_atom}
+use Rattle.model.specs.Runs.{cost_of_all, Solves}
+use Rattle.model.specs.Meaning.{State, cost_of, initial_state, step, meets_goal, system_of}
+use Rattle.model.specs.Limits.{max_numbered_atoms}
+use Rattle.model.specs.ClosedOff.{kept_instances}
+use Rattle.model.specs.NumberedAtoms.{numbered_atoms}
+use Rattle.model.specs.Grounding.{limit_told}
+use Rattle.model.specs.Claims.{Claim, bound, none, Allows, Line, IsListedWithin}
+use Rattle.potential_functions.specs.Fair.{IsFairAt, IsFairAtGoals}
+use Rattle.model.specs.Fluents.{is_fluent}
+use Rattle.certificate_definitions.specs.Certificates.{Certificate, lines_of, value_of}
+
+-- the reasons, each with the number that is told
+pub data Reason : Type 0 where
+  not_fluent : Reason  -- 43
+  repeated : Reason  -- 44
+  no_initial : Reason  -- 45
+  unfair : Reason  -- 46
+  unfair_goal : Reason  -- 47
+  goal_open : Reason  -- 48
+  successor_missing : Reason  -- 49
+  successor_dearer : Reason  -- 50
+  cut_weak : Reason  -- 51
+  cut_not_allowed : Reason  -- 52
+  plan_invalid : Reason  -- 53
+  plan_dearer : Reason  -- 54
+  limit : Reason  -- 55
+
+-- The lines of a certificate's text are counted from 1: its version, its claim and its constant come first, then its
+-- atoms, a line each, and then its states.
+abbrev pub atom_line : ℕ → ℕ
+atom_line place = 4 + place
+
+abbrev pub state_line : Certificate → ℕ → ℕ
+state_line c place = 4 + length c.atoms + place
+
+-- this line has this atom
+abbrev pub HasAtom : Certificate → ℕ → Atom → Type 0
+HasAtom c line a = (place : ℕ) × (line ≡ atom_line place) × (slice_get c.atoms place ≡ Some a)
+
+-- this line lists this state
+abbrev pub HasState : Task → Certificate → ℕ → Line State → Type 0
+HasState task c line l = (place : ℕ) × (line ≡ state_line c place) × (slice_get (lines_of task c) place ≡ Some l)
+
+-- the state is listed, at whatever cost
+abbrev pub IsListed : {S : Type 0} → List (Line S) → S → Type 0
+IsListed {S} lines s = (line : Line S) × Contains lines line × (line.state ≡ s)
+
+-- the atom, or the state, of this line stands in a line before
+abbrev pub IsRepeatedAtom : Certificate → ℕ → Type 0
+IsRepeatedAtom c line = (a : Atom) × (before : ℕ) × (before < line) × HasAtom c before a × HasAtom c line a
+
+abbrev pub IsRepeatedState : Task → Certificate → ℕ → Type 0
+IsRepeatedState task c line =
+    (earlier l : Line State) × (before : ℕ) × (before < line) × HasState task c before earlier × HasState task c line l × (earlier.state ≡ l.state)
+
+-- this line lists an open state, from which this instance leads to this state
+abbrev pub LeadsFrom : Task → Certificate → ℕ → Line State → Instance → State → Type 0
+LeadsFrom task c line l i next = HasState task c line l × (l.cut ≡ None) × (step task l.state i ≡ Some next)
+
+-- What is wrong with a line of the certificate's text.
+abbrev pub IsWrongLine : Task → Certificate → Reason → ℕ → Type 0
+-- its atom is not well-typed, or its predicate is static
+IsWrongLine task c not_fluent line = (a : Atom) × HasAtom c line a × ((is_atom task a && is_fluent task a.predicate) ≡ false)
+-- its atom, or its state, stands in a line before
+IsWrongLine task c repeated line = IsRepeatedAtom c line ⊎ IsRepeatedState task c line
+-- its open state meets the goal, at a cost that the claim does not allow
+IsWrongLine task c goal_open line = (l : Line State) × HasState task c line l × (l.cut ≡ None) × IsTrue (meets_goal task l.state) × ¬ Allows c.claim l.cost
+-- an instance leads from its open state to one that is not listed
+IsWrongLine task c successor_missing line =
+    (l : Line State) × (i : Instance) × (next : State) × LeadsFrom task c line l i next × ¬ IsListed (lines_of task c) next
+-- an instance leads from its open state to one that is listed, but not at so little as its cost and that of the instance
+IsWrongLine task c successor_dearer line =
+    (l : Line State) × (i : Instance) × (next : State) × LeadsFrom task c line l i next × IsListed (lines_of task c) next
+    × ¬ IsListedWithin (lines_of task c) next (l.cost + (system_of task).cost i)
+-- its cut's bound is more than the state's value, or what it claims is less than what is claimed
+IsWrongLine task c cut_weak line =
+    (l : Line State) × (rest : ℕ) × HasState task c line l × (l.cut ≡ Some rest) × ((value_of c l.state < rest) ⊎ ¬ Allows c.claim (l.cost + rest))
+-- it is a cut, and it is claimed that no list solves
+IsWrongLine task c cut_not_allowed line = (l : Line State) × (rest : ℕ) × HasState task c line l × (l.cut ≡ Some rest) × (c.claim ≡ none)
+IsWrongLine task c _ line = ⊥
+
+-- What is wrong, and not with a line: with the whole certificate, with the plan, if one is handed in, or with the
+-- ground task in which the certificate's atoms have the first numbers, of whose instances at most `most` may be kept.
+abbrev pub IsWrong : Task → Certificate → Option (List Instance) → ℕ → Reason → Type 0
+-- the initial state is not listed at 0
+IsWrong task c plan most no_initial = ¬ IsListedWithin (lines_of task c) (initial_state task) 0
+-- the plan does not solve the task
+IsWrong task c plan most plan_invalid = MatchOption plan ⊥ (λ p. ¬ Solves (system_of task) p)
+-- the plan solves it, and costs more than is claimed
+IsWrong task c plan most plan_dearer =
+    MatchOption plan ⊥ (λ p. (least : ℕ) × (c.claim ≡ bound least) × Solves (system_of task) p × (least < cost_of_all (system_of task) p))
+-- a kept instance may lose more than it costs
+IsWrong task c plan most unfair =
+    (i : Instance) × Contains (kept_instances task) i × ¬ IsFairAt (cost_of task i) task (numbered_atoms task c.atoms) c.potentials.weights i
+-- more than 0 may be left at a goal
+IsWrong task c plan most unfair_goal = ¬ IsFairAtGoals task (numbered_atoms task c.atoms) c.potentials
+-- more instances are kept, or too many atoms have numbers
+IsWrong task c plan most limit = IsSome (limit_told most max_numbered_atoms task c.atoms)
+IsWrong task c plan most _ = ⊥
+
+-- The checker looks for what is wrong in this order: it reads the lines one by one, grounds the task, looks whether the
+-- potential function is fair, looks for the initial state, goes through the state lines one by one, and holds the plan
+-- against the claim.
+abbrev pub stage_of : Reason → ℕ
+stage_of not_fluent = 0
+stage_of repeated = 0
+stage_of cut_not_allowed = 0
+stage_of limit = 1
+stage_of unfair = 2
+stage_of unfair_goal = 2
+stage_of no_initial = 3
+stage_of goal_open = 4
+stage_of successor_missing = 4
+stage_of successor_dearer = 4
+stage_of cut_weak = 4
+stage_of plan_invalid = 5
+stage_of plan_dearer = 5
+
+-- and of one line in this order; of a line's successors it tells the first one that is not as it is to be
+abbrev pub rank_of : Reason → ℕ
+rank_of repeated = 1
+rank_of cut_not_allowed = 2
+rank_of unfair_goal = 1
+rank_of successor_missing = 1
+rank_of successor_dearer = 1
+rank_of plan_dearer = 1
+rank_of _ = 0
+
+-- the one reason comes before the other, in these lines; what is not wrong with a line is told as in line 0
+abbrev pub ComesBefore : Reason → ℕ → Reason → ℕ → Type 0
+ComesBefore earlier line later other =
+    (stage_of earlier < stage_of later) ⊎ ((stage_of earlier ≡ stage_of later) × ((line < other) ⊎ ((line ≡ other) × (rank_of earlier < rank_of later))))
+
+-- nothing is wrong that comes before
+abbrev pub IsFirst : Task → Certificate → Option (List Instance) → ℕ → Reason → ℕ → Type 0
+IsFirst task c plan most reason line =
+    (earlier : Reason) (before : ℕ) → ComesBefore earlier before reason line → ¬ (IsWrongLine task c earlier before ⊎ IsWrong task c plan most earlier)
+
+-- no plan is handed in, or one that solves the task and costs no more than is claimed
+abbrev pub IsPlanWithin : Task → Claim → Option (List Instance) → Type 0
+IsPlanWithin task claim None = Unit {0}
+IsPlanWithin task (bound least) (Some p) = Solves (system_of task) p × (cost_of_all (system_of task) p ≤ least)
+IsPlanWithin task none (Some p) = ⊥

@@ -1,5 +1,0 @@
-use Rattle.certificate_listing.proofs.WrittenLemmas.{written_reads_back}
-use Rattle.certificate_listing.proofs.laws.written_certificates_read_back.Goals as goal
-
-pub returns : goal.returns
-returns c = written_reads_back

@@ -1,0 +1,33 @@
+-- The code's lines of a certificate's text, in the model's terms.
+use Rattle.std.specs.Prelude.{ℕ, List, map}
+use Rattle.std.specs.Global.{Vec}
+use Rattle.certificate_reader.specs.declared.line.Claim.{Claim}
+use Rattle.certificate_reader.specs.declared.line.Claim.TheVariants.{Bound, Unsolvable}
+use Rattle.certificate_reader.specs.declared.line.StateLine.{StateLine}
+use Rattle.certificate_reader.specs.declared.line.NamedAtom.{NamedAtom}
+use Rattle.certificate_reader.specs.declared.line.CertLine.{CertLine}
+use Rattle.certificate_reader.specs.declared.line.CertLine.TheVariants as line
+use Rattle.model.specs.Claims as claims
+use Rattle.certificate_definitions.specs.Certificates as certificates
+use Rattle.certificate_definitions.specs.CertificateText as text
+
+abbrev pub claim_of : Claim → claims.Claim
+claim_of (Bound least) = claims.bound least
+claim_of Unsolvable = claims.none
+
+abbrev pub line_of : StateLine → certificates.StateLine
+line_of l = record { cost = l.cost; cut = l.cut; atoms = l.atoms.items }
+
+abbrev pub name_of : Vec ℕ → List ℕ
+name_of name = name.items
+
+abbrev pub named_atom_of : NamedAtom → text.NamedAtom
+named_atom_of a = record { predicate = name_of a.predicate; objects = map name_of a.objects.items }
+
+abbrev pub text_line_of : CertLine → text.TextLine
+text_line_of line.Head = text.version
+text_line_of (line.Claim claim) = text.claims (claim_of claim)
+text_line_of (line.Constant k) = text.constant k
+text_line_of (line.Weight weight a) = text.atom (record { weight = weight; atom = named_atom_of a })
+text_line_of (line.Listed l) = text.listed (line_of l)
+text_line_of (line.Last count) = text.last count
