@@ -11,7 +11,7 @@ ghost use Rattle.model.specs.PlanWriting.{has_names};
 
 use crate::answers::task_file::{File, FileFault, read_task};
 use cert_checker::{Accepted, Refusal, check};
-use certificate_reader::CertReader;
+use certificate::CertReader;
 use devices::Source;
 use plan_file::read_plan;
 use std::alloc::Global;
