@@ -5,7 +5,7 @@ use crate::holdings::Holdings;
 use crate::section::{Section, Turn};
 use crate::stream::Stream;
 use faults::NoMemory;
-use planner_main::files::Table;
+use planner_main::Table;
 use std::alloc::{AllocError, AllocFailed, Global};
 
 /// Why a case could not be tried.

@@ -1,6 +1,6 @@
 //! The files of a case.
 use devices::{FailsAt, InPieces, Memory, WriteFault};
-use planner_main::files::{Files, Table};
+use planner_main::{Files, Table};
 use std::alloc::Global;
 
 /// A table of files, and how their bytes are given.

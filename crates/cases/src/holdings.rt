@@ -1,6 +1,6 @@
 //! What files are to hold after the run.
 use crate::case::CaseFault;
-use planner_main::files::Table;
+use planner_main::Table;
 use std::alloc::{AllocError, Global};
 use std::fmt;
 

@@ -2,7 +2,7 @@
 //! to stand in each of them.
 use crate::Tally;
 use devices::Memory;
-use planner_main::files::Table;
+use planner_main::Table;
 use std::alloc::{AllocError, Global};
 use std::{fs, io};
 

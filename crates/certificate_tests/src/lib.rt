@@ -1,4 +1,4 @@
-//! Tests of certificates: their texts, written, changed and cut, and what the checker tells of them.
+//! Tests of certificates: their texts, written, read over devices, changed and cut, and what the checker tells of them.
 #![tactic(auto)]
 
 #[cfg(test)]
@@ -10,7 +10,11 @@ mod changed_texts;
 #[cfg(test)]
 mod helpers;
 #[cfg(test)]
+mod laws;
+#[cfg(test)]
 mod listings;
+#[cfg(test)]
+mod reading_certificates;
 #[cfg(test)]
 mod streams;
 #[cfg(test)]

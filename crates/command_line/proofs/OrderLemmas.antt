@@ -19,7 +19,7 @@ use Rattle.clap.proofs.ValueTestLemmas.{accepts-Accepts, Accepts-accepts}
 use Rattle.command_line.specs.Limit.{is_limit, most}
 use Rattle.command_line.specs.Description.{optplan}
 use Rattle.command_line.specs.Orders.{Asks, IsCommand, Wanted, limit_of, wanted_in}
-use Rattle.command_line.specs.declared.limit.Limit.{Limit}
+use Rattle.command_line.specs.declared.max_count.MaxCount.{MaxCount}
 
 -- words ask for one thing
 pub one_wanted : (words : List Text) (a b : Wanted) → Asks words a → Asks words b → a ≡ b
@@ -45,14 +45,14 @@ limit_text text numeral = same_bool _ _
     (λ is. let a = accepts-Accepts false (Unsigned 1 most) text is in limit_within _ a.2 a.3)
     (λ is. let (low, high) = within_limit _ is in Accepts-accepts false (Unsigned 1 most) text (numeral, omega arith, low, high))
 
-limit_made : (o : Option Limit) (b : Bool) (number value : ℕ) → is_some o ≡ b → IfSome o (λ l. l.number ≡ number) → number ≡ value
+limit_made : (o : Option MaxCount) (b : Bool) (number value : ℕ) → is_some o ≡ b → IfSome o (λ l. l.number ≡ number) → number ≡ value
     → option_map (λ l. l.number) o ≡ (if b then Some value else None)
 limit_made None true number value some is same = absurd (cc)
 limit_made None false number value some is same = refl
 limit_made (Some l) true number value some is same = ap Some (is ∙ same)
 limit_made (Some l) false number value some is same = absurd (cc)
 
-pub limit_read : (text : Text) (number : ℕ) (o : Option Limit) → IsNumeral 10 (without_leading_plus text) → number ≡ digits_value 10 (without_leading_plus text)
+pub limit_read : (text : Text) (number : ℕ) (o : Option MaxCount) → IsNumeral 10 (without_leading_plus text) → number ≡ digits_value 10 (without_leading_plus text)
     → is_some o ≡ is_limit number → IfSome o (λ l. l.number ≡ number) → option_map (λ l. l.number) o ≡ limit_of text
 limit_read text number o numeral value some is =
     limit_made o (is_unsigned_in 1 most text) number (digits_value 10 (without_leading_plus text))

@@ -6,7 +6,7 @@ ghost use Rattle.command_line.specs.Described.{AddsShape, HasRule, HaveRules, Ha
 ghost use Rattle.command_line.specs.Description as description;
 ghost use Rattle.command_line.specs.Description.{optplan, subcommand};
 
-use crate::limit::MAX_LIMIT;
+use crate::max_count::MAX_LIMIT;
 use clap::builder::ValueParser;
 use clap::{Arg, ArgAction, Command};
 use std::alloc::{AllocError, Global};

@@ -3,11 +3,11 @@
 
 mod description;
 mod fault;
-mod limit;
+mod max_count;
 mod order;
 mod reading;
 
 pub use fault::WordsFault;
-pub use limit::{Limit, MAX_LIMIT};
+pub use max_count::{MAX_LIMIT, MaxCount};
 pub use order::Order;
 pub use reading::{examples_are_read, read_words};

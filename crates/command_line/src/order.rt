@@ -1,5 +1,5 @@
 //! What the program is asked for.
-use crate::limit::Limit;
+use crate::max_count::MaxCount;
 
 /// What the program is asked for.
 #[derive(Clone, Copy)]
@@ -15,9 +15,9 @@ pub enum Order<'a> {
         /// The name of the file that the certificate is written to, if any.
         cert: Option<&'a str>,
         /// How many states may be listed.
-        states: Limit,
+        states: MaxCount,
         /// How many instances may be kept.
-        instances: Limit,
+        instances: MaxCount,
         /// Whether the answer is told as JSON.
         json: bool,
     },
@@ -43,7 +43,7 @@ pub enum Order<'a> {
         /// The name of the plan file, if any.
         plan: Option<&'a str>,
         /// How many instances may be kept.
-        instances: Limit,
+        instances: MaxCount,
         /// Whether the answer is told as JSON.
         json: bool,
     },

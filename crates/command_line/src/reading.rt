@@ -9,7 +9,7 @@ ghost use Rattle.command_line.specs.View.{IsOfWords, text_in, texts, wanted_of};
 
 use crate::description::program;
 use crate::fault::WordsFault;
-use crate::limit::Limit;
+use crate::max_count::MaxCount;
 use crate::order::Order;
 use clap::error::ErrorKind;
 use clap::{ArgMatches, Error};
@@ -130,18 +130,18 @@ fn value_of<'a>(matches: &ArgMatches<'a>, name: &str) -> Option<&'a str>
 }
 
 /// The limit that the value of an argument is.
-fn limit_in(matches: &ArgMatches<'_>, name: &str) -> Option<Limit>
+fn limit_in(matches: &ArgMatches<'_>, name: &str) -> Option<MaxCount>
     ensures { option_map (λ limit. limit.number) result ≡ limit_in name.now (rows_of (found_of matches.now)) }
 {
     limit_of(value_of(matches, name)?)
 }
 
 /// The limit that a text writes.
-fn limit_of(text: &str) -> Option<Limit>
+fn limit_of(text: &str) -> Option<MaxCount>
     ensures { option_map (λ limit. limit.number) result ≡ limit_of text.now }
 {
     match text.parse::<u32>() {
-        Ok(number) => Limit::new(number),
+        Ok(number) => MaxCount::new(number),
         Err(_) => None,
     }
 }

@@ -2,8 +2,7 @@
 #![tactic(auto)]
 
 use devices::Device;
-use planner_main::files::SystemFiles;
-use planner_main::{run, tell_no_memory};
+use planner_main::{SystemFiles, run, tell_no_memory};
 use std::alloc::AllocError;
 use std::process::ExitCode;
 use std::{env, io};

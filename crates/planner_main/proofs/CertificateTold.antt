@@ -18,9 +18,9 @@ use Rattle.cert_checker.specs.Checking.{Accepts, Refuses}
 use Rattle.model.specs.Task.{Task, Instance}
 use Rattle.certificate_definitions.specs.Certificates.{Certificate}
 use Rattle.model.specs.Files.{FileFault, IsTaskOf}
-use Rattle.planner_main.specs.declared.report.Failure.{Failure}
-use Rattle.planner_main_answers.specs.Checked.{IsChecked, IsRefusedAs, IsTrueCheck}
-use Rattle.planner_main_output.specs.Check.{IsLineOf}
+use Rattle.planner_main.specs.declared.failures.Failure.{Failure}
+use Rattle.planner_main.specs.Checked.{IsChecked, IsRefusedAs, IsTrueCheck}
+use Rattle.planner_main.specs.CheckTold.{IsLineOf}
 use Rattle.planner_main.specs.Program.{CountsFailure, IsCheckedIn, fault_in}
 
 -- What came to the end is all that there was, and what came is a beginning of it.

@@ -1,3 +1,9 @@
+pub mod FilesRead
+pub mod CheckedLemmas
+pub mod JsonWritten
+pub mod MembersInOrder
+pub mod JsonExampleProofs
+pub mod JsonTold
 pub mod ProgramWords
 pub mod ProgramTold
 pub mod PlanFiles

@@ -5,7 +5,7 @@ use Rattle.std.specs.Borrow.{Bor}
 use Rattle.solver.specs.declared.limits.Limits.{Limits}
 use Rattle.command_line.specs.Orders.{Asked, to_solve, to_check}
 use Rattle.command_line.specs.View.{text_in, wanted_of}
-use Rattle.command_line.specs.declared.limit.Limit.{Limit}
+use Rattle.command_line.specs.declared.max_count.MaxCount.{MaxCount}
 use Rattle.command_line.specs.declared.order.Order.{Order}
 use Rattle.command_line.specs.declared.order.Order.TheVariants.{Solve, Check}
 use Rattle.planner_main.specs.Asked.{asked_of_check}
@@ -14,13 +14,13 @@ use Rattle.planner_main.specs.Asked.{asked_of_check}
 abbrev asked_with : (plan cert : Option (Bor (List ℕ))) (json : Bool) (states instances : ℕ) → Asked
 asked_with plan cert json states instances = record { states = states; instances = instances; plan = text_in plan; cert = text_in cert; json = json }
 
-pub wanted_of_solve : (order : Order) (domain problem : Bor (List ℕ)) (plan cert : Option (Bor (List ℕ))) (states instances : Limit) (json : Bool) (limits : Limits)
+pub wanted_of_solve : (order : Order) (domain problem : Bor (List ℕ)) (plan cert : Option (Bor (List ℕ))) (states instances : MaxCount) (json : Bool) (limits : Limits)
     → order ≡ Solve domain problem plan cert states instances json → limits.states ≡ states.number → limits.instances ≡ instances.number
     → to_solve domain.now problem.now (record { states = limits.states; instances = limits.instances; plan = text_in plan; cert = text_in cert; json = json }) ≡ wanted_of order
 wanted_of_solve order domain problem plan cert states instances json limits is same_states same_instances =
     ap (to_solve domain.now problem.now) (ap₂ (asked_with plan cert json) same_states same_instances) ∙ sym (ap wanted_of is)
 
-pub wanted_of_check : (order : Order) (domain problem cert : Bor (List ℕ)) (plan : Option (Bor (List ℕ))) (instances : Limit) (json : Bool) (number : ℕ)
+pub wanted_of_check : (order : Order) (domain problem cert : Bor (List ℕ)) (plan : Option (Bor (List ℕ))) (instances : MaxCount) (json : Bool) (number : ℕ)
     → order ≡ Check domain problem cert plan instances json → number ≡ instances.number
     → to_check domain.now problem.now cert.now (asked_of_check number plan json) ≡ wanted_of order
 wanted_of_check order domain problem cert plan instances json number is same =

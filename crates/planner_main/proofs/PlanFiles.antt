@@ -9,8 +9,8 @@ use Rattle.certificate_definitions.specs.CertificateNames.{certificate_text}
 use Rattle.solver.specs.declared.answer.Answer.{Answer}
 use Rattle.solver.specs.declared.answer.Answer.TheVariants as answer
 use Rattle.model.specs.Task.{Task}
-use Rattle.planner_main_answers.specs.Files.{text_in}
-use Rattle.planner_main_output.specs.Answer.{text_of}
+use Rattle.planner_main.specs.Files.{text_in}
+use Rattle.planner_main.specs.AnswerTold.{text_of}
 use Rattle.planner_main.specs.Solution.{cert_file, plan_file}
 
 -- What is wanted to be written of an answer that is a plan, or that there is none.

@@ -9,9 +9,9 @@ use Rattle.solver.specs.Solver.{IsTrueAnswer}
 use Rattle.command_line.specs.Orders.{Asks, Asked, Wanted}
 use Rattle.devices.specs.Written.{NamedText, HoldsBeginning, with_file, with_files, AreWritten, AreWrittenPartly}
 use Rattle.planner_main.specs.Failures.{is_failure}
-use Rattle.planner_main_output.specs.Json.{line_of_members, of_answer}
+use Rattle.planner_main.specs.Objects.{line_of_members, of_answer}
 use Rattle.planner_main.specs.Solution.{TellsAnswer, cert_file, plan_file}
-use Rattle.planner_main_output.specs.Answer.{status_of, text_of, told_of}
+use Rattle.planner_main.specs.AnswerTold.{status_of, text_of, told_of}
 use Rattle.planner_main.specs.Program.{IsTold, IsToldPartly, nothing, in_a_file, on_the_output, IsAnswer, IsAnswerTo, IsAnswerText, OnTwo, Tells, TellsPartly, TellsFor, TellsPartlyFor}
 use Rattle.devices.specs.Texts.{AreKept}
 use Rattle.planner_main.proofs.ProgramWords.{answered_status}

@@ -1,3 +1,13 @@
+pub mod Files
+pub mod Checked
+pub mod JsonText
+pub mod Members
+pub mod MembersBuilt
+pub mod JsonExamples
+pub mod Objects
+pub mod VerdictTold
+pub mod AnswerTold
+pub mod CheckTold
 pub mod Failures
 pub mod Solution
 pub mod Asked

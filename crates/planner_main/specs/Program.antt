@@ -3,20 +3,20 @@ use Rattle.std.specs.Prelude.{◌≡◌, ℕ, ◌⊎◌, Bool, List, [], ◌∷�
 use Rattle.std.specs.Io.KnownBytes.{Appends}
 use Rattle.solver.specs.declared.answer.Answer.{Answer}
 use Rattle.solver.specs.Solver.{IsTrueAnswer}
-use Rattle.planner_main.specs.declared.report.Failure.{Failure}
-use Rattle.planner_main.specs.declared.report.Failure.TheVariants as failure
-use Rattle.planner_main_answers.specs.declared.task_file.FileFault.TheVariants as refusal
+use Rattle.planner_main.specs.declared.failures.Failure.{Failure}
+use Rattle.planner_main.specs.declared.failures.Failure.TheVariants as failure
+use Rattle.planner_main.specs.declared.answers.task_file.FileFault.TheVariants as refusal
 use Rattle.devices.specs.declared.device.WriteFault as device_fault
 use Rattle.devices.specs.declared.device.WriteFault.TheVariants as device
 use Rattle.devices.specs.Devices.{AppendsBeginning, one_more}
 use Rattle.planner_main.specs.Failures.{line_of_fault, device_line, no_memory_line, nothing_done_line}
-use Rattle.planner_main_answers.specs.Files.{fault_at, told_in}
+use Rattle.planner_main.specs.Files.{fault_at, told_in}
 use Rattle.command_line.specs.Orders.{Asks, Asked, AskedOfCheck, Wanted, to_solve, to_validate, to_check}
 use Rattle.command_line.specs.View.{IsOfWords}
 use Rattle.command_line.specs.declared.fault.WordsFault.{WordsFault}
-use Rattle.planner_main_answers.specs.Checked.{IsHandedIn, IsInputFault, IsTrueCheck}
-use Rattle.planner_main_output.specs.Check.{IsLineOf}
-use Rattle.planner_main_output.specs.Verdict.{told_verdict, status_of}
+use Rattle.planner_main.specs.Checked.{IsHandedIn, IsInputFault, IsTrueCheck}
+use Rattle.planner_main.specs.CheckTold.{IsLineOf}
+use Rattle.planner_main.specs.VerdictTold.{told_verdict, status_of}
 use Rattle.devices.specs.Texts.{AreKept, IsText}
 use Rattle.devices.specs.Written.{NamedText, AreWritten, AreWrittenPartly}
 use Rattle.planner_main.specs.Solution.{TellsAnswer}

@@ -1,12 +1,12 @@
 -- What is reported, as the members of its object.
 use Rattle.std.specs.Prelude.{List, IsTrue}
-use Rattle.answer_json.specs.JsonText.{Member}
+use Rattle.planner_main.specs.JsonText.{Member}
 use Rattle.typing.specs.Task.{task_of}
 use Rattle.validator.specs.Verdict.{verdict_of}
-use Rattle.planner_main_output.specs.Json.{of_answer, of_checked, of_verdict}
-use Rattle.planner_main_output.specs.Check.{IsToldRefusal}
-use Rattle.planner_main.specs.declared.json.Report.{Report}
-use Rattle.planner_main.specs.declared.json.Report.TheVariants as report
+use Rattle.planner_main.specs.Objects.{of_answer, of_checked, of_verdict}
+use Rattle.planner_main.specs.CheckTold.{IsToldRefusal}
+use Rattle.planner_main.specs.declared.telling.reports.Report.{Report}
+use Rattle.planner_main.specs.declared.telling.reports.Report.TheVariants as report
 use Rattle.model.specs.PlanWriting.{has_names}
 
 -- the members of what is reported

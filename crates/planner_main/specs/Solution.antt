@@ -6,7 +6,7 @@ use Rattle.solver.specs.declared.answer.Answer.TheVariants.{Plan, Unsolvable, Un
 use Rattle.certificate.specs.Listing.{certificate_in}
 use Rattle.certificate_definitions.specs.CertificateNames.{certificate_text}
 use Rattle.devices.specs.Written.{NamedText}
-use Rattle.planner_main_output.specs.Answer.{status_of, told_of}
+use Rattle.planner_main.specs.AnswerTold.{status_of, told_of}
 use Rattle.model.specs.Task.{Task}
 use Rattle.model.specs.PlanWriting.{plan_text}
 

@@ -2,17 +2,20 @@
 //! files.
 #![tactic(auto)]
 
-pub mod files;
-mod json;
+mod answers;
+mod failures;
 mod program;
-mod report;
+mod telling;
 
-pub use command_line::{Limit, Order, WordsFault, read_words};
-pub use files::Files;
-pub use json::{Report, json_line};
-pub use planner_main_answers::{
+pub use answers::{
     Checked, File, FileFault, Solved, check_files, one_task, solve_files,
     solved_certificates_are_accepted, validate_files,
 };
+pub use cert_checker::{Accepted, Refusal, RefusalCode};
+pub use command_line::{MaxCount, Order, WordsFault, read_words};
+pub use devices::{Files, SystemFiles, Table};
+pub use failures::tell_no_memory;
 pub use program::run;
-pub use report::tell_no_memory;
+pub use solver::{Answer, Exceeded, Limits};
+pub use telling::{Report, json_examples_are_written, json_line};
+pub use validator::Verdict;

@@ -8,19 +8,19 @@ ghost use Rattle.planner_main.specs.Program.{Tells, TellsFor, TellsPartly, Tells
 ghost use Rattle.devices.specs.Texts.{AreKept};
 ghost use Rattle.devices.specs.Devices.{IsWritten};
 
-mod checking;
+mod acceptance;
 mod inputs;
 mod solution;
-mod verdict;
+mod validation;
 
-use crate::report::{Failure, tell, tell_words};
-use checking::{Names, tell_check};
-use command_line::{Limit, Order, read_words};
+use crate::failures::{Failure, tell, tell_words};
+use acceptance::{Names, tell_check};
+use command_line::{MaxCount, Order, read_words};
 use devices::{Files, Sink};
 use solution::{Wanted, tell_solution};
 use solver::Limits;
 use std::alloc::Global;
-use verdict::tell_verdict;
+use validation::tell_verdict;
 
 /// The whole program: what the words ask for, with its answer on the standard output and its faults on the standard
 /// error, and the status that it ends with. What the words ask for is `read_words`' matter.
@@ -155,7 +155,7 @@ fn carry_out<F: Files, O: Sink>(
 }
 
 /// These limits of a search.
-fn limits_of(states: Limit, instances: Limit) -> Limits
+fn limits_of(states: MaxCount, instances: MaxCount) -> Limits
     ensures states { result.states ≡ states.number }
     ensures instances { result.instances ≡ instances.number }
 {

@@ -5,7 +5,7 @@ use Rattle.formulas.specs.State.{plan_of}
 use Rattle.certificate.specs.Listing.{certificate_in}
 use Rattle.solver.specs.declared.answer.Answer.{Answer}
 use Rattle.solver.specs.declared.answer.Answer.TheVariants.{Plan, Unsolvable, Unknown}
-use Rattle.solver.specs.declared.answer.Limit.TheVariants.{Instances, Atoms, States}
+use Rattle.solver.specs.declared.answer.Exceeded.TheVariants.{Instances, Atoms, States}
 use Rattle.solver.specs.Improved.{HasSettledOrHigh}
 use Rattle.solver.specs.Listing.{IsShownBy, AreOpenWithin}
 use Rattle.solver.specs.Reachable.{AreMoreReachable}

@@ -40,12 +40,12 @@ pub enum Answer {
         cert: Listing,
     },
     /// A limit is exceeded, and nothing is said of plans.
-    Unknown(Limit),
+    Unknown(Exceeded),
 }
 
 /// A limit that a task exceeds.
 #[derive(Clone, Copy, Debug, PartialEq, Eq)]
-pub enum Limit {
+pub enum Exceeded {
     /// That of the kept instances. Those that the start closes off are not counted.
     Instances,
     /// That of the atoms that have numbers, 1,048,576.
@@ -69,16 +69,16 @@ pub enum Limit {
 /// has them too. Where they are not settled, they give the initial state a value of at least 8. Beside a plan, each state
 /// that the certificate lists as open costs, with its value, no more than the plan.
 ///
-/// A certificate then lists at most 100,000 states. Two limits are told before any potentials are looked for: `Unknown(Limit::Instances)`
+/// A certificate then lists at most 100,000 states. Two limits are told before any potentials are looked for: `Unknown(Exceeded::Instances)`
 /// exactly where the task has more than 10,000 kept instances, which are those that its start does not close off, and
-/// `Unknown(Limit::Atoms)` exactly where it has no more, and more than 1,048,576 atoms would have numbers.
+/// `Unknown(Exceeded::Atoms)` exactly where it has no more, and more than 1,048,576 atoms would have numbers.
 pub fn solve(alloc: Global, task: &Task, limits: Limits) -> Result<Answer, NoMemory>
     ensures { IfOk result (IsTrueAnswer (task_of task.now) limits.states limits.instances) }
 {
     match Ground::new(alloc, task, &[], limits.instances()) {
         Ok(ground) => solve_ground(alloc, &ground, limits),
-        Err(Refused::At(GroundLimit::Instances)) => Ok(Answer::Unknown(Limit::Instances)),
-        Err(Refused::At(GroundLimit::Atoms)) => Ok(Answer::Unknown(Limit::Atoms)),
+        Err(Refused::At(GroundLimit::Instances)) => Ok(Answer::Unknown(Exceeded::Instances)),
+        Err(Refused::At(GroundLimit::Atoms)) => Ok(Answer::Unknown(Exceeded::Atoms)),
         Err(Refused::NoMemory) => Err(NoMemory),
     }
 }
@@ -123,6 +123,6 @@ fn solve_by(
             let cert = cert_of(alloc, estimate, Claim::Unsolvable, states)?;
             Ok(Answer::Unsolvable { cert })
         }
-        Outcome::States => Ok(Answer::Unknown(Limit::States)),
+        Outcome::States => Ok(Answer::Unknown(Exceeded::States)),
     }
 }

@@ -8,6 +8,6 @@ mod listing;
 mod steps;
 mod system;
 
-pub use answer::{Answer, Limit, solve};
+pub use answer::{Answer, Exceeded, solve};
 pub use limits::{Limits, MAX_LIMIT};
 pub use system::GroundSystem;

@@ -3,9 +3,9 @@ ghost use Rattle.std.specs.Prelude.{◌≡◌, ℕ, IfErr, IfOk, IfSome, IsErr, 
 ghost use Rattle.planner_main.specs.Asked.{asked_of};
 ghost use Rattle.planner_main.specs.Program.{CountsEither, CountsFailure, HasNotFailed, IsAnswerText, IsOneOf, IsTold, IsToldPartly, IsUnread, OnTwo, fault_in};
 ghost use Rattle.devices.specs.Texts.{AreKept};
-ghost use Rattle.planner_main_answers.specs.Files.{text_in};
+ghost use Rattle.planner_main.specs.Files.{text_in};
 ghost use Rattle.planner_main.specs.Solution.{TellsAnswer, cert_file, plan_file};
-ghost use Rattle.planner_main_output.specs.Answer.{text_of};
+ghost use Rattle.planner_main.specs.AnswerTold.{text_of};
 ghost use Rattle.devices.specs.Written.{AreWritten, AreWrittenPartly, NamedText};
 ghost use Rattle.devices.specs.Devices.{CountsDevice};
 ghost use Rattle.typing.specs.Task.{task_of};
@@ -16,11 +16,11 @@ ghost use Rattle.model.specs.Files.{IsTaskFault, IsTaskOf};
 ghost use Rattle.model.specs.PlanWriting.{has_names};
 
 use crate::program::inputs::read_pair;
-use crate::report::Failure;
+use crate::failures::Failure;
 use certificate::{Listing, write_listing};
 use devices::{Bytes, Document, Files, Sink, WriteFault, write_all, write_file};
-use planner_main_answers::{Solved, solve_files};
-use planner_main_output::{answer_text, json_text, told};
+use crate::answers::{Solved, solve_files};
+use crate::telling::{answer_text, json_text, told};
 use solver::{Answer, Limits};
 use std::alloc::Global;
 use typing::Task;

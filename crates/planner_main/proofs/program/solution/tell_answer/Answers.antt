@@ -1,8 +1,8 @@
 use Rattle.std.proofs.Common.{refl, ◌∙◌}
 use Rattle.std.proofs.lemmas.Result.{err_from_is_err_and}
 use Rattle.typing.specs.Task.{task_of}
-use Rattle.planner_main_answers.specs.Files.{text_in}
-use Rattle.planner_main_output.specs.Answer.{string_in}
+use Rattle.planner_main.specs.Files.{text_in}
+use Rattle.planner_main.specs.AnswerTold.{string_in}
 use Rattle.planner_main.proofs.ProgramTold.{partly_in_cert, partly_in_plan, partly_on_output, told_is, told_on_output}
 use Rattle.planner_main.proofs.program.solution.tell_answer.Goals as goal
 

@@ -1,4 +1,0 @@
-pub mod JsonText
-pub mod Members
-pub mod Built
-pub mod Examples

@@ -1,0 +1,18 @@
+use Rattle.std.proofs.Common.{◌≡◌, None, sym, subst}
+use Rattle.cert_checker.proofs.WrittenLemmas.{closed_is_accepted, closed_reads_back}
+use Rattle.model.specs.Limits.{max_numbered_atoms}
+use Rattle.model.specs.Grounding.{limit_told}
+use Rattle.certificate_definitions.specs.CertificateRefusals.{IsPlanWithin}
+use Rattle.model.proofs.LimitsLemmas.{limits_alike}
+use Rattle.model.proofs.TaskNames.{task_has_atom_names}
+use Rattle.typing.proofs.TypedTasks.{task_is_typed}
+use Rattle.planner_main.proofs.answers.laws.solved_certificates_are_accepted.Goals as goal
+
+pub returns : goal.returns
+returns c = λ domain problem task claim k most_states most plan read shown told within.
+    let well = task_is_typed domain problem task read in
+    let has_names = task_has_atom_names domain problem task read in (
+      closed_reads_back task k well has_names shown.within_limits shown.closed,
+      closed_is_accepted task k plan well has_names shown.within_limits shown.closed (subst (λ claim. IsPlanWithin task claim plan) (sym shown.claims) within),
+      subst (λ atoms. limit_told most max_numbered_atoms task atoms ≡ None) (sym shown.atoms) (limits_alike most max_numbered_atoms task told),
+    )

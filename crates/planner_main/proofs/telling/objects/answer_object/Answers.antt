@@ -1,0 +1,22 @@
+use Rattle.std.proofs.Common.{◌≡◌, [], ◌∷◌, refl}
+use Rattle.planner_main.specs.Members.{members_of}
+use Rattle.typing.specs.Task.{task_of}
+use Rattle.planner_main.specs.Objects.{of_answer}
+use Rattle.planner_main.proofs.JsonTold.{told_as_meant}
+use Rattle.planner_main.proofs.telling.objects.answer_object.Goals as goal
+
+pub object_text-requires : goal.object_text-requires
+object_text-requires c = rw (c.text.ensures, c.text-in-Unsolvable.ensures) refl
+
+pub returns-in-Unsolvable : goal.returns-in-Unsolvable
+returns-in-Unsolvable c =
+    let same : members_of (c.text.result ∷ c.text-in-Unsolvable.result ∷ []) ≡ of_answer (task_of c.args.task.now) c.args.answer.now = rw (c.text.ensures, c.text-in-Unsolvable.ensures, c.in-Unsolvable.is) refl in
+    told_as_meant c.object_text.result (members_of (c.text.result ∷ c.text-in-Unsolvable.result ∷ [])) (of_answer (task_of c.args.task.now) c.args.answer.now) same c.object_text.ensures.text
+
+pub object_text-requires-in-Unknown : goal.object_text-requires-in-Unknown
+object_text-requires-in-Unknown c = rw (c.text-in-Unknown.ensures, c.text-in-Unknown-2.ensures, c.text-in-Unknown-3.ensures) refl
+
+pub returns-in-Unknown : goal.returns-in-Unknown
+returns-in-Unknown c =
+    let same : members_of (c.text-in-Unknown.result ∷ c.text-in-Unknown-2.result ∷ c.text-in-Unknown-3.result ∷ []) ≡ of_answer (task_of c.args.task.now) c.args.answer.now = rw (c.text-in-Unknown.ensures, c.text-in-Unknown-2.ensures, c.text-in-Unknown-3.ensures, c.limit_name.ensures, c.in-Unknown.is) refl in
+    told_as_meant c.object_text-in-Unknown.result (members_of (c.text-in-Unknown.result ∷ c.text-in-Unknown-2.result ∷ c.text-in-Unknown-3.result ∷ [])) (of_answer (task_of c.args.task.now) c.args.answer.now) same c.object_text-in-Unknown.ensures.text

@@ -1,0 +1,12 @@
+//! From the bytes of files to answers: the planner, the validator and the checker.
+mod checking;
+mod laws;
+mod solving;
+mod task_file;
+mod validating;
+
+pub use checking::{Checked, check_files};
+pub use laws::solved_certificates_are_accepted;
+pub use solving::{Solved, solve_files};
+pub use task_file::{File, FileFault, one_task};
+pub use validating::validate_files;

@@ -1,0 +1,160 @@
+//! What the program says where it has no answer: the lines of the standard error, and the statuses beside them.
+ghost use Rattle.std.specs.Prelude.{◌≡◌, ◌⊎◌, ◌++◌, ℕ, IfOk, IsTrue, List};
+ghost use Rattle.std.specs.String.{string_bytes};
+ghost use Rattle.command_line.specs.View.{IsOfWords};
+ghost use Rattle.planner_main.specs.Failures.{is_failure, line_of_fault, no_memory_line, nothing_done_line};
+ghost use Rattle.planner_main.specs.Files.{fault_at};
+ghost use Rattle.planner_main.specs.Program.{IsToldOfWords, IsToldOn};
+ghost use Rattle.devices.specs.Devices.{IsWritten};
+
+use command_line::WordsFault;
+use devices::{Sink, WriteFault, write_all};
+use faults::{Code, Span};
+use crate::answers::{File, FileFault};
+use std::alloc::{AllocError, Global};
+
+/// The words are no command.
+const WRONG_WORDS: u8 = 2;
+
+/// A file's text is refused.
+const REFUSED: u8 = 20;
+
+/// A file or the standard output could not be opened, read or written.
+const DEVICE: u8 = 21;
+
+/// Memory was refused.
+const NO_MEMORY: u8 = 22;
+
+/// The last line where the words are no command.
+const NOTHING_DONE: &str = "optplan: nothing was done\n";
+
+/// Why the program has no answer.
+#[derive(Clone, Copy)]
+pub(crate) enum Failure {
+    /// A file's text is refused, or memory was.
+    Text(FileFault),
+    /// A device failed, or memory was refused.
+    Device(WriteFault),
+}
+
+impl From<FileFault> for Failure {
+    ghost use Rattle.std.specs.Prelude.{◌≡◌};
+    ghost use Rattle.planner_main.specs.declared.failures.Failure.TheVariants.{Text};
+
+    ghost from_gives = { λ fault failure. failure ≡ Text fault };
+
+    fn from(fault: FileFault) -> Failure {
+        Failure::Text(fault)
+    }
+}
+
+impl From<WriteFault> for Failure {
+    ghost use Rattle.std.specs.Prelude.{◌≡◌};
+    ghost use Rattle.planner_main.specs.declared.failures.Failure.TheVariants.{Device};
+
+    ghost from_gives = { λ fault failure. failure ≡ Device fault };
+
+    fn from(fault: WriteFault) -> Failure {
+        Failure::Device(fault)
+    }
+}
+
+impl From<AllocError> for Failure {
+    ghost use Rattle.std.specs.Prelude.{◌≡◌};
+    ghost use Rattle.devices.specs.declared.device.WriteFault.TheVariants.{NoMemory};
+    ghost use Rattle.planner_main.specs.declared.failures.Failure.TheVariants.{Device};
+
+    ghost from_gives = { λ _ failure. failure ≡ Device NoMemory };
+
+    fn from(_error: AllocError) -> Failure {
+        Failure::Device(WriteFault::NoMemory)
+    }
+}
+
+/// Tells a failure on standard error, and answers its status. That the telling fails changes no status.
+pub(crate) fn tell<E: Sink>(alloc: Global, failure: Failure, err: &mut E) -> u8
+    ensures failure { IsTrue (is_failure result) }
+    // Where memory for the line is refused, that is told.
+    ensures told { IsToldOn failure (IsWritten E.wants_memory (E.failures err.old) (E.failures err.new) (E.taken err.old) (E.taken err.new)) result }
+{
+    match failure {
+        Failure::Text(FileFault::At { file, code, span }) => {
+            tell_fault(alloc, file, code, span, err)
+        }
+        Failure::Device(WriteFault::Device) => {
+            say(err, b"fault 61 Device\n");
+            DEVICE
+        }
+        Failure::Text(FileFault::NoMemory) | Failure::Device(WriteFault::NoMemory) => {
+            tell_no_memory(err)
+        }
+    }
+}
+
+/// Tells the fault of a file's text.
+fn tell_fault<E: Sink>(alloc: Global, file: File, code: Code, span: Span, err: &mut E) -> u8
+    ensures { ((result ≡ REFUSED) × IsWritten E.wants_memory (E.failures err.old) (E.failures err.new) (E.taken err.old) (E.taken err.new) (line_of_fault (fault_at file code span)))
+        ⊎ ((result ≡ NO_MEMORY) × IsWritten E.wants_memory (E.failures err.old) (E.failures err.new) (E.taken err.old) (E.taken err.new) no_memory_line) }
+{
+    match fault_line(alloc, file, code, span) {
+        Ok(line) => {
+            say(err, line.as_bytes());
+            REFUSED
+        }
+        Err(AllocError) => tell_no_memory(err),
+    }
+}
+
+/// The line of a fault.
+fn fault_line(alloc: Global, file: File, code: Code, span: Span) -> Result<String, AllocError>
+    ensures { IfOk result (λ line. string_bytes line ≡ line_of_fault (fault_at file code span)) }
+{
+    let number = code.number();
+    let name = code.name();
+    let (start, end) = (span.start, span.end);
+    format!(in alloc; "fault {number} {name} in {file} at {start}..{end}\n")
+}
+
+/// Tells that memory was refused, for which no memory is taken: the status.
+pub fn tell_no_memory<E: Sink>(err: &mut E) -> u8
+    ensures status { result ≡ NO_MEMORY }
+    ensures line { IsWritten E.wants_memory (E.failures err.old) (E.failures err.new) (E.taken err.old) (E.taken err.new) no_memory_line }
+{
+    say(err, b"fault 60 NoMemory\n");
+    NO_MEMORY
+}
+
+/// Writes these bytes, as far as the stream takes them.
+fn say<E: Sink>(err: &mut E, bytes: &[u8])
+    ensures { IsWritten E.wants_memory (E.failures err.old) (E.failures err.new) (E.taken err.old) (E.taken err.new) bytes.now }
+{
+    let _ = write_all(err, bytes);
+}
+
+/// Tells what is wrong with the words, or the help that they ask for, and that nothing was done: the status.
+pub(crate) fn tell_words<E: Sink>(alloc: Global, fault: WordsFault, err: &mut E) -> u8
+    ensures { IsToldOfWords fault (IsWritten E.wants_memory (E.failures err.old) (E.failures err.new) (E.taken err.old) (E.taken err.new)) result }
+{
+    match words_text(alloc, &fault) {
+        Ok(text) => {
+            say(err, text.as_bytes());
+            WRONG_WORDS
+        }
+        Err(AllocError) => tell_no_memory(err),
+    }
+}
+
+/// What a fault of the words says, and the last line.
+fn words_text(alloc: Global, fault: &WordsFault) -> Result<String, AllocError>
+    ensures words { IfOk result (λ _. IsOfWords fault.now) }
+    ensures text { IfOk result (λ told. (text : List ℕ) × (string_bytes told ≡ text ++ nothing_done_line)) }
+{
+    match fault {
+        WordsFault::Words(_) => {
+            let mut text = format!(in alloc; "{fault}")?;
+            text.push_str(NOTHING_DONE)?;
+            Ok(text)
+        }
+        WordsFault::NoMemory => Err(AllocError),
+    }
+}

@@ -1,2 +1,0 @@
-pub mod FilesRead
-pub mod CheckedLemmas

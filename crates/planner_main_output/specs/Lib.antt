@@ -1,4 +1,0 @@
-pub mod Json
-pub mod Verdict
-pub mod Answer
-pub mod Check

@@ -1,0 +1,174 @@
+//! Files of the tests' own: a table's that come in pieces and fail, and some that never end.
+ghost use Rattle.std.specs.Prelude.{◌≡◌};
+ghost use Rattle.devices.specs.Devices.{one_more};
+
+use devices::{Endless, FailsAt, InPieces, Memory, WriteFault};
+use planner_main::{Files, Table};
+use std::alloc::{AllocError, Global};
+
+/// How many bytes of a file come at a read.
+pub(crate) const READ_PIECE: usize = 64;
+
+/// How many bytes of a file are taken at a write.
+pub(crate) const WRITE_PIECE: usize = 7;
+
+/// What fails of a file that is written.
+#[derive(Clone, Copy)]
+pub(crate) enum Failing {
+    /// Nothing.
+    Never,
+    /// That it is made.
+    Creating,
+    /// The write after so many.
+    Write(u64),
+    /// That it is closed.
+    Closing,
+}
+
+impl Failing {
+    /// How many writes succeed before the one that fails, and `None` where none fails.
+    fn writes_before(self) -> Option<u64> {
+        match self {
+            Failing::Write(writes) => Some(writes),
+            _ => None,
+        }
+    }
+}
+
+/// The files of a table, in pieces, whose writing fails. A file that is closed holds what it took, failed or not.
+#[derive(Drop)]
+pub(crate) struct FailingFiles {
+    pub(crate) table: Table,
+    failing: Failing,
+    failures: u64,
+}
+
+impl FailingFiles {
+    /// The files of the table; no call has failed yet.
+    pub(crate) fn new(table: Table, failing: Failing) -> FailingFiles {
+        FailingFiles {
+            table,
+            failing,
+            failures: 0,
+        }
+    }
+
+    fn fails_at_closing(&self) -> bool {
+        matches!(self.failing, Failing::Closing)
+    }
+
+    fn count_failure(&mut self)
+        ensures table { self.new.table ≡ self.old.table }
+        ensures failures { self.new.failures ≡ one_more self.old.failures }
+    {
+        self.failures = self.failures.saturating_add(1);
+    }
+}
+
+impl Files for FailingFiles {
+    type Input = InPieces<FailsAt<Memory>>;
+
+    type Output = FailsAt<InPieces<<Table as Files>::Output>>;
+
+    ghost failures = { λ files. files.failures };
+
+    ghost contents = { λ files name. ⟦<Table as Files>⟧.contents files.table name };
+
+    ghost is_missing = { λ files name. ⟦<Table as Files>⟧.is_missing files.table name };
+
+    ghost is_known = { ⟦<Table as Files>⟧.is_known };
+
+    fn open(&mut self, name: &str) -> Result<InPieces<FailsAt<Memory>>, WriteFault> {
+        match self.table.open(name) {
+            Ok(input) => Ok(InPieces::new(input, READ_PIECE)),
+            Err(WriteFault::Device) => {
+                self.count_failure();
+                Err(WriteFault::Device)
+            }
+            Err(WriteFault::NoMemory) => Err(WriteFault::NoMemory),
+        }
+    }
+
+    fn finish(&mut self, input: InPieces<FailsAt<Memory>>) {
+        let failed = input.inner.failed_reads().min(1);
+        self.failures = self.failures.saturating_add(failed);
+    }
+
+    fn create(
+        &mut self,
+        name: &str,
+    ) -> Result<FailsAt<InPieces<<Table as Files>::Output>>, WriteFault> {
+        if let Failing::Creating = self.failing {
+            self.count_failure();
+            return Err(WriteFault::Device);
+        }
+        match self.table.create(name) {
+            Ok(draft) => Ok(FailsAt::sink(
+                InPieces::new(draft, WRITE_PIECE),
+                self.failing.writes_before(),
+            )),
+            // Memory is the one thing that a table can want here.
+            Err(_) => Err(WriteFault::NoMemory),
+        }
+    }
+
+    fn close(
+        &mut self,
+        output: FailsAt<InPieces<<Table as Files>::Output>>,
+    ) -> Result<(), WriteFault> {
+        let has_failed = output.failed_writes() > 0;
+        let closed = self.table.close(output.inner.inner);
+        if has_failed || self.fails_at_closing() {
+            self.count_failure();
+            return Err(WriteFault::Device);
+        }
+        match closed {
+            Ok(()) => Ok(()),
+            // Memory is the one thing that a table can want here.
+            Err(_) => Err(WriteFault::NoMemory),
+        }
+    }
+}
+
+/// Files of which each is blanks without an end. What is written is forgotten.
+#[derive(Drop)]
+pub(crate) struct EndlessFiles {
+    alloc: Global,
+}
+
+/// How many blanks come at a read.
+const BLANKS: usize = 65_536;
+
+impl EndlessFiles {
+    /// Every name is a file.
+    pub(crate) fn new(alloc: Global) -> EndlessFiles {
+        EndlessFiles { alloc }
+    }
+
+    fn blanks(&self) -> Result<Endless, AllocError> {
+        let blanks = vec![in self.alloc; b' '; BLANKS]?;
+        Ok(Endless::new(Vec::new(self.alloc), blanks))
+    }
+}
+
+impl Files for EndlessFiles {
+    type Input = Endless;
+
+    type Output = Memory;
+
+    ghost failures = { λ files. 0 };
+
+    fn open(&mut self, _name: &str) -> Result<Endless, WriteFault> {
+        Ok(self.blanks()?)
+    }
+
+    fn finish(&mut self, _input: Endless) {}
+
+    fn create(&mut self, _name: &str) -> Result<Memory, WriteFault> {
+        Ok(Memory::empty(self.alloc))
+    }
+
+    fn close(&mut self, _output: Memory) -> Result<(), WriteFault> {
+        Ok(())
+    }
+}

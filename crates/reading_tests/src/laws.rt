@@ -1,0 +1,39 @@
+//! The laws of reading and of meaning that are stated of all values, and proved, each called once; and the numbers that the
+//! contracts name.
+use formulas::{MAX_STEPS, formula_examples_are_judged, one_state, sure_literals_hold};
+use tokens::LONGEST_TEXT;
+use typing::{
+    MAX_ARGUMENTS, MAX_OBJECTS, MAX_VARIABLES, examples_are_typed, supertypes_are_those_above,
+};
+use validator::{exactly_one_verdict_is_true, worked_examples_are_true};
+
+#[test]
+fn laws_of_reading_are_called() {
+    tokens::one_reading();
+    tokens::one_fault();
+    pddl_tree::one_reading();
+    pddl_tree::one_fault();
+    pddl_tree::examples_are_as_told();
+    examples_are_typed();
+    supertypes_are_those_above();
+    plan_file::one_plan();
+    plan_file::one_fault();
+    plan_file::examples_are_as_told();
+    plan_file::written_text_reads_back();
+    plan_file::examples_are_written();
+}
+
+#[test]
+fn laws_of_meaning_are_called() {
+    one_state();
+    sure_literals_hold();
+    formula_examples_are_judged();
+    exactly_one_verdict_is_true();
+    worked_examples_are_true();
+}
+
+const _: () = prove!(
+    LONGEST_TEXT == 16_777_216 && MAX_STEPS == 16_777_216 && MAX_OBJECTS == 65_535
+);
+
+const _: () = prove!(MAX_ARGUMENTS == 8 && MAX_VARIABLES == 16);

@@ -1,0 +1,279 @@
+//! Plans that are written to devices, and read back.
+ghost use Rattle.std.specs.Prelude.{◌<◌};
+
+use devices::{FailsAt, Files, InPieces, Memory, Source, SystemFiles, WriteFault};
+use formulas::Plan;
+use plan_file::{read_plan, step_text, write_plan};
+use std::alloc::Global;
+use std::process::Abort;
+use std::test::Fail;
+use std::{env, fs, process};
+use test_texts::{HOP, Term, instance, is_of, on_task};
+use typing::Task;
+
+/// Two hops, as they are written.
+const TWO_HOPS: &[u8] = b"(hop a b)\n(hop b c)\n; cost = 6\n";
+
+/// The empty plan, as it is written.
+const NO_HOP: &[u8] = b"; cost = 0\n";
+
+/// The steps of plans, a cost, and what is written. That the steps can be done, and at this cost, is not asked for.
+#[rattlefmt::skip]
+static PLANS: [(&[Term], u64, &[u8]); 4] = [
+    (&[(0, &[0, 1]), (0, &[1, 2])], 6, TWO_HOPS),
+    (&[], 0, NO_HOP),
+    (&[(1, &[2, 2])], 2_147_483_648, b"(leap c c)\n; cost = 2147483648\n"),
+    (&[(1, &[0, 2]), (0, &[1, 0]), (1, &[0, 2])], u64::MAX,
+        b"(leap a c)\n(hop b a)\n(leap a c)\n; cost = 18446744073709551615\n"),
+];
+
+/// The plan of these steps.
+fn plan(alloc: Global, steps: &[Term]) -> Result<Plan, Fail> {
+    let mut instances = Vec::new(alloc);
+    for step in steps {
+        instances.push(instance(step.0, step.1))?;
+    }
+    Ok(Plan::new(instances).ok_or("too many steps")?)
+}
+
+/// Whether the plan has these steps.
+fn has_steps(plan: &Plan, steps: &[Term]) -> bool {
+    let mut wanted = steps.iter();
+    for step in plan.steps() {
+        match wanted.next() {
+            Some(term) if is_of(step, term) => {}
+            _ => return false,
+        }
+    }
+    wanted.next().is_none()
+}
+
+/// The text of the plan.
+fn text_of(alloc: Global, task: &Task, plan: &Plan, cost: u64) -> Result<Vec<u8>, WriteFault> {
+    let mut sink = Memory::empty(alloc);
+    write_plan(alloc, task, plan, cost, &mut sink)?;
+    Ok(sink.into_vec())
+}
+
+/// Whether the text reads as a plan of these steps.
+fn reads_as(alloc: Global, task: &Task, text: &[u8], steps: &[Term]) -> Result<bool, Fail> {
+    let plan = read_plan(alloc, task, text)?;
+    Ok(has_steps(&plan, steps))
+}
+
+/// The text of the plan of these steps, where it reads as the same steps.
+fn text_read_back(
+    alloc: Global,
+    task: &Task,
+    steps: &[Term],
+    cost: u64,
+) -> Result<Option<Vec<u8>>, Fail> {
+    let text = text_of(alloc, task, &plan(alloc, steps)?, cost)?;
+    let is_same = reads_as(alloc, task, &text, steps)?;
+    Ok(is_same.then_some(text))
+}
+
+/// Each plan has its text, which reads as the same steps.
+fn has_texts(rt: &impl Abort, alloc: Global, task: &Task) -> Result<(), Fail> {
+    for (steps, cost, wanted) in &PLANS {
+        let text = text_read_back(alloc, task, *steps, *cost)?;
+        assert_eq!(rt; text.as_deref(), Some(*wanted));
+    }
+    Ok(())
+}
+
+#[test]
+fn written_plans_are_read_back(rt: HostRuntime) -> Result<(), Fail> {
+    on_task(&rt, rt.alloc(), &HOP, has_texts)
+}
+
+/// Names in letters of either case, and an action without a parameter.
+const NAMES: [&str; 2] = [
+    "(define (domain n) (:constants Here_1) (:predicates (p))
+ (:action Stay :parameters () :effect (p)) (:action GO-to :parameters (?x ?y) :effect (p)))",
+    "(define (problem n) (:domain N) (:objects THERE-2) (:init) (:goal (p)))",
+];
+
+/// Steps, and how they are written.
+static STEPS: [(Term, &str); 3] = [
+    ((0, &[]), "(stay)"),
+    ((1, &[0, 1]), "(go-to here_1 there-2)"),
+    ((1, &[1, 1]), "(go-to there-2 there-2)"),
+];
+
+fn has_step_texts(rt: &impl Abort, alloc: Global, task: &Task) -> Result<(), Fail> {
+    for ((schema, objects), wanted) in &STEPS {
+        let text = step_text(alloc, task, &instance(*schema, *objects))?;
+        assert_eq!(rt; text.as_str(), *wanted);
+    }
+    Ok(())
+}
+
+#[test]
+fn steps_are_written_in_lower_case(rt: HostRuntime) -> Result<(), Fail> {
+    on_task(&rt, rt.alloc(), &NAMES, has_step_texts)
+}
+
+/// Whether the two hops are written, and what is taken of them, where the write after so many fails.
+type Taken = (Result<(), WriteFault>, Vec<u8>);
+
+/// The same where the sink takes so many bytes at a write.
+fn taken(alloc: Global, task: &Task, hops: &Plan, length: usize, writes: u64) -> Taken
+    requires { 0 < length }
+{
+    let pieces = InPieces::new(Memory::empty(alloc), length);
+    let mut sink = FailsAt::sink(pieces, Some(writes));
+    let written = write_plan(alloc, task, hops, 6, &mut sink);
+    (written, sink.inner.inner.into_vec())
+}
+
+/// What is told where these bytes of the two hops are taken, and no more: that a write failed, unless they are all.
+fn told_of(taken: &[u8]) -> Result<(), WriteFault> {
+    if taken == TWO_HOPS {
+        Ok(())
+    } else {
+        Err(WriteFault::Device)
+    }
+}
+
+/// A sink that takes byte by byte fails at each of the text's bytes.
+fn fails_at_each_byte(rt: &impl Abort, alloc: Global, task: &Task, hops: &Plan) {
+    for count in 0..=TWO_HOPS.len() {
+        let wanted = &TWO_HOPS[..count];
+        let (written, text) = taken(alloc, task, hops, 1, count as u64);
+        assert_eq!(rt; (written, text.as_slice()), (told_of(wanted), wanted));
+    }
+}
+
+/// What is taken of the text in pieces of seven bytes, where the first write fails, or the second, and so on: each
+/// line is written by itself. The last write of all does not fail.
+#[rattlefmt::skip]
+static BEGINNINGS: [&[u8]; 7] = [
+    b"", b"(hop a ",
+    b"(hop a b)\n", b"(hop a b)\n(hop b ",
+    b"(hop a b)\n(hop b c)\n", b"(hop a b)\n(hop b c)\n; cost ",
+    TWO_HOPS,
+];
+
+/// A sink that takes seven bytes at a write fails at each write.
+fn fails_at_each_piece(rt: &impl Abort, alloc: Global, task: &Task, hops: &Plan) {
+    for (writes, wanted) in BEGINNINGS.iter().enumerate() {
+        let (written, text) = taken(alloc, task, hops, 7, writes as u64);
+        assert_eq!(rt; (written, text.as_slice()), (told_of(*wanted), *wanted));
+    }
+}
+
+#[test]
+fn plans_are_begun_where_a_write_fails(rt: HostRuntime) -> Result<(), Fail> {
+    on_task(&rt, rt.alloc(), &HOP, |rt, alloc, task| {
+        let hops = plan(alloc, PLANS[0].0)?;
+        fails_at_each_byte(rt, alloc, task, &hops);
+        fails_at_each_piece(rt, alloc, task, &hops);
+        Ok(())
+    })
+}
+
+/// Writes the plan of these steps to a file.
+fn save<F: Files>(
+    alloc: Global,
+    task: &Task,
+    files: &mut F,
+    name: &str,
+    plan: &Plan,
+    cost: u64,
+) -> Result<(), WriteFault> {
+    let mut output = files.create(name)?;
+    let written = write_plan(alloc, task, plan, cost, &mut output);
+    files.close(output)?;
+    written
+}
+
+/// Whether a read of the file gives these bytes, and all of them.
+fn holds<F: Files>(files: &mut F, name: &str, wanted: &[u8]) -> Result<bool, WriteFault> {
+    let mut input = files.open(name)?;
+    let mut room = [0u8; 64];
+    let count = input.read(&mut room)?;
+    files.finish(input);
+    Ok(&room[..count] == wanted)
+}
+
+/// Two hops are written to a file, and then the empty plan in their place.
+fn replaces<F: Files>(alloc: Global, task: &Task, files: &mut F, name: &str) -> Result<bool, Fail> {
+    let (hops, nothing) = (plan(alloc, PLANS[0].0)?, plan(alloc, &[])?);
+    Ok(replaces_by(alloc, task, files, name, &hops, &nothing)?)
+}
+
+/// The same with these two plans.
+fn replaces_by<F: Files>(
+    alloc: Global,
+    task: &Task,
+    files: &mut F,
+    name: &str,
+    hops: &Plan,
+    nothing: &Plan,
+) -> Result<bool, WriteFault> {
+    save(alloc, task, files, name, hops, 6)?;
+    let is_first = holds(files, name, TWO_HOPS)?;
+    save(alloc, task, files, name, nothing, 0)?;
+    Ok(is_first && holds(files, name, NO_HOP)?)
+}
+
+/// A name in the temporary folder that is no other process's.
+fn temporary_name(rt: &HostRuntime, alloc: Global, name: &str) -> Result<String, Fail> {
+    let folder = env::temp_dir(rt)?;
+    let id = process::id(rt.process());
+    Ok(format!(in alloc; "{}/optplan-{name}-{id}", folder.as_str())?)
+}
+
+#[test]
+fn the_machine_replaces_plan_files(rt: HostRuntime) -> Result<(), Fail> {
+    let name = temporary_name(&rt, rt.alloc(), "plan")?;
+    on_task(&rt, rt.alloc(), &HOP, |rt, alloc, task| {
+        let mut files = SystemFiles::new(rt);
+        assert!(rt; replaces(alloc, task, &mut files, name.as_str())?);
+        Ok(())
+    })?;
+    fs::remove_file(&rt, name.as_str())?;
+    Ok(())
+}
+
+/// Whether the machine fails where two hops are written to a file of this name.
+fn fails_to_save(rt: &HostRuntime, alloc: Global, task: &Task, name: &str) -> Result<bool, Fail> {
+    let hops = plan(alloc, PLANS[0].0)?;
+    let saved = save(alloc, task, &mut SystemFiles::new(rt), name, &hops, 6);
+    Ok(saved == Err(WriteFault::Device))
+}
+
+#[test]
+fn the_machine_makes_no_folder(rt: HostRuntime) -> Result<(), Fail> {
+    let name = temporary_name(&rt, rt.alloc(), "none/plan")?;
+    on_task(&rt, rt.alloc(), &HOP, |rt, alloc, task| {
+        assert!(rt; fails_to_save(rt, alloc, task, name.as_str())?);
+        Ok(())
+    })?;
+    assert!(rt; !fs::exists(&rt, name.as_str())?);
+    Ok(())
+}
+
+/// A device that is always full, where the machine has it.
+const FULL: &str = "/dev/full";
+
+#[test]
+fn the_machine_tells_a_full_device(rt: HostRuntime) -> Result<(), Fail> {
+    if !fs::exists(&rt, FULL)? {
+        return Ok(());
+    }
+    on_task(&rt, rt.alloc(), &HOP, |rt, alloc, task| {
+        assert!(rt; fails_to_save(rt, alloc, task, FULL)?);
+        Ok(())
+    })
+}
+
+#[test]
+fn the_machine_reads_no_folder(rt: HostRuntime) -> Result<(), Fail> {
+    let folder = env::temp_dir(&rt)?;
+    let mut files = SystemFiles::new(&rt);
+    let found = holds(&mut files, folder.as_str(), b"");
+    assert_eq!(rt; found, Err(WriteFault::Device));
+    Ok(())
+}
