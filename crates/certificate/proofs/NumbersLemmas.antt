@@ -1,6 +1,6 @@
 -- The numbers of sets, and what they say of a listing.
 use Rattle.std.proofs.Common.{◌≡◌, ℕ, zero, suc, ◌<◌, ◌≤◌, Bool, true, false, List, [], ◌∷◌, get_or, inl, inr, map, length, refl, sym, ap, ◌∙◌, subst, arith}
-use Rattle.std.specs.Prelude.{◌&&◌, ◌==◌, All, Contains, Some, nat_le, slice_get}
+use Rattle.std.specs.Prelude.{◌&&◌, ◌==◌, All, Contains, Err, Ok, OnOk, Result, Some, nat_le, slice_get}
 use Rattle.std.specs.List.{list_all, list_any, range_with_len}
 use Rattle.std.specs.Cmp.{both_ways}
 use Rattle.std.specs.Option.{option_map, option_map_or}
@@ -117,6 +117,12 @@ line_at (m ∷ marks) (s ∷ sets) zero mark set at_mark at_set =
     let same_set : s ≡ set = cc in
     λ i. Some (line_with (same_mark i) (same_set i))
 line_at (m ∷ marks) (s ∷ sets) (suc i) mark set at_mark at_set = line_at marks sets i mark set at_mark at_set
+
+-- the same where its numbers were listed
+pub where_listed : {T E : Type 0} (r : Result T E) (lines : List StateLine) (i : ℕ) (mark : Marked) (set : List Bool) (numbers : List ℕ) → slice_get lines i ≡ Some (line_with mark set)
+    → OnOk r (numbers ≡ numbers_of set) → OnOk r (slice_get lines i ≡ Some (record { cost = mark.cost; cut = mark.cut; atoms = numbers }))
+where_listed (Ok value) lines i mark set numbers at same = at ∙ (λ j. Some (record { cost = mark.cost; cut = mark.cut; atoms = sym same j }))
+where_listed (Err error) lines i mark set numbers at same = tt
 
 sets_of_lines : (width : ℕ) (marks : List Marked) (sets : List (List Bool)) → length marks ≡ length sets → All (λ (set : List Bool). length set ≡ width) sets
     → map (λ (l : StateLine). set_of width l.atoms) (lines_with marks sets) ≡ sets

@@ -30,7 +30,7 @@ second g c first =
     let task = task_of c.args.task.now in
     let atoms_now = g.W.Sink.taken c.write_atoms.new.out in
     atoms_held taken atoms_now task (g.C.WritableCert.certificate c.args.cert.now) _ _ first
-    (subst (λ atoms. IsPassedOn taken atoms_now c.add_head.new.text.items c.write_atoms.new.held.items (flat_map (atom_line task) atoms)) (λ i. zip (c.atoms.ensures.atoms i) (c.weights.ensures.weights i)) c.in_ok-write_atoms.ensures.text)
+    (subst (λ atoms. IsPassedOn taken atoms_now c.add_head.new.text.items c.write_atoms.new.held.items (flat_map (atom_line task) atoms)) (λ i. zip (c.atoms.ensures i) (c.weights.ensures i)) c.in_ok-write_atoms.ensures.text)
 
 third : (g : Over) (c : In_ok-write_states g) → IsPassedOn (g.W.Sink.taken c.args.out.now) (g.W.Sink.taken c.write_atoms.new.out) [] c.write_atoms.new.held.items
     (to_atoms (task_of c.args.task.now) (g.C.WritableCert.certificate c.args.cert.now))
@@ -50,7 +50,7 @@ pub returns-in_err-write_atoms-clause-beginning : goal.returns-in_err-write_atom
 returns-in_err-write_atoms-clause-beginning g c =
     let task = task_of c.args.task.now in
     atoms_begun _ _ task (g.C.WritableCert.certificate c.args.cert.now) _ (first g (goal.at.returns-in_err-write_atoms-clause-beginning g c).In_ok-add_head)
-    (subst (λ atoms. AppendsBeginning (g.W.Sink.taken c.args.out.now) (g.W.Sink.taken c.write_atoms.new.out) (c.add_head.new.text.items ++ flat_map (atom_line task) atoms)) (λ i. zip (c.atoms.ensures.atoms i) (c.weights.ensures.weights i)) c.write_atoms.ensures.beginning)
+    (subst (λ atoms. AppendsBeginning (g.W.Sink.taken c.args.out.now) (g.W.Sink.taken c.write_atoms.new.out) (c.add_head.new.text.items ++ flat_map (atom_line task) atoms)) (λ i. zip (c.atoms.ensures i) (c.weights.ensures i)) c.write_atoms.ensures.beginning)
 
 pub returns-in_err-write_states-clause-beginning : goal.returns-in_err-write_states-clause-beginning
 returns-in_err-write_states-clause-beginning g c =
