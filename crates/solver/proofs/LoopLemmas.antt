@@ -99,7 +99,7 @@ atoms_next keys new one atoms i d distinct below so_far inserted is =
     absent false found = refl
     absent true found =
         absurd (none_before (map atom_of atoms) i (atom_of one) distinct stands
-        (subst (λ (as : List Atom). Contains as (atom_of one)) (so_far ∙ sym (take-map atom_of i atoms))
+        (subst (λ (front : List Atom). Contains front (atom_of one)) (so_far ∙ sym (take-map atom_of i atoms))
         (Contains-map atom_of keys one (Contains-from_any (λ a b alike. one_atom a b (equal_atoms a b alike)) one keys found))))
 
 -- the instance that has the number
