@@ -4,9 +4,7 @@ use cert_checker::{
     closed_certificates_are_accepted, closed_claim_holds, examples_are_judged,
     solving_list_stays_listed, written_certificates_read_back,
 };
-use certificate::{
-    MAX_ATOMS, MAX_STATE_LINES, NUMBER_LIMIT, texts_are_certificates_one_for_one,
-};
+use certificate::{MAX_ATOMS, MAX_STATE_LINES, NUMBER_LIMIT, texts_are_certificates_one_for_one};
 
 #[test]
 fn laws_of_certificates_are_called() {

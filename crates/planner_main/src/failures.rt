@@ -7,10 +7,10 @@ ghost use Rattle.planner_main.specs.Files.{fault_at};
 ghost use Rattle.planner_main.specs.Program.{IsToldOfWords, IsToldOn};
 ghost use Rattle.devices.specs.Devices.{IsWritten};
 
+use crate::answers::{File, FileFault};
 use command_line::WordsFault;
 use devices::{Sink, WriteFault, write_all};
 use faults::{Code, Span};
-use crate::answers::{File, FileFault};
 use std::alloc::{AllocError, Global};
 
 /// The words are no command.

@@ -13,12 +13,12 @@ ghost use Rattle.planner_main.specs.Program.{CountsEither, CountsFailure, HasNot
 ghost use Rattle.devices.specs.Texts.{AreKept};
 ghost use Rattle.devices.specs.Devices.{CountsDevice, IsKept};
 
-use crate::program::inputs::{Pair, read_pair};
+use crate::answers::{Checked, check_files};
 use crate::failures::Failure;
+use crate::program::inputs::{Pair, read_pair};
+use crate::telling::checked_text;
 use certificate::CertReader;
 use devices::{Files, Sink, Source, WriteFault, read_file, write_all};
-use crate::answers::{Checked, check_files};
-use crate::telling::checked_text;
 use std::alloc::Global;
 
 /// The names of the files that are read.

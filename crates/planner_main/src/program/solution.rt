@@ -15,12 +15,12 @@ ghost use Rattle.solver.specs.Solver.{IsTrueAnswer};
 ghost use Rattle.model.specs.Files.{IsTaskFault, IsTaskOf};
 ghost use Rattle.model.specs.PlanWriting.{has_names};
 
-use crate::program::inputs::read_pair;
+use crate::answers::{Solved, solve_files};
 use crate::failures::Failure;
+use crate::program::inputs::read_pair;
+use crate::telling::{answer_text, json_text, told};
 use certificate::{Listing, write_listing};
 use devices::{Bytes, Document, Files, Sink, WriteFault, write_all, write_file};
-use crate::answers::{Solved, solve_files};
-use crate::telling::{answer_text, json_text, told};
 use solver::{Answer, Limits};
 use std::alloc::Global;
 use typing::Task;

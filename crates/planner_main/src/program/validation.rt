@@ -5,11 +5,11 @@ ghost use Rattle.planner_main.specs.Program.{CountsEither, CountsFailure, HasNot
 ghost use Rattle.devices.specs.Texts.{AreKept};
 ghost use Rattle.model.specs.Files.{IsFileFault};
 
-use crate::program::inputs::read_pair;
-use crate::failures::Failure;
-use devices::{Files, Sink, read_file, write_all};
 use crate::answers::{FileFault, validate_files};
+use crate::failures::Failure;
+use crate::program::inputs::read_pair;
 use crate::telling::told_verdict;
+use devices::{Files, Sink, read_file, write_all};
 use std::alloc::Global;
 
 /// Tells whether the plan of a file solves the task of two files: the status.

@@ -25,7 +25,11 @@ const UNKNOWN: u8 = 11;
 
 /// The text that an answer is told as, and its status: the plan and its cost with 0, `unsolvable` with 10, and with 11 that a
 /// limit is exceeded. The error is that memory was refused, as in the calls below.
-pub(crate) fn answer_text(alloc: Global, task: &Task, answer: &Answer) -> Result<(Vec<u8>, u8), AllocError>
+pub(crate) fn answer_text(
+    alloc: Global,
+    task: &Task,
+    answer: &Answer,
+) -> Result<(Vec<u8>, u8), AllocError>
     ensures text { IfOk result (λ told. told.0.items ≡ text_of (task_of task.now) answer.now) }
     ensures status { IfOk result (λ told. told.1 ≡ status_of answer.now) }
 {
@@ -36,7 +40,10 @@ pub(crate) fn answer_text(alloc: Global, task: &Task, answer: &Answer) -> Result
             Vec::from_slice(alloc, b"unknown instances\n")?,
             UNKNOWN,
         )),
-        Answer::Unknown(Exceeded::Atoms) => Ok((Vec::from_slice(alloc, b"unknown atoms\n")?, UNKNOWN)),
+        Answer::Unknown(Exceeded::Atoms) => Ok((
+            Vec::from_slice(alloc, b"unknown atoms\n")?,
+            UNKNOWN,
+        )),
         Answer::Unknown(Exceeded::States) => Ok((
             Vec::from_slice(alloc, b"unknown states\n")?,
             UNKNOWN,

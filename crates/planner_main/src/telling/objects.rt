@@ -52,7 +52,11 @@ pub(crate) fn verdict_object(alloc: Global, verdict: Verdict) -> Result<String, 
 }
 
 /// The object of what was found out of a task, whose names are names.
-pub(crate) fn answer_object(alloc: Global, task: &Task, answer: &Answer) -> Result<String, AllocError>
+pub(crate) fn answer_object(
+    alloc: Global,
+    task: &Task,
+    answer: &Answer,
+) -> Result<String, AllocError>
     requires { IsTrue (has_names (task_of task.now)) }
     ensures { IfOk result (λ text. string_bytes text ≡ object_text (of_answer (task_of task.now) answer.now)) }
 {

@@ -4,9 +4,9 @@ ghost use Rattle.std.specs.String.{string_bytes};
 ghost use Rattle.planner_main.specs.JsonText.{object_text};
 ghost use Rattle.planner_main.specs.Reported.{IsTold, of_report};
 
-use faults::NoMemory;
 use crate::answers::{Checked, Solved};
 use crate::telling::objects::{answer_object, checked_object, verdict_object};
+use faults::NoMemory;
 use std::alloc::Global;
 use validator::Verdict;
 

@@ -16,7 +16,11 @@ pub(crate) const NO: u8 = 12;
 
 /// The line that a verdict is told as, or its object of JSON on a line, and its status: 0 where the plan solves the task, and 12
 /// where it does not. The error is that memory was refused.
-pub(crate) fn told_verdict(alloc: Global, verdict: Verdict, json: bool) -> Result<(String, u8), AllocError>
+pub(crate) fn told_verdict(
+    alloc: Global,
+    verdict: Verdict,
+    json: bool,
+) -> Result<(String, u8), AllocError>
     ensures line { IfOk result (λ told. string_bytes told.0 ≡ told_verdict json (verdict_of verdict)) }
     ensures status { IfOk result (λ told. told.1 ≡ status_of (verdict_of verdict)) }
 {
