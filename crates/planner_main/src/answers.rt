@@ -6,7 +6,7 @@ mod task_file;
 mod validating;
 
 pub use checking::{Checked, check_files};
-pub use laws::solved_certificates_are_accepted;
+pub use laws::{solved_certificates_are_accepted, tasks_of_files_are_well_typed};
 pub use solving::{Solved, solve_files};
 pub use task_file::{File, FileFault, one_task};
 pub use validating::validate_files;

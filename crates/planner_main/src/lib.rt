@@ -9,7 +9,7 @@ mod telling;
 
 pub use answers::{
     Checked, File, FileFault, Solved, check_files, one_task, solve_files,
-    solved_certificates_are_accepted, validate_files,
+    solved_certificates_are_accepted, tasks_of_files_are_well_typed, validate_files,
 };
 pub use cert_checker::{Accepted, Refusal, RefusalCode};
 pub use command_line::{MaxCount, Order, WordsFault, read_words};

@@ -1,7 +1,8 @@
 //! Laws of the texts that the program writes and reads. They are proved; the calls do nothing.
-ghost use Rattle.std.specs.Prelude.{◌≡◌, ℕ, [], List, None, Option};
+ghost use Rattle.std.specs.Prelude.{◌≡◌, ℕ, [], IsTrue, List, None, Option};
 ghost use Rattle.model.specs.Task.{Task, Instance};
 ghost use Rattle.model.specs.Files.{IsTaskOf};
+ghost use Rattle.model.specs.WellTyped.{is_task};
 ghost use Rattle.model.specs.Claims.{Claim};
 ghost use Rattle.model.specs.Limits.{max_numbered_atoms};
 ghost use Rattle.model.specs.Grounding.{limit_told};
@@ -19,4 +20,9 @@ pub fn solved_certificates_are_accepted()
         → limit_told most max_numbered_atoms task [] ≡ None → IsPlanWithin task claim plan
         → IsTextOf task (certificate_text task c) c × IsAccepted task (certificate_text task c) plan
         × (limit_told most max_numbered_atoms task c.atoms ≡ None) }
+{}
+
+/// The task that is read from files is well-typed, its formulas and effects among it.
+pub fn tasks_of_files_are_well_typed()
+    ensures { (domain problem : List ℕ) (task : Task) → IsTaskOf domain problem task → IsTrue (is_task task) }
 {}
