@@ -67,7 +67,7 @@ impl Table {
     }
 }
 
-/// The entry of a number: so many bits are its key's that no other state is looked at for all but one key in 128.
+/// The entry of a number, with the bits of its key for which there is room: of 128 other keys one has the same.
 fn entry(key: u64, number: u32) -> u32
     requires { number < 16777216 }
     ensures { result ≡ entry_of key number }
