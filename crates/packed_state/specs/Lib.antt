@@ -3,6 +3,7 @@ pub mod Words
 pub mod Packed
 pub mod Store
 pub mod PlainStore
+pub mod Table
 pub mod Pool
 pub mod PooledStore
 pub mod PooledView

@@ -1,12 +1,12 @@
 //! Sets of numbers packed into words of 64 bits.
 #![tactic(auto)]
 
-mod chains;
 mod packed;
 mod plain;
 mod pool;
 mod pooled;
 mod store;
+mod table;
 mod words;
 
 pub use packed::{Mask, Packed};

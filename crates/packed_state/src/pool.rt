@@ -1,8 +1,9 @@
-//! The words of states, one after another, and where they stand.
-ghost use Rattle.std.specs.Prelude.{◌≡◌, ℕ, ◌+◌, ◌*◌, ◌<◌, ◌≤◌, [], ◌∷◌, ◌++◌, ◌↔◌, IsTrue, length, slice_get, Contains, MatchOption, IfOk, OnOk, OnErr};
-ghost use Rattle.packed_state.specs.Pool.{row_at, mixed, key_of, bucket_of, AreChained};
+//! The words of states, one after another, and a table of where they stand.
+ghost use Rattle.std.specs.Prelude.{◌≡◌, ℕ, ◌+◌, ◌*◌, ◌<◌, ◌≤◌, [], ◌∷◌, ◌++◌, ◌↔◌, IsTrue, length, slice_get, Contains, MatchResult, IfOk, OnOk, OnErr};
+ghost use Rattle.packed_state.specs.Pool.{row_at, mixed, key_of};
+ghost use Rattle.packed_state.specs.Table.{number_of, tag_in, tag_of, IsFirstFree, IsTable};
 
-use crate::chains::Chains;
+use crate::table::{FREE, Table, has_tag, number, tag};
 use faults::NoMemory;
 use std::alloc::Global;
 
@@ -11,24 +12,25 @@ use std::alloc::Global;
 pub(crate) struct Pool {
     pub(crate) stride: usize,
     pub(crate) words: Vec<u64>,
-    /// The states' places, in the buckets of their words.
-    pub(crate) chains: Chains,
+    /// The states' places, by the keys of their words.
+    pub(crate) table: Table,
 }
 
 impl Pool {
     ghost use Rattle.packed_state.specs.PooledStore.{rows_of, IsLinked};
 
-    /// A pool without states, whose buckets have room for `buckets`.
-    pub(crate) fn new(alloc: Global, stride: usize, buckets: usize) -> Result<Pool, NoMemory>
-        requires { 0 < buckets }
+    /// A pool without states, whose table has so many slots.
+    pub(crate) fn new(alloc: Global, stride: usize, slots: usize) -> Result<Pool, NoMemory>
+        requires some { 0 < slots }
+        requires few { slots ≤ 67108864 }
         ensures linked { IfOk result (λ pool. IsLinked pool) }
         ensures rows { IfOk result (λ pool. (rows_of pool ≡ []) × (pool.stride ≡ stride)) }
     {
-        let chains = Chains::new(alloc, buckets)?;
+        let table = Table::new(alloc, slots)?;
         Ok(Pool {
             stride,
             words: Vec::new(alloc),
-            chains,
+            table,
         })
     }
 
@@ -36,86 +38,104 @@ impl Pool {
     pub(crate) fn len(&self) -> usize
         ensures { result ≡ length (rows_of self.now) }
     {
-        self.chains.len()
+        self.table.count
     }
 
     /// The words of the state at this place.
     pub(crate) fn row(&self, place: usize) -> &[u64]
         requires linked { IsLinked self.now }
-        requires place { place < length self.now.chains.earlier.items }
+        requires place { place < self.now.table.count }
         ensures { result.now ≡ row_at self.now.stride self.now.words.items place }
     {
         let start = place * self.stride;
         &self.words[start..start + self.stride]
     }
 
-    /// The place of the state with these words.
-    pub(crate) fn place_of(&self, words: &[u64]) -> Option<u32>
+    /// The place of the state with these words, or else the slot for it.
+    pub(crate) fn look_up(&self, words: &[u64]) -> Result<u32, usize>
         requires { IsLinked self.now }
-        ensures { MatchOption result
-            (¬ Contains (rows_of self.now) words.now)
-            (λ place. slice_get (rows_of self.now) place ≡ Some words.now) }
+        ensures { MatchResult result
+            (λ place. slice_get (rows_of self.now) place ≡ Some words.now)
+            (λ slot. (¬ Contains (rows_of self.now) words.now) × IsFirstFree self.now.table.entries.items (key_of words.now) slot) }
     {
-        let mut end = self.chains.ends[bucket(words, self.chains.ends.len())];
-        'chain: while end > 0 {
-            let place = end - 1;
-            if are_same(self.row(place as usize), words) {
-                return Some(place);
+        let key = key(words);
+        let mut step = 0;
+        'slots: loop {
+            let slot = self.table.slot(key, step);
+            let entry = self.table.entries[slot];
+            if entry == FREE {
+                return Err(slot);
             }
-            end = self.chains.earlier[place as usize];
+            if self.is_entry_of(entry, tag(key), words) {
+                return Ok(number(entry));
+            }
+            step += 1;
         }
-        None
     }
 
-    /// One state more, of these words. Where memory was refused all stays as it was.
-    pub(crate) fn push(&mut self, words: &[u64]) -> Result<(), NoMemory>
+    /// Whether the entry, which is not free, is that of the state with these words, whose key has this tag.
+    fn is_entry_of(&self, entry: u32, tag: u32, words: &[u64]) -> bool
+        requires linked { IsLinked self.now }
+        requires taken { 0 < entry }
+        requires within { number_of entry < self.now.table.count }
+        ensures { IsTrue result ↔ ((tag_in entry ≡ tag) × (row_at self.now.stride self.now.words.items (number_of entry) ≡ words.now)) }
+    {
+        has_tag(entry, tag) && are_same(self.row(number(entry) as usize), words)
+    }
+
+    /// One state more, of these words, in the slot that was found for it. Where memory was refused all stays as it was.
+    pub(crate) fn push(&mut self, words: &[u64], slot: usize) -> Result<(), NoMemory>
         requires linked { IsLinked self.old }
         requires words { length words.now ≡ self.old.stride }
-        requires room { length self.old.chains.earlier.items < 16777216 }
+        requires few { self.old.table.count < 16777216 }
+        requires room { self.old.table.count + 1 < length self.old.table.entries.items }
+        requires slot { IsFirstFree self.old.table.entries.items (key_of words.now) slot }
         ensures stride { self.new.stride ≡ self.old.stride }
         ensures linked { IsLinked self.new }
         ensures ok { OnOk result (rows_of self.new ≡ rows_of self.old ++ words.now ∷ []) }
         ensures err { OnErr result (rows_of self.new ≡ rows_of self.old) }
     {
         self.words.extend_from_slice(words)?;
-        let bucket = bucket(words, self.chains.ends.len());
-        if self.chains.push(bucket).is_err() {
-            self.words.truncate(self.words.len() - words.len());
-            return Err(NoMemory);
-        }
+        self.table.put(key(words), slot);
         Ok(())
     }
 
-    /// Twice as many buckets, where there are as many states as buckets.
+    /// Room for one state more: twice as many slots, where five in eight would be taken.
     pub(crate) fn make_room(&mut self, alloc: Global) -> Result<(), NoMemory>
         requires linked { IsLinked self.old }
-        requires few { length self.old.chains.earlier.items ≤ 16777216 }
+        requires few { self.old.table.count < 16777216 }
         ensures stride { self.new.stride ≡ self.old.stride }
         ensures linked { IsLinked self.new }
         ensures rows { rows_of self.new ≡ rows_of self.old }
+        ensures count { self.new.table.count ≡ self.old.table.count }
+        ensures room { OnOk result (self.new.table.count + 1 < length self.new.table.entries.items) }
     {
-        if self.chains.len() < self.chains.ends.len() {
+        let slots = self.table.entries.len();
+        if 8 * (self.table.count + 1) <= 5 * slots {
             return Ok(());
         }
-        self.chains = self.linked_again(alloc, 2 * self.chains.ends.len())?;
+        self.table = self.table_again(alloc, 2 * slots)?;
         Ok(())
     }
 
-    /// The states' places in so many buckets.
-    fn linked_again(&self, alloc: Global, buckets: usize) -> Result<Chains, NoMemory>
+    /// The states' places in a table of so many slots.
+    fn table_again(&self, alloc: Global, slots: usize) -> Result<Table, NoMemory>
         requires linked { IsLinked self.now }
-        requires few { length self.now.chains.earlier.items ≤ 16777216 }
-        requires some { 0 < buckets }
-        ensures len { IfOk result (λ chains. length chains.earlier.items ≡ length self.now.chains.earlier.items) }
-        ensures buckets { IfOk result (λ chains. length chains.ends.items ≡ buckets) }
-        ensures chained { IfOk result (λ chains.
-            AreChained (λ n. bucket_of buckets (row_at self.now.stride self.now.words.items n)) chains.ends.items chains.earlier.items) }
+        requires few { self.now.table.count < 16777216 }
+        requires room { self.now.table.count < slots }
+        requires slots { slots ≤ 67108864 }
+        ensures count { IfOk result (λ table. table.count ≡ self.now.table.count) }
+        ensures slots { IfOk result (λ table. length table.entries.items ≡ slots) }
+        ensures table { IfOk result (λ table.
+            IsTable (λ n. key_of (row_at self.now.stride self.now.words.items n)) self.now.table.count table.entries.items) }
     {
-        let mut chains = Chains::new(alloc, buckets)?;
-        'states: for place in 0..self.chains.len() {
-            chains.push(bucket(self.row(place), buckets))?;
+        let mut table = Table::new(alloc, slots)?;
+        'states: for place in 0..self.table.count {
+            let key = key(self.row(place));
+            let slot = table.first_free(key);
+            table.put(key, slot);
         }
-        Ok(chains)
+        Ok(table)
     }
 }
 
@@ -126,15 +146,7 @@ fn are_same(words: &[u64], others: &[u64]) -> bool
     words == others
 }
 
-/// The bucket of these words, of `count`.
-pub(crate) fn bucket(words: &[u64], count: usize) -> usize
-    requires { 0 < count }
-    ensures bucket { result ≡ bucket_of count words.now }
-    ensures within { result < count }
-{
-    (key(words) % count as u64) as usize
-}
-
+/// The key of these words, mixed once more behind the last of them: its lowest bits choose the slot.
 fn key(words: &[u64]) -> u64
     ensures { result ≡ key_of words.now }
 {
@@ -142,10 +154,10 @@ fn key(words: &[u64]) -> u64
     for &word in words {
         key = mix(key, word);
     }
-    key
+    mix(key, 0)
 }
 
-/// One word more, mixed into the key: the product's high half is mixed into its low half, which chooses the bucket.
+/// One word more, mixed into the key: the product's high half is mixed into its low half.
 fn mix(key: u64, word: u64) -> u64
     ensures { result ≡ mixed key word }
 {

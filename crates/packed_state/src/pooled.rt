@@ -20,8 +20,8 @@ pub struct PooledStore {
     ghost pooled: { IsPoolOf width pool } by { Prim.hlevel props },
 }
 
-/// How many buckets a new store has.
-const FIRST_BUCKETS: usize = 64;
+/// How many slots a new store's table has, a power of two: it grows by doubling, and keys choose slots by their lowest bits.
+const FIRST_SLOTS: usize = 64;
 
 impl PooledStore {
     ghost use Rattle.packed_state.specs.Store.{IsPlaced};
@@ -33,7 +33,7 @@ impl PooledStore {
         ensures width { IfOk result (λ store. pooled_width store ≡ width) }
         ensures states { IfOk result (λ store. pooled_states store ≡ []) }
     {
-        let pool = Pool::new(alloc, words::words_for(width), FIRST_BUCKETS)?;
+        let pool = Pool::new(alloc, words::words_for(width), FIRST_SLOTS)?;
         Ok(PooledStore { width, pool, alloc })
     }
 
@@ -45,13 +45,15 @@ impl PooledStore {
         ensures ok { IfOk result (λ r. IsPlaced (rows_of self.old.pool) (rows_of self.new.pool) words.now r.0 r.1) }
         ensures err { OnErr result (rows_of self.new.pool ≡ rows_of self.old.pool) }
     {
-        if let Some(place) = self.pool.place_of(words) {
-            return Ok((place, false));
-        }
         let place = self.pool.len() as u32;
         self.pool.make_room(self.alloc)?;
-        self.pool.push(words)?;
-        Ok((place, true))
+        match self.pool.look_up(words) {
+            Ok(place) => Ok((place, false)),
+            Err(slot) => {
+                self.pool.push(words, slot)?;
+                Ok((place, true))
+            }
+        }
     }
 }
 
@@ -75,7 +77,10 @@ impl StateStore for PooledStore {
     }
 
     fn find(&self, state: &Packed) -> Option<u32> {
-        self.pool.place_of(state.words())
+        match self.pool.look_up(state.words()) {
+            Ok(place) => Some(place),
+            Err(_) => None,
+        }
     }
 
     fn insert_if_new(&mut self, state: &Packed) -> Result<(u32, bool), NoMemory> {

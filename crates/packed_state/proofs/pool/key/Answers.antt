@@ -5,4 +5,4 @@ use Rattle.packed_state.proofs.pool.key.Goals as goal
 
 pub returns : goal.returns
 unfolding key_of
-returns c = c.loop-word.invariant ∙ ap (fold mixed 0) (take_all c.loop-word.word-index c.args.words.now (omega arith))
+returns c = c.mix.ensures ∙ ap (λ key. mixed key 0) (c.loop-word.invariant ∙ ap (fold mixed 0) (take_all c.loop-word.word-index c.args.words.now (omega arith)))

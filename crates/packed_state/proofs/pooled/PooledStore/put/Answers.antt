@@ -1,4 +1,4 @@
-use Rattle.std.proofs.Common.{◌≡◌, ◌∙◌, ◌∷◌, ◌++◌, [], List, ℕ, length, ap, sym, subst, arith}
+use Rattle.std.proofs.Common.{◌≡◌, ◌∙◌, List, ℕ, length, ap, sym, subst, arith}
 use Rattle.packed_state.specs.Store.{AreStored}
 use Rattle.packed_state.specs.PooledStore.{rows_of}
 use Rattle.packed_state.proofs.StoreLemmas.{one_stored}
@@ -8,15 +8,15 @@ use Rattle.packed_state.proofs.pooled.PooledStore.put.Goals as goal
 pub make_room-requires-clause-few : goal.make_room-requires-clause-few
 make_room-requires-clause-few c =
     let p = c.args.self.now.pool in
-    omega (arith, c.requires.room, length-rows p.stride p.words.items (length p.chains.earlier.items))
+    omega (arith, c.requires.room, length-rows p.stride p.words.items p.table.count)
 
-pub push-requires-clause-room : goal.push-requires-clause-room
-push-requires-clause-room c =
-    let q = c.make_room.new.self in
-    omega (arith, c.requires.room, ap length c.make_room.ensures.rows, length-rows q.stride q.words.items (length q.chains.earlier.items))
+pub push-requires-clause-few : goal.push-requires-clause-few
+push-requires-clause-few c =
+    let p = c.args.self.now.pool in
+    omega (arith, c.requires.room, length-rows p.stride p.words.items p.table.count, c.make_room.ensures.count)
 
-pub invariant_of-self-2 : goal.invariant_of-self-2
-invariant_of-self-2 c =
+pub invariant_of-self-in-Err : goal.invariant_of-self-in-Err
+invariant_of-self-in-Err c =
     let s = c.args.self.now in
     let q = c.make_room.new.self in
     let same : rows_of q ≡ rows_of s.pool = c.make_room.ensures.rows in
@@ -27,9 +27,8 @@ invariant_of-self-2 c =
         no_more = omega (arith, s.pooled.no_more, wide);
         linked = c.push.ensures.linked;
         stored =
-            either_way (AreStored s.width) c.push.result (rows_of q) (rows_of c.push.new.self) c.args.words.now c.push.ensures.ok c.push.ensures.err
-            (subst (λ (rows : List (List ℕ)). AreStored s.width rows) (sym same) s.pooled.stored)
-            (subst (λ (rows : List (List ℕ)). AreStored s.width rows) (sym (ap (λ rows. rows ++ c.args.words.now ∷ []) same))
-            (one_stored s.width (rows_of s.pool) c.args.words.now s.pooled.stored c.requires.packed c.requires.room c.in_default.ensures));
+            let stored : AreStored s.width (rows_of q) = subst (λ (rows : List (List ℕ)). AreStored s.width rows) (sym same) s.pooled.stored in
+            either_way (AreStored s.width) c.push.result (rows_of q) (rows_of c.push.new.self) c.args.words.now c.push.ensures.ok c.push.ensures.err stored
+            (one_stored s.width (rows_of q) c.args.words.now stored c.requires.packed (omega (arith, c.requires.room, ap length same)) c.in-Err.ensures.0);
       };
     }
