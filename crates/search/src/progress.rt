@@ -5,12 +5,12 @@ ghost use Rattle.packed_state.specs.Packed.{bits_of};
 ghost use Rattle.packed_state.specs.Store.{IsPlaced};
 ghost use Rattle.search.specs.Estimates.{value_by};
 ghost use Rattle.search.specs.Outcome.{AreMoreReachable};
-ghost use Rattle.search.specs.Nodes.{Waiting, entry, IsEntry, IsCurrent, AreOpen, AreDescending, IsPath};
+ghost use Rattle.search.specs.Nodes.{Waiting, entry, IsEntry, IsCurrent, AreOpen, IsPath, IsReachedIn};
 ghost use Rattle.search.specs.Progress.{by_sum, TakesNext, Joins, nodes_in, IsSearch, IsAtTurn, IsExpanding, Reaches, Expands, AreWide};
 
 use crate::best::MAX_STATES;
 use crate::estimates::{Estimate, value_in};
-use crate::nodes::{FoundStates, Node, Origin, StateId, steps_to};
+use crate::nodes::{FoundStates, Node, ShortId, StateId, steps_to};
 use crate::transitions::TransitionSystem;
 use crate::turns::{Parent, Turn};
 use faults::NoMemory;
@@ -105,7 +105,13 @@ impl<S: StateStore> Progress<S> {
             queue: BinaryHeap::new(alloc),
         };
         let value = value_in(estimate, &initial);
-        progress.add(StateId(place), 0, value, None)?;
+        let node = Node {
+            cost: 0,
+            is_expanded: false,
+            parent: ShortId::new(StateId(0)),
+            action: 0,
+        };
+        progress.add(StateId(place), node, value)?;
         Ok(progress)
     }
 
@@ -133,48 +139,28 @@ impl<S: StateStore> Progress<S> {
     }
 
     /// A new state waits.
-    fn add(
-        &mut self,
-        id: StateId,
-        cost: u64,
-        estimate: u64,
-        origin: Option<Origin>,
-    ) -> Result<(), NoMemory>
-        requires { cost + estimate < 2 ^ 64 }
+    fn add(&mut self, id: StateId, node: Node, estimate: u64) -> Result<(), NoMemory>
+        requires { node.cost + estimate < 2 ^ 64 }
         ensures store { self.new.store ≡ self.old.store }
-        ensures nodes { OnOk result (self.new.nodes.items
-            ≡ self.old.nodes.items ++ record { cost = cost; is_expanded = false; origin = origin } ∷ []) }
+        ensures nodes { OnOk result (self.new.nodes.items ≡ self.old.nodes.items ++ node ∷ []) }
         ensures queue { OnOk result
-            (Joins (heap_items self.old.queue) (heap_items self.new.queue) (entry cost estimate id.0)) }
+            (Joins (heap_items self.old.queue) (heap_items self.new.queue) (entry node.cost estimate id.0)) }
     {
-        self.nodes.push(Node {
-            cost,
-            is_expanded: false,
-            origin,
-        })?;
-        self.enqueue(id, cost, estimate)
+        self.nodes.push(node)?;
+        self.enqueue(id, node.cost, estimate)
     }
 
     /// A cheaper way to a waiting state is kept in place of the dearer.
-    fn improve(
-        &mut self,
-        id: StateId,
-        cost: u64,
-        estimate: u64,
-        origin: Origin,
-    ) -> Result<(), NoMemory>
+    fn improve(&mut self, id: StateId, node: Node, estimate: u64) -> Result<(), NoMemory>
         requires found { id.0 < length self.old.nodes.items }
-        requires sum { cost + estimate < 2 ^ 64 }
+        requires sum { node.cost + estimate < 2 ^ 64 }
         ensures store { self.new.store ≡ self.old.store }
-        ensures nodes { (node : _) → slice_get self.old.nodes.items id.0 ≡ Some node
-            → self.new.nodes.items ≡ slice_set self.old.nodes.items id.0 (record node { cost = cost; origin = Some origin }) }
+        ensures nodes { self.new.nodes.items ≡ slice_set self.old.nodes.items id.0 node }
         ensures queue { OnOk result
-            (Joins (heap_items self.old.queue) (heap_items self.new.queue) (entry cost estimate id.0)) }
+            (Joins (heap_items self.old.queue) (heap_items self.new.queue) (entry node.cost estimate id.0)) }
     {
-        let node = &mut self.nodes[id.0 as usize];
-        node.cost = cost;
-        node.origin = Some(origin);
-        self.enqueue(id, cost, estimate)
+        self.nodes[id.0 as usize] = node;
+        self.enqueue(id, node.cost, estimate)
     }
 
     /// The state waits at this cost.
@@ -227,21 +213,21 @@ impl<S: StateStore> Progress<S> {
     {
         let before = self.nodes[parent.id.0 as usize];
         let cost = before.cost + u64::from(system.cost(action));
-        let depth = before.depth() + 1;
-        let origin = Origin {
-            parent: parent.id,
+        let node = Node {
+            cost,
+            is_expanded: false,
+            parent: ShortId::new(parent.id),
             action,
-            depth,
         };
         let Some((id, is_new)) = place_of_state(&mut self.store, state, max_states)? else {
             return Ok(false);
         };
         if is_new {
             let value = parent.value_after(estimate, action, state);
-            self.add(id, cost, value, Some(origin))?;
+            self.add(id, node, value)?;
         } else if cost < self.nodes[id.0 as usize].cost {
             let value = parent.value_after(estimate, action, state);
-            self.improve(id, cost, value, origin)?;
+            self.improve(id, node, value)?;
         }
         Ok(true)
     }
@@ -295,9 +281,9 @@ impl<S: StateStore> Progress<S> {
         alloc: Global,
         goal: StateId,
     ) -> Result<(Vec<u32>, FoundStates<S>), NoMemory>
-        requires descending { AreDescending self.nodes.items }
-        requires found { goal.0 < length self.nodes.items }
+        requires { IsReachedIn self.nodes.items goal.0 (length self.nodes.items) }
         ensures path { IfOk result (λ r. IsPath self.nodes.items goal.0 r.0.items) }
+        ensures short { IfOk result (λ r. length r.0.items ≤ length self.nodes.items) }
         ensures store { IfOk result (λ r. r.1.store ≡ self.store) }
         ensures nodes { IfOk result (λ r. r.1.nodes.items ≡ self.nodes.items) }
     {

@@ -15,7 +15,7 @@ returns-clause-search g c =
     let placed = placed_first (states c.args.store) stored s c.in_ok-place.place c.in_ok-place.field-0-1 c.requires.empty c.in_ok-place.ensures.ok in
     let same : states c.add.new.self.store ≡ stored = rw c.in_ok-add.ensures.store refl in
     let nodes = nodes_start (g.T.TransitionSystem.means c.args.system.now) (value_by (g.E.Estimate.score_of c.args.estimate.now)) (states c.add.new.self.store) c.add.new.self.nodes.items
-    (heap_items c.new-2.result) (heap_items c.add.new.self.queue) s c.in_ok-place.place (same ∙ placed.0)
+    (heap_items c.new-2.result) (heap_items c.add.new.self.queue) s c.in_ok-place.place _ _ (same ∙ placed.0)
     (rw c.new.ensures.items at c.in_ok-add.ensures.nodes)
     c.in_ok-initial.ensures.initial placed.1 c.new-2.ensures.items
     (subst (λ v. IsPermutation (entry 0 v c.in_ok-place.place ∷ heap_items c.new-2.result) (heap_items c.add.new.self.queue)) c.value_in-value.ensures.value c.in_ok-add.ensures.queue.joins) in
