@@ -1,20 +1,21 @@
 -- The queue of a search, and the way back from child to parent.
-use Rattle.std.proofs.Common.{◌≡◌, ℕ, ◌+◌, ◌<◌, ◌≤◌, ◌≢◌, ◌⊎◌, inl, inr, List, [], ◌∷◌, ◌++◌, reverse, length, get_or, Bool, not, Some, true, false, refl, sym, ap, ◌∙◌, subst, arith, append_assoc}
+use Rattle.std.proofs.Common.{◌≡◌, ℕ, ◌+◌, ◌<◌, ◌≤◌, ◌≢◌, ◌⊎◌, inl, inr, List, [], ◌∷◌, ◌++◌, reverse, length, get_or, Bool, not, Option, Some, None, true, false, refl, sym, ap, ◌∙◌, subst, arith, append_assoc}
 use Rattle.std.specs.Prelude.{slice_get, Contains, All, IsPermutation}
 use Rattle.std.specs.Ordering.{is_lt}
-use Rattle.std.specs.BinaryHeap.{IsHeap, IsUpperBound}
 use Rattle.std.proofs.lemmas.Bool.{false≢true}
 use Rattle.std.proofs.lemmas.Bool.Decides.{nat_tests}
 use Rattle.std.proofs.lemmas.Option.{same_Some, slice_get_read, slice_get_within}
 use Rattle.std.proofs.lemmas.List.{append-nil, reverse-append, length-append, length-reverse}
-use Rattle.std.proofs.lemmas.List.Elements.{All-from_recursion, All-contains, All-tail, All-head}
+use Rattle.std.proofs.lemmas.List.Elements.{All-contains, All-tail, All-head}
 use Rattle.std.proofs.lemmas.List.Sorted.{Contains-permutation, All-permutation}
 use Rattle.model.proofs.ListLemmas.{Contains-cases, Contains-got}
 use Rattle.search.specs.declared.nodes.Node.{Node}
 use Rattle.search.specs.declared.turns.Turn.{Turn}
 use Rattle.search.specs.Nodes.{Waiting, sum_of, estimate_of, place_of, IsEntry, IsCurrent, parent_of, IsPath, begins, follows, IsReachedIn}
-use Rattle.search.specs.Progress.{by_sum, TakesNext}
+use Rattle.search.specs.Queue.{by_sum}
+use Rattle.search.specs.Progress.{TakesNext}
 use Rattle.search.proofs.Lists.{get_there}
+use Rattle.search.proofs.QueueLemmas.{IsFirst}
 
 -- what is not below another in the queue's order has no greater sum
 sum-le : (x w : Waiting) → is_lt (by_sum x w) ≡ false → sum_of x ≤ sum_of w
@@ -28,9 +29,8 @@ estimate-le x w above same = grind (arith, nat_tests)
 place-le : (x w : Waiting) → is_lt (by_sum x w) ≡ false → sum_of w ≡ sum_of x → estimate_of w ≡ estimate_of x → place_of x ≤ place_of w
 place-le x w above same near = grind (arith, nat_tests)
 
-greatest-of : (x : Waiting) (queue : List Waiting) → IsUpperBound by_sum x queue → (w : Waiting) → Contains queue w → is_lt (by_sum x w) ≡ false
-greatest-of x queue greatest w at =
-    All-contains (λ y. is_lt (by_sum x y) ≡ false) queue w (All-from_recursion (λ y. is_lt (by_sum x y) ≡ false) queue greatest) at
+first-of : (x : Waiting) (queue : List Waiting) → IsFirst x queue → (w : Waiting) → Contains queue w → is_lt (by_sum x w) ≡ false
+first-of x queue first w at = All-contains (λ y. is_lt (by_sum x y) ≡ false) queue w first at
 
 -- what holds of all in a list holds of all in another that has no more
 pub All-among : {X : Type 0} (P : X → Type 0) (old new : List X) → ((x : X) → Contains new x → Contains old x) → All P old → All P new
@@ -39,7 +39,6 @@ All-among P old new among all k d below =
 
 -- the queue, from which only entries that are stale have gone
 pub record KeepsCurrent (initial now : List Waiting) (all : List Node) : Type 0 where
-  pub heap : IsHeap by_sum now
   pub kept : (w : Waiting) → Contains now w → Contains initial w
   pub entries : All (IsEntry (length all)) now
   pub current : (w : Waiting) → Contains initial w → IsCurrent all w → Contains now w
@@ -63,9 +62,8 @@ module _ (initial old new : List Waiting) (all : List Node) (x : Waiting) (keeps
   kept-popped w at = (All-contains (λ w. Contains initial w × IsEntry (length all) w) new w left at).0
 
   -- a stale entry goes
-  pub keeps-popped : IsHeap by_sum new → (¬ IsCurrent all x) → KeepsCurrent initial new all
-  keeps-popped heap stale = record {
-    heap = heap;
+  pub keeps-popped : (¬ IsCurrent all x) → KeepsCurrent initial new all
+  keeps-popped stale = record {
     kept = kept-popped;
     entries = λ k d below. (left k d below).1;
     current = λ w at now.
@@ -76,16 +74,16 @@ module _ (initial old new : List Waiting) (all : List Node) (x : Waiting) (keeps
   }
 
   -- a current entry is taken
-  pub takes-popped : IsUpperBound by_sum x old → IsCurrent all x → (turn : Turn) → place_of x ≡ turn.id.0 → estimate_of x ≡ turn.estimate → TakesNext initial new all turn
-  takes-popped greatest now turn place estimate = record {
+  pub takes-popped : IsFirst x old → IsCurrent all x → (turn : Turn) → place_of x ≡ turn.id.0 → estimate_of x ≡ turn.estimate → TakesNext initial new all turn
+  takes-popped ahead now turn place estimate = record {
     next = x;
     stands = place;
     estimate = estimate;
     among = popped.0;
     current = now;
-    least = λ w at current. sum-le x w (greatest-of x old greatest w (keeps.current w at current));
-    nearest = λ w at current same. estimate-le x w (greatest-of x old greatest w (keeps.current w at current)) same;
-    first = λ w at current same near. place-le x w (greatest-of x old greatest w (keeps.current w at current)) same near;
+    least = λ w at current. sum-le x w (first-of x old ahead w (keeps.current w at current));
+    nearest = λ w at current same. estimate-le x w (first-of x old ahead w (keeps.current w at current)) same;
+    first = λ w at current same near. place-le x w (first-of x old ahead w (keeps.current w at current)) same near;
     rest = λ w at current other.
         elim (popped-cases old new x w moved (keeps.current w at current)) [
           | inl is ↦ absurd (other (ap place_of (sym is) ∙ place))

@@ -20,8 +20,11 @@ estimate_of w = w.0.1
 abbrev pub place_of : Waiting → ℕ
 place_of w = w.0.2.0
 
+abbrev pub entry_at : ℕ → ℕ → ℕ → Waiting
+entry_at sum estimate place = record { 0 = (sum, estimate, record { 0 = place }) }
+
 abbrev pub entry : ℕ → ℕ → ℕ → Waiting
-entry cost estimate place = record { 0 = (cost + estimate, estimate, record { 0 = place }) }
+entry cost estimate place = entry_at (cost + estimate) estimate place
 
 -- the entry's place is below this count, and its estimate is a part of its sum
 abbrev pub IsEntry : ℕ → Waiting → Type 0

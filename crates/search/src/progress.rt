@@ -1,27 +1,23 @@
 //! How far a search has come: the states found so far, and which of them wait to be expanded.
-ghost use Rattle.std.specs.Prelude.{◌≡◌, ◌≢◌, ℕ, ◌+◌, ◌<◌, ◌≤◌, ◌^◌, true, false, List, [], ◌∷◌, ◌++◌, length, slice_get, slice_set, Contains, All, MatchBool, MatchOption, IfOk, IfNone, IfSome, OnOk, Some, None};
-ghost use Rattle.std.specs.BinaryHeap.{IsHeap, heap_items};
+ghost use Rattle.std.specs.Prelude.{◌≡◌, ◌≢◌, ℕ, ◌+◌, ◌<◌, ◌≤◌, ◌^◌, true, false, List, [], ◌∷◌, ◌++◌, length, slice_get, slice_set, Contains, All, MatchBool, MatchOption, IfOk, IfNone, IfSome, OnOk, OnSome, Some};
 ghost use Rattle.packed_state.specs.Packed.{bits_of};
 ghost use Rattle.packed_state.specs.Store.{IsPlaced};
 ghost use Rattle.search.specs.Estimates.{value_by};
 ghost use Rattle.search.specs.Outcome.{AreMoreReachable};
 ghost use Rattle.search.specs.Nodes.{Waiting, entry, IsEntry, IsCurrent, AreOpen, IsPath, IsReachedIn};
-ghost use Rattle.search.specs.Progress.{by_sum, TakesNext, Joins, nodes_in, IsSearch, IsAtTurn, IsExpanding, Reaches, Expands, AreWide};
+ghost use Rattle.search.specs.Queue.{waiting_in, IsQueue, Joins};
+ghost use Rattle.search.specs.Progress.{TakesNext, nodes_in, IsSearch, IsAtTurn, IsExpanding, Reaches, Expands, AreWide};
 
 use crate::best::MAX_STATES;
 use crate::estimates::{Estimate, value_in};
 use crate::nodes::{FoundStates, Node, ShortId, StateId, steps_to};
 use crate::transitions::TransitionSystem;
 use crate::turns::{Parent, Turn};
+use crate::waiting::Queue;
 use faults::NoMemory;
 use packed_state::{Packed, StateStore};
 use std::alloc::Global;
 use std::cmp::Reverse;
-use std::collections::BinaryHeap;
-
-/// A waiting state: the sum of its cost and its estimate, the estimate, and its place. The one that comes next is the
-/// greatest: of the least sum, then of the least estimate, then the one found first.
-pub(crate) type QueueEntry = Reverse<(u64, u64, StateId)>;
 
 /// How far a search has come.
 #[derive(Drop)]
@@ -29,7 +25,7 @@ pub(crate) struct Progress<S> {
     pub(crate) store: S,
     pub(crate) nodes: Vec<Node>,
     /// Each waiting state, beside entries that are stale: a cheaper way was found, or it was expanded.
-    pub(crate) queue: BinaryHeap<QueueEntry>,
+    pub(crate) queue: Queue,
 }
 
 /// Buffers that each turn uses again, so that a state takes no memory but its place in the lists.
@@ -102,7 +98,7 @@ impl<S: StateStore> Progress<S> {
         let mut progress = Progress {
             store,
             nodes: Vec::new(alloc),
-            queue: BinaryHeap::new(alloc),
+            queue: Queue::new(alloc),
         };
         let value = value_in(estimate, &initial);
         let node = Node {
@@ -118,16 +114,17 @@ impl<S: StateStore> Progress<S> {
     /// The waiting state of the least sum of cost and estimate, among these of the least estimate and, among these, the one
     /// found first. It leaves the queue.
     pub(crate) fn next_waiting(&mut self) -> Option<Turn>
-        requires heap { IsHeap by_sum (heap_items self.old.queue) }
-        requires entries { All (IsEntry (length self.old.nodes.items)) (heap_items self.old.queue) }
+        requires heap { IsQueue self.old.queue }
+        requires entries { All (IsEntry (length self.old.nodes.items)) (waiting_in self.old.queue) }
         ensures store { self.new.store ≡ self.old.store }
         ensures nodes { self.new.nodes.items ≡ self.old.nodes.items }
-        ensures heap { IsHeap by_sum (heap_items self.new.queue) }
-        ensures kept { (w : Waiting) → Contains (heap_items self.new.queue) w → Contains (heap_items self.old.queue) w }
+        ensures heap { OnSome result (IsQueue self.new.queue) }
+        ensures kept { OnSome result ((w : Waiting) →
+            Contains (waiting_in self.new.queue) w → Contains (waiting_in self.old.queue) w) }
         ensures none { IfNone result ((w : Waiting) →
-            Contains (heap_items self.old.queue) w → ¬ IsCurrent self.old.nodes.items w) }
+            Contains (waiting_in self.old.queue) w → ¬ IsCurrent self.old.nodes.items w) }
         ensures some { IfSome result
-            (λ turn. TakesNext (heap_items self.old.queue) (heap_items self.new.queue) self.old.nodes.items turn) }
+            (λ turn. TakesNext (waiting_in self.old.queue) (waiting_in self.new.queue) self.old.nodes.items turn) }
     {
         while let Some(Reverse((sum, estimate, id))) = self.queue.pop() {
             let node = self.nodes[id.0 as usize];
@@ -140,11 +137,12 @@ impl<S: StateStore> Progress<S> {
 
     /// A new state waits.
     fn add(&mut self, id: StateId, node: Node, estimate: u64) -> Result<(), NoMemory>
-        requires { node.cost + estimate < 2 ^ 64 }
+        requires sum { node.cost + estimate < 2 ^ 64 }
+        requires place { id.0 < MAX_STATES }
         ensures store { self.new.store ≡ self.old.store }
         ensures nodes { OnOk result (self.new.nodes.items ≡ self.old.nodes.items ++ node ∷ []) }
         ensures queue { OnOk result
-            (Joins (heap_items self.old.queue) (heap_items self.new.queue) (entry node.cost estimate id.0)) }
+            (Joins self.old.queue self.new.queue (entry node.cost estimate id.0)) }
     {
         self.nodes.push(node)?;
         self.enqueue(id, node.cost, estimate)
@@ -154,10 +152,11 @@ impl<S: StateStore> Progress<S> {
     fn improve(&mut self, id: StateId, node: Node, estimate: u64) -> Result<(), NoMemory>
         requires found { id.0 < length self.old.nodes.items }
         requires sum { node.cost + estimate < 2 ^ 64 }
+        requires place { id.0 < MAX_STATES }
         ensures store { self.new.store ≡ self.old.store }
         ensures nodes { self.new.nodes.items ≡ slice_set self.old.nodes.items id.0 node }
         ensures queue { OnOk result
-            (Joins (heap_items self.old.queue) (heap_items self.new.queue) (entry node.cost estimate id.0)) }
+            (Joins self.old.queue self.new.queue (entry node.cost estimate id.0)) }
     {
         self.nodes[id.0 as usize] = node;
         self.enqueue(id, node.cost, estimate)
@@ -165,14 +164,14 @@ impl<S: StateStore> Progress<S> {
 
     /// The state waits at this cost.
     fn enqueue(&mut self, id: StateId, cost: u64, estimate: u64) -> Result<(), NoMemory>
-        requires { cost + estimate < 2 ^ 64 }
+        requires sum { cost + estimate < 2 ^ 64 }
+        requires place { id.0 < MAX_STATES }
         ensures store { self.new.store ≡ self.old.store }
         ensures nodes { self.new.nodes.items ≡ self.old.nodes.items }
         ensures queue { OnOk result
-            (Joins (heap_items self.old.queue) (heap_items self.new.queue) (entry cost estimate id.0)) }
+            (Joins self.old.queue self.new.queue (entry cost estimate id.0)) }
     {
-        self.queue.push(Reverse((cost + estimate, estimate, id)))?;
-        Ok(())
+        self.queue.push(Reverse((cost + estimate, estimate, id)))
     }
 
     /// The state is expanded from now on.
@@ -181,7 +180,7 @@ impl<S: StateStore> Progress<S> {
         ensures store { self.new.store ≡ self.old.store }
         ensures nodes { (node : _) → slice_get self.old.nodes.items id.0 ≡ Some node
             → self.new.nodes.items ≡ slice_set self.old.nodes.items id.0 (record node { is_expanded = true }) }
-        ensures queue { heap_items self.new.queue ≡ heap_items self.old.queue }
+        ensures queue { self.new.queue ≡ self.old.queue }
     {
         self.nodes[id.0 as usize].is_expanded = true;
     }

@@ -1,6 +1,6 @@
 use Rattle.std.proofs.Common.{List, Bool, ◌≡◌, ℕ, ◌+◌, length, ap, sym, ◌∙◌, subst, arith, Some, get_or, true}
 use Rattle.std.specs.Prelude.{slice_get}
-use Rattle.std.specs.BinaryHeap.{heap_items}
+use Rattle.search.specs.Queue.{waiting_in}
 use Rattle.std.proofs.lemmas.List.Sums.{count_by-le-length}
 use Rattle.std.proofs.lemmas.Option.{same_Some, get_or_from_slice_get, slice_get_within}
 use Rattle.packed_state.specs.Packed.{bits_of}
@@ -82,7 +82,7 @@ expand-requires-clause-turn g c =
     let next = at_turn _ _ _ _ _ search.one_each search.nodes _ c.in-Some.turn c.in-Some.ensures.some in
     record {
       one_each = rw (c.in-Some.ensures.nodes, c.in-Some.ensures.store) search.one_each;
-      queue = heap_items c.loop-turn.progress.queue;
+      queue = waiting_in c.loop-turn.progress.queue;
       nodes = rw (c.in-Some.ensures.store, c.in-Some.ensures.nodes) search.nodes;
       heap = c.in-Some.ensures.heap;
       found = next.found;

@@ -1,6 +1,7 @@
-use Rattle.std.proofs.Common.{◌≡◌, ◌+◌, ◌<◌, ◌≤◌, ◌∷◌, length, ap, sym, subst, refl, ◌∙◌, arith, vec_len, Some, false}
+use Rattle.std.proofs.Common.{◌≡◌, ◌+◌, ◌<◌, ◌≤◌, [], ◌∷◌, length, ap, sym, subst, refl, ◌∙◌, arith, vec_len, Some, false}
 use Rattle.std.specs.Prelude.{Contains, IsPermutation, slice_get}
-use Rattle.std.specs.BinaryHeap.{heap_items}
+use Rattle.search.specs.Queue.{waiting_in}
+use Rattle.std.proofs.lemmas.List.{length-append}
 use Rattle.std.proofs.lemmas.Option.{get_or_from_slice_get, slice_get_read, slice_get_within}
 use Rattle.packed_state.specs.Packed.{bits_of}
 use Rattle.packed_state.specs.Store.{IsPlaced}
@@ -72,7 +73,7 @@ returns-in_default-clause-listed g c =
     let states = g.S.StateStore.states c.args.self.now.store in
     let s = bits_of c.args.state.now in
     let full : (¬ Contains states s) × (length states ≡ c.args.max_states) = rw c.in_default.is at c.in_ok-id.ensures.placed in
-    more_reachable (g.T.TransitionSystem.means c.args.system.now) (value_by (g.E.Estimate.score_of c.args.estimate.now)) states c.args.self.now.nodes.items (heap_items c.args.self.now.queue)
+    more_reachable (g.T.TransitionSystem.means c.args.system.now) (value_by (g.E.Estimate.score_of c.args.estimate.now)) states c.args.self.now.nodes.items (waiting_in c.args.self.now.queue)
     e.search.one_each e.search.nodes c.args.parent.now.id.0 e.turn c.args.action s
     (leads g (goal.at.returns-in_default-clause-listed g c).After-from) full.0 c.args.max_states full.1
 
@@ -97,14 +98,14 @@ returns-in_ok-add-clause-listed g c =
     let placed : IsPlaced states after s c.in-Some.id.0 c.in-Some.is_new = rw c.in-Some.is at c.in_ok-id.ensures.placed in
     let new = placed_new states after s c.in-Some.id.0 c.in-Some.is_new c.if-is_new.true placed in
     let stored : g.S.StateStore.states c.add.new.self.store ≡ after = rw c.in_ok-add.ensures.store refl in
-    let step = stepped_new (g.T.TransitionSystem.means c.args.system.now) (value_by (g.E.Estimate.score_of c.args.estimate.now)) states all (heap_items c.args.self.now.queue) c.args.parent.now.id.0
+    let step = stepped_new (g.T.TransitionSystem.means c.args.system.now) (value_by (g.E.Estimate.score_of c.args.estimate.now)) states all (waiting_in c.args.self.now.queue) c.args.parent.now.id.0
     e.search.one_each e.search.nodes e.turn e.others_open s
     (record { cost = c.index-before.result.now.cost + c.from.result; is_expanded = false; parent = c.new.result; action = c.args.action }) refl c.new.ensures
     (omega (arith, same, c.from.ensures, c.cost.ensures)) (omega (arith, c.cost.ensures))
     (leads g here)
-    new.0 (g.S.StateStore.states c.add.new.self.store) c.add.new.self.nodes.items c.in-Some.id.0 (heap_items c.add.new.self.queue)
+    new.0 (g.S.StateStore.states c.add.new.self.store) c.add.new.self.nodes.items c.in-Some.id.0 (waiting_in c.add.new.self.queue)
     (stored ∙ new.1) c.in_ok-add.ensures.nodes new.2
-    (subst (λ v. IsPermutation (entry (c.index-before.result.now.cost + c.from.result) v c.in-Some.id.0 ∷ heap_items c.args.self.now.queue) (heap_items c.add.new.self.queue)) c.value_after-value.ensures.value c.in_ok-add.ensures.queue.joins) in
+    (subst (λ v. IsPermutation (entry (c.index-before.result.now.cost + c.from.result) v c.in-Some.id.0 ∷ waiting_in c.args.self.now.queue) (waiting_in c.add.new.self.queue)) c.value_after-value.ensures.value c.in_ok-add.ensures.queue.joins) in
     record {
       expanding = record {
         search = record { one_each = step.0; nodes = step.1.sound; heap = c.in_ok-add.ensures.queue.heap e.search.heap };
@@ -129,15 +130,15 @@ returns-in_ok-improve-clause-listed g c =
     let was : slice_get all c.in-Some.id.0 ≡ Some c.index.result.now =
     slice_get_read all (length all) c.in-Some.id.0 c.index.result.now refl known.2 c.index.ensures in
     let stored : g.S.StateStore.states c.improve.new.self.store ≡ after = rw c.in_ok-improve.ensures.store refl in
-    let step = stepped_cheaper (g.T.TransitionSystem.means c.args.system.now) (value_by (g.E.Estimate.score_of c.args.estimate.now)) states all (heap_items c.args.self.now.queue) c.args.parent.now.id.0
+    let step = stepped_cheaper (g.T.TransitionSystem.means c.args.system.now) (value_by (g.E.Estimate.score_of c.args.estimate.now)) states all (waiting_in c.args.self.now.queue) c.args.parent.now.id.0
     e.search.one_each e.search.nodes e.turn e.others_open s
     (record { cost = c.index-before.result.now.cost + c.from.result; is_expanded = false; parent = c.new.result; action = c.args.action }) refl c.new.ensures
     (omega (arith, same, c.from.ensures, c.cost.ensures)) (omega (arith, c.cost.ensures))
     (leads g here)
     c.in-Some.id.0 c.index.result.now known.0 was c.if-cost-index.true
-    (g.S.StateStore.states c.improve.new.self.store) c.improve.new.self.nodes.items (heap_items c.improve.new.self.queue)
+    (g.S.StateStore.states c.improve.new.self.store) c.improve.new.self.nodes.items (waiting_in c.improve.new.self.queue)
     (stored ∙ known.1) c.in_ok-improve.ensures.nodes
-    (subst (λ v. IsPermutation (entry (c.index-before.result.now.cost + c.from.result) v c.in-Some.id.0 ∷ heap_items c.args.self.now.queue) (heap_items c.improve.new.self.queue)) c.value_after-value-then-cost-index.ensures.value c.in_ok-improve.ensures.queue.joins) in
+    (subst (λ v. IsPermutation (entry (c.index-before.result.now.cost + c.from.result) v c.in-Some.id.0 ∷ waiting_in c.args.self.now.queue) (waiting_in c.improve.new.self.queue)) c.value_after-value-then-cost-index.ensures.value c.in_ok-improve.ensures.queue.joins) in
     record {
       expanding = record {
         search = record { one_each = step.0; nodes = step.1.sound; heap = c.in_ok-improve.ensures.queue.heap e.search.heap };
@@ -161,7 +162,7 @@ returns-else-cost-index-clause-listed g c =
     let known = was_listed g (goal.at.returns-else-cost-index-clause-listed g c).In-Some c.if-is_new.false in
     let was : slice_get all c.in-Some.id.0 ≡ Some c.index.result.now =
     slice_get_read all (length all) c.in-Some.id.0 c.index.result.now refl known.2 c.index.ensures in
-    let step = stepped_same (g.T.TransitionSystem.means c.args.system.now) (value_by (g.E.Estimate.score_of c.args.estimate.now)) states all (heap_items c.args.self.now.queue) c.args.parent.now.id.0
+    let step = stepped_same (g.T.TransitionSystem.means c.args.system.now) (value_by (g.E.Estimate.score_of c.args.estimate.now)) states all (waiting_in c.args.self.now.queue) c.args.parent.now.id.0
     e.search.one_each e.search.nodes e.turn e.others_open s
     (record { cost = c.index-before.result.now.cost + c.from.result; is_expanded = false; parent = c.new.result; action = c.args.action }) refl c.new.ensures
     (omega (arith, same, c.from.ensures, c.cost.ensures)) (omega (arith, c.cost.ensures))
@@ -178,10 +179,23 @@ returns-else-cost-index-clause-listed g c =
       listed = step.1.listed;
     }
 
-pub add-requires : goal.add-requires
-add-requires g c =
-    omega (arith, limits g (goal.at.add-requires g c).After-from, c.from.ensures, c.cost.ensures, c.value_after-value.ensures.within)
+pub add-requires-clause-sum : goal.add-requires-clause-sum
+add-requires-clause-sum g c =
+    omega (arith, limits g (goal.at.add-requires-clause-sum g c).After-from, c.from.ensures, c.cost.ensures, c.value_after-value.ensures.within)
 
 pub improve-requires-clause-sum : goal.improve-requires-clause-sum
 improve-requires-clause-sum g c =
     omega (arith, limits g (goal.at.improve-requires-clause-sum g c).After-from, c.from.ensures, c.cost.ensures, c.value_after-value-then-cost-index.ensures.within)
+
+pub add-requires-clause-place : goal.add-requires-clause-place
+add-requires-clause-place g c =
+    let states = g.S.StateStore.states c.args.self.now.store in
+    let after = g.S.StateStore.states c.place_of_state.new.store in
+    let s = bits_of c.args.state.now in
+    let placed : IsPlaced states after s c.in-Some.id.0 c.in-Some.is_new = rw c.in-Some.is at c.in_ok-id.ensures.placed in
+    let new = placed_new states after s c.in-Some.id.0 c.in-Some.is_new c.if-is_new.true placed in
+    omega (arith, ap length new.1, length-append states (s ∷ []), new.2, c.in_ok-id.ensures.within, c.requires.limit)
+
+pub improve-requires-clause-place : goal.improve-requires-clause-place
+improve-requires-clause-place g c =
+    omega (arith, (was_listed g (goal.at.improve-requires-clause-place g c).In-Some c.if-is_new.false).2, c.requires.expanding.search.one_each, c.requires.within, c.requires.limit)
