@@ -2,6 +2,8 @@
 #![tactic(auto)]
 
 #[cfg(test)]
+mod dear_doors;
+#[cfg(test)]
 mod packed_states;
 #[cfg(test)]
 mod refused_inserts;
