@@ -3,7 +3,6 @@ use Rattle.std.proofs.Common.{◌≡◌, ℕ, zero, suc, ◌+◌, ◌≤◌, inl
 use Rattle.std.specs.Prelude.{slice_get, Contains, if◌then◌else◌}
 use Rattle.std.proofs.lemmas.Bool.{false≢true}
 use Rattle.std.proofs.lemmas.Option.{same_Some, slice_get_within}
-use Rattle.std.proofs.lemmas.List.{length-append}
 use Rattle.std.proofs.lemmas.List.Sums.{sum_by-append, count_by-le-length}
 use Rattle.std.proofs.Math.Nat.{mul-le-mul_right}
 use Rattle.model.specs.Runs.{System, run, cost_of_all, CostsAtLeast, Solves, IsOptimal, IsUnsolvable}
@@ -11,10 +10,9 @@ use Rattle.model.specs.Claims.{Claim, bound, none, Allows, Line, IsListedWithin,
 use Rattle.model.proofs.ClaimsLemmas.{claim-of_closed}
 use Rattle.model.proofs.ListLemmas.{Contains-here, Contains-there, Contains-cases, Contains-none}
 use Rattle.search.specs.declared.nodes.Node.{Node}
-use Rattle.search.specs.declared.nodes.Origin.{Origin}
 use Rattle.search.specs.Estimates.{IsConsistent}
 use Rattle.search.specs.Outcome.{line_of, lines_of, AreFound, AreExpandedWithin}
-use Rattle.search.specs.Nodes.{Waiting, Found, found_of, AreNodes, IsFoundWithin, AreOpen, AreDescending, IsPath, begins, follows, depth_of, expanded_count, dearest}
+use Rattle.search.specs.Nodes.{Waiting, Found, found_of, AreNodes, IsFoundWithin, AreOpen, parent_of, begins, follows, IsPath, IsReachedIn, IsWay, expanded_count, dearest}
 use Rattle.search.proofs.Consistent.{lower_bound}
 use Rattle.search.proofs.NodesLemmas.{run-push}
 use Rattle.search.proofs.Linked.{found_of-get, get-found_of, length-found_of}
@@ -95,46 +93,39 @@ module _ {S : Type 0} (t : System S ℕ) (value : S → ℕ) (states : List S) (
           );
     }
 
-    pub descending : AreDescending all
-    descending k node origin at is =
-        let s = get_exists states k (omega (arith, slice_get_within all k node at)) in
-        let leads = nodes.linked k (record { state = s.0; node = node }) origin (get-found_of states all k s.0 node s.1 at) is in
-        (leads.parent.node, (found_of-get states all origin.parent.0 leads.parent leads.stands).1, leads.depth)
-
-    -- what an origin says of a node is said of the found state
-    same_origin : (k : ℕ) (node : Node) (n : Found S) (o : Option Origin) → slice_get all k ≡ Some node → node.origin ≡ o → slice_get (found_of states all) k ≡ Some n → n.node.origin ≡ o
-    same_origin k node n o at is there =
-        ap (λ (x : Node). x.origin) (same_Some n.node node (sym (found_of-get states all k n there).1 ∙ at)) ∙ is
-
-    -- the actions along the origins lead from the initial state to the node, at its cost
-    pub path_runs : (k : ℕ) (path : List ℕ) (n : Found S) → IsPath all k path → slice_get (found_of states all) k ≡ Some n
-        → (run t t.initial path ≡ Some n.state) × (cost_of_all t path ≡ n.node.cost)
-    path_runs k path n (begins node at root is) there =
-        let first : k ≡ 0 = nodes.only_root k n there (same_origin k node n None at root there) in
-        let same : nodes.root.0 ≡ n = same_Some nodes.root.0 n (sym nodes.root.1 ∙ ap (slice_get (found_of states all)) (sym first) ∙ there) in (
-          ap (λ (p : List ℕ). run t t.initial p) is ∙ ap Some (sym nodes.root.2 ∙ ap (λ (x : Found S). x.state) same),
-          ap (λ (p : List ℕ). cost_of_all t p) is ∙ sym nodes.root.3 ∙ ap (λ (x : Found S). x.node.cost) same,
-        )
-    path_runs k path n (follows node origin before at some earlier is) there =
-        let leads = nodes.linked k n origin there (same_origin k node n (Some origin) at some there) in
-        let (runs, costs) = path_runs origin.parent.0 before leads.parent earlier leads.stands in (
-          ap (run t t.initial) is ∙ run-push t t.initial before origin.action leads.parent.state n.state runs leads.step,
-          ap (cost_of_all t) is ∙ sum_by-append t.cost before (origin.action ∷ []) ∙ omega (arith, costs, leads.cost),
-        )
-
     few_expanded : expanded_count (found_of states all) ≤ length states
     few_expanded =
         omega (arith, count_by-le-length (λ (n : Found S). n.node.is_expanded) (found_of states all), length-found_of states all one_each)
 
-    -- there are as many actions along the origins as the node's depth says
-    path_length : (k : ℕ) (path : List ℕ) (n : Found S) → IsPath all k path → slice_get (found_of states all) k ≡ Some n → length path ≡ depth_of n.node.origin
-    path_length k path n (begins node at root is) there =
-        ap length is ∙ ap depth_of (sym (same_origin k node n None at root there))
-    path_length k path n (follows node origin before at some earlier is) there =
-        let is_origin : n.node.origin ≡ Some origin = same_origin k node n (Some origin) at some there in
-        let leads = nodes.linked k n origin there is_origin in
-        let shorter = path_length origin.parent.0 before leads.parent earlier leads.stands in
-        ap length is ∙ length-append before (origin.action ∷ []) ∙ ap (λ m. m + 1) shorter ∙ sym leads.depth ∙ ap depth_of (sym is_origin)
+    -- the way to a found state, among the nodes alone
+    path_of : (k : ℕ) (way : List ℕ) → IsWay (found_of states all) k way → IsPath all k way
+    path_of k way (begins first is) = begins first is
+    path_of k way (follows n before elsewhere at earlier is) =
+        follows n.node before elsewhere (found_of-get states all k n at).1 (path_of (parent_of n.node) before earlier) is
+
+    -- the parents lead to each node
+    pub reached_in : (k : ℕ) (n : Found S) → slice_get (found_of states all) k ≡ Some n → IsReachedIn all k (length all)
+    reached_in k n at =
+        let (way, leads, short) = nodes.shallow k n at in
+        (way, path_of k way leads, omega (arith, short, few_expanded, one_each))
+
+    -- the actions along the parents lead from the initial state to the node, at its cost
+    pub path_runs : (k : ℕ) (path : List ℕ) (n : Found S) → IsPath all k path → slice_get (found_of states all) k ≡ Some n
+        → (run t t.initial path ≡ Some n.state) × (cost_of_all t path ≡ n.node.cost)
+    path_runs k path n (begins first is) there =
+        let same : nodes.root.0 ≡ n = same_Some nodes.root.0 n (sym nodes.root.1 ∙ ap (slice_get (found_of states all)) (sym first) ∙ there) in (
+          ap (λ (p : List ℕ). run t t.initial p) is ∙ ap Some (sym nodes.root.2 ∙ ap (λ (x : Found S). x.state) same),
+          ap (λ (p : List ℕ). cost_of_all t p) is ∙ sym nodes.root.3 ∙ ap (λ (x : Found S). x.node.cost) same,
+        )
+    path_runs k path n (follows node before elsewhere at earlier is) there =
+        let same : n.node ≡ node = same_Some n.node node (sym (found_of-get states all k n there).1 ∙ at) in
+        let leads = nodes.linked k n there elsewhere in
+        let stands : slice_get (found_of states all) (parent_of node) ≡ Some leads.parent = ap (λ (x : Node). slice_get (found_of states all) (parent_of x)) (sym same) ∙ leads.stands in
+        let by : n.node.action ≡ node.action = ap (λ (x : Node). x.action) same in
+        let (runs, costs) = path_runs (parent_of node) before leads.parent earlier stands in (
+          ap (run t t.initial) is ∙ run-push t t.initial before node.action leads.parent.state n.state runs (ap (t.step leads.parent.state) (sym by) ∙ leads.step),
+          ap (cost_of_all t) is ∙ sum_by-append t.cost before (node.action ∷ []) ∙ omega (arith, costs, leads.cost, ap t.cost by),
+        )
 
     found_states : (claim : Claim) (max_states : ℕ) → length states ≤ max_states → IsClosed t value claim (lines_of value states all) → AreFound t value claim max_states states all
     found_states claim max_states within is_closed = record {
@@ -169,10 +160,10 @@ module _ {S : Type 0} (t : System S ℕ) (value : S → ℕ) (states : List S) (
     -- a goal state whose turn came is reached by a cheapest list
     pub optimal : IsConsistent t value → (i : ℕ) (one : Found S) (steps : List ℕ) (max_states : ℕ) → AreOpen t (found_of states all) → slice_get (found_of states all) i ≡ Some one
         → ((k : ℕ) (n : Found S) → slice_get (found_of states all) k ≡ Some n → n.node.is_expanded ≡ false → one.node.cost + value one.state ≤ n.node.cost + value n.state)
-        → t.meets_goal one.state ≡ true → IsPath all i steps → length states ≤ max_states
+        → t.meets_goal one.state ≡ true → IsPath all i steps → length steps ≤ length all → length states ≤ max_states
         → IsOptimal t steps × (cost_of_all t steps ≡ one.node.cost) × AreFound t value (bound one.node.cost) max_states states all
         × (length steps ≤ max_states) × AreExpandedWithin value one.node.cost states all
-    optimal consistent i one steps max_states are_open stands least goal path within =
+    optimal consistent i one steps max_states are_open stands least goal path short within =
         let nothing_left : value one.state ≡ 0 = consistent.zero_at_goals one.state goal in
         let is_closed = closed (bound one.node.cost) are_open (λ k n at waits. omega (arith, least k n at waits, nothing_left)) in
         let holds = no_plan_cheaper consistent one are_open least in
@@ -181,7 +172,7 @@ module _ {S : Type 0} (t : System S ℕ) (value : S → ℕ) (states : List S) (
           (solves, λ plan is_plan. omega (arith, holds plan is_plan, costs)),
           costs,
           found_states (bound one.node.cost) max_states within is_closed,
-          omega (arith, path_length i steps one path stands, nodes.shallow i one stands, few_expanded),
+          omega (arith, short, one_each, within),
           λ k s r at_s at_r expanded. omega (arith, nodes.no_dearer k (record { state = s; node = r }) (node_at k s r at_s at_r) expanded steps solves, costs),
         )
 

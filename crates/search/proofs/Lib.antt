@@ -6,5 +6,6 @@ pub mod Lists
 pub mod Marked
 pub mod NodesLemmas
 pub mod Queue
+pub mod QueueLemmas
 pub mod Steps
 pub mod Ways

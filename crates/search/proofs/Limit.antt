@@ -1,5 +1,5 @@
 -- Where one state more is found than may be listed: each of them is found from one whose sum is no more than any plan costs.
-use Rattle.std.proofs.Common.{◌≡◌, ℕ, ◌+◌, ◌<◌, ◌≢◌, inl, inr, List, [], ◌∷◌, ◌++◌, length, Some, None, true, refl, sym, ap, ◌∙◌, subst, arith}
+use Rattle.std.proofs.Common.{◌≡◌, ℕ, ◌+◌, ◌≢◌, inl, inr, List, [], ◌∷◌, ◌++◌, length, Some, true, refl, sym, ap, ◌∙◌, subst, arith}
 use Rattle.std.specs.Prelude.{slice_get, Contains}
 use Rattle.std.proofs.lemmas.Bool.{cases_eq}
 use Rattle.std.proofs.lemmas.Option.{same_Some, slice_get_within}
@@ -10,7 +10,7 @@ use Rattle.model.specs.Runs.{System, CostsAtLeast, IsReachable}
 use Rattle.search.specs.declared.nodes.Node.{Node}
 use Rattle.search.specs.Outcome.{PrecedesPlans, is_initial, is_next, AreMoreReachable}
 use Rattle.packed_state.specs.Store.{AreDistinct}
-use Rattle.search.specs.Nodes.{Waiting, Found, found_of, AreNodes, IsTurn}
+use Rattle.search.specs.Nodes.{Waiting, parent_of, Found, found_of, AreNodes, IsTurn}
 use Rattle.search.proofs.Lists.{get-push_new, get-push_other, get_exists}
 use Rattle.search.proofs.Linked.{get-found_of}
 use Rattle.search.proofs.NodesLemmas.{run-push}
@@ -61,18 +61,17 @@ module _ {S : Type 0} (t : System S ℕ) (value : S → ℕ) (states : List S) (
       let (actions, runs, costs) = nodes.reachable k n there in
       is_next actions n.state a runs (nodes.no_goal k n there expanded) (subst (λ c. CostsAtLeast t (c + value n.state)) (sym costs) (nodes.no_dearer k n there expanded)) leads
 
-  -- a found state is the initial one, or has an origin
+  -- a found state is the initial one, or has a parent
   precedes-found : (k : ℕ) (n : Found S) → slice_get (found_of states all) k ≡ Some n → PrecedesPlans t value n.state
   precedes-found k n there =
-      elim n.node.origin as (λ o. n.node.origin ≡ o → PrecedesPlans t value n.state) [
-        | None ↦ λ none.
-            let first : k ≡ 0 = nodes.only_root k n there none in
+      elim (cases_eq k 0) [
+        | inl first ↦
             let same : nodes.root.0 ≡ n = same_Some nodes.root.0 n (sym nodes.root.1 ∙ ap (slice_get (found_of states all)) (sym first) ∙ there) in
             is_initial (sym (ap (λ (y : Found S). y.state) same) ∙ nodes.root.2)
-        | Some o ↦ λ some.
-            let leads = nodes.linked k n o there some in
-            precedes-next o.parent.0 leads.parent leads.stands leads.is_expanded o.action n.state leads.step
-      ] refl
+        | inr elsewhere ↦
+            let leads = nodes.linked k n there elsewhere in
+            precedes-next (parent_of n.node) leads.parent leads.stands leads.is_expanded n.node.action n.state leads.step
+      ]
 
   with_reach : (x : S) → PrecedesPlans t value x → IsReachable t x × PrecedesPlans t value x
   with_reach x precedes = (reachable-of_precedes t value x precedes, precedes)

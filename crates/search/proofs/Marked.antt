@@ -1,12 +1,11 @@
 -- What a search keeps true when a state's turn comes and goes.
-use Rattle.std.proofs.Common.{◌≡◌, ℕ, ◌+◌, ◌*◌, ◌≤◌, ◌≢◌, inl, inr, List, Some, None, true, false, refl, sym, ap, ◌∙◌, subst, arith}
+use Rattle.std.proofs.Common.{◌≡◌, ℕ, ◌+◌, ◌*◌, ◌≤◌, ◌≢◌, inl, inr, List, Some, true, false, refl, sym, ap, ◌∙◌, subst, arith}
 use Rattle.std.specs.Prelude.{slice_get, Contains, All}
 use Rattle.std.proofs.lemmas.Bool.{cases_eq, false≢true}
 use Rattle.std.proofs.lemmas.List.Elements.{All-weaker}
 use Rattle.std.proofs.lemmas.Option.{same_Some}
 use Rattle.model.specs.Runs.{System, CostsAtLeast}
-use Rattle.search.specs.declared.nodes.Origin.{Origin}
-use Rattle.search.specs.Nodes.{Waiting, place_of, entry, IsEntryOf, depth_of, Found, expanded_count, Leads, dearest, AreNodes, IsFoundWithin, IsOpen, AreOpen, AreOpenBut, IsTurn, marked}
+use Rattle.search.specs.Nodes.{Waiting, place_of, entry, IsEntryOf, parent_of, begins, follows, IsWay, HasWay, Found, expanded_count, Leads, dearest, AreNodes, IsFoundWithin, IsOpen, AreOpen, AreOpenBut, IsTurn, marked}
 use Rattle.search.specs.Outcome.{IsReachableAt, ReachingCostsAtLeast}
 
 module _ {S : Type 0} (nodes after : List (Found S)) (i : ℕ) (one : Found S) (stood : slice_get nodes i ≡ Some one) (waited : one.node.is_expanded ≡ false)
@@ -37,6 +36,18 @@ module _ {S : Type 0} (nodes after : List (Found S)) (i : ℕ) (one : Found S) (
         | inr other ↦ (k, n, others k other ∙ at, is, within)
       ]
 
+  -- a way leads where it led
+  way_marked : (k : ℕ) (way : List ℕ) → IsWay nodes k way → IsWay after k way
+  way_marked k way (begins first none) = begins first none
+  way_marked k way (follows n before elsewhere at earlier is) =
+      let rest = way_marked (parent_of n.node) before earlier in
+      elim (cases_eq k i) [
+        | inl e ↦
+            let same : one ≡ n = same_Some one n (sym stood ∙ ap (slice_get nodes) (sym e) ∙ at) in
+            follows (marked n) before elsewhere (ap (slice_get after) e ∙ here ∙ ap (λ (x : Found S). Some (marked x)) same) rest is
+        | inr other ↦ follows n before elsewhere (others k other ∙ at) rest is
+      ]
+
   -- an entry's state stays where it is
   entry_marked : (value : S → ℕ) (w : Waiting) → IsEntryOf value nodes w → IsEntryOf value after w
   entry_marked value w of =
@@ -56,15 +67,28 @@ module _ {S : Type 0} (nodes after : List (Found S)) (i : ℕ) (one : Found S) (
   entries_marked value queue all = All-weaker (IsEntryOf value nodes) (IsEntryOf value after) (entry_marked value) queue all
 
   module _ (t : System S ℕ) (value : S → ℕ) (queue queue' : List Waiting) (old : AreNodes t value nodes queue) where
-    leads_marked : (n n' : Found S) (origin : Origin) → n'.state ≡ n.state → n'.node.cost ≡ n.node.cost → Leads t nodes n origin → Leads t after n' origin
-    leads_marked n n' origin same_state same_cost leads = record {
+    leads_marked : (n : Found S) → Leads t nodes n → Leads t after n
+    leads_marked n leads = record {
       parent = leads.parent;
-      stands = stays_marked origin.parent.0 leads.parent leads.stands leads.is_expanded;
+      stands = stays_marked (parent_of n.node) leads.parent leads.stands leads.is_expanded;
       is_expanded = leads.is_expanded;
-      depth = leads.depth;
-      cost = same_cost ∙ leads.cost;
-      step = leads.step ∙ ap Some (sym same_state);
+      cost = leads.cost;
+      step = leads.step;
     }
+
+    marked_leads : (n : Found S) → Leads t after n → Leads t after (marked n)
+    marked_leads n leads = record {
+      parent = leads.parent;
+      stands = leads.stands;
+      is_expanded = leads.is_expanded;
+      cost = leads.cost;
+      step = leads.step;
+    }
+
+    way_still : (k : ℕ) (n : Found S) → slice_get nodes k ≡ Some n → HasWay after k (expanded_count after)
+    way_still k n at =
+        let (way, leads, short) = old.shallow k n at in
+        (way, way_marked k way leads, omega (arith, short, count))
 
     pub nodes_marked : t.meets_goal one.state ≡ false → CostsAtLeast t (one.node.cost + value one.state) → ReachingCostsAtLeast t one.state one.node.cost
         → ((k : ℕ) (n : Found S) → slice_get nodes k ≡ Some n → n.node.is_expanded ≡ false → k ≢ i → Contains queue' (entry n.node.cost (value n.state) k))
@@ -77,11 +101,9 @@ module _ {S : Type 0} (nodes after : List (Found S)) (i : ℕ) (one : Found S) (
                 (marked one, ap (slice_get after) e ∙ here, ap (λ (x : Found S). x.state) same ∙ old.root.2, ap (λ (x : Found S). x.node.cost) same ∙ old.root.3)
             | inr other ↦ (old.root.0, others 0 other ∙ old.root.1, old.root.2, old.root.3)
           ];
-      only_root = each_marked (λ k n. n.node.origin ≡ None → k ≡ 0) (λ none. old.only_root i one stood none) (λ k n other at. old.only_root k n at);
-      linked = λ k n o.
-          each_marked (λ k n. n.node.origin ≡ Some o → Leads t after n o)
-          (λ is. leads_marked one (marked one) o refl refl (old.linked i one o stood is))
-          (λ k n other at is. leads_marked n n o refl refl (old.linked k n o at is)) k n;
+      linked = each_marked (λ k n. k ≢ 0 → Leads t after n)
+          (λ elsewhere. marked_leads one (leads_marked one (old.linked i one stood elsewhere)))
+          (λ k n _ at elsewhere. leads_marked n (old.linked k n at elsewhere));
       distinct = λ p k x n at_p at_k same.
           each_marked (λ p x. x.state ≡ n.state → p ≡ k)
           (each_marked (λ k n. one.state ≡ n.state → i ≡ k) (λ _. refl) (λ k n _ at same. old.distinct i k one n stood at same) k n at_k)
@@ -89,7 +111,7 @@ module _ {S : Type 0} (nodes after : List (Found S)) (i : ℕ) (one : Found S) (
           each_marked (λ k n. x.state ≡ n.state → p ≡ k) (λ same. old.distinct p i x one at stood same) (λ k n _ at' same. old.distinct p k x n at at' same) k n at_k)
           p x at_p same;
       cheap = rw count (each_marked (λ k n. n.node.cost ≤ (expanded_count nodes + 1) * dearest) (omega (arith, old.cheap i one stood)) (λ k n _ at. omega (arith, old.cheap k n at)));
-      shallow = rw count (each_marked (λ k n. depth_of n.node.origin ≤ expanded_count nodes + 1) (omega (arith, old.shallow i one stood)) (λ k n _ at. omega (arith, old.shallow k n at)));
+      shallow = each_marked (λ k n. HasWay after k (expanded_count after)) (way_still i one stood) (λ k n _ at. way_still k n at);
       reachable = each_marked (λ k n. IsReachableAt t n.state n.node.cost) (old.reachable i one stood) (λ k n _ at. old.reachable k n at);
       no_goal = each_marked (λ k n. n.node.is_expanded ≡ true → t.meets_goal n.state ≡ false) (λ _. no_goal) (λ k n _ at. old.no_goal k n at);
       no_dearer = each_marked (λ k n. n.node.is_expanded ≡ true → CostsAtLeast t (n.node.cost + value n.state)) (λ _. no_dearer) (λ k n _ at. old.no_dearer k n at);
@@ -102,13 +124,17 @@ module _ {S : Type 0} (nodes after : List (Found S)) (i : ℕ) (one : Found S) (
 
     -- its turn begins
     pub turn_marked : IsTurn after i
-    turn_marked = record {
-      found = marked one;
-      stands = here;
-      is_expanded = refl;
-      cheap = rw count (omega (arith, old.cheap i one stood));
-      shallow = rw count (omega (arith, old.shallow i one stood));
-    }
+    turn_marked =
+        let (way, leads, short) = old.shallow i one stood in
+        record {
+          found = marked one;
+          stands = here;
+          is_expanded = refl;
+          cheap = rw count (omega (arith, old.cheap i one stood));
+          way = way;
+          leads = way_marked i way leads;
+          shallow = omega (arith, short, count);
+        }
 
     pub open_but_marked : AreOpen t nodes → AreOpenBut t after i
     open_but_marked all = each_marked (λ k n. n.node.is_expanded ≡ true → k ≢ i → IsOpen t after n)

@@ -7,11 +7,11 @@ use Rattle.model.proofs.ListLemmas.{Contains-here, Contains-there}
 use Rattle.std.specs.Option.{option_and_then}
 use Rattle.std.proofs.lemmas.Bool.{cases_eq, false≢true}
 use Rattle.std.proofs.lemmas.Option.{same_Some}
+use Rattle.std.proofs.lemmas.List.{length-append}
 use Rattle.std.proofs.lemmas.List.Sums.{sum_by-append}
 use Rattle.model.specs.Runs.{System, run, CostsAtLeast}
-use Rattle.search.specs.declared.nodes.Origin.{Origin}
 use Rattle.search.specs.Outcome.{IsReachableAt, ReachingCostsAtLeast}
-use Rattle.search.specs.Nodes.{Waiting, place_of, entry, IsEntryOf, depth_of, Found, expanded_count, Leads, dearest, AreNodes, IsFoundWithin, IsOpen, AreOpenBut, IsTurn, Updates}
+use Rattle.search.specs.Nodes.{Waiting, place_of, entry, IsEntryOf, parent_of, begins, follows, IsWay, HasWay, Found, expanded_count, Leads, dearest, AreNodes, IsFoundWithin, IsOpen, AreOpenBut, IsTurn, Updates}
 use Rattle.search.specs.Progress.{Continues, IsListed}
 
 -- What holds of the nodes after a step of an expansion, by which the state is reached by the action.
@@ -83,15 +83,26 @@ module _ {S : Type 0} (nodes after : List (Found S)) (j : ℕ) (m : Found S) (up
       ]
 
   module _ (t : System S ℕ) (value : S → ℕ) where
-    leads_still : (n : Found S) (origin : Origin) → Leads t nodes n origin → Leads t after n origin
-    leads_still n origin leads = record {
+    leads_still : (n : Found S) → Leads t nodes n → Leads t after n
+    leads_still n leads = record {
       parent = leads.parent;
-      stands = stays origin.parent.0 leads.parent leads.stands leads.is_expanded;
+      stands = stays (parent_of n.node) leads.parent leads.stands leads.is_expanded;
       is_expanded = leads.is_expanded;
-      depth = leads.depth;
       cost = leads.cost;
       step = leads.step;
     }
+
+    -- an expanded node is not the updated one
+    not_here : (k : ℕ) (n : Found S) → slice_get nodes k ≡ Some n → n.node.is_expanded ≡ true → k ≢ j
+    not_here k n at expanded e = false≢true (sym (updates.waited n (ap (slice_get nodes) (sym e) ∙ at)) ∙ expanded)
+
+    -- a way to another node than the updated one leads there still, since it passes through expanded ones
+    way_still : (queue : List Waiting) → AreNodes t value nodes queue → (k : ℕ) (way : List ℕ) → IsWay nodes k way → k ≢ j → IsWay after k way
+    way_still queue old k way (begins first none) other = begins first none
+    way_still queue old k way (follows n before elsewhere at earlier is) other =
+        let leads = old.linked k n at elsewhere in
+        follows n before elsewhere (updates.others k other ∙ at)
+        (way_still queue old (parent_of n.node) before earlier (not_here (parent_of n.node) leads.parent leads.stands leads.is_expanded)) is
 
     pub open_still : (n : Found S) → IsOpen t nodes n → IsOpen t after n
     open_still n is_open a next step = found_still next (n.node.cost + t.cost a) (is_open a next step)
@@ -104,32 +115,44 @@ module _ {S : Type 0} (nodes after : List (Found S)) (j : ℕ) (m : Found S) (up
         ]
 
     -- the node's turn is not over
-    pub turn_still : (i : ℕ) (turn : IsTurn nodes i) → IsTurn after i
-    turn_still i turn = record {
+    pub turn_still : (queue : List Waiting) → AreNodes t value nodes queue → (i : ℕ) (turn : IsTurn nodes i) → IsTurn after i
+    turn_still queue old i turn = record {
       found = turn.found;
       stands = stays i turn.found turn.stands turn.is_expanded;
       is_expanded = turn.is_expanded;
       cheap = rw updates.count turn.cheap;
+      way = turn.way;
+      leads = way_still queue old i turn.way turn.leads (not_here i turn.found turn.stands turn.is_expanded);
       shallow = rw updates.count turn.shallow;
     }
 
+    -- the way to the updated node is that to the node whose turn it is, and its action
+    way_here : (i : ℕ) (turn : IsTurn nodes i) (queue : List Waiting) → AreNodes t value nodes queue → parent_of m.node ≡ i → HasWay after j (expanded_count after)
+    way_here i turn queue old parent =
+        elim (cases_eq j 0) [
+          | inl first ↦ ([], begins first refl, omega arith)
+          | inr elsewhere ↦
+              let before : IsWay after i turn.way = way_still queue old i turn.way turn.leads (not_here i turn.found turn.stands turn.is_expanded) in (
+                turn.way ++ m.node.action ∷ [],
+                follows m turn.way elsewhere updates.here (subst (λ k. IsWay after k turn.way) (sym parent) before) refl,
+                omega (arith, length-append turn.way (m.node.action ∷ []), turn.shallow, updates.count),
+              )
+        ]
+
     -- a state that an action leads to from the node whose turn it is joins the others, or is now reached at a lower cost
-    pub nodes_updated : (i : ℕ) (turn : IsTurn nodes i) (origin : Origin) (queue queue' : List Waiting) → AreNodes t value nodes queue
-        → m.node.origin ≡ Some origin → origin.parent.0 ≡ i → origin.depth ≡ depth_of turn.found.node.origin + 1
-        → m.node.cost ≡ turn.found.node.cost + t.cost origin.action → t.cost origin.action ≤ dearest
-        → t.step turn.found.state origin.action ≡ Some m.state
+    pub nodes_updated : (i : ℕ) (turn : IsTurn nodes i) (queue queue' : List Waiting) → AreNodes t value nodes queue
+        → parent_of m.node ≡ i → m.node.cost ≡ turn.found.node.cost + t.cost m.node.action → t.cost m.node.action ≤ dearest
+        → t.step turn.found.state m.node.action ≡ Some m.state
         → ((w : Waiting) → Contains queue w → Contains queue' w) → Contains queue' (entry m.node.cost (value m.state) j) → All (IsEntryOf value after) queue'
         → AreNodes t value after queue'
-    nodes_updated i turn origin queue queue' old is_origin parent depth cost affordable step keeps queued entries =
-        let leads : Leads t after m origin = record {
+    nodes_updated i turn queue queue' old parent cost affordable step keeps queued entries =
+        let leads : Leads t after m = record {
           parent = turn.found;
           stands = ap (slice_get after) parent ∙ stays i turn.found turn.stands turn.is_expanded;
           is_expanded = turn.is_expanded;
-          depth = depth;
           cost = cost;
           step = step;
         } in
-        let deep : depth_of m.node.origin ≡ origin.depth = ap depth_of is_origin in
         record {
           root =
               elim (cases_eq 0 j) [
@@ -138,11 +161,7 @@ module _ {S : Type 0} (nodes after : List (Found S)) (j : ℕ) (m : Found S) (up
                     (m, ap (slice_get after) e ∙ updates.here, sym (updates.same_state old.root.0 was) ∙ old.root.2, omega (arith, updates.cheaper old.root.0 was, old.root.3))
                 | inr other ↦ (old.root.0, updates.others 0 other ∙ old.root.1, old.root.2, old.root.3)
               ];
-          only_root = each_after (λ k n. n.node.origin ≡ None → k ≡ 0) (λ none. absurd (cc)) (λ k n other at. old.only_root k n at);
-          linked = λ k n o.
-              each_after (λ k n. n.node.origin ≡ Some o → Leads t after n o)
-              (λ is. subst (λ (p : Origin). Leads t after m p) (same_Some origin o (sym is_origin ∙ is)) leads)
-              (λ k n other at is. leads_still n o (old.linked k n o at is)) k n;
+          linked = each_after (λ k n. k ≢ 0 → Leads t after n) (λ _. leads) (λ k n other at elsewhere. leads_still n (old.linked k n at elsewhere));
           distinct = λ p k x n at_p at_k same.
               each_after (λ p x. x.state ≡ n.state → p ≡ k)
               (each_after (λ k n. m.state ≡ n.state → j ≡ k) (λ _. refl) (λ k n other at same. sym (updates.only k n at (sym same))) k n at_k)
@@ -150,9 +169,13 @@ module _ {S : Type 0} (nodes after : List (Found S)) (j : ℕ) (m : Found S) (up
               each_after (λ k n. x.state ≡ n.state → p ≡ k) (λ same. updates.only p x at same) (λ k n _ at' same. old.distinct p k x n at at' same) k n at_k)
               p x at_p same;
           cheap = rw updates.count (each_after (λ k n. n.node.cost ≤ expanded_count nodes * dearest) (omega (arith, cost, turn.cheap)) (λ k n other at. old.cheap k n at));
-          shallow = rw updates.count (each_after (λ k n. depth_of n.node.origin ≤ expanded_count nodes) (omega (arith, deep, depth, turn.shallow)) (λ k n other at. old.shallow k n at));
+          shallow = each_after (λ k n. HasWay after k (expanded_count after))
+              (way_here i turn queue old parent)
+              (λ k n other at.
+              let (way, leads, short) = old.shallow k n at in
+              (way, way_still queue old k way leads other, omega (arith, short, updates.count)));
           reachable = each_after (λ k n. IsReachableAt t n.state n.node.cost)
-              (subst (λ c. IsReachableAt t m.state c) (sym cost) (reachable-push t turn.found.state m.state turn.found.node.cost origin.action (old.reachable i turn.found turn.stands) step))
+              (subst (λ c. IsReachableAt t m.state c) (sym cost) (reachable-push t turn.found.state m.state turn.found.node.cost m.node.action (old.reachable i turn.found turn.stands) step))
               (λ k n other at. old.reachable k n at);
           no_goal = each_after (λ k n. n.node.is_expanded ≡ true → t.meets_goal n.state ≡ false)
               (λ expanded. absurd (false≢true (sym updates.waits ∙ expanded)))
@@ -170,22 +193,21 @@ module _ {S : Type 0} (nodes after : List (Found S)) (j : ℕ) (m : Found S) (up
         }
 
     -- all that a step keeps
-    pub stepped : (i : ℕ) (turn : IsTurn nodes i) (origin : Origin) (queue queue' : List Waiting) → AreNodes t value nodes queue → AreOpenBut t nodes i
-        → m.node.origin ≡ Some origin → origin.parent.0 ≡ i → origin.depth ≡ depth_of turn.found.node.origin + 1
-        → m.node.cost ≡ turn.found.node.cost + t.cost origin.action → t.cost origin.action ≤ dearest
-        → t.step turn.found.state origin.action ≡ Some m.state
+    pub stepped : (i : ℕ) (turn : IsTurn nodes i) (queue queue' : List Waiting) → AreNodes t value nodes queue → AreOpenBut t nodes i
+        → parent_of m.node ≡ i → m.node.cost ≡ turn.found.node.cost + t.cost m.node.action → t.cost m.node.action ≤ dearest
+        → t.step turn.found.state m.node.action ≡ Some m.state
         → IsPermutation (entry m.node.cost (value m.state) j ∷ queue) queue'
-        → Stepped t value nodes after queue' i origin.action m.state
-    stepped i turn origin queue queue' old others is_origin parent depth cost affordable step joins =
+        → Stepped t value nodes after queue' i m.node.action m.state
+    stepped i turn queue queue' old others parent cost affordable step joins =
         let one = entry m.node.cost (value m.state) j in
         let of : IsEntryOf value after one = record { found = m; stands = updates.here; estimate = refl; part = omega arith } in
         let all_in : All (IsEntryOf value after) queue = All-weaker (IsEntryOf value nodes) (IsEntryOf value after) (entry_still value) queue old.entries in
         record {
-          sound = nodes_updated i turn origin queue queue' old is_origin parent depth cost affordable step
+          sound = nodes_updated i turn queue queue' old parent cost affordable step
               (λ w at. Contains-permutation (one ∷ queue) queue' w joins (Contains-there one queue w at))
               (Contains-permutation (one ∷ queue) queue' one joins (Contains-here one queue))
               (All-permutation (IsEntryOf value after) (one ∷ queue) queue' joins (All-cons (IsEntryOf value after) one queue of all_in));
-          turn = turn_still i turn;
+          turn = turn_still queue old i turn;
           others = open_but_still i others;
           continues = record {
             found = found_still;

@@ -1,21 +1,21 @@
--- The queue of a search, and the way back along the origins.
-use Rattle.std.proofs.Common.{◌≡◌, ℕ, ◌+◌, ◌<◌, ◌≤◌, ◌≢◌, ◌⊎◌, inl, inr, List, [], ◌∷◌, ◌++◌, reverse, length, get_or, Bool, not, Option, Some, None, true, false, refl, sym, ap, ◌∙◌, subst, arith, append_assoc}
+-- The queue of a search, and the way back from child to parent.
+use Rattle.std.proofs.Common.{◌≡◌, ℕ, ◌+◌, ◌<◌, ◌≤◌, ◌≢◌, ◌⊎◌, inl, inr, List, [], ◌∷◌, ◌++◌, reverse, length, get_or, Bool, not, Some, true, false, refl, sym, ap, ◌∙◌, subst, arith, append_assoc}
 use Rattle.std.specs.Prelude.{slice_get, Contains, All, IsPermutation}
 use Rattle.std.specs.Ordering.{is_lt}
-use Rattle.std.specs.BinaryHeap.{IsHeap, IsUpperBound}
 use Rattle.std.proofs.lemmas.Bool.{false≢true}
 use Rattle.std.proofs.lemmas.Bool.Decides.{nat_tests}
 use Rattle.std.proofs.lemmas.Option.{same_Some, slice_get_read, slice_get_within}
-use Rattle.std.proofs.lemmas.List.{append-nil, reverse-append}
-use Rattle.std.proofs.lemmas.List.Elements.{All-from_recursion, All-contains, All-tail, All-head}
+use Rattle.std.proofs.lemmas.List.{append-nil, reverse-append, length-append, length-reverse}
+use Rattle.std.proofs.lemmas.List.Elements.{All-contains, All-tail, All-head}
 use Rattle.std.proofs.lemmas.List.Sorted.{Contains-permutation, All-permutation}
 use Rattle.model.proofs.ListLemmas.{Contains-cases, Contains-got}
 use Rattle.search.specs.declared.nodes.Node.{Node}
-use Rattle.search.specs.declared.nodes.Origin.{Origin}
 use Rattle.search.specs.declared.turns.Turn.{Turn}
-use Rattle.search.specs.Nodes.{Waiting, sum_of, estimate_of, place_of, IsEntry, IsCurrent, depth_of, AreDescending, IsPath, begins, follows}
-use Rattle.search.specs.Progress.{by_sum, TakesNext}
+use Rattle.search.specs.Nodes.{Waiting, sum_of, estimate_of, place_of, IsEntry, IsCurrent, parent_of, IsPath, begins, follows, IsReachedIn}
+use Rattle.search.specs.Queue.{by_sum}
+use Rattle.search.specs.Progress.{TakesNext}
 use Rattle.search.proofs.Lists.{get_there}
+use Rattle.search.proofs.QueueLemmas.{IsFirst}
 
 -- what is not below another in the queue's order has no greater sum
 sum-le : (x w : Waiting) → is_lt (by_sum x w) ≡ false → sum_of x ≤ sum_of w
@@ -29,9 +29,8 @@ estimate-le x w above same = grind (arith, nat_tests)
 place-le : (x w : Waiting) → is_lt (by_sum x w) ≡ false → sum_of w ≡ sum_of x → estimate_of w ≡ estimate_of x → place_of x ≤ place_of w
 place-le x w above same near = grind (arith, nat_tests)
 
-greatest-of : (x : Waiting) (queue : List Waiting) → IsUpperBound by_sum x queue → (w : Waiting) → Contains queue w → is_lt (by_sum x w) ≡ false
-greatest-of x queue greatest w at =
-    All-contains (λ y. is_lt (by_sum x y) ≡ false) queue w (All-from_recursion (λ y. is_lt (by_sum x y) ≡ false) queue greatest) at
+first-of : (x : Waiting) (queue : List Waiting) → IsFirst x queue → (w : Waiting) → Contains queue w → is_lt (by_sum x w) ≡ false
+first-of x queue first w at = All-contains (λ y. is_lt (by_sum x y) ≡ false) queue w first at
 
 -- what holds of all in a list holds of all in another that has no more
 pub All-among : {X : Type 0} (P : X → Type 0) (old new : List X) → ((x : X) → Contains new x → Contains old x) → All P old → All P new
@@ -40,7 +39,6 @@ All-among P old new among all k d below =
 
 -- the queue, from which only entries that are stale have gone
 pub record KeepsCurrent (initial now : List Waiting) (all : List Node) : Type 0 where
-  pub heap : IsHeap by_sum now
   pub kept : (w : Waiting) → Contains now w → Contains initial w
   pub entries : All (IsEntry (length all)) now
   pub current : (w : Waiting) → Contains initial w → IsCurrent all w → Contains now w
@@ -64,9 +62,8 @@ module _ (initial old new : List Waiting) (all : List Node) (x : Waiting) (keeps
   kept-popped w at = (All-contains (λ w. Contains initial w × IsEntry (length all) w) new w left at).0
 
   -- a stale entry goes
-  pub keeps-popped : IsHeap by_sum new → (¬ IsCurrent all x) → KeepsCurrent initial new all
-  keeps-popped heap stale = record {
-    heap = heap;
+  pub keeps-popped : (¬ IsCurrent all x) → KeepsCurrent initial new all
+  keeps-popped stale = record {
     kept = kept-popped;
     entries = λ k d below. (left k d below).1;
     current = λ w at now.
@@ -77,16 +74,16 @@ module _ (initial old new : List Waiting) (all : List Node) (x : Waiting) (keeps
   }
 
   -- a current entry is taken
-  pub takes-popped : IsUpperBound by_sum x old → IsCurrent all x → (turn : Turn) → place_of x ≡ turn.id.0 → estimate_of x ≡ turn.estimate → TakesNext initial new all turn
-  takes-popped greatest now turn place estimate = record {
+  pub takes-popped : IsFirst x old → IsCurrent all x → (turn : Turn) → place_of x ≡ turn.id.0 → estimate_of x ≡ turn.estimate → TakesNext initial new all turn
+  takes-popped ahead now turn place estimate = record {
     next = x;
     stands = place;
     estimate = estimate;
     among = popped.0;
     current = now;
-    least = λ w at current. sum-le x w (greatest-of x old greatest w (keeps.current w at current));
-    nearest = λ w at current same. estimate-le x w (greatest-of x old greatest w (keeps.current w at current)) same;
-    first = λ w at current same near. place-le x w (greatest-of x old greatest w (keeps.current w at current)) same near;
+    least = λ w at current. sum-le x w (first-of x old ahead w (keeps.current w at current));
+    nearest = λ w at current same. estimate-le x w (first-of x old ahead w (keeps.current w at current)) same;
+    first = λ w at current same near. place-le x w (first-of x old ahead w (keeps.current w at current)) same near;
     rest = λ w at current other.
         elim (popped-cases old new x w moved (keeps.current w at current)) [
           | inl is ↦ absurd (other (ap place_of (sym is) ∙ place))
@@ -114,46 +111,67 @@ stale-read all w r within read cases (node, stands, sums, waits) =
       | inr dearer ↦ absurd (dearer (ap (λ (x : Node). x.cost + estimate_of w) same ∙ sums))
     ]
 
-abbrev pub depth_there : Option Node → ℕ
-depth_there None = 0
-depth_there (Some node) = depth_of node.origin
-
--- the depth of the node at a place
-abbrev pub depth_at : List Node → ℕ → ℕ
-depth_at nodes at = depth_there (slice_get nodes at)
-
-depth_at-got : (nodes : List Node) (at : ℕ) (node : Node) → slice_get nodes at ≡ Some node → depth_at nodes at ≡ depth_of node.origin
-depth_at-got nodes at node stands = ap depth_there stands
-
--- On the way back from the goal: the steps so far, backwards, lead from this place to the goal.
+-- On the way back from the goal: the steps so far, backwards, lead from this place to the goal, and some before them here.
 pub record IsWayBack (nodes : List Node) (goal at : ℕ) (steps : List ℕ) : Type 0 where
-  pub within : at < length nodes
-  pub leads : (before : List ℕ) → IsPath nodes at before → IsPath nodes goal (before ++ reverse steps)
+  pub before : List ℕ
+  pub here : IsPath nodes at before
+  pub leads : IsPath nodes goal (before ++ reverse steps)
+  pub short : length before + length steps ≤ length nodes
+
+-- the last action before a node that is not the initial state
+pub record IsLastStep (nodes : List Node) (at : ℕ) (path : List ℕ) (node : Node) : Type 0 where
+  pub before : List ℕ
+  pub stands : slice_get nodes at ≡ Some node
+  pub leads : IsPath nodes (parent_of node) before
+  pub is : path ≡ before ++ node.action ∷ []
+
+last_step : (nodes : List Node) (at : ℕ) (path : List ℕ) → IsPath nodes at path → at ≢ 0 → (node : Node) × IsLastStep nodes at path node
+last_step nodes at path (begins first none) elsewhere = absurd (elsewhere first)
+last_step nodes at path (follows node before _ stands earlier is) elsewhere =
+    (node, record { before = before; stands = stands; leads = earlier; is = is })
+
+-- no action leads to the initial state
+path_at_root : (nodes : List Node) (at : ℕ) (path : List ℕ) → IsPath nodes at path → at ≡ 0 → path ≡ []
+path_at_root nodes at path (begins first none) root = none
+path_at_root nodes at path (follows node before elsewhere stands earlier is) root = absurd (elsewhere root)
 
 module _ (nodes : List Node) (goal : ℕ) where
-  pub way_back-start : goal < length nodes → IsWayBack nodes goal goal []
-  way_back-start within = record {
-    within = within;
-    leads = λ before path. subst (λ p. IsPath nodes goal p) (sym (append-nil before)) path;
+  pub way_back-start : IsReachedIn nodes goal (length nodes) → IsWayBack nodes goal goal []
+  way_back-start (path, leads, short) = record {
+    before = path;
+    here = leads;
+    leads = subst (λ p. IsPath nodes goal p) (sym (append-nil path)) leads;
+    short = omega (arith, short);
   }
 
-  pub way_back-more : (at : ℕ) (steps : List ℕ) (node : Node) (origin : Origin) → AreDescending nodes → IsWayBack nodes goal at steps → slice_get nodes at ≡ Some node → node.origin ≡ Some origin
-      → IsWayBack nodes goal origin.parent.0 (steps ++ origin.action ∷ [])
-  way_back-more at steps node origin descending way stands is =
-      let (parent, there, nearer) = descending at node origin stands is in
-      record {
-        within = slice_get_within nodes origin.parent.0 parent there;
-        leads = λ before path.
-            subst (λ p. IsPath nodes goal p) (append_assoc before (origin.action ∷ []) (reverse steps) ∙ ap (λ p. before ++ p) (sym (reverse-append steps (origin.action ∷ []))))
-            (way.leads (before ++ origin.action ∷ []) (follows node origin before stands is path refl));
-      }
+  -- the place is within the list
+  pub way_back-within : (at : ℕ) (steps : List ℕ) → IsWayBack nodes goal at steps → at ≢ 0 → at < length nodes
+  way_back-within at steps way elsewhere =
+      let (node, last) = last_step nodes at way.before way.here elsewhere in
+      slice_get_within nodes at node last.stands
 
-  -- the place before is nearer
-  pub way_back-nearer : (at : ℕ) (node : Node) (origin : Origin) → AreDescending nodes → slice_get nodes at ≡ Some node → node.origin ≡ Some origin
-      → depth_at nodes origin.parent.0 < depth_at nodes at
-  way_back-nearer at node origin descending stands is =
-      let (parent, there, nearer) = descending at node origin stands is in
-      omega (arith, depth_at-got nodes origin.parent.0 parent there, depth_at-got nodes at node stands, ap depth_of is, nearer)
+  pub way_back-more : (at : ℕ) (steps : List ℕ) (node : Node) → IsWayBack nodes goal at steps → at ≢ 0 → slice_get nodes at ≡ Some node
+      → IsWayBack nodes goal (parent_of node) (steps ++ node.action ∷ []) × (length (steps ++ node.action ∷ []) ≤ length nodes)
+  way_back-more at steps node way elsewhere stands =
+      let (there, last) = last_step nodes at way.before way.here elsewhere in
+      let same : there ≡ node = same_Some there node (sym last.stands ∙ stands) in
+      let is : way.before ≡ last.before ++ node.action ∷ [] = last.is ∙ ap (λ (x : Node). last.before ++ x.action ∷ []) same in
+      let count : length way.before ≡ length last.before + 1 = ap length is ∙ length-append last.before (node.action ∷ []) in
+      let more : length (steps ++ node.action ∷ []) ≡ length steps + 1 = length-append steps (node.action ∷ []) in (
+        record {
+          before = last.before;
+          here = subst (λ (x : Node). IsPath nodes (parent_of x) last.before) same last.leads;
+          leads = subst (λ p. IsPath nodes goal p)
+              (ap (λ p. p ++ reverse steps) is ∙ append_assoc last.before (node.action ∷ []) (reverse steps) ∙ ap (λ p. last.before ++ p) (sym (reverse-append steps (node.action ∷ []))))
+              way.leads;
+          short = omega (arith, way.short, count, more);
+        },
+        omega (arith, way.short, count, more),
+      )
 
-  pub way_back-end : (at : ℕ) (steps : List ℕ) (node : Node) → IsWayBack nodes goal at steps → slice_get nodes at ≡ Some node → node.origin ≡ None → IsPath nodes goal (reverse steps)
-  way_back-end at steps node way stands is = way.leads [] (begins node stands is refl)
+  pub way_back-end : (at : ℕ) (steps : List ℕ) → IsWayBack nodes goal at steps → at ≡ 0 → IsPath nodes goal (reverse steps) × (length (reverse steps) ≤ length nodes)
+  way_back-end at steps way first =
+      let none : way.before ≡ [] = path_at_root nodes at way.before way.here first in (
+        subst (λ p. IsPath nodes goal (p ++ reverse steps)) none way.leads,
+        omega (arith, way.short, length-reverse steps),
+      )

@@ -1,5 +1,5 @@
 -- The steps of an expansion, over the lists of a search.
-use Rattle.std.proofs.Common.{◌≡◌, ℕ, zero, suc, ◌+◌, ◌*◌, ◌<◌, ◌≤◌, ◌≢◌, ◌⊎◌, inl, inr, List, [], ◌∷◌, ◌++◌, length, set, Bool, Some, None, true, false, refl, sym, ap, ◌∙◌, subst, arith}
+use Rattle.std.proofs.Common.{◌≡◌, ℕ, zero, suc, ◌+◌, ◌*◌, ◌<◌, ◌≤◌, ◌≢◌, ◌⊎◌, inl, inr, List, [], ◌∷◌, ◌++◌, length, set, Bool, Some, true, false, refl, sym, ap, ◌∙◌, subst, arith}
 use Rattle.std.specs.Prelude.{slice_get, Contains, All, IsPermutation, IsTrue, is_some}
 use Rattle.std.proofs.lemmas.Bool.{false≢true}
 use Rattle.std.proofs.lemmas.Option.{same_Some, slice_get_within}
@@ -10,13 +10,13 @@ use Rattle.std.proofs.lemmas.List.Sums.{count_by-le-length}
 use Rattle.model.proofs.ListLemmas.{Contains-here, Contains-there, Contains-cases, Contains-none, Contains-got}
 use Rattle.model.specs.Runs.{System, CostsAtLeast}
 use Rattle.search.specs.declared.nodes.Node.{Node}
-use Rattle.search.specs.declared.nodes.Origin.{Origin}
+use Rattle.search.specs.declared.nodes.ShortId.{ShortId}
 use Rattle.search.specs.Transitions.{AreApplicable}
 use Rattle.search.specs.declared.turns.Turn.{Turn}
 use Rattle.search.specs.Estimates.{IsConsistent}
 use Rattle.search.specs.Outcome.{IsReachableAt, ReachingCostsAtLeast}
 use Rattle.packed_state.specs.Store.{IsPlaced}
-use Rattle.search.specs.Nodes.{Waiting, place_of, estimate_of, entry, IsEntry, IsEntryOf, depth_of, Found, found_of, expanded_count, dearest, Leads, AreNodes, IsFoundWithin, IsOpen, AreOpen, AreOpenBut, IsTurn, IsCurrent, expanded, marked}
+use Rattle.search.specs.Nodes.{Waiting, place_of, estimate_of, entry, IsEntry, IsEntryOf, parent_of, begins, HasWay, Found, found_of, expanded_count, dearest, Leads, AreNodes, IsFoundWithin, IsOpen, AreOpen, AreOpenBut, IsTurn, IsCurrent, expanded, marked}
 use Rattle.search.specs.Progress.{Continues, IsListed, TakesNext}
 use Rattle.search.proofs.Lists.{get-set_here, get-set_other, get_exists}
 use Rattle.search.proofs.Linked.{length-found_of, found_of-get, get-found_of, found_of-push, found_of-set, count-mark, updates-push, updates-set}
@@ -28,73 +28,69 @@ use Rattle.search.proofs.NodesLemmas.{Stepped, stepped, reachable-push}
 module _ {S : Type 0} (t : System S ℕ) (value : S → ℕ) (states : List S) (all : List Node) (queue : List Waiting) (i : ℕ)
     (one_each : length all ≡ length states)
     (nodes : AreNodes t value (found_of states all) queue) (turn : IsTurn (found_of states all) i) (others : AreOpenBut t (found_of states all) i)
-    (s : S) (cost : ℕ) (origin : Origin) (parent : origin.parent.0 ≡ i) (depth : origin.depth ≡ depth_of turn.found.node.origin + 1)
-    (costs : cost ≡ turn.found.node.cost + t.cost origin.action) (affordable : t.cost origin.action ≤ dearest)
-    (step : t.step turn.found.state origin.action ≡ Some s) where
+    (s : S) (now : Node) (waits : now.is_expanded ≡ false) (parent : parent_of now ≡ i)
+    (costs : now.cost ≡ turn.found.node.cost + t.cost now.action) (affordable : t.cost now.action ≤ dearest)
+    (step : t.step turn.found.state now.action ≡ Some s) where
   -- the state is new
-  stepped_pushed : (¬ Contains states s) → (queue' : List Waiting) → IsPermutation (entry cost (value s) (length states) ∷ queue) queue'
-      → Stepped t value (found_of states all) (found_of (states ++ s ∷ []) (all ++ record { cost = cost; is_expanded = false; origin = Some origin } ∷ [])) queue' i origin.action s
+  stepped_pushed : (¬ Contains states s) → (queue' : List Waiting) → IsPermutation (entry now.cost (value s) (length states) ∷ queue) queue'
+      → Stepped t value (found_of states all) (found_of (states ++ s ∷ []) (all ++ now ∷ [])) queue' i now.action s
   stepped_pushed is_new queue' joins =
-      let reached : Node = record { cost = cost; is_expanded = false; origin = Some origin } in
-      let m : Found S = record { state = s; node = reached } in
+      let m : Found S = record { state = s; node = now } in
       let place : length (found_of states all) ≡ length states = length-found_of states all one_each in
-      let updates = updates-push (found_of states all) m refl (λ k n at same. is_new (subst (λ x. Contains states x) same (Contains-got states k n.state (found_of-get states all k n at).0))) in
-      let joins' : IsPermutation (entry cost (value s) (length (found_of states all)) ∷ queue) queue' = subst (λ p. IsPermutation (entry cost (value s) p ∷ queue) queue') (sym place) joins in
-      subst (λ after. Stepped t value (found_of states all) after queue' i origin.action s) (sym (found_of-push states all s reached one_each))
-      (stepped (found_of states all) (found_of states all ++ m ∷ []) (length (found_of states all)) m updates t value i turn origin queue queue' nodes others
-      refl parent depth costs affordable step joins')
+      let updates = updates-push (found_of states all) m waits (λ k n at same. is_new (subst (λ x. Contains states x) same (Contains-got states k n.state (found_of-get states all k n at).0))) in
+      let joins' : IsPermutation (entry now.cost (value s) (length (found_of states all)) ∷ queue) queue' = subst (λ p. IsPermutation (entry now.cost (value s) p ∷ queue) queue') (sym place) joins in
+      subst (λ after. Stepped t value (found_of states all) after queue' i now.action s) (sym (found_of-push states all s now one_each))
+      (stepped (found_of states all) (found_of states all ++ m ∷ []) (length (found_of states all)) m updates t value i turn queue queue' nodes others
+      parent costs affordable step joins')
 
   pub stepped_new : (¬ Contains states s) → (states' : List S) (all' : List Node) (place : ℕ) (queue' : List Waiting)
-      → states' ≡ states ++ s ∷ [] → all' ≡ all ++ record { cost = cost; is_expanded = false; origin = Some origin } ∷ [] → place ≡ length states
-      → IsPermutation (entry cost (value s) place ∷ queue) queue'
-      → (length all' ≡ length states') × Stepped t value (found_of states all) (found_of states' all') queue' i origin.action s
+      → states' ≡ states ++ s ∷ [] → all' ≡ all ++ now ∷ [] → place ≡ length states
+      → IsPermutation (entry now.cost (value s) place ∷ queue) queue'
+      → (length all' ≡ length states') × Stepped t value (found_of states all) (found_of states' all') queue' i now.action s
   stepped_new is_new states' all' place queue' is_states is_all at_end joins =
-      let reached : Node = record { cost = cost; is_expanded = false; origin = Some origin } in
-      let joins' : IsPermutation (entry cost (value s) (length states) ∷ queue) queue' = subst (λ p. IsPermutation (entry cost (value s) p ∷ queue) queue') at_end joins in
-      let same : found_of states' all' ≡ found_of (states ++ s ∷ []) (all ++ reached ∷ []) = cc in
+      let joins' : IsPermutation (entry now.cost (value s) (length states) ∷ queue) queue' = subst (λ p. IsPermutation (entry now.cost (value s) p ∷ queue) queue') at_end joins in
+      let same : found_of states' all' ≡ found_of (states ++ s ∷ []) (all ++ now ∷ []) = cc in
       let count_states : length states' ≡ length states + 1 = ap length is_states ∙ length-append states (s ∷ []) in
-      let count_all : length all' ≡ length all + 1 = ap length is_all ∙ length-append all (reached ∷ []) in (
+      let count_all : length all' ≡ length all + 1 = ap length is_all ∙ length-append all (now ∷ []) in (
         omega (arith, count_states, count_all, one_each),
-        subst (λ after. Stepped t value (found_of states all) after queue' i origin.action s) (sym same) (stepped_pushed is_new queue' joins'),
+        subst (λ after. Stepped t value (found_of states all) after queue' i now.action s) (sym same) (stepped_pushed is_new queue' joins'),
       )
 
   -- the state waits, and is now reached at a lower cost
-  stepped_set : (j : ℕ) (reached : Node) → slice_get states j ≡ Some s → slice_get all j ≡ Some reached → cost < reached.cost → (queue' : List Waiting) → IsPermutation (entry cost (value s) j ∷ queue) queue'
-      → Stepped t value (found_of states all) (found_of states (set all j (record { cost = cost; is_expanded = reached.is_expanded; origin = Some origin }))) queue' i origin.action s
+  stepped_set : (j : ℕ) (reached : Node) → slice_get states j ≡ Some s → slice_get all j ≡ Some reached → now.cost < reached.cost → (queue' : List Waiting) → IsPermutation (entry now.cost (value s) j ∷ queue) queue'
+      → Stepped t value (found_of states all) (found_of states (set all j now)) queue' i now.action s
   stepped_set j reached is_s is_reached cheaper queue' joins =
       let n : Found S = record { state = s; node = reached } in
       let stood : slice_get (found_of states all) j ≡ Some n = get-found_of states all j s reached is_s is_reached in
       -- there is no cheaper way to an expanded state
-      let way : IsReachableAt t s (turn.found.node.cost + t.cost origin.action) =
-      reachable-push t turn.found.state s turn.found.node.cost origin.action (nodes.reachable i turn.found turn.stands) step in
+      let way : IsReachableAt t s (turn.found.node.cost + t.cost now.action) =
+      reachable-push t turn.found.state s turn.found.node.cost now.action (nodes.reachable i turn.found turn.stands) step in
       let waited : reached.is_expanded ≡ false =
       elim (reached.is_expanded) as (λ b. reached.is_expanded ≡ b → b ≡ false) [
         | true ↦ λ expanded. absurd (omega (arith, costs, cheaper, nodes.cheapest j n stood expanded way.0 way.1, way.2))
         | false ↦ λ _. refl
       ] refl in
-      let now : Node = record { cost = cost; is_expanded = reached.is_expanded; origin = Some origin } in
       let m : Found S = record { state = s; node = now } in
-      let updates = updates-set (found_of states all) j n m stood waited waited refl (omega (arith, cheaper)) (λ k x at same. nodes.distinct k j x n at stood same) in
-      subst (λ after. Stepped t value (found_of states all) after queue' i origin.action s) (sym (found_of-set states all j n now stood))
-      (stepped (found_of states all) (set (found_of states all) j m) j m updates t value i turn origin queue queue' nodes others
-      refl parent depth costs affordable step joins)
+      let updates = updates-set (found_of states all) j n m stood waited waits refl (omega (arith, cheaper)) (λ k x at same. nodes.distinct k j x n at stood same) in
+      subst (λ after. Stepped t value (found_of states all) after queue' i now.action s) (sym (found_of-set states all j n now stood))
+      (stepped (found_of states all) (set (found_of states all) j m) j m updates t value i turn queue queue' nodes others
+      parent costs affordable step joins)
 
-  pub stepped_cheaper : (j : ℕ) (reached : Node) → slice_get states j ≡ Some s → slice_get all j ≡ Some reached → cost < reached.cost
+  pub stepped_cheaper : (j : ℕ) (reached : Node) → slice_get states j ≡ Some s → slice_get all j ≡ Some reached → now.cost < reached.cost
       → (states' : List S) (all' : List Node) (queue' : List Waiting)
-      → states' ≡ states → all' ≡ set all j (record { cost = cost; is_expanded = reached.is_expanded; origin = Some origin }) → IsPermutation (entry cost (value s) j ∷ queue) queue'
-      → (length all' ≡ length states') × Stepped t value (found_of states all) (found_of states' all') queue' i origin.action s
+      → states' ≡ states → all' ≡ set all j now → IsPermutation (entry now.cost (value s) j ∷ queue) queue'
+      → (length all' ≡ length states') × Stepped t value (found_of states all) (found_of states' all') queue' i now.action s
   stepped_cheaper j reached is_s is_reached cheaper states' all' queue' is_states is_all joins =
-      let now : Node = record { cost = cost; is_expanded = reached.is_expanded; origin = Some origin } in
       let same : found_of states' all' ≡ found_of states (set all j now) = cc in
       let count_states : length states' ≡ length states = ap length is_states in
       let count_all : length all' ≡ length all = ap length is_all ∙ length-set all j now in (
         omega (arith, count_states, count_all, one_each),
-        subst (λ after. Stepped t value (found_of states all) after queue' i origin.action s) (sym same) (stepped_set j reached is_s is_reached cheaper queue' joins),
+        subst (λ after. Stepped t value (found_of states all) after queue' i now.action s) (sym same) (stepped_set j reached is_s is_reached cheaper queue' joins),
       )
 
   -- the state is found already, at no higher cost
-  stepped_known : (j : ℕ) (reached : Node) → slice_get states j ≡ Some s → slice_get all j ≡ Some reached → reached.cost ≤ cost
-      → Stepped t value (found_of states all) (found_of states all) queue i origin.action s
+  stepped_known : (j : ℕ) (reached : Node) → slice_get states j ≡ Some s → slice_get all j ≡ Some reached → reached.cost ≤ now.cost
+      → Stepped t value (found_of states all) (found_of states all) queue i now.action s
   stepped_known j reached is_s is_reached no_dearer =
       let n : Found S = record { state = s; node = reached } in
       let stood : slice_get (found_of states all) j ≡ Some n = get-found_of states all j s reached is_s is_reached in
@@ -108,19 +104,19 @@ module _ {S : Type 0} (t : System S ℕ) (value : S → ℕ) (states : List S) (
             (j, n, stood, refl, omega (arith, costs, no_dearer, ap (λ (y : Found S). y.node.cost) same));
       }
 
-  pub stepped_same : (j : ℕ) (reached : Node) → slice_get states j ≡ Some s → slice_get all j ≡ Some reached → reached.cost ≤ cost → (states' : List S) → states' ≡ states
-      → (length all ≡ length states') × Stepped t value (found_of states all) (found_of states' all) queue i origin.action s
+  pub stepped_same : (j : ℕ) (reached : Node) → slice_get states j ≡ Some s → slice_get all j ≡ Some reached → reached.cost ≤ now.cost → (states' : List S) → states' ≡ states
+      → (length all ≡ length states') × Stepped t value (found_of states all) (found_of states' all) queue i now.action s
   stepped_same j reached is_s is_reached no_dearer states' is_states = (
     one_each ∙ sym (ap length is_states),
-    subst (λ ss. Stepped t value (found_of states all) (found_of ss all) queue i origin.action s) (sym is_states) (stepped_known j reached is_s is_reached no_dearer),
+    subst (λ ss. Stepped t value (found_of states all) (found_of ss all) queue i now.action s) (sym is_states) (stepped_known j reached is_s is_reached no_dearer),
   )
 
 -- the sums fit
 pub turn_limits : {S : Type 0} (nodes : List (Found S)) (i max_states : ℕ) (turn : IsTurn nodes i) → length nodes ≤ max_states → max_states ≤ 16777216
-    → (turn.found.node.cost + 4294967295 ≤ 72057594021150720) × (depth_of turn.found.node.origin + 1 ≤ 16777216)
+    → turn.found.node.cost + 4294967295 ≤ 72057594021150720
 turn_limits {S} nodes i max_states turn within limit =
     let count = count_by-le-length (λ (n : Found S). n.node.is_expanded) nodes in
-    (omega (arith, turn.cheap, count, within, limit), omega (arith, turn.shallow, count, within, limit))
+    omega (arith, turn.cheap, count, within, limit)
 
 -- what the action leads to from the state that stands at the place
 pub leads_from : {S : Type 0} (t : System S ℕ) (states : List S) (before one next : S) (i a : ℕ) → slice_get states i ≡ Some before → slice_get states i ≡ Some one
@@ -143,9 +139,10 @@ placed_first {S} old new s place false empty (at, is) =
     absurd (cc)
 
 -- the initial state alone
-module _ {S : Type 0} (t : System S ℕ) (value : S → ℕ) (states : List S) (all : List Node) (queue queue' : List Waiting) (s : S) (place : ℕ) where
+module _ {S : Type 0} (t : System S ℕ) (value : S → ℕ) (states : List S) (all : List Node) (queue queue' : List Waiting) (s : S) (place : ℕ)
+    (parent : ShortId) (action : ℕ) where
   one_node : Found S
-  one_node = record { state = s; node = record { cost = 0; is_expanded = false; origin = None } }
+  one_node = record { state = s; node = record { cost = 0; is_expanded = false; parent = parent; action = action } }
 
   only : (k : ℕ) (n : Found S) → slice_get (one_node ∷ []) k ≡ Some n → (k ≡ 0) × (one_node ≡ n)
   only zero n at = (refl, same_Some one_node n at)
@@ -154,7 +151,7 @@ module _ {S : Type 0} (t : System S ℕ) (value : S → ℕ) (states : List S) (
   each : (P : ℕ → Found S → Type 0) → P 0 one_node → (k : ℕ) (n : Found S) → slice_get (one_node ∷ []) k ≡ Some n → P k n
   each P one k n at = let is = only k n at in subst (λ i. P i n) (sym is.0) (subst (λ x. P 0 x) is.1 one)
 
-  pub nodes_start : states ≡ s ∷ [] → all ≡ record { cost = 0; is_expanded = false; origin = None } ∷ [] → s ≡ t.initial → place ≡ 0 → queue ≡ [] → IsPermutation (entry 0 (value s) place ∷ queue) queue'
+  pub nodes_start : states ≡ s ∷ [] → all ≡ record { cost = 0; is_expanded = false; parent = parent; action = action } ∷ [] → s ≡ t.initial → place ≡ 0 → queue ≡ [] → IsPermutation (entry 0 (value s) place ∷ queue) queue'
       → (length all ≡ length states) × AreNodes t value (found_of states all) queue'
   unfolding one_node
   nodes_start is_states is_all initial first empty joins =
@@ -165,11 +162,10 @@ module _ {S : Type 0} (t : System S ℕ) (value : S → ℕ) (states : List S) (
         ap length is_all ∙ sym (ap length is_states),
         subst (λ ns. AreNodes t value ns queue') (sym nodes) (record {
           root = (one_node, refl, initial, refl);
-          only_root = λ k n at _. (only k n at).0;
-          linked = λ k n o. each (λ k n. n.node.origin ≡ Some o → Leads t (one_node ∷ []) n o) (λ is. absurd (cc)) k n;
+          linked = each (λ k n. k ≢ 0 → Leads t (one_node ∷ []) n) (λ elsewhere. absurd (elsewhere refl));
           distinct = λ j k m n at_j at_k _. (only j m at_j).0 ∙ sym (only k n at_k).0;
           cheap = each (λ k n. n.node.cost ≤ expanded_count (one_node ∷ []) * dearest) (omega arith);
-          shallow = each (λ k n. depth_of n.node.origin ≤ expanded_count (one_node ∷ [])) (omega arith);
+          shallow = each (λ k n. HasWay (one_node ∷ []) k (expanded_count (one_node ∷ []))) ([], begins refl refl, omega arith);
           reachable = each (λ k n. IsReachableAt t n.state n.node.cost) ([], ap Some (sym initial), refl);
           no_goal = each (λ k n. n.node.is_expanded ≡ true → t.meets_goal n.state ≡ false) (λ expanded. absurd (false≢true expanded));
           no_dearer = each (λ k n. n.node.is_expanded ≡ true → CostsAtLeast t (n.node.cost + value n.state)) (λ expanded. absurd (false≢true expanded));

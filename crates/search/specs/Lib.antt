@@ -2,4 +2,5 @@ pub mod Estimates
 pub mod Transitions
 pub mod Outcome
 pub mod Nodes
+pub mod Queue
 pub mod Progress

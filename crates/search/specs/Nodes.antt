@@ -1,10 +1,10 @@
 -- What a search keeps true of the states that it has found.
-use Rattle.std.specs.Prelude.{◌≡◌, ℕ, ◌+◌, ◌*◌, ◌≤◌, ◌<◌, ◌≢◌, true, false, List, [], ◌∷◌, ◌++◌, length, slice_get, Some, None, Option, Contains, count_by, All}
+use Rattle.std.specs.Prelude.{◌≡◌, ℕ, ◌+◌, ◌*◌, ◌≤◌, ◌<◌, ◌≢◌, true, false, List, [], ◌∷◌, ◌++◌, length, slice_get, Some, Contains, count_by, All}
 use Rattle.std.specs.declared.cmp.Reverse.{Reverse}
 use Rattle.model.specs.Runs.{System, CostsAtLeast}
 use Rattle.search.specs.declared.nodes.StateId.{StateId}
 use Rattle.search.specs.declared.nodes.Node.{Node}
-use Rattle.search.specs.declared.nodes.Origin.{Origin}
+use Rattle.search.specs.declared.nodes.ShortId.{ShortId}
 use Rattle.search.specs.Outcome.{IsReachableAt, ReachingCostsAtLeast}
 
 -- a waiting state as the queue holds it: the sum of its cost and its estimate, the estimate, and its place
@@ -20,8 +20,11 @@ estimate_of w = w.0.1
 abbrev pub place_of : Waiting → ℕ
 place_of w = w.0.2.0
 
+abbrev pub entry_at : ℕ → ℕ → ℕ → Waiting
+entry_at sum estimate place = record { 0 = (sum, estimate, record { 0 = place }) }
+
 abbrev pub entry : ℕ → ℕ → ℕ → Waiting
-entry cost estimate place = record { 0 = (cost + estimate, estimate, record { 0 = place }) }
+entry cost estimate place = entry_at (cost + estimate) estimate place
 
 -- the entry's place is below this count, and its estimate is a part of its sum
 abbrev pub IsEntry : ℕ → Waiting → Type 0
@@ -31,10 +34,13 @@ IsEntry count w = (place_of w < count) × (estimate_of w ≤ sum_of w)
 abbrev pub IsCurrent : List Node → Waiting → Type 0
 IsCurrent nodes w = (node : Node) × (slice_get nodes (place_of w) ≡ Some node) × (node.cost + estimate_of w ≡ sum_of w) × (node.is_expanded ≡ false)
 
--- how many actions lead to a state, by its origin
-abbrev pub depth_of : Option Origin → ℕ
-depth_of None = 0
-depth_of (Some origin) = origin.depth
+-- the place that three bytes tell
+abbrev pub place_in : ShortId → ℕ
+place_in id = id.low + id.middle * 256 + id.high * 65536
+
+-- the place of the state that the node was reached from
+abbrev pub parent_of : Node → ℕ
+parent_of node = place_in node.parent
 
 -- a found state, with how it was reached
 pub record Found (S : Type 0) : Type 0 where
@@ -59,14 +65,33 @@ abbrev pub expanded_count : {S : Type 0} → List (Found S) → ℕ
 expanded_count nodes = count_by (λ n. n.node.is_expanded) nodes
 
 module _ {S : Type 0} (t : System S ℕ) (nodes : List (Found S)) where
-  -- the origin leads to the node, from an expanded one
-  pub record Leads (n : Found S) (origin : Origin) : Type 0 where
+  -- the node's action leads to it from its parent, which is expanded
+  pub record Leads (n : Found S) : Type 0 where
     pub parent : Found S
-    pub stands : slice_get nodes origin.parent.0 ≡ Some parent
+    pub stands : slice_get nodes (parent_of n.node) ≡ Some parent
     pub is_expanded : parent.node.is_expanded ≡ true
-    pub depth : origin.depth ≡ depth_of parent.node.origin + 1
-    pub cost : n.node.cost ≡ parent.node.cost + t.cost origin.action
-    pub step : t.step parent.state origin.action ≡ Some n.state
+    pub cost : n.node.cost ≡ parent.node.cost + t.cost n.node.action
+    pub step : t.step parent.state n.node.action ≡ Some n.state
+
+-- from parent to child these actions lead from the initial state, which is found first, to the one at this place
+pub data IsPathBy {X : Type 0} (node_of : X → Node) (nodes : List X) : ℕ → List ℕ → Type 0 where
+  begins : {k : ℕ} {path : List ℕ} → k ≡ 0 → path ≡ [] → IsPathBy node_of nodes k path
+  follows : {k : ℕ} {path : List ℕ} (x : X) (before : List ℕ) → k ≢ 0 → slice_get nodes k ≡ Some x
+      → IsPathBy node_of nodes (parent_of (node_of x)) before → path ≡ before ++ (node_of x).action ∷ [] → IsPathBy node_of nodes k path
+
+abbrev pub IsPath : List Node → ℕ → List ℕ → Type 0
+IsPath nodes k path = IsPathBy (λ (node : Node). node) nodes k path
+
+-- there is such a list of at most so many actions
+abbrev pub IsReachedIn : List Node → ℕ → ℕ → Type 0
+IsReachedIn nodes k most = (path : List ℕ) × IsPath nodes k path × (length path ≤ most)
+
+-- the same of the found states
+abbrev pub IsWay : {S : Type 0} → List (Found S) → ℕ → List ℕ → Type 0
+IsWay {S} nodes k path = IsPathBy (λ (n : Found S). n.node) nodes k path
+
+abbrev pub HasWay : {S : Type 0} → List (Found S) → ℕ → ℕ → Type 0
+HasWay {S} nodes k most = (path : List ℕ) × IsWay nodes k path × (length path ≤ most)
 
 -- the most that an action may cost
 abbrev pub dearest : ℕ
@@ -76,11 +101,10 @@ module _ {S : Type 0} (t : System S ℕ) (value : S → ℕ) (nodes : List (Foun
   -- What holds of the found states at any time. Those that wait are in the queue, at their cost and with their estimate.
   pub record AreNodes (queue : List Waiting) : Type 0 where
     pub root : (n : Found S) × (slice_get nodes 0 ≡ Some n) × (n.state ≡ t.initial) × (n.node.cost ≡ 0)
-    pub only_root : (k : ℕ) (n : Found S) → slice_get nodes k ≡ Some n → n.node.origin ≡ None → k ≡ 0
-    pub linked : (k : ℕ) (n : Found S) (origin : Origin) → slice_get nodes k ≡ Some n → n.node.origin ≡ Some origin → Leads t nodes n origin
+    pub linked : (k : ℕ) (n : Found S) → slice_get nodes k ≡ Some n → k ≢ 0 → Leads t nodes n
     pub distinct : (j k : ℕ) (m n : Found S) → slice_get nodes j ≡ Some m → slice_get nodes k ≡ Some n → m.state ≡ n.state → j ≡ k
     pub cheap : (k : ℕ) (n : Found S) → slice_get nodes k ≡ Some n → n.node.cost ≤ expanded_count nodes * dearest
-    pub shallow : (k : ℕ) (n : Found S) → slice_get nodes k ≡ Some n → depth_of n.node.origin ≤ expanded_count nodes
+    pub shallow : (k : ℕ) (n : Found S) → slice_get nodes k ≡ Some n → HasWay nodes k (expanded_count nodes)
     pub reachable : (k : ℕ) (n : Found S) → slice_get nodes k ≡ Some n → IsReachableAt t n.state n.node.cost
     pub no_goal : (k : ℕ) (n : Found S) → slice_get nodes k ≡ Some n → n.node.is_expanded ≡ true → t.meets_goal n.state ≡ false
     pub no_dearer : (k : ℕ) (n : Found S) → slice_get nodes k ≡ Some n → n.node.is_expanded ≡ true → CostsAtLeast t (n.node.cost + value n.state)
@@ -110,7 +134,9 @@ pub record IsTurn {S : Type 0} (nodes : List (Found S)) (i : ℕ) : Type 0 where
   pub stands : slice_get nodes i ≡ Some found
   pub is_expanded : found.node.is_expanded ≡ true
   pub cheap : found.node.cost + dearest ≤ expanded_count nodes * dearest
-  pub shallow : depth_of found.node.origin + 1 ≤ expanded_count nodes
+  pub way : List ℕ
+  pub leads : IsWay nodes i way
+  pub shallow : length way + 1 ≤ expanded_count nodes
 
 -- Beside one place, at which a node is new or now cheaper, the nodes are the same.
 pub record Updates {S : Type 0} (nodes after : List (Found S)) (j : ℕ) (m : Found S) : Type 0 where
@@ -126,19 +152,7 @@ pub record Updates {S : Type 0} (nodes after : List (Found S)) (j : ℕ) (m : Fo
 
 -- the node once it is expanded
 abbrev pub expanded : Node → Node
-expanded node = record { cost = node.cost; is_expanded = true; origin = node.origin }
+expanded node = record { cost = node.cost; is_expanded = true; parent = node.parent; action = node.action }
 
 abbrev pub marked : {S : Type 0} → Found S → Found S
 marked n = record { state = n.state; node = expanded n.node }
-
--- each origin's parent is one action nearer to the initial state
-abbrev pub AreDescending : List Node → Type 0
-AreDescending nodes =
-    (k : ℕ) (node : Node) (origin : Origin) → slice_get nodes k ≡ Some node → node.origin ≡ Some origin
-    → (parent : Node) × (slice_get nodes origin.parent.0 ≡ Some parent) × (origin.depth ≡ depth_of parent.origin + 1)
-
--- the origins lead from the initial state to the one at this place by these actions
-pub data IsPath (nodes : List Node) : ℕ → List ℕ → Type 0 where
-  begins : {k : ℕ} {path : List ℕ} (node : Node) → slice_get nodes k ≡ Some node → node.origin ≡ None → path ≡ [] → IsPath nodes k path
-  follows : {k : ℕ} {path : List ℕ} (node : Node) (origin : Origin) (before : List ℕ) → slice_get nodes k ≡ Some node → node.origin ≡ Some origin
-      → IsPath nodes origin.parent.0 before → path ≡ before ++ origin.action ∷ [] → IsPath nodes k path

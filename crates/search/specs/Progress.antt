@@ -1,19 +1,13 @@
 -- What a search keeps true from one step to the next.
-use Rattle.std.specs.Prelude.{◌≡◌, ◌≢◌, ℕ, ◌+◌, ◌≤◌, false, List, ◌∷◌, length, slice_get, Some, Contains, All, IsPermutation}
-use Rattle.std.specs.declared.cmp.Ordering.{Ordering}
-use Rattle.std.specs.Ordering.{nat_cmp, ordering_then}
-use Rattle.std.specs.BinaryHeap.{IsHeap, heap_items}
+use Rattle.std.specs.Prelude.{◌≡◌, ◌≢◌, ℕ, ◌+◌, ◌≤◌, false, List, length, slice_get, Some, Contains, All}
 use Rattle.model.specs.Runs.{System}
 use Rattle.search.specs.declared.nodes.Node.{Node}
 use Rattle.packed_state.specs.Packed.{bits_of}
 use Rattle.search.specs.declared.progress.Buffers.{Buffers}
 use Rattle.search.specs.declared.progress.Progress.{Progress}
 use Rattle.search.specs.declared.turns.Turn.{Turn}
+use Rattle.search.specs.Queue.{waiting_in, IsQueue}
 use Rattle.search.specs.Nodes.{Waiting, sum_of, estimate_of, place_of, entry, IsCurrent, IsEntryOf, Found, found_of, expanded_count, AreNodes, IsFoundWithin, AreOpen, AreOpenBut, IsTurn}
-
--- the queue's order: the least sum is on top, then the least estimate, and then the least place
-abbrev pub by_sum : Waiting → Waiting → Ordering
-by_sum x y = ordering_then (ordering_then (nat_cmp y.0.0 x.0.0) (nat_cmp y.0.1 x.0.1)) (nat_cmp y.0.2.0 x.0.2.0)
 
 -- Of those that wait, the state whose turn it is has the least sum of cost and estimate; of equal sum, the least estimate;
 -- and of these it comes first. It leaves the queue, and the others stay in it.
@@ -28,11 +22,6 @@ pub record TakesNext (old new : List Waiting) (all : List Node) (turn : Turn) : 
   pub first : (w : Waiting) → Contains old w → IsCurrent all w → sum_of w ≡ sum_of next → estimate_of w ≡ estimate_of next → place_of next ≤ place_of w
   pub rest : (w : Waiting) → Contains old w → IsCurrent all w → place_of w ≢ turn.id.0 → Contains new w
 
--- an entry joins the queue
-pub record Joins (old new : List Waiting) (w : Waiting) : Type 0 where
-  pub joins : IsPermutation (w ∷ old) new
-  pub heap : IsHeap by_sum old → IsHeap by_sum new
-
 -- the found states of a search
 abbrev pub nodes_in : {S Store : Type 0} → (Store → List S) → Progress Store → List (Found S)
 nodes_in states_of p = found_of (states_of p.store) p.nodes.items
@@ -41,21 +30,21 @@ module _ {S Store : Type 0} (t : System S ℕ) (value : S → ℕ) (states_of : 
   -- between two turns
   pub record IsSearch : Type 0 where
     pub one_each : length p.nodes.items ≡ length (states_of p.store)
-    pub nodes : AreNodes t value (nodes_in states_of p) (heap_items p.queue)
-    pub heap : IsHeap by_sum (heap_items p.queue)
+    pub nodes : AreNodes t value (nodes_in states_of p) (waiting_in p.queue)
+    pub heap : IsQueue p.queue
 
   -- the turn of the state at this place came: it waits, and is no more in the queue
   pub record IsAtTurn (i : ℕ) : Type 0 where
     pub one_each : length p.nodes.items ≡ length (states_of p.store)
     pub queue : List Waiting
     pub nodes : AreNodes t value (nodes_in states_of p) queue
-    pub heap : IsHeap by_sum (heap_items p.queue)
+    pub heap : IsQueue p.queue
     pub found : Found S
     pub stands : slice_get (nodes_in states_of p) i ≡ Some found
     pub waits : found.node.is_expanded ≡ false
     pub least : (k : ℕ) (n : Found S) → slice_get (nodes_in states_of p) k ≡ Some n → n.node.is_expanded ≡ false → found.node.cost + value found.state ≤ n.node.cost + value n.state
-    pub rest : (k : ℕ) (n : Found S) → slice_get (nodes_in states_of p) k ≡ Some n → n.node.is_expanded ≡ false → k ≢ i → Contains (heap_items p.queue) (entry n.node.cost (value n.state) k)
-    pub entries : All (IsEntryOf value (nodes_in states_of p)) (heap_items p.queue)
+    pub rest : (k : ℕ) (n : Found S) → slice_get (nodes_in states_of p) k ≡ Some n → n.node.is_expanded ≡ false → k ≢ i → Contains (waiting_in p.queue) (entry n.node.cost (value n.state) k)
+    pub entries : All (IsEntryOf value (nodes_in states_of p)) (waiting_in p.queue)
 
   -- the state at this place is being expanded
   pub record IsExpanding (i : ℕ) : Type 0 where

@@ -7,6 +7,7 @@ mod nodes;
 mod progress;
 mod transitions;
 mod turns;
+mod waiting;
 
 pub use best::{MAX_STATES, Outcome, best_first};
 pub use estimates::{Estimate, NoEstimate, value_of};

@@ -1,7 +1,8 @@
 //! The states that a search found, and how it reached them.
-ghost use Rattle.std.specs.Prelude.{◌≡◌, ◌<◌, length, IfOk};
-ghost use Rattle.search.specs.Nodes.{depth_of, AreDescending, IsPath};
+ghost use Rattle.std.specs.Prelude.{◌≡◌, ◌+◌, ◌*◌, ◌<◌, ◌≤◌, length, IfOk};
+ghost use Rattle.search.specs.Nodes.{place_in, IsPath, IsReachedIn};
 
+use crate::best::MAX_STATES;
 use faults::NoMemory;
 use std::alloc::Global;
 
@@ -9,24 +10,25 @@ use std::alloc::Global;
 #[derive(Clone, Copy, Debug, PartialEq, Eq, PartialOrd, Ord)]
 pub struct StateId(pub u32);
 
-/// A found state: at what cost it was reached, and whether it was expanded.
+/// A state's place in three bytes, from the lowest on: enough for as many states as a search may list.
+#[derive(Clone, Copy, Debug, PartialEq, Eq)]
+pub(crate) struct ShortId {
+    low: u8,
+    middle: u8,
+    high: u8,
+}
+
+/// A found state: at what cost it was reached, and whether it was expanded. It takes 16 bytes.
 #[derive(Clone, Copy, Debug, PartialEq, Eq)]
 pub struct Node {
     /// What some list of actions that leads to the state costs.
     pub cost: u64,
     /// Whether all its successors are among the found states.
     pub is_expanded: bool,
-    /// How it was reached, but for the initial state.
-    pub(crate) origin: Option<Origin>,
-}
-
-/// How a state was reached at its cost: by an action from an expanded state.
-#[derive(Clone, Copy, Debug, PartialEq, Eq)]
-pub(crate) struct Origin {
-    pub(crate) parent: StateId,
+    /// The expanded state from which it was reached at this cost. Of the initial state it says nothing.
+    pub(crate) parent: ShortId,
+    /// The action that leads to it from there.
     pub(crate) action: u32,
-    /// How many actions lead from the initial state to this one.
-    pub(crate) depth: u32,
 }
 
 /// The states that a search found.
@@ -38,29 +40,46 @@ pub struct FoundStates<S> {
     pub nodes: Vec<Node>,
 }
 
-impl Node {
-    /// How many actions lead from the initial state to this one.
-    pub(crate) fn depth(&self) -> u32
-        ensures { result ≡ depth_of self.now.origin }
+impl ShortId {
+    /// The state's place, shortly.
+    pub(crate) fn new(id: StateId) -> ShortId
+        requires { id.0 < MAX_STATES }
+        ensures { place_in result ≡ id.0 }
     {
-        match self.origin {
-            None => 0,
-            Some(origin) => origin.depth,
+        ShortId {
+            low: (id.0 % 256) as u8,
+            middle: (id.0 / 256 % 256) as u8,
+            high: (id.0 / 65_536) as u8,
         }
     }
+
+    /// The state's place.
+    fn id(self) -> StateId
+        ensures { result.0 ≡ place_in self }
+    {
+        StateId(number_of(self.low, self.middle, self.high))
+    }
+}
+
+/// The number that these bytes write, from the lowest on.
+fn number_of(low: u8, middle: u8, high: u8) -> u32
+    ensures { result ≡ low + middle * 256 + high * 65536 }
+{
+    u32::from(low) + u32::from(middle) * 256 + u32::from(high) * 65_536
 }
 
 /// The actions that lead from the initial state to the goal state.
 pub(crate) fn steps_to(alloc: Global, nodes: &[Node], goal: StateId) -> Result<Vec<u32>, NoMemory>
-    requires descending { AreDescending nodes.now }
-    requires found { goal.0 < length nodes.now }
-    ensures { IfOk result (λ steps. IsPath nodes.now goal.0 steps.items) }
+    requires { IsReachedIn nodes.now goal.0 (length nodes.now) }
+    ensures path { IfOk result (λ steps. IsPath nodes.now goal.0 steps.items) }
+    ensures short { IfOk result (λ steps. length steps.items ≤ length nodes.now) }
 {
     let mut steps = Vec::new(alloc);
     let mut at = goal;
-    while let Some(origin) = nodes[at.0 as usize].origin {
-        steps.push(origin.action)?;
-        at = origin.parent;
+    while at.0 != 0 {
+        let node = nodes[at.0 as usize];
+        steps.push(node.action)?;
+        at = node.parent.id();
     }
     steps.reverse();
     Ok(steps)

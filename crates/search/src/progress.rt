@@ -1,27 +1,23 @@
 //! How far a search has come: the states found so far, and which of them wait to be expanded.
-ghost use Rattle.std.specs.Prelude.{◌≡◌, ◌≢◌, ℕ, ◌+◌, ◌<◌, ◌≤◌, ◌^◌, true, false, List, [], ◌∷◌, ◌++◌, length, slice_get, slice_set, Contains, All, MatchBool, MatchOption, IfOk, IfNone, IfSome, OnOk, Some, None};
-ghost use Rattle.std.specs.BinaryHeap.{IsHeap, heap_items};
+ghost use Rattle.std.specs.Prelude.{◌≡◌, ◌≢◌, ℕ, ◌+◌, ◌<◌, ◌≤◌, ◌^◌, true, false, List, [], ◌∷◌, ◌++◌, length, slice_get, slice_set, Contains, All, MatchBool, MatchOption, IfOk, IfNone, IfSome, OnOk, OnSome, Some};
 ghost use Rattle.packed_state.specs.Packed.{bits_of};
 ghost use Rattle.packed_state.specs.Store.{IsPlaced};
 ghost use Rattle.search.specs.Estimates.{value_by};
 ghost use Rattle.search.specs.Outcome.{AreMoreReachable};
-ghost use Rattle.search.specs.Nodes.{Waiting, entry, IsEntry, IsCurrent, AreOpen, AreDescending, IsPath};
-ghost use Rattle.search.specs.Progress.{by_sum, TakesNext, Joins, nodes_in, IsSearch, IsAtTurn, IsExpanding, Reaches, Expands, AreWide};
+ghost use Rattle.search.specs.Nodes.{Waiting, entry, IsEntry, IsCurrent, AreOpen, IsPath, IsReachedIn};
+ghost use Rattle.search.specs.Queue.{waiting_in, IsQueue, Joins};
+ghost use Rattle.search.specs.Progress.{TakesNext, nodes_in, IsSearch, IsAtTurn, IsExpanding, Reaches, Expands, AreWide};
 
 use crate::best::MAX_STATES;
 use crate::estimates::{Estimate, value_in};
-use crate::nodes::{FoundStates, Node, Origin, StateId, steps_to};
+use crate::nodes::{FoundStates, Node, ShortId, StateId, steps_to};
 use crate::transitions::TransitionSystem;
 use crate::turns::{Parent, Turn};
+use crate::waiting::Queue;
 use faults::NoMemory;
 use packed_state::{Packed, StateStore};
 use std::alloc::Global;
 use std::cmp::Reverse;
-use std::collections::BinaryHeap;
-
-/// A waiting state: the sum of its cost and its estimate, the estimate, and its place. The one that comes next is the
-/// greatest: of the least sum, then of the least estimate, then the one found first.
-pub(crate) type QueueEntry = Reverse<(u64, u64, StateId)>;
 
 /// How far a search has come.
 #[derive(Drop)]
@@ -29,7 +25,7 @@ pub(crate) struct Progress<S> {
     pub(crate) store: S,
     pub(crate) nodes: Vec<Node>,
     /// Each waiting state, beside entries that are stale: a cheaper way was found, or it was expanded.
-    pub(crate) queue: BinaryHeap<QueueEntry>,
+    pub(crate) queue: Queue,
 }
 
 /// Buffers that each turn uses again, so that a state takes no memory but its place in the lists.
@@ -102,26 +98,33 @@ impl<S: StateStore> Progress<S> {
         let mut progress = Progress {
             store,
             nodes: Vec::new(alloc),
-            queue: BinaryHeap::new(alloc),
+            queue: Queue::new(alloc),
         };
         let value = value_in(estimate, &initial);
-        progress.add(StateId(place), 0, value, None)?;
+        let node = Node {
+            cost: 0,
+            is_expanded: false,
+            parent: ShortId::new(StateId(0)),
+            action: 0,
+        };
+        progress.add(StateId(place), node, value)?;
         Ok(progress)
     }
 
     /// The waiting state of the least sum of cost and estimate, among these of the least estimate and, among these, the one
     /// found first. It leaves the queue.
     pub(crate) fn next_waiting(&mut self) -> Option<Turn>
-        requires heap { IsHeap by_sum (heap_items self.old.queue) }
-        requires entries { All (IsEntry (length self.old.nodes.items)) (heap_items self.old.queue) }
+        requires heap { IsQueue self.old.queue }
+        requires entries { All (IsEntry (length self.old.nodes.items)) (waiting_in self.old.queue) }
         ensures store { self.new.store ≡ self.old.store }
         ensures nodes { self.new.nodes.items ≡ self.old.nodes.items }
-        ensures heap { IsHeap by_sum (heap_items self.new.queue) }
-        ensures kept { (w : Waiting) → Contains (heap_items self.new.queue) w → Contains (heap_items self.old.queue) w }
+        ensures heap { OnSome result (IsQueue self.new.queue) }
+        ensures kept { OnSome result ((w : Waiting) →
+            Contains (waiting_in self.new.queue) w → Contains (waiting_in self.old.queue) w) }
         ensures none { IfNone result ((w : Waiting) →
-            Contains (heap_items self.old.queue) w → ¬ IsCurrent self.old.nodes.items w) }
+            Contains (waiting_in self.old.queue) w → ¬ IsCurrent self.old.nodes.items w) }
         ensures some { IfSome result
-            (λ turn. TakesNext (heap_items self.old.queue) (heap_items self.new.queue) self.old.nodes.items turn) }
+            (λ turn. TakesNext (waiting_in self.old.queue) (waiting_in self.new.queue) self.old.nodes.items turn) }
     {
         while let Some(Reverse((sum, estimate, id))) = self.queue.pop() {
             let node = self.nodes[id.0 as usize];
@@ -133,60 +136,42 @@ impl<S: StateStore> Progress<S> {
     }
 
     /// A new state waits.
-    fn add(
-        &mut self,
-        id: StateId,
-        cost: u64,
-        estimate: u64,
-        origin: Option<Origin>,
-    ) -> Result<(), NoMemory>
-        requires { cost + estimate < 2 ^ 64 }
+    fn add(&mut self, id: StateId, node: Node, estimate: u64) -> Result<(), NoMemory>
+        requires sum { node.cost + estimate < 2 ^ 64 }
+        requires place { id.0 < MAX_STATES }
         ensures store { self.new.store ≡ self.old.store }
-        ensures nodes { OnOk result (self.new.nodes.items
-            ≡ self.old.nodes.items ++ record { cost = cost; is_expanded = false; origin = origin } ∷ []) }
+        ensures nodes { OnOk result (self.new.nodes.items ≡ self.old.nodes.items ++ node ∷ []) }
         ensures queue { OnOk result
-            (Joins (heap_items self.old.queue) (heap_items self.new.queue) (entry cost estimate id.0)) }
+            (Joins self.old.queue self.new.queue (entry node.cost estimate id.0)) }
     {
-        self.nodes.push(Node {
-            cost,
-            is_expanded: false,
-            origin,
-        })?;
-        self.enqueue(id, cost, estimate)
+        self.nodes.push(node)?;
+        self.enqueue(id, node.cost, estimate)
     }
 
     /// A cheaper way to a waiting state is kept in place of the dearer.
-    fn improve(
-        &mut self,
-        id: StateId,
-        cost: u64,
-        estimate: u64,
-        origin: Origin,
-    ) -> Result<(), NoMemory>
+    fn improve(&mut self, id: StateId, node: Node, estimate: u64) -> Result<(), NoMemory>
         requires found { id.0 < length self.old.nodes.items }
-        requires sum { cost + estimate < 2 ^ 64 }
+        requires sum { node.cost + estimate < 2 ^ 64 }
+        requires place { id.0 < MAX_STATES }
         ensures store { self.new.store ≡ self.old.store }
-        ensures nodes { (node : _) → slice_get self.old.nodes.items id.0 ≡ Some node
-            → self.new.nodes.items ≡ slice_set self.old.nodes.items id.0 (record node { cost = cost; origin = Some origin }) }
+        ensures nodes { self.new.nodes.items ≡ slice_set self.old.nodes.items id.0 node }
         ensures queue { OnOk result
-            (Joins (heap_items self.old.queue) (heap_items self.new.queue) (entry cost estimate id.0)) }
+            (Joins self.old.queue self.new.queue (entry node.cost estimate id.0)) }
     {
-        let node = &mut self.nodes[id.0 as usize];
-        node.cost = cost;
-        node.origin = Some(origin);
-        self.enqueue(id, cost, estimate)
+        self.nodes[id.0 as usize] = node;
+        self.enqueue(id, node.cost, estimate)
     }
 
     /// The state waits at this cost.
     fn enqueue(&mut self, id: StateId, cost: u64, estimate: u64) -> Result<(), NoMemory>
-        requires { cost + estimate < 2 ^ 64 }
+        requires sum { cost + estimate < 2 ^ 64 }
+        requires place { id.0 < MAX_STATES }
         ensures store { self.new.store ≡ self.old.store }
         ensures nodes { self.new.nodes.items ≡ self.old.nodes.items }
         ensures queue { OnOk result
-            (Joins (heap_items self.old.queue) (heap_items self.new.queue) (entry cost estimate id.0)) }
+            (Joins self.old.queue self.new.queue (entry cost estimate id.0)) }
     {
-        self.queue.push(Reverse((cost + estimate, estimate, id)))?;
-        Ok(())
+        self.queue.push(Reverse((cost + estimate, estimate, id)))
     }
 
     /// The state is expanded from now on.
@@ -195,7 +180,7 @@ impl<S: StateStore> Progress<S> {
         ensures store { self.new.store ≡ self.old.store }
         ensures nodes { (node : _) → slice_get self.old.nodes.items id.0 ≡ Some node
             → self.new.nodes.items ≡ slice_set self.old.nodes.items id.0 (record node { is_expanded = true }) }
-        ensures queue { heap_items self.new.queue ≡ heap_items self.old.queue }
+        ensures queue { self.new.queue ≡ self.old.queue }
     {
         self.nodes[id.0 as usize].is_expanded = true;
     }
@@ -227,21 +212,21 @@ impl<S: StateStore> Progress<S> {
     {
         let before = self.nodes[parent.id.0 as usize];
         let cost = before.cost + u64::from(system.cost(action));
-        let depth = before.depth() + 1;
-        let origin = Origin {
-            parent: parent.id,
+        let node = Node {
+            cost,
+            is_expanded: false,
+            parent: ShortId::new(parent.id),
             action,
-            depth,
         };
         let Some((id, is_new)) = place_of_state(&mut self.store, state, max_states)? else {
             return Ok(false);
         };
         if is_new {
             let value = parent.value_after(estimate, action, state);
-            self.add(id, cost, value, Some(origin))?;
+            self.add(id, node, value)?;
         } else if cost < self.nodes[id.0 as usize].cost {
             let value = parent.value_after(estimate, action, state);
-            self.improve(id, cost, value, origin)?;
+            self.improve(id, node, value)?;
         }
         Ok(true)
     }
@@ -295,9 +280,9 @@ impl<S: StateStore> Progress<S> {
         alloc: Global,
         goal: StateId,
     ) -> Result<(Vec<u32>, FoundStates<S>), NoMemory>
-        requires descending { AreDescending self.nodes.items }
-        requires found { goal.0 < length self.nodes.items }
+        requires { IsReachedIn self.nodes.items goal.0 (length self.nodes.items) }
         ensures path { IfOk result (λ r. IsPath self.nodes.items goal.0 r.0.items) }
+        ensures short { IfOk result (λ r. length r.0.items ≤ length self.nodes.items) }
         ensures store { IfOk result (λ r. r.1.store ≡ self.store) }
         ensures nodes { IfOk result (λ r. r.1.nodes.items ≡ self.nodes.items) }
     {

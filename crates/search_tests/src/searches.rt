@@ -12,13 +12,13 @@ use std::test::Fail;
 
 /// Rooms, their signs, the most rooms that may be found, the doors of the plan that is found and its cost, if there is one, and the rooms in
 /// the order in which they are found, with what it costs to reach each. There are no such rooms where the limit is told.
-struct Row {
-    rooms: Rooms,
-    signs: &'static [u32],
-    most: u32,
-    plan: Option<(&'static [u32], u64)>,
-    found: &'static [u32],
-    costs: &'static [u64],
+pub(crate) struct Row {
+    pub(crate) rooms: Rooms,
+    pub(crate) signs: &'static [u32],
+    pub(crate) most: u32,
+    pub(crate) plan: Option<(&'static [u32], u64)>,
+    pub(crate) found: &'static [u32],
+    pub(crate) costs: &'static [u64],
 }
 
 /// From each room a door leads to the next, at cost 1, and another to the one behind that, at cost 5.
@@ -158,7 +158,7 @@ fn is_as_wanted<S: StateStore>(alloc: Global, row: &Row, store: S) -> Result<boo
 }
 
 /// The same in the plain store, and in the pooled one.
-fn are_as_wanted(alloc: Global, row: &Row) -> Result<[bool; 2], NoMemory> {
+pub(crate) fn are_as_wanted(alloc: Global, row: &Row) -> Result<[bool; 2], NoMemory> {
     let width = row.rooms.width;
     let plain = is_as_wanted(alloc, row, PlainStore::new(alloc, width))?;
     let pooled = is_as_wanted(alloc, row, PooledStore::new(alloc, width)?)?;

@@ -1,6 +1,6 @@
 use Rattle.std.proofs.Common.{List, Bool, ◌≡◌, ℕ, ◌+◌, length, ap, sym, ◌∙◌, subst, arith, Some, get_or, true}
 use Rattle.std.specs.Prelude.{slice_get}
-use Rattle.std.specs.BinaryHeap.{heap_items}
+use Rattle.search.specs.Queue.{waiting_in}
 use Rattle.std.proofs.lemmas.List.Sums.{count_by-le-length}
 use Rattle.std.proofs.lemmas.Option.{same_Some, get_or_from_slice_get, slice_get_within}
 use Rattle.packed_state.specs.Packed.{bits_of}
@@ -11,7 +11,7 @@ use Rattle.search.specs.Estimates.{IsConsistent, value_by}
 use Rattle.search.specs.Outcome.{AreFound, AreExpandedWithin}
 use Rattle.search.specs.Nodes.{Found, found_of, expanded_count, IsEntryOf}
 use Rattle.search.proofs.Linked.{length-found_of}
-use Rattle.search.proofs.Closed.{descending, optimal, unsolvable}
+use Rattle.search.proofs.Closed.{reached_in, optimal, unsolvable}
 use Rattle.search.proofs.Queue.{All-among}
 use Rattle.search.proofs.Steps.{entries_of, at_turn, none_waits}
 use Rattle.search.proofs.best.best_first.Goals as goal
@@ -41,16 +41,11 @@ index-requires g c =
     let next = at_turn _ _ _ _ _ search.one_each search.nodes _ c.in-Some.turn c.in-Some.ensures.some in
     omega (arith, slice_get_within c.loop-turn.progress.nodes.items _ next.found.node next.node, ap length c.in-Some.ensures.nodes, c.next_waiting.new.self.nodes.ok.0)
 
-pub into_plan-requires-clause-descending : goal.into_plan-requires-clause-descending
-into_plan-requires-clause-descending g c =
-    let search = c.loop-turn.invariant.search in
-    rw c.in-Some.ensures.nodes (descending _ _ _ _ search.one_each _ search.nodes)
-
-pub into_plan-requires-clause-found : goal.into_plan-requires-clause-found
-into_plan-requires-clause-found g c =
+pub into_plan-requires : goal.into_plan-requires
+into_plan-requires g c =
     let search = c.loop-turn.invariant.search in
     let next = at_turn _ _ _ _ _ search.one_each search.nodes _ c.in-Some.turn c.in-Some.ensures.some in
-    rw c.in-Some.ensures.nodes (slice_get_within _ _ next.found.node next.node)
+    rw c.in-Some.ensures.nodes (reached_in _ _ _ _ search.one_each _ search.nodes _ next.found next.stands)
 
 pub returns-then-meets_goal : goal.returns-then-meets_goal
 returns-then-meets_goal g c =
@@ -68,9 +63,10 @@ returns-then-meets_goal g c =
     let is_reached : c.index.result.now ≡ next.found.node = read ∙ get_or_from_slice_get all id next.found.node c.index.result.now next.node in
     let same_cost : next.found.node.cost ≡ c.index.result.now.cost = cc in
     let path = rw c.in-Some.ensures.nodes at c.in_ok-steps.ensures.path in
+    let short = rw c.in-Some.ensures.nodes at c.in_ok-steps.ensures.short in
     let consistent = subst (λ (u : System (List Bool) ℕ). IsConsistent u value) c.requires.made_for (g.met.E.Estimate.is_consistent c.args.estimate.now) in
     let best = optimal _ _ _ _ search.one_each _ search.nodes consistent id next.found c.in_ok-steps.steps.items c.args.max_states
-    c.loop-turn.invariant.are_open next.stands next.least meets path c.loop-turn.invariant.within in (
+    c.loop-turn.invariant.are_open next.stands next.least meets path short c.loop-turn.invariant.within in (
       best.0,
       best.1 ∙ same_cost,
       rw (c.in_ok-steps.ensures.store, c.in-Some.ensures.store, c.in_ok-steps.ensures.nodes, c.in-Some.ensures.nodes)
@@ -86,7 +82,7 @@ expand-requires-clause-turn g c =
     let next = at_turn _ _ _ _ _ search.one_each search.nodes _ c.in-Some.turn c.in-Some.ensures.some in
     record {
       one_each = rw (c.in-Some.ensures.nodes, c.in-Some.ensures.store) search.one_each;
-      queue = heap_items c.loop-turn.progress.queue;
+      queue = waiting_in c.loop-turn.progress.queue;
       nodes = rw (c.in-Some.ensures.store, c.in-Some.ensures.nodes) search.nodes;
       heap = c.in-Some.ensures.heap;
       found = next.found;

@@ -1,6 +1,6 @@
 use Rattle.std.proofs.Common.{rules, ◌≡◌, ℕ, Bool, List, ◌+◌, get_or, drop, sym, ap, ◌∙◌, subst, arith, Some, true, false}
 use Rattle.std.specs.Prelude.{IsTrue, is_some}
-use Rattle.std.specs.BinaryHeap.{heap_items}
+use Rattle.search.specs.Queue.{waiting_in}
 use Rattle.std.proofs.lemmas.List.{drop_more, drop_all}
 use Rattle.std.proofs.lemmas.Option.{same_Some}
 use Rattle.model.proofs.ListLemmas.{Contains-here}
@@ -23,7 +23,7 @@ is_state g c =
 
 has_begun : (g : Over) (c : After-deref-action-items g) → HasBegun (g.T.TransitionSystem.means c.args.system.now) (value_by (g.E.Estimate.score_of c.args.estimate.now))
     (found_of (g.S.StateStore.states c.args.self.now.store) c.args.self.now.nodes.items) (g.S.StateStore.states c.mark_expanded.new.self.store) c.mark_expanded.new.self.nodes.items
-    (heap_items c.args.self.now.queue) c.args.turn.id.0 c.requires.turn.found
+    (waiting_in c.args.self.now.queue) c.args.turn.id.0 c.requires.turn.found
 has_begun g c =
     let turn = c.requires.turn in
     let t = g.T.TransitionSystem.means c.args.system.now in

@@ -1,12 +1,13 @@
-use Rattle.std.proofs.Common.{◌≡◌, ◌+◌, ◌<◌, ◌≤◌, ◌∷◌, length, ap, sym, subst, refl, ◌∙◌, arith, vec_len, Some, false}
+use Rattle.std.proofs.Common.{◌≡◌, ◌+◌, ◌<◌, ◌≤◌, [], ◌∷◌, length, ap, sym, subst, refl, ◌∙◌, arith, vec_len, Some, false}
 use Rattle.std.specs.Prelude.{Contains, IsPermutation, slice_get}
-use Rattle.std.specs.BinaryHeap.{heap_items}
+use Rattle.search.specs.Queue.{waiting_in}
+use Rattle.std.proofs.lemmas.List.{length-append}
 use Rattle.std.proofs.lemmas.Option.{get_or_from_slice_get, slice_get_read, slice_get_within}
 use Rattle.packed_state.specs.Packed.{bits_of}
 use Rattle.packed_state.specs.Store.{IsPlaced}
 use Rattle.search.specs.declared.nodes.Node.{Node}
 use Rattle.search.specs.Estimates.{value_by}
-use Rattle.search.specs.Nodes.{entry, found_of, depth_of}
+use Rattle.search.specs.Nodes.{entry, found_of}
 use Rattle.search.proofs.Limit.{more_reachable}
 use Rattle.search.proofs.Linked.{found_of-get, length-found_of}
 use Rattle.search.proofs.Steps.{turn_limits, placed_new, placed_old, leads_from, stepped_new, stepped_cheaper, stepped_same}
@@ -15,19 +16,19 @@ use Rattle.search.proofs.progress.Progress.reach.Goals.{After-from, In-Some}
 use Rattle.search.proofs.progress.Progress.reach.Goals as goal
 
 -- the node of the parent was read
-read_parent : (g : Over) (c : After-from g) → c.index.result.now ≡ c.requires.expanding.turn.found.node
+read_parent : (g : Over) (c : After-from g) → c.index-before.result.now ≡ c.requires.expanding.turn.found.node
 read_parent g c =
     let turn = c.requires.expanding.turn in
-    c.index.ensures ∙ get_or_from_slice_get c.args.self.now.nodes.items c.args.parent.now.id.0 turn.found.node c.index.result.now
+    c.index-before.ensures ∙ get_or_from_slice_get c.args.self.now.nodes.items c.args.parent.now.id.0 turn.found.node c.index-before.result.now
     (found_of-get (g.S.StateStore.states c.args.self.now.store) c.args.self.now.nodes.items c.args.parent.now.id.0 turn.found turn.stands).1
 
--- what it costs, and how deep it is, leaves room for one step more
-limits : (g : Over) (c : After-from g) → (c.index.result.now.cost + 4294967295 ≤ 72057594021150720) × (depth_of c.index.result.now.origin + 1 ≤ 16777216)
+-- what it costs leaves room for one step more
+limits : (g : Over) (c : After-from g) → c.index-before.result.now.cost + 4294967295 ≤ 72057594021150720
 limits g c =
     let e = c.requires.expanding in
     let states = g.S.StateStore.states c.args.self.now.store in
     let all = c.args.self.now.nodes.items in
-    subst (λ (n : Node). (n.cost + 4294967295 ≤ 72057594021150720) × (depth_of n.origin + 1 ≤ 16777216)) (sym (read_parent g c))
+    subst (λ (n : Node). n.cost + 4294967295 ≤ 72057594021150720) (sym (read_parent g c))
     (turn_limits (found_of states all) c.args.parent.now.id.0 c.args.max_states e.turn (omega (arith, length-found_of states all e.search.one_each, c.requires.within)) c.requires.limit)
 
 -- the action leads from the state whose turn it is to the successor
@@ -48,8 +49,8 @@ was_listed g c is_old =
     let known = placed_old states _ s c.in-Some.id.0 c.in-Some.is_new is_old placed in
     (known.0, known.1, omega (arith, slice_get_within states c.in-Some.id.0 s known.0, c.requires.expanding.search.one_each))
 
-pub index-requires : goal.index-requires
-index-requires g c =
+pub index-before-requires : goal.index-before-requires
+index-before-requires g c =
     let e = c.requires.expanding in
     let states = g.S.StateStore.states c.args.self.now.store in
     let parts = found_of-get states c.args.self.now.nodes.items c.args.parent.now.id.0 e.turn.found e.turn.stands in
@@ -57,11 +58,14 @@ index-requires g c =
 
 pub overflow_add-cost : goal.overflow_add-cost
 overflow_add-cost g c =
-    omega (arith, (limits g (goal.at.overflow_add-cost g c).After-from).0)
+    omega (arith, limits g (goal.at.overflow_add-cost g c).After-from)
 
-pub overflow_add-depth : goal.overflow_add-depth
-overflow_add-depth g c =
-    omega (arith, (limits g (goal.at.overflow_add-depth g c).After-from).1, c.depth-depth.ensures)
+pub new-requires : goal.new-requires
+new-requires g c =
+    let e = c.requires.expanding in
+    let states = g.S.StateStore.states c.args.self.now.store in
+    let parts = found_of-get states c.args.self.now.nodes.items c.args.parent.now.id.0 e.turn.found e.turn.stands in
+    omega (arith, slice_get_within states c.args.parent.now.id.0 e.turn.found.state parts.0, c.requires.within, c.requires.limit)
 
 pub returns-in_default-clause-listed : goal.returns-in_default-clause-listed
 returns-in_default-clause-listed g c =
@@ -69,13 +73,13 @@ returns-in_default-clause-listed g c =
     let states = g.S.StateStore.states c.args.self.now.store in
     let s = bits_of c.args.state.now in
     let full : (¬ Contains states s) × (length states ≡ c.args.max_states) = rw c.in_default.is at c.in_ok-id.ensures.placed in
-    more_reachable (g.T.TransitionSystem.means c.args.system.now) (value_by (g.E.Estimate.score_of c.args.estimate.now)) states c.args.self.now.nodes.items (heap_items c.args.self.now.queue)
+    more_reachable (g.T.TransitionSystem.means c.args.system.now) (value_by (g.E.Estimate.score_of c.args.estimate.now)) states c.args.self.now.nodes.items (waiting_in c.args.self.now.queue)
     e.search.one_each e.search.nodes c.args.parent.now.id.0 e.turn c.args.action s
     (leads g (goal.at.returns-in_default-clause-listed g c).After-from) full.0 c.args.max_states full.1
 
-pub index-requires-else-is_new : goal.index-requires-else-is_new
-index-requires-else-is_new g c =
-    let within : c.in-Some.id.0 < vec_len c.args.self.now.nodes = omega (arith, (was_listed g (goal.at.index-requires-else-is_new g c).In-Some c.if-is_new.false).2, c.args.self.now.nodes.ok.0) in
+pub index-requires : goal.index-requires
+index-requires g c =
+    let within : c.in-Some.id.0 < vec_len c.args.self.now.nodes = omega (arith, (was_listed g (goal.at.index-requires g c).In-Some c.if-is_new.false).2, c.args.self.now.nodes.ok.0) in
     within
 
 pub improve-requires-clause-found : goal.improve-requires-clause-found
@@ -90,18 +94,18 @@ returns-in_ok-add-clause-listed g c =
     let all = c.args.self.now.nodes.items in
     let s = bits_of c.args.state.now in
     let here = (goal.at.returns-in_ok-add-clause-listed g c).After-from in
-    let same : c.index.result.now.cost ≡ e.turn.found.node.cost = ap (λ (n : Node). n.cost) (read_parent g here) in
+    let same : c.index-before.result.now.cost ≡ e.turn.found.node.cost = ap (λ (n : Node). n.cost) (read_parent g here) in
     let placed : IsPlaced states after s c.in-Some.id.0 c.in-Some.is_new = rw c.in-Some.is at c.in_ok-id.ensures.placed in
     let new = placed_new states after s c.in-Some.id.0 c.in-Some.is_new c.if-is_new.true placed in
     let stored : g.S.StateStore.states c.add.new.self.store ≡ after = rw c.in_ok-add.ensures.store refl in
-    let step = stepped_new (g.T.TransitionSystem.means c.args.system.now) (value_by (g.E.Estimate.score_of c.args.estimate.now)) states all (heap_items c.args.self.now.queue) c.args.parent.now.id.0
-    e.search.one_each e.search.nodes e.turn e.others_open s (c.index.result.now.cost + c.from.result)
-    (record { parent = c.args.parent.now.id; action = c.args.action; depth = c.depth-depth.result + 1 }) refl
-    (ap (λ d. d + 1) (c.depth-depth.ensures ∙ ap (λ (n : Node). depth_of n.origin) (read_parent g here))) (omega (arith, same, c.from.ensures, c.cost.ensures)) (omega (arith, c.cost.ensures))
+    let step = stepped_new (g.T.TransitionSystem.means c.args.system.now) (value_by (g.E.Estimate.score_of c.args.estimate.now)) states all (waiting_in c.args.self.now.queue) c.args.parent.now.id.0
+    e.search.one_each e.search.nodes e.turn e.others_open s
+    (record { cost = c.index-before.result.now.cost + c.from.result; is_expanded = false; parent = c.new.result; action = c.args.action }) refl c.new.ensures
+    (omega (arith, same, c.from.ensures, c.cost.ensures)) (omega (arith, c.cost.ensures))
     (leads g here)
-    new.0 (g.S.StateStore.states c.add.new.self.store) c.add.new.self.nodes.items c.in-Some.id.0 (heap_items c.add.new.self.queue)
+    new.0 (g.S.StateStore.states c.add.new.self.store) c.add.new.self.nodes.items c.in-Some.id.0 (waiting_in c.add.new.self.queue)
     (stored ∙ new.1) c.in_ok-add.ensures.nodes new.2
-    (subst (λ v. IsPermutation (entry (c.index.result.now.cost + c.from.result) v c.in-Some.id.0 ∷ heap_items c.args.self.now.queue) (heap_items c.add.new.self.queue)) c.value_after-value.ensures.value c.in_ok-add.ensures.queue.joins) in
+    (subst (λ v. IsPermutation (entry (c.index-before.result.now.cost + c.from.result) v c.in-Some.id.0 ∷ waiting_in c.args.self.now.queue) (waiting_in c.add.new.self.queue)) c.value_after-value.ensures.value c.in_ok-add.ensures.queue.joins) in
     record {
       expanding = record {
         search = record { one_each = step.0; nodes = step.1.sound; heap = c.in_ok-add.ensures.queue.heap e.search.heap };
@@ -121,20 +125,20 @@ returns-in_ok-improve-clause-listed g c =
     let all = c.args.self.now.nodes.items in
     let s = bits_of c.args.state.now in
     let here = (goal.at.returns-in_ok-improve-clause-listed g c).After-from in
-    let same : c.index.result.now.cost ≡ e.turn.found.node.cost = ap (λ (n : Node). n.cost) (read_parent g here) in
+    let same : c.index-before.result.now.cost ≡ e.turn.found.node.cost = ap (λ (n : Node). n.cost) (read_parent g here) in
     let known = was_listed g (goal.at.returns-in_ok-improve-clause-listed g c).In-Some c.if-is_new.false in
-    let was : slice_get all c.in-Some.id.0 ≡ Some c.index-else-is_new.result.now =
-    slice_get_read all (length all) c.in-Some.id.0 c.index-else-is_new.result.now refl known.2 c.index-else-is_new.ensures in
+    let was : slice_get all c.in-Some.id.0 ≡ Some c.index.result.now =
+    slice_get_read all (length all) c.in-Some.id.0 c.index.result.now refl known.2 c.index.ensures in
     let stored : g.S.StateStore.states c.improve.new.self.store ≡ after = rw c.in_ok-improve.ensures.store refl in
-    let step = stepped_cheaper (g.T.TransitionSystem.means c.args.system.now) (value_by (g.E.Estimate.score_of c.args.estimate.now)) states all (heap_items c.args.self.now.queue) c.args.parent.now.id.0
-    e.search.one_each e.search.nodes e.turn e.others_open s (c.index.result.now.cost + c.from.result)
-    (record { parent = c.args.parent.now.id; action = c.args.action; depth = c.depth-depth.result + 1 }) refl
-    (ap (λ d. d + 1) (c.depth-depth.ensures ∙ ap (λ (n : Node). depth_of n.origin) (read_parent g here))) (omega (arith, same, c.from.ensures, c.cost.ensures)) (omega (arith, c.cost.ensures))
+    let step = stepped_cheaper (g.T.TransitionSystem.means c.args.system.now) (value_by (g.E.Estimate.score_of c.args.estimate.now)) states all (waiting_in c.args.self.now.queue) c.args.parent.now.id.0
+    e.search.one_each e.search.nodes e.turn e.others_open s
+    (record { cost = c.index-before.result.now.cost + c.from.result; is_expanded = false; parent = c.new.result; action = c.args.action }) refl c.new.ensures
+    (omega (arith, same, c.from.ensures, c.cost.ensures)) (omega (arith, c.cost.ensures))
     (leads g here)
-    c.in-Some.id.0 c.index-else-is_new.result.now known.0 was c.if-cost-index.true
-    (g.S.StateStore.states c.improve.new.self.store) c.improve.new.self.nodes.items (heap_items c.improve.new.self.queue)
-    (stored ∙ known.1) (c.in_ok-improve.ensures.nodes c.index-else-is_new.result.now was)
-    (subst (λ v. IsPermutation (entry (c.index.result.now.cost + c.from.result) v c.in-Some.id.0 ∷ heap_items c.args.self.now.queue) (heap_items c.improve.new.self.queue)) c.value_after-value-then-cost-index.ensures.value c.in_ok-improve.ensures.queue.joins) in
+    c.in-Some.id.0 c.index.result.now known.0 was c.if-cost-index.true
+    (g.S.StateStore.states c.improve.new.self.store) c.improve.new.self.nodes.items (waiting_in c.improve.new.self.queue)
+    (stored ∙ known.1) c.in_ok-improve.ensures.nodes
+    (subst (λ v. IsPermutation (entry (c.index-before.result.now.cost + c.from.result) v c.in-Some.id.0 ∷ waiting_in c.args.self.now.queue) (waiting_in c.improve.new.self.queue)) c.value_after-value-then-cost-index.ensures.value c.in_ok-improve.ensures.queue.joins) in
     record {
       expanding = record {
         search = record { one_each = step.0; nodes = step.1.sound; heap = c.in_ok-improve.ensures.queue.heap e.search.heap };
@@ -154,16 +158,16 @@ returns-else-cost-index-clause-listed g c =
     let all = c.args.self.now.nodes.items in
     let s = bits_of c.args.state.now in
     let here = (goal.at.returns-else-cost-index-clause-listed g c).After-from in
-    let same : c.index.result.now.cost ≡ e.turn.found.node.cost = ap (λ (n : Node). n.cost) (read_parent g here) in
+    let same : c.index-before.result.now.cost ≡ e.turn.found.node.cost = ap (λ (n : Node). n.cost) (read_parent g here) in
     let known = was_listed g (goal.at.returns-else-cost-index-clause-listed g c).In-Some c.if-is_new.false in
-    let was : slice_get all c.in-Some.id.0 ≡ Some c.index-else-is_new.result.now =
-    slice_get_read all (length all) c.in-Some.id.0 c.index-else-is_new.result.now refl known.2 c.index-else-is_new.ensures in
-    let step = stepped_same (g.T.TransitionSystem.means c.args.system.now) (value_by (g.E.Estimate.score_of c.args.estimate.now)) states all (heap_items c.args.self.now.queue) c.args.parent.now.id.0
-    e.search.one_each e.search.nodes e.turn e.others_open s (c.index.result.now.cost + c.from.result)
-    (record { parent = c.args.parent.now.id; action = c.args.action; depth = c.depth-depth.result + 1 }) refl
-    (ap (λ d. d + 1) (c.depth-depth.ensures ∙ ap (λ (n : Node). depth_of n.origin) (read_parent g here))) (omega (arith, same, c.from.ensures, c.cost.ensures)) (omega (arith, c.cost.ensures))
+    let was : slice_get all c.in-Some.id.0 ≡ Some c.index.result.now =
+    slice_get_read all (length all) c.in-Some.id.0 c.index.result.now refl known.2 c.index.ensures in
+    let step = stepped_same (g.T.TransitionSystem.means c.args.system.now) (value_by (g.E.Estimate.score_of c.args.estimate.now)) states all (waiting_in c.args.self.now.queue) c.args.parent.now.id.0
+    e.search.one_each e.search.nodes e.turn e.others_open s
+    (record { cost = c.index-before.result.now.cost + c.from.result; is_expanded = false; parent = c.new.result; action = c.args.action }) refl c.new.ensures
+    (omega (arith, same, c.from.ensures, c.cost.ensures)) (omega (arith, c.cost.ensures))
     (leads g here)
-    c.in-Some.id.0 c.index-else-is_new.result.now known.0 was c.if-cost-index.false after known.1 in
+    c.in-Some.id.0 c.index.result.now known.0 was c.if-cost-index.false after known.1 in
     record {
       expanding = record {
         search = record { one_each = step.0; nodes = step.1.sound; heap = e.search.heap };
@@ -175,10 +179,23 @@ returns-else-cost-index-clause-listed g c =
       listed = step.1.listed;
     }
 
-pub add-requires : goal.add-requires
-add-requires g c =
-    omega (arith, (limits g (goal.at.add-requires g c).After-from).0, c.from.ensures, c.cost.ensures, c.value_after-value.ensures.within)
+pub add-requires-clause-sum : goal.add-requires-clause-sum
+add-requires-clause-sum g c =
+    omega (arith, limits g (goal.at.add-requires-clause-sum g c).After-from, c.from.ensures, c.cost.ensures, c.value_after-value.ensures.within)
 
 pub improve-requires-clause-sum : goal.improve-requires-clause-sum
 improve-requires-clause-sum g c =
-    omega (arith, (limits g (goal.at.improve-requires-clause-sum g c).After-from).0, c.from.ensures, c.cost.ensures, c.value_after-value-then-cost-index.ensures.within)
+    omega (arith, limits g (goal.at.improve-requires-clause-sum g c).After-from, c.from.ensures, c.cost.ensures, c.value_after-value-then-cost-index.ensures.within)
+
+pub add-requires-clause-place : goal.add-requires-clause-place
+add-requires-clause-place g c =
+    let states = g.S.StateStore.states c.args.self.now.store in
+    let after = g.S.StateStore.states c.place_of_state.new.store in
+    let s = bits_of c.args.state.now in
+    let placed : IsPlaced states after s c.in-Some.id.0 c.in-Some.is_new = rw c.in-Some.is at c.in_ok-id.ensures.placed in
+    let new = placed_new states after s c.in-Some.id.0 c.in-Some.is_new c.if-is_new.true placed in
+    omega (arith, ap length new.1, length-append states (s ∷ []), new.2, c.in_ok-id.ensures.within, c.requires.limit)
+
+pub improve-requires-clause-place : goal.improve-requires-clause-place
+improve-requires-clause-place g c =
+    omega (arith, (was_listed g (goal.at.improve-requires-clause-place g c).In-Some c.if-is_new.false).2, c.requires.expanding.search.one_each, c.requires.within, c.requires.limit)
