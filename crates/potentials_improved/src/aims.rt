@@ -1,7 +1,16 @@
-//! What a draft aims at: the values of states.
+//! What weights are made better for: the values of states.
+use crate::tables::Tables;
 use faults::NoMemory;
 use packed_state::Packed;
 use std::alloc::Global;
+use std::num::nearest_i64_to_f64;
+
+/// The weight of an atom, one more or one less.
+#[derive(Clone, Copy)]
+pub(crate) struct Move {
+    pub(crate) atom: u32,
+    pub(crate) by: i64,
+}
 
 /// States whose values are to be raised: how many there are, and in how many of them each atom is true.
 #[derive(Drop)]
@@ -12,11 +21,18 @@ pub(crate) struct Aim {
     numbers: Vec<u32>,
 }
 
-/// What a move gives in sum: to the initial state, and to the sampled ones.
+/// The initial state, whose value is to be raised first, and sampled ones.
+#[derive(Drop)]
+pub(crate) struct Aims {
+    initial: Aim,
+    sampled: Aim,
+}
+
+/// What weights give in sum: to the initial state, and to the sampled ones.
 #[derive(Clone, Copy)]
 pub(crate) struct Gain {
-    pub(crate) initial: i64,
-    pub(crate) sampled: i64,
+    initial: i64,
+    sampled: i64,
 }
 
 impl Aim {
@@ -51,7 +67,7 @@ impl Aim {
     }
 
     /// What the states gain in sum, where the atom's weight grows by `more`, and the constant falls by `less`.
-    pub(crate) fn gain(&self, atom: u32, more: i64, less: i64) -> i64 {
+    fn gain(&self, atom: u32, more: i64, less: i64) -> i64 {
         let times = match self.times.get(atom as usize) {
             Some(times) => *times,
             None => 0,
@@ -62,29 +78,47 @@ impl Aim {
     }
 }
 
-impl Gain {
-    /// Nothing.
-    pub(crate) const NONE: Gain = Gain {
-        initial: 0,
-        sampled: 0,
-    };
+impl Aims {
+    /// These two.
+    pub(crate) fn new(initial: Aim, sampled: Aim) -> Aims {
+        Aims { initial, sampled }
+    }
 
-    /// Both together.
-    pub(crate) fn and(self, other: Gain) -> Gain {
-        Gain {
-            initial: self.initial.saturating_add(other.initial),
-            sampled: self.sampled.saturating_add(other.sampled),
+    /// What the initial state gains by the move, where the atom has the weight `before`.
+    pub(crate) fn gain(&self, tables: &Tables, step: Move, before: i64) -> i64 {
+        let after = before.saturating_add(step.by);
+        let less = tables.at_goal(step.atom).less(before, after);
+        self.initial.gain(step.atom, step.by, less)
+    }
+
+    /// What the initial state gains by the move from the weight 0, and by this share what the sampled ones gain on average.
+    pub(crate) fn shared_gain(&self, tables: &Tables, step: Move, share: f64) -> f64 {
+        let less = tables.at_goal(step.atom).less(0, step.by);
+        let initial = self.initial.gain(step.atom, step.by, less);
+        let sampled = self.sampled.gain(step.atom, step.by, less);
+        let states = self.sampled.states.max(1);
+        nearest_i64_to_f64(initial)
+            + share * nearest_i64_to_f64(sampled) / nearest_i64_to_f64(states)
+    }
+
+    /// What the states gain by these weights.
+    pub(crate) fn gain_of_all(&self, tables: &Tables, weights: &[i64]) -> Gain {
+        let (mut initial, mut sampled) = (0i64, 0i64);
+        let mut atom = 0u32;
+        for weight in weights {
+            let less = tables.at_goal(atom).less(0, *weight);
+            initial = initial.saturating_add(self.initial.gain(atom, *weight, less));
+            sampled = sampled.saturating_add(self.sampled.gain(atom, *weight, less));
+            atom = atom.saturating_add(1);
         }
+        Gain { initial, sampled }
     }
+}
 
-    /// Whether the initial state or the sampled ones gain.
-    pub(crate) fn is_some(self) -> bool {
-        self.initial > 0 || self.sampled > 0
-    }
-
-    /// Whether neither the initial state nor the sampled ones have less than by the other, and one of them has more.
+impl Gain {
+    /// Whether the initial state has more than by the other, or as much, and the sampled ones have more.
     pub(crate) fn is_better_than(self, other: Gain) -> bool {
-        let no_less = self.initial >= other.initial && self.sampled >= other.sampled;
-        no_less && (self.initial > other.initial || self.sampled > other.sampled)
+        self.initial > other.initial
+            || self.initial == other.initial && self.sampled > other.sampled
     }
 }

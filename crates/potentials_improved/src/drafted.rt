@@ -7,16 +7,21 @@ ghost use Rattle.potential_functions.specs.Fair.{AreFair};
 ghost use Rattle.potentials.specs.Potentials.{potentials_of};
 ghost use Rattle.potentials_improved.specs.Drafted.{IsNoWorse};
 
-use crate::aims::Aim;
+use crate::aims::{Aim, Aims};
 use crate::climb::greatest_constant;
-use crate::draft::Draft;
+use crate::linear_program::LinearProgram;
+use crate::mending::Mending;
 use crate::samples::sampled;
+use crate::simplex::Vertex;
 use crate::tables::Tables;
 use faults::NoMemory;
 use grounding::Ground;
 use packed_state::Packed;
 use potentials::{Fairness, MAX_WEIGHT, Potentials, goal_gives_at_most};
 use std::alloc::Global;
+
+/// What the sampled states count for all together, where the initial one counts for 1: nothing at first, and then little.
+const SHARES: [f64; 2] = [0.0, 0.01];
 
 /// Fair potentials that are no worse than these: those of a draft, or else these.
 pub(crate) fn drafted(
@@ -37,8 +42,8 @@ pub(crate) fn drafted(
     }
 }
 
-/// Weights that may be better than these: the value of the initial state is raised first, and then the average value of
-/// states on the way from it, where that of the initial state gets no lower.
+/// Weights that may be better than these: those of a linear program, rounded. Its solution is for the initial state alone at
+/// first, and then for the sampled states too.
 ///
 /// Both aims are from Seipp, Pommerening & Helmert 2015, "New Optimization Functions for Potential Heuristics".
 fn drafted_weights(
@@ -48,13 +53,36 @@ fn drafted_weights(
     weights: &[i64],
 ) -> Result<Vec<i64>, NoMemory> {
     let tables = Tables::new(alloc, ground)?;
-    let mut draft = Draft::new(alloc, ground, &tables, initial, weights)?;
-    draft.improve(&tables)?;
-    if let Some(samples) = sampled(alloc, ground, initial)? {
-        draft.aim_at(samples);
-        draft.improve(&tables)?;
+    let aims = aims(alloc, ground, initial)?;
+    solved(alloc, &tables, &aims, weights)
+}
+
+/// The initial state, and samples.
+fn aims(alloc: Global, ground: &Ground<'_>, initial: &Packed) -> Result<Aims, NoMemory> {
+    let mut alone = Aim::none(alloc, ground.width())?;
+    alone.add(initial)?;
+    let sampled = sampled(alloc, ground, initial)?;
+    Ok(Aims::new(alone, sampled))
+}
+
+/// The best of these weights and of those that the linear program has as its solutions, rounded.
+fn solved(
+    alloc: Global,
+    tables: &Tables,
+    aims: &Aims,
+    weights: &[i64],
+) -> Result<Vec<i64>, NoMemory> {
+    let program = LinearProgram::new(alloc, tables, aims)?;
+    let mut vertex = Vertex::new(alloc, tables, &program)?;
+    let mut mending = Mending::new(alloc, tables, aims, weights)?;
+    for share in SHARES {
+        if vertex.climb(tables, &program, aims, share)? {
+            let grown = vertex.grown(alloc, tables)?;
+            let solution = program.weights(alloc, &grown)?;
+            mending.take(tables, aims, &solution)?;
+        }
     }
-    Ok(draft.into_weights())
+    Ok(mending.into_best())
 }
 
 /// Potentials of these weights and the greatest constant, if they are fair and no worse than the others.

@@ -22,8 +22,7 @@ pub trait Improve: Sized {
     /// Fair potentials whose value in the initial state is no lower, and which are settled, or have there a value that is
     /// higher by at least the number of rounds.
     ///
-    /// Several weights are moved at once first, as long as that is better, and then single ones, a pass over all atoms a
-    /// round.
+    /// They are drafted by a linear program first, and then single weights are moved, in a pass over all atoms a round.
     fn improve(
         self,
         alloc: Global,

@@ -1,18 +1,19 @@
 //! Better potentials: fair ones of a greater value in the initial state, and as an estimate by which a search chooses.
 //!
-//! Weights are drafted first, several moved at once, for the initial state and for others on the way from it. Nothing is
-//! claimed of a draft, which is taken where it is tested to be fair and no worse. Then single weights are moved.
+//! Weights are drafted first, by a linear program and rounded, for the initial state and for others on the way from it.
+//! Nothing is claimed of a draft, which is taken where it is tested to be fair and no worse. Then single weights are moved.
 #![tactic(auto)]
 
 mod aims;
 mod climb;
-mod draft;
 mod drafted;
 mod estimate;
 mod fair_potentials;
 mod improve;
-mod repairs;
+mod linear_program;
+mod mending;
 mod samples;
+mod simplex;
 mod tables;
 mod touching;
 

@@ -5,6 +5,7 @@ use grounding::Ground;
 use packed_state::Packed;
 use potentials::instance_count;
 use std::alloc::Global;
+use std::num::nearest_usize_to_f64;
 
 /// How many walks there are, each of which gives one state.
 const WALKS: u32 = 32;
@@ -15,9 +16,12 @@ const MAX_STEPS: u32 = 64;
 /// How many instances a walk may look at.
 const MAX_LOOKS: u32 = 65_536;
 
+/// In how many parts 1 is divided.
+const PARTS: usize = 65_536;
+
 /// Numbers by chance, the same ones each time.
 #[derive(Drop)]
-struct Chance {
+pub(crate) struct Chance {
     state: u64,
 }
 
@@ -30,24 +34,24 @@ struct Walk {
     chance: Chance,
 }
 
-/// The ends of some walks from the initial state, if there are not so many instances that no walk may take a step.
+/// The ends of some walks from the initial state; none where there are so many instances that no walk may take a step.
 pub(crate) fn sampled(
     alloc: Global,
     ground: &Ground<'_>,
     initial: &Packed,
-) -> Result<Option<Aim>, NoMemory> {
+) -> Result<Aim, NoMemory> {
     let most = most_steps(instance_count(ground));
-    if most == 0 {
-        return Ok(None);
-    }
     let mut aim = Aim::none(alloc, ground.width())?;
+    if most == 0 {
+        return Ok(aim);
+    }
     let mut walk = Walk::new(alloc, ground.width())?;
     for _ in 0..WALKS {
         walk.start(initial);
         walk.go(ground, most)?;
         aim.add(&walk.state)?;
     }
-    Ok(Some(aim))
+    Ok(aim)
 }
 
 /// The most steps that a walk may take, where there are so many instances.
@@ -59,6 +63,16 @@ fn most_steps(instances: u32) -> u32 {
 }
 
 impl Chance {
+    /// The numbers from the first one on.
+    pub(crate) fn new() -> Chance {
+        Chance { state: 1 }
+    }
+
+    /// The next number from 0 to 1.
+    pub(crate) fn part(&mut self) -> f64 {
+        nearest_usize_to_f64(self.below(PARTS)) / nearest_usize_to_f64(PARTS)
+    }
+
     /// The next number below this one, and 0 where that is 0: by the linear congruential generator of Knuth's MMIX.
     fn below(&mut self, bound: usize) -> usize {
         self.state = self
@@ -79,7 +93,7 @@ impl Walk {
             state: Packed::empty(alloc, width)?,
             next: Packed::empty(alloc, width)?,
             applicable: Vec::new(alloc),
-            chance: Chance { state: 1 },
+            chance: Chance::new(),
         })
     }
 

@@ -19,11 +19,14 @@ pub(crate) struct AtGoal {
     is_false: bool,
 }
 
-/// For each atom what the goal says of it and the instances that touch it, and for each instance the atoms that it touches.
+/// For each atom what the goal says of it and the instances that touch it, and for each instance what it costs and the atoms
+/// that it touches.
 #[derive(Drop)]
 pub(crate) struct Tables {
+    width: u32,
     at_goal: Vec<AtGoal>,
     instances: Vec<Vec<Touch>>,
+    costs: Vec<i64>,
     /// The atoms that the instances touch, one instance after the other, and where those of each end.
     atoms: Vec<Touch>,
     ends: Vec<usize>,
@@ -68,6 +71,7 @@ impl Tables {
         let mut tables = Tables::empty(alloc, ground.width())?;
         tables.note_goal(ground.goal_literals());
         for number in 0..instance_count(ground) {
+            tables.costs.push(i64::from(ground.cost(number)))?;
             tables.add(number, ground.literals(number), ground.counting(number))?;
         }
         Ok(tables)
@@ -81,8 +85,10 @@ impl Tables {
             instances.push(Vec::new(alloc))?;
         }
         Ok(Tables {
+            width,
             at_goal,
             instances,
+            costs: Vec::new(alloc),
             atoms: Vec::new(alloc),
             ends: Vec::new(alloc),
         })
@@ -130,12 +136,22 @@ impl Tables {
         Ok(())
     }
 
+    /// How many atoms there are.
+    pub(crate) fn width(&self) -> u32 {
+        self.width
+    }
+
     /// What the goal says of the atom.
     pub(crate) fn at_goal(&self, atom: u32) -> AtGoal {
         match self.at_goal.get(atom as usize) {
             Some(at_goal) => *at_goal,
             None => AtGoal::OPEN,
         }
+    }
+
+    /// What each instance costs.
+    pub(crate) fn costs(&self) -> &[i64] {
+        &self.costs
     }
 
     /// The instances that touch the atom.
@@ -148,7 +164,11 @@ impl Tables {
 
     /// The atoms that the instance touches.
     pub(crate) fn atoms_of(&self, number: u32) -> &[Touch] {
-        let place = number as usize;
+        self.atoms_at(number as usize)
+    }
+
+    /// The atoms that the instance at this place touches.
+    pub(crate) fn atoms_at(&self, place: usize) -> &[Touch] {
         let start = match place.checked_sub(1) {
             Some(before) => self.end(before),
             None => 0,

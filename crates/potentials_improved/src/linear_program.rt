@@ -1,0 +1,87 @@
+//! The linear program whose solutions are fair potentials (Pommerening, Helmert, Röger & Seipp 2015, "From Non-Negative to
+//! General Operator Cost Partitioning").
+//!
+//! A weight is the difference of two variables, which are at least 0: how far it is above 0, and how far below. What an
+//! instance may lose is at most a sum of variables then, each once, and what the goal gives is one too.
+use crate::aims::{Aims, Move};
+use crate::tables::Tables;
+use faults::NoMemory;
+use std::alloc::Global;
+use std::num::nearest_i64_to_f64;
+
+/// Which variables stand for the weight of an atom, if any.
+#[derive(Clone, Copy)]
+struct Pair {
+    below: Option<usize>,
+    above: Option<usize>,
+}
+
+/// The variables, and where those of each atom stand.
+#[derive(Drop)]
+pub(crate) struct LinearProgram {
+    /// What one more of each variable moves.
+    variables: Vec<Move>,
+    pairs: Vec<Pair>,
+}
+
+impl LinearProgram {
+    /// That of these tables. A variable is left out where nothing is gained by it, and no instance loses less.
+    pub(crate) fn new(
+        alloc: Global,
+        tables: &Tables,
+        aims: &Aims,
+    ) -> Result<LinearProgram, NoMemory> {
+        let mut program = LinearProgram {
+            variables: Vec::new(alloc),
+            pairs: Vec::new(alloc),
+        };
+        for atom in 0..tables.width() {
+            let pair = Pair {
+                below: program.add(tables, aims, Move { atom, by: -1 })?,
+                above: program.add(tables, aims, Move { atom, by: 1 })?,
+            };
+            program.pairs.push(pair)?;
+        }
+        Ok(program)
+    }
+
+    /// Adds the variable of these moves, if it is of use; tells its place.
+    fn add(&mut self, tables: &Tables, aims: &Aims, step: Move) -> Result<Option<usize>, NoMemory> {
+        let is_of_use = aims.shared_gain(tables, step, 1.0) > 0.0
+            || tables
+                .instances_of(step.atom)
+                .iter()
+                .any(|touch| touch.loss(step.by) < 0);
+        if !is_of_use {
+            return Ok(None);
+        }
+        let place = self.variables.len();
+        self.variables.push(step)?;
+        Ok(Some(place))
+    }
+
+    /// What one more of each variable moves.
+    pub(crate) fn variables(&self) -> &[Move] {
+        &self.variables
+    }
+
+    /// The place of the variable for moves of the atom by one less or one more, if there is one.
+    pub(crate) fn variable(&self, atom: u32, by: i64) -> Option<usize> {
+        match self.pairs.get(atom as usize) {
+            Some(pair) => if by < 0 { pair.below } else { pair.above },
+            None => None,
+        }
+    }
+
+    /// The weights of variables that have grown so far.
+    pub(crate) fn weights(&self, alloc: Global, along: &[f64]) -> Result<Vec<f64>, NoMemory> {
+        let mut weights = vec![in alloc; 0.0; self.pairs.len()]?;
+        for (step, far) in self.variables.iter().zip(along) {
+            let place = step.atom as usize;
+            if place < weights.len() {
+                weights[place] += nearest_i64_to_f64(step.by) * *far;
+            }
+        }
+        Ok(weights)
+    }
+}

@@ -1,0 +1,260 @@
+//! Weights that are whole numbers: rounded ones, mended where they are not fair.
+use crate::aims::{Aims, Gain, Move};
+use crate::tables::{Tables, Touch};
+use faults::NoMemory;
+use potentials::is_in_range;
+use std::alloc::Global;
+use std::num::saturating_f64_to_i64;
+
+/// The most moves by one that mend what was rounded in one way, and those of them that may lead away from 0, where all is
+/// fair.
+const MAX_MOVES: u32 = 65_536;
+
+const MAX_MOVES_AWAY: u32 = 1024;
+
+/// How many touches of instances may be looked at before no move leads away from 0, and before nothing more is mended.
+const MAX_WORK_AWAY: u64 = 4_194_304;
+
+const MAX_WORK: u64 = 8_388_608;
+
+/// How far a number may be from a whole one that it stands for.
+const NEAR: f64 = 0.01;
+
+/// What is added to a weight before it goes to the nearest whole number, in each of the ways to round.
+const LIFTS: [f64; 5] = [0.48, 0.25, 0.0, -0.25, -0.48];
+
+/// The weights that are mended, and the best ones so far.
+#[derive(Drop)]
+pub(crate) struct Mending {
+    weights: Vec<i64>,
+    /// What each instance has left, and those that have less than nothing.
+    slacks: Vec<i64>,
+    unfair: Vec<u32>,
+    work: u64,
+    best: Vec<i64>,
+    gain: Gain,
+}
+
+impl Mending {
+    /// The best weights are these, so far.
+    pub(crate) fn new(
+        alloc: Global,
+        tables: &Tables,
+        aims: &Aims,
+        weights: &[i64],
+    ) -> Result<Mending, NoMemory> {
+        Ok(Mending {
+            weights: Vec::new(alloc),
+            slacks: Vec::new(alloc),
+            unfair: Vec::new(alloc),
+            work: 0,
+            best: Vec::from_slice(alloc, weights)?,
+            gain: aims.gain_of_all(tables, weights),
+        })
+    }
+
+    /// The best weights.
+    pub(crate) fn into_best(self) -> Vec<i64> {
+        self.best
+    }
+
+    /// Rounds the weights in each way, if they are not whole numbers, mends them, and keeps what is better than the best.
+    pub(crate) fn take(
+        &mut self,
+        tables: &Tables,
+        aims: &Aims,
+        weights: &[f64],
+    ) -> Result<(), NoMemory> {
+        for lift in LIFTS {
+            self.start(tables, weights, lift)?;
+            if self.mend(tables, aims)? {
+                self.keep_if_better(tables, aims);
+            }
+            if weights.iter().all(|weight| is_whole(*weight)) {
+                return Ok(());
+            }
+        }
+        Ok(())
+    }
+
+    /// Rounds the weights, and lists the instances that are unfair by them.
+    fn start(&mut self, tables: &Tables, weights: &[f64], lift: f64) -> Result<(), NoMemory> {
+        self.weights.clear();
+        for weight in weights {
+            self.weights
+                .push(saturating_f64_to_i64((*weight + lift).round()))?;
+        }
+        self.slacks.clear();
+        self.unfair.clear();
+        let mut number = 0u32;
+        for cost in tables.costs() {
+            let slack = self.slack(tables.atoms_of(number), *cost);
+            self.slacks.push(slack)?;
+            if slack < 0 {
+                self.unfair.push(number)?;
+            }
+            number = number.saturating_add(1);
+        }
+        Ok(())
+    }
+
+    /// What an instance that touches these atoms has left of its cost.
+    fn slack(&self, touches: &[Touch], cost: i64) -> i64 {
+        let mut left = cost;
+        for touch in touches {
+            left = left.saturating_sub(touch.loss(self.weight(touch.number)));
+        }
+        left
+    }
+
+    /// The weights are the best, if they are better than those, and in range.
+    fn keep_if_better(&mut self, tables: &Tables, aims: &Aims) {
+        let gain = aims.gain_of_all(tables, &self.weights);
+        let are_in_range = self.weights.iter().all(|weight| is_in_range(*weight));
+        if are_in_range && gain.is_better_than(self.gain) {
+            self.gain = gain;
+            std::mem::swap(&mut self.weights, &mut self.best);
+        }
+    }
+
+    /// Moves single weights by one until each instance is fair; tells whether it came to that.
+    fn mend(&mut self, tables: &Tables, aims: &Aims) -> Result<bool, NoMemory> {
+        for moves in 0..MAX_MOVES {
+            let Some(number) = self.unfair.pop() else {
+                return Ok(true);
+            };
+            if self.slack_of(number) < 0 {
+                let may_lead_away = moves < MAX_MOVES_AWAY && self.work <= MAX_WORK_AWAY;
+                let Some(step) = self.best_move(tables, aims, number, may_lead_away) else {
+                    return Ok(false);
+                };
+                if self.work > MAX_WORK {
+                    return Ok(false);
+                }
+                self.unfair.push(number)?;
+                self.shift(tables, step)?;
+            }
+        }
+        Ok(false)
+    }
+
+    /// The best move by which the instance loses less; of two alike the first.
+    fn best_move(
+        &mut self,
+        tables: &Tables,
+        aims: &Aims,
+        number: u32,
+        may_lead_away: bool,
+    ) -> Option<Move> {
+        let mut best = None;
+        let mut most = i64::MIN;
+        for touch in tables.atoms_of(number) {
+            for by in [-1, 1] {
+                let step = Move {
+                    atom: touch.number,
+                    by,
+                };
+                if self.is_of_use(*touch, by, may_lead_away) {
+                    let score = self.score(tables, aims, step);
+                    if best.is_none() || score > most {
+                        best = Some(step);
+                        most = score;
+                    }
+                }
+            }
+        }
+        best
+    }
+
+    /// Whether an instance that touches an atom so loses less by the move, and it leads to 0 or may lead away.
+    fn is_of_use(&self, touch: Touch, by: i64, may_lead_away: bool) -> bool {
+        let before = self.weight(touch.number);
+        let after = before.saturating_add(by);
+        let leads_away = after.saturating_abs() > before.saturating_abs();
+        touch.loss(after) < touch.loss(before) && (may_lead_away || !leads_away)
+    }
+
+    /// How good the move is: what the initial state gains, and how much less unfair instances are.
+    fn score(&mut self, tables: &Tables, aims: &Aims, step: Move) -> i64 {
+        let gain = aims.gain(tables, step, self.weight(step.atom));
+        let mended = self.mended(tables, step);
+        gain.saturating_mul(4).saturating_add(mended)
+    }
+
+    /// By how much less unfair instances are by the move, in sum.
+    fn mended(&mut self, tables: &Tables, step: Move) -> i64 {
+        let before = self.weight(step.atom);
+        let after = before.saturating_add(step.by);
+        let touches = tables.instances_of(step.atom);
+        let mut mended = 0i64;
+        for touch in touches {
+            let slack = self.slack_of(touch.number);
+            let less = touch.loss(before).saturating_sub(touch.loss(after));
+            let later = slack.saturating_add(less);
+            mended = mended.saturating_add(later.min(0).saturating_sub(slack.min(0)));
+        }
+        self.count(touches.len());
+        mended
+    }
+
+    /// Changes the weight, and lists the instances that are unfair by it.
+    fn shift(&mut self, tables: &Tables, step: Move) -> Result<(), NoMemory> {
+        let before = self.weight(step.atom);
+        let after = before.saturating_add(step.by);
+        self.set_weight(step.atom, after);
+        let touches = tables.instances_of(step.atom);
+        for touch in touches {
+            self.shift_slack(*touch, before, after)?;
+        }
+        self.count(touches.len());
+        Ok(())
+    }
+
+    /// What an instance has left, where a weight changes.
+    fn shift_slack(&mut self, touch: Touch, before: i64, after: i64) -> Result<(), NoMemory> {
+        let less = touch.loss(before).saturating_sub(touch.loss(after));
+        let place = touch.number as usize;
+        if place < self.slacks.len() {
+            let slack = self.slacks[place].saturating_add(less);
+            self.slacks[place] = slack;
+            if slack < 0 {
+                self.unfair.push(touch.number)?;
+            }
+        }
+        Ok(())
+    }
+
+    /// So many touches more were looked at.
+    fn count(&mut self, more: usize) {
+        self.work = self.work.saturating_add(more as u64);
+    }
+
+    /// The weight of the atom.
+    fn weight(&self, atom: u32) -> i64 {
+        match self.weights.get(atom as usize) {
+            Some(weight) => *weight,
+            None => 0,
+        }
+    }
+
+    /// Writes the weight.
+    fn set_weight(&mut self, atom: u32, weight: i64) {
+        let place = atom as usize;
+        if place < self.weights.len() {
+            self.weights[place] = weight;
+        }
+    }
+
+    /// What the instance has left.
+    fn slack_of(&self, number: u32) -> i64 {
+        match self.slacks.get(number as usize) {
+            Some(slack) => *slack,
+            None => 0,
+        }
+    }
+}
+
+/// Whether the number stands for a whole one.
+fn is_whole(number: f64) -> bool {
+    (number - number.round()).abs() < NEAR
+}
