@@ -45,6 +45,22 @@ open(named("--cert"), "w").write("pddl-cert 1\\nend 3\\n")
 open(named("--plan"), "w").write("(a)\\n")
 print('{{"command":"solve","cost":%s,"result":"plan","steps":["(a)"]}}' % do[1])
 """
+# In the place of Slurm: runs the elements of an array one after another, but one whose number is in the file `lost`, once.
+SBATCH = """#!{python}
+import os, subprocess, sys
+given = dict(it.split("=", 1) for it in sys.argv[1:] if "=" in it)
+print(" ".join(sys.argv[1:-1]), file=open("{room}/sbatch", "a"))
+for element in range(int(given["--array"].partition("%")[0].partition("-")[2]) + 1):
+    if os.path.exists("{room}/lost") and open("{room}/lost").read() == str(element):
+        os.remove("{room}/lost")
+        continue
+    subprocess.run(given["--wrap"], shell=True, env={{**os.environ, "SLURM_ARRAY_TASK_ID": str(element)}})
+print("17")
+"""
+SACCT = """#!/bin/sh
+echo '17_0|OUT_OF_MEMORY'
+echo '17_1|COMPLETED'
+"""
 GROW = """def grow():
     try:
         return len(bytearray(10 ** 11)) and 0
@@ -61,9 +77,7 @@ class Room(unittest.TestCase):
         self.addCleanup(held.cleanup)
         self.room = Path(held.name)
         self.program = self.room / "program"
-        text = PROGRAM.format(python=sys.executable, room=self.room).replace("import os, signal", GROW + "import os, signal", 1)
-        self.put("program", text)
-        self.program.chmod(self.program.stat().st_mode | stat.S_IXUSR)
+        self.put_program("program", PROGRAM.replace("import os, signal", GROW + "import os, signal", 1))
         self.run_folder = self.room / "run"
 
     def put(self, name, text="plan 3"):
@@ -72,12 +86,22 @@ class Room(unittest.TestCase):
         path.write_text(text)
         return path
 
+    def put_program(self, name, text):
+        path = self.put(name, text.format(python=sys.executable, room=self.room))
+        path.chmod(path.stat().st_mode | stat.S_IXUSR)
+
     def words(self, *more):
         return [sys.executable, f"{ROOT}/bench/batch", str(self.room / "tasks"), "--into", str(self.run_folder),
                 "--program", str(self.program), "--lanes", "2", *more]
 
     def batch(self, *more):
-        return subprocess.run(self.words(*more), stdout=subprocess.PIPE, stderr=subprocess.PIPE, text=True)
+        path = {**os.environ, "PATH": f"{self.room}/bin:{os.environ['PATH']}"}
+        return subprocess.run(self.words(*more), stdout=subprocess.PIPE, stderr=subprocess.PIPE, text=True, env=path)
+
+    def tasks(self, **problems):
+        self.put("tasks/a b/domain.pddl")
+        for name, text in problems.items():
+            self.put(f"tasks/a b/{name}.pddl", text)
 
     def lines(self):
         return {it.task: it for it in read_lines(self.run_folder / "results.jsonl")}
@@ -181,11 +205,6 @@ class Lines(Room):
 
 
 class Runs(Room):
-    def tasks(self, **problems):
-        self.put("tasks/a b/domain.pddl")
-        for name, text in problems.items():
-            self.put(f"tasks/a b/{name}.pddl", text)
-
     def test_each_result_has_its_line(self):
         self.tasks(plan="plan 3", wrong="wrong 3", spin="spin 1", grow="grow 1", fault="fault 1", kill="kill 1")
         ran = self.batch("--check", "--seconds", "1")
@@ -293,6 +312,34 @@ class Runs(Room):
         self.run_folder.mkdir()
         (self.run_folder / "run.json").write_text(json.dumps(settings, default=vars))
         self.assertEqual(Settings.read(str(self.run_folder)), settings)
+
+
+class Slurm(Room):
+    def setUp(self):
+        super().setUp()
+        for name, text in (("sbatch", SBATCH), ("sacct", SACCT), ("squeue", "#!/bin/sh\n"), ("scontrol", "#!/bin/sh\n")):
+            self.put_program(f"bin/{name}", text)
+
+    def arrays(self):
+        return (self.room / "sbatch").read_text().splitlines()
+
+    def test_an_element_that_leaves_no_line_is_tried_again(self):
+        self.tasks(one="plan 3", three="plan 5", two="plan 4")
+        self.put("lost", "1")
+        ran = self.batch("--slurm", "--sbatch=--partition=day")
+        self.assertEqual({name: it.cost for name, it in self.lines().items()}, {"a b/one": 3, "a b/three": 5, "a b/two": 4}, ran)
+        self.assertEqual([it.partition("--array=")[2].partition(" ")[0] for it in self.arrays()], ["0-2%2", "0-0%2"])
+        self.assertIn("--partition=day", self.arrays()[0])
+        self.assertEqual(self.starts(), ["solve plan 3", "solve plan 4", "solve plan 5"])
+
+    def test_how_an_element_ended_is_told_where_no_line_came(self):
+        self.tasks(one="plan 3", two="plan 4")
+        self.put("lost", "0")
+        self.batch("--slurm", "--tries", "1")
+        self.assertEqual(self.lines()["a b/one"].fault, "Slurm: OUT_OF_MEMORY")
+        self.assertEqual(self.lines()["a b/two"].cost, 4)
+        self.batch("--slurm")
+        self.assertEqual(self.lines()["a b/one"].cost, 3)
 
 
 if __name__ == "__main__":
