@@ -336,7 +336,7 @@ class Slurm(Room):
         self.tasks(one="plan 3", two="plan 4")
         self.put("lost", "0")
         self.batch("--slurm", "--tries", "1")
-        self.assertEqual(self.lines()["a b/one"].fault, "Slurm: OUT_OF_MEMORY")
+        self.assertEqual(self.lines()["a b/one"].fault, "no line came; Slurm: OUT_OF_MEMORY")
         self.assertEqual(self.lines()["a b/two"].cost, 4)
         self.batch("--slurm")
         self.assertEqual(self.lines()["a b/one"].cost, 3)

@@ -13,7 +13,7 @@ import shlex
 import subprocess
 import sys
 import time
-from dataclasses import dataclass
+from dataclasses import dataclass, replace
 
 from batching.here import ONE
 from batching.lines import Line, Result
@@ -127,8 +127,8 @@ def wait(run: Run, job: str, progress: Progress) -> None:
     progress.show(run.gather())
 
 
-def why_none(run: Run, job: str) -> dict[int, str]:
-    """Of each task of an array: how its element ended, and what it said last."""
+def ends_of(run: Run, job: str) -> dict[int, str]:
+    """Of each task of an array: how its element ended, by the accounting, and what it said last."""
     with open(f"{run.folder}/slurm/numbers", encoding="ascii") as text:
         numbers = [int(it) for it in text]
     states, found = states_of(job), {}
@@ -138,7 +138,7 @@ def why_none(run: Run, job: str) -> dict[int, str]:
                 last = text.read().strip().rpartition("\n")[2]
         except FileNotFoundError:
             last = ""
-        found[number] = ": ".join(filter(None, [f"Slurm: {states.get(element, 'no line came')}", last]))
+        found[number] = "; ".join(filter(None, [element in states and f"Slurm: {states[element]}", last]))
     return found
 
 
@@ -158,10 +158,11 @@ def run_array(run: Run, numbers: list[int], cluster: Cluster, progress: Progress
             return
         job = cluster.submit(run, numbers)
         wait(run, job, progress)
-    why = why_none(run, job)
+    ends = ends_of(run, job)
     for number in run.left([run.tasks[it - 1] for it in numbers]):
         name = run.tasks[number - 1].name
-        if run.last.get(name) is before.get(name):
-            line = Line(name, Result.FAILED, fault=why[number], program=run.settings.program.sum)
-            run.add(line)
+        line = run.last.get(name)
+        if line is None or line is before.get(name):
+            line = Line(name, Result.FAILED, fault="no line came", program=run.settings.program.sum)
             progress.show([line])
+        run.add(replace(line, fault="; ".join(filter(None, [line.fault, ends[number]]))))
