@@ -13,6 +13,8 @@ import sys
 import tempfile
 import time
 import unittest
+from dataclasses import asdict, replace
+from importlib.util import find_spec
 from pathlib import Path
 from unittest import mock
 
@@ -20,7 +22,7 @@ sys.dont_write_bytecode = True
 sys.path.insert(0, os.path.dirname(os.path.abspath(__file__)))
 from batching import ROOT  # noqa: E402
 from batching.layouts import find  # noqa: E402
-from batching.lines import Line, LinesFile, Result, line_of, read_lines  # noqa: E402
+from batching.lines import Check, Line, LinesFile, Result, line_of, read_lines  # noqa: E402
 from batching.runs import Program, Settings  # noqa: E402
 
 # Does what the first word of the problem says, and notes each start.
@@ -310,7 +312,7 @@ class Runs(Room):
         program = Program.at(str(self.program))
         settings = Settings(program, None, 1, 2, 3, 4, True)
         self.run_folder.mkdir()
-        (self.run_folder / "run.json").write_text(json.dumps(settings, default=vars))
+        (self.run_folder / "run.json").write_text(json.dumps(asdict(settings)))
         self.assertEqual(Settings.read(str(self.run_folder)), settings)
 
 
@@ -340,6 +342,43 @@ class Slurm(Room):
         self.assertEqual(self.lines()["a b/two"].cost, 4)
         self.batch("--slurm")
         self.assertEqual(self.lines()["a b/one"].cost, 3)
+
+
+@unittest.skipUnless(find_spec("matplotlib"), "matplotlib is not installed")
+class Reports(Room):
+    def put_run(self, name, *lines):
+        program = Program.at(str(self.program))
+        settings = Settings(program, program, 1, 2, 3, 4, True)
+        self.put(f"{name}/run.json", json.dumps(asdict(settings)))
+        self.put(f"{name}/results.jsonl", "".join(replace(it, program=program.sum, texts="same").text() for it in lines))
+
+    def report(self, *names):
+        words = [sys.executable, f"{ROOT}/bench/batch-report", *(str(self.room / it) for it in names), "--into", str(self.room / "page.html")]
+        ran = subprocess.run(words, stderr=subprocess.PIPE, text=True)
+        return ran.stderr or (self.room / "page.html").read_text()
+
+    def test_runs_stand_side_by_side(self):
+        plan = Line("a<b/p1", Result.PLAN, status=0, cost=3, seconds=0.5, states=9, check=Check(True, "optimal 3", 0.4, 5))
+        wrong = replace(plan, task="a<b/p2", cost=4, check=Check(False, "not accepted 51 CutWeak", 0.4, 5))
+        self.put_run("first", plan, Line("a<b/p2", Result.TIME, seconds=1.0), Line("c/p1", Result.REFUSED, fault="fault 7"))
+        self.put_run("second", replace(plan, cost=2), wrong)
+        page = self.report("first", "second")
+        for it in ("3 tasks, 2 domains", "1 of 3 answered", "2 of 2 answered", "a&lt;b/p1: two runs answer otherwise",
+                   "a&lt;b/p2 in second: the certificate is not accepted (not accepted 51 CutWeak)", "c/p1 in first: refused, fault 7"):
+            self.assertIn(it, page)
+        self.assertNotIn("a<b", page)
+        self.assertNotRegex(page, "<script|<link|src=")
+        self.assertEqual(page, self.report("first", "second"))
+
+    def test_lines_of_another_program_are_refused(self):
+        self.put_run("first", Line("a/p1", Result.TIME, seconds=1.0))
+        self.put("first/results.jsonl", Line("a/p1", Result.TIME, seconds=1.0, program="other").text())
+        self.assertIn("has lines of other programs: other", self.report("first"))
+
+    def test_a_run_without_an_answer_has_a_page(self):
+        self.put_run("first", Line("a/p1", Result.FAILED, fault="no line came"))
+        self.assertIn("0 of 1 answered", self.report("first"))
+        self.assertIn("0 of 1 answered", self.report("first", "first"))
 
 
 if __name__ == "__main__":

@@ -59,11 +59,11 @@ def is_queued(job: str) -> bool:
 def states_of(job: str) -> dict[int, str]:
     """How the elements of an array ended, in the words of the accounting; nothing, where there is none."""
     found = {}
-    listed = said(["sacct", "--noheader", "--allocations", "--parsable2", "--array", "--format=JobID,State", f"--jobs={job}"])
+    listed = said(["sacct", "--noheader", "--allocations", "--parsable2", "--format=JobID,State", f"--jobs={job}"])
     for line in (listed or "").splitlines():
         name, _, state = line.partition("|")
         element = name.partition("_")[2]
-        if element.isdecimal():
+        if element.isdecimal() and state not in ("PENDING", "RUNNING"):
             found[int(element)] = state
     return found
 
