@@ -363,7 +363,7 @@ class Reports(Room):
         self.put_run("first", plan, Line("a<b/p2", Result.TIME, seconds=1.0), Line("c/p1", Result.REFUSED, fault="fault 7"))
         self.put_run("second", replace(plan, cost=2), wrong)
         page = self.report("first", "second")
-        for it in ("3 tasks, 2 domains", "1 of 3 answered", "2 of 2 answered", "a&lt;b/p1: two runs answer otherwise",
+        for it in ("3 tasks, 2 domains", "1 of 3 answered", "2 of 2 answered", "a&lt;b/p1: first and second answer otherwise",
                    "a&lt;b/p2 in second: the certificate is not accepted (not accepted 51 CutWeak)", "c/p1 in first: refused, fault 7"):
             self.assertIn(it, page)
         self.assertNotIn("a<b", page)

@@ -58,16 +58,17 @@ def by_domain(runs: list[Lines]) -> str:
         cells.append(sum(domain in (None, domain_of(it)) for it in tasks_of(runs)))
         for run in runs:
             is_here = lambda it: domain in (None, domain_of(it.task))
-            cells.append(sum(map(is_here, run.answered)))
+            has_any = any(map(is_here, run.by_task.values()))
+            cells.append(sum(map(is_here, run.answered)) if has_any else "")
             cells += [run.count(it, domain) or "" for it in results]
-            cells.append(sum(map(is_here, run.accepted)) if run.settings.checker else "")
+            cells.append(sum(map(is_here, run.accepted)) if has_any and run.settings.checker else "")
         lines.append(row(cells, attributes=' class="sum"' if domain is None else ""))
     return f'<div class="wide"><table>{"".join(lines)}</table></div>'
 
 
 def to_look_at(runs: list[Lines]) -> str:
     """What somebody should look at: answers that contradict each other, certificates that are not accepted, faults."""
-    against_each_other = [f"{escape(it)}: two runs answer otherwise" for it in contradictions(runs)]
+    against_each_other = [escape(it) for it in contradictions(runs)]
     refused, faults = [], []
     for run in runs:
         for it in run.by_task.values():

@@ -13,7 +13,7 @@ from matplotlib.axes import Axes  # noqa: E402
 from matplotlib.figure import Figure  # noqa: E402
 
 from batching.lines import Line, Result  # noqa: E402
-from batching.reading import Lines, domain_of, tasks_of  # noqa: E402
+from batching.reading import Lines, domain_of, shared, tasks_of  # noqa: E402
 
 # Hues that also those tell apart who see few (Okabe and Ito).
 HUES = ["#0072b2", "#d55e00", "#009e73", "#cc79a7", "#e69f00", "#56b4e9", "#000000"]
@@ -97,8 +97,8 @@ def scatter(axes: Axes, points: list[tuple[str, float, float]], anchors: dict[st
 
 
 def against(one: Lines, other: Lines, what: str, value: Callable[[Line], float | None], anchors: dict[str, str]) -> str:
-    """What tasks took in two runs against each other; what a run has no answer to stands at the edge beyond its greatest."""
-    rows = [(task, value_in(one, task, value), value_in(other, task, value)) for task in tasks_of([one, other])]
+    """What the tasks that two runs share took in each; what one has no answer to stands at the edge beyond the greatest."""
+    rows = [(task, value_in(one, task, value), value_in(other, task, value)) for task in shared(one, other)]
     rows = [it for it in rows if it[1:] != (None, None)]
     known = [it for _, *both in rows for it in both if it is not None]
     figure, axes = pyplot.subplots(figsize=(5, 4.6))
@@ -114,8 +114,8 @@ def against(one: Lines, other: Lines, what: str, value: Callable[[Line], float |
 
 
 def value_in(run: Lines, task: str, value: Callable[[Line], float | None]) -> float | None:
-    line = run.by_task.get(task)
-    return value(line) if line and line.is_answered else None
+    line = run.by_task[task]
+    return value(line) if line.is_answered else None
 
 
 def of_one(run: Lines, heading: tuple[str, str], x: Callable[[Line], float | None], y: Callable[[Line], float | None],

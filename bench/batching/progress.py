@@ -2,11 +2,15 @@
 
 from __future__ import annotations
 
+import shutil
 import sys
 from collections import Counter
 from typing import Iterable
 
 from batching.lines import Line, Result
+
+# To the terminal: back to the beginning of the line, which is emptied.
+CLEARED = "\r\033[K"
 
 
 def counted(lines: Iterable[Line]) -> str:
@@ -34,12 +38,12 @@ class Progress:
         """Counts these as well."""
         self.lines += lines
         if self.is_shown:
-            last = f" ({self.lines[-1].task})" if self.lines else ""
-            print(f"\r\033[K{len(self.lines)} of {self.total}: {counted(self.lines)}{last}", end="", file=sys.stderr, flush=True)
+            text = f"{len(self.lines)} of {self.total}: {counted(self.lines)}"
+            print(CLEARED + text[:shutil.get_terminal_size().columns - 1], end="", file=sys.stderr, flush=True)
 
     def say(self, text: str) -> None:
         """Says something on a line of its own."""
-        print("\r\033[K" * self.is_shown + text, file=sys.stderr, flush=True)
+        print((CLEARED if self.is_shown else "") + text, file=sys.stderr, flush=True)
 
     def close(self) -> None:
         if self.is_shown and self.lines:

@@ -5,8 +5,10 @@ from __future__ import annotations
 import os
 import sys
 from dataclasses import dataclass
+from itertools import combinations
 from typing import Iterator
 
+from batching.layouts import in_order
 from batching.lines import Line, Result, read_lines
 from batching.runs import Settings
 
@@ -56,13 +58,19 @@ def read_run(folder: str) -> Lines:
 
 
 def tasks_of(runs: list[Lines]) -> list[str]:
-    """All tasks of these runs, in the order in which the first ones have them sorted."""
-    return sorted({task for run in runs for task in run.by_task})
+    """All tasks of these runs, in the order of their names."""
+    return sorted({task for run in runs for task in run.by_task}, key=in_order)
+
+
+def shared(one: Lines, other: Lines) -> list[str]:
+    """The tasks of the same texts that two runs have."""
+    return [task for task in tasks_of([one]) if task in other.by_task and one.by_task[task].texts == other.by_task[task].texts]
 
 
 def contradictions(runs: list[Lines]) -> Iterator[str]:
-    """The tasks to which two runs give answers that cannot both be right."""
-    for task in tasks_of(runs):
-        lines = [run.by_task[task] for run in runs if task in run.by_task and run.by_task[task].is_answered]
-        if any(one.texts == other.texts and (one.result, one.cost) != (other.result, other.cost) for one in lines for other in lines):
-            yield task
+    """The tasks to which two runs give answers that cannot both be right, with the names of the two."""
+    for one, other in combinations(runs, 2):
+        for task in shared(one, other):
+            here, there = one.by_task[task], other.by_task[task]
+            if here.is_answered and there.is_answered and (here.result, here.cost) != (there.result, there.cost):
+                yield f"{task}: {one.name} and {other.name} answer otherwise"

@@ -27,6 +27,8 @@ BY_STATUS = {
     22: Result.MEMORY,
     128 + signal.SIGXCPU: Result.TIME,
 }
+# The status of `check` where a certificate, or the plan beside it, is not accepted.
+REFUSED_BY_CHECK = 12
 BY_REASON = {"states": Result.STATES, "instances": Result.INSTANCES, "atoms": Result.ATOMS}
 
 
@@ -83,20 +85,21 @@ def fault_of(end: Ended) -> str | None:
 
 
 def check(task: Task, settings: Settings, cert: str, plan: str | None, claim: dict) -> Check:
-    """Has the checker judge a certificate, which is to show the claim."""
+    """Has the checker judge a certificate, which is to show just this claim."""
     words = [settings.checker.path, "check", task.domain, task.problem, cert, "--instances", str(settings.instances), "--json"]
     end = within_limits([*words, "--plan", plan] if plan else words, settings)
+    accepted, verdict = verdict_of(end, claim, settings.seconds)
+    return Check(accepted, verdict, round(end.seconds, 3), end.peak)
+
+
+def verdict_of(end: Ended, claim: dict, seconds: int) -> tuple[bool | None, str]:
+    """Whether a checker's process has accepted the claim, None where it came to no verdict, and in which words."""
+    if end.status not in (0, REFUSED_BY_CHECK):
+        result = result_of(end, seconds)
+        return None, (Result.FAILED if result in ANSWERS else result).value
     answer = told(end)
-    verdict = {key: it for key, it in answer.items() if key in ("result", "cost")}
-    words_of = " ".join(str(answer[key]) for key in ("result", "cost", "code", "name") if key in answer)
-    accepted: bool | None = None
-    if end.status == 0:
-        accepted = verdict == claim
-    elif end.status == 12:
-        accepted = False
-    else:
-        words_of = result_of(end, settings.seconds).value
-    return Check(accepted, words_of or Result.FAILED.value, round(end.seconds, 3), end.peak)
+    accepted = end.status == 0 and all(answer.get(key) == it for key, it in claim.items())
+    return accepted, " ".join(str(answer[key]) for key in ("result", "cost", "code", "name") if key in answer)
 
 
 def states_of(cert: str) -> int | None:
