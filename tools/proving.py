@@ -1,8 +1,9 @@
 """Calls the toolchain's compiler, which proves what it builds, on the crates of this repository: from nothing, each on one
 processor, side by side, with neither the locks of `rt` nor its sums of sources."""
-import contextlib, fcntl, hashlib, os, shutil, signal, subprocess, sys, tempfile, time
+import contextlib, fcntl, hashlib, os, shutil, subprocess, sys, tempfile, time
 
 from crates import PARTS, folder, is_program, libraries_of, rows_below
+from processes import lanes
 
 # What a check takes at most, in bytes of memory.
 ROOM = 3_000_000_000
@@ -18,27 +19,6 @@ def toolchain():
 
 
 KIT = toolchain()
-
-
-def lanes(room=ROOM):
-    """How many commands that take so much memory run side by side: one a processor, as many as memory holds."""
-    with open("/proc/meminfo", encoding="ascii") as text:
-        free = next(1024 * int(it.split()[1]) for it in text if it.startswith("MemAvailable:"))
-    return max(1, min(len(os.sched_getaffinity(0)), free // room))
-
-
-def leave_when_told():
-    """Has the first signal that ends this process end it by SystemExit, so that it ends what it has started and takes away its
-    files; further ones are of no account then."""
-    kinds = [it for it in (signal.SIGHUP, signal.SIGINT, signal.SIGTERM) if signal.getsignal(it) != signal.SIG_IGN]
-
-    def leave(number, _):
-        for it in kinds:
-            signal.signal(it, signal.SIG_IGN)
-        sys.exit(128 + number)
-
-    for it in kinds:
-        signal.signal(it, leave)
 
 
 @contextlib.contextmanager
@@ -132,7 +112,7 @@ def prove_all(rows, running):
     it comes first, and a library that was built of the same sources is left as it is. Those that it is at stand in
     `running`; what is said of a crate that is not proved is printed."""
     below = {it: {*rows_below(it)} - {it} for it in rows}
-    behind, most, totals = chains(below), lanes(), sums(rows)
+    behind, most, totals = chains(below), lanes(ROOM), sums(rows)
     proved = {it for it in rows if is_built(it, totals[it])}
     left = sorted({*rows} - proved, key=lambda it: -behind[it])
     while left or running:

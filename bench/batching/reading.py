@@ -1,0 +1,76 @@
+"""Runs as a report reads them: their lines by task, and what two of them say of the same one."""
+
+from __future__ import annotations
+
+import os
+import sys
+from dataclasses import dataclass
+from itertools import combinations
+from typing import Iterator
+
+from batching.layouts import in_order
+from batching.lines import Line, Result, read_lines
+from batching.runs import Settings
+
+
+@dataclass(frozen=True)
+class Lines:
+    """A run's lines, of each task the last one."""
+
+    name: str
+    settings: Settings
+    by_task: dict[str, Line]
+
+    @property
+    def answered(self) -> list[Line]:
+        return [it for it in self.by_task.values() if it.is_answered]
+
+    @property
+    def accepted(self) -> list[Line]:
+        return [it for it in self.answered if it.check and it.check.accepted]
+
+    @property
+    def hosts(self) -> list[str]:
+        """The machines that ran it, each with its processor."""
+        return sorted({f"{it.host}, {it.processor}" for it in self.by_task.values() if it.host})
+
+    def count(self, result: Result, domain: str | None = None) -> int:
+        """How many tasks, of a domain if one is given, have this result."""
+        return sum(it.result is result and domain in (None, domain_of(task)) for task, it in self.by_task.items())
+
+
+def domain_of(task: str) -> str:
+    """What stands before the last slash of a task's name."""
+    return task.rpartition("/")[0]
+
+
+def read_run(folder: str) -> Lines:
+    """A run's lines by its folder. Leaves where there is none, or a line is another program's."""
+    try:
+        settings = Settings.read(folder)
+    except (OSError, ValueError, TypeError, KeyError):
+        sys.exit(f"batch-report: {folder} is no folder of a run")
+    lines = read_lines(f"{folder}/results.jsonl")
+    others = {it.program for it in lines} - {settings.program.sum}
+    if others:
+        sys.exit(f"batch-report: {folder} has lines of other programs: {', '.join(map(str, others))}")
+    return Lines(os.path.basename(os.path.abspath(folder)), settings, {it.task: it for it in lines})
+
+
+def tasks_of(runs: list[Lines]) -> list[str]:
+    """All tasks of these runs, in the order of their names."""
+    return sorted({task for run in runs for task in run.by_task}, key=in_order)
+
+
+def shared(one: Lines, other: Lines) -> list[str]:
+    """The tasks of the same texts that two runs have."""
+    return [task for task in tasks_of([one]) if task in other.by_task and one.by_task[task].texts == other.by_task[task].texts]
+
+
+def contradictions(runs: list[Lines]) -> Iterator[str]:
+    """The tasks to which two runs give answers that cannot both be right, with the names of the two."""
+    for one, other in combinations(runs, 2):
+        for task in shared(one, other):
+            here, there = one.by_task[task], other.by_task[task]
+            if here.is_answered and there.is_answered and (here.result, here.cost) != (there.result, there.cost):
+                yield f"{task}: {one.name} and {other.name} answer otherwise"

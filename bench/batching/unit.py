@@ -1,0 +1,156 @@
+"""One task: the program's process, and then the checker's, each within its limits."""
+
+from __future__ import annotations
+
+import contextlib
+import ctypes
+import json
+import os
+import platform
+import resource
+import signal
+
+from batching.layouts import Task
+from batching.lines import ANSWERS, Check, Line, Result
+from batching.runs import Program, Settings, texts_sum
+from timing import Ended, ended, processor
+
+LIBC = ctypes.CDLL(None)
+# Of <linux/prctl.h>.
+PR_SET_PDEATHSIG = 1
+
+BY_STATUS = {
+    0: Result.PLAN,
+    10: Result.UNSOLVABLE,
+    11: Result.STATES,
+    20: Result.REFUSED,
+    22: Result.MEMORY,
+    128 + signal.SIGXCPU: Result.TIME,
+}
+# The status of `check` where a certificate, or the plan beside it, is not accepted.
+REFUSED_BY_CHECK = 12
+BY_REASON = {"states": Result.STATES, "instances": Result.INSTANCES, "atoms": Result.ATOMS}
+
+
+def end_with_parent() -> None:
+    """Has the system end this process where the one that started it ends, in whatever way."""
+    LIBC.prctl(PR_SET_PDEATHSIG, signal.SIGKILL)
+
+
+def within_limits(words: list[str], settings: Settings) -> Ended:
+    """Runs a command within the limits of time and memory."""
+
+    def prepare() -> None:
+        end_with_parent()
+        memory = settings.megabytes * 1_000_000
+        resource.setrlimit(resource.RLIMIT_AS, (memory, memory))
+        # The first signal comes at the limit; the one a second later cannot be held off.
+        resource.setrlimit(resource.RLIMIT_CPU, (settings.seconds, settings.seconds + 1))
+        resource.setrlimit(resource.RLIMIT_CORE, (0, 0))
+
+    return ended(words, prepare)
+
+
+def told(end: Ended) -> dict:
+    """What the program told by its line of JSON; nothing, where there is no such line."""
+    try:
+        keys = json.loads(end.output)
+    except ValueError:
+        return {}
+    return keys if isinstance(keys, dict) else {}
+
+
+def result_of(end: Ended, seconds: int) -> Result:
+    """What came of a process that was to solve or to check within so many seconds."""
+    if end.status == 128 + signal.SIGKILL and end.seconds >= seconds:
+        return Result.TIME
+    return BY_STATUS.get(end.status, Result.FAILED)
+
+
+def answer_of(end: Ended, seconds: int) -> tuple[Result, int | None]:
+    """The result of `solve`, and the cost of the plan. A status of an answer counts with the words of that answer alone."""
+    result, answer = result_of(end, seconds), told(end)
+    if result is Result.STATES:
+        return BY_REASON.get(answer.get("reason"), Result.FAILED), None
+    if result in ANSWERS and answer.get("result") != result.value:
+        return Result.FAILED, None
+    cost = answer.get("cost") if result is Result.PLAN else None
+    return result, cost
+
+
+def fault_of(end: Ended) -> str | None:
+    """Why there is no answer: the first line of the standard error, or the signal that ended the program."""
+    signalled = f"ended by signal {end.status - 128}" if end.status > 128 else None
+    return next(iter(end.errors.splitlines()), signalled)
+
+
+def check(task: Task, settings: Settings, cert: str, plan: str | None, claim: dict) -> Check:
+    """Has the checker judge a certificate, which is to show just this claim."""
+    words = [settings.checker.path, "check", task.domain, task.problem, cert, "--instances", str(settings.instances), "--json"]
+    end = within_limits([*words, "--plan", plan] if plan else words, settings)
+    accepted, verdict = verdict_of(end, claim, settings.seconds)
+    return Check(accepted, verdict, round(end.seconds, 3), end.peak)
+
+
+def verdict_of(end: Ended, claim: dict, seconds: int) -> tuple[bool | None, str]:
+    """Whether a checker's process has accepted the claim, None where it came to no verdict, and in which words."""
+    if end.status not in (0, REFUSED_BY_CHECK):
+        result = result_of(end, seconds)
+        return None, (Result.FAILED if result in ANSWERS else result).value
+    answer = told(end)
+    accepted = end.status == 0 and all(answer.get(key) == it for key, it in claim.items())
+    return accepted, " ".join(str(answer[key]) for key in ("result", "cost", "code", "name") if key in answer)
+
+
+def states_of(cert: str) -> int | None:
+    """How many states a certificate lists, by its last line."""
+    with open(cert, "rb") as text:
+        text.seek(max(0, os.path.getsize(cert) - 64))
+        last = text.read().rpartition(b"\nend ")[2]
+    return int(last) if last.endswith(b"\n") and last[:-1].isdigit() else None
+
+
+def outcome(task: Task, settings: Settings, folder: str) -> Line:
+    """Runs a task, with its answer in this folder, and tells how it ended."""
+    plan, cert = empty(folder)
+    limits = ["--states", str(settings.states), "--instances", str(settings.instances)]
+    end = within_limits([settings.program.path, "solve", task.domain, task.problem, *limits,
+                         "--plan", plan, "--cert", cert, "--json"], settings)
+    result, cost = answer_of(end, settings.seconds)
+    wanted = {Result.PLAN: [plan, cert], Result.UNSOLVABLE: [cert]}.get(result, [])
+    if not all(map(os.path.isfile, wanted)):
+        result = Result.FAILED
+    keys = {"status": end.status, "cost": cost, "seconds": round(end.seconds, 3), "peak_bytes": end.peak,
+            "host": platform.node(), "processor": processor(), "program": settings.program.sum, "texts": texts_sum(task)}
+    if result in ANSWERS:
+        keys.update(judged(task, settings, result, cost, plan, cert))
+    else:
+        keys.update(fault=fault_of(end), bound=told(end).get("bound"))
+    return Line(task.name, result, **keys)
+
+
+def empty(folder: str) -> tuple[str, str]:
+    """The files of a plan and of a certificate in this folder, neither of which is there."""
+    os.makedirs(folder, exist_ok=True)
+    files = f"{folder}/plan.txt", f"{folder}/cert.txt"
+    for path in files:
+        with contextlib.suppress(FileNotFoundError):
+            os.remove(path)
+    return files
+
+
+def judged(task: Task, settings: Settings, result: Result, cost: int | None, plan: str, cert: str) -> dict:
+    """What there is to say of the certificate of an answer."""
+    has_plan = result is Result.PLAN
+    claim = {"result": "optimal", "cost": cost} if has_plan else {"result": "unsolvable"}
+    keys = {"states": states_of(cert), "certificate_bytes": os.path.getsize(cert)}
+    if settings.checker:
+        keys["check"] = check(task, settings, cert, plan if has_plan else None, claim)
+    if not settings.keeps_certificates:
+        os.remove(cert)
+    return keys
+
+
+def has_changed(program: Program) -> bool:
+    """Whether another program stands there than when the run began."""
+    return Program.at(program.path).sum != program.sum

@@ -1,0 +1,385 @@
+#!/usr/bin/env python3
+"""Tries what can go wrong in a batch, over a program that does as its problem says: python3 bench/test_batch.py.
+
+It needs neither the program itself nor Slurm, and takes some ten seconds."""
+
+import errno
+import json
+import os
+import signal
+import stat
+import subprocess
+import sys
+import tempfile
+import time
+import unittest
+from dataclasses import asdict, replace
+from importlib.util import find_spec
+from pathlib import Path
+from unittest import mock
+
+sys.dont_write_bytecode = True
+sys.path.insert(0, os.path.dirname(os.path.abspath(__file__)))
+from batching import ROOT  # noqa: E402
+from batching.layouts import find  # noqa: E402
+from batching.lines import Check, Line, LinesFile, Result, line_of, read_lines  # noqa: E402
+from batching.runs import Program, Settings  # noqa: E402
+
+# Does what the first word of the problem says, and notes each start.
+PROGRAM = """#!{python}
+import os, signal, sys, time
+words = sys.argv[1:]
+named = lambda option: words[words.index(option) + 1]
+do = open(words[2]).read().split()
+open("{room}/starts", "a").write(" ".join([words[0], *do]) + "\\n")
+if words[0] == "check":
+    print('{{"command":"check","cost":%s,"result":"optimal"}}' % do[-1]) if do[0] != "wrong" else print('{{"code":51,"name":"CutWeak","result":"not accepted"}}')
+    sys.exit(12 if do[0] == "wrong" else 0)
+if do[0] == "spin":
+    while True: pass
+if do[0] == "sleep": time.sleep(60)
+if do[0] == "kill": os.kill(os.getpid(), signal.SIGKILL)
+if do[0] == "grow": sys.exit(22 if (lambda: bytearray(10 ** 10) and 0) is None else grow())
+if do[0] == "fault":
+    print("fault 7 Unexpected in problem at 0..5", file=sys.stderr)
+    sys.exit(20)
+open(named("--cert"), "w").write("pddl-cert 1\\nend 3\\n")
+open(named("--plan"), "w").write("(a)\\n")
+print('{{"command":"solve","cost":%s,"result":"plan","steps":["(a)"]}}' % do[1])
+"""
+# In the place of Slurm: runs the elements of an array one after another, but one whose number is in the file `lost`, once.
+SBATCH = """#!{python}
+import os, subprocess, sys
+given = dict(it.split("=", 1) for it in sys.argv[1:] if "=" in it)
+print(" ".join(sys.argv[1:-1]), file=open("{room}/sbatch", "a"))
+for element in range(int(given["--array"].partition("%")[0].partition("-")[2]) + 1):
+    if os.path.exists("{room}/lost") and open("{room}/lost").read() == str(element):
+        os.remove("{room}/lost")
+        continue
+    subprocess.run(given["--wrap"], shell=True, env={{**os.environ, "SLURM_ARRAY_TASK_ID": str(element)}})
+print("17")
+"""
+SACCT = """#!/bin/sh
+echo '17_0|OUT_OF_MEMORY'
+echo '17_1|COMPLETED'
+"""
+GROW = """def grow():
+    try:
+        return len(bytearray(10 ** 11)) and 0
+    except MemoryError:
+        return 22
+"""
+
+
+class Room(unittest.TestCase):
+    """A folder of tasks with a program beside it."""
+
+    def setUp(self):
+        held = tempfile.TemporaryDirectory()
+        self.addCleanup(held.cleanup)
+        self.room = Path(held.name)
+        self.program = self.room / "program"
+        self.put_program("program", PROGRAM.replace("import os, signal", GROW + "import os, signal", 1))
+        self.run_folder = self.room / "run"
+
+    def put(self, name, text="plan 3"):
+        path = self.room / name
+        path.parent.mkdir(parents=True, exist_ok=True)
+        path.write_text(text)
+        return path
+
+    def put_program(self, name, text):
+        path = self.put(name, text.format(python=sys.executable, room=self.room))
+        path.chmod(path.stat().st_mode | stat.S_IXUSR)
+
+    def words(self, *more):
+        return [sys.executable, f"{ROOT}/bench/batch", str(self.room / "tasks"), "--into", str(self.run_folder),
+                "--program", str(self.program), "--lanes", "2", *more]
+
+    def batch(self, *more):
+        path = {**os.environ, "PATH": f"{self.room}/bin:{os.environ['PATH']}"}
+        return subprocess.run(self.words(*more), stdout=subprocess.PIPE, stderr=subprocess.PIPE, text=True, env=path)
+
+    def tasks(self, **problems):
+        self.put("tasks/a b/domain.pddl")
+        for name, text in problems.items():
+            self.put(f"tasks/a b/{name}.pddl", text)
+
+    def lines(self):
+        return {it.task: it for it in read_lines(self.run_folder / "results.jsonl")}
+
+    def starts(self):
+        try:
+            return (self.room / "starts").read_text().splitlines()
+        except FileNotFoundError:
+            return []
+
+
+class Layouts(Room):
+    def names(self, *paths):
+        return [it.name for it in find([str(self.room / it) for it in paths])[0]]
+
+    def test_each_layout_has_its_domain(self):
+        layouts = {
+            "one/domain.pddl": ["one/p1.pddl", "one/p2.pddl"],
+            "two/p01-domain.pddl": ["two/p01.pddl", "two/p01-airport1.pddl"],
+            "three/domain-p1.pddl": ["three/p1.pddl"],
+            "four/domain_p1.pddl": ["four/p1.pddl"],
+            "five/domain.pddl": ["five/instances/instance-1.pddl"],
+            "six/domains/domain-1.pddl": ["six/instances/instance-1.pddl"],
+        }
+        for domain, problems in layouts.items():
+            for it in [domain, *problems]:
+                self.put(f"tasks/{it}")
+        tasks, left_out = find([str(self.room / "tasks")])
+        self.assertEqual(left_out, [])
+        found = {os.path.relpath(it.problem, self.room / "tasks"): os.path.relpath(it.domain, self.room / "tasks") for it in tasks}
+        self.assertEqual(found, {problem: domain for domain, problems in layouts.items() for problem in problems})
+
+    def test_the_nearest_domain_counts(self):
+        for it in ("domain.pddl", "p1.pddl", "p1-domain.pddl", "p2.pddl"):
+            self.put(f"tasks/{it}")
+        tasks, _ = find([str(self.room / "tasks")])
+        self.assertEqual([os.path.basename(it.domain) for it in tasks], ["p1-domain.pddl", "domain.pddl"])
+
+    def test_a_task_has_one_name_by_whichever_folder_it_is_found(self):
+        for it in ("domain.pddl", "p10.pddl", "p2.pddl"):
+            self.put(f"all/a b/{it}")
+        self.assertEqual(self.names("all"), ["a b/p2", "a b/p10"])
+        self.assertEqual(self.names("all/a b"), ["a b/p2", "a b/p10"])
+        self.assertEqual(self.names("all/a b/p2.pddl"), ["a b/p2"])
+        self.assertEqual(self.names("all", "all/a b", "all/a b/p2.pddl"), ["a b/p2", "a b/p10"])
+
+    def test_a_link_to_a_task_makes_no_further_one(self):
+        self.put("all/a/domain.pddl")
+        self.put("all/a/p1.pddl")
+        (self.room / "all/b").symlink_to(self.room / "all/a")
+        self.assertEqual(self.names("all/a", "all/b"), ["a/p1"])
+
+    def test_two_tasks_of_one_name_are_refused(self):
+        for it in ("x/a", "y/a"):
+            self.put(f"{it}/domain.pddl")
+            self.put(f"{it}/p1.pddl")
+        with self.assertRaisesRegex(SystemExit, "two tasks would be called a/p1"):
+            self.names("x/a", "y/a")
+        self.assertEqual(sorted(find([str(self.room)])[0], key=lambda it: it.name)[0].name, "x/a/p1")
+
+    def test_what_makes_no_task_is_told(self):
+        self.put("tasks/a/p1.pddl")
+        os.mkfifo(self.room / "tasks/a/p2.pddl")
+        self.assertEqual([it.why for it in find([str(self.room / "tasks")])[1]], ["has no domain", "is no file"])
+
+
+class Lines(Room):
+    def setUp(self):
+        super().setUp()
+        self.path = str(self.room / "results.jsonl")
+
+    def test_a_line_reads_back(self):
+        line = Line("a b/p1", Result.PLAN, status=0, cost=3, seconds=0.5)
+        self.assertEqual(line_of(line.text().encode()), line)
+        self.assertNotIn("bound", line.text())
+
+    def test_half_a_line_is_none_and_goes(self):
+        whole = Line("a/p1", Result.TIME).text()
+        for cut in range(len(whole)):
+            Path(self.path).write_text(whole + whole[:cut])
+            self.assertEqual(len(read_lines(self.path)), 1)
+        file = LinesFile(self.path)
+        file.add(Line("a/p2", Result.TIME))
+        file.close()
+        self.assertEqual([it.task for it in read_lines(self.path)], ["a/p1", "a/p2"])
+
+    def test_what_is_damaged_is_no_line(self):
+        for text in ("{}", "[]", "3", "{\"task\":1", "{\"task\":\"a\",\"result\":\"new\"}", "\0\0"):
+            Path(self.path).write_text(text + "\n" + Line("a/p1", Result.TIME).text())
+            self.assertEqual([it.task for it in read_lines(self.path)], ["a/p1"])
+
+    def test_a_full_disk_leaves_whole_lines(self):
+        file = LinesFile(self.path)
+        file.add(Line("a/p1", Result.TIME))
+        write = os.pwrite
+        with mock.patch("os.pwrite", side_effect=[0, OSError(errno.ENOSPC, "full")]):
+            self.assertRaises(OSError, file.add, Line("a/p2", Result.TIME))
+        write(file.at, b"half", file.size)
+        file.add(Line("a/p3", Result.TIME))
+        self.assertEqual([it.task for it in read_lines(self.path)], ["a/p1", "a/p3"])
+
+
+class Runs(Room):
+    def test_each_result_has_its_line(self):
+        self.tasks(plan="plan 3", wrong="wrong 3", spin="spin 1", grow="grow 1", fault="fault 1", kill="kill 1")
+        ran = self.batch("--check", "--seconds", "1")
+        found = self.lines()
+        self.assertEqual({name[4:]: it.result.value for name, it in found.items()},
+                         {"plan": "plan", "wrong": "plan", "spin": "out of time", "grow": "out of memory",
+                          "fault": "refused", "kill": "failed"}, ran)
+        plan = found["a b/plan"]
+        self.assertEqual((plan.status, plan.cost, plan.states, plan.certificate_bytes, plan.check.accepted), (0, 3, 3, 18, True))
+        self.assertIs(found["a b/wrong"].check.accepted, False)
+        self.assertEqual(found["a b/wrong"].check.verdict, "not accepted 51 CutWeak")
+        self.assertEqual(found["a b/fault"].fault, "fault 7 Unexpected in problem at 0..5")
+        self.assertEqual((found["a b/kill"].status, found["a b/kill"].fault), (137, "ended by signal 9"))
+        self.assertEqual(ran.returncode, 1)
+        self.assertEqual((self.run_folder / "answers/a b/plan/plan.txt").read_text(), "(a)\n")
+
+    def test_a_run_goes_on_where_it_stopped(self):
+        self.tasks(one="plan 3", two="plan 4", three="kill 5")
+        self.batch()
+        self.assertEqual(len(self.starts()), 3)
+        results = self.run_folder / "results.jsonl"
+        lines = [it for it in results.read_text().splitlines(keepends=True) if "two" not in it]
+        results.write_text("".join(lines) + '{"task":"a b/two","res')
+        self.tasks(four="plan 6")
+        ran = self.batch()
+        # What failed is tried again, and what is new joins.
+        self.assertEqual(sorted(self.starts()[3:]), ["solve kill 5", "solve plan 4", "solve plan 6"])
+        self.assertEqual({name: it.cost for name, it in self.lines().items()},
+                         {"a b/one": 3, "a b/two": 4, "a b/three": None, "a b/four": 6})
+        self.assertIn("4 of 4 tasks: 3 plan, 1 failed", ran.stdout)
+
+    def test_a_task_whose_text_has_changed_is_run_anew(self):
+        self.tasks(one="plan 3", two="plan 4")
+        self.batch()
+        self.tasks(one="plan 5")
+        self.batch()
+        self.assertEqual(self.starts()[2:], ["solve plan 5"])
+        self.assertEqual(self.lines()["a b/one"].cost, 5)
+
+    def test_another_program_or_other_limits_are_refused(self):
+        self.tasks(one="plan 3")
+        self.batch()
+        self.assertIn("seconds: 9 now, 300 before", self.batch("--seconds", "9").stderr)
+        self.program.write_text(self.program.read_text() + "#\n")
+        self.assertIn("lines of two are not mixed", self.batch().stderr)
+        self.assertEqual(len(self.starts()), 1)
+
+    def test_a_folder_is_one_commands_at_a_time(self):
+        self.tasks(one="sleep 3")
+        with subprocess.Popen(self.words(), stderr=subprocess.DEVNULL) as first:
+            self.wait_for_starts(1)
+            self.assertIn("another command writes into", self.batch().stderr)
+            first.terminate()
+
+    def wait_for_starts(self, many):
+        for _ in range(600):
+            if len(self.starts()) >= many:
+                return
+            time.sleep(0.05)
+        self.fail("no program was started")
+
+    def is_running(self):
+        return subprocess.run(["pgrep", "-f", str(self.program)], stdout=subprocess.DEVNULL).returncode == 0
+
+    def test_processes_end_with_the_command(self):
+        self.tasks(one="sleep 3", two="sleep 3", three="sleep 3")
+        for number, kind in enumerate((signal.SIGINT, signal.SIGTERM, signal.SIGKILL)):
+            with self.subTest(kind), subprocess.Popen(self.words(), stderr=subprocess.DEVNULL) as ran:
+                self.wait_for_starts(2 * number + 2)
+                ran.send_signal(kind)
+                ran.wait(20)
+                for _ in range(200):
+                    if not self.is_running():
+                        break
+                    time.sleep(0.05)
+                self.assertFalse(self.is_running())
+        self.assertEqual(self.lines(), {})
+
+    def test_a_program_that_is_missing_is_told(self):
+        self.tasks(one="plan 3")
+        self.program.unlink()
+        self.assertIn("there is no program", self.batch().stderr)
+        self.assertFalse(self.run_folder.exists())
+
+    def test_what_a_task_wants_more_of_goes_to_another_run(self):
+        self.tasks(one="plan 3", two="spin 1", three="fault 1")
+        self.batch("--seconds", "1")
+        first, self.run_folder = self.run_folder, self.room / "again"
+        self.batch("--seconds", "2", "--left-by", str(first))
+        self.assertEqual({name: it.result for name, it in self.lines().items()}, {"a b/two": Result.TIME})
+
+    def test_numbers_are_those_of_processes_of_their_own(self):
+        self.tasks(one="plan 3", two="plan 4")
+        numbers = self.batch("--numbers").stdout.split()
+        self.assertEqual(numbers, ["1", "2"])
+        for it in numbers:
+            subprocess.run([sys.executable, f"{ROOT}/bench/batch-one", str(self.run_folder), it], check=True)
+        self.batch()
+        self.assertEqual(len(self.starts()), 2)
+        self.assertEqual({name: it.cost for name, it in self.lines().items()}, {"a b/one": 3, "a b/two": 4})
+
+    def test_settings_read_back(self):
+        program = Program.at(str(self.program))
+        settings = Settings(program, None, 1, 2, 3, 4, True)
+        self.run_folder.mkdir()
+        (self.run_folder / "run.json").write_text(json.dumps(asdict(settings)))
+        self.assertEqual(Settings.read(str(self.run_folder)), settings)
+
+
+class Slurm(Room):
+    def setUp(self):
+        super().setUp()
+        for name, text in (("sbatch", SBATCH), ("sacct", SACCT), ("squeue", "#!/bin/sh\n"), ("scontrol", "#!/bin/sh\n")):
+            self.put_program(f"bin/{name}", text)
+
+    def arrays(self):
+        return (self.room / "sbatch").read_text().splitlines()
+
+    def test_an_element_that_leaves_no_line_is_tried_again(self):
+        self.tasks(one="plan 3", three="plan 5", two="plan 4")
+        self.put("lost", "1")
+        ran = self.batch("--slurm", "--sbatch=--partition=day")
+        self.assertEqual({name: it.cost for name, it in self.lines().items()}, {"a b/one": 3, "a b/three": 5, "a b/two": 4}, ran)
+        self.assertEqual([it.partition("--array=")[2].partition(" ")[0] for it in self.arrays()], ["0-2%2", "0-0%2"])
+        self.assertIn("--partition=day", self.arrays()[0])
+        self.assertEqual(self.starts(), ["solve plan 3", "solve plan 4", "solve plan 5"])
+
+    def test_how_an_element_ended_is_told_where_no_line_came(self):
+        self.tasks(one="plan 3", two="plan 4")
+        self.put("lost", "0")
+        self.batch("--slurm", "--tries", "1")
+        self.assertEqual(self.lines()["a b/one"].fault, "no line came; Slurm: OUT_OF_MEMORY")
+        self.assertEqual(self.lines()["a b/two"].cost, 4)
+        self.batch("--slurm")
+        self.assertEqual(self.lines()["a b/one"].cost, 3)
+
+
+@unittest.skipUnless(find_spec("matplotlib"), "matplotlib is not installed")
+class Reports(Room):
+    def put_run(self, name, *lines):
+        program = Program.at(str(self.program))
+        settings = Settings(program, program, 1, 2, 3, 4, True)
+        self.put(f"{name}/run.json", json.dumps(asdict(settings)))
+        self.put(f"{name}/results.jsonl", "".join(replace(it, program=program.sum, texts="same").text() for it in lines))
+
+    def report(self, *names):
+        words = [sys.executable, f"{ROOT}/bench/batch-report", *(str(self.room / it) for it in names), "--into", str(self.room / "page.html")]
+        ran = subprocess.run(words, stderr=subprocess.PIPE, text=True)
+        return ran.stderr or (self.room / "page.html").read_text()
+
+    def test_runs_stand_side_by_side(self):
+        plan = Line("a<b/p1", Result.PLAN, status=0, cost=3, seconds=0.5, states=9, check=Check(True, "optimal 3", 0.4, 5))
+        wrong = replace(plan, task="a<b/p2", cost=4, check=Check(False, "not accepted 51 CutWeak", 0.4, 5))
+        self.put_run("first", plan, Line("a<b/p2", Result.TIME, seconds=1.0), Line("c/p1", Result.REFUSED, fault="fault 7"))
+        self.put_run("second", replace(plan, cost=2), wrong)
+        page = self.report("first", "second")
+        for it in ("3 tasks, 2 domains", "1 of 3 answered", "2 of 2 answered", "a&lt;b/p1: first and second answer otherwise",
+                   "a&lt;b/p2 in second: the certificate is not accepted (not accepted 51 CutWeak)", "c/p1 in first: refused, fault 7"):
+            self.assertIn(it, page)
+        self.assertNotIn("a<b", page)
+        self.assertNotRegex(page, "<script|<link|src=")
+        self.assertEqual(page, self.report("first", "second"))
+
+    def test_lines_of_another_program_are_refused(self):
+        self.put_run("first", Line("a/p1", Result.TIME, seconds=1.0))
+        self.put("first/results.jsonl", Line("a/p1", Result.TIME, seconds=1.0, program="other").text())
+        self.assertIn("has lines of other programs: other", self.report("first"))
+
+    def test_a_run_without_an_answer_has_a_page(self):
+        self.put_run("first", Line("a/p1", Result.FAILED, fault="no line came"))
+        self.assertIn("0 of 1 answered", self.report("first"))
+        self.assertIn("0 of 1 answered", self.report("first", "first"))
+
+
+if __name__ == "__main__":
+    unittest.main()
