@@ -1,10 +1,10 @@
-use Rattle.std.proofs.Common.{◌≡◌, [], ◌+◌, ◌∙◌, ◌++◌, ap, sym, subst, drop, length, take, append-nil, refl, arith}
+use Rattle.std.proofs.Common.{◌≡◌, [], ◌+◌, ◌∙◌, ◌++◌, ap, sym, subst, drop, length, take, append-nil, refl}
 use Rattle.std.specs.List.{flat_map}
 use Rattle.std.proofs.lemmas.List.FromFn.{length-map-range_with_len}
 use Rattle.certificate_reader.specs.Lines.{line_of}
 use Rattle.devices.specs.Devices.{AppendsBeginning}
 use Rattle.certificate.specs.Gathering.{IsPassedOn, state_line}
-use Rattle.model.proofs.Pieces.{parts_split, parts_all}
+use Rattle.model.proofs.Pieces.{parts_split}
 use Rattle.certificate.proofs.GatheringLemmas.{passed_nothing, passed_held, passed_then, passed_partly, passed_beginning, line_more}
 use Rattle.certificate.proofs.writer.write_states.Goals as goal
 use Rattle.certificate.proofs.writer.write_states.Goals.{In_ok-add_state}

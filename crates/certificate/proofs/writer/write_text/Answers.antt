@@ -1,6 +1,6 @@
 use Rattle.std.specs.Int.{w64}
 use Rattle.std.proofs.lemmas.Int.{to_z-of_z}
-use Rattle.std.proofs.Common.{rules, ◌≡◌, ◌∙◌, ◌++◌, [], ap, sym, subst, length}
+use Rattle.std.proofs.Common.{rules, ◌∙◌, ◌++◌, [], ap, subst}
 use Rattle.std.specs.Io.KnownBytes.{Appends}
 use Rattle.std.specs.List.{flat_map}
 use Rattle.std.specs.Prelude.{OnOk, zip}
@@ -8,7 +8,7 @@ use Rattle.typing.specs.Task.{task_of}
 use Rattle.devices.specs.Devices.{AppendsBeginning}
 use Rattle.certificate_definitions.specs.CertificateText.{last, whole_line}
 use Rattle.certificate_definitions.specs.CertificateNames.{certificate_text}
-use Rattle.certificate.specs.Gathering.{IsPassedOn, atom_line, state_line}
+use Rattle.certificate.specs.Gathering.{IsPassedOn, atom_line}
 use Rattle.certificate.proofs.WholeText.{head, to_atoms, to_states, head_held, atoms_held, atoms_begun, states_held, states_begun, last_begun, all_held, all_begun, all_where_ok}
 use Rattle.certificate.proofs.writer.write_text.Goals as goal
 use Rattle.certificate.proofs.writer.write_text.Goals.{In_ok-add_head, In_ok-write_atoms, In_ok-write_states, In_ok-add_last}
