@@ -1,7 +1,7 @@
 #!/usr/bin/env python3
 """Tries what can go wrong in a batch, over a program that does as its problem says: python3 bench/test_batch.py.
 
-It needs neither the program itself nor Slurm, and takes some ten seconds."""
+It needs neither the program itself nor Slurm, and takes half a minute of a processor. The report is tried where matplotlib is."""
 
 import errno
 import json
@@ -290,6 +290,12 @@ class Runs(Room):
         self.program.unlink()
         self.assertIn("there is no program", self.batch().stderr)
         self.assertFalse(self.run_folder.exists())
+
+    def test_what_builds_a_program_is_none(self):
+        self.tasks(one="plan 3")
+        for more in (["--program", f"{ROOT}/optplan"], ["--checker", f"{ROOT}/optplan-unproved"]):
+            self.assertIn("looks at its sources at each start", self.batch(*more).stderr)
+        self.assertEqual(self.starts(), [])
 
     def test_what_a_task_wants_more_of_goes_to_another_run(self):
         self.tasks(one="plan 3", two="spin 1", three="fault 1")

@@ -33,6 +33,8 @@ def run(words, **how):
     ran = subprocess.Popen(words, stdin=subprocess.DEVNULL, stdout=subprocess.PIPE, stderr=subprocess.STDOUT, text=True,
                            errors="replace", start_new_session=True, **how)
     running.add(ran)
+    if is_ended:
+        end(ran)
     try:
         said, _ = ran.communicate()
         return ran.returncode, said
