@@ -1,8 +1,31 @@
 -- What an instance may do to an atom, as the code keeps it.
-use Rattle.std.specs.Prelude.{◌≡◌, ℕ, true, false, ◌||◌, List}
+use Rattle.std.specs.Prelude.{◌≡◌, ℕ, Bool, true, false, ◌||◌, List}
 use Rattle.model.specs.NumberedLiterals.{NumberedLiteral, NumberedChange}
-use Rattle.potential_functions.specs.Fair.{is_pair}
+use Rattle.potential_functions.specs.Fair.{Pair, is_pair, makes}
 use Rattle.potentials.specs.declared.swing.Swing.{Swing}
+use Rattle.potentials.specs.declared.swing.Made.{Made}
+use Rattle.potentials.specs.declared.swing.Made.TheVariants.{Always, Sometimes}
+use Rattle.potentials.specs.declared.swing.Makers.{Makers}
+use Rattle.potentials.specs.declared.swing.Transition.{Transition}
+use Rattle.potentials.specs.declared.swing.Transition.TheVariants.{StaysFalse, Rises, Falls, StaysTrue}
+
+-- whether the atom is true before and after
+abbrev pub pair_of : Transition → Pair
+pair_of StaysFalse = record { before = false; after = false }
+pair_of Rises = record { before = false; after = true }
+pair_of Falls = record { before = true; after = false }
+pair_of StaysTrue = record { before = true; after = true }
+
+abbrev pub is_always : Made → Bool
+is_always Always = true
+is_always Sometimes = false
+
+-- which of the changes are of the atom of this number
+pub record AreMakers (changes : List NumberedChange) (number : ℕ) (m : Makers) : Type 0 where
+  pub add : m.add ≡ makes changes true true number
+  pub delete : m.delete ≡ makes changes true false number
+  pub may_add : m.may_add ≡ makes changes false true number
+  pub may_delete : m.may_delete ≡ makes changes false false number
 
 -- what an instance of these literals and changes may do to the atom of this number
 pub record IsSwing (literals : List NumberedLiteral) (changes : List NumberedChange) (number : ℕ) (s : Swing) : Type 0 where

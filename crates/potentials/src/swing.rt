@@ -1,14 +1,115 @@
 //! What an instance may do to an atom.
-ghost use Rattle.std.specs.Prelude.{◌≡◌, ◌&&◌, ◌||◌, not, if◌then◌else◌, map};
+ghost use Rattle.std.specs.Prelude.{◌≡◌, ℕ, List, map};
 ghost use Rattle.std.specs.Bool.{beq};
 ghost use Rattle.grounding.specs.Views.{numbered_of};
 ghost use Rattle.grounding.specs.Changes.{counting_of};
 ghost use Rattle.potential_functions.specs.PotentialFunctions.{IsInRange};
 ghost use Rattle.potential_functions.specs.Fair as model;
 ghost use Rattle.potential_functions.proofs.Worst.{worst_by};
-ghost use Rattle.potentials.specs.Swing.{IsSwing};
+ghost use Rattle.model.specs.NumberedLiterals.{NumberedChange};
+ghost use Rattle.potentials.specs.Swing.{IsSwing, is_always};
 
 use grounding::{CountingChange, NumberedLiteral};
+
+/// What becomes of an atom in a step.
+#[derive(Clone, Copy)]
+enum Transition {
+    /// It is false, and stays so.
+    StaysFalse,
+    /// It is false, and becomes true.
+    Rises,
+    /// It is true, and becomes false.
+    Falls,
+    /// It is true, and stays so.
+    StaysTrue,
+}
+
+impl Transition {
+    ghost use Rattle.potentials.specs.Swing.{pair_of};
+
+    /// Whether the atom is true before the step.
+    fn before(self) -> bool
+        ensures { result ≡ (pair_of self).before }
+    {
+        match self {
+            Transition::StaysFalse | Transition::Rises => false,
+            Transition::Falls | Transition::StaysTrue => true,
+        }
+    }
+
+    /// Whether it is true after it.
+    fn after(self) -> bool
+        ensures { result ≡ (pair_of self).after }
+    {
+        match self {
+            Transition::StaysFalse | Transition::Falls => false,
+            Transition::Rises | Transition::StaysTrue => true,
+        }
+    }
+}
+
+/// When a change is made.
+#[derive(Clone, Copy)]
+enum Made {
+    /// Whenever the instance is applied.
+    Always,
+    /// Under the condition of a `when`.
+    Sometimes,
+}
+
+impl Made {
+    /// Whether it is made whenever the instance is applied.
+    fn is_always(self) -> bool
+        ensures { result ≡ is_always self }
+    {
+        match self {
+            Made::Always => true,
+            Made::Sometimes => false,
+        }
+    }
+}
+
+/// Which of an instance's changes there are of an atom.
+#[derive(Clone, Copy)]
+struct Makers {
+    /// One that always adds it.
+    add: bool,
+    /// One that always deletes it.
+    delete: bool,
+    /// One that sometimes adds it.
+    may_add: bool,
+    /// One that sometimes deletes it.
+    may_delete: bool,
+}
+
+impl Makers {
+    ghost use Rattle.potentials.specs.Swing.{AreMakers, pair_of};
+
+    /// Those among these changes of the atom of this number.
+    fn new(changes: &[CountingChange<'_>], atom: u32) -> Makers
+        ensures { AreMakers (map counting_of changes.now) atom result }
+    {
+        Makers {
+            add: makes(changes, Made::Always, true, atom),
+            delete: makes(changes, Made::Always, false, atom),
+            may_add: makes(changes, Made::Sometimes, true, atom),
+            may_delete: makes(changes, Made::Sometimes, false, atom),
+        }
+    }
+
+    /// Whether this may become of the atom: it is added, or deleted, or it may be made what it is after the step.
+    fn allow(self, transition: Transition) -> bool
+        ensures { (changes : List NumberedChange) (atom : ℕ) → AreMakers changes atom self
+            → result ≡ model.may_become changes atom (pair_of transition).before (pair_of transition).after }
+    {
+        let after = transition.after();
+        if self.add {
+            return after;
+        }
+        let may_be_made = if after { self.may_add } else { self.may_delete };
+        same(after, transition.before() && !self.delete) || may_be_made
+    }
+}
 
 /// What an instance may do to an atom.
 #[derive(Clone, Copy)]
@@ -28,15 +129,12 @@ impl Swing {
     {
         let was_true = !says(literals, atom, false);
         let was_false = !says(literals, atom, true);
-        let added = makes(changes, true, true, atom);
-        let deleted = makes(changes, true, false, atom);
-        let may_be_added = makes(changes, false, true, atom);
-        let may_be_deleted = makes(changes, false, false, atom);
+        let makers = Makers::new(changes, atom);
         Swing {
-            falls: was_true && may_become(added, deleted, may_be_deleted, true, false),
-            stays: (was_false && may_become(added, deleted, may_be_deleted, false, false))
-                || (was_true && may_become(added, deleted, may_be_added, true, true)),
-            rises: was_false && may_become(added, deleted, may_be_added, false, true),
+            falls: was_true && makers.allow(Transition::Falls),
+            stays: (was_false && makers.allow(Transition::StaysFalse))
+                || (was_true && makers.allow(Transition::StaysTrue)),
+            rises: was_false && makers.allow(Transition::Rises),
         }
     }
 
@@ -76,23 +174,14 @@ pub fn touches(changes: &[CountingChange<'_>], atom: u32) -> bool
     changes.iter().any(|change| change.atom == atom)
 }
 
-/// Whether one of the changes, unconditional or under a `when`, makes the atom true, or false.
-fn makes(changes: &[CountingChange<'_>], unconditional: bool, value: bool, atom: u32) -> bool
-    ensures { result ≡ model.makes (map counting_of changes.now) unconditional value atom }
+/// Whether one of the changes that are made so makes the atom true, or false.
+fn makes(changes: &[CountingChange<'_>], made: Made, value: bool, atom: u32) -> bool
+    ensures { result ≡ model.makes (map counting_of changes.now) (is_always made) value atom }
 {
+    let is_always = made.is_always();
     changes.iter().any(|change| {
         change.atom == atom
-            && same(change.is_unconditional(), unconditional)
+            && same(change.is_unconditional(), is_always)
             && same(change.value, value)
     })
-}
-
-/// Whether an atom may be `after`, where it was `before`: it is added, or deleted, or it may be made `after` under a `when`.
-fn may_become(added: bool, deleted: bool, may_be_made: bool, before: bool, after: bool) -> bool
-    ensures { result ≡ (if added then after else beq after (before && not deleted) || may_be_made) }
-{
-    if added {
-        return after;
-    }
-    same(after, before && !deleted) || may_be_made
 }
