@@ -172,6 +172,24 @@ def roads(places, degree):
     return Task(f"roads, {places} places", ROADS, text, 1)
 
 
+WALK = """(define (domain walk)
+  (:predicates (road ?a ?b) (at ?a))
+  (:action walk :parameters (?a ?b)
+    :precondition (and (road ?a ?b) (at ?a))
+    :effect (and (not (at ?a)) (at ?b))))
+"""
+
+
+def walk(places, degree, states):
+    """From each place `degree` roads lead, and none to `nowhere`: places * degree instances are kept, `degree` of them
+    are applicable in each state, and all places are listed."""
+    draw = random.Random(1)
+    names = [f"p{k}" for k in range(places)]
+    init = ["(at p0)"] + [f"(road {a} {b})" for a in names for b in draw.sample(names, degree)]
+    text = problem("walk", "nowhere " + " ".join(names), init, ["(at nowhere)"])
+    return Task(f"walk, {places} places", WALK, text, states)
+
+
 TASKS = [
     gripper(8, 11_000),
     gripper(12, 250_000),
@@ -183,4 +201,5 @@ TASKS = [
     tiles(4, 3, 4_000_000),
     roads(100, 10),
     roads(160, 14),
+    walk(10_000, 10, 10_000),
 ]

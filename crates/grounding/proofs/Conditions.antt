@@ -91,3 +91,9 @@ pub literals-below : (t : Task) (atoms : List Atom) (formula : Formula) (binding
     → (bits : List Bool) → length bits ≡ length atoms → All (λ (l : NumberedLiteral). l.atom < length bits) (literals_in c)
 literals-below t atoms formula binding c is bits long =
     subst (All (λ (l : NumberedLiteral). l.atom < length bits)) (sym is.literals) (all-below atoms (length bits) long (sure t formula binding))
+
+-- and of numbered atoms
+pub literals-within : (t : Task) (atoms : List Atom) (formula : Formula) (binding : List ℕ) (c : Condition) → IsConditionOf t atoms formula binding c
+    → All (λ (l : NumberedLiteral). l.atom < length atoms) (literals_in c)
+literals-within t atoms formula binding c is =
+    subst (All (λ (l : NumberedLiteral). l.atom < length atoms)) (sym is.literals) (all-below atoms (length atoms) refl (sure t formula binding))

@@ -9,3 +9,5 @@ pub mod ChangeLemmas
 pub mod InPlaceLemmas
 pub mod InitialBits
 pub mod GroundLemmas
+pub mod FiledNumbers
+pub mod WatchLemmas

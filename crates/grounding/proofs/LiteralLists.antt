@@ -1,5 +1,5 @@
 -- Lists of literals of which each is of a bit that a packed state has.
-use Rattle.std.proofs.Common.{ℕ, ◌<◌, List, length, map, get_or, subst, arith}
+use Rattle.std.proofs.Common.{◌≡◌, ℕ, ◌<◌, List, length, map, get_or, subst, arith}
 use Rattle.std.specs.List.{All}
 use Rattle.std.proofs.lemmas.List.{length-map, get_or-map}
 use Rattle.grounding_kept.specs.declared.numbers.NumberedLiteral.{NumberedLiteral}
@@ -12,3 +12,7 @@ pub below-at : (width : ℕ) (literals : List NumberedLiteral) (i : ℕ) (d : Nu
 below-at width literals i d below all =
     subst (λ (n : model.NumberedLiteral). n.atom < width) (get_or-map numbered_of literals i d (numbered_of d) below)
     (all i (numbered_of d) (omega (arith, below, length-map literals numbered_of)))
+
+-- so is it in a list that is as long
+pub below-as_long : (a width long : ℕ) → long ≡ width → a < width → a < long
+below-as_long a width long same below = omega (arith, same, below)

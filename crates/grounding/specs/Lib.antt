@@ -3,6 +3,8 @@ pub mod Outright
 pub mod Unnumbered
 pub mod StateView
 pub mod Conditions
+pub mod Watched
+pub mod WatchLists
 pub mod ChangedBits
 pub mod NumberedEffects
 pub mod FormulaSet

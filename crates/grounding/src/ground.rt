@@ -7,11 +7,13 @@ ghost use Rattle.grounding.specs.InPlace.{AreInPlace};
 ghost use Rattle.grounding.specs.FormulaSet.{formula-set};
 ghost use Rattle.grounding.specs.Changes.{AreChangesOf};
 ghost use Rattle.grounding.specs.Preconditions.{IsPrecondition};
+ghost use Rattle.grounding.specs.WatchLists.{AreWatched};
 ghost use Rattle.model.specs.Meaning.{cost_of};
 
 use crate::changes::CountingChange;
 use crate::condition::Condition;
 use crate::parts::{changes_of_all, costs, goal_condition, preconditions};
+use crate::watch_lists::WatchLists;
 use faults::NoMemory;
 use formulas::Instance;
 use grounding_kept::{GroundFault, NumberedLiteral, Numbering};
@@ -29,10 +31,13 @@ pub struct Ground<'t> {
     pub(crate) changes: Vec<Vec<CountingChange<'t>>>,
     pub(crate) costs: Vec<u32>,
     pub(crate) goal: Condition,
+    /// The instances by an atom that their preconditions want, of which few are looked at in a state.
+    pub(crate) lists: WatchLists,
     ghost few: { length (numbering_views.instances_in numbering) < 2 ^ 32 },
     ghost preconditions: { AreInPlace (IsPrecondition (numbering_views.task_in numbering) (numbering_views.atoms_in numbering)) (numbering_views.instances_in numbering) conditions.items } by { Prim.hlevel props },
     ghost changes_made: { AreInPlace (AreChangesOf (numbering_views.task_in numbering) (numbering_views.atoms_in numbering)) (numbering_views.instances_in numbering) changes.items } by { Prim.hlevel (props, formula-set) },
     ghost each_cost: { costs.items ≡ map (cost_of (numbering_views.task_in numbering)) (numbering_views.instances_in numbering) } by { Prim.hlevel props },
+    ghost watched: { AreWatched (length (numbering_views.atoms_in numbering)) conditions.items (length conditions.items) lists } by { Prim.hlevel props },
     ghost of_goal: { IsConditionOf (numbering_views.task_in numbering) (numbering_views.atoms_in numbering) (numbering_views.task_in numbering).goal [] goal } by { Prim.hlevel props },
 }
 
@@ -77,6 +82,7 @@ impl<'t> Ground<'t> {
         ensures { IfOk result (λ g. numbering_in g ≡ numbering.entry) }
     {
         let conditions = preconditions(alloc, &numbering)?;
+        let lists = WatchLists::new(alloc, numbering.width(), &conditions)?;
         let changes = changes_of_all(alloc, &numbering)?;
         let costs = costs(alloc, &numbering)?;
         let goal = goal_condition(alloc, &numbering)?;
@@ -86,6 +92,7 @@ impl<'t> Ground<'t> {
             changes,
             costs,
             goal,
+            lists,
         })
     }
 

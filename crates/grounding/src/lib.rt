@@ -11,6 +11,7 @@ mod parts;
 mod state_view;
 mod steps;
 mod unnumbered;
+mod watch_lists;
 
 pub use changes::CountingChange;
 pub use ground::Ground;

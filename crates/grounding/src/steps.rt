@@ -1,5 +1,6 @@
 //! The steps of a ground task.
-ghost use Rattle.std.specs.Prelude.{◌≡◌, ◌<◌, ◌∷◌, [], length, slice_get, slice_set, is_some, IfOk, OnOk, OnErr, IsTrue};
+ghost use Rattle.std.specs.Prelude.{◌≡◌, ◌+◌, ◌<◌, ◌≤◌, ◌∷◌, ◌++◌, [], All, filter, length, slice_get, slice_set, is_some, IfOk, OnOk, OnErr, IsTrue};
+ghost use Rattle.std.specs.Vec.{vec_capacity};
 ghost use Rattle.packed_state.specs.Packed.{bits_of};
 ghost use Rattle.model.specs.ClosedOff.{kept_instances};
 ghost use Rattle.model.specs.Grounding.{state_of_bits, ground_step, ground_system, applicable_numbers};
@@ -61,12 +62,29 @@ impl Ground<'_> {
         let count = self.conditions.len();
         into.reserve(count.saturating_sub(into.len()))?;
         into.clear();
-        for number in 0..count as u32 {
+        let mut atom = state.next(0);
+        'lists: while atom < self.width() {
+            self.list_applicable(self.lists.of(atom), state, into);
+            atom = state.next(atom + 1);
+        }
+        self.list_applicable(&self.lists.unwatched, state, into);
+        into.sort_unstable();
+        Ok(())
+    }
+
+    /// Adds those of the instances of these numbers that are applicable in the state.
+    fn list_applicable(&self, numbers: &[u32], state: &Packed, into: &mut Vec<u32>)
+        requires within { All (λ number. number < length (kept_instances (task_in self.now))) numbers.now }
+        requires width { length (bits_of state.now) ≡ length (atoms_in self.now) }
+        requires room { length into.old.items + length numbers.now ≤ vec_capacity into.old }
+        ensures items { into.new.items ≡ into.old.items ++ filter (λ number. is_some (ground_step (task_in self.now) (atoms_in self.now) (bits_of state.now) number)) numbers.now }
+        ensures capacity { vec_capacity into.new ≡ vec_capacity into.old }
+    {
+        for &number in numbers {
             if self.is_applicable(number, state) {
                 into.push_reserved(number);
             }
         }
-        Ok(())
     }
 
     /// Whether the instance of this number is applicable in the state.

@@ -1,5 +1,6 @@
 pub mod WordLemmas
 pub mod PackedLemmas
+pub mod NextLemmas
 pub mod NumberLemmas
 pub mod Equality
 pub mod StoreLemmas

@@ -1,10 +1,17 @@
 -- Sets of numbers below a width: a Bool for each number, whether it is in.
-use Rattle.std.specs.Prelude.{ℕ, ◌==◌, Bool, false, not, ◌&&◌, ◌||◌, IsTrue, List, length, map, slice_index_or}
+use Rattle.std.specs.Prelude.{◌≡◌, ℕ, ◌<◌, ◌≤◌, ◌==◌, Bool, true, false, not, ◌&&◌, ◌||◌, IsTrue, List, length, map, slice_index_or}
 use Rattle.std.specs.List.{range_with_len, list_any}
 
 -- whether the number is in the set: none from the width on is
 abbrev pub has : List Bool → ℕ → Bool
 has set number = slice_index_or set number false
+
+-- the number is the least of the set that is not below the other one, or the width where there is none
+pub record IsNext (set : List Bool) (from number : ℕ) : Type 0 where
+  pub above : from ≤ number
+  pub within : number ≤ length set
+  pub none_between : (k : ℕ) → from ≤ k → k < number → has set k ≡ false
+  pub is_in : number < length set → has set number ≡ true
 
 -- the set of these numbers
 abbrev pub set_of : ℕ → List ℕ → List Bool

@@ -24,7 +24,7 @@ pub struct Mask {
 impl Packed {
     ghost use Rattle.std.specs.Prelude.{◌↔◌, IsTrue, IfOk, OnOk, OnErr, length, true, slice_set};
     ghost use Rattle.std.specs.List.{All, filter, range_with_len};
-    ghost use Rattle.packed_state.specs.Sets.{has, set_of, Includes, AreDisjoint, changed, at_width};
+    ghost use Rattle.packed_state.specs.Sets.{has, set_of, IsNext, Includes, AreDisjoint, changed, at_width};
     ghost use Rattle.packed_state.specs.Packed.{bits_of, mask_bits_of};
 
     /// The empty set of numbers below `width`.
@@ -95,6 +95,20 @@ impl Packed {
         ensures { result ≡ has (bits_of self.now) number }
     {
         words::has(&self.words, number)
+    }
+
+    /// The least number in the set that is not below `from`, or its width where there is none.
+    pub fn next(&self, from: u32) -> u32
+        requires { from ≤ length (bits_of self.now) }
+        ensures { IsNext (bits_of self.now) from result }
+    {
+        let width = self.width();
+        let number = words::next(&self.words, from as usize);
+        if number < width as usize {
+            number as u32
+        } else {
+            width
+        }
     }
 
     /// Puts the number into the set.

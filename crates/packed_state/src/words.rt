@@ -1,5 +1,5 @@
 //! Words of 64 bits as sets: bit `k % 64` of word `k / 64`, counted from the lowest, stands for the number k.
-ghost use Rattle.std.specs.Prelude.{◌≡◌, ℕ, ◌+◌, ◌*◌, ◌/◌, ◌<◌, ◌≤◌, ◌↔◌, ◌==◌, ◌&&◌, ◌||◌, ◌^◌, ◌++◌, not, IsTrue, OnOk, length, slice_index};
+ghost use Rattle.std.specs.Prelude.{◌≡◌, ℕ, true, false, ◌+◌, ◌*◌, ◌/◌, ◌<◌, ◌≤◌, ◌↔◌, ◌==◌, ◌&&◌, ◌||◌, ◌^◌, ◌++◌, not, IsTrue, OnOk, length, slice_index};
 ghost use Rattle.std.specs.List.{filter, range_with_len};
 ghost use Rattle.packed_state.specs.Words.{word_has, numbers_of_word, BeginsWith};
 
@@ -19,6 +19,25 @@ pub(crate) fn has(words: &[u64], number: u32) -> bool
     ensures { result ≡ word_has words.now number }
 {
     (words[number as usize / 64] >> (number % 64)) & 1 == 1
+}
+
+/// The least number that is in and not below `from`, or, where none is, one that no word has room for.
+pub(crate) fn next(words: &[u64], from: usize) -> usize
+    requires from { from < 2 ^ 33 }
+    requires few { 64 * length words.now < 2 ^ 33 }
+    ensures from { from ≤ result }
+    ensures none_between { (k : ℕ) → from ≤ k → k < result → word_has words.now k ≡ false }
+    ensures is_in { result < 64 * length words.now → word_has words.now result ≡ true }
+{
+    let mut number = from;
+    'words: while number / 64 < words.len() {
+        let rest = words[number / 64] >> (number % 64);
+        if rest != 0 {
+            return number + rest.trailing_zeros() as usize;
+        }
+        number = (number / 64 + 1) * 64;
+    }
+    number
 }
 
 /// Puts the number in.

@@ -1,0 +1,8 @@
+use Rattle.std.proofs.Common.{length, map}
+use Rattle.std.specs.Prelude.{IfSome}
+use Rattle.grounding_kept.specs.Numbers.{numbered_of}
+use Rattle.grounding.specs.Watched.{IsWatchable}
+use Rattle.grounding.proofs.watch_lists.rarest.Given as goal
+
+abbrev pub invariant-loop-literal : goal.invariant-loop-literal
+invariant-loop-literal l = IfSome l.watched (IsWatchable (length l.counts) (map numbered_of l.literals))
