@@ -4,7 +4,7 @@ use Rattle.std.specs.Prelude.{if◌then◌else◌, ◌⊎◌, All, Contains, sli
 use Rattle.std.proofs.lemmas.Bool.{cases_eq, eq-eqb, eqb-true, iff_false}
 use Rattle.std.proofs.lemmas.Option.{slice_get-get_or}
 use Rattle.std.proofs.lemmas.List.Elements.{All-contains, All-contains_itself}
-use Rattle.std.proofs.lemmas.List.{take_more}
+use Rattle.std.proofs.lemmas.List.{map-append, take_more}
 use Rattle.model.proofs.ListLemmas.{Contains-here, Contains-there, Contains-cases, Contains-none, Contains-got, Contains-map}
 use Rattle.grounding.specs.declared.changes.CountingChange.{CountingChange}
 use Rattle.grounding.specs.Changes.{counting_of}
@@ -19,8 +19,9 @@ use Rattle.potential_functions.proofs.Sums.{sum-alike}
 use Rattle.potential_functions.proofs.Settling.{weight-other, potentials, IsNoneBetter}
 use Rattle.potential_functions.proofs.Numbers.{counting-named, counting-below}
 use Rattle.potentials.specs.Fairness.{AreInstancesFair}
+use Rattle.potentials_improved.specs.declared.touching.Touch.{Touch}
 use Rattle.potentials_improved.specs.declared.touching.Touching.{Touching}
-use Rattle.potentials_improved.specs.Touching.{row_of, IsTouching, IsAdded, AreFairAt}
+use Rattle.potentials_improved.specs.Touching.{number_of, touches_at, row_of, IsTouching, IsAdded, AreFairAt}
 use Rattle.potentials.proofs.LossLemmas.{touches-append}
 use Rattle.potentials.proofs.FairLemmas.{Decides}
 
@@ -194,6 +195,38 @@ atoms-below task atoms n number t changes so are =
     subst (All (λ (c : NumberedChange). c.atom < length t.rows.items)) (sym are)
     (λ k d below. subst (λ l. (get_or (counting_of_number task atoms number) k d).atom < l) (sym so.width)
     (counting-below atoms task number (get_or (counting_of_number task atoms number) k d) (All-contains_itself (counting_of_number task atoms number) k d below)))
+
+-- a row to which an instance is added
+pub row-pushed : (mid new : Touching) (x : Touch) (atom : ℕ) → ((a : ℕ) → touches_at new a ≡ (if a == atom then touches_at mid a ++ x ∷ [] else touches_at mid a))
+    → (a : ℕ) → row_of new a ≡ (if a == atom then row_of mid a ++ x.number ∷ [] else row_of mid a)
+row-pushed mid new x atom rows a = ap (map number_of) (rows a) ∙ of_bit (a == atom)
+  where
+    of_bit : (b : Bool) → map number_of (if b then touches_at mid a ++ x ∷ [] else touches_at mid a) ≡ (if b then row_of mid a ++ x.number ∷ [] else row_of mid a)
+    of_bit true = map-append number_of (touches_at mid a) (x ∷ [])
+    of_bit false = refl
+
+-- what stands beside the rows is of no account
+pub added-alike : (number : ℕ) (changes : List NumberedChange) (old new other : Touching) → IsAdded number changes old new → other.rows ≡ new.rows → IsAdded number changes old other
+added-alike number changes old new other so is = subst (λ rows. IsAdded number changes old (record new { rows = rows; atoms = other.atoms; ends = other.ends })) (sym is)
+    (record { width = so.width; kept = so.kept; only = so.only; added = so.added })
+
+-- one change more of the code's list, of an atom of which an earlier one is
+pub added-again : (number : ℕ) (xs : List CountingChange) (place : ℕ) (d : CountingChange) (old new : Touching) → place < length xs
+    → touches (map counting_of (take place xs)) (get_or xs place d).atom ≡ true → IsAdded number (map counting_of (take place xs)) old new
+    → IsAdded number (map counting_of (take (place + 1) xs)) old new
+added-again number xs place d old new within known so =
+    subst (λ l. IsAdded number l old new) (sym (map-take-more counting_of xs place (get_or xs place d) within (got-again xs place d within)))
+    (record { width = so.width; kept = so.kept; only = so.only; added = λ a touched. made a (touches done a) refl (sym (touches-append done c a) ∙ touched) })
+  where
+    done : List NumberedChange
+    done = map counting_of (take place xs)
+
+    c : NumberedChange
+    c = counting_of (get_or xs place d)
+
+    made : (a : ℕ) (b : Bool) → touches done a ≡ b → (b || c.atom == a) ≡ true → Contains (row_of new a) number
+    made a true before e = so.added a before
+    made a false before e = so.added a (subst (λ k. touches done k ≡ true) (eqb-true c.atom a e) known)
 
 -- one change more of the code's list
 pub added-at : (number : ℕ) (xs : List CountingChange) (place : ℕ) (d : CountingChange) (old mid new : Touching) → place < length xs → IsAdded number (map counting_of (take place xs)) old mid

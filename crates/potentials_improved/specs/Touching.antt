@@ -1,5 +1,5 @@
 -- Which instances touch an atom, as the code keeps them.
-use Rattle.std.specs.Prelude.{◌≡◌, ℕ, ◌<◌, ◌⊎◌, true, List, [], Some, length, slice_get, Contains}
+use Rattle.std.specs.Prelude.{◌≡◌, ℕ, ◌<◌, ◌⊎◌, true, List, [], Some, length, map, slice_get, Contains}
 use Rattle.std.specs.Option.{option_map_or}
 use Rattle.std.specs.Global.{Vec}
 use Rattle.model.specs.Task.{Atom, Task, Instance}
@@ -8,11 +8,20 @@ use Rattle.model.specs.ClosedOff.{kept_instances}
 use Rattle.model.specs.NumberedLiterals.{NumberedChange, counting_of_number}
 use Rattle.potential_functions.specs.PotentialFunctions.{PotentialFunction}
 use Rattle.potential_functions.specs.Fair.{touches, IsFairAt}
+use Rattle.potentials_improved.specs.declared.touching.Touch.{Touch}
 use Rattle.potentials_improved.specs.declared.touching.Touching.{Touching}
 
--- the numbers at the place of this atom
+-- the number of an instance that touches an atom
+abbrev pub number_of : Touch → ℕ
+number_of touch = touch.number
+
+-- the instances at the place of this atom
+abbrev pub touches_at : Touching → ℕ → List Touch
+touches_at t a = option_map_or (λ (v : Vec Touch). v.items) (slice_get t.rows.items a) []
+
+-- their numbers
 abbrev pub row_of : Touching → ℕ → List ℕ
-row_of t a = option_map_or (λ (v : Vec ℕ). v.items) (slice_get t.rows.items a) []
+row_of t a = map number_of (touches_at t a)
 
 -- The numbers are of instances of the task, and each instance below this number that touches an atom stands in its row.
 pub record IsTouching (task : Task) (atoms : List Atom) (count : ℕ) (t : Touching) : Type 0 where

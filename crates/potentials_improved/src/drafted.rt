@@ -28,6 +28,7 @@ pub(crate) fn drafted(
     alloc: Global,
     potentials: Potentials,
     ground: &Ground<'_>,
+    tables: &Tables,
     initial: &Packed,
 ) -> Result<Potentials, NoMemory>
     requires width { length (potentials_of potentials).weights ≡ length (atoms_in ground.now) }
@@ -35,7 +36,7 @@ pub(crate) fn drafted(
     requires initial { bits_of initial.now ≡ (ground_system (task_in ground.now) (atoms_in ground.now)).initial }
     ensures { IfOk result (λ p. IsNoWorse (task_in ground.now) (atoms_in ground.now) (potentials_of potentials) (potentials_of p)) }
 {
-    let weights = drafted_weights(alloc, ground, initial, potentials.weights())?;
+    let weights = drafted_weights(alloc, ground, tables, initial, potentials.weights())?;
     match if_no_worse(alloc, &potentials, ground, initial, weights)? {
         Some(better) => Ok(better),
         None => Ok(potentials),
@@ -49,12 +50,12 @@ pub(crate) fn drafted(
 fn drafted_weights(
     alloc: Global,
     ground: &Ground<'_>,
+    tables: &Tables,
     initial: &Packed,
     weights: &[i64],
 ) -> Result<Vec<i64>, NoMemory> {
-    let tables = Tables::new(alloc, ground)?;
     let aims = aims(alloc, ground, initial)?;
-    solved(alloc, &tables, &aims, weights)
+    solved(alloc, tables, &aims, weights)
 }
 
 /// The initial state, and samples.

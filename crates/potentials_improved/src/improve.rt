@@ -8,7 +8,7 @@ ghost use Rattle.potentials.specs.Potentials.{potentials_of};
 
 use crate::climb::Climb;
 use crate::drafted::drafted;
-use crate::touching::Touching;
+use crate::tables::Tables;
 use faults::NoMemory;
 use grounding::Ground;
 use potentials::Potentials;
@@ -44,8 +44,9 @@ impl Improve for Potentials {
         rounds: u32,
     ) -> Result<Potentials, NoMemory> {
         let initial = ground.initial(alloc)?;
-        let drafted = drafted(alloc, self, ground, &initial)?;
-        let touching = Touching::new(alloc, ground)?;
+        let tables = Tables::new(alloc, ground)?;
+        let drafted = drafted(alloc, self, ground, &tables, &initial)?;
+        let touching = tables.into_touching();
         let mut climb = Climb::new(drafted, ground, &initial);
         for _ in 0..rounds {
             if !climb.pass(ground, &touching, &initial) {

@@ -1,6 +1,7 @@
 //! Weights that are whole numbers: rounded ones, mended where they are not fair.
 use crate::aims::{Aims, Gain, Move};
-use crate::tables::{Tables, Touch};
+use crate::tables::Tables;
+use crate::touching::Touch;
 use faults::NoMemory;
 use potentials::is_in_range;
 use std::alloc::Global;

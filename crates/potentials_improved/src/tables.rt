@@ -1,16 +1,14 @@
 //! What a draft of better potentials reads again and again of a ground task.
-use faults::NoMemory;
-use grounding::{CountingChange, Ground, NumberedLiteral};
-use potentials::{Swing, goal_gives, instance_count, is_in_range, touches};
-use std::alloc::Global;
+ghost use Rattle.std.specs.Prelude.{◌≡◌, IfOk, length};
+ghost use Rattle.grounding.specs.Ground.{task_in, atoms_in};
+ghost use Rattle.model.specs.ClosedOff.{kept_instances};
+ghost use Rattle.potentials_improved.specs.Touching.{IsTouching};
 
-/// An instance that touches an atom, or an atom that an instance touches, by its number, and what the one may do to the
-/// other.
-#[derive(Clone, Copy)]
-pub(crate) struct Touch {
-    pub(crate) number: u32,
-    swing: Swing,
-}
+use crate::touching::{Touch, Touching};
+use faults::NoMemory;
+use grounding::Ground;
+use potentials::{goal_gives, instance_count, is_in_range};
+use std::alloc::Global;
 
 /// What the goal says of an atom.
 #[derive(Clone, Copy)]
@@ -25,22 +23,8 @@ pub(crate) struct AtGoal {
 pub(crate) struct Tables {
     width: u32,
     at_goal: Vec<AtGoal>,
-    instances: Vec<Vec<Touch>>,
     costs: Vec<i64>,
-    /// The atoms that the instances touch, one instance after the other, and where those of each end.
-    atoms: Vec<Touch>,
-    ends: Vec<usize>,
-}
-
-impl Touch {
-    /// The most that the instance may lose by the atom, where it has this weight.
-    pub(crate) fn loss(self, weight: i64) -> i64 {
-        if is_in_range(weight) {
-            self.swing.worst(weight)
-        } else {
-            0
-        }
-    }
+    touching: Touching,
 }
 
 impl AtGoal {
@@ -67,73 +51,15 @@ impl AtGoal {
 
 impl Tables {
     /// Those of the ground task.
-    pub(crate) fn new(alloc: Global, ground: &Ground<'_>) -> Result<Tables, NoMemory> {
-        let mut tables = Tables::empty(alloc, ground.width())?;
-        tables.note_goal(ground.goal_literals());
-        for number in 0..instance_count(ground) {
-            tables.costs.push(i64::from(ground.cost(number)))?;
-            tables.add(number, ground.literals(number), ground.counting(number))?;
-        }
-        Ok(tables)
-    }
-
-    /// Tables of no instance.
-    fn empty(alloc: Global, width: u32) -> Result<Tables, NoMemory> {
-        let at_goal = vec![in alloc; AtGoal::OPEN; width as usize]?;
-        let mut instances = Vec::new(alloc);
-        for _ in 0..width {
-            instances.push(Vec::new(alloc))?;
-        }
+    pub(crate) fn new(alloc: Global, ground: &Ground<'_>) -> Result<Tables, NoMemory>
+        ensures { IfOk result (λ tables. IsTouching (task_in ground.now) (atoms_in ground.now) (length (kept_instances (task_in ground.now))) tables.touching) }
+    {
         Ok(Tables {
-            width,
-            at_goal,
-            instances,
-            costs: Vec::new(alloc),
-            atoms: Vec::new(alloc),
-            ends: Vec::new(alloc),
+            width: ground.width(),
+            at_goal: told_at_goal(alloc, ground)?,
+            costs: costs(alloc, ground)?,
+            touching: Touching::new(alloc, ground)?,
         })
-    }
-
-    /// The goal says so.
-    fn note_goal(&mut self, literals: &[NumberedLiteral]) {
-        for literal in literals {
-            let place = literal.atom as usize;
-            if place < self.at_goal.len() {
-                self.at_goal[place].is_true |= literal.value;
-                self.at_goal[place].is_false |= !literal.value;
-            }
-        }
-    }
-
-    /// Adds the next instance.
-    fn add(
-        &mut self,
-        number: u32,
-        literals: &[NumberedLiteral],
-        changes: &[CountingChange<'_>],
-    ) -> Result<(), NoMemory> {
-        for place in 0..changes.len() {
-            let atom = changes[place].atom;
-            if !touches(&changes[..place], atom) {
-                let swing = Swing::new(literals, changes, atom);
-                self.atoms.push(Touch {
-                    number: atom,
-                    swing,
-                })?;
-                self.touch(atom, Touch { number, swing })?;
-            }
-        }
-        self.ends.push(self.atoms.len())?;
-        Ok(())
-    }
-
-    /// The instance touches the atom.
-    fn touch(&mut self, atom: u32, touch: Touch) -> Result<(), NoMemory> {
-        let place = atom as usize;
-        if place < self.instances.len() {
-            self.instances[place].push(touch)?;
-        }
-        Ok(())
     }
 
     /// How many atoms there are.
@@ -156,10 +82,7 @@ impl Tables {
 
     /// The instances that touch the atom.
     pub(crate) fn instances_of(&self, atom: u32) -> &[Touch] {
-        match self.instances.get(atom as usize) {
-            Some(row) => row,
-            None => &[],
-        }
+        self.touching.of(atom)
     }
 
     /// The atoms that the instance touches.
@@ -169,23 +92,36 @@ impl Tables {
 
     /// The atoms that the instance at this place touches.
     pub(crate) fn atoms_at(&self, place: usize) -> &[Touch] {
-        let start = match place.checked_sub(1) {
-            Some(before) => self.end(before),
-            None => 0,
-        };
-        let end = self.end(place);
-        if start <= end && end <= self.atoms.len() {
-            &self.atoms[start..end]
-        } else {
-            &[]
-        }
+        self.touching.atoms_at(place)
     }
 
-    /// Where the atoms of the instance at this place end.
-    fn end(&self, place: usize) -> usize {
-        match self.ends.get(place) {
-            Some(end) => *end,
-            None => 0,
+    /// Which instances touch which atoms, in place of the tables.
+    pub(crate) fn into_touching(self) -> Touching
+        ensures { result ≡ self.touching }
+    {
+        let Tables { touching, .. } = self;
+        touching
+    }
+}
+
+/// What the goal says of each atom.
+fn told_at_goal(alloc: Global, ground: &Ground<'_>) -> Result<Vec<AtGoal>, NoMemory> {
+    let mut told = vec![in alloc; AtGoal::OPEN; ground.width() as usize]?;
+    for literal in ground.goal_literals() {
+        let place = literal.atom as usize;
+        if place < told.len() {
+            told[place].is_true |= literal.value;
+            told[place].is_false |= !literal.value;
         }
     }
+    Ok(told)
+}
+
+/// What each instance costs.
+fn costs(alloc: Global, ground: &Ground<'_>) -> Result<Vec<i64>, NoMemory> {
+    let mut costs = Vec::new(alloc);
+    for number in 0..instance_count(ground) {
+        costs.push(i64::from(ground.cost(number)))?;
+    }
+    Ok(costs)
 }

@@ -1,4 +1,4 @@
-use Rattle.std.proofs.Common.{◌≡◌, ◌∙◌, rules, set, refl, subst, ap, arith}
+use Rattle.std.proofs.Common.{◌≡◌, ◌∙◌, rules, map, set, refl, subst, ap, arith}
 use Rattle.std.specs.Int.{w64}
 use Rattle.std.proofs.lemmas.Int.{to_z-of_z}
 use Rattle.std.proofs.lemmas.Bool.{iff_false}
@@ -6,7 +6,7 @@ use Rattle.grounding.specs.Ground.{task_in, atoms_in}
 use Rattle.potential_functions.specs.PotentialFunctions.{PotentialFunction}
 use Rattle.potential_functions.proofs.Settling.{potentials}
 use Rattle.potentials.specs.Potentials.{potentials_of}
-use Rattle.potentials_improved.specs.Touching.{row_of, AreFairAt}
+use Rattle.potentials_improved.specs.Touching.{number_of, row_of, AreFairAt}
 use Rattle.potentials_improved.proofs.ClimbLemmas.{back-again, set-long, tried-kept, tried-raised}
 use Rattle.potentials_improved.proofs.TouchingLemmas.{fair-by_touching, none-unfair_among, row-below}
 use Rattle.potentials_improved.proofs.climb.Climb.take_if_fair.Goals as goal
@@ -21,7 +21,7 @@ pub are_fair_at-requires-clause-width : goal.are_fair_at-requires-clause-width
 are_fair_at-requires-clause-width c = set-long (potentials_of c.args.self.now.potentials) (potentials_of c.set_weight.new.self) c.args.atom _ _ c.set_weight.ensures ∙ c.requires.climb.width
 
 pub are_fair_at-requires-clause-within : goal.are_fair_at-requires-clause-within
-are_fair_at-requires-clause-within c = row-below (task_in c.args.ground.now) (atoms_in c.args.ground.now) c.args.touching.now c.args.atom c.of.result.now c.requires.touching c.of.ensures
+are_fair_at-requires-clause-within c = row-below (task_in c.args.ground.now) (atoms_in c.args.ground.now) c.args.touching.now c.args.atom (map number_of c.of.result.now) c.requires.touching (ap (map number_of) c.of.ensures)
 
 pub set_weight-requires-then-not-are_fair_at-clause-within : goal.set_weight-requires-then-not-are_fair_at-clause-within
 set_weight-requires-then-not-are_fair_at-clause-within c =
@@ -38,7 +38,7 @@ returns-then-not-are_fair_at c =
     tried-kept t a old _ c.args.atom c.args.weight c.requires.climb
     (back-again (potentials_of old.potentials) _ _ c.args.atom c.args.weight _ (to_z-of_z w64 c.weight-old.result (search rules) ∙ c.weight-old.ensures.value) there c.set_weight-then-not-are_fair_at.ensures)
     refl refl
-    (λ fits. none-unfair_among t a (potentials_of old.potentials) (potentials_of c.set_weight.new.self) old.potentials.constant (set old.potentials.weights.items c.args.atom c.args.weight) c.of.result.now there
+    (λ fits. none-unfair_among t a (potentials_of old.potentials) (potentials_of c.set_weight.new.self) old.potentials.constant (set old.potentials.weights.items c.args.atom c.args.weight) (map number_of c.of.result.now) there
     (iff_false c.are_fair_at.ensures c.if-not-are_fair_at.true))
 
 pub returns : goal.returns
@@ -51,7 +51,7 @@ returns c =
     let there : potentials_of c.set_weight.new.self ≡ potentials old.potentials.constant (set old.potentials.weights.items c.args.atom c.args.weight)
     = c.set_weight.ensures ∙ ap (λ w. potentials old.potentials.constant (set old.potentials.weights.items c.args.atom w)) ew in
     let fair : AreFairAt t a (potentials_of c.set_weight.new.self) (row_of c.args.touching.now c.args.atom)
-    = subst (AreFairAt t a (potentials_of c.set_weight.new.self)) c.of.ensures (c.are_fair_at.ensures.0 c.if-not-are_fair_at.false) in
+    = subst (AreFairAt t a (potentials_of c.set_weight.new.self)) (ap (map number_of) c.of.ensures) (c.are_fair_at.ensures.0 c.if-not-are_fair_at.false) in
     tried-raised t a old _ n c.args.atom c.args.weight c.requires.climb c.requires.next
     (fair-by_touching t a (potentials_of old.potentials) (potentials_of c.set_weight.new.self) old.potentials.constant c.args.atom c.args.weight c.args.touching.now c.requires.touching c.requires.climb.fair.instances there fair)
     (c.set_constant.ensures ∙ ap (λ k. potentials k (potentials_of c.set_weight.new.self).weights) (to_z-of_z w64 n.constant (search rules))

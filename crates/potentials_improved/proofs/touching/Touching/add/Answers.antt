@@ -1,14 +1,26 @@
-use Rattle.std.proofs.Common.{length}
-use Rattle.potentials_improved.proofs.TouchingLemmas.{added-none, added-at, atom-below}
+use Rattle.std.proofs.Common.{◌≡◌, ◌<◌, map, length, refl, subst, sym, take, arith}
+use Rattle.std.specs.Prelude.{All}
+use Rattle.std.proofs.lemmas.List.{take_all}
+use Rattle.grounding.specs.Changes.{counting_of}
+use Rattle.model.specs.NumberedLiterals.{NumberedChange}
+use Rattle.potentials_improved.specs.Touching.{IsAdded}
+use Rattle.potentials_improved.proofs.TouchingLemmas.{added-none, added-alike}
 use Rattle.potentials_improved.proofs.touching.Touching.add.Goals as goal
 
 pub loop-place-init : goal.loop-place-init
 loop-place-init c = added-none c.args.number c.args.self.now
 
-pub push-requires : goal.push-requires
-push-requires c = atom-below c.args.changes.now c.loop-place.place (length c.args.self.now.rows.items) _ c.index-changes-place.result c.requires c.loop-place-test.true c.loop-place.invariant.width
+pub add_change-requires-clause-within : goal.add_change-requires-clause-within
+add_change-requires-clause-within c = c.loop-place-test.true
+
+pub add_change-requires-clause-below : goal.add_change-requires-clause-below
+add_change-requires-clause-below c =
+    subst (λ n. All (λ (d : NumberedChange). d.atom < n) (map counting_of c.args.changes.now)) (sym c.loop-place.invariant.width) c.requires
 
 pub loop-place-preserved : goal.loop-place-preserved
-loop-place-preserved c =
-    added-at c.args.number c.args.changes.now c.loop-place.place c.index-changes-place.result c.args.self.now c.loop-place.self c.push.new.self
-    c.loop-place-test.true c.loop-place.invariant c.in_ok-push.ensures.width c.in_ok-push.ensures.rows
+loop-place-preserved c = c.in_ok-add_change.ensures c.args.self.now c.loop-place.invariant
+
+pub returns : goal.returns
+returns c =
+    added-alike c.args.number (map counting_of c.args.changes.now) c.args.self.now c.loop-place.self (record c.loop-place.self { ends = c.push.new.self })
+    (subst (λ l. IsAdded c.args.number (map counting_of l) c.args.self.now c.loop-place.self) (take_all c.loop-place.place c.args.changes.now (omega arith)) c.loop-place.invariant) refl

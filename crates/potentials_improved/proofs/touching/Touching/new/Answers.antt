@@ -1,13 +1,13 @@
-use Rattle.std.proofs.Common.{◌≡◌, ◌∙◌, length, subst, arith}
+use Rattle.std.proofs.Common.{◌≡◌, ◌∙◌, ap, length, map, subst, arith}
 use Rattle.grounding.specs.Ground.{task_in, atoms_in}
 use Rattle.model.specs.ClosedOff.{kept_instances}
-use Rattle.potentials_improved.specs.Touching.{IsTouching}
+use Rattle.potentials_improved.specs.Touching.{number_of, IsTouching}
 use Rattle.potentials_improved.proofs.TouchingLemmas.{touching-none, touching-more, atoms-below}
 use Rattle.potentials_improved.proofs.touching.Touching.new.Goals as goal
 
 pub loop-number-init : goal.loop-number-init
 loop-number-init c =
-    touching-none (task_in c.args.ground.now) (atoms_in c.args.ground.now) c.in_ok-touching.touching (c.in_ok-touching.ensures.width ∙ c.width.ensures) c.in_ok-touching.ensures.empty
+    touching-none (task_in c.args.ground.now) (atoms_in c.args.ground.now) c.in_ok-touching.touching (c.in_ok-touching.ensures.width ∙ c.width.ensures) (λ a. ap (map number_of) (c.in_ok-touching.ensures.empty a))
 
 pub add-requires : goal.add-requires
 add-requires c = atoms-below (task_in c.args.ground.now) (atoms_in c.args.ground.now) c.loop-number.number c.loop-number.number c.loop-number.touching _ c.loop-number.invariant c.counting.ensures
