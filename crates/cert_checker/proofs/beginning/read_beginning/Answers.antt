@@ -28,7 +28,7 @@ lines-init g c =
     record {
       lines = [];
       at = at_start g.R.Source.remaining c.args.reader.now c.requires;
-      told = c.new-beginning.ensures task;
+      told = c.nothing_told-beginning.ensures task;
       no_state = refl;
       failures = refl;
     }
