@@ -344,6 +344,13 @@ class Slurm(Room):
         self.assertIn("--partition=day", self.arrays()[0])
         self.assertEqual(self.starts(), ["solve plan 3", "solve plan 4", "solve plan 5"])
 
+    def test_an_array_has_no_more_elements_than_the_cluster_takes(self):
+        self.tasks(one="plan 3", three="plan 5", two="plan 4")
+        self.put_program("bin/scontrol", "#!/bin/sh\necho 'MaxArraySize            = 2'\n")
+        self.batch("--slurm")
+        self.assertEqual([it.partition("--array=")[2].partition(" ")[0] for it in self.arrays()], ["0-1%2", "0-0%2"])
+        self.assertEqual({name: it.cost for name, it in self.lines().items()}, {"a b/one": 3, "a b/three": 5, "a b/two": 4})
+
     def test_how_an_element_ended_is_told_where_no_line_came(self):
         self.tasks(one="plan 3", two="plan 4")
         self.put("lost", "0")
