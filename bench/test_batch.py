@@ -33,13 +33,16 @@ named = lambda option: words[words.index(option) + 1]
 do = open(words[2]).read().split()
 open("{room}/starts", "a").write(" ".join([words[0], *do]) + "\\n")
 if words[0] == "check":
-    print('{{"command":"check","cost":%s,"result":"optimal"}}' % do[-1]) if do[0] != "wrong" else print('{{"code":51,"name":"CutWeak","result":"not accepted"}}')
-    sys.exit(12 if do[0] == "wrong" else 0)
+    if do[0] == "wrong":
+        print('{{"code":51,"name":"CutWeak","result":"not accepted"}}')
+        sys.exit(12)
+    print('{{"command":"check","cost":%s,"result":"optimal"}}' % do[-1])
+    sys.exit(0)
 if do[0] == "spin":
     while True: pass
 if do[0] == "sleep": time.sleep(60)
 if do[0] == "kill": os.kill(os.getpid(), signal.SIGKILL)
-if do[0] == "grow": sys.exit(22 if (lambda: bytearray(10 ** 10) and 0) is None else grow())
+if do[0] == "grow": sys.exit(grow())
 if do[0] == "fault":
     print("fault 7 Unexpected in problem at 0..5", file=sys.stderr)
     sys.exit(20)
@@ -65,7 +68,7 @@ echo '17_1|COMPLETED'
 """
 GROW = """def grow():
     try:
-        return len(bytearray(10 ** 11)) and 0
+        return len(bytearray(10 ** 11))
     except MemoryError:
         return 22
 """
@@ -133,7 +136,8 @@ class Layouts(Room):
                 self.put(f"tasks/{it}")
         tasks, left_out = find([str(self.room / "tasks")])
         self.assertEqual(left_out, [])
-        found = {os.path.relpath(it.problem, self.room / "tasks"): os.path.relpath(it.domain, self.room / "tasks") for it in tasks}
+        below = lambda path: os.path.relpath(path, self.room / "tasks")
+        found = {below(it.problem): below(it.domain) for it in tasks}
         self.assertEqual(found, {problem: domain for domain, problems in layouts.items() for problem in problems})
 
     def test_the_nearest_domain_counts(self):
@@ -340,6 +344,13 @@ class Slurm(Room):
         self.assertIn("--partition=day", self.arrays()[0])
         self.assertEqual(self.starts(), ["solve plan 3", "solve plan 4", "solve plan 5"])
 
+    def test_an_array_has_no_more_elements_than_the_cluster_takes(self):
+        self.tasks(one="plan 3", three="plan 5", two="plan 4")
+        self.put_program("bin/scontrol", "#!/bin/sh\necho 'MaxArraySize            = 2'\n")
+        self.batch("--slurm")
+        self.assertEqual([it.partition("--array=")[2].partition(" ")[0] for it in self.arrays()], ["0-1%2", "0-0%2"])
+        self.assertEqual({name: it.cost for name, it in self.lines().items()}, {"a b/one": 3, "a b/three": 5, "a b/two": 4})
+
     def test_how_an_element_ended_is_told_where_no_line_came(self):
         self.tasks(one="plan 3", two="plan 4")
         self.put("lost", "0")
@@ -359,8 +370,8 @@ class Reports(Room):
         self.put(f"{name}/results.jsonl", "".join(replace(it, program=program.sum, texts="same").text() for it in lines))
 
     def report(self, *names):
-        words = [sys.executable, f"{ROOT}/bench/batch-report", *(str(self.room / it) for it in names), "--into", str(self.room / "page.html")]
-        ran = subprocess.run(words, stderr=subprocess.PIPE, text=True)
+        words = [sys.executable, f"{ROOT}/bench/batch-report", *(str(self.room / it) for it in names)]
+        ran = subprocess.run([*words, "--into", str(self.room / "page.html")], stderr=subprocess.PIPE, text=True)
         return ran.stderr or (self.room / "page.html").read_text()
 
     def test_runs_stand_side_by_side(self):
@@ -369,7 +380,8 @@ class Reports(Room):
         self.put_run("first", plan, Line("a<b/p2", Result.TIME, seconds=1.0), Line("c/p1", Result.REFUSED, fault="fault 7"))
         self.put_run("second", replace(plan, cost=2), wrong)
         page = self.report("first", "second")
-        for it in ("3 tasks, 2 domains", "1 of 3 answered", "2 of 2 answered", "a&lt;b/p1: first and second answer otherwise",
+        for it in ("3 tasks, 2 domains", "1 of 3 answered", "2 of 2 answered",
+                   "a&lt;b/p1: first and second answer otherwise",
                    "a&lt;b/p2 in second: the certificate is not accepted (not accepted 51 CutWeak)", "c/p1 in first: refused, fault 7"):
             self.assertIn(it, page)
         self.assertNotIn("a<b", page)

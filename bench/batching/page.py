@@ -37,13 +37,15 @@ def card(run: Lines) -> str:
     solving, checking = sum(it.seconds or 0 for it in lines), sum(it.check.seconds for it in checks)
     judged = f"{len(run.accepted)} of {len(checks)} certificates accepted" if settings.checker else "no certificate was judged"
     programs = [("solved by", settings.program), *([("judged by", settings.checker)] if settings.checker else [])]
-    rows = [f"{words} {escape(it.path)} ({it.sum}{', built without a proof' if it.is_unproved else ''})" for words, it in programs]
+    rows = [f"{words} {escape(it.path)} ({it.sum}{', built without a proof' if it.is_unproved else ''})"
+            for words, it in programs]
     rows.append(f"each process within {settings.seconds:,} s and {settings.megabytes:,} MB, {settings.states:,} states, "
                 f"{settings.instances:,} instances")
     rows.append(f"{solving:,.0f} s of a processor for solving, {checking:,.0f} s for checking")
     rows += [f"on {escape(it)}" for it in run.hosts]
-    return (f'<div class="run"><b>{escape(run.name)}</b><div class="large">{len(run.answered)} of {len(run.by_task)} answered</div>'
-            f'<div>{judged}</div><div class="quiet">{"<br>".join(rows)}</div></div>')
+    return (f'<div class="run"><b>{escape(run.name)}</b>'
+            f'<div class="large">{len(run.answered)} of {len(run.by_task)} answered</div><div>{judged}</div>'
+            f'<div class="quiet">{"<br>".join(rows)}</div></div>')
 
 
 def by_domain(runs: list[Lines]) -> str:
@@ -91,7 +93,8 @@ def plots(runs: list[Lines], anchors: dict[str, str]) -> str:
     found = [figure("Results by domain", results_by_domain(runs)), figure("Answered over time", answered_over_time(runs))]
     first = runs[0]
     for other in runs[1:]:
-        found.append(figure(f"Time: {other.name} against {first.name}", against(first, other, "processor time, s", time_of, anchors)))
+        found.append(figure(f"Time: {other.name} against {first.name}",
+                            against(first, other, "processor time, s", time_of, anchors)))
         found.append(figure(f"States: {other.name} against {first.name}",
                             against(first, other, "states listed", lambda it: it.states, anchors)))
     if len(runs) == 1:
@@ -121,7 +124,8 @@ def all_tasks(runs: list[Lines], anchors: dict[str, str]) -> str:
     group = "".join(f'<th colspan="{len(heads)}">{escape(run.name)}</th>' for run in runs)
     lines = [f'<tr class="group"><th></th>{group}</tr>', row(["task", *heads * len(runs)], "th")]
     for task, anchor in anchors.items():
-        lines.append(row([escape(task), *(cell for run in runs for cell in cells_of(run.by_task.get(task)))], attributes=f' id="{anchor}"'))
+        cells = (cell for run in runs for cell in cells_of(run.by_task.get(task)))
+        lines.append(row([escape(task), *cells], attributes=f' id="{anchor}"'))
     return f'<div class="wide"><table>{"".join(lines)}</table></div>'
 
 

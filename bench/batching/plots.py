@@ -44,13 +44,14 @@ def svg(figure: Figure, name: str) -> str:
 def results_by_domain(runs: list[Lines]) -> str:
     """A bar for each domain of each run, of as many parts as there are results."""
     domains = sorted({domain_of(it) for it in tasks_of(runs)}, reverse=True)
-    figure, every = pyplot.subplots(1, len(runs), figsize=(4.6 * len(runs) + 1, 0.28 * len(domains) + 1), sharey=True, squeeze=False)
+    size = 4.6 * len(runs) + 1, 0.28 * len(domains) + 1
+    figure, every = pyplot.subplots(1, len(runs), figsize=size, sharey=True, squeeze=False)
     for axes, run in zip(every[0], runs):
         ends = [0] * len(domains)
         for result, hue in BY_RESULT.items():
             counts = [run.count(result, it) for it in domains]
             if any(counts):
-                axes.barh(domains, counts, left=ends, color=hue, label=result.value, height=0.7, edgecolor="white", linewidth=0.8)
+                axes.barh(domains, counts, left=ends, color=hue, label=result.value, height=0.7, edgecolor="white")
             ends = [end + it for end, it in zip(ends, counts)]
         axes.set_title(run.name, fontweight="bold")
         axes.grid(axis="y", visible=False)

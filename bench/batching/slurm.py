@@ -28,13 +28,18 @@ BESIDE = 256
 MOST_ELEMENTS = 1000
 
 
+def command(words: list[str]) -> subprocess.CompletedProcess:
+    """Runs a command of Slurm, with no input."""
+    return subprocess.run(words, stdin=subprocess.DEVNULL, stdout=subprocess.PIPE, stderr=subprocess.PIPE, text=True)
+
+
 def said(words: list[str]) -> str | None:
     """What a command of Slurm says; None where it fails."""
     try:
-        ran = subprocess.run(words, stdout=subprocess.PIPE, stderr=subprocess.DEVNULL, stdin=subprocess.DEVNULL, text=True, check=True)
-    except (OSError, subprocess.CalledProcessError):
+        ran = command(words)
+    except OSError:
         return None
-    return ran.stdout
+    return ran.stdout if ran.returncode == 0 else None
 
 
 def most_elements() -> int:
@@ -48,9 +53,8 @@ def most_elements() -> int:
 
 def is_queued(job: str) -> bool:
     """Whether an element of the array waits or runs. It counts as one that does while Slurm does not answer."""
-    words = ["squeue", "--noheader", "--array", "--format=%i", f"--jobs={job}"]
     try:
-        ran = subprocess.run(words, stdout=subprocess.PIPE, stderr=subprocess.PIPE, stdin=subprocess.DEVNULL, text=True)
+        ran = command(["squeue", "--noheader", "--array", "--format=%i", f"--jobs={job}"])
     except FileNotFoundError:
         return False
     return bool(ran.stdout.strip()) if ran.returncode == 0 else "Invalid job id" not in ran.stderr
@@ -98,7 +102,7 @@ class Cluster:
                  f"--output={folder.replace('%', '%%')}/%A_%a.txt", *limit_words(run.settings), *self.options,
                  f"--wrap=exec {shlex.join([sys.executable, ONE, run.folder])} {number}"]
         try:
-            ran = subprocess.run(words, stdout=subprocess.PIPE, stderr=subprocess.PIPE, stdin=subprocess.DEVNULL, text=True)
+            ran = command(words)
         except OSError as why:
             sys.exit(f"batch: Slurm's sbatch does not run: {why}")
         if ran.returncode:
