@@ -1,9 +1,9 @@
 -- A closed listing of one of two systems that do the same, each state in place of which has one of the other, is a closed
 -- listing of the other.
-use Rattle.std.proofs.Common.{◌≡◌, ◌∙◌, ℕ, ◌+◌, ◌≤◌, List, map, None, refl, sym, ap, subst, arith}
-use Rattle.std.specs.Prelude.{true}
+use Rattle.std.proofs.Common.{◌≡◌, ◌∙◌, ℕ, ◌+◌, ◌≤◌, List, map, Bool, refl, sym, ap, subst, arith}
+use Rattle.std.specs.Prelude.{true, IsTrue}
 use Rattle.model.specs.Runs.{System, IsReachable}
-use Rattle.model.specs.Claims.{Claim, Allows, Line, IsListedWithin, IsClosed, IsLowerBound}
+use Rattle.model.specs.Claims.{Claim, Allows, opened, Line, IsListedWithin, IsClosed, IsLowerBound, AreDeadEnds}
 use Rattle.model.specs.Bisimulation.{IsBisimulation}
 use Rattle.model.proofs.ListLemmas.{Contains-map, map-Contains}
 use Rattle.model.proofs.BisimulationLemmas.{reachable_forth, run_forth, same_cost}
@@ -11,20 +11,21 @@ use Rattle.model.proofs.BisimulationLemmas.{reachable_forth, run_forth, same_cos
 module _ {S A T B : Type 0} (t : System S A) (u : System T B) (view : S → T) (names : A → B → Type 0) (both : IsBisimulation t u (λ s s'. view s ≡ s') names) where
   -- the line lists the state of the other system
   abbrev pub line_of : Line S → Line T
-  line_of line = record { state = view line.state; cost = line.cost; cut = line.cut }
+  line_of line = record { state = view line.state; cost = line.cost; mark = line.mark }
 
   listed : (lines : List (Line S)) (s : S) (s' : T) (cost : ℕ) → view s ≡ s' → IsListedWithin lines s cost → IsListedWithin (map line_of lines) s' cost
   listed lines s s' cost now (line, among, is, within) = (line_of line, Contains-map line_of lines line among, ap view is ∙ now, within)
 
-  -- where the values of the other are no lower
-  pub closed_forth : (value : S → ℕ) (value' : T → ℕ) → ((s : S) → value s ≤ value' (view s)) → (claim : Claim) (lines : List (Line S))
-      → IsClosed t value claim lines → IsClosed u value' claim (map line_of lines)
-  closed_forth value value' values claim lines closed = record {
+  -- where the values of the other are no lower, and what is told a dead end is told so there too
+  pub closed_forth : (value : S → ℕ) (value' : T → ℕ) → ((s : S) → value s ≤ value' (view s))
+      → (is_dead : S → Bool) (is_dead' : T → Bool) → ((s : S) → IsTrue (is_dead s) → IsTrue (is_dead' (view s)))
+      → (claim : Claim) (lines : List (Line S)) → IsClosed t value is_dead claim lines → IsClosed u value' is_dead' claim (map line_of lines)
+  closed_forth value value' values is_dead is_dead' deaths claim lines closed = record {
     initial_listed = listed lines t.initial u.initial 0 both.initial closed.initial_listed;
     successors_listed = λ line' b next' among is_open leads.
         let from = map-Contains line_of lines line' among in
         let line = from.0 in
-        let was_open : line.cut ≡ None = ap (λ (l : Line T). l.cut) from.2 ∙ is_open in
+        let was_open : line.mark ≡ opened = ap (λ (l : Line T). l.mark) from.2 ∙ is_open in
         let other = both.back line.state line'.state b next' (ap (λ (l : Line T). l.state) from.2) leads in
         let there = closed.successors_listed line other.0 other.1 from.1 was_open other.3 in
         let same : line.cost + t.cost other.0 ≡ line'.cost + u.cost b = omega (arith, ap (λ (l : Line T). l.cost) from.2, both.costs other.0 b other.2) in
@@ -32,15 +33,20 @@ module _ {S A T B : Type 0} (t : System S A) (u : System T B) (view : S → T) (
     open_goals_allowed = λ line' among is_open goal.
         let from = map-Contains line_of lines line' among in
         let line = from.0 in
-        let was_open : line.cut ≡ None = ap (λ (l : Line T). l.cut) from.2 ∙ is_open in
+        let was_open : line.mark ≡ opened = ap (λ (l : Line T). l.mark) from.2 ∙ is_open in
         let met : t.meets_goal line.state ≡ true = both.goals line.state line'.state (ap (λ (l : Line T). l.state) from.2) ∙ goal in
         subst (Allows claim) (ap (λ (l : Line T). l.cost) from.2) (closed.open_goals_allowed line from.1 was_open met);
     cuts_allowed = λ line' rest among is_cut.
         let from = map-Contains line_of lines line' among in
         let line = from.0 in
-        let allowed = closed.cuts_allowed line rest from.1 (ap (λ (l : Line T). l.cut) from.2 ∙ is_cut) in
+        let allowed = closed.cuts_allowed line rest from.1 (ap (λ (l : Line T). l.mark) from.2 ∙ is_cut) in
         let same : value' (view line.state) ≡ value' line'.state = ap (λ (l : Line T). value' l.state) from.2 in
         (omega (arith, allowed.0, values line.state, same), subst (λ cost. Allows claim (cost + rest)) (ap (λ (l : Line T). l.cost) from.2) allowed.1);
+    dead_are_dead = λ line' among marked.
+        let from = map-Contains line_of lines line' among in
+        let line = from.0 in
+        let there = closed.dead_are_dead line from.1 (ap (λ (l : Line T). l.mark) from.2 ∙ marked) in
+        subst (λ (s' : T). IsTrue (is_dead' s')) (ap (λ (l : Line T). l.state) from.2) (deaths line.state there);
   }
 
   -- values that are no more than what is still to pay in the other system are so in the one
@@ -49,3 +55,11 @@ module _ {S A T B : Type 0} (t : System S A) (u : System T B) (view : S → T) (
       let there = reachable_forth t u (λ s s'. view s ≡ s') names both s reached in
       let other = run_forth t u (λ s s'. view s ≡ s') names both plan s (view s) end refl runs in
       omega (arith, values s, lower (view s) other.1 other.0 (subst (IsReachable u) (sym there.1) there.2) other.3 (sym (both.goals end other.1 other.4) ∙ goal), same_cost t u (λ s s'. view s ≡ s') names both plan other.0 other.2)
+
+  -- what is told a dead end in the other system, and is one there, is one here
+  pub dead_ends_back : (is_dead : S → Bool) (is_dead' : T → Bool) → ((s : S) → IsTrue (is_dead s) → IsTrue (is_dead' (view s))) → AreDeadEnds u is_dead' → AreDeadEnds t is_dead
+  dead_ends_back is_dead is_dead' deaths dead_ends s end plan reached told runs =
+      let there = reachable_forth t u (λ s s'. view s ≡ s') names both s reached in
+      let other = run_forth t u (λ s s'. view s ≡ s') names both plan s (view s) end refl runs in
+      both.goals end other.1 other.4
+      ∙ dead_ends (view s) other.1 other.0 (subst (IsReachable u) (sym there.1) there.2) (deaths s told) other.3

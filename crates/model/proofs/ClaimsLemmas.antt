@@ -1,11 +1,12 @@
 -- A closed listing's claim is true.
-use Rattle.std.proofs.Common.{◌≡◌, ℕ, ◌+◌, ◌≤◌, List, [], ◌∷◌, ◌++◌, None, Some, refl, sym, ap, subst, arith}
-use Rattle.std.specs.Prelude.{IsTrue, Contains}
+use Rattle.std.proofs.Common.{◌≡◌, ◌∙◌, ℕ, ◌+◌, ◌≤◌, List, [], ◌∷◌, ◌++◌, None, Some, refl, sym, ap, subst, arith}
+use Rattle.std.specs.Prelude.{Bool, IsTrue, Contains}
 use Rattle.std.specs.Option.{option_and_then}
+use Rattle.std.proofs.lemmas.Bool.{false≢true}
 use Rattle.std.proofs.lemmas.List.Sums.{sum_by-cons}
 use Rattle.std.proofs.lemmas.Option.{same_Some}
 use Rattle.model.specs.Runs.{System, run, cost_of_all, IsReachable}
-use Rattle.model.specs.Claims.{Claim, bound, none, Allows, ClaimHolds, Line, IsClosed, IsLowerBound}
+use Rattle.model.specs.Claims.{Claim, bound, none, Allows, ClaimHolds, opened, cut, dead, Line, IsClosed, IsLowerBound, AreDeadEnds}
 
 Allows-≤ : (claim : Claim) (m n : ℕ) → Allows claim m → m ≤ n → Allows claim n
 Allows-≤ (bound least) m n allowed le = omega arith
@@ -27,15 +28,20 @@ reachable_next t s next a (actions, runs) leads = (actions ++ a ∷ [], run_on t
 
 -- ---- from a line on
 
-module _ {S A : Type 0} (t : System S A) (value : S → ℕ) (claim : Claim) (lines : List (Line S))
-    (lower : IsLowerBound t value) (closed : IsClosed t value claim lines) where
-  at_cut : (plan : List A) (line : Line S) (end : S) (rest : ℕ) → Contains lines line → line.cut ≡ Some rest → IsReachable t line.state → run t line.state plan ≡ Some end
+module _ {S A : Type 0} (t : System S A) (value : S → ℕ) (is_dead : S → Bool) (claim : Claim) (lines : List (Line S))
+    (lower : IsLowerBound t value) (dead_ends : AreDeadEnds t is_dead) (closed : IsClosed t value is_dead claim lines) where
+  at_cut : (plan : List A) (line : Line S) (end : S) (rest : ℕ) → Contains lines line → line.mark ≡ cut rest → IsReachable t line.state → run t line.state plan ≡ Some end
       → IsTrue (t.meets_goal end) → Allows claim (line.cost + cost_of_all t plan)
-  at_cut plan line end rest listed cut reached runs goal =
-      let allowed = closed.cuts_allowed line rest listed cut in
+  at_cut plan line end rest listed is_cut reached runs goal =
+      let allowed = closed.cuts_allowed line rest listed is_cut in
       Allows-≤ claim (line.cost + rest) (line.cost + cost_of_all t plan) allowed.1 (omega (arith, allowed.0, lower line.state end plan reached runs goal))
 
-  at_open_goal : (line : Line S) (end : S) → Contains lines line → line.cut ≡ None → run t line.state [] ≡ Some end → IsTrue (t.meets_goal end)
+  at_dead : (plan : List A) (line : Line S) (end : S) → Contains lines line → line.mark ≡ dead → IsReachable t line.state → run t line.state plan ≡ Some end
+      → IsTrue (t.meets_goal end) → Allows claim (line.cost + cost_of_all t plan)
+  at_dead plan line end listed is_dead reached runs goal =
+      absurd (false≢true (sym (dead_ends line.state end plan reached (closed.dead_are_dead line listed is_dead) runs) ∙ goal))
+
+  at_open_goal : (line : Line S) (end : S) → Contains lines line → line.mark ≡ opened → run t line.state [] ≡ Some end → IsTrue (t.meets_goal end)
       → Allows claim (line.cost + cost_of_all t [])
   at_open_goal line end listed is_open runs goal =
       let same : end ≡ line.state = cc in
@@ -45,13 +51,14 @@ module _ {S A : Type 0} (t : System S A) (value : S → ℕ) (claim : Claim) (li
   from_line : (plan : List A) (line : Line S) (end : S) → Contains lines line → IsReachable t line.state → run t line.state plan ≡ Some end → IsTrue (t.meets_goal end)
       → Allows claim (line.cost + cost_of_all t plan)
   from_line [] line end listed reached runs goal =
-      elim line.cut as (λ c. line.cut ≡ c → Allows claim (line.cost + cost_of_all t [])) [
-        | None ↦ λ is_open. at_open_goal line end listed is_open runs goal
-        | Some rest ↦ λ cut. at_cut [] line end rest listed cut reached runs goal
+      elim line.mark as (λ m. line.mark ≡ m → Allows claim (line.cost + cost_of_all t [])) [
+        | opened ↦ λ is_open. at_open_goal line end listed is_open runs goal
+        | cut rest ↦ λ is_cut. at_cut [] line end rest listed is_cut reached runs goal
+        | dead ↦ λ is_dead. at_dead [] line end listed is_dead reached runs goal
       ] refl
   from_line (a ∷ plan) line end listed reached runs goal =
-      elim line.cut as (λ c. line.cut ≡ c → Allows claim (line.cost + cost_of_all t (a ∷ plan))) [
-        | None ↦ λ is_open.
+      elim line.mark as (λ m. line.mark ≡ m → Allows claim (line.cost + cost_of_all t (a ∷ plan))) [
+        | opened ↦ λ is_open.
             elim (t.step line.state a) as (λ o. t.step line.state a ≡ o → option_and_then (λ next. run t next plan) o ≡ Some end → Allows claim (line.cost + cost_of_all t (a ∷ plan))) [
               | None ↦ λ _ none_runs. absurd (cc)
               | Some next ↦ λ leads runs_on.
@@ -60,13 +67,14 @@ module _ {S A : Type 0} (t : System S A) (value : S → ℕ) (claim : Claim) (li
                   (from_line plan there.0 end there.1 (subst (IsReachable t) (sym there.2) (reachable_next t line.state next a reached leads)) (subst (λ (s : S). run t s plan ≡ Some end) (sym there.2) runs_on) goal)
                   (omega (arith, there.3, sum_by-cons t.cost a plan))
             ] refl runs
-        | Some rest ↦ λ cut. at_cut (a ∷ plan) line end rest listed cut reached runs goal
+        | cut rest ↦ λ is_cut. at_cut (a ∷ plan) line end rest listed is_cut reached runs goal
+        | dead ↦ λ is_dead. at_dead (a ∷ plan) line end listed is_dead reached runs goal
       ] refl
 
-pub claim-of_closed : {S A : Type 0} (t : System S A) (value : S → ℕ) (claim : Claim) (lines : List (Line S))
-    → IsLowerBound t value → IsClosed t value claim lines → ClaimHolds t claim
-claim-of_closed t value claim lines lower closed plan solves =
+pub claim-of_closed : {S A : Type 0} (t : System S A) (value : S → ℕ) (is_dead : S → Bool) (claim : Claim) (lines : List (Line S))
+    → IsLowerBound t value → AreDeadEnds t is_dead → IsClosed t value is_dead claim lines → ClaimHolds t claim
+claim-of_closed t value is_dead claim lines lower dead_ends closed plan solves =
     let there = closed.initial_listed in
     Allows-≤ claim (there.0.cost + cost_of_all t plan) (cost_of_all t plan)
-    (from_line t value claim lines lower closed plan there.0 solves.0 there.1 (subst (IsReachable t) (sym there.2) ([], refl)) (subst (λ s. run t s plan ≡ Some solves.0) (sym there.2) solves.1) solves.2)
+    (from_line t value is_dead claim lines lower dead_ends closed plan there.0 solves.0 there.1 (subst (IsReachable t) (sym there.2) ([], refl)) (subst (λ s. run t s plan ≡ Some solves.0) (sym there.2) solves.1) solves.2)
     (omega (arith, there.3))

@@ -5,7 +5,7 @@ use Rattle.std.specs.List.{list_any, flat_map, filter_map, range_with_len}
 use Rattle.std.specs.Option.{option_map, option_map_or, option_and_then}
 use Rattle.std.specs.FinSet.{contains-from_list}
 use Rattle.model.specs.Task.{Atom, Formula, Schema, Task, Instance}
-use Rattle.model.specs.Meaning.{State, initial_state, fits, holds, has_amount, can_apply, Change, changes_of, changes_of_instance, after_changes, cost_of, step}
+use Rattle.model.specs.Meaning.{State, initial_state, fits, has_amount, can_apply, Change, changes_of, changes_of_instance, after_changes, cost_of, step}
 use Rattle.model.specs.Fluents.{static_atoms}
 use Rattle.model.specs.Instances.{all_instances}
 use Rattle.model.specs.SureLiterals.{Literal, is_true, is_false, are_same, are_different, literal_holds, sure}
