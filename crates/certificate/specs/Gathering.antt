@@ -1,10 +1,9 @@
 -- A text that goes to a sink in large pieces: bytes are held until there are many.
 use Rattle.std.specs.Prelude.{◌≡◌, ℕ, ℤ, List, ◌++◌, codes, Option}
 use Rattle.std.specs.Fmt.{decimal}
-use Rattle.std.specs.Option.{option_map_or}
 use Rattle.std.specs.Io.KnownBytes.{Appends}
 use Rattle.model.specs.Task.{Atom, Task}
-use Rattle.certificate_definitions.specs.Certificates.{StateLine}
+use Rattle.certificate_definitions.specs.Certificates.{Version, StateLine}
 use Rattle.certificate_definitions.specs.CertificateText.{atom, listed, whole_line}
 use Rattle.certificate_definitions.specs.CertificateNames.{weighted_atom}
 
@@ -12,16 +11,12 @@ use Rattle.certificate_definitions.specs.CertificateNames.{weighted_atom}
 abbrev pub IsPassedOn : (before after : Option (List ℕ)) → (held held_after : List ℕ) → List ℕ → Type 0
 IsPassedOn before after held held_after text = (written : List ℕ) × Appends before after written × (held ++ text ≡ written ++ held_after)
 
--- the line of an atom and its weight, and that of a listed state
-abbrev pub atom_line : Task → Atom × ℤ → List ℕ
-atom_line task a = whole_line (atom (weighted_atom task a))
+-- the line of an atom and its weights in this version, and that of a listed state
+abbrev pub atom_line : Task → Version → Atom × ℤ × ℤ → List ℕ
+atom_line task version a = whole_line (atom (weighted_atom task version a))
 
 abbrev pub state_line : StateLine → List ℕ
 state_line l = whole_line (listed l)
-
--- how the line of a state begins, before its atoms
-abbrev pub cost_text : StateLine → List ℕ
-cost_text l = option_map_or (λ (rest : ℕ). codes "cut " ++ decimal l.cost ++ codes " " ++ decimal rest) l.cut (codes "open " ++ decimal l.cost)
 
 -- a blank, and a name or a number
 abbrev pub name_text : List ℕ → List ℕ

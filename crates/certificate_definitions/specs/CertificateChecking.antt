@@ -1,10 +1,10 @@
 -- What is wrong with the lines of a certificate's text for a task, and which text is accepted for it. The lines are looked
 -- at in order, and the first at fault is told: by the text's own rules, or for what it says of the task.
-use Rattle.std.specs.Prelude.{◌≡◌, ℕ, ◌+◌, ◌⊎◌, IsTrue, List, [], ◌∷◌, ◌++◌, length, Contains, Option, IsSome}
+use Rattle.std.specs.Prelude.{◌≡◌, ℕ, ◌+◌, ◌⊎◌, IsTrue, List, [], ◌∷◌, ◌++◌, length, Contains, Option}
 use Rattle.model.specs.Task.{Atom, Task, Instance}
 use Rattle.model.specs.WellTyped.{is_atom}
 use Rattle.model.specs.Fluents.{is_fluent}
-use Rattle.model.specs.Claims.{none}
+use Rattle.model.specs.Claims.{none, Mark, cut}
 use Rattle.certificate_definitions.specs.Certificates.{Certificate, StateLine, IsClosedFor}
 use Rattle.certificate_definitions.specs.CertificateRefusals.{IsPlanWithin}
 use Rattle.certificate_definitions.specs.CertificateText.{NamedAtom, WeightedAtom, TextLine, claims, atom, listed, whole_line, text_of, BeginCertificate, IsFaultAfter}
@@ -22,6 +22,9 @@ HasAtom lines name = (a : WeightedAtom) × Contains lines (atom a) × (a.atom �
 abbrev pub ListsAtoms : List TextLine → List ℕ → Type 0
 ListsAtoms lines atoms = (l : StateLine) × Contains lines (listed l) × (l.atoms ≡ atoms)
 
+abbrev pub IsCut : Mark → Type 0
+IsCut mark = (rest : ℕ) × (mark ≡ cut rest)
+
 -- The line says what is wrong of the task, after these lines, and the number is told.
 pub data IsWrongAfter (task : Task) (before : List TextLine) : TextLine → ℕ → Type 0 where
   -- an atom that is not one of the task's, or whose predicate is static
@@ -31,7 +34,7 @@ pub data IsWrongAfter (task : Task) (before : List TextLine) : TextLine → ℕ 
   -- a state that stood in a line before
   repeated_state : (l : StateLine) → ListsAtoms before l.atoms → IsWrongAfter task before (listed l) 44
   -- a cut, where it is claimed that no list of actions solves
-  cut_not_allowed : (l : StateLine) → ¬ ListsAtoms before l.atoms → IsSome l.cut → Contains before (claims none) → IsWrongAfter task before (listed l) 52
+  cut_not_allowed : (l : StateLine) → ¬ ListsAtoms before l.atoms → IsCut l.mark → Contains before (claims none) → IsWrongAfter task before (listed l) 52
 
 -- nothing is wrong with any of these lines, after those before it
 abbrev pub AreRight : Task → List TextLine → Type 0

@@ -2,14 +2,16 @@
 -- `BeginCertificate` and `AreWhole` of `CertificateText`, a line at a time.
 use Rattle.std.specs.Prelude.{ℕ, ◌+◌, Bool, ◌&&◌, ◌==◌, nat_lt, if◌then◌else◌, List, [], ◌∷◌, Option, None, Some}
 use Rattle.std.specs.Option.{option_and_then}
+use Rattle.certificate_definitions.specs.Certificates.{Version}
 use Rattle.certificate_definitions.specs.CertificateText.{TextLine, version, claims, constant, atom, listed, last, is_line, most_atoms, most_states}
 
 pub data Place : Type 0 where
   at_version : Place
-  at_claim : Place
-  at_constant : Place
+  -- from here on in a text of this version
+  at_claim : Version → Place
+  at_constant : Version → Place
   -- after so many atoms, and so many states
-  in_body : ℕ → ℕ → Place
+  in_body : Version → ℕ → ℕ → Place
   ended : Place
 
 -- the place, where this is so
@@ -18,12 +20,12 @@ only_if holds place = if holds then Some place else None
 
 -- the place after one line more, and None where it may not stand there
 abbrev pub next_place : Place → TextLine → Option Place
-next_place at_version version = Some at_claim
-next_place at_claim (claims claim) = only_if (is_line 0 (claims claim)) at_constant
-next_place at_constant (constant k) = only_if (is_line 0 (constant k)) (in_body 0 0)
-next_place (in_body atoms states) (atom a) = only_if (states == 0 && nat_lt atoms most_atoms && is_line atoms (atom a)) (in_body (atoms + 1) states)
-next_place (in_body atoms states) (listed l) = only_if (nat_lt states most_states && is_line atoms (listed l)) (in_body atoms (states + 1))
-next_place (in_body atoms states) (last count) = only_if (count == states) ended
+next_place at_version (version v) = Some (at_claim v)
+next_place (at_claim v) (claims claim) = only_if (is_line v 0 (claims claim)) (at_constant v)
+next_place (at_constant v) (constant k) = only_if (is_line v 0 (constant k)) (in_body v 0 0)
+next_place (in_body v atoms states) (atom a) = only_if (states == 0 && nat_lt atoms most_atoms && is_line v atoms (atom a)) (in_body v (atoms + 1) states)
+next_place (in_body v atoms states) (listed l) = only_if (nat_lt states most_states && is_line v atoms (listed l)) (in_body v atoms (states + 1))
+next_place (in_body v atoms states) (last count) = only_if (count == states) ended
 next_place _ _ = None
 
 -- the place after these lines, from this one on

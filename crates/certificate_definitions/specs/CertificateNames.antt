@@ -1,5 +1,5 @@
 -- The names of a certificate's atoms, and the certificates of a task that a text says.
-use Rattle.std.specs.Prelude.{◌≡◌, ℕ, ℤ, Bool, ◌&&◌, List, [], ◌∷◌, map, position, slice_get, zip, Some}
+use Rattle.std.specs.Prelude.{◌≡◌, ℕ, ℤ, pos, Bool, ◌&&◌, List, [], ◌∷◌, map, position, slice_get, zip, None, Some}
 use Rattle.std.specs.List.{list_all}
 use Rattle.std.specs.Option.{option_map_or}
 use Rattle.model.specs.Task.{Name, Atom, Predicate, Task}
@@ -7,8 +7,9 @@ use Rattle.model.specs.WellTyped.{is_atom}
 use Rattle.model.specs.Resolution.{is_same}
 use Rattle.model.specs.PlanText.{object_names}
 use Rattle.model.specs.PlanWriting.{object_name, are_lower_names}
-use Rattle.certificate_definitions.specs.Certificates.{Certificate}
-use Rattle.certificate_definitions.specs.CertificateText.{NamedAtom, WeightedAtom, NamedCertificate, IsCertificateText, text_lines, text_of}
+use Rattle.certificate_definitions.specs.Certificates.{Version, one, two, Certificate}
+use Rattle.potential_functions.specs.PotentialFunctions.{PotentialFunction}
+use Rattle.certificate_definitions.specs.CertificateText.{NamedAtom, Weights, WeightedAtom, NamedCertificate, IsCertificateText, text_lines, text_of}
 
 abbrev pub predicate_names : Task → List Name
 predicate_names task = map (λ (p : Predicate). p.name) task.predicates
@@ -21,16 +22,22 @@ predicate_name task number = option_map_or (λ (p : Predicate). p.name) (slice_g
 abbrev pub named_atom : Task → Atom → NamedAtom
 named_atom task a = record { predicate = predicate_name task a.predicate; objects = map (object_name task) a.objects }
 
--- atoms by their names, each with its weight
-abbrev pub weighted_atom : Task → Atom × ℤ → WeightedAtom
-weighted_atom task (a, weight) = record { weight = weight; atom = named_atom task a }
+-- a constant, or a weight, of values and of dead ends, as it is written in this version
+abbrev pub weights_in : Version → ℤ → ℤ → Weights
+weights_in one of_value of_dead_end = record { of_value = of_value; of_dead_end = None }
+weights_in two of_value of_dead_end = record { of_value = of_value; of_dead_end = Some of_dead_end }
+
+-- atoms by their names, each with its weights
+abbrev pub weighted_atom : Task → Version → Atom × ℤ × ℤ → WeightedAtom
+weighted_atom task version (a, of_value, of_dead_end) = record { weights = weights_in version of_value of_dead_end; atom = named_atom task a }
 
 -- a certificate by its atoms' names
 abbrev pub named : Task → Certificate → NamedCertificate
 named task c = record {
+  version = c.version;
   claim = c.claim;
-  constant = c.potentials.constant;
-  atoms = map (weighted_atom task) (zip c.atoms c.potentials.weights);
+  constants = weights_in c.version c.potentials.constant c.dead_ends.constant;
+  atoms = map (weighted_atom task c.version) (zip c.atoms (zip c.potentials.weights c.dead_ends.weights));
   lines = c.lines;
 }
 
@@ -59,13 +66,26 @@ AllName task [] (a ∷ atoms) = ⊥
 AllName task (name ∷ names) [] = ⊥
 AllName task (name ∷ names) (a ∷ atoms) = Names task name a × AllName task names atoms
 
+-- what a text says of values
+abbrev pub potentials_said : NamedCertificate → PotentialFunction
+potentials_said said = record { constant = said.constants.of_value; weights = map (λ (a : WeightedAtom). a.weights.of_value) said.atoms }
+
+-- and of dead ends, where 0 stands for what version 1 does not write
+abbrev pub of_dead_end_or_zero : Weights → ℤ
+of_dead_end_or_zero w = option_map_or (λ (n : ℤ). n) w.of_dead_end (pos 0)
+
+abbrev pub dead_ends_said : NamedCertificate → PotentialFunction
+dead_ends_said said = record { constant = of_dead_end_or_zero said.constants; weights = map (λ (a : WeightedAtom). of_dead_end_or_zero a.weights) said.atoms }
+
 -- The text is this certificate of the task.
 pub record IsTextOf (task : Task) (bytes : List ℕ) (c : Certificate) : Type 0 where
   pub said : NamedCertificate
   pub text : IsCertificateText bytes said
+  pub version : said.version ≡ c.version
   pub claim : said.claim ≡ c.claim
   pub atoms : AllName task (map (λ (a : WeightedAtom). a.atom) said.atoms) c.atoms
-  pub potentials : c.potentials ≡ record { constant = said.constant; weights = map (λ (a : WeightedAtom). a.weight) said.atoms }
+  pub potentials : c.potentials ≡ potentials_said said
+  pub dead_ends : c.dead_ends ≡ dead_ends_said said
   pub lines : said.lines ≡ c.lines
 
 -- ---- what can be written

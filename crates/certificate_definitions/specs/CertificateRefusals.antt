@@ -8,10 +8,10 @@ use Rattle.model.specs.Limits.{max_numbered_atoms}
 use Rattle.model.specs.ClosedOff.{kept_instances}
 use Rattle.model.specs.NumberedAtoms.{numbered_atoms}
 use Rattle.model.specs.Grounding.{limit_told}
-use Rattle.model.specs.Claims.{Claim, bound, none, Allows, Line, IsListedWithin}
+use Rattle.model.specs.Claims.{Claim, bound, none, Allows, opened, cut, dead, Line, IsListedWithin}
 use Rattle.potential_functions.specs.Fair.{IsFairAt, IsFairAtGoals}
 use Rattle.model.specs.Fluents.{is_fluent}
-use Rattle.certificate_definitions.specs.Certificates.{Certificate, lines_of, value_of}
+use Rattle.certificate_definitions.specs.Certificates.{Certificate, lines_of, value_of, is_dead_end_of}
 
 -- the reasons, each with the number that is told
 pub data Reason : Type 0 where
@@ -28,6 +28,9 @@ pub data Reason : Type 0 where
   plan_invalid : Reason  -- 53
   plan_dearer : Reason  -- 54
   limit : Reason  -- 55
+  dead_unfair : Reason  -- 56
+  dead_unfair_goal : Reason  -- 57
+  not_dead : Reason  -- 58
 
 -- The lines of a certificate's text are counted from 1: its version, its claim and its constant come first, then its
 -- atoms, a line each, and then its states.
@@ -59,7 +62,7 @@ IsRepeatedState task c line =
 
 -- this line lists an open state, from which this instance leads to this state
 abbrev pub LeadsFrom : Task → Certificate → ℕ → Line State → Instance → State → Type 0
-LeadsFrom task c line l i next = HasState task c line l × (l.cut ≡ None) × (step task l.state i ≡ Some next)
+LeadsFrom task c line l i next = HasState task c line l × (l.mark ≡ opened) × (step task l.state i ≡ Some next)
 
 -- What is wrong with a line of the certificate's text.
 abbrev pub IsWrongLine : Task → Certificate → Reason → ℕ → Type 0
@@ -68,7 +71,7 @@ IsWrongLine task c not_fluent line = (a : Atom) × HasAtom c line a × ((is_atom
 -- its atom, or its state, stands in a line before
 IsWrongLine task c repeated line = IsRepeatedAtom c line ⊎ IsRepeatedState task c line
 -- its open state meets the goal, at a cost that the claim does not allow
-IsWrongLine task c goal_open line = (l : Line State) × HasState task c line l × (l.cut ≡ None) × IsTrue (meets_goal task l.state) × ¬ Allows c.claim l.cost
+IsWrongLine task c goal_open line = (l : Line State) × HasState task c line l × (l.mark ≡ opened) × IsTrue (meets_goal task l.state) × ¬ Allows c.claim l.cost
 -- an instance leads from its open state to one that is not listed
 IsWrongLine task c successor_missing line =
     (l : Line State) × (i : Instance) × (next : State) × LeadsFrom task c line l i next × ¬ IsListed (lines_of task c) next
@@ -78,9 +81,11 @@ IsWrongLine task c successor_dearer line =
     × ¬ IsListedWithin (lines_of task c) next (l.cost + (system_of task).cost i)
 -- its cut's bound is more than the state's value, or what it claims is less than what is claimed
 IsWrongLine task c cut_weak line =
-    (l : Line State) × (rest : ℕ) × HasState task c line l × (l.cut ≡ Some rest) × ((value_of c l.state < rest) ⊎ ¬ Allows c.claim (l.cost + rest))
+    (l : Line State) × (rest : ℕ) × HasState task c line l × (l.mark ≡ cut rest) × ((value_of c l.state < rest) ⊎ ¬ Allows c.claim (l.cost + rest))
 -- it is a cut, and it is claimed that no list solves
-IsWrongLine task c cut_not_allowed line = (l : Line State) × (rest : ℕ) × HasState task c line l × (l.cut ≡ Some rest) × (c.claim ≡ none)
+IsWrongLine task c cut_not_allowed line = (l : Line State) × (rest : ℕ) × HasState task c line l × (l.mark ≡ cut rest) × (c.claim ≡ none)
+-- it is listed as a dead end, and its value is not at least 1
+IsWrongLine task c not_dead line = (l : Line State) × HasState task c line l × (l.mark ≡ dead) × (is_dead_end_of c l.state ≡ false)
 IsWrongLine task c _ line = ⊥
 
 -- What is wrong, and not with a line: with the whole certificate, with the plan, if one is handed in, or with the
@@ -98,12 +103,17 @@ IsWrong task c plan most unfair =
     (i : Instance) × Contains (kept_instances task) i × ¬ IsFairAt (cost_of task i) task (numbered_atoms task c.atoms) c.potentials.weights i
 -- more than 0 may be left at a goal
 IsWrong task c plan most unfair_goal = ¬ IsFairAtGoals task (numbered_atoms task c.atoms) c.potentials
+-- a kept instance may make the second sum of weights fall
+IsWrong task c plan most dead_unfair =
+    (i : Instance) × Contains (kept_instances task) i × ¬ IsFairAt 0 task (numbered_atoms task c.atoms) c.dead_ends.weights i
+-- more than 0 of it may be left at a goal
+IsWrong task c plan most dead_unfair_goal = ¬ IsFairAtGoals task (numbered_atoms task c.atoms) c.dead_ends
 -- more instances are kept, or too many atoms have numbers
 IsWrong task c plan most limit = IsSome (limit_told most max_numbered_atoms task c.atoms)
 IsWrong task c plan most _ = ⊥
 
 -- The checker looks for what is wrong in this order: it reads the lines one by one, grounds the task, looks whether the
--- potential function is fair, looks for the initial state, goes through the state lines one by one, and holds the plan
+-- potential functions are fair and dead-fair, looks for the initial state, goes through the state lines one by one, and holds the plan
 -- against the claim.
 abbrev pub stage_of : Reason → ℕ
 stage_of not_fluent = 0
@@ -112,11 +122,14 @@ stage_of cut_not_allowed = 0
 stage_of limit = 1
 stage_of unfair = 2
 stage_of unfair_goal = 2
+stage_of dead_unfair = 2
+stage_of dead_unfair_goal = 2
 stage_of no_initial = 3
 stage_of goal_open = 4
 stage_of successor_missing = 4
 stage_of successor_dearer = 4
 stage_of cut_weak = 4
+stage_of not_dead = 4
 stage_of plan_invalid = 5
 stage_of plan_dearer = 5
 
@@ -125,6 +138,8 @@ abbrev pub rank_of : Reason → ℕ
 rank_of repeated = 1
 rank_of cut_not_allowed = 2
 rank_of unfair_goal = 1
+rank_of dead_unfair = 2
+rank_of dead_unfair_goal = 3
 rank_of successor_missing = 1
 rank_of successor_dearer = 1
 rank_of plan_dearer = 1

@@ -1,11 +1,11 @@
--- The text of a certificate, version 1, and the first line at which a text that is none is at fault. The format is this
+-- The text of a certificate, version 1 or 2, and the first line at which a text that is none is at fault. The format is this
 -- repository's own; docs/certificates.md shows it. Every certificate has one text, and a text is at most one certificate.
-use Rattle.std.specs.Prelude.{◌≡◌, ◌≢◌, ℕ, ◌+◌, ◌<◌, ◌≤◌, Bool, true, ◌&&◌, nat_le, ℤ, IsTrue, List, [], ◌∷◌, ◌++◌, codes, length, map, Contains}
+use Rattle.std.specs.Prelude.{◌≡◌, ◌≢◌, ℕ, ◌+◌, ◌<◌, ◌≤◌, Bool, true, false, ◌&&◌, nat_le, ℤ, IsTrue, List, [], ◌∷◌, ◌++◌, codes, length, map, Contains, Option}
 use Rattle.std.specs.Fmt.{decimal, signed_decimal}
 use Rattle.std.specs.List.{flat_map, list_all}
 use Rattle.std.specs.Option.{option_map_or}
-use Rattle.model.specs.Claims.{Claim, bound, none}
-use Rattle.certificate_definitions.specs.Certificates.{StateLine, is_number, is_weight, is_claim, is_state_line}
+use Rattle.model.specs.Claims.{Claim, bound, none, Mark, opened, cut, dead}
+use Rattle.certificate_definitions.specs.Certificates.{Version, one, two, StateLine, is_number, is_weight, is_claim, is_state_line}
 use Rattle.model.specs.PlanWriting.{is_lower_name}
 
 -- ---- what stands in a text
@@ -15,23 +15,29 @@ pub record NamedAtom : Type 0 where
   pub predicate : List ℕ
   pub objects : List (List ℕ)
 
--- an atom and its weight
+-- two constants, or the two weights of an atom: that of the values, and that of dead ends, which version 2 alone writes
+pub record Weights : Type 0 where
+  pub of_value : ℤ
+  pub of_dead_end : Option ℤ
+
+-- an atom and its weights
 pub record WeightedAtom : Type 0 where
-  pub weight : ℤ
+  pub weights : Weights
   pub atom : NamedAtom
 
--- what a text says: a claim, a potential function, and a listing of states, each by the numbers of its atoms, from 0 on
+-- what a text says: a claim, two potential functions, and a listing of states, each by the numbers of its atoms, from 0 on
 pub record NamedCertificate : Type 0 where
+  pub version : Version
   pub claim : Claim
-  pub constant : ℤ
+  pub constants : Weights
   pub atoms : List WeightedAtom
   pub lines : List StateLine
 
 -- a line of a text
 pub data TextLine : Type 0 where
-  version : TextLine
+  version : Version → TextLine
   claims : Claim → TextLine
-  constant : ℤ → TextLine
+  constant : Weights → TextLine
   atom : WeightedAtom → TextLine
   listed : StateLine → TextLine
   -- the last line, with the count of those that list states
@@ -41,16 +47,28 @@ pub data TextLine : Type 0 where
 abbrev pub after_blank : List ℕ → List ℕ
 after_blank word = codes " " ++ word
 
+abbrev pub version_number : Version → ℕ
+version_number one = 1
+version_number two = 2
+
+-- one number, or two with a blank between them
+abbrev pub weights_text : Weights → List ℕ
+weights_text w = signed_decimal w.of_value ++ option_map_or (λ (other : ℤ). after_blank (signed_decimal other)) w.of_dead_end []
+
+-- a state's mark and its cost, and of a cut what follows at least
+abbrev pub mark_text : Mark → ℕ → List ℕ
+mark_text opened cost = codes "open " ++ decimal cost
+mark_text (cut rest) cost = codes "cut " ++ decimal cost ++ after_blank (decimal rest)
+mark_text dead cost = codes "dead " ++ decimal cost
+
 -- the bytes of a line, without its LF
 abbrev pub line_text : TextLine → List ℕ
-line_text version = codes "pddl-cert 1"
+line_text (version v) = codes "pddl-cert " ++ decimal (version_number v)
 line_text (claims (bound least)) = codes "claim bound " ++ decimal least
 line_text (claims none) = codes "claim none"
-line_text (constant k) = codes "constant " ++ signed_decimal k
-line_text (atom a) = codes "atom " ++ signed_decimal a.weight ++ codes " (" ++ a.atom.predicate ++ flat_map after_blank a.atom.objects ++ codes ")"
-line_text (listed l) =
-    option_map_or (λ (rest : ℕ). codes "cut " ++ decimal l.cost ++ after_blank (decimal rest)) l.cut (codes "open " ++ decimal l.cost)
-    ++ flat_map (λ (number : ℕ). after_blank (decimal number)) l.atoms
+line_text (constant k) = codes "constant " ++ weights_text k
+line_text (atom a) = codes "atom " ++ weights_text a.weights ++ codes " (" ++ a.atom.predicate ++ flat_map after_blank a.atom.objects ++ codes ")"
+line_text (listed l) = mark_text l.mark l.cost ++ flat_map (λ (number : ℕ). after_blank (decimal number)) l.atoms
 line_text (last count) = codes "end " ++ decimal count
 
 -- a line with its LF
@@ -63,7 +81,7 @@ text_of lines = flat_map whole_line lines
 
 -- the certificate's lines: its atoms stand before its states
 abbrev pub text_lines : NamedCertificate → List TextLine
-text_lines c = version ∷ claims c.claim ∷ constant c.constant ∷ map atom c.atoms ++ map listed c.lines ++ last (length c.lines) ∷ []
+text_lines c = version c.version ∷ claims c.claim ∷ constant c.constants ∷ map atom c.atoms ++ map listed c.lines ++ last (length c.lines) ∷ []
 
 -- ---- limits
 
@@ -77,21 +95,26 @@ most_states = 16777216
 abbrev pub longest_line : ℕ
 longest_line = 16777216
 
--- The line keeps the limits by itself, in a text of so many atoms: numbers are below 2 to the power 60, the constant and
+-- a constant or a weight, with a second one in version 2 alone
+abbrev pub are_weights : Version → Weights → Bool
+are_weights one w = is_weight w.of_value && option_map_or (λ _. false) w.of_dead_end true
+are_weights two w = is_weight w.of_value && option_map_or is_weight w.of_dead_end false
+
+-- The line keeps the limits by itself, in a text of this version and of so many atoms: numbers are below 2 to the power 60, the constant and
 -- weights are at most 2147483647 either way, names are names of a domain file in lower case (PDDL 1.2 manual, "Domains") of
 -- at most 255 bytes, the numbers of a state's atoms rise and are those of atoms, and the line is not too long.
-abbrev pub is_line : ℕ → TextLine → Bool
-is_line atom_count version = true
-is_line atom_count (claims claim) = is_claim claim
-is_line atom_count (constant k) = is_weight k
-is_line atom_count (atom a) = is_weight a.weight && list_all is_lower_name (a.atom.predicate ∷ a.atom.objects) && nat_le (length (line_text (atom a))) longest_line
-is_line atom_count (listed l) = is_state_line atom_count l
-is_line atom_count (last count) = is_number count
+abbrev pub is_line : Version → ℕ → TextLine → Bool
+is_line v atom_count (version w) = true
+is_line v atom_count (claims claim) = is_claim claim
+is_line v atom_count (constant k) = are_weights v k
+is_line v atom_count (atom a) = are_weights v a.weights && list_all is_lower_name (a.atom.predicate ∷ a.atom.objects) && nat_le (length (line_text (atom a))) longest_line
+is_line v atom_count (listed l) = is_state_line v atom_count l
+is_line v atom_count (last count) = is_number count
 
 -- the certificate keeps all limits
 abbrev pub keeps_text_limits : NamedCertificate → Bool
 keeps_text_limits c =
-    nat_le (length c.atoms) most_atoms && nat_le (length c.lines) most_states && list_all (is_line (length c.atoms)) (text_lines c)
+    nat_le (length c.atoms) most_atoms && nat_le (length c.lines) most_states && list_all (is_line c.version (length c.atoms)) (text_lines c)
 
 -- The text is this certificate.
 pub record IsCertificateText (text : List ℕ) (c : NamedCertificate) : Type 0 where
@@ -114,18 +137,18 @@ MayFollow before bytes = (line : TextLine) × BeginCertificate (before ++ line �
 
 -- they are the first line of another version
 abbrev pub IsOtherVersion : List TextLine → List ℕ → Type 0
-IsOtherVersion before bytes = (before ≡ []) × (number : ℕ) × IsTrue (is_number number) × (number ≢ 1) × (bytes ≡ codes "pddl-cert " ++ decimal number)
+IsOtherVersion before bytes = (before ≡ []) × (number : ℕ) × IsTrue (is_number number) × (number ≢ 1) × (number ≢ 2) × (bytes ≡ codes "pddl-cert " ++ decimal number)
 
 -- the lines are the first ones, and then so many of these atoms and these states
-abbrev pub head_lines : Claim → ℤ → List WeightedAtom → List StateLine → List TextLine
-head_lines claim k atoms lines = version ∷ claims claim ∷ constant k ∷ map atom atoms ++ map listed lines
+abbrev pub head_lines : Version → Claim → Weights → List WeightedAtom → List StateLine → List TextLine
+head_lines v claim k atoms lines = version v ∷ claims claim ∷ constant k ∷ map atom atoms ++ map listed lines
 
 -- they are a line of an atom, or of a state, that may stand there but for the limit, which the lines before have used up
 pub data IsOneTooMany (before : List TextLine) (bytes : List ℕ) : Type 0 where
-  atoms : (claim : Claim) (k : ℤ) (all : List WeightedAtom) (a : WeightedAtom) → before ≡ head_lines claim k all [] → length all ≡ most_atoms
-      → IsTrue (is_line most_atoms (atom a)) → bytes ≡ line_text (atom a) → IsOneTooMany before bytes
-  states : (claim : Claim) (k : ℤ) (all : List WeightedAtom) (lines : List StateLine) (l : StateLine) → before ≡ head_lines claim k all lines
-      → length lines ≡ most_states → IsTrue (is_line (length all) (listed l)) → bytes ≡ line_text (listed l) → IsOneTooMany before bytes
+  atoms : (v : Version) (claim : Claim) (k : Weights) (all : List WeightedAtom) (a : WeightedAtom) → before ≡ head_lines v claim k all [] → length all ≡ most_atoms
+      → IsTrue (is_line v most_atoms (atom a)) → bytes ≡ line_text (atom a) → IsOneTooMany before bytes
+  states : (v : Version) (claim : Claim) (k : Weights) (all : List WeightedAtom) (lines : List StateLine) (l : StateLine) → before ≡ head_lines v claim k all lines
+      → length lines ≡ most_states → IsTrue (is_line v (length all) (listed l)) → bytes ≡ line_text (listed l) → IsOneTooMany before bytes
 
 -- no LF stands in these bytes
 abbrev pub IsInOneLine : List ℕ → Type 0

@@ -3,6 +3,11 @@ use Rattle.std.specs.Prelude.{ℕ, List, map}
 use Rattle.std.specs.Global.{Vec}
 use Rattle.certificate_reader.specs.declared.line.Claim.{Claim}
 use Rattle.certificate_reader.specs.declared.line.Claim.TheVariants.{Bound, Unsolvable}
+use Rattle.certificate_reader.specs.declared.line.Version.{Version}
+use Rattle.certificate_reader.specs.declared.line.Version.TheVariants.{One, Two}
+use Rattle.certificate_reader.specs.declared.line.Weights.{Weights}
+use Rattle.certificate_reader.specs.declared.line.Mark.{Mark}
+use Rattle.certificate_reader.specs.declared.line.Mark.TheVariants.{Open, Cut, Dead}
 use Rattle.certificate_reader.specs.declared.line.StateLine.{StateLine}
 use Rattle.certificate_reader.specs.declared.line.NamedAtom.{NamedAtom}
 use Rattle.certificate_reader.specs.declared.line.CertLine.{CertLine}
@@ -15,8 +20,20 @@ abbrev pub claim_of : Claim → claims.Claim
 claim_of (Bound least) = claims.bound least
 claim_of Unsolvable = claims.none
 
+abbrev pub version_of : Version → certificates.Version
+version_of One = certificates.one
+version_of Two = certificates.two
+
+abbrev pub weights_of : Weights → text.Weights
+weights_of w = record { of_value = w.of_value; of_dead_end = w.of_dead_end }
+
+abbrev pub mark_of : Mark → claims.Mark
+mark_of Open = claims.opened
+mark_of (Cut rest) = claims.cut rest
+mark_of Dead = claims.dead
+
 abbrev pub line_of : StateLine → certificates.StateLine
-line_of l = record { cost = l.cost; cut = l.cut; atoms = l.atoms.items }
+line_of l = record { cost = l.cost; mark = mark_of l.mark; atoms = l.atoms.items }
 
 abbrev pub name_of : Vec ℕ → List ℕ
 name_of name = name.items
@@ -25,9 +42,9 @@ abbrev pub named_atom_of : NamedAtom → text.NamedAtom
 named_atom_of a = record { predicate = name_of a.predicate; objects = map name_of a.objects.items }
 
 abbrev pub text_line_of : CertLine → text.TextLine
-text_line_of line.Head = text.version
+text_line_of (line.Version version) = text.version (version_of version)
 text_line_of (line.Claim claim) = text.claims (claim_of claim)
-text_line_of (line.Constant k) = text.constant k
-text_line_of (line.Weight weight a) = text.atom (record { weight = weight; atom = named_atom_of a })
+text_line_of (line.Constants k) = text.constant (weights_of k)
+text_line_of (line.Weight weights a) = text.atom (record { weights = weights_of weights; atom = named_atom_of a })
 text_line_of (line.Listed l) = text.listed (line_of l)
 text_line_of (line.Last count) = text.last count

@@ -6,7 +6,7 @@ pub const MAX_ATOMS: usize = 1_048_576;
 /// The most state lines that a certificate may have.
 pub const MAX_STATE_LINES: usize = 16_777_216;
 
-/// The constant of a certificate's potential function and each of its weights is at most this, and no less than its negative.
+/// Each constant of a certificate and each of its weights is at most this, and no less than its negative.
 pub const MAX_WEIGHT: i64 = 2_147_483_647;
 
 /// Each cost and each bound in a certificate is below this number, 2 to the power 60.
@@ -24,13 +24,46 @@ pub enum Claim {
     Unsolvable,
 }
 
-/// A state of the listing: open, so that all its successors are listed too, or cut.
+/// The version of a certificate's text. In version 2 a state may be listed as a dead end, and each atom has a second weight,
+/// by which dead ends are told.
+#[derive(Clone, Copy, Debug, PartialEq, Eq)]
+pub enum Version {
+    /// `pddl-cert 1`.
+    One,
+    /// `pddl-cert 2`.
+    Two,
+}
+
+/// Two constants, or the two weights of an atom.
+#[derive(Clone, Copy, Debug, PartialEq, Eq)]
+pub struct Weights {
+    /// That by which a state has a value, a lower bound of what is still to pay from it on.
+    pub of_value: i64,
+    /// That by which a state is told a dead end. Version 1 has none.
+    pub of_dead_end: Option<i64>,
+}
+
+/// What a listing says of a state.
+#[derive(Clone, Copy, Debug, PartialEq, Eq)]
+pub enum Mark {
+    /// All its successors are listed too.
+    Open,
+    /// It stands for all that follows it.
+    Cut {
+        /// A lower bound of what is still to pay from the state on.
+        rest: u64,
+    },
+    /// No plan leads from it to the goal. Version 1 has no such states.
+    Dead,
+}
+
+/// A state of the listing.
 #[derive(Debug, PartialEq, Eq, Drop)]
 pub struct StateLine {
     /// The cost at which the state is listed.
     pub cost: u64,
-    /// Of a cut, a lower bound of what is still to pay from the state on; `None` for an open state.
-    pub cut: Option<u64>,
+    /// What is said of it.
+    pub mark: Mark,
     /// The state's fluent atoms, by their places, from 0, among the certificate's atoms, rising.
     pub atoms: Vec<u32>,
 }
@@ -47,20 +80,20 @@ pub struct NamedAtom {
 /// A line of a certificate's text, by what it says.
 #[derive(Debug, PartialEq, Eq, Drop)]
 pub enum CertLine {
-    /// The first line, with the version of the format: `pddl-cert 1`.
-    Head,
+    /// The first line: `pddl-cert 2`.
+    Version(Version),
     /// The claim: `claim bound 6`, `claim none`.
     Claim(Claim),
-    /// The constant of the potential function: `constant 6`.
-    Constant(i64),
-    /// An atom and its weight: `atom -3 (at b)`.
+    /// The constants of the potential functions: `constant 6 1`, and in version 1 `constant 6`.
+    Constants(Weights),
+    /// An atom and its weights: `atom -3 0 (at b)`, and in version 1 `atom -3 (at b)`.
     Weight {
-        /// The weight.
-        weight: i64,
+        /// The weights.
+        weights: Weights,
         /// The atom.
         atom: NamedAtom,
     },
-    /// A state: `open 3 0 2`, `cut 6 0 1`.
+    /// A state: `open 3 0 2`, `cut 6 2 0 1`, `dead 1 2`.
     Listed(StateLine),
     /// The last line, with the count of the lines that list states: `end 2`.
     Last {
