@@ -58,7 +58,11 @@ impl Parent<'_> {
         if guide.dead_ends.dead(next) {
             None
         } else {
-            Some(value_of(guide.estimate.score_after(self.score, self.state, action, next)))
+            Some(value_of(
+                guide
+                    .estimate
+                    .score_after(self.score, self.state, action, next),
+            ))
         }
     }
 }
