@@ -14,8 +14,11 @@ use packed_state::Packed;
 use std::alloc::Global;
 use std::num::{nearest_i64_to_f64, saturating_f64_to_i64};
 
+/// How many states are sampled.
+const SAMPLES: u32 = 16;
+
 /// How many numbers the simplex algorithm may look at, for all states.
-const MAX_WORK: u64 = 1_048_576;
+const MAX_WORK: u64 = 524_288;
 
 /// By how much the least weight may be multiplied, so that all are whole numbers.
 const MAX_FACTOR: i64 = 60;
@@ -49,7 +52,7 @@ impl DeadDrafts {
         ground: &Ground<'_>,
         initial: &Packed,
     ) -> Result<DeadDrafts, NoMemory> {
-        let mut states = sampled(alloc, ground, initial)?;
+        let mut states = sampled(alloc, ground, initial, SAMPLES)?;
         states.insert(0, true_atoms(alloc, initial)?)?;
         let mut tables = Tables::new(alloc, ground)?;
         tables.forget_costs();

@@ -20,6 +20,6 @@ impl DeadEnd for DeadFair<'_, '_> {
     ghost tells_dead_ends = { λ test. test.dead_ends };
 
     fn dead(&self, state: &Packed) -> bool {
-        self.may_tell() && self.potentials().value(state) >= 1
+        !self.tell_none() && self.potentials().value(state) >= 1
     }
 }

@@ -1,5 +1,5 @@
 //! Dead-fair potentials, which tell dead ends.
-ghost use Rattle.std.specs.Prelude.{◌≡◌, Bool, List, false, length};
+ghost use Rattle.std.specs.Prelude.{◌≡◌, ◌≤ℤ◌, ◌↔◌, pos, Bool, List, true, false, All, IsTrue, length};
 ghost use Rattle.std.proofs.Props.{props};
 ghost use Rattle.grounding.specs.Ground.{task_in, atoms_in};
 ghost use Rattle.model.specs.Grounding.{ground_system};
@@ -17,11 +17,11 @@ use std::alloc::Global;
 pub struct DeadFair<'g, 't> {
     potentials: Potentials,
     ground: &'g Ground<'t>,
-    /// Where it is false, no state has such a value.
-    may_tell: bool,
+    /// That no state has such a value.
+    tell_none: bool,
     ghost width: { length (potentials_of potentials).weights ≡ length (atoms_in ground.now) } by { Prim.hlevel props },
     ghost dead_ends: { TellsDeadEnds (ground_system (task_in ground.now) (atoms_in ground.now)) (is_dead_by (potentials_of potentials)) } by { Prim.hlevel props },
-    ghost silent: { may_tell ≡ false → (bits : List Bool) → is_dead_by (potentials_of potentials) bits ≡ false } by { Prim.hlevel props },
+    ghost none: { IsTrue tell_none → (bits : List Bool) → is_dead_by (potentials_of potentials) bits ≡ false } by { Prim.hlevel props },
 }
 
 impl<'g, 't> DeadFair<'g, 't> {
@@ -52,11 +52,11 @@ impl<'g, 't> DeadFair<'g, 't> {
         requires dead_fair { AreDeadFair (task_in ground.now) (atoms_in ground.now) (potentials_of potentials) }
         ensures { AreOf ground.now (potentials_of potentials) result }
     {
-        let may_tell = may_tell(&potentials);
+        let tell_none = tell_none(&potentials);
         DeadFair {
             potentials,
             ground,
-            may_tell,
+            tell_none,
         }
     }
 
@@ -74,18 +74,24 @@ impl<'g, 't> DeadFair<'g, 't> {
         self.ground
     }
 
-    /// Whether there may be a state with a value of at least 1.
-    pub(crate) fn may_tell(&self) -> bool
-        ensures { result ≡ false → (bits : List Bool) → is_dead_by (potentials_in self.now) bits ≡ false }
+    /// Whether it is known that no state has a value of at least 1.
+    pub(crate) fn tell_none(&self) -> bool
+        ensures { IsTrue result → (bits : List Bool) → is_dead_by (potentials_in self.now) bits ≡ false }
     {
-        self.may_tell
+        self.tell_none
     }
 }
 
-/// Whether there may be a state to which the potentials give a value of at least 1: there is none where the constant is at
-/// most 0 and so is each weight.
-fn may_tell(potentials: &Potentials) -> bool
-    ensures { result ≡ false → (bits : List Bool) → is_dead_by (potentials_of potentials.now) bits ≡ false }
+/// Whether the constant is at most 0 and so is each weight, so that no state has a value of at least 1.
+fn tell_none(potentials: &Potentials) -> bool
+    ensures { IsTrue result → (bits : List Bool) → is_dead_by (potentials_of potentials.now) bits ≡ false }
 {
-    potentials.constant() > 0 || potentials.weights().iter().any(|weight| *weight > 0)
+    potentials.constant() <= 0 && are_at_most_zero(potentials.weights())
+}
+
+/// Whether each is at most 0.
+fn are_at_most_zero(weights: &[i64]) -> bool
+    ensures { IsTrue result ↔ All (λ w. w ≤ℤ pos 0) weights.now }
+{
+    weights.iter().all(|weight| *weight <= 0)
 }

@@ -24,6 +24,9 @@ use std::alloc::Global;
 /// What the sampled states count for all together, where the initial one counts for 1: nothing at first, and then little.
 const SHARES: [f64; 2] = [0.0, 0.01];
 
+/// How many states are sampled.
+const SAMPLES: u32 = 32;
+
 /// How many numbers the simplex algorithm may look at before it takes no further step.
 const MAX_WORK: u64 = 4_194_304;
 
@@ -65,7 +68,7 @@ fn drafted_weights(
 /// The initial state, and samples.
 fn aims(alloc: Global, ground: &Ground<'_>, initial: &Packed) -> Result<Aims, NoMemory> {
     let alone = true_atoms(alloc, initial)?;
-    let samples = sampled(alloc, ground, initial)?;
+    let samples = sampled(alloc, ground, initial, SAMPLES)?;
     Ok(Aims::new(
         Aim::one(alloc, ground.width(), &alone)?,
         Aim::all(alloc, ground.width(), &samples)?,

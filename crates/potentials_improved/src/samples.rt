@@ -6,9 +6,6 @@ use potentials::instance_count;
 use std::alloc::Global;
 use std::num::nearest_usize_to_f64;
 
-/// How many walks there are, each of which gives one state.
-const WALKS: u32 = 32;
-
 /// The most steps of a walk.
 const MAX_STEPS: u32 = 64;
 
@@ -33,12 +30,13 @@ struct Walk {
     chance: Chance,
 }
 
-/// The states in which some walks from the initial one end, each as its true atoms; none where there are so many instances
+/// The states in which so many walks from the initial one end, each as its true atoms; none where there are so many instances
 /// that no walk may take a step.
 pub(crate) fn sampled(
     alloc: Global,
     ground: &Ground<'_>,
     initial: &Packed,
+    walks: u32,
 ) -> Result<Vec<Vec<u32>>, NoMemory> {
     let mut samples = Vec::new(alloc);
     let most = most_steps(instance_count(ground));
@@ -46,7 +44,7 @@ pub(crate) fn sampled(
         return Ok(samples);
     }
     let mut walk = Walk::new(alloc, ground.width())?;
-    for _ in 0..WALKS {
+    for _ in 0..walks {
         walk.start(initial);
         walk.go(ground, most)?;
         samples.push(true_atoms(alloc, &walk.state)?)?;

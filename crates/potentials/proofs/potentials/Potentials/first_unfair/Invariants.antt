@@ -5,4 +5,4 @@ use Rattle.potentials.proofs.FairLemmas.{AreFairBelow}
 use Rattle.potentials.proofs.potentials.Potentials.first_unfair.Given as goal
 
 abbrev pub invariant-loop-number : goal.invariant-loop-number
-invariant-loop-number l = AreFairBelow (allowed_by l.allowance (task_in l.ground)) (task_in l.ground) (atoms_in l.ground) (potentials_of l.self) l.number
+invariant-loop-number l = AreFairBelow (task_in l.ground) (atoms_in l.ground) (potentials_of l.self) (allowed_by l.allowance (task_in l.ground)) l.number

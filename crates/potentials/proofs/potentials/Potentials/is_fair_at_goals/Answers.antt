@@ -2,7 +2,6 @@ use Rattle.std.proofs.Common.{length, subst, sym, ap, arith}
 use Rattle.std.specs.Prelude.{All}
 use Rattle.std.proofs.lemmas.Int.{ints}
 use Rattle.grounding.specs.Ground.{task_in, atoms_in}
-use Rattle.model.specs.Meaning.{cost_of}
 use Rattle.potential_functions.specs.PotentialFunctions.{IsInRange}
 use Rattle.potentials.specs.Potentials.{potentials_of}
 use Rattle.potentials.proofs.GroundLemmas.{few-atoms}
@@ -37,7 +36,7 @@ returns c =
     let constant_least = constant.least in
     let constant_most = constant.most in
     let is = c.constant.ensures in
-    decides-goals (cost_of (task_in c.args.ground.now)) (task_in c.args.ground.now) (atoms_in c.args.ground.now) (potentials_of c.args.self.now) c.weights.result.now c.weights.ensures c.requires
+    decides-goals (task_in c.args.ground.now) (atoms_in c.args.ground.now) (potentials_of c.args.self.now) c.weights.result.now c.weights.ensures c.requires
     c.constant.result c.goal_gives_at_most-given.result _ c.is_at_most.result c.constant.ensures
-    (goal-is (cost_of (task_in c.args.ground.now)) (task_in c.args.ground.now) (atoms_in c.args.ground.now) (potentials_of c.args.self.now) c.weights.result.now c.weights.ensures c.requires _ c.goal_gives_at_most-given.result c.goal_literals.ensures c.goal_gives_at_most-given.ensures.value)
+    (goal-is (task_in c.args.ground.now) (atoms_in c.args.ground.now) (potentials_of c.args.self.now) c.weights.result.now c.weights.ensures c.requires _ c.goal_gives_at_most-given.result c.goal_literals.ensures c.goal_gives_at_most-given.ensures.value)
     (omega (arith, ints)) c.is_at_most.ensures
