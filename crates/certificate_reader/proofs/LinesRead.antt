@@ -1,11 +1,11 @@
 -- The lines of states and atoms, by what stands behind their first word.
 use Rattle.std.proofs.Common.{◌≡◌, ℕ, Bool, true, false, List, [], ◌∷◌, ◌++◌, codes, map, Option, None, Some, refl, sym, ap, ◌∙◌, subst, append_assoc, append-nil}
-use Rattle.std.specs.Prelude.{◌&&◌, IsTrue, length, nat_le}
+use Rattle.std.specs.Prelude.{◌&&◌, ◌≤◌, IsTrue, length, nat_le}
 use Rattle.std.specs.Fmt.{decimal}
 use Rattle.std.specs.List.{flat_map, list_all}
 use Rattle.std.specs.Str.{bytes_eq}
 use Rattle.std.proofs.lemmas.Slice.Eq.{bytes_eq-Decides}
-use Rattle.std.proofs.lemmas.Bool.{and_parts}
+use Rattle.std.proofs.lemmas.Bool.{and_parts, le-leb}
 use Rattle.std.proofs.lemmas.List.{append_cancel_left, append_cancel_right}
 use Rattle.model.specs.PlanWriting.{is_lower_name}
 use Rattle.model.specs.Claims.{Mark, opened, cut, dead}
@@ -13,7 +13,7 @@ use Rattle.certificate_definitions.specs.Certificates.{Version, one, two, is_num
 use Rattle.certificate_definitions.specs.CertificateText.{NamedAtom, Weights, WeightedAtom, TextLine, version, claims, constant, atom, listed, last, after_blank, are_weights, is_line, line_text, longest_line}
 use Rattle.certificate_reader.specs.Words.{IsFirstWord, IsNumbered, IsReadAs, are_lower, atom_rest, mark_head, then_words, with_rest, with_weights}
 use Rattle.certificate_reader.proofs.WordLemmas.{one_first}
-use Rattle.certificate_reader.proofs.LineLemmas.{lower_name_is_word, number_is_word, words_behind}
+use Rattle.certificate_reader.proofs.LineLemmas.{line_splits, lower_name_is_word, number_is_word, words_behind}
 use Rattle.certificate_reader.proofs.WeightsRead.{one_weights}
 
 -- ---- a number and numbers behind it
@@ -226,6 +226,17 @@ module _ (rest : List ℕ) (v : Version) (count : ℕ) where
       where
         some_bytes : (a b : List ℕ) → ◌≡◌ {A = Option (List ℕ)} (Some a) (Some b) → a ≡ b
         some_bytes a b same = cc
+
+pub atom_is_read : (rest : List ℕ) (v : Version) (count : ℕ) (a : WeightedAtom) → IsTrue (are_weights v a.weights) → IsTrue (are_lower a.atom)
+    → with_weights a.weights (Some (atom_rest a.atom)) ≡ rest → length (with_rest (codes "atom") (Some rest)) ≤ longest_line → IsReadAs (codes "atom") rest v count (atom a)
+atom_is_read rest v count a weights lower same short = record {
+  head = refl;
+  behind = same;
+  within =
+      let text : line_text (atom a) ≡ with_rest (codes "atom") (Some rest) = line_splits (atom a) ∙ ap (λ rest. with_rest (codes "atom") (Some rest)) same in
+      let fits : nat_le (length (line_text (atom a))) longest_line ≡ true = le-leb (length (line_text (atom a))) longest_line (subst (λ text. length text ≤ longest_line) (sym text) short) in
+      and_all (are_weights v a.weights) (are_lower a.atom) (nat_le (length (line_text (atom a))) longest_line) weights lower fits;
+}
 
 pub no_atom : (rest : List ℕ) (v : Version) (count : ℕ) → ((a : WeightedAtom) → IsReadAs (codes "atom") rest v count (atom a) → ⊥)
     → (line : TextLine) → IsReadAs (codes "atom") rest v count line → ⊥

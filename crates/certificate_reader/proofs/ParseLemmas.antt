@@ -1,13 +1,15 @@
 -- A line is read by its first word and what stands behind it.
 use Rattle.std.proofs.Common.{◌≡◌, ℕ, true, List, codes, Option, None, Some, refl, sym, ap, ◌∙◌, subst}
-use Rattle.std.specs.Prelude.{Result, Ok, Err, IsTrue}
+use Rattle.std.specs.Prelude.{◌≢◌, Result, Ok, Err, IsTrue}
 use Rattle.std.specs.Borrow.{Bor}
 use Rattle.std.specs.Fmt.{decimal}
 use Rattle.std.specs.Str.{bytes_eq}
 use Rattle.std.proofs.lemmas.Slice.Eq.{bytes_eq-Decides}
 use Rattle.certificate_definitions.specs.Certificates.{Version, one, two, is_number}
 use Rattle.certificate_reader.specs.declared.line.CertLine.{CertLine}
-use Rattle.certificate_reader.specs.Lines.{text_line_of}
+use Rattle.certificate_reader.specs.declared.line.Version as code
+use Rattle.certificate_reader.specs.declared.line.Version.TheVariants.{One, Two}
+use Rattle.certificate_reader.specs.Lines.{text_line_of, version_of}
 use Rattle.certificate_definitions.specs.CertificateText.{Weights, WeightedAtom, TextLine, version, claims, constant, atom, listed, last, are_weights, version_number}
 use Rattle.certificate_reader.specs.declared.parsing.LineFault.{LineFault}
 use Rattle.certificate_reader.specs.declared.parsing.LineFault.TheVariants.{OtherVersion, Malformed, TooMany, NoMemory}
@@ -36,6 +38,11 @@ no_version rest never v count (constant k) read = unlike (codes "constant") (cod
 no_version rest never v count (atom a) read = unlike (codes "atom") (codes "pddl-cert") refl read.head
 no_version rest never v count (listed l) read = is_no_mark (codes "pddl-cert") refl refl refl l.mark read.head
 no_version rest never v count (last n) read = unlike (codes "end") (codes "pddl-cert") refl read.head
+
+-- a version that is not 1 is 2
+pub is_two : (version : code.Version) → version ≢ One → version_of version ≡ two
+is_two One other = absurd (other refl)
+is_two Two other = refl
 
 -- ---- the line of the constants
 

@@ -1,13 +1,15 @@
 -- A line that is read at a place, and what is told of one that cannot stand there.
 use Rattle.std.proofs.Common.{◌≡◌, ◌≢◌, ℕ, ◌+◌, ◌≤◌, List, ◌++◌, codes, Option, None, Some, refl, sym, ap, ◌∙◌, subst, arith}
-use Rattle.std.specs.Prelude.{◌&&◌, ◌==◌, IsTrue, nat_le, nat_lt}
+use Rattle.std.specs.Prelude.{◌&&◌, ◌==◌, Err, IsTrue, nat_le, nat_lt}
 use Rattle.std.specs.Fmt.{decimal}
 use Rattle.std.proofs.lemmas.Bool.{and_parts, eqb-true, leb-true, lt-ltb}
 use Rattle.certificate_definitions.specs.Certificates.{Version, one, two, is_number}
 use Rattle.certificate_definitions.specs.CertificateText.{TextLine, version, claims, constant, atom, listed, last, is_line, line_text, most_atoms, most_states, version_number}
 use Rattle.certificate_definitions.specs.CertificateMachine.{Place, at_version, at_claim, at_constant, in_body, ended, next_place}
 use Rattle.certificate_definitions.proofs.Machine.{never, only_where}
-use Rattle.certificate_reader.specs.Stages.{IsOver, IsWithin, atoms_at, version_at}
+use Rattle.certificate_reader.specs.Stages.{IsOver, IsReadAt, IsWithin, atoms_at, version_at}
+use Rattle.certificate_reader.specs.Parsing.{IsParsed}
+use Rattle.certificate_reader.specs.declared.parsing.LineFault.TheVariants.{Malformed}
 use Rattle.certificate_reader.specs.Words.{line_head, line_rest}
 use Rattle.certificate_reader.proofs.NumbersRead.{same_number}
 use Rattle.certificate_reader.proofs.WordLemmas.{one_first}
@@ -77,6 +79,16 @@ no_other_version line n is not_one not_two same =
     let both = one_first (codes "pddl-cert") (line_head line) (Some (decimal n)) (Some (line_rest line)) refl (head_is_word line) (same ∙ line_splits line) in
     let (v, rest) = version_rest line (sym both.0) in
     neither n is not_one not_two v (some_same (decimal n) (line_rest line) both.1 ∙ rest)
+
+-- what is told of bytes that are no line there is told of the place
+pub malformed_at : (place : Place) → IsWithin place → (bytes : List ℕ) (v : Version) (count : ℕ) → v ≡ version_at place → count ≡ atoms_at place → IsParsed bytes v count (Err Malformed)
+    → IsReadAt place bytes (Err Malformed)
+malformed_at place within bytes v count v_is count_is told =
+    let (never, other) = subst (λ v. IsParsed bytes v (atoms_at place) (Err Malformed)) v_is (subst (λ n. IsParsed bytes v n (Err Malformed)) count_is told) in (
+      λ line next leads. never line (leads_line place within line next leads),
+      λ line is over. never line is,
+      λ at n is not_one not_two. other n is,
+    )
 
 module _ (place : Place) (within : IsWithin place) (line : TextLine) (is : IsTrue (is_line (version_at place) (atoms_at place) line)) (bytes : List ℕ) (text : line_text line ≡ bytes) where
   only_line : (other : TextLine) → IsTrue (is_line (version_at place) (atoms_at place) other) → line_text other ≡ bytes → other ≡ line

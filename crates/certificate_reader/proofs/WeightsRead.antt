@@ -1,12 +1,13 @@
 -- Constants and weights, by their words.
 use Rattle.std.proofs.Common.{◌≡◌, ℕ, true, false, List, [], ◌∷◌, Option, None, Some, refl, sym, ap, ◌∙◌}
-use Rattle.std.specs.Prelude.{◌&&◌, ℤ, IsTrue}
+use Rattle.std.specs.Prelude.{◌&&◌, ℤ, IfNone, IsTrue}
+use Rattle.std.specs.Borrow.{Bor}
 use Rattle.std.specs.Fmt.{signed_decimal}
 use Rattle.std.specs.Option.{option_map_or}
 use Rattle.std.proofs.lemmas.Bool.{and_parts}
 use Rattle.certificate_definitions.specs.Certificates.{Version, one, two, is_weight}
 use Rattle.certificate_definitions.specs.CertificateText.{Weights, are_weights}
-use Rattle.certificate_reader.specs.Words.{IsFirstWord, with_rest, with_weights}
+use Rattle.certificate_reader.specs.Words.{IsFirstWord, text_in, with_rest, with_weights}
 use Rattle.certificate_reader.proofs.WordLemmas.{one_first}
 use Rattle.certificate_reader.proofs.NumberLemmas.{same_weight}
 use Rattle.certificate_reader.proofs.LineLemmas.{weight_is_word}
@@ -81,7 +82,14 @@ module _ (bytes word : List ℕ) (behind : Option (List ℕ)) (first : IsFirstWo
           let (a_is, n_is) = and_parts (is_weight a) (is_weight n) is in
           never n rest n_is (first_is a a_is (Some (with_rest (signed_decimal n) rest)) same).1
 
--- the weight behind the first one
-pub no_word_behind : (bytes word : List ℕ) (rest : Option (List ℕ)) → IsFirstWord bytes word rest → ((n : ℤ) → IsTrue (is_weight n) → signed_decimal n ≡ word → ⊥)
-    → (n : ℤ) (behind : Option (List ℕ)) → IsTrue (is_weight n) → with_rest (signed_decimal n) behind ≡ bytes → ⊥
-no_word_behind bytes word rest first never n behind is same = never n is (first_is bytes word rest first n is behind same).0
+-- the second weight, where what stands behind the first is none
+pub no_word_behind : (behind : Option (Bor (List ℕ))) (bytes : Bor (List ℕ)) (word : List ℕ) (rest : Option (List ℕ)) → behind ≡ Some bytes → IsFirstWord bytes.now word rest
+    → ((n : ℤ) → IsTrue (is_weight n) → signed_decimal n ≡ word → ⊥)
+    → (n : ℤ) (more : Option (List ℕ)) → IsTrue (is_weight n) → ◌≡◌ {A = Option (List ℕ)} (Some (with_rest (signed_decimal n) more)) (text_in behind) → ⊥
+no_word_behind behind bytes word rest at first never n more is same =
+    never n is (first_is bytes.now word rest first n is more (some_same (with_rest (signed_decimal n) more) bytes.now (same ∙ ap text_in at))).0
+
+-- where there is none behind the first weight, no weights are read, whatever is answered then
+pub none_behind : {X P Q : Type 0} (read : Option X) → (P → Q) → IfNone read P → IfNone read Q
+none_behind None then none = then none
+none_behind (Some x) then none = tt
