@@ -12,7 +12,7 @@ use Rattle.model.specs.Words.{is_name, is_name_byte}
 use Rattle.model.specs.PlanWriting.{is_lower_name}
 use Rattle.model.specs.Claims.{bound, none, Mark, opened, cut, dead}
 use Rattle.certificate_definitions.specs.Certificates.{is_number, is_weight}
-use Rattle.certificate_definitions.specs.CertificateText.{Weights, TextLine, version, claims, constant, atom, listed, last, after_blank, line_text, weights_text}
+use Rattle.certificate_definitions.specs.CertificateText.{TextLine, version, claims, constant, atom, listed, last, after_blank, line_text, weights_text}
 use Rattle.certificate_reader.specs.Words.{is_blank, is_word, line_head, line_rest, mark_head, then_words, with_rest, with_weights}
 use Rattle.certificate_reader.proofs.NumberLemmas.{is_below}
 use Rattle.certificate_reader.proofs.WordLemmas.{one_first}

@@ -9,7 +9,7 @@ use Rattle.std.proofs.lemmas.Bool.{and_parts, le-leb}
 use Rattle.std.proofs.lemmas.List.{append_cancel_left, append_cancel_right}
 use Rattle.model.specs.PlanWriting.{is_lower_name}
 use Rattle.model.specs.Claims.{Mark, opened, cut, dead}
-use Rattle.certificate_definitions.specs.Certificates.{Version, one, two, is_number, is_mark, is_weight, rise}
+use Rattle.certificate_definitions.specs.Certificates.{Version, one, two, is_number, is_mark, rise}
 use Rattle.certificate_definitions.specs.CertificateText.{NamedAtom, Weights, WeightedAtom, TextLine, version, claims, constant, atom, listed, last, after_blank, are_weights, is_line, line_text, longest_line}
 use Rattle.certificate_reader.specs.Words.{IsFirstWord, IsNumbered, IsReadAs, are_lower, atom_rest, mark_head, then_words, with_rest, with_weights}
 use Rattle.certificate_reader.proofs.WordLemmas.{one_first}

@@ -9,7 +9,8 @@ use Rattle.certificate_definitions.specs.CertificateMachine.{Place, at_version, 
 use Rattle.certificate_definitions.proofs.Machine.{never, only_where}
 use Rattle.certificate_reader.specs.Stages.{IsOver, IsReadAt, IsWithin, atoms_at, version_at}
 use Rattle.certificate_reader.specs.Parsing.{IsParsed}
-use Rattle.certificate_reader.specs.declared.parsing.LineFault.TheVariants.{Malformed}
+use Rattle.certificate_reader.specs.declared.parsing.LineFault.{LineFault}
+use Rattle.certificate_reader.specs.declared.parsing.LineFault.TheVariants.{OtherVersion, Malformed, TooMany, NoMemory}
 use Rattle.certificate_reader.specs.Words.{line_head, line_rest}
 use Rattle.certificate_reader.proofs.NumbersRead.{same_number}
 use Rattle.certificate_reader.proofs.WordLemmas.{one_first}
@@ -81,7 +82,7 @@ no_other_version line n is not_one not_two same =
     neither n is not_one not_two v (some_same (decimal n) (line_rest line) both.1 ∙ rest)
 
 -- what is told of bytes that are no line there is told of the place
-pub malformed_at : (place : Place) → IsWithin place → (bytes : List ℕ) (v : Version) (count : ℕ) → v ≡ version_at place → count ≡ atoms_at place → IsParsed bytes v count (Err Malformed)
+malformed_at : (place : Place) → IsWithin place → (bytes : List ℕ) (v : Version) (count : ℕ) → v ≡ version_at place → count ≡ atoms_at place → IsParsed bytes v count (Err Malformed)
     → IsReadAt place bytes (Err Malformed)
 malformed_at place within bytes v count v_is count_is told =
     let (never, other) = subst (λ v. IsParsed bytes v (atoms_at place) (Err Malformed)) v_is (subst (λ n. IsParsed bytes v n (Err Malformed)) count_is told) in (
@@ -89,6 +90,14 @@ malformed_at place within bytes v count v_is count_is told =
       λ line is over. never line is,
       λ at n is not_one not_two. other n is,
     )
+
+-- so is another fault of the bytes alone, but for another version, which is told of the first line only
+pub told_at : (place : Place) → IsWithin place → (bytes : List ℕ) (v : Version) (count : ℕ) → v ≡ version_at place → count ≡ atoms_at place
+    → (fault : LineFault) → fault ≢ OtherVersion → IsParsed bytes v count (Err fault) → IsReadAt place bytes (Err fault)
+told_at place within bytes v count v_is count_is OtherVersion other told = absurd (other refl)
+told_at place within bytes v count v_is count_is Malformed other told = malformed_at place within bytes v count v_is count_is told
+told_at place within bytes v count v_is count_is TooMany other told = absurd told
+told_at place within bytes v count v_is count_is NoMemory other told = tt
 
 module _ (place : Place) (within : IsWithin place) (line : TextLine) (is : IsTrue (is_line (version_at place) (atoms_at place) line)) (bytes : List ℕ) (text : line_text line ≡ bytes) where
   only_line : (other : TextLine) → IsTrue (is_line (version_at place) (atoms_at place) other) → line_text other ≡ bytes → other ≡ line

@@ -3,7 +3,7 @@ use Rattle.model.specs.Claims.{dead}
 use Rattle.certificate_definitions.specs.CertificateText.{listed}
 use Rattle.certificate_reader.specs.Lines.{version_of}
 use Rattle.certificate_reader.specs.Words.{IsReadAs}
-use Rattle.certificate_reader.proofs.LinesRead.{dead_is_read, no_dead, no_dead_in_one}
+use Rattle.certificate_reader.proofs.LinesRead.{dead_is_read, no_dead}
 use Rattle.certificate_reader.proofs.ParseLemmas.{is_two}
 use Rattle.certificate_reader.proofs.parsing.dead.Goals as goal
 

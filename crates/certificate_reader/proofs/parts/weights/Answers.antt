@@ -1,5 +1,3 @@
-use Rattle.std.proofs.Common.{sym, subst}
-use Rattle.certificate_definitions.specs.Certificates.{two}
 use Rattle.certificate_reader.specs.Lines.{version_of}
 use Rattle.certificate_reader.proofs.WeightsRead.{no_first_weight, no_second_weight, none_behind}
 use Rattle.certificate_reader.proofs.parts.weights.Goals as goal
