@@ -225,8 +225,11 @@ zero_weights two = refl
 begin_constant : (v : Version) (lines : List TextLine) → StandsBefore (at_constant v) lines → BeginCertificate lines
 begin_constant v lines stands =
     let k : Weights = weights_in v (pos 0) (pos 0) in
-    begins_before lines (constant k) (last 0 ∷ [], whole_body v 0 0 (lines ++ constant k ∷ [])
-    (step (at_constant v) (constant k) (in_body v 0 0) lines stands (ap (λ b. only_if b (in_body v 0 0)) (zero_weights v))))
+    begins_before lines (constant k) (
+      last 0 ∷ [],
+      whole_body v 0 0 (lines ++ constant k ∷ [])
+          (step (at_constant v) (constant k) (in_body v 0 0) lines stands (ap (λ b. only_if b (in_body v 0 0)) (zero_weights v))),
+    )
 
 begin_claim : (v : Version) (lines : List TextLine) → StandsBefore (at_claim v) lines → BeginCertificate lines
 begin_claim v lines stands = begins_before lines (claims none) (begin_constant v (lines ++ claims none ∷ []) (step (at_claim v) (claims none) (at_constant v) lines stands refl))
