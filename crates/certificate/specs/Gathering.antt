@@ -15,14 +15,14 @@ IsPassedOn before after held held_after text = (written : List ℕ) × Appends b
 abbrev pub line_of_atom : Task → Weights → Atom → List ℕ
 line_of_atom task weights a = whole_line (atom (record { weights = weights; atom = named_atom task a }))
 
-abbrev pub atom_line : Task → Version → Atom × ℤ × ℤ → List ℕ
+abbrev pub atom_line : Task → Version → Atom × (ℤ × ℤ) → List ℕ
 atom_line task version a = whole_line (atom (weighted_atom task version a))
 
 abbrev pub state_line : StateLine → List ℕ
 state_line l = whole_line (listed l)
 
 -- the certificate's atoms, each with its weights
-abbrev pub atoms_weighed : Certificate → List (Atom × ℤ × ℤ)
+abbrev pub atoms_weighed : Certificate → List (Atom × (ℤ × ℤ))
 atoms_weighed c = zip c.atoms (zip c.potentials.weights c.dead_ends.weights)
 
 -- a blank, and a name or a number
