@@ -36,7 +36,7 @@ if words[0] == "check":
     if do[0] == "wrong":
         print('{{"code":51,"name":"CutWeak","result":"not accepted"}}')
         sys.exit(12)
-    print('{{"command":"check","cost":%s,"result":"optimal"}}' % do[-1])
+    print('{{"command":"check","cost":%s,"result":"%s"}}' % (do[-1], "at least" if do[0] == "limit" else "optimal"))
     sys.exit(0)
 if do[0] == "spin":
     while True: pass
@@ -46,7 +46,10 @@ if do[0] == "grow": sys.exit(grow())
 if do[0] == "fault":
     print("fault 7 Unexpected in problem at 0..5", file=sys.stderr)
     sys.exit(20)
-open(named("--cert"), "w").write("pddl-cert 1\\nend 3\\n")
+open(named("--cert"), "w").write("pddl-cert 2\\nend 3\\n")
+if do[0] == "limit":
+    print('{{"bound":%s,"command":"solve","reason":"states","result":"unknown"}}' % do[1])
+    sys.exit(11)
 open(named("--plan"), "w").write("(a)\\n")
 print('{{"command":"solve","cost":%s,"result":"plan","steps":["(a)"]}}' % do[1])
 """
@@ -212,14 +215,16 @@ class Lines(Room):
 
 class Runs(Room):
     def test_each_result_has_its_line(self):
-        self.tasks(plan="plan 3", wrong="wrong 3", spin="spin 1", grow="grow 1", fault="fault 1", kill="kill 1")
+        self.tasks(plan="plan 3", wrong="wrong 3", spin="spin 1", grow="grow 1", fault="fault 1", kill="kill 1", limit="limit 5")
         ran = self.batch("--check", "--seconds", "1")
         found = self.lines()
         self.assertEqual({name[4:]: it.result.value for name, it in found.items()},
                          {"plan": "plan", "wrong": "plan", "spin": "out of time", "grow": "out of memory",
-                          "fault": "refused", "kill": "failed"}, ran)
+                          "fault": "refused", "kill": "failed", "limit": "out of states"}, ran)
         plan = found["a b/plan"]
         self.assertEqual((plan.status, plan.cost, plan.states, plan.certificate_bytes, plan.check.accepted), (0, 3, 3, 18, True))
+        limit = found["a b/limit"]
+        self.assertEqual((limit.status, limit.cost, limit.bound, limit.states, limit.check.accepted), (11, None, 5, 3, True))
         self.assertIs(found["a b/wrong"].check.accepted, False)
         self.assertEqual(found["a b/wrong"].check.verdict, "not accepted 51 CutWeak")
         self.assertEqual(found["a b/fault"].fault, "fault 7 Unexpected in problem at 0..5")
