@@ -23,6 +23,7 @@ sys.path.insert(0, os.path.dirname(os.path.abspath(__file__)))
 from batching import ROOT  # noqa: E402
 from batching.layouts import find  # noqa: E402
 from batching.lines import Check, Line, LinesFile, Result, line_of, read_lines  # noqa: E402
+from batching.reading import contradictions, read_run  # noqa: E402
 from batching.runs import Program, Settings  # noqa: E402
 
 # Does what the first word of the problem says, and notes each start.
@@ -366,14 +367,38 @@ class Slurm(Room):
         self.assertEqual(self.lines()["a b/one"].cost, 3)
 
 
-@unittest.skipUnless(find_spec("matplotlib"), "matplotlib is not installed")
-class Reports(Room):
+class RunsRead(Room):
+    """Runs whose lines are put there."""
+
     def put_run(self, name, *lines):
         program = Program.at(str(self.program))
         settings = Settings(program, program, 1, 2, 3, 4, True)
         self.put(f"{name}/run.json", json.dumps(asdict(settings)))
         self.put(f"{name}/results.jsonl", "".join(replace(it, program=program.sum, texts="same").text() for it in lines))
 
+
+class Contradictions(RunsRead):
+    def told(self, *lines):
+        for name, line in zip(("first", "second"), lines):
+            self.put_run(name, line)
+        return list(contradictions([read_run(str(self.room / it)) for it in ("first", "second")]))
+
+    def test_other_answers_are_told(self):
+        plan = Line("a/p1", Result.PLAN, cost=3)
+        self.assertEqual(self.told(plan, replace(plan, cost=2)), ["a/p1: first and second answer otherwise"])
+        self.assertEqual(self.told(plan, plan), [])
+
+    def test_a_plan_below_a_bound_is_told(self):
+        bound = Line("a/p1", Result.STATES, bound=5)
+        plan = lambda cost: Line("a/p1", Result.PLAN, cost=cost)
+        self.assertEqual(len(self.told(bound, plan(4))), 1)
+        self.assertEqual(len(self.told(plan(4), bound)), 1)
+        self.assertEqual(self.told(bound, plan(5)), [])
+        self.assertEqual(self.told(bound, Line("a/p1", Result.UNSOLVABLE)), [])
+
+
+@unittest.skipUnless(find_spec("matplotlib"), "matplotlib is not installed")
+class Reports(RunsRead):
     def report(self, *names):
         words = [sys.executable, f"{ROOT}/bench/batch-report", *(str(self.room / it) for it in names)]
         ran = subprocess.run([*words, "--into", str(self.room / "page.html")], stderr=subprocess.PIPE, text=True)
