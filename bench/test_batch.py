@@ -23,6 +23,7 @@ sys.path.insert(0, os.path.dirname(os.path.abspath(__file__)))
 from batching import ROOT  # noqa: E402
 from batching.layouts import find  # noqa: E402
 from batching.lines import Check, Line, LinesFile, Result, line_of, read_lines  # noqa: E402
+from batching.reading import contradictions, read_run  # noqa: E402
 from batching.runs import Program, Settings  # noqa: E402
 
 # Does what the first word of the problem says, and notes each start.
@@ -36,7 +37,7 @@ if words[0] == "check":
     if do[0] == "wrong":
         print('{{"code":51,"name":"CutWeak","result":"not accepted"}}')
         sys.exit(12)
-    print('{{"command":"check","cost":%s,"result":"optimal"}}' % do[-1])
+    print('{{"command":"check","cost":%s,"result":"%s"}}' % (do[-1], "at least" if do[0] == "limit" else "optimal"))
     sys.exit(0)
 if do[0] == "spin":
     while True: pass
@@ -46,7 +47,10 @@ if do[0] == "grow": sys.exit(grow())
 if do[0] == "fault":
     print("fault 7 Unexpected in problem at 0..5", file=sys.stderr)
     sys.exit(20)
-open(named("--cert"), "w").write("pddl-cert 1\\nend 3\\n")
+open(named("--cert"), "w").write("pddl-cert 2\\nend 3\\n")
+if do[0] == "limit":
+    print('{{"bound":%s,"command":"solve","reason":"states","result":"unknown"}}' % do[1])
+    sys.exit(11)
 open(named("--plan"), "w").write("(a)\\n")
 print('{{"command":"solve","cost":%s,"result":"plan","steps":["(a)"]}}' % do[1])
 """
@@ -212,14 +216,16 @@ class Lines(Room):
 
 class Runs(Room):
     def test_each_result_has_its_line(self):
-        self.tasks(plan="plan 3", wrong="wrong 3", spin="spin 1", grow="grow 1", fault="fault 1", kill="kill 1")
+        self.tasks(plan="plan 3", wrong="wrong 3", spin="spin 1", grow="grow 1", fault="fault 1", kill="kill 1", limit="limit 5")
         ran = self.batch("--check", "--seconds", "1")
         found = self.lines()
         self.assertEqual({name[4:]: it.result.value for name, it in found.items()},
                          {"plan": "plan", "wrong": "plan", "spin": "out of time", "grow": "out of memory",
-                          "fault": "refused", "kill": "failed"}, ran)
+                          "fault": "refused", "kill": "failed", "limit": "out of states"}, ran)
         plan = found["a b/plan"]
         self.assertEqual((plan.status, plan.cost, plan.states, plan.certificate_bytes, plan.check.accepted), (0, 3, 3, 18, True))
+        limit = found["a b/limit"]
+        self.assertEqual((limit.status, limit.cost, limit.bound, limit.states, limit.check.accepted), (11, None, 5, 3, True))
         self.assertIs(found["a b/wrong"].check.accepted, False)
         self.assertEqual(found["a b/wrong"].check.verdict, "not accepted 51 CutWeak")
         self.assertEqual(found["a b/fault"].fault, "fault 7 Unexpected in problem at 0..5")
@@ -361,14 +367,38 @@ class Slurm(Room):
         self.assertEqual(self.lines()["a b/one"].cost, 3)
 
 
-@unittest.skipUnless(find_spec("matplotlib"), "matplotlib is not installed")
-class Reports(Room):
+class RunsRead(Room):
+    """Runs whose lines are put there."""
+
     def put_run(self, name, *lines):
         program = Program.at(str(self.program))
         settings = Settings(program, program, 1, 2, 3, 4, True)
         self.put(f"{name}/run.json", json.dumps(asdict(settings)))
         self.put(f"{name}/results.jsonl", "".join(replace(it, program=program.sum, texts="same").text() for it in lines))
 
+
+class Contradictions(RunsRead):
+    def told(self, *lines):
+        for name, line in zip(("first", "second"), lines):
+            self.put_run(name, line)
+        return list(contradictions([read_run(str(self.room / it)) for it in ("first", "second")]))
+
+    def test_other_answers_are_told(self):
+        plan = Line("a/p1", Result.PLAN, cost=3)
+        self.assertEqual(self.told(plan, replace(plan, cost=2)), ["a/p1: first and second answer otherwise"])
+        self.assertEqual(self.told(plan, plan), [])
+
+    def test_a_plan_below_a_bound_is_told(self):
+        bound = Line("a/p1", Result.STATES, bound=5)
+        plan = lambda cost: Line("a/p1", Result.PLAN, cost=cost)
+        self.assertEqual(len(self.told(bound, plan(4))), 1)
+        self.assertEqual(len(self.told(plan(4), bound)), 1)
+        self.assertEqual(self.told(bound, plan(5)), [])
+        self.assertEqual(self.told(bound, Line("a/p1", Result.UNSOLVABLE)), [])
+
+
+@unittest.skipUnless(find_spec("matplotlib"), "matplotlib is not installed")
+class Reports(RunsRead):
     def report(self, *names):
         words = [sys.executable, f"{ROOT}/bench/batch-report", *(str(self.room / it) for it in names)]
         ran = subprocess.run([*words, "--into", str(self.room / "page.html")], stderr=subprocess.PIPE, text=True)

@@ -16,7 +16,7 @@ MOST_ATOMS, MOST_STATES, LONGEST_LINE = 1048576, 16777216, 16777216
 NAME = r"[a-z][a-z0-9_-]{0,254}"
 NAMES = {40: "CertForm", 41: "CertVersion", 42: "Truncated", 43: "NotFluent", 44: "Repeated", 45: "NoInitial",
          46: "Unfair", 47: "UnfairGoal", 48: "GoalOpen", 49: "SuccessorMissing", 50: "SuccessorDearer", 51: "CutWeak", 52: "CutNotAllowed",
-         53: "PlanInvalid", 54: "PlanDearer", 55: "Limit"}
+         53: "PlanInvalid", 54: "PlanDearer", 55: "Limit", 56: "DeadUnfair", 57: "DeadUnfairGoal", 58: "NotDead"}
 
 
 class Refused(Exception):
@@ -242,17 +242,17 @@ def worst(weight, atom, literals, changes):
     return max(losses, default=0)
 
 
-def look_whether_fair(task, constant, weights, instances):
-    """Refused(46) or Refused(47) where the potential function is not fair."""
+def look_whether_fair(task, constant, weights, instances, allowed, at_instance, at_goals):
+    """Refused by one of these numbers where an instance may lose more than is allowed of it, or a goal may keep more than 0."""
     for action, bound in instances:
         literals, changes = task.sure(action["precondition"], bound), task.counting(action["effect"], bound)
         loss = sum(worst(weights.get(atom, 0), atom, literals, changes) for atom in {it for it, _, _ in changes})
-        if loss > task.cost(action, bound):
-            raise Refused(46, instance=[action["name"]] + [bound[name] for name, _ in action["parameters"]])
+        if loss > allowed(action, bound):
+            raise Refused(at_instance, instance=[action["name"]] + [bound[name] for name, _ in action["parameters"]])
     literals = task.sure(task.goal, {})
     given = lambda atom, weight: 0 if (atom, False) in literals else weight if (atom, True) in literals else max(0, weight)
     if constant + sum(given(atom, weight) for atom, weight in weights.items()) > 0:
-        raise Refused(47)
+        raise Refused(at_goals)
 
 
 def value(constant, weights, state):
@@ -285,98 +285,135 @@ def lines_of(data):
         at, count = end + 1, count + 1
 
 
+class Certificate:
+    """What a text says: its claim, None for `claim none`, two potential functions, the second of dead ends, and the states."""
+
+    def __init__(self):
+        self.version = self.claim = None
+        self.constants, self.atoms = [0, 0], []
+        self.weights = {}, {}
+        self.states, self.listed = [], {}
+
+    def numbers(self, text):
+        """The constants, or the weights of an atom: of version 2 two of them, and of version 1 one, with 0 in the place of the other."""
+        words = text.split(" ")
+        if len(words) != self.version:
+            raise ValueError
+        return [weight_of(word) for word in words] + [0] * (2 - self.version)
+
+    def atom(self, task, count, text):
+        weights, name = re.fullmatch(rf"atom ([^(]*) \(({NAME}(?: {NAME})*)\)", text).groups()
+        weights, atom = self.numbers(weights), tuple(name.split(" "))
+        if len(self.atoms) == MOST_ATOMS:
+            raise Refused(55)
+        if not task.is_fluent_atom(atom):
+            raise Refused(43, count)
+        if atom in self.weights[0]:
+            raise Refused(44, count)
+        for function, weight in zip(self.weights, weights):
+            function[atom] = weight
+        self.atoms.append(atom)
+
+    def state(self, count, kind, words):
+        numbers = [number(word) for word in words]
+        cost, numbers = numbers[0], numbers[1:]
+        rest = None
+        if kind == "cut":
+            rest, numbers = numbers[0], numbers[1:]
+        if any(n >= len(self.atoms) for n in numbers) or any(a >= b for a, b in zip(numbers, numbers[1:])):
+            raise ValueError
+        if len(self.states) == MOST_STATES:
+            raise Refused(55)
+        state = frozenset(self.atoms[n] for n in numbers)
+        if state in self.listed:
+            raise Refused(44, count)
+        if kind == "cut" and self.claim is None:
+            raise Refused(52, count)
+        self.listed[state] = cost
+        self.states.append((count, kind, cost, rest, state))
+
+
 def read_certificate(task, data):
-    """The claim, None for `claim none`, the constant, each atom's weight, and the states: (line, cost, rest or None, atoms)."""
-    atoms, weights, states, listed, lines = [], {}, [], {}, lines_of(data)
-    claim = constant = None
-    for count, text, behind in lines:
+    """The certificate of these bytes. Its states are (line, kind, cost, rest, which is None but of a cut, atoms)."""
+    said = Certificate()
+    for count, text, behind in lines_of(data):
         try:
             words = text.split(" ")
             if count == 1:
                 if words[0] != "pddl-cert" or len(words) != 2:
                     raise ValueError
-                if number(words[1]) != 1:
+                said.version = number(words[1])
+                if said.version not in (1, 2):
                     raise Refused(41, 1)
             elif count == 2:
-                claim = None if text == "claim none" else number(re.fullmatch("claim bound (.*)", text)[1])
+                said.claim = None if text == "claim none" else number(re.fullmatch("claim bound (.*)", text)[1])
             elif count == 3:
-                constant = weight_of(re.fullmatch("constant (.*)", text)[1])
-            elif words[0] == "atom" and not states:
-                weight, name = re.fullmatch(rf"atom (\S+) \(({NAME}(?: {NAME})*)\)", text).groups()
-                weight = weight_of(weight)
-                if len(atoms) == MOST_ATOMS:
-                    raise Refused(55)
-                atom = tuple(name.split(" "))
-                if not task.is_fluent_atom(atom):
-                    raise Refused(43, count)
-                if atom in weights:
-                    raise Refused(44, count)
-                weights[atom] = weight
-                atoms.append(atom)
-            elif words[0] in ("open", "cut"):
-                numbers = [number(word) for word in words[1:]]
-                cost, numbers = numbers[0], numbers[1:]
-                rest = None
-                if words[0] == "cut":
-                    rest, numbers = numbers[0], numbers[1:]
-                if any(n >= len(atoms) for n in numbers) or any(a >= b for a, b in zip(numbers, numbers[1:])):
-                    raise ValueError
-                if len(states) == MOST_STATES:
-                    raise Refused(55)
-                state = frozenset(atoms[n] for n in numbers)
-                if state in listed:
-                    raise Refused(44, count)
-                if rest is not None and claim is None:
-                    raise Refused(52, count)
-                listed[state] = cost
-                states.append((count, cost, rest, state))
+                said.constants = said.numbers(re.fullmatch("constant (.*)", text)[1])
+            elif words[0] == "atom" and not said.states:
+                said.atom(task, count, text)
+            elif words[0] in ("open", "cut") or words[0] == "dead" and said.version == 2:
+                said.state(count, words[0], words[1:])
             elif words[0] == "end" and len(words) == 2:
-                if number(words[1]) != len(states):
+                if number(words[1]) != len(said.states):
                     raise ValueError
                 if behind:
                     raise Refused(40, count + 1)
-                return claim, constant, weights, states, listed
+                return said
             else:
                 raise ValueError
-        except (ValueError, TypeError, IndexError):
+        except (ValueError, TypeError, IndexError, AttributeError):
             raise Refused(40, count) from None
 
 
 # ---- checking
 
-def check(task, data, plan, limit):
-    claim, constant, weights, states, listed = read_certificate(task, data)
+def kept_instances(task, said, limit):
+    """The instances that are kept; Refused(55) where they, or the atoms that have numbers, are too many."""
     instances = list(itertools.islice(task.instances(), limit + 1))
-    touched = set(weights) | task.initial
+    touched = set(said.atoms) | task.initial
     for action, bound in instances:
         touched |= {atom for atom, _, condition, objects in task.changes(action["effect"], bound)
                     if not task.is_closed_off(condition, objects)}
     if len(instances) > limit or len(touched) > MOST_ATOMS:
         raise Refused(55)
-    look_whether_fair(task, constant, weights, instances)
-    if listed.get(task.initial) != 0:
-        raise Refused(45)
-    for line, cost, rest, state in states:
-        if rest is not None:
-            if rest > value(constant, weights, state) or cost + rest < claim:
-                raise Refused(51, line)
+    return instances
+
+
+def look_at_open(task, said, instances, line, cost, state):
+    """Refused(48), Refused(49) or Refused(50) where the line of an open state is wrong."""
+    if task.holds(task.goal, state, {}) and (said.claim is None or cost < said.claim):
+        raise Refused(48, line)
+    for action, bound in instances:
+        after = task.result(state, action, bound)
+        if after is None:
             continue
-        if task.holds(task.goal, state, {}) and (claim is None or cost < claim):
-            raise Refused(48, line)
-        for action, bound in instances:
-            after = task.result(state, action, bound)
-            if after is None:
-                continue
-            if after not in listed:
-                raise Refused(49, line)
-            if listed[after] > cost + task.cost(action, bound):
-                raise Refused(50, line)
+        if after not in said.listed:
+            raise Refused(49, line)
+        if said.listed[after] > cost + task.cost(action, bound):
+            raise Refused(50, line)
+
+
+def check(task, data, plan, limit):
+    said = read_certificate(task, data)
+    instances = kept_instances(task, said, limit)
+    look_whether_fair(task, said.constants[0], said.weights[0], instances, task.cost, 46, 47)
+    look_whether_fair(task, said.constants[1], said.weights[1], instances, lambda action, bound: 0, 56, 57)
+    if said.listed.get(task.initial) != 0:
+        raise Refused(45)
+    for line, kind, cost, rest, state in said.states:
+        if kind == "open":
+            look_at_open(task, said, instances, line, cost, state)
+        elif kind == "cut":
+            if rest > value(said.constants[0], said.weights[0], state) or cost + rest < said.claim:
+                raise Refused(51, line)
+        elif value(said.constants[1], said.weights[1], state) < 1:
+            raise Refused(58, line)
     if plan is None:
-        return "unsolvable" if claim is None else f"at least {claim}"
+        return "unsolvable" if said.claim is None else f"at least {said.claim}"
     cost = cost_of_plan(task, plan)
-    if cost is None or claim is None:
+    if cost is None or said.claim is None:
         raise Refused(53)
-    if cost > claim:
+    if cost > said.claim:
         raise Refused(54)
     return f"optimal cost {cost}"
 

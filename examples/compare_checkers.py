@@ -3,9 +3,9 @@
 
     compare_checkers.py [TASK..]
 
-For each task it has `optplan solve` write a certificate, and then changes the constant and each weight by one, up and down,
-one at a time. Both checkers are asked of each text, and what they answer is compared. It prints a line for each task, and
-each text on which they differ; it ends with status 1 where one does.
+For each task it has `optplan solve` write a certificate, and then changes it in one place at a time: each constant and each
+weight by one, up and down, and each of the first states to another kind of line. Both checkers are asked of each text, and what
+they answer is compared. It prints a line for each task, and each text on which they differ; it ends with status 1 where one does.
 """
 import os
 import subprocess
@@ -15,6 +15,8 @@ import tempfile
 HERE = os.path.dirname(os.path.realpath(__file__))
 PROGRAM = os.environ.get("OPTPLAN", os.path.join(os.path.dirname(HERE), "optplan"))
 OTHER = os.path.join(HERE, "check_certificate.py")
+# How many states are listed by another kind of line.
+STATES = 8
 
 
 def said(*words):
@@ -23,16 +25,25 @@ def said(*words):
     return ran.stdout, ran.returncode
 
 
+def changed_words(words, version):
+    """The words of a line, each time with another number or another kind of line."""
+    if words[0] in ("constant", "atom"):
+        for at in range(1, 1 + version):
+            for by in (-1, 1):
+                yield [*words[:at], str(int(words[at]) + by), *words[at + 1:]]
+    elif words[0] in ("open", "cut", "dead"):
+        cost, atoms = words[1], words[3:] if words[0] == "cut" else words[2:]
+        yield from (it for it in (["open", cost, *atoms], ["cut", cost, "0", *atoms], ["dead", cost, *atoms]) if it[0] != words[0])
+
+
 def changed(text):
-    """The text, and each in which the constant or a weight is one more or one less, with a word on it."""
+    """The text, and those that differ from it in one place, each with a word on it."""
     yield "as it is written", text
     lines = text.split("\n")
-    for at, line in enumerate(lines):
-        words = line.split(" ")
-        if words[0] not in ("constant", "atom"):
-            continue
-        for by in (-1, 1):
-            words[1] = str(int(line.split(" ")[1]) + by)
+    version = int(lines[0].split(" ")[1])
+    first = next(at for at, line in enumerate(lines) if line.split(" ")[0] in ("open", "cut", "dead"))
+    for at, line in enumerate(lines[:first + STATES]):
+        for words in changed_words(line.split(" "), version):
             yield f"line {at + 1}: {' '.join(words)}", "\n".join([*lines[:at], " ".join(words), *lines[at + 1:]])
 
 

@@ -47,7 +47,7 @@ class Line:
     # As a shell tells it, and None where the process that ran the program was ended itself.
     status: int | None = None
     cost: int | None = None
-    # Where a limit ran out: what each plan costs at least, if the program tells that.
+    # Where the limit of states was met: what each plan costs at least, if the program tells that.
     bound: int | None = None
     # Of the processor, with the writing of the certificate.
     seconds: float | None = None

@@ -35,7 +35,8 @@ def card(run: Lines) -> str:
     settings, lines = run.settings, run.by_task.values()
     checks = [it for it in lines if it.check]
     solving, checking = sum(it.seconds or 0 for it in lines), sum(it.check.seconds for it in checks)
-    judged = f"{len(run.accepted)} of {len(checks)} certificates accepted" if settings.checker else "no certificate was judged"
+    accepted = sum(it.check.accepted is True for it in checks)
+    judged = f"{accepted} of {len(checks)} certificates accepted" if settings.checker else "no certificate was judged"
     programs = [("solved by", settings.program), *([("judged by", settings.checker)] if settings.checker else [])]
     rows = [f"{words} {escape(it.path)} ({it.sum}{', built without a proof' if it.is_unproved else ''})"
             for words, it in programs]

@@ -67,6 +67,11 @@ def shared(one: Lines, other: Lines) -> list[str]:
     return [task for task in tasks_of([one]) if task in other.by_task and one.by_task[task].texts == other.by_task[task].texts]
 
 
+def is_over(bound: Line, plan: Line) -> bool:
+    """Whether the one tells a bound that is more than what the plan of the other costs."""
+    return bound.bound is not None and plan.cost is not None and bound.bound > plan.cost
+
+
 def contradictions(runs: list[Lines]) -> Iterator[str]:
     """The tasks to which two runs give answers that cannot both be right, with the names of the two."""
     for one, other in combinations(runs, 2):
@@ -74,3 +79,5 @@ def contradictions(runs: list[Lines]) -> Iterator[str]:
             here, there = one.by_task[task], other.by_task[task]
             if here.is_answered and there.is_answered and (here.result, here.cost) != (there.result, there.cost):
                 yield f"{task}: {one.name} and {other.name} answer otherwise"
+            if is_over(here, there) or is_over(there, here):
+                yield f"{task}: a plan of {one.name} or {other.name} costs less than the bound of the other"

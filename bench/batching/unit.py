@@ -117,14 +117,14 @@ def outcome(task: Task, settings: Settings, folder: str) -> Line:
     end = within_limits([settings.program.path, "solve", task.domain, task.problem, *limits,
                          "--plan", plan, "--cert", cert, "--json"], settings)
     result, cost = answer_of(end, settings.seconds)
-    wanted = {Result.PLAN: [plan, cert], Result.UNSOLVABLE: [cert]}.get(result, [])
-    if not all(map(os.path.isfile, wanted)):
-        result = Result.FAILED
+    claim, has_plan = claim_of(end, result, cost), result is Result.PLAN
+    if not all(map(os.path.isfile, [cert] * (claim is not None) + [plan] * has_plan)):
+        result, claim = Result.FAILED, None
     keys = {"status": end.status, "cost": cost, "seconds": round(end.seconds, 3), "peak_bytes": end.peak,
             "host": platform.node(), "processor": processor(), "program": settings.program.sum, "texts": texts_sum(task)}
-    if result in ANSWERS:
-        keys.update(judged(task, settings, result, cost, plan, cert))
-    else:
+    if claim:
+        keys.update(judged(task, settings, claim, plan if has_plan else None, cert))
+    if result not in ANSWERS:
         keys.update(fault=fault_of(end), bound=told(end).get("bound"))
     return Line(task.name, result, **keys)
 
@@ -139,13 +139,21 @@ def empty(folder: str) -> tuple[str, str]:
     return files
 
 
-def judged(task: Task, settings: Settings, result: Result, cost: int | None, plan: str, cert: str) -> dict:
-    """What there is to say of the certificate of an answer."""
-    has_plan = result is Result.PLAN
-    claim = {"result": "optimal", "cost": cost} if has_plan else {"result": "unsolvable"}
+def claim_of(end: Ended, result: Result, cost: int | None) -> dict | None:
+    """What the certificate of an answer is to show, or that of a bound at the limit of states; None where there is none."""
+    if result is Result.PLAN:
+        return {"result": "optimal", "cost": cost}
+    if result is Result.UNSOLVABLE:
+        return {"result": "unsolvable"}
+    bound = told(end).get("bound")
+    return {"result": "at least", "cost": bound} if result is Result.STATES and bound is not None else None
+
+
+def judged(task: Task, settings: Settings, claim: dict, plan: str | None, cert: str) -> dict:
+    """What there is to say of a certificate, with the plan if there is one."""
     keys = {"states": states_of(cert), "certificate_bytes": os.path.getsize(cert)}
     if settings.checker:
-        keys["check"] = check(task, settings, cert, plan if has_plan else None, claim)
+        keys["check"] = check(task, settings, cert, plan, claim)
     if not settings.keeps_certificates:
         os.remove(cert)
     return keys
