@@ -3,6 +3,7 @@ use Rattle.std.specs.Prelude.{◌≡◌, ℕ, Bool, List, [], ◌∷◌, ◌++�
 use Rattle.formulas.specs.State.{plan_of}
 use Rattle.solver.specs.declared.answer.Answer.{Answer}
 use Rattle.solver.specs.declared.answer.Answer.TheVariants.{Plan, Unsolvable, Unknown}
+use Rattle.solver.specs.declared.answer.Exceeded.TheVariants.{Instances, Atoms, States}
 use Rattle.certificate.specs.Listing.{certificate_in}
 use Rattle.certificate_definitions.specs.CertificateNames.{certificate_text}
 use Rattle.devices.specs.Written.{NamedText}
@@ -15,11 +16,14 @@ abbrev pub in_file : Option (List ℕ) → List ℕ → List NamedText
 in_file None text = []
 in_file (Some name) text = record { name = name; text = text } ∷ []
 
--- what is written to the file of a certificate: that of a plan, or of there being none
+-- what is written to the file of a certificate: that of a plan, of there being none, or, where the limit of states is
+-- exceeded, of what each plan costs at least
 abbrev pub cert_file : Task → Answer → Option (List ℕ) → List NamedText
 cert_file task (Plan steps cost cert) name = in_file name (certificate_text task (certificate_in cert))
 cert_file task (Unsolvable cert) name = in_file name (certificate_text task (certificate_in cert))
-cert_file task (Unknown limit) name = []
+cert_file task (Unknown Instances) name = []
+cert_file task (Unknown Atoms) name = []
+cert_file task (Unknown (States least cert)) name = in_file name (certificate_text task (certificate_in cert))
 
 -- what is written to the file of a plan
 abbrev pub plan_file : Task → Answer → Option (List ℕ) → List NamedText

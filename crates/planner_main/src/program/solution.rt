@@ -21,7 +21,7 @@ use crate::program::inputs::read_pair;
 use crate::telling::{answer_text, json_text, told};
 use certificate::{Listing, write_listing};
 use devices::{Bytes, Document, Files, Sink, WriteFault, write_all, write_file};
-use solver::{Answer, Limits};
+use solver::{Answer, Exceeded, Limits};
 use std::alloc::Global;
 use typing::Task;
 
@@ -36,7 +36,7 @@ pub(super) struct Wanted<'a> {
     pub(super) json: bool,
 }
 
-/// Tells a cheapest plan for the task of two files, or that there is none: the status.
+/// Tells a cheapest plan for the task of two files, that there is none, or the limit that is exceeded: the status.
 pub(super) fn tell_solution<F: Files, O: Sink>(
     alloc: Global,
     domain: &str,
@@ -126,7 +126,10 @@ fn save_cert<F: Files>(
     match &solved.answer {
         Answer::Plan { cert, .. } => write_file(files, name, &CertText { alloc, task, cert }),
         Answer::Unsolvable { cert } => write_file(files, name, &CertText { alloc, task, cert }),
-        Answer::Unknown(_) => Ok(()),
+        Answer::Unknown(Exceeded::States { cert, .. }) => {
+            write_file(files, name, &CertText { alloc, task, cert })
+        }
+        Answer::Unknown(Exceeded::Instances | Exceeded::Atoms) => Ok(()),
     }
 }
 
