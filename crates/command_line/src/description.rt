@@ -29,7 +29,7 @@ Status:
    0  a cheapest plan is told, the plan solves the task, or the certificate is accepted
    2  other words, or such as ask for help
   10  there is no plan
-  11  a limit is exceeded, and nothing is claimed
+  11  a limit is exceeded; where it is that of states, no plan costs less than the told bound
   12  the plan does not solve the task, or the certificate is not accepted
   20  a text is refused
   21  a file, or the standard output, cannot be opened, read or written

@@ -7,7 +7,7 @@ use Rattle.certificate_definitions.specs.CertificateChecking.{IsLineFault}
 use Rattle.certificate_reader.specs.declared.reader.CertReader.{CertReader}
 use Rattle.certificate_reader.specs.Reader.{source_of}
 use Rattle.cert_checker.specs.declared.refusal.RefusalCode.{RefusalCode}
-use Rattle.cert_checker.specs.declared.refusal.RefusalCode.TheVariants.{CertForm, CertVersion, Truncated, NotFluent, Repeated, NoInitial, Unfair, UnfairGoal, GoalOpen, SuccessorMissing, SuccessorDearer, CutWeak, CutNotAllowed, PlanInvalid, PlanDearer, Limit}
+use Rattle.cert_checker.specs.declared.refusal.RefusalCode.TheVariants.{CertForm, CertVersion, Truncated, NotFluent, Repeated, NoInitial, Unfair, UnfairGoal, GoalOpen, SuccessorMissing, SuccessorDearer, CutWeak, CutNotAllowed, PlanInvalid, PlanDearer, Limit, DeadUnfair, DeadUnfairGoal, NotDead}
 use Rattle.cert_checker.specs.declared.refusal.Refusal.{Refusal}
 use Rattle.cert_checker.specs.declared.refusal.Refusal.TheVariants as refusal
 use Rattle.cert_checker.specs.RefusalCode.{number_of}
@@ -62,6 +62,9 @@ module _ {R : Type 0} (remaining : R → Option (List ℕ)) (task : Task) (first
   line_of_text PlanInvalid line told = of_beginning (number_of PlanInvalid) line told
   line_of_text PlanDearer line told = of_beginning (number_of PlanDearer) line told
   line_of_text Limit line told = of_beginning (number_of Limit) line told
+  line_of_text DeadUnfair line told = of_beginning (number_of DeadUnfair) line told
+  line_of_text DeadUnfairGoal line told = of_beginning (number_of DeadUnfairGoal) line told
+  line_of_text NotDead line told = of_beginning (number_of NotDead) line told
 
   module _ (plan : Option (List Instance)) (most : ℕ) where
     of_certificate : (refusal : Refusal) (c : Certificate) → IsRead remaining task first now c → IsTrueRefusal task c plan most refusal → IsFirstRefusal task c plan most refusal
@@ -89,6 +92,9 @@ module _ {R : Type 0} (remaining : R → Option (List ℕ)) (task : Task) (first
     true_of_text json (Err (refusal.Unfair i)) line status is shown accepts (inl told) = absurd told
     true_of_text json (Err (refusal.Unfair i)) line status is shown accepts (inr (c, read, is_true, is_first)) =
         of_certificate (refusal.Unfair i) c read is_true is_first
+    true_of_text json (Err (refusal.DeadUnfair i)) line status is shown accepts (inl told) = absurd told
+    true_of_text json (Err (refusal.DeadUnfair i)) line status is shown accepts (inr (c, read, is_true, is_first)) =
+        of_certificate (refusal.DeadUnfair i) c read is_true is_first
     true_of_text json (Err (refusal.Plain code)) line status is shown accepts (inl told) = absurd told
     true_of_text json (Err (refusal.Plain code)) line status is shown accepts (inr (c, read, is_true, is_first)) =
         of_certificate (refusal.Plain code) c read is_true is_first

@@ -80,6 +80,7 @@ checked_status : (json : Bool) (task : Task) (answer : Result Accepted Refusal) 
 checked_status json task (Ok accepted) text status (is_text, is_status) = ap is_failure is_status
 checked_status json task (Err (refused.Line code line)) text status (is_text, is_status) = ap is_failure is_status
 checked_status json task (Err (refused.Unfair i)) text status (is_text, is_status) = ap is_failure is_status
+checked_status json task (Err (refused.DeadUnfair i)) text status (is_text, is_status) = ap is_failure is_status
 checked_status json task (Err (refused.Plain code)) text status (is_text, is_status) = ap is_failure is_status
 checked_status json task (Err refused.NoMemory) text status is = absurd is
 checked_status json task (Err refused.Device) text status is = absurd is

@@ -2,7 +2,7 @@
 use Rattle.std.specs.Prelude.{◌≡◌, ℕ, Bool, ◌==◌, if◌then◌else◌, List, ◌++◌, codes, Result, Ok, Err}
 use Rattle.std.specs.Fmt.{decimal}
 use Rattle.cert_checker.specs.declared.refusal.RefusalCode.{RefusalCode}
-use Rattle.cert_checker.specs.declared.refusal.RefusalCode.TheVariants.{Unfair}
+use Rattle.cert_checker.specs.declared.refusal.RefusalCode.TheVariants.{DeadUnfair, Unfair}
 use Rattle.cert_checker.specs.declared.refusal.Refusal.{Refusal}
 use Rattle.cert_checker.specs.declared.refusal.Refusal.TheVariants as refusal
 use Rattle.cert_checker.specs.RefusalCode.{name_of, number_of}
@@ -28,9 +28,10 @@ line_refused code line =
     if number_of code == 55 then plain_refused code
     else (codes "not accepted " ++ (decimal (number_of code) ++ (codes " " ++ (name_of code ++ (codes " line " ++ (decimal line ++ codes "\n"))))))
 
--- the line of a potential function under which this instance may lose more than it costs
-abbrev pub unfair_refused : Task → Instance → List ℕ
-unfair_refused task i = codes "not accepted 46 Unfair " ++ (step_text task i ++ codes "\n")
+-- the line of a potential function under which this instance may lose more than it is allowed to
+abbrev pub instance_refused : RefusalCode → Task → Instance → List ℕ
+instance_refused code task i =
+    codes "not accepted " ++ (decimal (number_of code) ++ (codes " " ++ (name_of code ++ (codes " " ++ (step_text task i ++ codes "\n")))))
 
 -- the same, or as JSON, which tells neither line nor instance
 abbrev pub told_accepted : (json : Bool) → Accepted → List ℕ
@@ -39,8 +40,8 @@ told_accepted json answer = if json then line_of_members (of_accepted answer) el
 abbrev pub told_line : (json : Bool) → RefusalCode → (line : ℕ) → List ℕ
 told_line json code line = if json then line_of_members (of_refused code) else line_refused code line
 
-abbrev pub told_unfair : (json : Bool) → Task → Instance → List ℕ
-told_unfair json task i = if json then line_of_members (of_refused Unfair) else unfair_refused task i
+abbrev pub told_instance : (json : Bool) → RefusalCode → Task → Instance → List ℕ
+told_instance json code task i = if json then line_of_members (of_refused code) else instance_refused code task i
 
 abbrev pub told_plain : (json : Bool) → RefusalCode → List ℕ
 told_plain json code = if json then line_of_members (of_refused code) else plain_refused code
@@ -50,7 +51,8 @@ told_plain json code = if json then line_of_members (of_refused code) else plain
 abbrev pub IsLineOf : (json : Bool) → Task → Result Accepted Refusal → (text : List ℕ) → (status : ℕ) → Type 0
 IsLineOf json task (Ok answer) text status = (text ≡ told_accepted json answer) × (status ≡ 0)
 IsLineOf json task (Err (refusal.Line code line)) text status = (text ≡ told_line json code line) × (status ≡ 12)
-IsLineOf json task (Err (refusal.Unfair i)) text status = (text ≡ told_unfair json task (instance_of i)) × (status ≡ 12)
+IsLineOf json task (Err (refusal.Unfair i)) text status = (text ≡ told_instance json Unfair task (instance_of i)) × (status ≡ 12)
+IsLineOf json task (Err (refusal.DeadUnfair i)) text status = (text ≡ told_instance json DeadUnfair task (instance_of i)) × (status ≡ 12)
 IsLineOf json task (Err (refusal.Plain code)) text status = (text ≡ told_plain json code) × (status ≡ 12)
 IsLineOf json task (Err refusal.NoMemory) text status = ⊥
 IsLineOf json task (Err refusal.Device) text status = ⊥
@@ -61,6 +63,7 @@ abbrev pub IsToldRefusal : Result Accepted Refusal → Type 0
 IsToldRefusal (Ok shown) = Unit {0}
 IsToldRefusal (Err (refusal.Line code line)) = Unit {0}
 IsToldRefusal (Err (refusal.Unfair i)) = Unit {0}
+IsToldRefusal (Err (refusal.DeadUnfair i)) = Unit {0}
 IsToldRefusal (Err (refusal.Plain code)) = Unit {0}
 IsToldRefusal (Err refusal.NoMemory) = ⊥
 IsToldRefusal (Err refusal.Device) = ⊥

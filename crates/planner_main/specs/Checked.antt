@@ -59,6 +59,7 @@ pub record IsRightText (task : Task) (text : List ℕ) (c : Certificate) : Type 
 abbrev pub IsAtLine : Task → (text : List ℕ) → Refusal → Type 0
 IsAtLine task text (refusal.Line code line) = IsLineFault task text (number_of code) line
 IsAtLine task text (refusal.Unfair i) = ⊥
+IsAtLine task text (refusal.DeadUnfair i) = ⊥
 IsAtLine task text (refusal.Plain code) = ⊥
 IsAtLine task text refusal.NoMemory = ⊥
 IsAtLine task text refusal.Device = ⊥

@@ -33,11 +33,14 @@ of_verdict (valid cost) = command (codes "validate") ∷ member (codes "cost") (
 of_verdict (not_applicable step) = command (codes "validate") ∷ result (codes "not applicable") ∷ member (codes "step") (number step) ∷ []
 of_verdict goal_missed = command (codes "validate") ∷ result (codes "goal missed") ∷ []
 
--- the name of a limit
-abbrev pub limit_name : Exceeded → List ℕ
-limit_name exceeded.Instances = codes "instances"
-limit_name exceeded.Atoms = codes "atoms"
-limit_name exceeded.States = codes "states"
+-- that the limit of this name is exceeded; beside that of the states stands what each plan costs at least
+abbrev of_limit : List ℕ → List Member
+of_limit name = command (codes "solve") ∷ member (codes "reason") (text name) ∷ result (codes "unknown") ∷ []
+
+abbrev pub of_exceeded : Exceeded → List Member
+of_exceeded exceeded.Instances = of_limit (codes "instances")
+of_exceeded exceeded.Atoms = of_limit (codes "atoms")
+of_exceeded (exceeded.States least cert) = member (codes "bound") (number least) ∷ of_limit (codes "states")
 
 -- a plan and its cost, each step as the writer of plans spells it
 abbrev pub of_plan : Task → List Instance → (cost : ℕ) → List Member
@@ -48,8 +51,7 @@ of_plan task plan cost =
 abbrev pub of_answer : Task → Answer → List Member
 of_answer task (answer.Plan steps cost cert) = of_plan task (plan_of steps) cost
 of_answer task (answer.Unsolvable cert) = command (codes "solve") ∷ result (codes "unsolvable") ∷ []
-of_answer task (answer.Unknown limit) =
-    command (codes "solve") ∷ member (codes "reason") (text (limit_name limit)) ∷ result (codes "unknown") ∷ []
+of_answer task (answer.Unknown limit) = of_exceeded limit
 
 abbrev pub of_accepted : Accepted → List Member
 of_accepted (accepted.Optimal cost) = command (codes "check") ∷ member (codes "cost") (number cost) ∷ result (codes "optimal") ∷ []
@@ -65,6 +67,7 @@ abbrev pub of_checked : Result Accepted Refusal → List Member
 of_checked (Ok shown) = of_accepted shown
 of_checked (Err (refusal.Line code line)) = of_refused code
 of_checked (Err (refusal.Unfair i)) = of_refused code.Unfair
+of_checked (Err (refusal.DeadUnfair i)) = of_refused code.DeadUnfair
 of_checked (Err (refusal.Plain code)) = of_refused code
 of_checked (Err refusal.NoMemory) = []
 of_checked (Err refusal.Device) = []

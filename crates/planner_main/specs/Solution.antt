@@ -1,8 +1,11 @@
 -- What stands on the standard output, and in files, once a task was solved, and the status beside it.
 use Rattle.std.specs.Prelude.{◌≡◌, ℕ, Bool, List, [], ◌∷◌, ◌++◌, Option, None, Some}
+use Rattle.std.specs.Option.{option_map_or}
 use Rattle.formulas.specs.State.{plan_of}
 use Rattle.solver.specs.declared.answer.Answer.{Answer}
 use Rattle.solver.specs.declared.answer.Answer.TheVariants.{Plan, Unsolvable, Unknown}
+use Rattle.solver.specs.declared.answer.Exceeded.TheVariants.{Instances, Atoms, States}
+use Rattle.certificate.specs.declared.listing.Listing.{Listing}
 use Rattle.certificate.specs.Listing.{certificate_in}
 use Rattle.certificate_definitions.specs.CertificateNames.{certificate_text}
 use Rattle.devices.specs.Written.{NamedText}
@@ -15,11 +18,18 @@ abbrev pub in_file : Option (List ℕ) → List ℕ → List NamedText
 in_file None text = []
 in_file (Some name) text = record { name = name; text = text } ∷ []
 
--- what is written to the file of a certificate: that of a plan, or of there being none
+-- the certificate of an answer: of a plan, of there being none, or, where the limit of states is exceeded, of what each plan
+-- costs at least
+abbrev pub cert_of : Answer → Option Listing
+cert_of (Plan steps cost cert) = Some cert
+cert_of (Unsolvable cert) = Some cert
+cert_of (Unknown Instances) = None
+cert_of (Unknown Atoms) = None
+cert_of (Unknown (States least cert)) = Some cert
+
+-- what is written to the file of a certificate, where there is one
 abbrev pub cert_file : Task → Answer → Option (List ℕ) → List NamedText
-cert_file task (Plan steps cost cert) name = in_file name (certificate_text task (certificate_in cert))
-cert_file task (Unsolvable cert) name = in_file name (certificate_text task (certificate_in cert))
-cert_file task (Unknown limit) name = []
+cert_file task a name = option_map_or (λ (cert : Listing). in_file name (certificate_text task (certificate_in cert))) (cert_of a) []
 
 -- what is written to the file of a plan
 abbrev pub plan_file : Task → Answer → Option (List ℕ) → List NamedText

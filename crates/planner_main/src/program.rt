@@ -26,22 +26,25 @@ use validation::tell_verdict;
 /// error, and the status that it ends with. What the words ask for is `read_words`' matter.
 ///
 /// `solve` tells a cheapest plan, or that there is none. At most so many states are listed, and so many instances kept, those that
-/// the start does not close off. The certificate of the answer is written to the file of `--cert`, then a plan's text to the file of
-/// `--plan`, and then the standard output; where one of them fails, those after it are not touched, and neither is a file for which
-/// there is nothing to write. `validate` says whether the plan solves the task. `check` says what the certificate shows: with a plan,
-/// which is read from the file of `--plan`, that it is a cheapest one; else that no plan costs less, or that there is none. Of a file
-/// at most 16,777,217 bytes are read and taken for its whole text, and all files are read before any fault of their texts is told; but
-/// the certificate is only opened before, and then read line by line, to its end or to its first fault, whatever its length.
+/// the start does not close off. Where so many states do not suffice, it tells what each plan costs at least; at another limit
+/// nothing is claimed of plans. The certificate of the answer, at the limit of states too, is written to the file of `--cert`, then a
+/// plan's text to the file of `--plan`, and then the standard output; where one of them fails, those after it are not touched, and
+/// neither is a file for which there is nothing to write. `validate` says whether the plan solves the task. `check` says what the
+/// certificate shows: with a plan, which is read from the file of `--plan`, that it is a cheapest one; else that no plan costs less, or
+/// that there is none. Of a file at most 16,777,217 bytes are read and taken for its whole text, and all files are read before any
+/// fault of their texts is told; but the certificate is only opened before, and then read line by line, to its end or to its first
+/// fault, whatever its length.
 ///
 /// | What comes | Standard output | Standard error | Status |
 /// |---|---|---|---|
 /// | a cheapest plan | its steps, a line each, and `; cost = N` | | 0 |
 /// | there is no plan | `unsolvable` | | 10 |
-/// | a limit is exceeded | `unknown states`, `unknown instances` or `unknown atoms` | | 11 |
+/// | the limit of states is exceeded: each plan costs N or more | `unknown states, at least N` | | 11 |
+/// | another limit is exceeded | `unknown instances` or `unknown atoms` | | 11 |
 /// | the plan solves the task | `valid cost N` | | 0 |
 /// | it does not | `not applicable step N` or `goal missed` | | 12 |
 /// | the certificate is accepted | `optimal cost N`, `at least N` or `unsolvable` | | 0 |
-/// | it is not | `not accepted CODE Name line L`, `not accepted 46 Unfair (ACTION OBJECT ..)` or `not accepted CODE Name` | | 12 |
+/// | it is not | `not accepted CODE Name line L`, `not accepted 46 Unfair (ACTION OBJECT ..)`, `not accepted 56 DeadUnfair (ACTION OBJECT ..)` or `not accepted CODE Name` | | 12 |
 /// | other words, or such as ask for help | | what is wrong, or the help, and `optplan: nothing was done` | 2 |
 /// | a file's text is refused | | `fault CODE Name in FILE at S..E` | 20 |
 /// | a file, or the standard output, fails | | `fault 61 Device` | 21 |

@@ -24,14 +24,17 @@ pub struct Solved {
 
 /// A cheapest plan, or that there is none, from the bytes of the two files.
 ///
-/// The domain is scanned and read, then the problem, then both are typed together; the first fault ends the call.
+/// The domain is scanned and read, then the problem, then both are typed together; the first fault ends the call. Where more
+/// states would be listed than the limit allows, the answer is still a claim: each plan costs at least its bound, and its certificate
+/// shows it. Of the other two limits nothing is claimed of plans.
 ///
 /// ```
 /// let Some(limits) = Limits::new(1_000_000, 1_000_000) else { return Ok(()) };
 /// match solve_files(alloc, domain, problem, limits)?.answer {
 ///     Answer::Plan { cost, .. } => println!(rt; "no plan costs less than {cost}")?,
 ///     Answer::Unsolvable { .. } => println!(rt; "there is no plan")?,
-///     Answer::Unknown(_) => println!(rt; "a limit is exceeded")?,
+///     Answer::Unknown(Exceeded::States { bound, .. }) => println!(rt; "each plan costs {bound} or more")?,
+///     Answer::Unknown(Exceeded::Instances | Exceeded::Atoms) => println!(rt; "the task is too large")?,
 /// }
 /// ```
 pub fn solve_files(

@@ -1,10 +1,10 @@
 //! `solve`: a cheapest plan, from files to the standard output, and to files.
-ghost use Rattle.std.specs.Prelude.{◌≡◌, ℕ, IfErr, IfOk, IfSome, IsErr, IsTrue, List, [], ◌∷◌, None, OnOk};
+ghost use Rattle.std.specs.Prelude.{◌≡◌, ℕ, IfErr, IfOk, IfSome, IsErr, IsTrue, List, [], ◌∷◌, None, OnOk, option_map};
 ghost use Rattle.planner_main.specs.Asked.{asked_of};
 ghost use Rattle.planner_main.specs.Program.{CountsEither, CountsFailure, HasNotFailed, IsAnswerText, IsOneOf, IsTold, IsToldPartly, IsUnread, OnTwo, fault_in};
 ghost use Rattle.devices.specs.Texts.{AreKept};
 ghost use Rattle.planner_main.specs.Files.{text_in};
-ghost use Rattle.planner_main.specs.Solution.{TellsAnswer, cert_file, plan_file};
+ghost use Rattle.planner_main.specs.Solution.{TellsAnswer, cert_file, cert_of, plan_file};
 ghost use Rattle.planner_main.specs.AnswerTold.{text_of};
 ghost use Rattle.devices.specs.Written.{AreWritten, AreWrittenPartly, NamedText};
 ghost use Rattle.devices.specs.Devices.{CountsDevice};
@@ -21,7 +21,7 @@ use crate::program::inputs::read_pair;
 use crate::telling::{answer_text, json_text, told};
 use certificate::{Listing, write_listing};
 use devices::{Bytes, Document, Files, Sink, WriteFault, write_all, write_file};
-use solver::{Answer, Limits};
+use solver::{Answer, Exceeded, Limits};
 use std::alloc::Global;
 use typing::Task;
 
@@ -36,7 +36,7 @@ pub(super) struct Wanted<'a> {
     pub(super) json: bool,
 }
 
-/// Tells a cheapest plan for the task of two files, or that there is none: the status.
+/// Tells a cheapest plan for the task of two files, that there is none, or the limit that is exceeded: the status.
 pub(super) fn tell_solution<F: Files, O: Sink>(
     alloc: Global,
     domain: &str,
@@ -122,11 +122,20 @@ fn save_cert<F: Files>(
     ensures failures { CountsDevice (F.failures files.old) (F.failures files.new) result }
 {
     let Some(name) = name else { return Ok(()) };
+    let Some(cert) = cert_of(&solved.answer) else { return Ok(()) };
     let task = &solved.task;
-    match &solved.answer {
-        Answer::Plan { cert, .. } => write_file(files, name, &CertText { alloc, task, cert }),
-        Answer::Unsolvable { cert } => write_file(files, name, &CertText { alloc, task, cert }),
-        Answer::Unknown(_) => Ok(()),
+    write_file(files, name, &CertText { alloc, task, cert })
+}
+
+/// The certificate of an answer, if it has one.
+fn cert_of(answer: &Answer) -> Option<&Listing>
+    ensures { option_map (λ cert. cert.now) result ≡ cert_of answer.now }
+{
+    match answer {
+        Answer::Plan { cert, .. } => Some(cert),
+        Answer::Unsolvable { cert } => Some(cert),
+        Answer::Unknown(Exceeded::States { cert, .. }) => Some(cert),
+        Answer::Unknown(Exceeded::Instances | Exceeded::Atoms) => None,
     }
 }
 

@@ -2,7 +2,8 @@
 ghost use Rattle.std.specs.Prelude.{◌≡◌, IfOk, IsTrue, None, Some, if◌then◌else◌, unwrap_or};
 ghost use Rattle.typing.specs.Task.{task_of};
 ghost use Rattle.formulas.specs.State.{plan_of};
-ghost use Rattle.planner_main.specs.AnswerTold.{status_of, string_in, text_of};
+ghost use Rattle.std.specs.String.{string_bytes};
+ghost use Rattle.planner_main.specs.AnswerTold.{limit_line, status_of, string_in, text_of};
 ghost use Rattle.planner_main.specs.Objects.{line_of_members, of_answer};
 ghost use Rattle.model.specs.PlanWriting.{has_names, plan_text};
 
@@ -24,7 +25,8 @@ const UNSOLVABLE: u8 = 10;
 const UNKNOWN: u8 = 11;
 
 /// The text that an answer is told as, and its status: the plan and its cost with 0, `unsolvable` with 10, and with 11 that a
-/// limit is exceeded. The error is that memory was refused, as in the calls below.
+/// limit is exceeded, with what each plan costs at least where it is that of the states. The error is that memory was refused, as in
+/// the calls below.
 pub(crate) fn answer_text(
     alloc: Global,
     task: &Task,
@@ -36,18 +38,7 @@ pub(crate) fn answer_text(
     match answer {
         Answer::Plan { steps, cost, .. } => Ok((plan_text(alloc, task, steps, *cost)?, PLAN)),
         Answer::Unsolvable { .. } => Ok((Vec::from_slice(alloc, b"unsolvable\n")?, UNSOLVABLE)),
-        Answer::Unknown(Exceeded::Instances) => Ok((
-            Vec::from_slice(alloc, b"unknown instances\n")?,
-            UNKNOWN,
-        )),
-        Answer::Unknown(Exceeded::Atoms) => Ok((
-            Vec::from_slice(alloc, b"unknown atoms\n")?,
-            UNKNOWN,
-        )),
-        Answer::Unknown(Exceeded::States) => Ok((
-            Vec::from_slice(alloc, b"unknown states\n")?,
-            UNKNOWN,
-        )),
+        Answer::Unknown(limit) => Ok((limit_line(alloc, limit)?.into_bytes(), UNKNOWN)),
     }
 }
 
@@ -75,6 +66,19 @@ pub(crate) fn told<'a>(json: &'a Option<String>, text: &'a [u8]) -> &'a [u8]
     match json {
         Some(line) => line.as_bytes(),
         None => text,
+    }
+}
+
+/// The line of a limit that is exceeded.
+fn limit_line(alloc: Global, limit: &Exceeded) -> Result<String, AllocError>
+    ensures { IfOk result (λ line. string_bytes line ≡ limit_line limit.now) }
+{
+    match limit {
+        Exceeded::Instances => String::from_str(alloc, "unknown instances\n"),
+        Exceeded::Atoms => String::from_str(alloc, "unknown atoms\n"),
+        Exceeded::States { bound, .. } => {
+            format!(in alloc; "unknown states, at least {bound}\n")
+        }
     }
 }
 

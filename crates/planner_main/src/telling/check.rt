@@ -4,7 +4,7 @@ ghost use Rattle.std.specs.String.{string_bytes};
 ghost use Rattle.typing.specs.Task.{task_of};
 ghost use Rattle.formulas.specs.State.{instance_of};
 ghost use Rattle.cert_checker.specs.Reading.{CountsRefusal};
-ghost use Rattle.planner_main.specs.CheckTold.{IsLineOf, accepted_line, line_refused, plain_refused, told_accepted, told_line, told_plain, told_unfair, unfair_refused};
+ghost use Rattle.planner_main.specs.CheckTold.{IsLineOf, accepted_line, instance_refused, line_refused, plain_refused, told_accepted, told_instance, told_line, told_plain};
 ghost use Rattle.devices.specs.Devices.{CountsDevice};
 ghost use Rattle.model.specs.PlanWriting.{has_names};
 
@@ -37,7 +37,14 @@ pub(crate) fn checked_text(
     let (line, status) = match answer {
         Ok(accepted) => (tell_accepted(alloc, *accepted, json), YES),
         Err(Refusal::Line { code, line }) => (tell_line(alloc, *code, *line, json), NO),
-        Err(Refusal::Unfair(step)) => (tell_unfair(alloc, task, step, json), NO),
+        Err(Refusal::Unfair(step)) => {
+            let code = RefusalCode::Unfair;
+            (tell_instance(alloc, code, task, step, json), NO)
+        }
+        Err(Refusal::DeadUnfair(step)) => {
+            let code = RefusalCode::DeadUnfair;
+            (tell_instance(alloc, code, task, step, json), NO)
+        }
         Err(Refusal::Plain(code)) => (tell_plain(alloc, *code, json), NO),
         Err(Refusal::Device) => return Err(WriteFault::Device),
         // The reader is a new one, which has told no fault.
@@ -71,20 +78,21 @@ fn tell_line(alloc: Global, code: RefusalCode, line: u64, json: bool) -> Result<
     }
 }
 
-/// What is told of a certificate under which a step may lose more than it costs.
-fn tell_unfair(
+/// What is told of a certificate under which a step may lose more than it is allowed to.
+fn tell_instance(
     alloc: Global,
+    code: RefusalCode,
     task: &Task,
     step: &Instance,
     json: bool,
 ) -> Result<String, AllocError>
     requires { IsTrue (has_names (task_of task.now)) }
-    ensures { IfOk result (λ told. string_bytes told ≡ told_unfair json (task_of task.now) (instance_of step.now)) }
+    ensures { IfOk result (λ told. string_bytes told ≡ told_instance json code (task_of task.now) (instance_of step.now)) }
 {
     if json {
-        line_of(refused_object(alloc, RefusalCode::Unfair)?)
+        line_of(refused_object(alloc, code)?)
     } else {
-        unfair_refused(alloc, task, step)
+        instance_refused(alloc, code, task, step)
     }
 }
 
@@ -122,13 +130,20 @@ fn line_refused(alloc: Global, code: RefusalCode, line: u64) -> Result<String, A
     format!(in alloc; "not accepted {number} {name} line {line}\n")
 }
 
-/// The line of a step that may lose more than it costs.
-fn unfair_refused(alloc: Global, task: &Task, step: &Instance) -> Result<String, AllocError>
+/// The line of a step that may lose more than it is allowed to.
+fn instance_refused(
+    alloc: Global,
+    code: RefusalCode,
+    task: &Task,
+    step: &Instance,
+) -> Result<String, AllocError>
     requires { IsTrue (has_names (task_of task.now)) }
-    ensures { IfOk result (λ told. string_bytes told ≡ unfair_refused (task_of task.now) (instance_of step.now)) }
+    ensures { IfOk result (λ told. string_bytes told ≡ instance_refused code (task_of task.now) (instance_of step.now)) }
 {
+    let number = code.number();
+    let name = code.name();
     match step_text(alloc, task, step) {
-        Ok(step) => format!(in alloc; "not accepted 46 Unfair {step}\n"),
+        Ok(step) => format!(in alloc; "not accepted {number} {name} {step}\n"),
         Err(NoMemory) => Err(AllocError),
     }
 }

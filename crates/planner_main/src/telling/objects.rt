@@ -6,7 +6,7 @@ ghost use Rattle.formulas.specs.State.{plan_of};
 ghost use Rattle.typing.specs.Task.{task_of};
 ghost use Rattle.validator.specs.Verdict.{verdict_of};
 ghost use Rattle.planner_main.specs.CheckTold.{IsToldRefusal};
-ghost use Rattle.planner_main.specs.Objects.{limit_name, of_accepted, of_answer, of_checked, of_plan, of_refused, of_verdict};
+ghost use Rattle.planner_main.specs.Objects.{of_accepted, of_answer, of_checked, of_exceeded, of_plan, of_refused, of_verdict};
 ghost use Rattle.model.specs.PlanWriting.{has_names, step_text};
 
 use crate::telling::members::{Member, object_text};
@@ -69,14 +69,7 @@ pub(crate) fn answer_object(
             ];
             object_text(alloc, &members)
         }
-        Answer::Unknown(limit) => {
-            let members = [
-                Member::text("command", "solve"),
-                Member::text("reason", limit_name(*limit)),
-                Member::text("result", "unknown"),
-            ];
-            object_text(alloc, &members)
-        }
+        Answer::Unknown(limit) => limit_object(alloc, limit),
     }
 }
 
@@ -110,14 +103,26 @@ fn step_texts(alloc: Global, task: &Task, plan: &Plan) -> Result<Vec<String>, Al
     Ok(texts)
 }
 
-/// The name of a limit.
-fn limit_name(limit: Exceeded) -> &'static str
-    ensures { result.now ≡ limit_name limit }
+/// The object of a limit that is exceeded.
+fn limit_object(alloc: Global, limit: &Exceeded) -> Result<String, AllocError>
+    ensures { IfOk result (λ text. string_bytes text ≡ object_text (of_exceeded limit.now)) }
 {
+    let command = Member::text("command", "solve");
+    let result = Member::text("result", "unknown");
     match limit {
-        Exceeded::Instances => "instances",
-        Exceeded::Atoms => "atoms",
-        Exceeded::States => "states",
+        Exceeded::Instances => {
+            let reason = Member::text("reason", "instances");
+            object_text(alloc, &[command, reason, result])
+        }
+        Exceeded::Atoms => {
+            let reason = Member::text("reason", "atoms");
+            object_text(alloc, &[command, reason, result])
+        }
+        Exceeded::States { bound, .. } => {
+            let bound = Member::number("bound", *bound);
+            let reason = Member::text("reason", "states");
+            object_text(alloc, &[bound, command, reason, result])
+        }
     }
 }
 
@@ -133,6 +138,7 @@ pub(crate) fn checked_object(
         Ok(accepted) => accepted_object(alloc, *accepted),
         Err(Refusal::Line { code, .. }) => refused_object(alloc, *code),
         Err(Refusal::Unfair(_)) => refused_object(alloc, RefusalCode::Unfair),
+        Err(Refusal::DeadUnfair(_)) => refused_object(alloc, RefusalCode::DeadUnfair),
         Err(Refusal::Plain(code)) => refused_object(alloc, *code),
         Err(Refusal::NoMemory | Refusal::Device | Refusal::Failed) => unreachable!(),
     }

@@ -13,7 +13,7 @@ use validator::Verdict;
 /// What the program found out.
 #[derive(Drop)]
 pub enum Report {
-    /// Of a task: a cheapest plan, or that there is none.
+    /// Of a task: a cheapest plan, or that there is none, or the limit that is exceeded.
     Solve(Solved),
     /// Of a plan.
     Validate(Verdict),
@@ -28,7 +28,8 @@ pub enum Report {
 /// |---|---|
 /// | a cheapest plan | `{"command":"solve","cost":6,"result":"plan","steps":["(hop a b)","(hop b c)"]}` |
 /// | there is no plan | `{"command":"solve","result":"unsolvable"}` |
-/// | a limit is exceeded | `{"command":"solve","reason":"states","result":"unknown"}`, or `"instances"` or `"atoms"` |
+/// | the limit of states is exceeded | `{"bound":6,"command":"solve","reason":"states","result":"unknown"}` |
+/// | another limit is exceeded | `{"command":"solve","reason":"instances","result":"unknown"}`, or `"atoms"` |
 /// | the plan solves the task | `{"command":"validate","cost":6,"result":"valid"}` |
 /// | it does not | `{"command":"validate","result":"not applicable","step":1}`, or `"goal missed"` and no step |
 /// | the certificate is accepted | `{"command":"check","cost":6,"result":"optimal"}`, or `"at least"`, or `"unsolvable"` and no cost |

@@ -12,11 +12,3 @@ pub returns-in-Unsolvable : goal.returns-in-Unsolvable
 returns-in-Unsolvable c =
     let same : members_of (c.text.result ∷ c.text-in-Unsolvable.result ∷ []) ≡ of_answer (task_of c.args.task.now) c.args.answer.now = rw (c.text.ensures, c.text-in-Unsolvable.ensures, c.in-Unsolvable.is) refl in
     told_as_meant c.object_text.result (members_of (c.text.result ∷ c.text-in-Unsolvable.result ∷ [])) (of_answer (task_of c.args.task.now) c.args.answer.now) same c.object_text.ensures.text
-
-pub object_text-requires-in-Unknown : goal.object_text-requires-in-Unknown
-object_text-requires-in-Unknown c = rw (c.text-in-Unknown.ensures, c.text-in-Unknown-2.ensures, c.text-in-Unknown-3.ensures) refl
-
-pub returns-in-Unknown : goal.returns-in-Unknown
-returns-in-Unknown c =
-    let same : members_of (c.text-in-Unknown.result ∷ c.text-in-Unknown-2.result ∷ c.text-in-Unknown-3.result ∷ []) ≡ of_answer (task_of c.args.task.now) c.args.answer.now = rw (c.text-in-Unknown.ensures, c.text-in-Unknown-2.ensures, c.text-in-Unknown-3.ensures, c.limit_name.ensures, c.in-Unknown.is) refl in
-    told_as_meant c.object_text-in-Unknown.result (members_of (c.text-in-Unknown.result ∷ c.text-in-Unknown-2.result ∷ c.text-in-Unknown-3.result ∷ [])) (of_answer (task_of c.args.task.now) c.args.answer.now) same c.object_text-in-Unknown.ensures.text
