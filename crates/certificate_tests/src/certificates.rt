@@ -3,7 +3,7 @@ use crate::helpers::{Answer, check_cert, check_text};
 use crate::listings::{
     ACCEPTED, FEW_ATOMS, LIMITED, Line, Listings, PLANNED, Row, TEXTS, WRONG_ATOMS, WRONG_LINES,
 };
-use certificate::{Cert, Claim, StateLine};
+use certificate::{Cert, Claim, Mark, Potential, StateLine, Version};
 use faults::NoMemory;
 use plan_file::read_plan;
 use std::alloc::Global;
@@ -12,6 +12,14 @@ use std::test::Fail;
 use test_texts::{Term, atom, atoms, on_task};
 use typing::Task;
 
+/// An open state, or a cut.
+fn mark_of(cut: Option<u64>) -> Mark {
+    match cut {
+        None => Mark::Open,
+        Some(rest) => Mark::Cut { rest },
+    }
+}
+
 /// The state lines of these costs, cuts and atoms.
 fn state_lines(alloc: Global, rows: &[Line]) -> Result<Vec<StateLine>, NoMemory> {
     let mut lines = Vec::new(alloc);
@@ -19,14 +27,14 @@ fn state_lines(alloc: Global, rows: &[Line]) -> Result<Vec<StateLine>, NoMemory>
         let atoms = row.2.to_vec(alloc)?;
         lines.push(StateLine {
             cost: row.0,
-            cut: row.1,
+            mark: mark_of(row.1),
             atoms,
         })?;
     }
     Ok(lines)
 }
 
-/// The certificate of these parts, and `None` where they exceed its limits.
+/// The certificate of these parts in version 1, and `None` where they exceed its limits.
 fn cert_of(
     alloc: Global,
     claim: Claim,
@@ -35,9 +43,23 @@ fn cert_of(
     lines: &[Line],
 ) -> Result<Option<Cert>, NoMemory> {
     let atoms = atoms(alloc, rows)?;
-    let weights = Vec::from_slice(alloc, potentials.1)?;
+    let potential = Potential {
+        constant: potentials.0,
+        weights: Vec::from_slice(alloc, potentials.1)?,
+    };
+    let dead_ends = Potential {
+        constant: 0,
+        weights: vec![in alloc; 0; rows.len()]?,
+    };
     let lines = state_lines(alloc, lines)?;
-    Ok(Cert::new(claim, potentials.0, atoms, weights, lines))
+    Ok(Cert::new(
+        Version::One,
+        claim,
+        potential,
+        dead_ends,
+        atoms,
+        lines,
+    ))
 }
 
 /// The certificate of a row of the listings.
@@ -164,7 +186,7 @@ static WITHIN: [(Claim, Line, bool); 11] = [
 fn has_its_parts(cert: &Cert, claim: Claim, line: &Line) -> bool {
     match (cert.atoms(), cert.lines()) {
         ([_, second], [only]) => {
-            (only.cost, only.cut, only.atoms.as_slice()) == *line
+            (only.cost, only.mark, only.atoms.as_slice()) == (line.0, mark_of(line.1), line.2)
                 && cert.claim() == claim
                 && cert.constant() == POTENTIALS.0
                 && cert.weights() == POTENTIALS.1
@@ -216,6 +238,79 @@ fn may_weigh(alloc: Global, constant: i64, weights: &[i64]) -> Result<bool, NoMe
 fn weights_keep_their_limits(rt: HostRuntime) -> Result<(), Fail> {
     for (number, (constant, weights, fits)) in WEIGHTS.iter().enumerate() {
         let is_made = may_weigh(rt.alloc(), *constant, *weights)?;
+        assert_eq!(rt; is_made, *fits, "row {number}");
+    }
+    Ok(())
+}
+
+/// A version, what is said of the one state, the constant and the weights of dead ends, and whether a certificate may have
+/// them.
+#[rattlefmt::skip]
+static VERSIONS: [(Version, Mark, i64, &[i64], bool); 10] = [
+    (Version::One, Mark::Open, 0, &[0, 0], true),
+    (Version::One, Mark::Dead, 0, &[0, 0], false),
+    (Version::One, Mark::Open, 1, &[0, 0], false),
+    (Version::One, Mark::Open, 0, &[0, -1], false),
+    (Version::Two, Mark::Open, 0, &[0, 0], true),
+    (Version::Two, Mark::Dead, 1, &[-1, 2_147_483_647], true),
+    (Version::Two, Mark::Cut { rest: MOST }, -2_147_483_647, &[0, 1], true),
+    (Version::Two, Mark::Dead, 2_147_483_648, &[0, 0], false),
+    (Version::Two, Mark::Dead, 0, &[0, -2_147_483_648], false),
+    (Version::Two, Mark::Dead, 0, &[0], false),
+];
+
+/// The certificate of no plan, of two atoms and the initial state of `GO`, in this version.
+fn cert_in(
+    alloc: Global,
+    version: Version,
+    mark: Mark,
+    dead_ends: (i64, &[i64]),
+) -> Result<Option<Cert>, NoMemory> {
+    let potential = Potential {
+        constant: 0,
+        weights: vec![in alloc; 0, 0]?,
+    };
+    let dead_ends = Potential {
+        constant: dead_ends.0,
+        weights: Vec::from_slice(alloc, dead_ends.1)?,
+    };
+    let atoms = atoms(alloc, &[(0, &[]), (1, &[])])?;
+    let state = StateLine {
+        cost: 0,
+        mark,
+        atoms: vec![in alloc; 0]?,
+    };
+    let lines = vec![in alloc; state]?;
+    Ok(Cert::new(
+        version,
+        Claim::Unsolvable,
+        potential,
+        dead_ends,
+        atoms,
+        lines,
+    ))
+}
+
+/// Whether there is a certificate of these parts, and it has them.
+fn is_made_in(
+    alloc: Global,
+    version: Version,
+    mark: Mark,
+    dead_ends: (i64, &[i64]),
+) -> Result<bool, NoMemory> {
+    match &cert_in(alloc, version, mark, dead_ends)? {
+        Some(cert) => Ok(cert.version() == version
+            && cert.dead_end_constant() == dead_ends.0
+            && cert.dead_end_weights() == dead_ends.1
+            && cert.lines().iter().all(|line| line.mark == mark)),
+        None => Ok(false),
+    }
+}
+
+#[test]
+fn versions_keep_their_limits(rt: HostRuntime) -> Result<(), Fail> {
+    for (number, (version, mark, constant, weights, fits)) in VERSIONS.iter().enumerate() {
+        let is_made = is_made_in(rt.alloc(), *version, *mark, (*constant, *weights))?;
         assert_eq!(rt; is_made, *fits, "row {number}");
     }
     Ok(())

@@ -281,7 +281,7 @@ pub(crate) static TEXTS: [(Texts, u32, &str, Answer); 15] = [
     // that comes before the limit of instances
     (GO, 0, "pddl-cert 1\nclaim bound 1\nconstant 0\natom 0 (r)\nend 0\n", Err(At { code: NotFluent, line: 4 })),
     // the first line at fault is told: by the text's own rules, or for what it says of the task
-    (PATH, 100, "pddl-cert 2\nclaim bound 0\nconstant 0\natom 0 (by a)\nend 0\n", Err(At { code: CertVersion, line: 1 })),
+    (PATH, 100, "pddl-cert 3\nclaim bound 0\nconstant 0\natom 0 (by a)\nend 0\n", Err(At { code: CertVersion, line: 1 })),
     (PATH, 100, "pddl-cert 1\nclaim bound 00\nconstant 0\natom 0 (by a)\nend 0\n", Err(At { code: CertForm, line: 2 })),
     (PATH, 100, "pddl-cert 1\nclaim bound 0\nconstant 0\natom 0 (by a)\nopen 00\nend 1\n", Err(At { code: NotFluent, line: 4 })),
     (PATH, 100, "pddl-cert 1\nclaim bound 0\nconstant 0\natom 0 (at a)\natom 0 (at a)\nopen 0 1", Err(At { code: Repeated, line: 5 })),

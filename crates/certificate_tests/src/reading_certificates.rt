@@ -1,11 +1,13 @@
 //! The lines of certificates' texts, over devices that give bytes in pieces, that fail, and that never end.
-use certificate::{CertFault, CertLine, CertReader, Claim, NamedAtom, StateLine, TextFault};
+use certificate::{
+    CertFault, CertLine, CertReader, Claim, Mark, NamedAtom, StateLine, TextFault, Version, Weights,
+};
 use devices::{Endless, FailsAt, InPieces, Memory, Source};
 use std::alloc::{AllocError, Global};
 use std::process::Abort;
 use std::test::Fail;
 
-/// A certificate of ten lines.
+/// A certificate of ten lines, in version 1.
 const HOP: &[u8] =
     b"pddl-cert 1\nclaim bound 6\nconstant 6\natom 0 (at a)\natom -3 (at b)\natom -6 (at c)\nopen 0 0\nopen 3 1\ncut 6 0 2\nend 3\n";
 
@@ -42,63 +44,91 @@ fn one_by_one(alloc: Global, bytes: &[u8]) -> Result<InPieces<Memory>, AllocErro
     Ok(InPieces::new(Memory::new(bytes.to_vec(alloc)?), 1))
 }
 
-/// An atom of one object, with this weight.
-fn atom_at(alloc: Global, weight: i64, object: &[u8]) -> Result<CertLine, AllocError> {
+/// The same in version 2, where the last state is a dead end.
+const DEAD: &[u8] =
+    b"pddl-cert 2\nclaim bound 6\nconstant 6 -1\natom 0 0 (at a)\natom -3 0 (at b)\natom -6 2 (at c)\nopen 0 0\nopen 3 1\ndead 6 2\nend 3\n";
+
+/// One number in version 1, and two in version 2.
+fn weights(version: Version, of_value: i64, of_dead_end: i64) -> Weights {
+    Weights {
+        of_value,
+        of_dead_end: match version {
+            Version::One => None,
+            Version::Two => Some(of_dead_end),
+        },
+    }
+}
+
+/// An atom of one object, with these weights.
+fn atom_at(alloc: Global, weights: Weights, object: &[u8]) -> Result<CertLine, AllocError> {
     let atom = NamedAtom {
         predicate: b"at".to_vec(alloc)?,
         objects: vec![in alloc; object.to_vec(alloc)?]?,
     };
-    Ok(CertLine::Weight { weight, atom })
+    Ok(CertLine::Weight { weights, atom })
 }
 
 /// A state of one atom.
-fn state(alloc: Global, cost: u64, cut: Option<u64>, atom: u32) -> Result<CertLine, AllocError> {
+fn state(alloc: Global, cost: u64, mark: Mark, atom: u32) -> Result<CertLine, AllocError> {
     let atoms = vec![in alloc; atom]?;
-    Ok(CertLine::Listed(StateLine { cost, cut, atoms }))
+    Ok(CertLine::Listed(StateLine { cost, mark, atoms }))
 }
 
-/// The line of this number of `HOP`, from 0 on.
-fn line_of_hop(alloc: Global, number: u32) -> Result<CertLine, AllocError> {
+/// What is said of the last state.
+fn last_mark(version: Version) -> Mark {
+    match version {
+        Version::One => Mark::Cut { rest: 0 },
+        Version::Two => Mark::Dead,
+    }
+}
+
+/// The line of this number of `HOP`, or of `DEAD`, from 0 on.
+fn line_of(alloc: Global, version: Version, number: u32) -> Result<CertLine, AllocError> {
     match number {
-        0 => Ok(CertLine::Head),
+        0 => Ok(CertLine::Version(version)),
         1 => Ok(CertLine::Claim(Claim::Bound(6))),
-        2 => Ok(CertLine::Constant(6)),
-        3 => atom_at(alloc, 0, b"a"),
-        4 => atom_at(alloc, -3, b"b"),
-        5 => atom_at(alloc, -6, b"c"),
-        6 => state(alloc, 0, None, 0),
-        7 => state(alloc, 3, None, 1),
-        8 => state(alloc, 6, Some(0), 2),
+        2 => Ok(CertLine::Constants(weights(version, 6, -1))),
+        3 => atom_at(alloc, weights(version, 0, 0), b"a"),
+        4 => atom_at(alloc, weights(version, -3, 0), b"b"),
+        5 => atom_at(alloc, weights(version, -6, 2), b"c"),
+        6 => state(alloc, 0, Mark::Open, 0),
+        7 => state(alloc, 3, Mark::Open, 1),
+        8 => state(alloc, 6, last_mark(version), 2),
         _ => Ok(CertLine::Last { count: 3 }),
     }
 }
 
-/// Whether the reader's next line is the one of this number of `HOP`.
+/// Whether the reader's next line is the one of this number.
 fn is_next<S: Source>(
     alloc: Global,
     reader: &mut CertReader<S>,
+    version: Version,
     number: u32,
 ) -> Result<bool, Fail> {
-    let wanted = line_of_hop(alloc, number)?;
+    let wanted = line_of(alloc, version, number)?;
     Ok(reader.next_line()? == Some(wanted))
 }
 
-fn hands_out_hop<S: Source>(
+/// The reader hands out these lines, and no more.
+fn hands_out<S: Source>(
     rt: &impl Abort,
     alloc: Global,
     reader: &mut CertReader<S>,
+    version: Version,
 ) -> Result<(), Fail> {
     for number in 0..10 {
-        assert!(rt; is_next(alloc, reader, number)?, "line {number}");
+        assert!(rt; is_next(alloc, reader, version, number)?, "line {number}");
     }
+    assert!(rt; reader.next_line()?.is_none());
     Ok(())
 }
 
 #[test]
 fn lines_are_what_they_say(rt: HostRuntime) -> Result<(), Fail> {
-    let mut reader = CertReader::new(rt.alloc(), one_by_one(rt.alloc(), HOP)?);
-    hands_out_hop(&rt, rt.alloc(), &mut reader)?;
-    assert!(rt; reader.next_line()?.is_none());
+    for (text, version) in [(HOP, Version::One), (DEAD, Version::Two)] {
+        let mut reader = CertReader::new(rt.alloc(), one_by_one(rt.alloc(), text)?);
+        hands_out(&rt, rt.alloc(), &mut reader, version)?;
+    }
     Ok(())
 }
 

@@ -1,7 +1,7 @@
 //! Certificates that are written to sinks that fail.
 ghost use Rattle.std.specs.Prelude.{◌<◌};
 
-use certificate::{Cert, Claim, StateLine, write_cert};
+use certificate::{Cert, Claim, Mark, Potential, StateLine, Version, write_cert};
 use devices::{FailsAt, InPieces, Memory, WriteFault};
 use faults::NoMemory;
 use std::alloc::{AllocError, Global};
@@ -10,28 +10,42 @@ use std::test::Fail;
 use test_texts::{GO, atoms, on_task};
 use typing::Task;
 
-/// The certificate of `GO`'s two atoms that lists a state of both so many times.
+/// The certificate of `GO`'s two atoms that lists a state of both as a dead end so many times.
 fn cert(alloc: Global, count: usize) -> Result<Option<Cert>, NoMemory> {
     let mut lines = Vec::new(alloc);
     for _ in 0..count {
         let atoms = vec![in alloc; 0, 1]?;
         lines.push(StateLine {
             cost: 0,
-            cut: None,
+            mark: Mark::Dead,
             atoms,
         })?;
     }
     let atoms = atoms(alloc, &[(0, &[]), (1, &[])])?;
-    let weights = vec![in alloc; 0, 0]?;
-    Ok(Cert::new(Claim::Bound(0), 0, atoms, weights, lines))
+    let potential = Potential {
+        constant: 0,
+        weights: vec![in alloc; 0, 0]?,
+    };
+    let dead_ends = Potential {
+        constant: 1,
+        weights: vec![in alloc; -1, 2]?,
+    };
+    Ok(Cert::new(
+        Version::Two,
+        Claim::Bound(0),
+        potential,
+        dead_ends,
+        atoms,
+        lines,
+    ))
 }
 
 /// Its text.
 fn text(alloc: Global, count: usize) -> Result<Vec<u8>, AllocError> {
-    let mut text = b"pddl-cert 1\nclaim bound 0\nconstant 0\natom 0 (p)\natom 0 (q)\n".to_vec(
+    let mut text = b"pddl-cert 2\nclaim bound 0\nconstant 0 1\natom 0 -1 (p)\natom 0 2 (q)\n".to_vec(
         alloc,
     )?;
-    text.extend_from_slice(b"open 0 0 1\n".repeat(alloc, count)?.as_slice())?;
+    text.extend_from_slice(b"dead 0 0 1\n".repeat(alloc, count)?.as_slice())?;
     text.extend_from_slice(format!(in alloc; "end {count}\n")?.as_bytes())?;
     Ok(text)
 }

@@ -1,10 +1,10 @@
 //! The search over ground tasks, in either store: what it finds does not depend on how the states are kept.
-use crate::answers::{ANSWERS, Found};
+use crate::answers::{ANSWERS, Found, Limit};
 use faults::NoMemory;
 use grounding::{Ground, GroundFault};
 use packed_state::{Packed, PlainStore, PooledStore, StateStore};
-use search::{FoundStates, MAX_STATES, NoEstimate, Outcome, best_first};
-use solver::{Exceeded, GroundSystem};
+use search::{FoundStates, MAX_STATES, NoDeadEnd, NoEstimate, Outcome, best_first};
+use solver::GroundSystem;
 use std::alloc::Global;
 use std::test::Fail;
 use test_texts::on_task;
@@ -15,7 +15,7 @@ fn told<S>(outcome: &Outcome<S>) -> Found {
     match outcome {
         Outcome::Found { cost, .. } => Ok(Some(*cost)),
         Outcome::Exhausted { .. } => Ok(None),
-        Outcome::States => Err(Exceeded::States),
+        Outcome::States { bound, .. } => Err(Limit::States(*bound)),
     }
 }
 
@@ -30,7 +30,7 @@ fn states_of<S>(outcome: &Outcome<S>) -> Option<&FoundStates<S>> {
     match outcome {
         Outcome::Found { states, .. } => Some(states),
         Outcome::Exhausted { states } => Some(states),
-        Outcome::States => None,
+        Outcome::States { states, .. } => Some(states),
     }
 }
 
@@ -94,9 +94,11 @@ fn told_alike<A: StateStore, B: StateStore>(
 fn found_by_both(alloc: Global, ground: &Ground<'_>, most: u32) -> Result<Option<Found>, NoMemory> {
     let (system, width) = (GroundSystem(ground), ground.width());
     let most = most.clamp(1, MAX_STATES);
-    let none = NoEstimate(&system);
-    let plain = best_first(alloc, &system, &none, PlainStore::new(alloc, width), most)?;
-    let pooled = best_first(alloc, &system, &none, PooledStore::new(alloc, width)?, most)?;
+    let (none, no_end) = (NoEstimate(&system), NoDeadEnd(&system));
+    let store = PlainStore::new(alloc, width);
+    let plain = best_first(alloc, &system, &none, &no_end, store, most)?;
+    let store = PooledStore::new(alloc, width)?;
+    let pooled = best_first(alloc, &system, &none, &no_end, store, most)?;
     told_alike(alloc, width, &plain, &pooled)
 }
 
@@ -104,8 +106,16 @@ fn found_by_both(alloc: Global, ground: &Ground<'_>, most: u32) -> Result<Option
 fn found(alloc: Global, task: &Task, most: u32, instances: u32) -> Result<Option<Found>, NoMemory> {
     match &Ground::new(alloc, task, &[], instances) {
         Ok(ground) => found_by_both(alloc, ground, most),
-        Err(GroundFault::At(_)) => Ok(Some(Err(Exceeded::Instances))),
+        Err(GroundFault::At(_)) => Ok(Some(Err(Limit::Instances))),
         Err(GroundFault::NoMemory) => Err(NoMemory),
+    }
+}
+
+/// What is found out with no estimate, by which the bound at the limit of states is lower.
+fn with_no_estimate(found: Found) -> Found {
+    match found {
+        Err(Limit::States(_)) => Err(Limit::States(0)),
+        _ => found,
     }
 }
 
@@ -113,7 +123,8 @@ fn found(alloc: Global, task: &Task, most: u32, instances: u32) -> Result<Option
 fn stores_give_the_same_search(rt: HostRuntime) -> Result<(), Fail> {
     for (texts, states, instances, wanted) in &ANSWERS {
         on_task(&rt, rt.alloc(), texts, |rt, alloc, task| {
-            assert_eq!(rt; found(alloc, task, *states, *instances)?, Some(*wanted));
+            let wanted = with_no_estimate(*wanted);
+            assert_eq!(rt; found(alloc, task, *states, *instances)?, Some(wanted));
             Ok(())
         })?;
     }

@@ -6,6 +6,8 @@
 #[cfg(test)]
 mod answers;
 #[cfg(test)]
+mod blind_rooms;
+#[cfg(test)]
 mod dear_doors;
 #[cfg(test)]
 mod fairness;

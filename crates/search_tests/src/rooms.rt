@@ -56,7 +56,7 @@ impl Rooms {
     }
 
     /// Whether the state's room has a door of this number.
-    fn has_door(&self, door: u32, state: &Packed) -> bool
+    pub(crate) fn has_door(&self, door: u32, state: &Packed) -> bool
         requires { length (bits_of state.now) ≡ self.now.width }
         ensures { result ≡ is_some (through self.now.width (doors self.now.first.now self.now.second.now door) (bits_of state.now)) }
     {

@@ -1,22 +1,27 @@
 //! The search over a system that stands here alone: what it finds, and in which order, in either store.
 ghost use Rattle.std.specs.Prelude.{◌≡◌, []};
 
+use crate::blind_rooms::{Blind, is_blind};
 use crate::packed_states::{set_of, stands_at};
 use crate::rooms::Rooms;
 use crate::signs::Signs;
 use faults::NoMemory;
 use packed_state::{PlainStore, PooledStore, StateStore};
-use search::{FoundStates, MAX_STATES, NoEstimate, Node, Outcome, best_first, value_of};
+use search::{
+    FoundStates, MAX_STATES, NoDeadEnd, NoEstimate, Node, Outcome, best_first, value_of,
+};
 use std::alloc::Global;
 use std::test::Fail;
 
-/// Rooms, their signs, the most rooms that may be found, the doors of the plan that is found and its cost, if there is one, and the rooms in
-/// the order in which they are found, with what it costs to reach each. There are no such rooms where the limit is told.
+/// Rooms, their signs, the most rooms that may be found, the doors of the plan that is found and its cost, if there is one, what
+/// every plan costs at least where the limit is told, and the rooms in the order in which they are found, with what it costs to
+/// reach each.
 pub(crate) struct Row {
     pub(crate) rooms: Rooms,
     pub(crate) signs: &'static [u32],
     pub(crate) most: u32,
     pub(crate) plan: Option<(&'static [u32], u64)>,
+    pub(crate) limit: Option<u64>,
     pub(crate) found: &'static [u32],
     pub(crate) costs: &'static [u64],
 }
@@ -36,57 +41,58 @@ static ROWS: [Row; 11] = [
     // many cheap steps are cheaper than few dear ones
     Row {
         rooms: Rooms { width: 10, first: CLIMB_FIRST, second: CLIMB_SECOND, first_cost: 1, second_cost: 5, goal: 3 },
-        signs: &[], most: 100, plan: Some((&[1, 1, 1], 3)), found: &[0, 1, 2, 3, 4], costs: &[0, 1, 2, 3, 7],
+        signs: &[], most: 100, plan: Some((&[1, 1, 1], 3)), limit: None, found: &[0, 1, 2, 3, 4], costs: &[0, 1, 2, 3, 7],
     },
-    // there are ten rooms, and no room 10
+    // There are ten rooms, and no room 10. Where nine may be found, room 7 has its turn when one more would have to be, and a
+    // cheaper way to 8 is found before.
     Row {
         rooms: Rooms { width: 10, first: CLIMB_FIRST, second: CLIMB_SECOND, first_cost: 1, second_cost: 5, goal: 10 },
-        signs: &[], most: 10, plan: None, found: &[0, 1, 2, 3, 4, 5, 6, 7, 8, 9], costs: &[0, 1, 2, 3, 4, 5, 6, 7, 8, 9],
+        signs: &[], most: 10, plan: None, limit: None, found: &[0, 1, 2, 3, 4, 5, 6, 7, 8, 9], costs: &[0, 1, 2, 3, 4, 5, 6, 7, 8, 9],
     },
     Row {
         rooms: Rooms { width: 10, first: CLIMB_FIRST, second: CLIMB_SECOND, first_cost: 1, second_cost: 5, goal: 10 },
-        signs: &[], most: 9, plan: None, found: &[], costs: &[],
+        signs: &[], most: 9, plan: None, limit: Some(7), found: &[0, 1, 2, 3, 4, 5, 6, 7, 8], costs: &[0, 1, 2, 3, 4, 5, 6, 7, 8],
     },
     // the goal holds at the start
     Row {
         rooms: Rooms { width: 64, first: &[1], second: &[2], first_cost: 1, second_cost: 1, goal: 0 },
-        signs: &[], most: 100, plan: Some((&[], 0)), found: &[0], costs: &[0],
+        signs: &[], most: 100, plan: Some((&[], 0)), limit: None, found: &[0], costs: &[0],
     },
     // Doors to N + 1 and to N + 2: room 3 is reached from 1 and from 2, which cost the same, and 1 was found first.
     Row {
         rooms: Rooms { width: 65, first: &[1, 2, 3, 4, 5, 6], second: &[2, 3, 4, 5, 6, 7], first_cost: 1, second_cost: 1, goal: 3 },
-        signs: &[], most: 100, plan: Some((&[1, 2], 2)), found: &[0, 1, 2, 3, 4], costs: &[0, 1, 1, 2, 2],
+        signs: &[], most: 100, plan: Some((&[1, 2], 2)), limit: None, found: &[0, 1, 2, 3, 4], costs: &[0, 1, 1, 2, 2],
     },
     // The same doors in the other order: 2 is found first, then 1, and of 4 and 3, which cost the same, 4.
     Row {
         rooms: Rooms { width: 128, first: &[2, 3, 4, 5, 6, 7], second: &[1, 2, 3, 4, 5, 6], first_cost: 1, second_cost: 1, goal: 3 },
-        signs: &[], most: 100, plan: Some((&[1, 2], 2)), found: &[0, 2, 1, 4, 3, 6, 5], costs: &[0, 1, 1, 2, 2, 3, 3],
+        signs: &[], most: 100, plan: Some((&[1, 2], 2)), limit: None, found: &[0, 2, 1, 4, 3, 6, 5], costs: &[0, 1, 1, 2, 2, 3, 3],
     },
     // Room 5 is found before 6. A cheaper way to 5 is found after 6, and then both cost the same: 5 comes first.
     Row {
         rooms: Rooms { width: 64, first: &[1, 5, 3, 3, 4, 5, 6], second: &[2, 6, 4, 3, 5, 7, 7], first_cost: 2, second_cost: 1, goal: 7 },
-        signs: &[], most: 100, plan: Some((&[2, 2, 2, 2], 4)), found: &[0, 1, 2, 3, 4, 5, 6, 7], costs: &[0, 2, 1, 3, 2, 3, 3, 4],
+        signs: &[], most: 100, plan: Some((&[2, 2, 2, 2], 4)), limit: None, found: &[0, 1, 2, 3, 4, 5, 6, 7], costs: &[0, 2, 1, 3, 2, 3, 3, 4],
     },
     // second doors cost nothing, and lead in a circle
     Row {
         rooms: Rooms { width: 200, first: &[3, 2], second: &[1, 0], first_cost: 1, second_cost: 0, goal: 2 },
-        signs: &[], most: 100, plan: Some((&[2, 1], 1)), found: &[0, 3, 1, 2], costs: &[0, 1, 0, 1],
+        signs: &[], most: 100, plan: Some((&[2, 1], 1)), limit: None, found: &[0, 3, 1, 2], costs: &[0, 1, 0, 1],
     },
     // The signs lead astray: of 2 and 3, then of 4 and 5, whose sums are the same, the one with the least estimate comes first.
     Row {
         rooms: Rooms { width: 64, first: ARMS_FIRST, second: ARMS_SECOND, first_cost: 2, second_cost: 2, goal: 6 },
-        signs: &[0, 0, 3, 0, 3, 0], most: 100, plan: Some((&[2, 1, 1], 6)), found: &[0, 1, 2, 3, 5, 4, 6], costs: &[0, 2, 2, 4, 6, 4, 6],
+        signs: &[0, 0, 3, 0, 3, 0], most: 100, plan: Some((&[2, 1, 1], 6)), limit: None, found: &[0, 1, 2, 3, 5, 4, 6], costs: &[0, 2, 2, 4, 6, 4, 6],
     },
     // The signs are right: room 5 is not found, though with no estimate it is.
     Row {
         rooms: Rooms { width: 64, first: ARMS_FIRST, second: ARMS_SECOND, first_cost: 2, second_cost: 2, goal: 6 },
-        signs: &[0, 3, 0, 3, 0, 3], most: 100, plan: Some((&[2, 1, 1], 6)), found: &[0, 1, 2, 4, 6, 3], costs: &[0, 2, 2, 4, 6, 4],
+        signs: &[0, 3, 0, 3, 0, 3], most: 100, plan: Some((&[2, 1, 1], 6)), limit: None, found: &[0, 1, 2, 4, 6, 3], costs: &[0, 2, 2, 4, 6, 4],
     },
     // Rooms 1 and 4 have one sum and one estimate, and 1 was found first. Then 6 has the same sum and a lower estimate. A
     // cheaper way to 5 is found while it waits; 7 comes before 3 and 5, whose sums are the same.
     Row {
         rooms: Rooms { width: 64, first: &[1, 5, 3, 3, 4, 5, 6], second: &[2, 6, 4, 3, 5, 7, 7], first_cost: 2, second_cost: 1, goal: 7 },
-        signs: &[0, 1, 0, 2, 1, 1], most: 100, plan: Some((&[1, 2, 2], 4)), found: &[0, 1, 2, 3, 4, 5, 6, 7], costs: &[0, 2, 1, 3, 2, 3, 3, 4],
+        signs: &[0, 1, 0, 2, 1, 1], most: 100, plan: Some((&[1, 2, 2], 4)), limit: None, found: &[0, 1, 2, 3, 4, 5, 6, 7], costs: &[0, 2, 1, 3, 2, 3, 3, 4],
     },
 ];
 
@@ -116,14 +122,26 @@ fn are_reached(nodes: &[Node], costs: &[u64]) -> bool {
     nodes.len() == costs.len()
 }
 
-/// Whether the found rooms are those of the row, each at its cost.
+/// Whether each room that was expanded has a door, and is not the one to be reached.
+fn have_doors(alloc: Global, rooms: &Rooms, found: &[u32], nodes: &[Node]) -> Result<bool, NoMemory> {
+    for (&room, node) in found.iter().zip(nodes) {
+        let state = set_of(alloc, rooms.width, &[room])?;
+        if node.is_expanded && (is_blind(rooms, &state) || room == rooms.goal) {
+            return Ok(false);
+        }
+    }
+    Ok(true)
+}
+
+/// Whether the found rooms are those of the row, each at its cost, and none of them was expanded in vain.
 fn are_found<S: StateStore>(
     alloc: Global,
     states: &FoundStates<S>,
     row: &Row,
 ) -> Result<bool, NoMemory> {
     let are_they = has_just(alloc, &states.store, row.rooms.width, row.found)?;
-    Ok(are_they && are_reached(&states.nodes, row.costs))
+    let have_doors = have_doors(alloc, &row.rooms, row.found, &states.nodes)?;
+    Ok(are_they && have_doors && are_reached(&states.nodes, row.costs))
 }
 
 /// Whether this is what the row says.
@@ -138,8 +156,12 @@ fn is_told<S: StateStore>(
             cost,
             states,
         } => Ok(row.plan == Some((steps.as_slice(), *cost)) && are_found(alloc, states, row)?),
-        Outcome::Exhausted { states } => Ok(row.plan.is_none() && are_found(alloc, states, row)?),
-        Outcome::States => Ok(row.plan.is_none() && row.found.is_empty()),
+        Outcome::Exhausted { states } => {
+            Ok(row.plan.is_none() && row.limit.is_none() && are_found(alloc, states, row)?)
+        }
+        Outcome::States { bound, states } => {
+            Ok(row.limit == Some(*bound) && are_found(alloc, states, row)?)
+        }
     }
 }
 
@@ -153,7 +175,7 @@ fn is_as_wanted<S: StateStore>(alloc: Global, row: &Row, store: S) -> Result<boo
         rooms: row.rooms,
         signs: row.signs,
     };
-    let outcome = best_first(alloc, &row.rooms, &signs, store, most)?;
+    let outcome = best_first(alloc, &row.rooms, &signs, &Blind(row.rooms), store, most)?;
     is_told(alloc, &outcome, row)
 }
 
@@ -177,7 +199,8 @@ fn cost_of<S>(outcome: &Outcome<S>) -> Option<u64> {
 fn cost_with_no_estimate(alloc: Global, row: &Row) -> Result<Option<u64>, NoMemory> {
     let most = row.most.clamp(1, MAX_STATES);
     let store = PlainStore::new(alloc, row.rooms.width);
-    let outcome = best_first(alloc, &row.rooms, &NoEstimate(&row.rooms), store, most)?;
+    let none = NoDeadEnd(&row.rooms);
+    let outcome = best_first(alloc, &row.rooms, &NoEstimate(&row.rooms), &none, store, most)?;
     Ok(cost_of(&outcome))
 }
 
