@@ -18,25 +18,25 @@ static ROWS: [Row; 4] = [
     // costs over 32 bits: a second door is dearer than a first one, and cheaper than two of these
     Row {
         rooms: Rooms { width: 10, first: FIRST, second: SECOND, first_cost: 4_000_000_000, second_cost: 4_294_967_295, goal: 4 },
-        signs: &[], most: 100, plan: Some((&[2, 2], 8_589_934_590)), found: &[0, 1, 2, 3, 4, 5],
+        signs: &[], most: 100, plan: Some((&[2, 2], 8_589_934_590)), limit: None, found: &[0, 1, 2, 3, 4, 5],
         costs: &[0, 4_000_000_000, 4_294_967_295, 8_294_967_295, 8_589_934_590, 12_589_934_590],
     },
     // Sums on both sides of 2^20: room 1 is on the near one, and room 2 where that ends.
     Row {
         rooms: Rooms { width: 10, first: FIRST, second: SECOND, first_cost: 524_288, second_cost: 1_048_576, goal: 4 },
-        signs: &[], most: 100, plan: Some((&[2, 2], 2_097_152)), found: &[0, 1, 2, 3, 4, 5],
+        signs: &[], most: 100, plan: Some((&[2, 2], 2_097_152)), limit: None, found: &[0, 1, 2, 3, 4, 5],
         costs: &[0, 524_288, 1_048_576, 1_572_864, 2_097_152, 2_621_440],
     },
     // Of two whose sums are the same the one with the least estimate comes first.
     Row {
         rooms: Rooms { width: 64, first: &[1, 3, 4, 5, 6], second: &[2], first_cost: 2_000_000, second_cost: 2_000_000, goal: 6 },
-        signs: &[0, 0, 3_000_000, 0, 3_000_000, 0], most: 100, plan: Some((&[2, 1, 1], 6_000_000)), found: &[0, 1, 2, 3, 5, 4, 6],
+        signs: &[0, 0, 3_000_000, 0, 3_000_000, 0], most: 100, plan: Some((&[2, 1, 1], 6_000_000)), limit: None, found: &[0, 1, 2, 3, 5, 4, 6],
         costs: &[0, 2_000_000, 2_000_000, 4_000_000, 6_000_000, 4_000_000, 6_000_000],
     },
     // and where estimates are the same too, the one that was found first
     Row {
         rooms: Rooms { width: 64, first: LATER_FIRST, second: LATER_SECOND, first_cost: 2_000_000, second_cost: 1_000_000, goal: 7 },
-        signs: &[], most: 100, plan: Some((&[2, 2, 2, 2], 4_000_000)), found: &[0, 1, 2, 3, 4, 5, 6, 7],
+        signs: &[], most: 100, plan: Some((&[2, 2, 2, 2], 4_000_000)), limit: None, found: &[0, 1, 2, 3, 4, 5, 6, 7],
         costs: &[0, 2_000_000, 1_000_000, 3_000_000, 2_000_000, 3_000_000, 3_000_000, 4_000_000],
     },
 ];
