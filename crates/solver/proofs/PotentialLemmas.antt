@@ -68,7 +68,7 @@ weights-pass (w ∷ weights) all =
     and_from (is_weight w) (list_all is_weight weights) (weight-passes w (all 0 (pos 0) (omega arith))) (weights-pass weights (λ k d below. all (suc k) d (omega (arith, below))))
 
 -- so they keep the limits of a certificate
-pub potentials-pass : (p : PotentialFunction) (count : ℕ) → AreInRange p → length p.weights ≡ count → are_potentials count p ≡ true
+pub potentials-pass : (p : PotentialFunction) (count : ℕ) → AreInRange p → length p.weights ≡ count → are_potentials is_weight count p ≡ true
 potentials-pass p count range width =
     and_from (is_weight p.constant && (length p.weights == count)) (list_all is_weight p.weights)
     (and_from (is_weight p.constant) (length p.weights == count) (weight-passes p.constant range.constant) (eq-eqb (length p.weights) count width))

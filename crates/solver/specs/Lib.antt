@@ -1,5 +1,7 @@
 pub mod Limit
 pub mod Improved
+pub mod DeadEnds
 pub mod Listing
+pub mod AtLimit
 pub mod Reachable
 pub mod Solver
