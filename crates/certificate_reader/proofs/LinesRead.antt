@@ -9,7 +9,7 @@ use Rattle.std.proofs.lemmas.Bool.{and_parts, le-leb}
 use Rattle.std.proofs.lemmas.List.{append_cancel_left, append_cancel_right}
 use Rattle.model.specs.PlanWriting.{is_lower_name}
 use Rattle.model.specs.Claims.{Mark, opened, cut, dead}
-use Rattle.certificate_definitions.specs.Certificates.{Version, one, two, is_number, is_mark, rise}
+use Rattle.certificate_definitions.specs.Certificates.{Version, two, is_number, is_mark, rise}
 use Rattle.certificate_definitions.specs.CertificateText.{NamedAtom, Weights, WeightedAtom, TextLine, version, claims, constant, atom, listed, last, after_blank, are_weights, is_line, line_text, longest_line}
 use Rattle.certificate_reader.specs.Words.{IsFirstWord, IsNumbered, IsReadAs, are_lower, atom_rest, mark_head, then_words, with_rest, with_weights}
 use Rattle.certificate_reader.proofs.WordLemmas.{one_first}
@@ -114,16 +114,6 @@ module _ (rest : List ℕ) (count : ℕ) where
 
   pub no_dead : ((n : ℕ) (atoms : List ℕ) → IsNumbered rest count n atoms → ⊥) → (v : Version) (line : TextLine) → IsReadAs (codes "dead") rest v count line → ⊥
   no_dead never v = only_listed (codes "dead") refl refl refl refl refl rest v count (λ cost mark atoms read. never cost atoms (dead_parts v cost mark atoms read))
-
-  -- version 1 has no such line
-  no_dead_listed : (cost : ℕ) (mark : Mark) (atoms : List ℕ) → IsReadAs (codes "dead") rest one count (listed (record { cost = cost; mark = mark; atoms = atoms })) → ⊥
-  no_dead_listed cost dead atoms read =
-      absurd (cc ((and_parts (is_number cost) false (and_parts (is_number cost && false) (rise count 0 atoms) read.within).0).1))
-  no_dead_listed cost (cut least) atoms read = unlike (codes "cut") (codes "dead") refl read.head
-  no_dead_listed cost opened atoms read = unlike (codes "open") (codes "dead") refl read.head
-
-  pub no_dead_in_one : (line : TextLine) → IsReadAs (codes "dead") rest one count line → ⊥
-  no_dead_in_one = only_listed (codes "dead") refl refl refl refl refl rest one count no_dead_listed
 
 -- ---- cuts
 

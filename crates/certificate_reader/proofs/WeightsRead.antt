@@ -1,6 +1,6 @@
 -- Constants and weights, by their words.
-use Rattle.std.proofs.Common.{◌≡◌, ℕ, true, false, List, Option, None, Some, sym, ap, ◌∙◌}
-use Rattle.std.specs.Prelude.{◌&&◌, ℤ, IfNone, IsTrue}
+use Rattle.std.proofs.Common.{◌≡◌, ℕ, true, false, List, Option, None, Some, ap, ◌∙◌}
+use Rattle.std.specs.Prelude.{ℤ, IfNone, IsTrue}
 use Rattle.std.specs.Borrow.{Bor}
 use Rattle.std.specs.Fmt.{signed_decimal}
 use Rattle.std.specs.Option.{option_map_or}
@@ -60,17 +60,6 @@ module _ (bytes word : List ℕ) (behind : Option (List ℕ)) (first : IsFirstWo
   no_first_weight never v w rest is same =
       let value = value_is v w is in
       never w.of_value value (first_is w.of_value value (option_map_or (λ (n : ℤ). Some (with_rest (signed_decimal n) rest)) w.of_dead_end rest) same).0
-
-  module _ (of_value : ℤ) (is : IsTrue (is_weight of_value)) (same : signed_decimal of_value ≡ word) where
-    pub one_is_read : IsTrue (are_weights one (pair of_value None)) × (with_weights (pair of_value None) behind ≡ bytes)
-    one_is_read = (ap (λ b. b && true) is, ap (λ word. with_rest word behind) same ∙ sym first.splits)
-
-    pub two_are_read : (w : Weights) (n : ℤ) (rest : Option (List ℕ)) → w ≡ pair of_value (Some n) → IsTrue (is_weight n) → Some (with_rest (signed_decimal n) rest) ≡ behind
-        → IsTrue (are_weights two w) × (with_weights w rest ≡ bytes)
-    two_are_read w n rest made n_is at = (
-      ap (are_weights two) made ∙ (λ i. is i && n_is i),
-      ap (λ w. with_weights w rest) made ∙ (λ i. with_rest (same i) (at i)) ∙ sym first.splits,
-    )
 
   pub no_second_weight : ((n : ℤ) (rest : Option (List ℕ)) → IsTrue (is_weight n) → Some (with_rest (signed_decimal n) rest) ≡ behind → ⊥)
       → (w : Weights) (rest : Option (List ℕ)) → IsTrue (are_weights two w) → with_weights w rest ≡ bytes → ⊥
