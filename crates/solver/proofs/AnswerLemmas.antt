@@ -14,14 +14,12 @@ use Rattle.search.specs.declared.nodes.Node.{Node}
 use Rattle.search.specs.Outcome as search
 use Rattle.search.specs.declared.best.Outcome.{Outcome}
 use Rattle.search.specs.Estimates.{value_by}
-use Rattle.search.specs.DeadEnds.{TellsDeadEnds}
-use Rattle.search.proofs.DeadEnds.{are_dead_ends}
 use Rattle.search.specs.Outcome.{lines_of, AreFound, IsTrueOutcome}
 use Rattle.solver.specs.Reachable.{AreMoreReachable}
 use Rattle.solver.specs.Limit.{is_limit}
 use Rattle.solver.proofs.ByCost.{more_by_cost}
 use Rattle.solver.proofs.GroundLemmas.{length-reachable, more_reachable, numbers_named, one_named}
-use Rattle.solver.proofs.PotentialLemmas.{estimate-value, most_value, value-most, lower_bound}
+use Rattle.solver.proofs.PotentialLemmas.{estimate-value, most_value, value-most, lower_bound, are_dead_ends}
 use Rattle.solver.proofs.FoundLines.{found_line, node_at}
 use Rattle.solver.proofs.LimitLemmas.{limit_claim}
 use Rattle.model.specs.Task.{Task, Atom, Instance}
@@ -30,7 +28,7 @@ use Rattle.model.specs.Claims.{Claim, bound, none, Line, IsClosed, IsLowerBound,
 use Rattle.model.specs.Meaning.{State, step, is_instance, system_of}
 use Rattle.certificate_definitions.specs.Certificates.{is_claim}
 use Rattle.potential_functions.specs.PotentialFunctions.{PotentialFunction, score, value, is_dead_by, AreInRange}
-use Rattle.potential_functions.specs.Laws.{AreLowerBounds}
+use Rattle.potential_functions.specs.Laws.{AreLowerBounds, TellDeadEnds}
 use Rattle.model.specs.Fluents.{is_fluent}
 use Rattle.model.specs.ClosedOff.{kept_instances}
 use Rattle.model.specs.NumberedAtoms.{numbered_atoms}
@@ -167,11 +165,11 @@ module _ (task : Task) (atoms : List Atom) (numbered : atoms ≡ numbered_atoms 
 
   -- a claim that is shown by potentials of so few atoms is a certificate's: that of a plan, and that of a search that stops at the limit
   pub claim_allowed : (p q : PotentialFunction) (cost max_states : ℕ) (states : List (List Bool)) (nodes : List Node) (plan : List ℕ) → Solves (ground_system task atoms) plan
-      → AreFound (ground_system task atoms) (value p) (is_dead_by q) (bound cost) max_states states nodes → AreInRange p → AreLowerBounds task atoms p → TellsDeadEnds (ground_system task atoms) (is_dead_by q)
+      → AreFound (ground_system task atoms) (value p) (is_dead_by q) (bound cost) max_states states nodes → AreInRange p → AreLowerBounds task atoms p → TellDeadEnds task atoms q
       → length atoms ≤ 1048576 → max_states ≤ 16777216 → is_claim (bound cost) ≡ true
-  claim_allowed p q cost max_states states nodes plan solves found range bounds tells few_atoms few =
+  claim_allowed p q cost max_states states nodes plan solves found range bounds tell few_atoms few =
       cheap_plan (ground_system task atoms) (value p) (is_dead_by q) cost max_states states nodes plan solves found
-      (found_values p (is_dead_by q) (bound cost) max_states states nodes found range few_atoms) (lower_bound task atoms p bounds) (are_dead_ends (ground_system task atoms) (is_dead_by q) tells) few
+      (found_values p (is_dead_by q) (bound cost) max_states states nodes found range few_atoms) (lower_bound task atoms p bounds) (are_dead_ends task atoms q tell) few
 
   pub limit_allowed : (p q : PotentialFunction) (least max_states : ℕ) (states : List (List Bool)) (nodes : List Node)
       → search.IsAtLimit (ground_system task atoms) (value p) (is_dead_by q) max_states least states nodes → AreInRange p → length atoms ≤ 1048576 → max_states ≤ 16777216 → is_claim (bound least) ≡ true

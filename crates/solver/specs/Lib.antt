@@ -1,6 +1,5 @@
 pub mod Limit
 pub mod Improved
-pub mod DeadEnds
 pub mod Listing
 pub mod AtLimit
 pub mod Reachable

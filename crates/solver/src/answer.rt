@@ -2,13 +2,14 @@
 ghost use Rattle.std.specs.Prelude.{[], IfOk, IsTrue};
 ghost use Rattle.typing.specs.Task.{task_of};
 ghost use Rattle.grounding.specs.Ground.{task_in, atoms_in, IsGroundOf};
+ghost use Rattle.potential_functions.specs.Fair.{AreDeadFair};
 ghost use Rattle.potentials_improved.specs.FairPotentials.{potentials_in, AreOf};
-ghost use Rattle.solver.specs.DeadEnds.{dead_ground_in};
+ghost use Rattle.potentials_improved.specs.DeadFairPotentials as dead;
 ghost use Rattle.solver.specs.Improved.{AreSettledOrHigh};
 ghost use Rattle.solver.specs.Solver.{IsTrueAnswer};
 ghost use Rattle.model.specs.WellTyped.{is_task};
 
-use crate::dead_ends::{DeadFair, improved_dead_ends};
+use crate::dead_ends::improved_dead_ends;
 use crate::estimate::improved_potentials;
 use crate::limits::Limits;
 use crate::listing::cert_of;
@@ -19,7 +20,7 @@ use faults::{NoMemory, Refused};
 use formulas::Plan;
 use grounding::{Ground, GroundLimit};
 use packed_state::PooledStore;
-use potentials_improved::Fair;
+use potentials_improved::{DeadFair, Fair};
 use search::{Outcome, best_first};
 use std::alloc::Global;
 use typing::Task;
@@ -117,7 +118,8 @@ fn solve_by(
     requires ground { IsGroundOf (task_in ground.now) [] limits.instances ground.now }
     requires fair { AreOf ground.now (potentials_in estimate.now) estimate.now }
     requires improved { AreSettledOrHigh (task_in ground.now) (atoms_in ground.now) (potentials_in estimate.now) }
-    requires dead_fair { dead_ground_in dead_ends.now ≡ ground.now }
+    requires dead_ends { dead.AreOf ground.now (dead.potentials_in dead_ends.now) dead_ends.now }
+    requires dead_fair { AreDeadFair (task_in ground.now) (atoms_in ground.now) (dead.potentials_in dead_ends.now) }
     ensures { IfOk result (IsTrueAnswer (task_in ground.now) limits.states limits.instances) }
 {
     let system = GroundSystem(ground);

@@ -21,19 +21,18 @@ ghost use Rattle.grounding.specs.Ground.{task_in, atoms_in};
 ghost use Rattle.potential_functions.specs.PotentialFunctions.{value, is_dead_by};
 ghost use Rattle.potentials_improved.specs.Potentials.{potentials_of};
 ghost use Rattle.potentials_improved.specs.FairPotentials.{potentials_in, ground_in};
-ghost use Rattle.solver.specs.DeadEnds.{dead_potentials_in, dead_ground_in};
+ghost use Rattle.potentials_improved.specs.DeadFairPotentials as dead;
 ghost use Rattle.solver.specs.Listing.{found_certificate, mark_of_line};
 ghost use Rattle.model.specs.NumberedAtoms.{numbered_atoms, are_distinct};
 ghost use Rattle.model.specs.Grounding.{ground_system};
 ghost use Rattle.certificate_definitions.specs.Certificates.{is_claim};
 
-use crate::dead_ends::DeadFair;
 use certificate::{Beginning, Claim, Listed, Listing, Mark, Potential, States, Version};
 use faults::NoMemory;
 use formulas::Atom;
 use indexmap::IndexSet;
 use packed_state::{Packed, PooledStore, StateStore};
-use potentials_improved::{Fair, Potentials};
+use potentials_improved::{DeadFair, Fair, Potentials};
 use search::{DeadEnd, FoundStates, Node};
 use std::alloc::Global;
 
@@ -47,20 +46,21 @@ pub(crate) fn cert_of(
     found: FoundStates<PooledStore>,
 ) -> Result<Listing, NoMemory>
     requires claim { IsTrue (is_claim (claim_of claim)) }
-    requires dead_ends { dead_ground_in dead_ends.now ≡ ground_in fair.now }
+    requires dead_ends { dead.ground_in dead_ends.now ≡ ground_in fair.now }
     requires atoms { atoms_in (ground_in fair.now) ≡ numbered_atoms (task_in (ground_in fair.now)) [] }
     requires few { length (atoms_in (ground_in fair.now)) ≤ MAX_ATOMS }
-    requires found { AreFound (ground_system (task_in (ground_in fair.now)) (atoms_in (ground_in fair.now))) (value (potentials_in fair.now)) (is_dead_by (dead_potentials_in dead_ends.now)) (claim_of claim) MAX_STATE_LINES (pooled_states found.store) found.nodes.items }
-    ensures { IfOk result (λ cert. certificate_in cert ≡ found_certificate (claim_of claim) (atoms_in (ground_in fair.now)) (potentials_in fair.now) (dead_potentials_in dead_ends.now) (pooled_states found.store) found.nodes.items) }
+    requires found { AreFound (ground_system (task_in (ground_in fair.now)) (atoms_in (ground_in fair.now))) (value (potentials_in fair.now)) (is_dead_by (dead.potentials_in dead_ends.now)) (claim_of claim) MAX_STATE_LINES (pooled_states found.store) found.nodes.items }
+    ensures { IfOk result (λ cert. certificate_in cert ≡ found_certificate (claim_of claim) (atoms_in (ground_in fair.now)) (potentials_in fair.now) (dead.potentials_in dead_ends.now) (pooled_states found.store) found.nodes.items) }
 {
+    let potentials = fair.potentials();
     let beginning = Beginning {
         version: Version::Two,
         claim,
         atoms: copied(alloc, fair.ground().atoms().as_slice())?,
-        potential: potential_of(alloc, fair.potentials())?,
+        potential: potential_of(alloc, potentials)?,
         dead_ends: potential_of(alloc, dead_ends.potentials())?,
     };
-    let marks = marks(alloc, fair.potentials(), dead_ends, &found)?;
+    let marks = marks(alloc, potentials, dead_ends, &found)?;
     let sets = found.store;
     Ok(Listing::new(beginning, States { marks, sets }))
 }
@@ -98,8 +98,8 @@ fn marks(
     requires one_for_each { length found.now.nodes.items ≡ length (pooled_states found.now.store) }
     requires few { length (pooled_states found.now.store) ≤ MAX_STATE_LINES }
     requires width { All (λ (bits : List Bool). length bits ≡ length (potentials_of potentials.now).weights) (pooled_states found.now.store) }
-    requires dead_end_width { length (atoms_in (dead_ground_in dead_ends.now)) ≡ length (potentials_of potentials.now).weights }
-    ensures { IfOk result (λ marks. map parts.listed_of marks.items ≡ map mark_of_line (search.lines_of (value (potentials_of potentials.now)) (is_dead_by (dead_potentials_in dead_ends.now)) (pooled_states found.now.store) found.now.nodes.items)) }
+    requires dead_end_width { length (atoms_in (dead.ground_in dead_ends.now)) ≡ length (potentials_of potentials.now).weights }
+    ensures { IfOk result (λ marks. map parts.listed_of marks.items ≡ map mark_of_line (search.lines_of (value (potentials_of potentials.now)) (is_dead_by (dead.potentials_in dead_ends.now)) (pooled_states found.now.store) found.now.nodes.items)) }
 {
     let mut state = Packed::empty(alloc, found.store.width())?;
     let mut marks = Vec::with_capacity(alloc, found.nodes.len())?;
@@ -118,8 +118,8 @@ fn listed(
     node: Node,
 ) -> Listed
     requires width { length (bits_of state.now) ≡ length (potentials_of potentials.now).weights }
-    requires dead_end_width { length (bits_of state.now) ≡ length (atoms_in (dead_ground_in dead_ends.now)) }
-    ensures { parts.listed_of result ≡ mark_of_line (search.line_of (value (potentials_of potentials.now)) (is_dead_by (dead_potentials_in dead_ends.now)) (bits_of state.now) node) }
+    requires dead_end_width { length (bits_of state.now) ≡ length (atoms_in (dead.ground_in dead_ends.now)) }
+    ensures { parts.listed_of result ≡ mark_of_line (search.line_of (value (potentials_of potentials.now)) (is_dead_by (dead.potentials_in dead_ends.now)) (bits_of state.now) node) }
 {
     let mark = if node.is_expanded {
         Mark::Open
