@@ -28,13 +28,13 @@ fn nothing_told(alloc: Global) -> Beginning
         version: Version::One,
         claim: Claim::Bound(0),
         atoms: IndexSet::new(alloc),
-        potential: nowhere(alloc),
-        dead_ends: nowhere(alloc),
+        potential: zero_potential(alloc),
+        dead_ends: zero_potential(alloc),
     }
 }
 
 /// The potential function of no atoms that is 0.
-fn nowhere(alloc: Global) -> Potential
+fn zero_potential(alloc: Global) -> Potential
     ensures { potential_of result ≡ record { constant = pos 0; weights = [] } }
 {
     Potential {

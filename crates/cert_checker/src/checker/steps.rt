@@ -154,7 +154,7 @@ fn check_line(
     match listed.mark {
         Mark::Open => check_open(listing, place, listed.cost, state, next, numbers),
         Mark::Cut { rest } => check_cut(listing, place, listed.cost, rest, state),
-        Mark::Dead => check_dead(listing, place, listed.cost, state),
+        Mark::Dead => check_dead(listing, place, state),
     }
 }
 
@@ -265,16 +265,11 @@ fn check_cut(
     }
 }
 
-/// Checks the dead end that is listed at this place and this cost.
-fn check_dead(
-    listing: &PackedListing,
-    place: usize,
-    cost: u64,
-    state: &Packed,
-) -> Result<(), Refusal>
+/// Checks this state, which is listed at this place as a dead end.
+fn check_dead(listing: &PackedListing, place: usize, state: &Packed) -> Result<(), Refusal>
     requires within { place < length (certificate_at listing.now).lines }
     requires state { IsPacked listing.now state.now }
-    requires listed { Stands (task_at listing.now) (certificate_at listing.now) place (state_at listing.now state.now) cost dead }
+    requires listed { (cost : ℕ) × Stands (task_at listing.now) (certificate_at listing.now) place (state_at listing.now state.now) cost dead }
     ensures right { OnOk result (IsTrue (is_dead_end_of (certificate_at listing.now) (state_at listing.now state.now))) }
     ensures wrong { IfErr result (IsTrueAnyway (task_at listing.now) (certificate_at listing.now)) }
     ensures first { IfErr result (λ e. (plan : Option (List model_task.Instance)) (most : ℕ) → IsRightUpTo (task_at listing.now) (certificate_at listing.now) most place
