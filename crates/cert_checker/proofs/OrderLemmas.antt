@@ -95,8 +95,8 @@ module _ (task : Task) (c : Certificate) where
       atoms.distinct j k a (omega arith) (slice_get_within c.atoms k a at_k) at_j at_k
   states_right count line repeated atoms right reach stage (inr (other, l, before, earlier, (j, told_j, at_j), (k, told_k, at_k), same)) =
       right.distinct j k other l (omega arith) (reach k told_k (slice_get_within (lines_of task c) k l at_k)) at_j at_k same
-  states_right count line cut_not_allowed atoms right reach stage (l, rest, (k, told, at), cut, claim) =
-      right.allowed k l rest (reach k told (slice_get_within (lines_of task c) k l at)) at cut claim
+  states_right count line cut_not_allowed atoms right reach stage (l, rest, (k, told, at), is_cut, claim) =
+      right.allowed k l rest (reach k told (slice_get_within (lines_of task c) k l at)) at is_cut claim
   states_right count line no_initial atoms right reach stage wrong = wrong
   states_right count line goal_open atoms right reach stage wrong = absurd (omega arith)
   states_right count line successor_missing atoms right reach stage wrong = absurd (omega arith)
@@ -254,10 +254,10 @@ module _ (task : Task) (c : Certificate) where
       missing (listed.0, listed.1, listed.2)
   line_right successor_dearer line place lt right stage (l, i, next, ((k, told, at), is_open, leads), is_listed, dearer) =
       dearer (((right k l (omega arith) at).is_open is_open).successors_listed i next leads)
-  line_right cut_weak line place lt right stage (l, rest, (k, told, at), cut, inl more) =
-      let allowed = (right k l (omega arith) at).is_cut rest cut in
+  line_right cut_weak line place lt right stage (l, rest, (k, told, at), is_cut, inl more) =
+      let allowed = (right k l (omega arith) at).is_cut rest is_cut in
       omega (arith, allowed.0)
-  line_right cut_weak line place lt right stage (l, rest, (k, told, at), cut, inr denied) = denied ((right k l (omega arith) at).is_cut rest cut).1
+  line_right cut_weak line place lt right stage (l, rest, (k, told, at), is_cut, inr denied) = denied ((right k l (omega arith) at).is_cut rest is_cut).1
   line_right not_fluent line place lt right stage wrong = absurd (omega arith)
   line_right repeated line place lt right stage wrong = absurd (omega arith)
   line_right cut_not_allowed line place lt right stage wrong = absurd (omega arith)
@@ -300,11 +300,11 @@ module _ (task : Task) (c : Certificate) where
   -- of an open state whose goal is as it is to be
   pub open_here : (place : ℕ) (l : Line State) → slice_get (lines_of task c) place ≡ Some l → l.mark ≡ opened → (IsTrue ((system_of task).meets_goal l.state) → Allows c.claim l.cost)
       → (r : Reason) → stage_of r ≡ 4 → rank_of r < 1 → IsWrongLine task c r (state_line c place) → ⊥
-  open_here place l here is_open allowed goal_open stage rank (other, (k, told, at), cut, goal, denied) =
+  open_here place l here is_open allowed goal_open stage rank (other, (k, told, at), is_opened, goal, denied) =
       let there : k ≡ place = omega arith in
       let same = the_line place k other l there at here in
       denied (subst (λ (a : Line State). Allows c.claim a.cost) (sym same) (allowed (subst (λ (a : Line State). IsTrue ((system_of task).meets_goal a.state)) same goal)))
-  open_here place l here is_open allowed cut_weak stage rank (other, rest, (k, told, at), cut, wrong) =
+  open_here place l here is_open allowed cut_weak stage rank (other, rest, (k, told, at), is_cut, wrong) =
       let there : k ≡ place = omega arith in
       let same = the_line place k other l there at here in
       let none_cut = ap (λ (a : Line State). a.mark) same in

@@ -80,7 +80,7 @@ module _ {S A : Type 0} (t : System S A) (lines : List (Line S)) where
         each_one : (n : ℕ) → n ≤ length (a ∷ plan) → OpenFrom from cost (a ∷ plan) n
         each_one zero within = (from, refl, open_at_more from cost _ here (omega arith))
         each_one (suc n) within = open_before n (each n (omega arith))
-    stays_before here (open_to m within each cut) = open_to (suc m) (omega arith) each_one (cut_before m cut)
+    stays_before here (open_to m within each at_last) = open_to (suc m) (omega arith) each_one (cut_before m at_last)
       where
         each_one : (k : ℕ) → k < suc m → OpenFrom from cost (a ∷ plan) k
         each_one zero below = (from, refl, open_at_more from cost _ here (omega arith))
@@ -143,15 +143,15 @@ module _ {S A : Type 0} (t : System S A) (value : S → ℕ) (is_dead : S → Bo
       (from_line plan there.0 solves.0 there.1 (subst (IsReachable t) (sym there.2) ([], refl)) (subst (λ (s : S). run t s plan ≡ Some solves.0) (sym there.2) solves.1) solves.2))
     where
       on_cut : (n : ℕ) → CutFrom t lines t.initial 0 plan n → IsOnCut t lines plan n
-      on_cut n cut =
-          let (s, runs, at) = cut in
+      on_cut n there =
+          let (s, runs, at) = there in
           let (line, listed, is, low, rest, is_cut) = at in
           (s, runs, (line, listed, is, omega (arith, low), rest, is_cut, omega (arith, low, left_to_pay lower plan solves n s line rest runs listed is is_cut)))
 
       by_stay : {cost : ℕ} → cost ≤ 0 → StaysFrom t lines t.initial cost plan → StaysListed t lines plan
       by_stay {cost} low (all_open each) = to_its_end (λ n within. let at = each n within in (at.0, at.1, open_at_more t lines at.0 _ _ at.2 (omega arith)))
-      by_stay {cost} low (open_to m within each cut) =
-          to_a_cut m within (λ k below. let at = each k below in (at.0, at.1, open_at_more t lines at.0 _ _ at.2 (omega arith))) (on_cut m (cut.0, cut.1, cut_at_more t lines cut.0 _ _ cut.2 (omega arith)))
+      by_stay {cost} low (open_to m within each at_last) =
+          to_a_cut m within (λ k below. let at = each k below in (at.0, at.1, open_at_more t lines at.0 _ _ at.2 (omega arith))) (on_cut m (at_last.0, at_last.1, cut_at_more t lines at_last.0 _ _ at_last.2 (omega arith)))
 
 -- ---- a certificate that is closed for a task
 
