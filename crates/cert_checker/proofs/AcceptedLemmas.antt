@@ -314,7 +314,7 @@ module _ (said : NamedCertificate) (keeps : IsTrue (keeps_text_limits said)) (be
         (and_parts (test l) (list_all test more) (and_parts (list_all test before) (list_all test (l ∷ more)) all).1).0
 
     -- the lines behind the first
-    behind_version : List TextLine
+    abbrev behind_version : List TextLine
     behind_version = claims said.claim ∷ constant said.constants ∷ (map (λ a. atom a) said.atoms ++ map (λ l. listed l) said.lines) ++ last (length said.lines) ∷ []
 
     this_version : IsOtherVersion before (line_text l) → ⊥

@@ -47,7 +47,7 @@ lines_back width (l ∷ lines) rising =
     λ i. line i ∷ rest i
 
 -- the lines behind the first three
-body_of : NamedCertificate → List TextLine
+abbrev body_of : NamedCertificate → List TextLine
 body_of c = (map (λ a. atom a) c.atoms ++ map (λ l. listed l) c.lines) ++ last (length c.lines) ∷ []
 
 version_stands : (c : NamedCertificate) → Contains (text_lines c) (version c.version)
