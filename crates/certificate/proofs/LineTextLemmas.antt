@@ -1,17 +1,15 @@
 -- The bytes of lines that are added piece by piece.
 use Rattle.std.proofs.Common.{◌≡◌, ℕ, List, [], ◌∷◌, ◌++◌, codes, map, refl, ap, ◌∙◌, append_assoc}
-use Rattle.std.specs.Prelude.{ℤ, Option, None, Some}
-use Rattle.std.specs.Fmt.{decimal, signed_decimal}
 use Rattle.std.specs.List.{flat_map}
 use Rattle.std.specs.Result.{OnOk}
 use Rattle.std.specs.Prelude.{Result, Ok, Err, is_ok, if◌then◌else◌}
 use Rattle.model.specs.Claims.{Claim}
 use Rattle.model.specs.Task.{Atom, Task}
-use Rattle.certificate_definitions.specs.Certificates.{StateLine}
+use Rattle.certificate_definitions.specs.Certificates.{Version, StateLine}
 use Rattle.model.specs.PlanWriting.{object_name, object_text}
-use Rattle.certificate_definitions.specs.CertificateText.{after_blank, claims, constant, line_text, listed, version, whole_line}
+use Rattle.certificate_definitions.specs.CertificateText.{Weights, after_blank, claims, constant, line_text, mark_text, version, weights_text, whole_line}
 use Rattle.certificate_definitions.specs.CertificateNames.{predicate_name}
-use Rattle.certificate.specs.Gathering.{atom_line, cost_text, number_text, state_line}
+use Rattle.certificate.specs.Gathering.{line_of_atom, number_text, state_line}
 
 -- what the bytes are where the last piece was added
 pub where_added : {T E : Type 0} (r : Result T E) (new old piece whole : List ℕ) → new ≡ (if is_ok r then old ++ piece else old) → old ++ piece ≡ whole
@@ -26,10 +24,10 @@ pieces old a b = append_assoc old a b
 five : (old a b n c d : List ℕ) → (((old ++ a) ++ b) ++ ((n ++ c) ++ d)) ++ n ≡ old ++ ((a ++ (b ++ n)) ++ ((c ++ d) ++ n))
 five old a b n c d = simp append_assoc
 
-pub head_text : (old : List ℕ) (claim : Claim) (k : ℤ)
-    → (((old ++ codes "pddl-cert 1\n") ++ line_text (claims claim)) ++ (codes "\nconstant " ++ signed_decimal k)) ++ codes "\n"
-    ≡ old ++ (whole_line version ++ whole_line (claims claim) ++ whole_line (constant k))
-head_text old claim k = five old (codes "pddl-cert 1\n") (line_text (claims claim)) (codes "\n") (codes "constant ") (signed_decimal k)
+pub head_text : (old : List ℕ) (v : Version) (claim : Claim) (k : Weights)
+    → (((old ++ whole_line (version v)) ++ line_text (claims claim)) ++ (codes "\nconstant " ++ weights_text k)) ++ codes "\n"
+    ≡ old ++ (whole_line (version v) ++ whole_line (claims claim) ++ whole_line (constant k))
+head_text old v claim k = five old (whole_line (version v)) (line_text (claims claim)) (codes "\n") (codes "constant ") (weights_text k)
 
 -- the names of objects, as a plan's text spells them
 names_text : (task : Task) (objects : List ℕ) → flat_map (object_text task) objects ≡ flat_map after_blank (map (object_name task) objects)
@@ -39,24 +37,14 @@ names_text task (o ∷ objects) = ap (λ xs. object_text task o ++ xs) (names_te
 seven : (old a w b c d e n : List ℕ) → ((((old ++ (a ++ w)) ++ b) ++ c) ++ d) ++ (e ++ n) ≡ old ++ ((((((a ++ w) ++ b) ++ c) ++ d) ++ e) ++ n)
 seven old a w b c d e n = simp append_assoc
 
-pub atom_text : (task : Task) (a : Atom) (weight : ℤ) (old : List ℕ)
-    → (((((old ++ (codes "atom " ++ signed_decimal weight)) ++ codes " (") ++ predicate_name task a.predicate) ++ flat_map (object_text task) a.objects) ++ codes ")\n")
-    ≡ old ++ atom_line task (a, weight)
-atom_text task a weight old =
-    ap (λ xs. ((((old ++ (codes "atom " ++ signed_decimal weight)) ++ codes " (") ++ predicate_name task a.predicate) ++ xs) ++ codes ")\n") (names_text task a.objects)
-    ∙ seven old (codes "atom ") (signed_decimal weight) (codes " (") (predicate_name task a.predicate) (flat_map after_blank (map (object_name task) a.objects)) (codes ")") (codes "\n")
+pub atom_text : (task : Task) (a : Atom) (weights : Weights) (old : List ℕ)
+    → (((((old ++ (codes "atom " ++ weights_text weights)) ++ codes " (") ++ predicate_name task a.predicate) ++ flat_map (object_text task) a.objects) ++ codes ")\n")
+    ≡ old ++ line_of_atom task weights a
+atom_text task a weights old =
+    ap (λ xs. ((((old ++ (codes "atom " ++ weights_text weights)) ++ codes " (") ++ predicate_name task a.predicate) ++ xs) ++ codes ")\n") (names_text task a.objects)
+    ∙ seven old (codes "atom ") (weights_text weights) (codes " (") (predicate_name task a.predicate) (flat_map after_blank (map (object_name task) a.objects)) (codes ")") (codes "\n")
 
--- the cost, and the numbers behind it, as they stand in a line
-cost_of_line : (l : StateLine) → cost_text l ++ flat_map number_text l.atoms ≡ line_text (listed l)
-cost_of_line l = by_cut l.cut
-  where
-    by_cut : (cut : Option ℕ) → cost_text (record { cost = l.cost; cut = cut; atoms = l.atoms }) ++ flat_map number_text l.atoms
-        ≡ line_text (listed (record { cost = l.cost; cut = cut; atoms = l.atoms }))
-    by_cut None = refl
-    by_cut (Some rest) = ap (λ xs. xs ++ flat_map number_text l.atoms) (append_assoc (codes "cut " ++ decimal l.cost) (codes " ") (decimal rest))
-
-pub state_text : (l : StateLine) (old : List ℕ) → ((old ++ cost_text l) ++ flat_map number_text l.atoms) ++ codes "\n" ≡ old ++ state_line l
+pub state_text : (l : StateLine) (old : List ℕ) → ((old ++ mark_text l.mark l.cost) ++ flat_map number_text l.atoms) ++ codes "\n" ≡ old ++ state_line l
 state_text l old =
-    ap (λ xs. xs ++ codes "\n") (append_assoc old (cost_text l) (flat_map number_text l.atoms))
-    ∙ append_assoc old (cost_text l ++ flat_map number_text l.atoms) (codes "\n")
-    ∙ ap (λ xs. old ++ (xs ++ codes "\n")) (cost_of_line l)
+    ap (λ xs. xs ++ codes "\n") (append_assoc old (mark_text l.mark l.cost) (flat_map number_text l.atoms))
+    ∙ append_assoc old (mark_text l.mark l.cost ++ flat_map number_text l.atoms) (codes "\n")

@@ -1,9 +1,9 @@
 -- The numbers of sets, and what they say of a listing.
 use Rattle.std.proofs.Common.{◌≡◌, ℕ, zero, suc, ◌<◌, ◌≤◌, Bool, true, false, List, [], ◌∷◌, get_or, inl, inr, map, length, refl, sym, ap, ◌∙◌, subst, arith}
-use Rattle.std.specs.Prelude.{◌&&◌, ◌==◌, All, Contains, Err, Ok, OnOk, Result, Some, nat_le, slice_get}
+use Rattle.std.specs.Prelude.{◌&&◌, ◌==◌, ℤ, pos, negsuc, All, Contains, Err, Ok, OnOk, Result, Some, nat_le, slice_get}
 use Rattle.std.specs.List.{list_all, list_any, range_with_len}
 use Rattle.std.specs.Cmp.{both_ways}
-use Rattle.std.specs.Option.{option_map, option_map_or}
+use Rattle.std.specs.Option.{option_map}
 use Rattle.std.proofs.lemmas.Bool.{and_parts, eq-eqb, eqb-true, leb-true, or_cases, or_left, or_right}
 use Rattle.std.proofs.lemmas.List.{ext_get_or, length-map}
 use Rattle.std.proofs.lemmas.Option.{slice_get-map}
@@ -16,15 +16,15 @@ use Rattle.packed_state.specs.Store.{sets_in}
 use Rattle.packed_state.specs.Words.{bits_in}
 use Rattle.packed_state.proofs.PackedLemmas.{length-bits}
 use Rattle.potential_functions.specs.PotentialFunctions.{PotentialFunction}
-use Rattle.certificate_definitions.specs.Certificates.{StateLine, are_potentials, is_claim, is_number, is_state_line, is_weight, rise}
+use Rattle.certificate_definitions.specs.Certificates.{Version, one, two, StateLine, are_potentials, is_claim, is_dead_end_weight, is_mark, is_number, is_state_line, is_weight, rise}
 use Rattle.model.proofs.ListLemmas.{Contains-cases, Contains-filter, Contains-here, Contains-none, Contains-range, Contains-there, filter-Contains}
 use Rattle.certificate_reader.proofs.OneText.{rise_more}
 use Rattle.certificate.specs.ListedSets.{Marked, line_with, lines_with, marked, numbers_of}
 use Rattle.certificate.specs.declared.listing.Listing.{Listing}
-use Rattle.certificate.specs.ListingParts.{mark_of}
-use Rattle.certificate.specs.declared.listing_parts.Mark.{Mark}
+use Rattle.certificate.specs.ListingParts.{listed_of}
+use Rattle.certificate.specs.declared.listing_parts.Listed.{Listed}
 use Rattle.certificate.specs.declared.listing_parts.States.{States}
-use Rattle.certificate.specs.ListingParts.{certificate_with, potentials_in}
+use Rattle.certificate.specs.ListingParts.{certificate_with, potential_of}
 use Rattle.certificate.specs.Listing.{certificate_in, store_in}
 use Rattle.certificate.proofs.SetsLemmas.{numbers_back, rise_below}
 use Rattle.certificate.proofs.WideningLemmas.{IsBelow, has-at_width, length-at_width}
@@ -92,15 +92,15 @@ marked_back [] sets same = refl
 marked_back (mark ∷ marks) [] same = absurd (omega (arith, same))
 marked_back (mark ∷ marks) (set ∷ sets) same = λ i. mark ∷ marked_back marks sets (omega (arith, same)) i
 
-all_rise : (count : ℕ) (marks : List Marked) (sets : List (List Bool)) → length marks ≡ length sets → list_all (is_state_line count) (lines_with marks sets) ≡ true → All (Rises count) sets
-all_rise count [] [] same keep = All-nil (Rises count)
-all_rise count [] (set ∷ sets) same keep = absurd (omega (arith, same))
-all_rise count (mark ∷ marks) [] same keep = absurd (omega (arith, same))
-all_rise count (mark ∷ marks) (set ∷ sets) same keep =
+all_rise : (version : Version) (count : ℕ) (marks : List Marked) (sets : List (List Bool)) → length marks ≡ length sets → list_all (is_state_line version count) (lines_with marks sets) ≡ true → All (Rises count) sets
+all_rise version count [] [] same keep = All-nil (Rises count)
+all_rise version count [] (set ∷ sets) same keep = absurd (omega (arith, same))
+all_rise version count (mark ∷ marks) [] same keep = absurd (omega (arith, same))
+all_rise version count (mark ∷ marks) (set ∷ sets) same keep =
     let line = line_with mark set in
-    let (here, more) = and_parts (is_state_line count line) (list_all (is_state_line count) (lines_with marks sets)) keep in
-    All-cons (Rises count) set sets (and_parts (is_number line.cost && option_map_or is_number line.cut true) (rise count 0 line.atoms) here).1
-    (all_rise count marks sets (omega (arith, same)) more)
+    let (here, more) = and_parts (is_state_line version count line) (list_all (is_state_line version count) (lines_with marks sets)) keep in
+    All-cons (Rises count) set sets (and_parts (is_number line.cost && is_mark version line.mark) (rise count 0 line.atoms) here).1
+    (all_rise version count marks sets (omega (arith, same)) more)
 
 -- as many as there are of both
 lines_count : (marks : List Marked) (sets : List (List Bool)) → length marks ≡ length sets → length (lines_with marks sets) ≡ length sets
@@ -120,8 +120,8 @@ line_at (m ∷ marks) (s ∷ sets) (suc i) mark set at_mark at_set = line_at mar
 
 -- the same where its numbers were listed
 pub where_listed : {T E : Type 0} (r : Result T E) (lines : List StateLine) (i : ℕ) (mark : Marked) (set : List Bool) (numbers : List ℕ) → slice_get lines i ≡ Some (line_with mark set)
-    → OnOk r (numbers ≡ numbers_of set) → OnOk r (slice_get lines i ≡ Some (record { cost = mark.cost; cut = mark.cut; atoms = numbers }))
-where_listed (Ok value) lines i mark set numbers at same = at ∙ (λ j. Some (record { cost = mark.cost; cut = mark.cut; atoms = sym same j }))
+    → OnOk r (numbers ≡ numbers_of set) → OnOk r (slice_get lines i ≡ Some (record { cost = mark.cost; mark = mark.mark; atoms = numbers }))
+where_listed (Ok value) lines i mark set numbers at same = at ∙ (λ j. Some (record { cost = mark.cost; mark = mark.mark; atoms = sym same j }))
 where_listed (Err error) lines i mark set numbers at same = tt
 
 sets_of_lines : (width : ℕ) (marks : List Marked) (sets : List (List Bool)) → length marks ≡ length sets → All (λ (set : List Bool). length set ≡ width) sets
@@ -141,7 +141,7 @@ lines_wide count wide [] (set ∷ sets) enough same rise = absurd (omega (arith,
 lines_wide count wide (mark ∷ marks) [] enough same rise = absurd (omega (arith, same))
 lines_wide count wide (mark ∷ marks) (set ∷ sets) enough same rises =
     let here = same_numbers count wide set enough (All-contains (Rises count) (set ∷ sets) set rises (Contains-here set sets)) in
-    λ i. record { cost = mark.cost; cut = mark.cut; atoms = here i } ∷ lines_wide count wide marks sets enough (omega (arith, same)) (All-tail (Rises count) set sets rises) i
+    λ i. record { cost = mark.cost; mark = mark.mark; atoms = here i } ∷ lines_wide count wide marks sets enough (omega (arith, same)) (All-tail (Rises count) set sets rises) i
 
 -- ---- of a listing
 
@@ -150,44 +150,80 @@ unfolding sets_in
 set_lengths store = All-map (λ (set : List Bool). length set ≡ store.width) (bits_in store.width) (rows_of store.pool) (λ k d within. length-bits store.width (get_or (rows_of store.pool) k d))
 
 -- what the limits of a potential function say
-pub potential_parts : (count : ℕ) (p : PotentialFunction) → are_potentials count p ≡ true
-    → (is_weight p.constant ≡ true) × (length p.weights ≡ count) × (list_all is_weight p.weights ≡ true)
-potential_parts count p are =
-    let (first, weights) = and_parts (is_weight p.constant && (length p.weights == count)) (list_all is_weight p.weights) are in
-    let (constant_is, many) = and_parts (is_weight p.constant) (length p.weights == count) first in
+pub potential_parts : (is_in_range : ℤ → Bool) (count : ℕ) (p : PotentialFunction) → are_potentials is_in_range count p ≡ true
+    → (is_in_range p.constant ≡ true) × (length p.weights ≡ count) × (list_all is_in_range p.weights ≡ true)
+potential_parts is_in_range count p are =
+    let (first, weights) = and_parts (is_in_range p.constant && (length p.weights == count)) (list_all is_in_range p.weights) are in
+    let (constant_is, many) = and_parts (is_in_range p.constant) (length p.weights == count) first in
     (constant_is, eqb-true (length p.weights) count many, weights)
+
+-- what tells dead ends is a weight, in version 1 too, where it is 0
+dead_end_weight : (version : Version) (w : ℤ) → is_dead_end_weight version w ≡ true → is_weight w ≡ true
+dead_end_weight one (pos zero) is = refl
+dead_end_weight one (pos (suc n)) is = absurd (cc)
+dead_end_weight one (negsuc n) is = absurd (cc)
+dead_end_weight two w is = is
+
+dead_end_weights_are : (version : Version) (weights : List ℤ) → list_all (is_dead_end_weight version) weights ≡ true → list_all is_weight weights ≡ true
+dead_end_weights_are version [] are = refl
+dead_end_weights_are version (w ∷ weights) are =
+    let (here, more) = and_parts (is_dead_end_weight version w) (list_all (is_dead_end_weight version) weights) are in
+    λ i. dead_end_weight version w here i && dead_end_weights_are version weights more i
 
 module _ (listing : Listing) where
   abbrev marks : List Marked
-  marks = map mark_of listing.states.marks.items
+  marks = map listed_of listing.states.marks.items
 
   abbrev sets : List (List Bool)
   sets = pooled_states (store_in listing)
+
+  abbrev version : Version
+  version = (certificate_in listing).version
 
   abbrev count : ℕ
   count = length (certificate_in listing).atoms
 
   as_many : length marks ≡ length sets
-  as_many = length-map listing.states.marks.items mark_of ∙ listing.marked
+  as_many = length-map listing.states.marks.items listed_of ∙ listing.marked
 
-  -- the limits are those of the lines, and of the potential function
-  limits : (list_all (is_state_line count) (certificate_in listing).lines ≡ true) × (are_potentials count (certificate_in listing).potentials ≡ true)
+  -- the limits are those of the lines, and of the potential functions
+  record Limits : Type 0 where
+    few : nat_le (length (certificate_in listing).lines) 16777216 ≡ true
+    lines : list_all (is_state_line version count) (certificate_in listing).lines ≡ true
+    potentials : are_potentials is_weight count (certificate_in listing).potentials ≡ true
+    dead_ends : are_potentials (is_dead_end_weight version) count (certificate_in listing).dead_ends ≡ true
+
+  limits : Limits
   limits =
       let c = certificate_in listing in
-      let most = is_claim c.claim && nat_le (length c.atoms) 1048576 && nat_le (length c.lines) 16777216 in
-      let (first, potentials) = and_parts (most && list_all (is_state_line count) c.lines) (are_potentials count c.potentials) listing.within_limits in
-      ((and_parts most (list_all (is_state_line count) c.lines) first).1, potentials)
+      let most = is_claim c.claim && nat_le (length c.atoms) 1048576 in
+      let many = nat_le (length c.lines) 16777216 in
+      let each = list_all (is_state_line version count) c.lines in
+      let potentials = are_potentials is_weight count c.potentials in
+      let (first, dead_ends) = and_parts (most && many && each && potentials) (are_potentials (is_dead_end_weight version) count c.dead_ends) listing.within_limits in
+      let (first, potentials) = and_parts (most && many && each) potentials first in
+      let (first, lines) = and_parts (most && many) each first in
+      record { few = (and_parts most many first).1; lines = lines; potentials = potentials; dead_ends = dead_ends }
 
   rises : All (Rises count) sets
-  rises = all_rise count marks sets as_many limits.0
+  rises = all_rise version count marks sets as_many limits.lines
 
-  pub constant_within : is_weight listing.beginning.constant ≡ true
-  constant_within = (potential_parts count (potentials_in listing.beginning) limits.1).0
+  pub constant_within : is_weight listing.beginning.potential.constant ≡ true
+  constant_within = (potential_parts is_weight count (potential_of listing.beginning.potential) limits.potentials).0
 
-  pub weights_within : (length listing.beginning.weights.items ≡ count) × (list_all is_weight listing.beginning.weights.items ≡ true)
-  weights_within = let (_, many, weights) = potential_parts count (potentials_in listing.beginning) limits.1 in (many, weights)
+  pub weights_within : (length listing.beginning.potential.weights.items ≡ count) × (list_all is_weight listing.beginning.potential.weights.items ≡ true)
+  weights_within = (potential_parts is_weight count (potential_of listing.beginning.potential) limits.potentials).1
 
-  pub marks_are : map mark_of listing.states.marks.items ≡ map marked (certificate_in listing).lines
+  pub dead_end_constant_within : is_weight listing.beginning.dead_ends.constant ≡ true
+  dead_end_constant_within =
+      dead_end_weight version listing.beginning.dead_ends.constant (potential_parts (is_dead_end_weight version) count (potential_of listing.beginning.dead_ends) limits.dead_ends).0
+
+  pub dead_end_weights_within : (length listing.beginning.dead_ends.weights.items ≡ count) × (list_all is_weight listing.beginning.dead_ends.weights.items ≡ true)
+  dead_end_weights_within =
+      let (_, many, weights) = potential_parts (is_dead_end_weight version) count (potential_of listing.beginning.dead_ends) limits.dead_ends in
+      (many, dead_end_weights_are version listing.beginning.dead_ends.weights.items weights)
+
+  pub marks_are : map listed_of listing.states.marks.items ≡ map marked (certificate_in listing).lines
   marks_are = sym (marked_back marks sets as_many)
 
   -- there is a set for each line, and there are few
@@ -195,18 +231,14 @@ module _ (listing : Listing) where
   count_of_lines = lines_count marks sets as_many
 
   pub few_lines : length (certificate_in listing).lines ≤ 16777216
-  few_lines =
-      let c = certificate_in listing in
-      let most = is_claim c.claim && nat_le (length c.atoms) 1048576 in
-      let kept = and_parts (most && nat_le (length c.lines) 16777216 && list_all (is_state_line count) c.lines) (are_potentials count c.potentials) listing.within_limits in
-      leb-true (length c.lines) 16777216 (and_parts most (nat_le (length c.lines) 16777216) (and_parts (most && nat_le (length c.lines) 16777216) (list_all (is_state_line count) c.lines) kept.0).0).1
+  few_lines = leb-true (length (certificate_in listing).lines) 16777216 limits.few
 
   -- a line by its mark and its set
-  pub line_read : (i : ℕ) (read : List Mark) (mark : Mark) (set : List Bool) → map mark_of read ≡ map marked (certificate_in listing).lines → slice_get read i ≡ Some mark
-      → slice_get (pooled_states (store_in listing)) i ≡ Some set → slice_get (certificate_in listing).lines i ≡ Some (line_with (mark_of mark) set)
+  pub line_read : (i : ℕ) (read : List Listed) (mark : Listed) (set : List Bool) → map listed_of read ≡ map marked (certificate_in listing).lines → slice_get read i ≡ Some mark
+      → slice_get (pooled_states (store_in listing)) i ≡ Some set → slice_get (certificate_in listing).lines i ≡ Some (line_with (listed_of mark) set)
   line_read i read mark set are at_mark at_set =
-      line_at marks sets i (mark_of mark) set
-      (ap (λ (ms : List Marked). slice_get ms i) (sym (are ∙ sym marks_are)) ∙ slice_get-map mark_of read i ∙ ap (option_map mark_of) at_mark) at_set
+      line_at marks sets i (listed_of mark) set
+      (ap (λ (ms : List Marked). slice_get ms i) (sym (are ∙ sym marks_are)) ∙ slice_get-map listed_of read i ∙ ap (option_map listed_of) at_mark) at_set
 
   -- the sets are those of the lines' numbers
   pub sets_are : map (λ (l : StateLine). set_of (pooled_width (store_in listing)) l.atoms) (certificate_in listing).lines ≡ pooled_states (store_in listing)
@@ -219,6 +251,6 @@ module _ (listing : Listing) where
     pub same_certificate : (states : States) → states.marks.items ≡ listing.states.marks.items → pooled_states states.sets ≡ map (at_width wide) (pooled_states (store_in listing))
         → certificate_with listing.beginning states ≡ certificate_in listing
     same_certificate states same are =
-        let lines = (λ i. lines_with (map mark_of (same i)) (are i)) ∙ lines_wide count wide marks sets enough as_many rises in
+        let lines = (λ i. lines_with (map listed_of (same i)) (are i)) ∙ lines_wide count wide marks sets enough as_many rises in
         let c = certificate_in listing in
-        λ i. record { claim = c.claim; atoms = c.atoms; potentials = c.potentials; lines = lines i }
+        λ i. record { version = c.version; claim = c.claim; atoms = c.atoms; potentials = c.potentials; dead_ends = c.dead_ends; lines = lines i }

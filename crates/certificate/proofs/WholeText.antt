@@ -2,38 +2,46 @@
 use Rattle.std.proofs.Common.{◌≡◌, ℕ, List, [], ◌∷◌, ◌++◌, length, map, Option, sym, ap, ◌∙◌, subst, append_assoc, append-nil}
 use Rattle.std.specs.Io.KnownBytes.{Appends}
 use Rattle.std.specs.List.{flat_map}
-use Rattle.std.specs.Prelude.{ℤ, zip, Result, Ok, Err, OnOk}
+use Rattle.std.specs.Prelude.{Result, Ok, Err, OnOk}
 use Rattle.std.proofs.lemmas.Grind.{flat_map-append}
 use Rattle.std.proofs.lemmas.List.Folds.{flat_map-map}
 use Rattle.devices.specs.Devices.{AppendsBeginning}
 use Rattle.model.specs.Task.{Task}
 use Rattle.model.specs.Claims.{Claim}
-use Rattle.certificate_definitions.specs.Certificates.{Certificate}
-use Rattle.certificate_definitions.specs.CertificateText.{atom, claims, constant, last, listed, version, whole_line}
-use Rattle.certificate_definitions.specs.CertificateNames.{certificate_text, named, weighted_atom}
-use Rattle.certificate.specs.Gathering.{IsPassedOn, atom_line, state_line}
+use Rattle.certificate_definitions.specs.Certificates.{Version, Certificate}
+use Rattle.certificate_definitions.specs.CertificateText.{Weights, atom, claims, constant, last, listed, version, whole_line}
+use Rattle.certificate_definitions.specs.CertificateNames.{certificate_text, named, weighted_atom, weights_in}
+use Rattle.certificate.specs.Gathering.{IsPassedOn, atom_line, atoms_weighed, state_line}
 use Rattle.certificate.proofs.GatheringLemmas.{passed_nothing, passed_held, passed_then, passed_partly, passed_beginning, passed_all}
 
-abbrev pub head : Claim → ℤ → List ℕ
-head claim k = whole_line version ++ whole_line (claims claim) ++ whole_line (constant k)
+abbrev pub head : Version → Claim → Weights → List ℕ
+head v claim k = whole_line (version v) ++ whole_line (claims claim) ++ whole_line (constant k)
+
+-- the first lines of a certificate, and those of its atoms
+abbrev pub head_of : Certificate → List ℕ
+head_of c = head c.version c.claim (weights_in c.version c.potentials.constant c.dead_ends.constant)
+
+abbrev pub atoms_text : Task → Certificate → List ℕ
+atoms_text task c = flat_map (atom_line task c.version) (atoms_weighed c)
 
 -- the four parts one after another
 module _ (task : Task) (c : Certificate) where
-  pub parts : certificate_text task c ≡ ((head c.claim c.potentials.constant ++ flat_map (atom_line task) (zip c.atoms c.potentials.weights)) ++ flat_map state_line c.lines) ++ whole_line (last (length c.lines))
+  pub parts : certificate_text task c ≡ ((head_of c ++ atoms_text task c) ++ flat_map state_line c.lines) ++ whole_line (last (length c.lines))
   parts =
       let n = named task c in
       let last_text = whole_line (last (length c.lines)) in
-      let atoms : flat_map whole_line (map (λ a. atom a) n.atoms) ≡ flat_map (atom_line task) (zip c.atoms c.potentials.weights) =
-      flat_map-map whole_line (λ a. atom a) n.atoms ∙ flat_map-map (λ a. whole_line (atom a)) (weighted_atom task) (zip c.atoms c.potentials.weights) in
+      let constants = whole_line (constant n.constants) in
+      let atoms : flat_map whole_line (map (λ a. atom a) n.atoms) ≡ atoms_text task c =
+      flat_map-map whole_line (λ a. atom a) n.atoms ∙ flat_map-map (λ a. whole_line (atom a)) (weighted_atom task c.version) (atoms_weighed c) in
       let states : flat_map whole_line (map (λ l. listed l) c.lines) ≡ flat_map state_line c.lines = flat_map-map whole_line (λ l. listed l) c.lines in
       let body : flat_map whole_line ((map (λ a. atom a) n.atoms ++ map (λ l. listed l) c.lines) ++ last (length c.lines) ∷ [])
-      ≡ (flat_map (atom_line task) (zip c.atoms c.potentials.weights) ++ flat_map state_line c.lines) ++ last_text =
+      ≡ (atoms_text task c ++ flat_map state_line c.lines) ++ last_text =
       flat_map-append whole_line (map (λ a. atom a) n.atoms ++ map (λ l. listed l) c.lines) (last (length c.lines) ∷ [])
       ∙ ap (λ xs. xs ++ (last_text ++ [])) (flat_map-append whole_line (map (λ a. atom a) n.atoms) (map (λ l. listed l) c.lines)
-      ∙ ap (λ xs. xs ++ flat_map whole_line (map (λ l. listed l) c.lines)) atoms ∙ ap (λ xs. flat_map (atom_line task) (zip c.atoms c.potentials.weights) ++ xs) states)
-      ∙ ap (λ xs. (flat_map (atom_line task) (zip c.atoms c.potentials.weights) ++ flat_map state_line c.lines) ++ xs) (append-nil last_text) in
-      ap (λ xs. whole_line version ++ (whole_line (claims c.claim) ++ (whole_line (constant c.potentials.constant) ++ xs))) body
-      ∙ one_by_one (whole_line version) (whole_line (claims c.claim)) (whole_line (constant c.potentials.constant)) (flat_map (atom_line task) (zip c.atoms c.potentials.weights)) (flat_map state_line c.lines) last_text
+      ∙ ap (λ xs. xs ++ flat_map whole_line (map (λ l. listed l) c.lines)) atoms ∙ ap (λ xs. atoms_text task c ++ xs) states)
+      ∙ ap (λ xs. (atoms_text task c ++ flat_map state_line c.lines) ++ xs) (append-nil last_text) in
+      ap (λ xs. whole_line (version c.version) ++ (whole_line (claims c.claim) ++ (constants ++ xs))) body
+      ∙ one_by_one (whole_line (version c.version)) (whole_line (claims c.claim)) constants (atoms_text task c) (flat_map state_line c.lines) last_text
     where
       one_by_one : (v k z a s l : List ℕ) → v ++ (k ++ (z ++ ((a ++ s) ++ l))) ≡ ((((v ++ k) ++ z) ++ a) ++ s) ++ l
       one_by_one v k z a s l = simp append_assoc
@@ -41,29 +49,29 @@ module _ (task : Task) (c : Certificate) where
 -- What is passed on, and what is a beginning of the text, after each of the parts.
 -- the text up to the last atom, and up to the last state
 abbrev pub to_atoms : Task → Certificate → List ℕ
-to_atoms task c = head c.claim c.potentials.constant ++ flat_map (atom_line task) (zip c.atoms c.potentials.weights)
+to_atoms task c = head_of c ++ atoms_text task c
 
 abbrev pub to_states : Task → Certificate → List ℕ
 to_states task c = to_atoms task c ++ flat_map state_line c.lines
 
 module _ (before now : Option (List ℕ)) (task : Task) (c : Certificate) where
-  pub head_held : (held held_after : List ℕ) → held ≡ [] → held_after ≡ held ++ head c.claim c.potentials.constant → IsPassedOn before before [] held_after (head c.claim c.potentials.constant)
+  pub head_held : (held held_after : List ℕ) → held ≡ [] → held_after ≡ held ++ head_of c → IsPassedOn before before [] held_after (head_of c)
   head_held held held_after none is =
-      passed_held before before [] [] [] (passed_nothing before []) held_after (head c.claim c.potentials.constant) (is ∙ ap (λ xs. xs ++ head c.claim c.potentials.constant) none)
+      passed_held before before [] [] [] (passed_nothing before []) held_after (head_of c) (is ∙ ap (λ xs. xs ++ head_of c) none)
 
-  pub atoms_held : (held held_after : List ℕ) → IsPassedOn before before [] held (head c.claim c.potentials.constant)
-      → IsPassedOn before now held held_after (flat_map (atom_line task) (zip c.atoms c.potentials.weights))
+  pub atoms_held : (held held_after : List ℕ) → IsPassedOn before before [] held (head_of c)
+      → IsPassedOn before now held held_after (atoms_text task c)
       → IsPassedOn before now [] held_after (to_atoms task c)
-  atoms_held held held_after first then = passed_then before before [] held (head c.claim c.potentials.constant) first now held_after (flat_map (atom_line task) (zip c.atoms c.potentials.weights)) then
+  atoms_held held held_after first then = passed_then before before [] held (head_of c) first now held_after (atoms_text task c) then
 
-  pub atoms_begun : (held : List ℕ) → IsPassedOn before before [] held (head c.claim c.potentials.constant)
-      → AppendsBeginning before now (held ++ flat_map (atom_line task) (zip c.atoms c.potentials.weights)) → AppendsBeginning before now (certificate_text task c)
+  pub atoms_begun : (held : List ℕ) → IsPassedOn before before [] held (head_of c)
+      → AppendsBeginning before now (held ++ atoms_text task c) → AppendsBeginning before now (certificate_text task c)
   atoms_begun held first begun =
       let later = flat_map state_line c.lines ++ whole_line (last (length c.lines)) in
       subst (AppendsBeginning before now)
-      (sym (append_assoc (head c.claim c.potentials.constant) (flat_map (atom_line task) (zip c.atoms c.potentials.weights)) later)
+      (sym (append_assoc (head_of c) (atoms_text task c) later)
       ∙ sym (append_assoc (to_atoms task c) (flat_map state_line c.lines) (whole_line (last (length c.lines)))) ∙ sym (parts task c))
-      (passed_beginning before before [] held (head c.claim c.potentials.constant) first now (flat_map (atom_line task) (zip c.atoms c.potentials.weights)) later begun)
+      (passed_beginning before before [] held (head_of c) first now (atoms_text task c) later begun)
 
   pub states_held : (after : Option (List ℕ)) (held held_after : List ℕ) → IsPassedOn before now [] held (to_atoms task c)
       → IsPassedOn now after held held_after (flat_map state_line c.lines)

@@ -4,4 +4,4 @@ use Rattle.certificate.specs.CertificateParts.{certificate_of_parts}
 use Rattle.certificate_definitions.specs.Certificates as certificates
 
 abbrev pub certificate_of : Cert → certificates.Certificate
-certificate_of c = certificate_of_parts c.claim c.constant c.atoms.items c.weights.items c.lines.items
+certificate_of c = certificate_of_parts c.version c.claim c.potential c.dead_ends c.atoms.items c.lines.items

@@ -13,11 +13,12 @@ mod writer;
 pub use cert::Cert;
 pub use certificate_reader::{
     CertFault, CertLine, CertReader, Claim, LONGEST_LINE, MAX_ATOMS, MAX_STATE_LINES, MAX_WEIGHT,
-    NUMBER_LIMIT, NamedAtom, StateLine, TextFault, texts_are_certificates_one_for_one,
+    Mark, NUMBER_LIMIT, NamedAtom, StateLine, TextFault, Version, Weights,
+    texts_are_certificates_one_for_one,
 };
 pub use devices::{
     Device, DeviceFault, Endless, FailsAt, InPieces, Memory, Sink, Source, WriteFault, write_all,
 };
 pub use listing::Listing;
-pub use listing_parts::{Beginning, Mark, States};
+pub use listing_parts::{Beginning, Listed, Potential, States};
 pub use writer::{write_cert, write_listing};

@@ -5,25 +5,40 @@ ghost use Rattle.std.specs.Fmt.{decimal, signed_decimal};
 ghost use Rattle.typing.specs.Task.{task_of};
 ghost use Rattle.typing.specs.TaskParts.{atom_of, object_of};
 ghost use Rattle.model.specs.PlanWriting.{object_name, object_text};
-ghost use Rattle.certificate_reader.specs.Lines.{claim_of, line_of};
+ghost use Rattle.certificate_reader.specs.Lines.{claim_of, line_of, mark_of, version_of, weights_of};
 ghost use Rattle.certificate_definitions.specs.CertificateText as line;
-ghost use Rattle.certificate_definitions.specs.CertificateText.{claims, last, line_text, version, whole_line};
-ghost use Rattle.certificate_definitions.specs.CertificateNames.{predicate_name};
-ghost use Rattle.certificate.specs.Gathering.{atom_line, cost_text, number_text, state_line};
+ghost use Rattle.certificate_definitions.specs.CertificateText.{claims, last, line_text, mark_text, weights_text, whole_line};
+ghost use Rattle.certificate_definitions.specs.CertificateNames.{predicate_name, weights_in};
+ghost use Rattle.certificate.specs.Gathering.{line_of_atom, number_text, state_line};
 
-use certificate_reader::{Claim, StateLine};
+use certificate_reader::{Claim, Mark, StateLine, Version, Weights};
 use itoa::Buffer;
 use std::alloc::AllocError;
 use typing::{Atom, ObjectId, PredicateId, Task};
 
-/// Adds the lines of the version, the claim and the constant.
-pub(crate) fn add_head(claim: Claim, constant: i64, text: &mut Vec<u8>) -> Result<(), AllocError>
-    ensures { OnOk result (text.new.items ≡ text.old.items ++ (whole_line version ++ whole_line (claims (claim_of claim)) ++ whole_line (line.constant constant))) }
+/// Adds the lines of the version, the claim and the constants.
+pub(crate) fn add_head(
+    version: Version,
+    claim: Claim,
+    constants: Weights,
+    text: &mut Vec<u8>,
+) -> Result<(), AllocError>
+    ensures { OnOk result (text.new.items ≡ text.old.items ++ (whole_line (line.version (version_of version)) ++ whole_line (claims (claim_of claim)) ++ whole_line (line.constant (weights_of constants)))) }
 {
-    text.extend_from_slice(b"pddl-cert 1\n")?;
+    text.extend_from_slice(version_line(version))?;
     add_claim(claim, text)?;
-    add_weight(b"\nconstant ", constant, text)?;
+    add_weights(b"\nconstant ", constants, text)?;
     text.extend_from_slice(b"\n")
+}
+
+/// The line of the version.
+fn version_line(version: Version) -> &'static [u8]
+    ensures { result.now ≡ whole_line (line.version (version_of version)) }
+{
+    match version {
+        Version::One => b"pddl-cert 1\n",
+        Version::Two => b"pddl-cert 2\n",
+    }
 }
 
 /// Adds the claim, without its LF.
@@ -36,16 +51,16 @@ fn add_claim(claim: Claim, text: &mut Vec<u8>) -> Result<(), AllocError>
     }
 }
 
-/// Adds the line of an atom, by its names, with its weight.
+/// Adds the line of an atom, by its names, with its weights.
 pub(crate) fn add_atom(
     task: &Task,
     atom: &Atom,
-    weight: i64,
+    weights: Weights,
     text: &mut Vec<u8>,
 ) -> Result<(), AllocError>
-    ensures { OnOk result (text.new.items ≡ text.old.items ++ atom_line (task_of task.now) (atom_of atom.now, weight)) }
+    ensures { OnOk result (text.new.items ≡ text.old.items ++ line_of_atom (task_of task.now) (weights_of weights) (atom_of atom.now)) }
 {
-    add_weight(b"atom ", weight, text)?;
+    add_weights(b"atom ", weights, text)?;
     text.extend_from_slice(b" (")?;
     text.extend_from_slice(predicate_name(task, atom.predicate))?;
     add_names(task, atom.objects.as_slice(), text)?;
@@ -67,7 +82,7 @@ fn add_names(task: &Task, objects: &[ObjectId], text: &mut Vec<u8>) -> Result<()
 pub(crate) fn add_state(line: &StateLine, text: &mut Vec<u8>) -> Result<(), AllocError>
     ensures { OnOk result (text.new.items ≡ text.old.items ++ state_line (line_of line.now)) }
 {
-    add_cost(line, text)?;
+    add_mark(line.mark, line.cost, text)?;
     add_numbers(line.atoms.as_slice(), text)?;
     text.extend_from_slice(b"\n")
 }
@@ -82,16 +97,17 @@ fn add_numbers(numbers: &[u32], text: &mut Vec<u8>) -> Result<(), AllocError>
     Ok(())
 }
 
-/// Adds a state's cost, and before it whether the state is open or cut.
-fn add_cost(line: &StateLine, text: &mut Vec<u8>) -> Result<(), AllocError>
-    ensures { OnOk result (text.new.items ≡ text.old.items ++ cost_text (line_of line.now)) }
+/// Adds a state's mark and its cost, and of a cut what is still to pay at least.
+fn add_mark(mark: Mark, cost: u64, text: &mut Vec<u8>) -> Result<(), AllocError>
+    ensures { OnOk result (text.new.items ≡ text.old.items ++ mark_text (mark_of mark) cost) }
 {
-    match line.cut {
-        None => add_number(b"open ", line.cost, text),
-        Some(rest) => {
-            add_number(b"cut ", line.cost, text)?;
+    match mark {
+        Mark::Open => add_number(b"open ", cost, text),
+        Mark::Cut { rest } => {
+            add_number(b"cut ", cost, text)?;
             add_number(b" ", rest, text)
         }
+        Mark::Dead => add_number(b"dead ", cost, text),
     }
 }
 
@@ -109,6 +125,33 @@ fn add_number(before: &[u8], number: u64, text: &mut Vec<u8>) -> Result<(), Allo
 {
     text.extend_from_slice(before)?;
     text.extend_from_slice(Buffer::new().format(number).as_bytes())
+}
+
+/// A constant or a weight of values, and that of dead ends, as they are written in this version.
+pub(crate) fn weights_in(version: Version, of_value: i64, of_dead_end: i64) -> Weights
+    ensures { weights_of result ≡ weights_in (version_of version) of_value of_dead_end }
+{
+    match version {
+        Version::One => Weights {
+            of_value,
+            of_dead_end: None,
+        },
+        Version::Two => Weights {
+            of_value,
+            of_dead_end: Some(of_dead_end),
+        },
+    }
+}
+
+/// Adds these bytes, and then constants or weights, with a blank between two.
+fn add_weights(before: &[u8], weights: Weights, text: &mut Vec<u8>) -> Result<(), AllocError>
+    ensures { OnOk result (text.new.items ≡ text.old.items ++ (before.now ++ weights_text (weights_of weights))) }
+{
+    add_weight(before, weights.of_value, text)?;
+    match weights.of_dead_end {
+        None => Ok(()),
+        Some(of_dead_end) => add_weight(b" ", of_dead_end, text),
+    }
 }
 
 /// Adds these bytes, and then a constant or a weight in decimal digits, a `-` before it where it is negative.

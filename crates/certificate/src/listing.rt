@@ -4,16 +4,16 @@ ghost use Rattle.certificate_definitions.specs.Certificates.{keeps_limits};
 ghost use Rattle.packed_state.specs.PooledView.{pooled_states};
 ghost use Rattle.certificate.specs.ListingParts.{certificate_with};
 
-use crate::listing_parts::{Beginning, Mark, States};
+use crate::listing_parts::{Beginning, Listed, States};
 use crate::widening::widened;
-use certificate_reader::Claim;
+use certificate_reader::{Claim, Version};
 use faults::NoMemory;
 use packed_state::{PooledStore, StateStore};
 use std::alloc::Global;
 use typing::Atom;
 
-/// A certificate of a task, within the limits of a certificate's text: its claim, its potential function, its atoms, and the
-/// states that it lists, as sets of the numbers of its atoms.
+/// A certificate of a task, within the limits of a certificate's text: its version, its claim, its potential functions, its
+/// atoms, and the states that it lists, as sets of the numbers of its atoms.
 #[derive(Drop)]
 pub struct Listing {
     beginning: Beginning,
@@ -28,8 +28,8 @@ impl Listing {
     ghost use Rattle.typing.specs.TaskParts.{atom_of};
     ghost use Rattle.packed_state.specs.PooledView.{pooled_width};
     ghost use Rattle.certificate_definitions.specs.Certificates.{is_weight};
-    ghost use Rattle.certificate_reader.specs.Lines.{claim_of};
-    ghost use Rattle.certificate.specs.ListingParts.{mark_of};
+    ghost use Rattle.certificate_reader.specs.Lines.{claim_of, version_of};
+    ghost use Rattle.certificate.specs.ListingParts.{listed_of};
     ghost use Rattle.certificate.specs.ListedSets.{marked};
     ghost use Rattle.certificate.specs.Listing.{certificate_in, store_in};
 
@@ -41,6 +41,13 @@ impl Listing {
         ensures sets { store_in result ≡ states.sets }
     {
         Listing { beginning, states }
+    }
+
+    /// The version of its text.
+    pub fn version(&self) -> Version
+        ensures { version_of result ≡ (certificate_in self.now).version }
+    {
+        self.beginning.version
     }
 
     /// What it claims of all plans.
@@ -55,7 +62,7 @@ impl Listing {
         ensures constant { result ≡ (certificate_in self.now).potentials.constant }
         ensures within_limits { IsTrue (is_weight result) }
     {
-        self.beginning.constant
+        self.beginning.potential.constant
     }
 
     /// The weights of its atoms, in their order.
@@ -64,7 +71,24 @@ impl Listing {
         ensures one_for_each { length result.now ≡ length (certificate_in self.now).atoms }
         ensures within_limits { IsTrue (list_all is_weight result.now) }
     {
-        self.beginning.weights.as_slice()
+        self.beginning.potential.weights.as_slice()
+    }
+
+    /// The constant of the potential function that tells dead ends.
+    pub fn dead_end_constant(&self) -> i64
+        ensures constant { result ≡ (certificate_in self.now).dead_ends.constant }
+        ensures within_limits { IsTrue (is_weight result) }
+    {
+        self.beginning.dead_ends.constant
+    }
+
+    /// The weights of its atoms that tell dead ends, in their order.
+    pub fn dead_end_weights(&self) -> &[i64]
+        ensures weights { result.now ≡ (certificate_in self.now).dead_ends.weights }
+        ensures one_for_each { length result.now ≡ length (certificate_in self.now).atoms }
+        ensures within_limits { IsTrue (list_all is_weight result.now) }
+    {
+        self.beginning.dead_ends.weights.as_slice()
     }
 
     /// Its atoms, which its states name by their places here, from 0.
@@ -74,9 +98,9 @@ impl Listing {
         self.beginning.atoms.as_slice()
     }
 
-    /// The costs and the cuts of its states, in the order of their lines.
-    pub fn marks(&self) -> &[Mark]
-        ensures { map mark_of result.now ≡ map marked (certificate_in self.now).lines }
+    /// The costs of its states, and what is said of each, in the order of their lines.
+    pub fn marks(&self) -> &[Listed]
+        ensures { map listed_of result.now ≡ map marked (certificate_in self.now).lines }
     {
         self.states.marks.as_slice()
     }

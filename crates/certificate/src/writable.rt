@@ -2,12 +2,12 @@
 ghost use Rattle.std.specs.Prelude.{◌≡◌, ℕ, ◌<◌, OnOk, Some, length, map, slice_get};
 ghost use Rattle.packed_state.specs.Packed.{bits_of};
 ghost use Rattle.typing.specs.TaskParts.{atom_of};
-ghost use Rattle.certificate_reader.specs.Lines.{claim_of, line_of};
+ghost use Rattle.certificate_reader.specs.Lines.{claim_of, line_of, version_of};
 ghost use Rattle.certificate_definitions.specs.Certificates.{Certificate};
 
 use crate::cert::Cert;
 use crate::listing::Listing;
-use certificate_reader::{Claim, StateLine};
+use certificate_reader::{Claim, StateLine, Version};
 use faults::NoMemory;
 use packed_state::{Packed, StateStore};
 use typing::Atom;
@@ -17,6 +17,10 @@ pub(crate) trait WritableCert {
     ghost certificate: { Self → Certificate };
 
     ghost width_of: { Self → ℕ };
+
+    /// The version of its text.
+    fn version(&self) -> Version
+        ensures { version_of result ≡ (certificate self.now).version };
 
     /// What it claims of all plans.
     fn claim(&self) -> Claim
@@ -32,7 +36,17 @@ pub(crate) trait WritableCert {
 
     /// The weights of its atoms, in their order.
     fn weights(&self) -> &[i64]
-        ensures { result.now ≡ (certificate self.now).potentials.weights };
+        ensures weights { result.now ≡ (certificate self.now).potentials.weights }
+        ensures one_for_each { length result.now ≡ length (certificate self.now).atoms };
+
+    /// The constant of the potential function that tells dead ends.
+    fn dead_end_constant(&self) -> i64
+        ensures { result ≡ (certificate self.now).dead_ends.constant };
+
+    /// The weights of its atoms that tell dead ends, in their order.
+    fn dead_end_weights(&self) -> &[i64]
+        ensures weights { result.now ≡ (certificate self.now).dead_ends.weights }
+        ensures one_for_each { length result.now ≡ length (certificate self.now).atoms };
 
     /// How many state lines it has.
     fn line_count(&self) -> usize
@@ -62,6 +76,10 @@ impl WritableCert for Cert {
 
     ghost width_of = { λ _. 0 };
 
+    fn version(&self) -> Version {
+        Cert::version(self)
+    }
+
     fn claim(&self) -> Claim {
         Cert::claim(self)
     }
@@ -76,6 +94,14 @@ impl WritableCert for Cert {
 
     fn weights(&self) -> &[i64] {
         Cert::weights(self)
+    }
+
+    fn dead_end_constant(&self) -> i64 {
+        Cert::dead_end_constant(self)
+    }
+
+    fn dead_end_weights(&self) -> &[i64] {
+        Cert::dead_end_weights(self)
     }
 
     fn line_count(&self) -> usize {
@@ -94,7 +120,7 @@ impl WritableCert for Cert {
     ) -> Result<(), NoMemory> {
         let read = &self.lines()[place];
         line.cost = read.cost;
-        line.cut = read.cut;
+        line.mark = read.mark;
         line.atoms.clear();
         line.atoms.extend_from_slice(&read.atoms)?;
         Ok(())
@@ -108,6 +134,10 @@ impl WritableCert for Listing {
     ghost certificate = { certificate_in };
 
     ghost width_of = { λ listing. pooled_width (store_in listing) };
+
+    fn version(&self) -> Version {
+        Listing::version(self)
+    }
 
     fn claim(&self) -> Claim {
         Listing::claim(self)
@@ -125,6 +155,14 @@ impl WritableCert for Listing {
         Listing::weights(self)
     }
 
+    fn dead_end_constant(&self) -> i64 {
+        Listing::dead_end_constant(self)
+    }
+
+    fn dead_end_weights(&self) -> &[i64] {
+        Listing::dead_end_weights(self)
+    }
+
     fn line_count(&self) -> usize {
         self.marks().len()
     }
@@ -139,10 +177,10 @@ impl WritableCert for Listing {
         set: &mut Packed,
         line: &mut StateLine,
     ) -> Result<(), NoMemory> {
-        let mark = self.marks()[place];
+        let listed = self.marks()[place];
         self.sets().get(place as u32, set);
-        line.cost = mark.cost;
-        line.cut = mark.cut;
+        line.cost = listed.cost;
+        line.mark = listed.mark;
         set.list_numbers(&mut line.atoms)
     }
 }

@@ -1,29 +1,28 @@
 //! The text of a certificate, on any device.
-ghost use Rattle.std.specs.Prelude.{◌≡◌, ◌++◌, [], map, zip, OnOk};
+ghost use Rattle.std.specs.Prelude.{◌≡◌, ◌++◌, [], OnOk};
 ghost use Rattle.std.specs.Io.KnownBytes.{Appends};
 ghost use Rattle.std.specs.List.{flat_map};
 ghost use Rattle.devices.specs.Devices.{AppendsBeginning, CountsDevice};
 ghost use Rattle.typing.specs.Task.{task_of};
-ghost use Rattle.typing.specs.TaskParts.{atom_of};
 ghost use Rattle.certificate.specs.Certificate.{certificate_of};
 ghost use Rattle.certificate.specs.Listing.{certificate_in};
 ghost use Rattle.certificate_definitions.specs.CertificateNames.{certificate_text};
-ghost use Rattle.certificate.specs.Gathering.{IsPassedOn, atom_line, state_line};
+ghost use Rattle.certificate.specs.Gathering.{IsPassedOn, atom_line, atoms_weighed, state_line};
 
 use crate::cert::Cert;
-use crate::line_text::{add_atom, add_head, add_last, add_state};
+use crate::line_text::{add_atom, add_head, add_last, add_state, weights_in};
 use crate::listing::Listing;
 use crate::writable::WritableCert;
-use certificate_reader::StateLine;
+use certificate_reader::{Mark, StateLine};
 use devices::{Sink, WriteFault, write_all};
 use packed_state::Packed;
 use std::alloc::Global;
-use typing::{Atom, Task};
+use typing::Task;
 
 /// From how many bytes on what is held is written.
 const PIECE: usize = 65_536;
 
-/// Writes the text of a certificate of the task, a line at a time: the version, the claim and the constant, a line for
+/// Writes the text of a certificate of the task, a line at a time: the version, the claim and the constants, a line for
 /// each atom, by its names, a line for each listed state, and last how many states are listed.
 ///
 /// # Errors
@@ -80,28 +79,30 @@ fn write_text<C: WritableCert, W: Sink>(
     ensures name { W.name out.new ≡ W.name out.old }
 {
     let mut held = Vec::new(alloc);
-    add_head(cert.claim(), cert.constant(), &mut held)?;
-    write_atoms(task, cert.atoms(), cert.weights(), &mut held, out)?;
+    let constants = weights_in(cert.version(), cert.constant(), cert.dead_end_constant());
+    add_head(cert.version(), cert.claim(), constants, &mut held)?;
+    write_atoms(task, cert, &mut held, out)?;
     write_states(alloc, cert, &mut held, out)?;
     add_last(cert.line_count(), &mut held)?;
     write_all(out, held.as_slice())
 }
 
-/// Writes the lines of the atoms, each with its weight, behind the bytes that are held.
-fn write_atoms<W: Sink>(
+/// Writes the lines of the atoms, each with its weights, behind the bytes that are held.
+fn write_atoms<C: WritableCert, W: Sink>(
     task: &Task,
-    atoms: &[Atom],
-    weights: &[i64],
+    cert: &C,
     held: &mut Vec<u8>,
     out: &mut W,
 ) -> Result<(), WriteFault>
-    ensures text { OnOk result (IsPassedOn (W.taken out.old) (W.taken out.new) held.old.items held.new.items (flat_map (atom_line (task_of task.now)) (zip (map atom_of atoms.now) weights.now))) }
-    ensures beginning { AppendsBeginning (W.taken out.old) (W.taken out.new) (held.old.items ++ flat_map (atom_line (task_of task.now)) (zip (map atom_of atoms.now) weights.now)) }
+    ensures text { OnOk result (IsPassedOn (W.taken out.old) (W.taken out.new) held.old.items held.new.items (flat_map (atom_line (task_of task.now) (C.certificate cert.now).version) (atoms_weighed (C.certificate cert.now)))) }
+    ensures beginning { AppendsBeginning (W.taken out.old) (W.taken out.new) (held.old.items ++ flat_map (atom_line (task_of task.now) (C.certificate cert.now).version) (atoms_weighed (C.certificate cert.now))) }
     ensures failures { CountsDevice (W.failures out.old) (W.failures out.new) result }
     ensures name { W.name out.new ≡ W.name out.old }
 {
-    for (atom, weight) in atoms.iter().zip(weights) {
-        add_atom(task, atom, *weight, held)?;
+    let (version, atoms) = (cert.version(), cert.atoms());
+    for place in 0..atoms.len() {
+        let weights = weights_in(version, cert.weights()[place], cert.dead_end_weights()[place]);
+        add_atom(task, &atoms[place], weights, held)?;
         pass_on(held, out)?;
     }
     Ok(())
@@ -124,7 +125,7 @@ fn write_states<C: WritableCert, W: Sink>(
     };
     let mut line = StateLine {
         cost: 0,
-        cut: None,
+        mark: Mark::Open,
         atoms: Vec::new(alloc),
     };
     for place in 0..cert.line_count() {

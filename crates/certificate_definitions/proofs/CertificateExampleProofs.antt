@@ -9,20 +9,23 @@ use Rattle.std.proofs.lemmas.List.Elements.{All-cons, All-nil}
 use Rattle.std.proofs.lemmas.List.Kept.{AllPairs-cons}
 use Rattle.std.specs.FinSet.{contains, from_list, contains-from_list}
 use Rattle.model.specs.Task.{Atom, Instance}
-use Rattle.model.specs.Examples.{instance, tie, tie_task}
+use Rattle.model.specs.Examples.{ground, instance, tie, tie_task}
 use Rattle.model.specs.ClosedOff.{kept_instances}
 use Rattle.model.specs.NumberedAtoms.{numbered_atoms}
 use Rattle.model.specs.Meaning.{State, cost_of, atom_cmp, step, changes_of, meets_goal}
 use Rattle.model.specs.WellTyped.{is_atom}
-use Rattle.model.specs.Claims.{bound, Line, IsListedWithin}
+use Rattle.model.specs.Claims.{Claim, bound, Allows, opened, cut, dead, Line, IsListedWithin}
+use Rattle.model.specs.Claims as model
 use Rattle.model.specs.Fluents.{is_fluent}
-use Rattle.certificate_definitions.specs.Certificates.{StateLine, state_of_line}
-use Rattle.certificate_definitions.specs.Certificates.{IsClosedFor}
-use Rattle.certificate_definitions.specs.CertificateRefusals.{IsWrong, unfair, unfair_goal}
-use Rattle.certificate_definitions.specs.CertificateExamples.{AreJudged, opened, cut, linked, tied, claims, weighs}
-use Rattle.potential_functions.specs.PotentialFunctions.{PotentialFunction, or_zero, value_of_state}
-use Rattle.potential_functions.specs.Fair.{IsFairAt, IsFairAtGoals, AreFair}
-use Rattle.potential_functions.proofs.FairExampleProofs.{losing, is_fair_at, is_unfair_at}
+use Rattle.certificate_definitions.specs.Certificates.{two, StateLine, state_of_line, IsClosedFor}
+use Rattle.certificate_definitions.specs.CertificateRefusals.{IsWrong, IsWrongLine, unfair, unfair_goal, dead_unfair, dead_unfair_goal, not_dead}
+use Rattle.certificate_definitions.specs.CertificateExamples.{AreJudged, open_at, cut_at, linked, tied, claims, weighs, zeros, token_told}
+use Rattle.potential_functions.specs.PotentialFunctions.{PotentialFunction, or_zero, value_of_state, is_dead_by, is_dead_state}
+use Rattle.potential_functions.specs.Fair.{IsFairAt, IsFairAtGoals, AreFair, nothing, AreDeadFair}
+use Rattle.potential_functions.specs.FairExamples.{token_task, token_atoms, one_missing, minus}
+use Rattle.potential_functions.specs.FairExamples as fair
+use Rattle.potential_functions.proofs.FairExampleProofs.{losing, is_fair_at, is_fair_within, is_unfair_at, is_unfair_within}
+use Rattle.potential_functions.proofs.FairExampleProofs as fair_proofs
 use Rattle.potential_functions.proofs.Zero.{zero-fair}
 use Rattle.model.proofs.GroundingComputes.{kept-is, numbered-is}
 use Rattle.model.proofs.Atoms.{atoms_total, same_state}
@@ -31,7 +34,7 @@ use Rattle.model.proofs.InstancesLemmas.{is_instance-of_step, Contains-all_insta
 use Rattle.model.proofs.ListLemmas.{Contains-cases, Contains-none}
 
 abbrev line_of : StateLine → Line State
-line_of l = record { state = state_of_line tie_task (claims (bound 1) (tied ∷ []) []) l; cost = l.cost; cut = l.cut }
+line_of l = record { state = state_of_line tie_task (claims (bound 1) (tied ∷ []) []) l; cost = l.cost; mark = l.mark }
 
 -- the initial state, and the state after the instance
 abbrev start : State
@@ -85,10 +88,10 @@ not_tied : contains start tied ≡ false
 not_tied = contains-from_list atoms_total (linked ∷ []) tied
 
 abbrev first : Line State
-first = line_of (opened 0 [])
+first = line_of (open_at 0 [])
 
 abbrev second : Line State
-second = line_of (cut 1 0 (0 ∷ []))
+second = line_of (cut_at 1 0 (0 ∷ []))
 
 one_line : (line : Line State) → Contains (first ∷ []) line → line.state ≡ after_it → start ≡ after_it
 one_line line at is = by_cases (Contains-cases first [] line at)
@@ -127,9 +130,18 @@ zero_is_fair = over_numbered (potentials (pos 0) (pos 0)) (zero-fair tie_task (t
 worth_one : AreFair tie_task (numbered_atoms tie_task (tied ∷ [])) (potentials (pos 1) (negsuc 0))
 worth_one = over_numbered (potentials (pos 1) (negsuc 0)) (record { instances = one_fair (negsuc 0) (le_z_yes tt); goals = record { within = le_z_yes tt } })
 
+-- where nothing weighs, no state is told a dead end, and that is dead-fair
+zero_is_dead_fair : AreDeadFair tie_task (numbered_atoms tie_task (tied ∷ [])) (potentials (pos 0) (pos 0))
+zero_is_dead_fair = subst (λ atoms. AreDeadFair tie_task atoms (potentials (pos 0) (pos 0))) (sym atoms_are) (record {
+  instances =
+      let P = λ (i : Instance). IsFairAt 0 tie_task (tied ∷ []) (weights_of (pos 0)) i in
+      subst (All P) (sym kept_are) (All-cons P the_instance [] (is_fair_within tie_task (tied ∷ []) nothing (weights_of (pos 0)) the_instance (le_z_yes tt)) (All-nil P));
+  goals = record { within = le_z_yes tt };
+})
+
 -- the initial state, cut
 abbrev start_cut : ℕ → Line State
-start_cut rest = line_of (cut 0 rest [])
+start_cut rest = line_of (cut_at 0 rest [])
 
 start_value : value_of_state (tied ∷ []) (potentials (pos 1) (negsuc 0)) start ≡ 1
 start_value = ap (λ b. or_zero (pos 1 +ℤ (pos 0 +ℤ (if b then negsuc 0 else pos 0)))) not_tied
@@ -145,26 +157,30 @@ the_one_line P l line at of_l = by_first (Contains-cases l [] line at)
     by_first (inl is) = subst P is of_l
     by_first (inr none) = absurd (Contains-none line none)
 
-cut_closed : IsClosedFor tie_task (weighs (bound 1) (pos 1) (negsuc 0) (cut 0 1 [] ∷ []))
+cut_closed : IsClosedFor tie_task (weighs (bound 1) (pos 1) (negsuc 0) (cut_at 0 1 [] ∷ []))
 cut_closed = record {
   one_weight_an_atom = refl;
+  one_dead_end_weight_an_atom = refl;
   potentials_are_fair = worth_one;
+  dead_ends_are_fair = zero_is_dead_fair;
   atoms_are_fluent = All-cons (λ (a : Atom). IsTrue (is_atom tie_task a && is_fluent tie_task a.predicate)) tied [] refl (All-nil (λ (a : Atom). IsTrue (is_atom tie_task a && is_fluent tie_task a.predicate)));
   atoms_are_distinct = λ i j d before within. absurd (omega (arith, before, within));
   states_are_distinct = λ i j d before within. absurd (omega (arith, before, within));
   listing_is_closed = record {
     initial_listed = (start_cut 1, (0, omega arith, refl), refl, omega arith);
     successors_listed = λ line a next at is_open leads.
-        the_one_line (λ (l : Line State). l.cut ≡ None → IsListedWithin (start_cut 1 ∷ []) next (l.cost + 1)) (start_cut 1) line at (λ not_cut. absurd (cc)) is_open;
-    open_goals_allowed = λ line at is_open goal. the_one_line (λ (l : Line State). l.cut ≡ None → 1 ≤ l.cost) (start_cut 1) line at (λ not_cut. absurd (cc)) is_open;
+        the_one_line (λ (l : Line State). l.mark ≡ opened → IsListedWithin (start_cut 1 ∷ []) next (l.cost + 1)) (start_cut 1) line at (λ not_cut. absurd (cc)) is_open;
+    open_goals_allowed = λ line at is_open goal. the_one_line (λ (l : Line State). l.mark ≡ opened → 1 ≤ l.cost) (start_cut 1) line at (λ not_cut. absurd (cc)) is_open;
     cuts_allowed = λ line rest at is_cut.
-        the_one_line (λ (l : Line State). l.cut ≡ Some rest → (rest ≤ value_of_state (tied ∷ []) (potentials (pos 1) (negsuc 0)) l.state) × (1 ≤ l.cost + rest)) (start_cut 1) line at
+        the_one_line (λ (l : Line State). l.mark ≡ cut rest → (rest ≤ value_of_state (tied ∷ []) (potentials (pos 1) (negsuc 0)) l.state) × (1 ≤ l.cost + rest)) (start_cut 1) line at
         (λ is. let same : 1 ≡ rest = cc in (omega (arith, same, start_value), omega (arith, same))) is_cut;
+    dead_are_dead = λ line at is_dead.
+        the_one_line (λ (l : Line State). l.mark ≡ dead → IsTrue (is_dead_state (tied ∷ []) (potentials (pos 0) (pos 0)) l.state)) (start_cut 1) line at (λ is_cut. absurd (cc)) is_dead;
   };
 }
 
 -- worth two, it is lost by the instance, which costs one
-worth_two : IsWrong tie_task (weighs (bound 1) (pos 2) (negsuc 1) (cut 0 1 [] ∷ [])) None 1 unfair
+worth_two : IsWrong tie_task (weighs (bound 1) (pos 2) (negsuc 1) (cut_at 0 1 [] ∷ [])) None 1 unfair
 worth_two = (
   the_instance,
   subst (λ l. Contains l the_instance) (sym kept_are) (0, omega arith, refl),
@@ -172,12 +188,78 @@ worth_two = (
       (is_unfair_at tie_task (tied ∷ []) (weights_of (negsuc 1)) the_instance 1 (pos 2) refl refl (λ h. absurd (omega (arith, ints)))),
 )
 
-one_left : IsWrong tie_task (weighs (bound 1) (pos 2) (negsuc 0) (cut 0 1 [] ∷ [])) None 1 unfair_goal
+more_than_none : (z : ℤ) → z ≡ pos 1 → z ≤ℤ pos 0 → ⊥
+more_than_none z is h = absurd (omega (arith, ints))
+
+one_left : IsWrong tie_task (weighs (bound 1) (pos 2) (negsuc 0) (cut_at 0 1 [] ∷ [])) None 1 unfair_goal
 one_left =
     subst (λ atoms. ¬ IsFairAtGoals tie_task atoms (potentials (pos 2) (negsuc 0))) (sym atoms_are) (λ fair. more_than_none (pos 1) refl fair.within)
+
+-- ---- a dead end
+
+-- the token is at x
+abbrev at_x : State
+at_x = from_list {R = atom_cmp} (ground 0 [] ∷ [])
+
+token_atoms_are : numbered_atoms token_task token_atoms ≡ token_atoms
+token_atoms_are = numbered-is token_task token_atoms ∙ refl
+
+told_at_x : (p : PotentialFunction) → is_dead_state token_atoms p at_x ≡ is_dead_by p (true ∷ false ∷ [])
+told_at_x p = λ i. is_dead_by p (contains-from_list atoms_total (ground 0 [] ∷ []) (ground 0 []) i ∷ contains-from_list atoms_total (ground 0 [] ∷ []) (ground 1 []) i ∷ [])
+
+abbrev dead_line : Line State
+dead_line = record { state = at_x; cost = 0; mark = dead }
+
+dead_closed : (claim : Claim) → IsClosedFor token_task (token_told two claim (pos 2) (minus 1))
+dead_closed claim = record {
+  one_weight_an_atom = refl;
+  one_dead_end_weight_an_atom = refl;
+  potentials_are_fair = subst (λ atoms. AreFair token_task atoms (zeros token_atoms)) (sym token_atoms_are) (zero-fair token_task token_atoms);
+  dead_ends_are_fair = subst (λ atoms. AreDeadFair token_task atoms one_missing) (sym token_atoms_are) fair_proofs.are_judged.token_is_dead_fair;
+  atoms_are_fluent =
+      let P = λ (a : Atom). IsTrue (is_atom token_task a && is_fluent token_task a.predicate) in
+      All-cons P (ground 0 []) (ground 1 [] ∷ []) refl (All-cons P (ground 1 []) [] refl (All-nil P));
+  atoms_are_distinct =
+      let R = λ (a b : Atom). a ≢ b in
+      AllPairs-cons R (ground 0 []) (ground 1 [] ∷ []) (All-cons (R (ground 0 [])) (ground 1 []) [] (λ same. absurd (cc (ap (λ (a : Atom). a.predicate) same))) (All-nil (R (ground 0 []))))
+      (λ i j d before within. absurd (omega (arith, before, within)));
+  states_are_distinct = λ i j d before within. absurd (omega (arith, before, within));
+  listing_is_closed = record {
+    initial_listed = (dead_line, (0, omega arith, refl), refl, omega arith);
+    successors_listed = λ line a next at is_open leads.
+        the_one_line (λ (l : Line State). l.mark ≡ opened → IsListedWithin (dead_line ∷ []) next (l.cost + cost_of token_task a)) dead_line line at (λ is. absurd (cc)) is_open;
+    open_goals_allowed = λ line at is_open goal. the_one_line (λ (l : Line State). l.mark ≡ opened → Allows claim l.cost) dead_line line at (λ is. absurd (cc)) is_open;
+    cuts_allowed = λ line rest at is_cut.
+        the_one_line (λ (l : Line State). l.mark ≡ cut rest → (rest ≤ value_of_state token_atoms (zeros token_atoms) l.state) × Allows claim (l.cost + rest)) dead_line line at
+        (λ is. absurd (cc)) is_cut;
+    dead_are_dead = λ line at is_dead. the_one_line (λ (l : Line State). IsTrue (is_dead_state token_atoms one_missing l.state)) dead_line line at (told_at_x one_missing);
+  };
+}
+
+-- with a constant of 1 it has the value 0
+not_told : IsWrongLine token_task (token_told two model.none (pos 1) (minus 1)) not_dead 6
+not_told = (dead_line, (0, refl, refl), refl, told_at_x (fair.potentials (pos 1) (minus 1 ∷ minus 1 ∷ [])))
+
+-- with a constant of 3, 1 is left at the goal
+dead_left : IsWrong token_task (token_told two model.none (pos 3) (minus 1)) None 1 dead_unfair_goal
+dead_left =
+    subst (λ atoms. ¬ IsFairAtGoals token_task atoms (fair.potentials (pos 3) (minus 1 ∷ minus 1 ∷ []))) (sym token_atoms_are)
+    (λ fair. more_than_none (pos 1) refl fair.within)
+
+-- where (y) weighs -2, the first step makes the sum fall by 1
+fore_loses : IsWrong token_task (token_told two model.none (pos 2) (minus 2)) None 1 dead_unfair
+fore_loses = (
+  fore,
+  subst (λ l. Contains l fore) (sym kept) (0, omega arith, refl),
+  subst (λ atoms. ¬ IsFairAt 0 token_task atoms (minus 1 ∷ minus 2 ∷ []) fore) (sym token_atoms_are)
+      (is_unfair_within token_task token_atoms nothing (minus 1 ∷ minus 2 ∷ []) fore 0 (pos 1) refl refl (λ h. absurd (omega (arith, ints)))),
+)
   where
-    more_than_none : (z : ℤ) → z ≡ pos 1 → z ≤ℤ pos 0 → ⊥
-    more_than_none z is h = absurd (omega (arith, ints))
+    fore : Instance
+    fore = instance 0 []
+
+    kept : kept_instances token_task ≡ fore ∷ instance 1 [] ∷ []
+    kept = kept-is token_task ∙ refl
 
 pub are_judged : AreJudged
 are_judged = record {
@@ -186,31 +268,36 @@ are_judged = record {
   static_at_start = refl;
   closed = record {
     one_weight_an_atom = refl;
+    one_dead_end_weight_an_atom = refl;
     potentials_are_fair = zero_is_fair;
+    dead_ends_are_fair = zero_is_dead_fair;
     atoms_are_fluent = All-cons (λ (a : Atom). IsTrue (is_atom tie_task a && is_fluent tie_task a.predicate)) tied [] refl (All-nil (λ (a : Atom). IsTrue (is_atom tie_task a && is_fluent tie_task a.predicate)));
     atoms_are_distinct = λ i j d before within. absurd (omega (arith, before, within));
     states_are_distinct = AllPairs-cons (λ (k l : Line State). k.state ≢ l.state) first (second ∷ []) (All-cons (λ (l : Line State). first.state ≢ l.state) second [] apart (All-nil (λ (l : Line State). first.state ≢ l.state)))
         (λ i j d before within. absurd (omega (arith, before, within)));
     listing_is_closed = record {
-      initial_listed = (line_of (opened 0 []), (0, omega arith, refl), refl, omega arith);
+      initial_listed = (line_of (open_at 0 []), (0, omega arith, refl), refl, omega arith);
       successors_listed = λ line a next at is_open leads.
-          of_two (λ (l : Line State). l.cut ≡ None → step tie_task l.state a ≡ Some next → IsListedWithin (first ∷ second ∷ []) next (l.cost + 1)) first second line at
+          of_two (λ (l : Line State). l.mark ≡ opened → step tie_task l.state a ≡ Some next → IsListedWithin (first ∷ second ∷ []) next (l.cost + 1)) first second line at
           (λ _ leads. (second, (1, omega arith, refl), sym (only_instance a next leads), omega arith)) (λ not_cut _. absurd (cc)) is_open leads;
       open_goals_allowed = λ line at is_open goal.
-          of_two (λ (l : Line State). l.cut ≡ None → IsTrue (meets_goal tie_task l.state) → 1 ≤ l.cost) first second line at
+          of_two (λ (l : Line State). l.mark ≡ opened → IsTrue (meets_goal tie_task l.state) → 1 ≤ l.cost) first second line at
           (λ _ met. absurd (true≢false (sym met ∙ not_tied))) (λ not_cut _. absurd (cc)) is_open goal;
       cuts_allowed = λ line rest at is_cut.
-          of_two (λ (l : Line State). l.cut ≡ Some rest → (rest ≤ value_of_state (tied ∷ []) (potentials (pos 0) (pos 0)) l.state) × (1 ≤ l.cost + rest)) first second line at
+          of_two (λ (l : Line State). l.mark ≡ cut rest → (rest ≤ value_of_state (tied ∷ []) (potentials (pos 0) (pos 0)) l.state) × (1 ≤ l.cost + rest)) first second line at
           (λ none. absurd (cc)) (λ is. let same : 0 ≡ rest = cc in (omega (arith, same), omega (arith, same))) is_cut;
+      dead_are_dead = λ line at is_dead.
+          of_two (λ (l : Line State). l.mark ≡ dead → IsTrue (is_dead_state (tied ∷ []) (potentials (pos 0) (pos 0)) l.state)) first second line at
+          (λ is_open. absurd (cc)) (λ is_cut. absurd (cc)) is_dead;
     };
   };
-  cut_claims_too_little = (line_of (cut 1 0 (0 ∷ [])), 0, (1, refl, refl), refl, inr (λ h. absurd (omega (arith, h))));
-  open_goal = (line_of (opened 1 (0 ∷ [])), (1, refl, refl), refl, contains-from_list atoms_total (tied ∷ linked ∷ []) tied, λ h. absurd (omega (arith, h)));
-  cut_by_its_bound = (line_of (cut 1 1 (0 ∷ [])), 1, (1, refl, refl), refl, inl (let none = end_value in omega (arith, none)));
-  cut_without_bound = (line_of (cut 1 0 (0 ∷ [])), 0, (1, refl, refl), refl, refl);
-  missing = (line_of (opened 0 []), the_instance, after_it, ((0, refl, refl), refl, leads_on), λ listed. apart (one_line listed.0 listed.1 listed.2 ∙ sym same_end));
+  cut_claims_too_little = (line_of (cut_at 1 0 (0 ∷ [])), 0, (1, refl, refl), refl, inr (λ h. absurd (omega (arith, h))));
+  open_goal = (line_of (open_at 1 (0 ∷ [])), (1, refl, refl), refl, contains-from_list atoms_total (tied ∷ linked ∷ []) tied, λ h. absurd (omega (arith, h)));
+  cut_by_its_bound = (line_of (cut_at 1 1 (0 ∷ [])), 1, (1, refl, refl), refl, inl (let none = end_value in omega (arith, none)));
+  cut_without_bound = (line_of (cut_at 1 0 (0 ∷ [])), 0, (1, refl, refl), refl, refl);
+  missing = (line_of (open_at 0 []), the_instance, after_it, ((0, refl, refl), refl, leads_on), λ listed. apart (one_line listed.0 listed.1 listed.2 ∙ sym same_end));
   dear_start = λ listed.
-      of_two (λ (l : Line State). l.cost ≤ 0 → ⊥) (line_of (opened 1 [])) second listed.0 listed.1 (λ h. absurd (omega (arith, h))) (λ h. absurd (omega (arith, h))) listed.3;
+      of_two (λ (l : Line State). l.cost ≤ 0 → ⊥) (line_of (open_at 1 [])) second listed.0 listed.1 (λ h. absurd (omega (arith, h))) (λ h. absurd (omega (arith, h))) listed.3;
   cut_by_value = cut_closed;
   claims_above_value = (start_cut 1, 1, (0, refl, refl), refl, inr (λ h. absurd (omega (arith, h))));
   cut_above_value = (start_cut 2, 2, (0, refl, refl), refl, inl (let one = start_value in omega (arith, one)));
@@ -218,9 +305,17 @@ are_judged = record {
   left_at_goal = one_left;
   static_atom = (linked, (0, refl, refl), refl);
   atom_twice = inl (tied, 4, omega arith, (0, refl, refl), (1, refl, refl));
-  state_twice = inr (line_of (opened 0 []), line_of (cut 0 0 []), 5, omega arith, (0, refl, refl), (1, refl, refl), refl);
+  state_twice = inr (line_of (open_at 0 []), line_of (cut_at 0 0 []), 5, omega arith, (0, refl, refl), (1, refl, refl), refl);
   numbers_rise = refl;
   weights_are_limited = refl;
   least_weight = refl;
   weight_missing = refl;
+  dead_start = dead_closed model.none;
+  dead_within_bound = dead_closed (bound 7);
+  not_told_dead = not_told;
+  dead_left_at_goal = dead_left;
+  lost_by_fore = fore_loses;
+  version_2_has_dead_ends = refl;
+  version_1_has_none = refl;
+  dead_in_version_1 = refl;
 }

@@ -1,5 +1,5 @@
 -- Of a closed certificate nothing is wrong.
-use Rattle.std.proofs.Common.{◌≡◌, ℕ, ◌+◌, ◌<◌, ◌&&◌, List, get_or, Option, None, Some, inl, inr, refl, subst, arith}
+use Rattle.std.proofs.Common.{◌≡◌, ℕ, ◌+◌, ◌<◌, ◌&&◌, List, get_or, Option, None, Some, inl, inr, true≢false, refl, sym, ◌∙◌, subst, arith}
 use Rattle.std.specs.Prelude.{◌≢◌, IsTrue, AllPairs, slice_get}
 use Rattle.std.proofs.lemmas.Option.{slice_get_within, get_or_from_slice_get}
 use Rattle.std.proofs.lemmas.List.Elements.{All-contains}
@@ -12,7 +12,7 @@ use Rattle.model.specs.NumberedAtoms.{numbered_atoms}
 use Rattle.model.specs.Claims.{Claim, bound, none, Allows, Line}
 use Rattle.model.specs.Fluents.{is_fluent}
 use Rattle.certificate_definitions.specs.Certificates.{Certificate, lines_of, IsClosedFor}
-use Rattle.certificate_definitions.specs.CertificateRefusals.{Reason, not_fluent, repeated, no_initial, unfair, unfair_goal, goal_open, successor_missing, successor_dearer, cut_weak, cut_not_allowed, plan_invalid, plan_dearer, limit, IsWrongLine, IsWrong, IsPlanWithin}
+use Rattle.certificate_definitions.specs.CertificateRefusals.{Reason, not_fluent, repeated, no_initial, unfair, unfair_goal, goal_open, successor_missing, successor_dearer, cut_weak, cut_not_allowed, plan_invalid, plan_dearer, limit, dead_unfair, dead_unfair_goal, not_dead, IsWrongLine, IsWrong, IsPlanWithin}
 use Rattle.potential_functions.specs.Fair.{IsFairAt}
 use Rattle.model.proofs.ListLemmas.{Contains-got}
 
@@ -59,9 +59,13 @@ module _ (task : Task) (c : Certificate) (closed : IsClosedFor task c) where
   right_line cut_not_allowed line (l, rest, (place, told, at), is_cut, is_none) =
       let allowed = (closed.listing_is_closed.cuts_allowed l rest (Contains-got listed place l at) is_cut).1 in
       subst (λ (claim : Claim). Allows claim (l.cost + rest)) is_none allowed
+  right_line not_dead line (l, (place, told, at), is_dead, alive) =
+      absurd (true≢false (sym (closed.listing_is_closed.dead_are_dead l (Contains-got listed place l at) is_dead) ∙ alive))
   right_line no_initial line wrong = wrong
   right_line unfair line wrong = wrong
   right_line unfair_goal line wrong = wrong
+  right_line dead_unfair line wrong = wrong
+  right_line dead_unfair_goal line wrong = wrong
   right_line plan_invalid line wrong = wrong
   right_line plan_dearer line wrong = wrong
   right_line limit line wrong = wrong
@@ -72,6 +76,9 @@ module _ (task : Task) (c : Certificate) (closed : IsClosedFor task c) where
   right plan most unfair within (i, kept, wrong) =
       absurd (wrong (All-contains (λ (i : Instance). IsFairAt (cost_of task i) task (numbered_atoms task c.atoms) c.potentials.weights i) (kept_instances task) i closed.potentials_are_fair.instances kept))
   right plan most unfair_goal within wrong = absurd (wrong closed.potentials_are_fair.goals)
+  right plan most dead_unfair within (i, kept, wrong) =
+      absurd (wrong (All-contains (λ (i : Instance). IsFairAt 0 task (numbered_atoms task c.atoms) c.dead_ends.weights i) (kept_instances task) i closed.dead_ends_are_fair.instances kept))
+  right plan most dead_unfair_goal within wrong = absurd (wrong closed.dead_ends_are_fair.goals)
   right None most plan_invalid within wrong = absurd wrong
   right (Some p) most plan_invalid within wrong = absurd (wrong (plan_solves task c.claim p within))
   right None most plan_dearer within wrong = absurd wrong
@@ -86,3 +93,4 @@ module _ (task : Task) (c : Certificate) (closed : IsClosedFor task c) where
   right plan most successor_dearer within wrong = absurd wrong
   right plan most cut_weak within wrong = absurd wrong
   right plan most cut_not_allowed within wrong = absurd wrong
+  right plan most not_dead within wrong = absurd wrong

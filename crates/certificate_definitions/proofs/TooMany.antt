@@ -1,20 +1,20 @@
 -- What is one line too many, by the place where it stands.
 use Rattle.std.proofs.Common.{◌≡◌, ℕ, ◌+◌, ◌⊎◌, inl, inr, List, [], ◌∷◌, ◌++◌, map, length, Some, refl, sym, ap, ◌∙◌, subst, arith}
-use Rattle.std.specs.Prelude.{ℤ, IsTrue}
+use Rattle.std.specs.Prelude.{IsTrue}
 use Rattle.model.specs.Claims.{Claim}
-use Rattle.certificate_definitions.specs.Certificates.{StateLine}
-use Rattle.certificate_definitions.specs.CertificateText.{WeightedAtom, TextLine, version, claims, constant, atom, listed, last, is_line, line_text, most_atoms, most_states, IsOneTooMany, atoms, states, head_lines}
+use Rattle.certificate_definitions.specs.Certificates.{Version, StateLine}
+use Rattle.certificate_definitions.specs.CertificateText.{Weights, WeightedAtom, TextLine, version, claims, constant, atom, listed, last, is_line, line_text, most_atoms, most_states, IsOneTooMany, atoms, states, head_lines}
 use Rattle.certificate_definitions.specs.CertificateMachine.{Place, at_version, at_claim, at_constant, in_body, ended, place_after}
 use Rattle.certificate_definitions.proofs.Machine.{StandsBefore, stands}
 
 -- The bytes are a line that may not stand at this place for the limit alone.
 abbrev pub IsTooManyAt : Place → List ℕ → Type 0
-IsTooManyAt (in_body n m) bytes =
-    ((m ≡ 0) × (n ≡ most_atoms) × ((a : WeightedAtom) × IsTrue (is_line n (atom a)) × (bytes ≡ line_text (atom a))))
-    ⊎ ((m ≡ most_states) × ((l : StateLine) × IsTrue (is_line n (listed l)) × (bytes ≡ line_text (listed l))))
+IsTooManyAt (in_body v n m) bytes =
+    ((m ≡ 0) × (n ≡ most_atoms) × ((a : WeightedAtom) × IsTrue (is_line v n (atom a)) × (bytes ≡ line_text (atom a))))
+    ⊎ ((m ≡ most_states) × ((l : StateLine) × IsTrue (is_line v n (listed l)) × (bytes ≡ line_text (listed l))))
 IsTooManyAt at_version bytes = ⊥
-IsTooManyAt at_claim bytes = ⊥
-IsTooManyAt at_constant bytes = ⊥
+IsTooManyAt (at_claim v) bytes = ⊥
+IsTooManyAt (at_constant v) bytes = ⊥
 IsTooManyAt ended bytes = ⊥
 
 -- ---- how many lines of a kind there are
@@ -41,7 +41,7 @@ weight_each weight f same (x ∷ xs) =
 
 abbrev atom_weight : TextLine → ℕ
 atom_weight (atom a) = 1
-atom_weight version = 0
+atom_weight (version v) = 0
 atom_weight (claims claim) = 0
 atom_weight (constant k) = 0
 atom_weight (listed l) = 0
@@ -49,7 +49,7 @@ atom_weight (last count) = 0
 
 abbrev state_weight : TextLine → ℕ
 state_weight (listed l) = 1
-state_weight version = 0
+state_weight (version v) = 0
 state_weight (claims claim) = 0
 state_weight (constant k) = 0
 state_weight (atom a) = 0
@@ -57,61 +57,67 @@ state_weight (last count) = 0
 
 abbrev last_weight : TextLine → ℕ
 last_weight (last count) = 1
-last_weight version = 0
+last_weight (version v) = 0
 last_weight (claims claim) = 0
 last_weight (constant k) = 0
 last_weight (atom a) = 0
 last_weight (listed l) = 0
 
-module _ (claim : Claim) (k : ℤ) (all : List WeightedAtom) (lines : List StateLine) where
-  atoms_in : weight_of atom_weight (head_lines claim k all lines) ≡ length all
+module _ (v : Version) (claim : Claim) (k : Weights) (all : List WeightedAtom) (lines : List StateLine) where
+  atoms_in : weight_of atom_weight (head_lines v claim k all lines) ≡ length all
   atoms_in =
       let split = weight_append atom_weight (map (λ a. atom a) all) (map (λ l. listed l) lines) in
       let first = weight_each atom_weight (λ a. atom a) (λ a. refl) all in
       let second = weight_none atom_weight (λ l. listed l) (λ l. refl) lines in
       omega (arith, split, first, second)
 
-  states_in : weight_of state_weight (head_lines claim k all lines) ≡ length lines
+  states_in : weight_of state_weight (head_lines v claim k all lines) ≡ length lines
   states_in =
       let split = weight_append state_weight (map (λ a. atom a) all) (map (λ l. listed l) lines) in
       let first = weight_none state_weight (λ a. atom a) (λ a. refl) all in
       let second = weight_each state_weight (λ l. listed l) (λ l. refl) lines in
       omega (arith, split, first, second)
 
-  last_in : weight_of last_weight (head_lines claim k all lines) ≡ 0
+  last_in : weight_of last_weight (head_lines v claim k all lines) ≡ 0
   last_in =
       let split = weight_append last_weight (map (λ a. atom a) all) (map (λ l. listed l) lines) in
       let first = weight_none last_weight (λ a. atom a) (λ a. refl) all in
       let second = weight_none last_weight (λ l. listed l) (λ l. refl) lines in
       omega (arith, split, first, second)
 
+one_version : (v w : Version) (lines others : List TextLine) → version v ∷ lines ≡ version w ∷ others → v ≡ w
+one_version v w lines others same = cc
+
 -- the place behind such lines is behind so many atoms and states
-place_behind : (claim : Claim) (k : ℤ) (all : List WeightedAtom) (lines : List StateLine) (place : Place) → StandsBefore place (head_lines claim k all lines)
-    → place ≡ in_body (length all) (length lines)
-place_behind claim k all lines at_version stands = absurd (cc stands)
-place_behind claim k all lines at_claim stands = absurd (cc stands)
-place_behind claim k all lines at_constant (other, is, are) = absurd (cc are)
-place_behind claim k all lines (in_body n m) body =
+place_behind : (v : Version) (claim : Claim) (k : Weights) (all : List WeightedAtom) (lines : List StateLine) (place : Place) → StandsBefore place (head_lines v claim k all lines)
+    → place ≡ in_body v (length all) (length lines)
+place_behind v claim k all lines at_version stands = absurd (cc stands)
+place_behind v claim k all lines (at_claim w) stands = absurd (cc stands)
+place_behind v claim k all lines (at_constant w) (other, is, are) = absurd (cc are)
+place_behind v claim k all lines (in_body w n m) body =
+    let rest : List TextLine = claims claim ∷ constant k ∷ map (λ a. atom a) all ++ map (λ l. listed l) lines in
+    let same_version : v ≡ w =
+    one_version v w rest (claims body.claim ∷ constant body.constant ∷ map (λ a. atom a) body.atoms ++ map (λ l. listed l) body.states) body.lines_are in
     let same_atoms : length all ≡ n =
-    sym (atoms_in claim k all lines) ∙ ap (weight_of atom_weight) body.lines_are ∙ atoms_in body.claim body.constant body.atoms body.states ∙ body.atom_count_is in
+    sym (atoms_in v claim k all lines) ∙ ap (weight_of atom_weight) body.lines_are ∙ atoms_in w body.claim body.constant body.atoms body.states ∙ body.atom_count_is in
     let same_states : length lines ≡ m =
-    sym (states_in claim k all lines) ∙ ap (weight_of state_weight) body.lines_are ∙ states_in body.claim body.constant body.atoms body.states ∙ body.state_count_is in
-    λ i. in_body (sym same_atoms i) (sym same_states i)
-place_behind claim k all lines ended (c, keeps, are) =
-    let none_first = last_in c.claim c.constant c.atoms c.lines in
-    let split = weight_append last_weight (head_lines c.claim c.constant c.atoms c.lines) (last (length c.lines) ∷ []) in
-    absurd (omega (arith, split, none_first, sym (last_in claim k all lines) ∙ ap (weight_of last_weight) (sym are)))
+    sym (states_in v claim k all lines) ∙ ap (weight_of state_weight) body.lines_are ∙ states_in w body.claim body.constant body.atoms body.states ∙ body.state_count_is in
+    λ i. in_body (sym same_version i) (sym same_atoms i) (sym same_states i)
+place_behind v claim k all lines ended (c, keeps, are) =
+    let none_first = last_in c.version c.claim c.constants c.atoms c.lines in
+    let split = weight_append last_weight (head_lines c.version c.claim c.constants c.atoms c.lines) (last (length c.lines) ∷ []) in
+    absurd (omega (arith, split, none_first, sym (last_in v claim k all lines) ∙ ap (weight_of last_weight) (sym are)))
 
 -- ---- the limit, by the place
 
 module _ (before : List TextLine) (place : Place) (leads : place_after before ≡ Some place) (bytes : List ℕ) where
   pub too_many_at : IsOneTooMany before bytes → IsTooManyAt place bytes
-  too_many_at (atoms claim k all a are full is same) =
-      let here : place ≡ in_body (length all) 0 = place_behind claim k all [] place (subst (StandsBefore place) are (stands before place leads)) in
+  too_many_at (atoms v claim k all a are full is same) =
+      let here : place ≡ in_body v (length all) 0 = place_behind v claim k all [] place (subst (StandsBefore place) are (stands before place leads)) in
       subst (λ place. IsTooManyAt place bytes) (sym here)
-      (inl (refl, full, (a, subst (λ n. IsTrue (is_line n (atom a))) (sym full) is, same)))
-  too_many_at (states claim k all lines l are full is same) =
-      let here : place ≡ in_body (length all) (length lines) = place_behind claim k all lines place (subst (StandsBefore place) are (stands before place leads)) in
+      (inl (refl, full, (a, subst (λ n. IsTrue (is_line v n (atom a))) (sym full) is, same)))
+  too_many_at (states v claim k all lines l are full is same) =
+      let here : place ≡ in_body v (length all) (length lines) = place_behind v claim k all lines place (subst (StandsBefore place) are (stands before place leads)) in
       subst (λ place. IsTooManyAt place bytes) (sym here) (inr (full, (l, is, same)))
 
 no_states : (lines : List StateLine) → length lines ≡ 0 → lines ≡ []
@@ -120,13 +126,13 @@ no_states (l ∷ lines) empty = absurd (omega (arith, empty))
 
 pub too_many_of : (before : List TextLine) (bytes : List ℕ) (place : Place) → StandsBefore place before → IsTooManyAt place bytes → IsOneTooMany before bytes
 too_many_of before bytes at_version stands over = absurd over
-too_many_of before bytes at_claim stands over = absurd over
-too_many_of before bytes at_constant stands over = absurd over
+too_many_of before bytes (at_claim v) stands over = absurd over
+too_many_of before bytes (at_constant v) stands over = absurd over
 too_many_of before bytes ended stands over = absurd over
-too_many_of before bytes (in_body n m) body (inl (none_yet, full, (a, is, same))) =
-    atoms body.claim body.constant body.atoms a
-    (body.lines_are ∙ ap (head_lines body.claim body.constant body.atoms) (no_states body.states (body.state_count_is ∙ none_yet)))
-    (body.atom_count_is ∙ full) (subst (λ n. IsTrue (is_line n (atom a))) full is) same
-too_many_of before bytes (in_body n m) body (inr (full, (l, is, same))) =
-    states body.claim body.constant body.atoms body.states l body.lines_are (body.state_count_is ∙ full)
-    (subst (λ n. IsTrue (is_line n (listed l))) (sym body.atom_count_is) is) same
+too_many_of before bytes (in_body v n m) body (inl (none_yet, full, (a, is, same))) =
+    atoms v body.claim body.constant body.atoms a
+    (body.lines_are ∙ ap (head_lines v body.claim body.constant body.atoms) (no_states body.states (body.state_count_is ∙ none_yet)))
+    (body.atom_count_is ∙ full) (subst (λ n. IsTrue (is_line v n (atom a))) full is) same
+too_many_of before bytes (in_body v n m) body (inr (full, (l, is, same))) =
+    states v body.claim body.constant body.atoms body.states l body.lines_are (body.state_count_is ∙ full)
+    (subst (λ n. IsTrue (is_line v n (listed l))) (sym body.atom_count_is) is) same

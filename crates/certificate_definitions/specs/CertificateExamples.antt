@@ -1,18 +1,31 @@
 -- Worked examples of certificates: which are closed for a small task, and what is wrong with others. Each is chosen so
 -- that a wrong reading says otherwise.
-use Rattle.std.specs.Prelude.{◌≡◌, ℕ, ℤ, pos, negsuc, true, false, List, [], ◌∷◌, map, None, Some}
+use Rattle.std.specs.Prelude.{◌≡◌, ℕ, ℤ, pos, negsuc, true, false, List, [], ◌∷◌, map, None}
 use Rattle.model.specs.Task.{Atom}
 use Rattle.model.specs.Examples.{ground, tie_task}
-use Rattle.model.specs.Claims.{Claim, bound, none}
+use Rattle.model.specs.Claims.{Claim, bound, none, opened, cut, dead}
 use Rattle.model.specs.Fluents.{is_fluent, static_atoms}
-use Rattle.certificate_definitions.specs.Certificates.{StateLine, Certificate, keeps_limits, IsClosedFor}
-use Rattle.certificate_definitions.specs.CertificateRefusals.{IsWrongLine, IsWrong, not_fluent, repeated, no_initial, unfair, unfair_goal, goal_open, successor_missing, cut_weak, cut_not_allowed}
+use Rattle.potential_functions.specs.PotentialFunctions.{PotentialFunction}
+use Rattle.potential_functions.specs.FairExamples.{token_task, token_atoms, potentials, minus}
+use Rattle.certificate_definitions.specs.Certificates.{Version, one, two, StateLine, Certificate, keeps_limits, IsClosedFor}
+use Rattle.certificate_definitions.specs.CertificateRefusals.{IsWrongLine, IsWrong, not_fluent, repeated, no_initial, unfair, unfair_goal, dead_unfair, dead_unfair_goal, goal_open, successor_missing, cut_weak, cut_not_allowed, not_dead}
 
-abbrev pub opened : ℕ → List ℕ → StateLine
-opened cost atoms = record { cost = cost; cut = None; atoms = atoms }
+abbrev pub open_at : ℕ → List ℕ → StateLine
+open_at cost atoms = record { cost = cost; mark = opened; atoms = atoms }
 
-abbrev pub cut : ℕ → ℕ → List ℕ → StateLine
-cut cost rest atoms = record { cost = cost; cut = Some rest; atoms = atoms }
+abbrev pub cut_at : ℕ → ℕ → List ℕ → StateLine
+cut_at cost rest atoms = record { cost = cost; mark = cut rest; atoms = atoms }
+
+abbrev pub dead_at : ℕ → List ℕ → StateLine
+dead_at cost atoms = record { cost = cost; mark = dead; atoms = atoms }
+
+-- the potential function that is 0 everywhere
+abbrev pub zeros : List Atom → PotentialFunction
+zeros atoms = potentials (pos 0) (map (λ (a : Atom). pos 0) atoms)
+
+-- a certificate of version 1, which tells no dead ends
+abbrev pub first_version : Claim → List Atom → PotentialFunction → List StateLine → Certificate
+first_version claim atoms p lines = record { version = one; claim = claim; atoms = atoms; potentials = p; dead_ends = zeros atoms; lines = lines }
 
 -- In the task `tie` an atom of the static predicate `link` is true at the start; the one instance makes `tied` true, which
 -- is the goal.
@@ -24,15 +37,28 @@ tied = ground 1 []
 
 -- a certificate whose potential function is 0 everywhere
 abbrev pub claims : Claim → List Atom → List StateLine → Certificate
-claims claim atoms lines = record { claim = claim; atoms = atoms; potentials = record { constant = pos 0; weights = map (λ (a : Atom). pos 0) atoms }; lines = lines }
+claims claim atoms lines = first_version claim atoms (zeros atoms) lines
 
 -- one in which `tied` has this weight
 abbrev pub weighs : Claim → (constant weight : ℤ) → List StateLine → Certificate
-weighs claim constant weight lines = record { claim = claim; atoms = tied ∷ []; potentials = record { constant = constant; weights = weight ∷ [] }; lines = lines }
+weighs claim constant weight lines = first_version claim (tied ∷ []) (potentials constant (weight ∷ [])) lines
 
 -- the initial state is open, and the state after the instance is cut
 abbrev pub start_open : List StateLine
-start_open = opened 0 [] ∷ cut 1 0 (0 ∷ []) ∷ []
+start_open = open_at 0 [] ∷ cut_at 1 0 (0 ∷ []) ∷ []
+
+-- In the task `token`, whose token is at x or at y, the goal is that it is at both. The one line says that the initial state
+-- is a dead end: the token is missing at one of the two, and no step changes that. These are the constant and the weight of
+-- (y) by which dead ends are told; that of (x) is -1.
+abbrev pub token_told : Version → Claim → (constant of_y : ℤ) → Certificate
+token_told version claim constant of_y = record {
+  version = version;
+  claim = claim;
+  atoms = token_atoms;
+  potentials = zeros token_atoms;
+  dead_ends = potentials constant (minus 1 ∷ of_y ∷ []);
+  lines = dead_at 0 (0 ∷ []) ∷ [];
+}
 
 pub record AreJudged : Type 0 where
   -- Static atoms stand in no line, and are true in each listed state.
@@ -43,26 +69,38 @@ pub record AreJudged : Type 0 where
   pub closed : IsClosedFor tie_task (claims (bound 1) (tied ∷ []) start_open)
   -- That none costs less than 2 is too much, both of a cut and of an open line.
   pub cut_claims_too_little : IsWrongLine tie_task (claims (bound 2) (tied ∷ []) start_open) cut_weak 6
-  pub open_goal : IsWrongLine tie_task (claims (bound 2) (tied ∷ []) (opened 0 [] ∷ opened 1 (0 ∷ []) ∷ [])) goal_open 6
+  pub open_goal : IsWrongLine tie_task (claims (bound 2) (tied ∷ []) (open_at 0 [] ∷ open_at 1 (0 ∷ []) ∷ [])) goal_open 6
   -- A cut that tells a bound of its own is not believed, and none is allowed where no plan is claimed to be.
-  pub cut_by_its_bound : IsWrongLine tie_task (claims (bound 2) (tied ∷ []) (opened 0 [] ∷ cut 1 1 (0 ∷ []) ∷ [])) cut_weak 6
+  pub cut_by_its_bound : IsWrongLine tie_task (claims (bound 2) (tied ∷ []) (open_at 0 [] ∷ cut_at 1 1 (0 ∷ []) ∷ [])) cut_weak 6
   pub cut_without_bound : IsWrongLine tie_task (claims none (tied ∷ []) start_open) cut_not_allowed 6
   -- An open line's successors are listed, and the initial state is at 0.
-  pub missing : IsWrongLine tie_task (claims (bound 1) (tied ∷ []) (opened 0 [] ∷ [])) successor_missing 5
-  pub dear_start : IsWrong tie_task (claims (bound 1) (tied ∷ []) (opened 1 [] ∷ cut 1 0 (0 ∷ []) ∷ [])) None 1 no_initial
+  pub missing : IsWrongLine tie_task (claims (bound 1) (tied ∷ []) (open_at 0 [] ∷ [])) successor_missing 5
+  pub dear_start : IsWrong tie_task (claims (bound 1) (tied ∷ []) (open_at 1 [] ∷ cut_at 1 0 (0 ∷ []) ∷ [])) None 1 no_initial
   -- A potential function tells what is still to pay: where `tied` is worth the one instance, the initial state alone, cut,
   -- shows that no plan costs less than 1. It does not show that none costs less than 2, nor more than its value.
-  pub cut_by_value : IsClosedFor tie_task (weighs (bound 1) (pos 1) (negsuc 0) (cut 0 1 [] ∷ []))
-  pub claims_above_value : IsWrongLine tie_task (weighs (bound 2) (pos 1) (negsuc 0) (cut 0 1 [] ∷ [])) cut_weak 5
-  pub cut_above_value : IsWrongLine tie_task (weighs (bound 1) (pos 1) (negsuc 0) (cut 0 2 [] ∷ [])) cut_weak 5
+  pub cut_by_value : IsClosedFor tie_task (weighs (bound 1) (pos 1) (negsuc 0) (cut_at 0 1 [] ∷ []))
+  pub claims_above_value : IsWrongLine tie_task (weighs (bound 2) (pos 1) (negsuc 0) (cut_at 0 1 [] ∷ [])) cut_weak 5
+  pub cut_above_value : IsWrongLine tie_task (weighs (bound 1) (pos 1) (negsuc 0) (cut_at 0 2 [] ∷ [])) cut_weak 5
   -- Where it is worth 2, the instance loses more than it costs; and where the constant is 2, more than 0 is left at the goal.
-  pub worth_more : IsWrong tie_task (weighs (bound 1) (pos 2) (negsuc 1) (cut 0 1 [] ∷ [])) None 1 unfair
-  pub left_at_goal : IsWrong tie_task (weighs (bound 1) (pos 2) (negsuc 0) (cut 0 1 [] ∷ [])) None 1 unfair_goal
+  pub worth_more : IsWrong tie_task (weighs (bound 1) (pos 2) (negsuc 1) (cut_at 0 1 [] ∷ [])) None 1 unfair
+  pub left_at_goal : IsWrong tie_task (weighs (bound 1) (pos 2) (negsuc 0) (cut_at 0 1 [] ∷ [])) None 1 unfair_goal
   -- Atoms are fluent, and stand once; numbers of atoms rise; there is a weight for each atom, within its limits.
   pub static_atom : IsWrongLine tie_task (claims (bound 1) (linked ∷ tied ∷ []) start_open) not_fluent 4
   pub atom_twice : IsWrongLine tie_task (claims (bound 1) (tied ∷ tied ∷ []) start_open) repeated 5
-  pub state_twice : IsWrongLine tie_task (claims (bound 1) (tied ∷ []) (opened 0 [] ∷ cut 0 0 [] ∷ [])) repeated 6
-  pub numbers_rise : keeps_limits (claims (bound 1) (tied ∷ []) (opened 0 (0 ∷ 0 ∷ []) ∷ [])) ≡ false
+  pub state_twice : IsWrongLine tie_task (claims (bound 1) (tied ∷ []) (open_at 0 [] ∷ cut_at 0 0 [] ∷ [])) repeated 6
+  pub numbers_rise : keeps_limits (claims (bound 1) (tied ∷ []) (open_at 0 (0 ∷ 0 ∷ []) ∷ [])) ≡ false
   pub weights_are_limited : keeps_limits (weighs (bound 1) (pos 0) (pos 2147483648) []) ≡ false
   pub least_weight : keeps_limits (weighs (bound 1) (pos 2147483647) (negsuc 2147483646) []) ≡ true
-  pub weight_missing : keeps_limits (record { claim = bound 1; atoms = tied ∷ []; potentials = record { constant = pos 0; weights = [] }; lines = [] }) ≡ false
+  pub weight_missing : keeps_limits (first_version (bound 1) (tied ∷ []) (potentials (pos 0) []) []) ≡ false
+  -- A line of a dead end shows that no plan starts there, whatever is claimed.
+  pub dead_start : IsClosedFor token_task (token_told two none (pos 2) (minus 1))
+  pub dead_within_bound : IsClosedFor token_task (token_told two (bound 7) (pos 2) (minus 1))
+  -- A dead end has a value of at least 1; more than 0 is never left at the goal; and no step makes the sum fall, though it
+  -- costs 1.
+  pub not_told_dead : IsWrongLine token_task (token_told two none (pos 1) (minus 1)) not_dead 6
+  pub dead_left_at_goal : IsWrong token_task (token_told two none (pos 3) (minus 1)) None 1 dead_unfair_goal
+  pub lost_by_fore : IsWrong token_task (token_told two none (pos 2) (minus 2)) None 1 dead_unfair
+  -- Version 1 has no line of a dead end, and no weights that tell one.
+  pub version_2_has_dead_ends : keeps_limits (token_told two none (pos 2) (minus 1)) ≡ true
+  pub version_1_has_none : keeps_limits (token_told one none (pos 2) (minus 1)) ≡ false
+  pub dead_in_version_1 : keeps_limits (first_version none token_atoms (zeros token_atoms) (dead_at 0 (0 ∷ []) ∷ [])) ≡ false

@@ -28,8 +28,8 @@ weights_in one of_value of_dead_end = record { of_value = of_value; of_dead_end 
 weights_in two of_value of_dead_end = record { of_value = of_value; of_dead_end = Some of_dead_end }
 
 -- atoms by their names, each with its weights
-abbrev pub weighted_atom : Task → Version → Atom × ℤ × ℤ → WeightedAtom
-weighted_atom task version (a, of_value, of_dead_end) = record { weights = weights_in version of_value of_dead_end; atom = named_atom task a }
+abbrev pub weighted_atom : Task → Version → Atom × (ℤ × ℤ) → WeightedAtom
+weighted_atom task version (a, (of_value, of_dead_end)) = record { weights = weights_in version of_value of_dead_end; atom = named_atom task a }
 
 -- a certificate by its atoms' names
 abbrev pub named : Task → Certificate → NamedCertificate

@@ -53,7 +53,7 @@ version_number two = 2
 
 -- one number, or two with a blank between them
 abbrev pub weights_text : Weights → List ℕ
-weights_text w = signed_decimal w.of_value ++ option_map_or (λ (other : ℤ). after_blank (signed_decimal other)) w.of_dead_end []
+weights_text w = option_map_or (λ (of_dead_end : ℤ). signed_decimal w.of_value ++ after_blank (signed_decimal of_dead_end)) w.of_dead_end (signed_decimal w.of_value)
 
 -- a state's mark and its cost, and of a cut what follows at least
 abbrev pub mark_text : Mark → ℕ → List ℕ

@@ -8,28 +8,28 @@ use Rattle.certificate_definitions.specs.CertificateText.{TextLine, version, cla
 use Rattle.certificate_definitions.specs.CertificateMachine.{Place, at_version, at_claim, at_constant, in_body, ended, next_place, place_from, place_after}
 use Rattle.certificate_definitions.proofs.Machine.{StandsBefore, stands, followed, place_same}
 use Rattle.certificate_definitions.proofs.TooMany.{IsTooManyAt, too_many_at, too_many_of}
-use Rattle.certificate_reader.specs.Stages.{IsOver, atoms_at}
+use Rattle.certificate_reader.specs.Stages.{IsOver, atoms_at, version_at}
 
 -- ---- limits, in both words
 
-over_is : (place : Place) (line : TextLine) (bytes : List ℕ) → IsTrue (is_line (atoms_at place) line) → IsOver place line → line_text line ≡ bytes → IsTooManyAt place bytes
-over_is (in_body n m) (atom a) bytes is (empty, full) same = inl (empty, full, (a, is, sym same))
-over_is (in_body n m) (listed l) bytes is full same = inr (full, (l, is, sym same))
-over_is (in_body n m) version bytes is over same = absurd over
-over_is (in_body n m) (claims claim) bytes is over same = absurd over
-over_is (in_body n m) (constant k) bytes is over same = absurd over
-over_is (in_body n m) (last count) bytes is over same = absurd over
+over_is : (place : Place) (line : TextLine) (bytes : List ℕ) → IsTrue (is_line (version_at place) (atoms_at place) line) → IsOver place line → line_text line ≡ bytes → IsTooManyAt place bytes
+over_is (in_body v n m) (atom a) bytes is (empty, full) same = inl (empty, full, (a, is, sym same))
+over_is (in_body v n m) (listed l) bytes is full same = inr (full, (l, is, sym same))
+over_is (in_body v n m) (version w) bytes is over same = absurd over
+over_is (in_body v n m) (claims claim) bytes is over same = absurd over
+over_is (in_body v n m) (constant k) bytes is over same = absurd over
+over_is (in_body v n m) (last count) bytes is over same = absurd over
 over_is at_version line bytes is over same = absurd over
-over_is at_claim line bytes is over same = absurd over
-over_is at_constant line bytes is over same = absurd over
+over_is (at_claim v) line bytes is over same = absurd over
+over_is (at_constant v) line bytes is over same = absurd over
 over_is ended line bytes is over same = absurd over
 
-over_of : (place : Place) (bytes : List ℕ) → IsTooManyAt place bytes → (line : TextLine) × IsTrue (is_line (atoms_at place) line) × IsOver place line × (line_text line ≡ bytes)
-over_of (in_body n m) bytes (inl (empty, full, (a, is, same))) = (atom a, is, (empty, full), sym same)
-over_of (in_body n m) bytes (inr (full, (l, is, same))) = (listed l, is, full, sym same)
+over_of : (place : Place) (bytes : List ℕ) → IsTooManyAt place bytes → (line : TextLine) × IsTrue (is_line (version_at place) (atoms_at place) line) × IsOver place line × (line_text line ≡ bytes)
+over_of (in_body v n m) bytes (inl (empty, full, (a, is, same))) = (atom a, is, (empty, full), sym same)
+over_of (in_body v n m) bytes (inr (full, (l, is, same))) = (listed l, is, full, sym same)
 over_of at_version bytes over = absurd over
-over_of at_claim bytes over = absurd over
-over_of at_constant bytes over = absurd over
+over_of (at_claim v) bytes over = absurd over
+over_of (at_constant v) bytes over = absurd over
 over_of ended bytes over = absurd over
 
 -- ---- the faults
@@ -38,16 +38,16 @@ module _ (before : List TextLine) (place : Place) (leads : place_after before �
   nothing_before : place ≡ at_version → before ≡ []
   nothing_before at = subst (λ place. StandsBefore place before) at (stands before place leads)
 
-  pub told_other_version : place ≡ at_version → (number : ℕ) × IsTrue (is_number number) × (number ≢ 1) × (codes "pddl-cert " ++ decimal number ≡ line)
+  pub told_other_version : place ≡ at_version → (number : ℕ) × IsTrue (is_number number) × (number ≢ 1) × (number ≢ 2) × (codes "pddl-cert " ++ decimal number ≡ line)
       → IsFaultAfter before text 41
-  told_other_version at (number, is, differs, same) = other_version line has (nothing_before at, number, is, differs, sym same)
+  told_other_version at (number, is, not_one, not_two, same) = other_version line has (nothing_before at, number, is, not_one, not_two, sym same)
 
-  pub told_too_many : (over : TextLine) → IsTrue (is_line (atoms_at place) over) → IsOver place over → line_text over ≡ line → IsFaultAfter before text 55
+  pub told_too_many : (over : TextLine) → IsTrue (is_line (version_at place) (atoms_at place) over) → IsOver place over → line_text over ≡ line → IsFaultAfter before text 55
   told_too_many over is limit same = too_many line has (too_many_of before line place (stands before place leads) (over_is place over line is limit same))
 
   pub told_malformed : ((other : TextLine) (next : Place) → next_place place other ≡ Some next → line_text other ≢ line)
-      → ((other : TextLine) → IsTrue (is_line (atoms_at place) other) → IsOver place other → line_text other ≢ line)
-      → (place ≡ at_version → (number : ℕ) → IsTrue (is_number number) → number ≢ 1 → codes "pddl-cert " ++ decimal number ≢ line)
+      → ((other : TextLine) → IsTrue (is_line (version_at place) (atoms_at place) other) → IsOver place other → line_text other ≢ line)
+      → (place ≡ at_version → (number : ℕ) → IsTrue (is_number number) → number ≢ 1 → number ≢ 2 → codes "pddl-cert " ++ decimal number ≢ line)
       → IsFaultAfter before text 40
   told_malformed nowhere within other = malformed line has no_line no_version not_over
     where
@@ -55,8 +55,8 @@ module _ (before : List TextLine) (place : Place) (leads : place_after before �
       no_line (l, begun, same) = let (next, is) = followed before place leads l begun in nowhere l next is same
 
       no_version : IsOtherVersion before line → ⊥
-      no_version (empty, number, is, differs, same) =
-          other (place_same place at_version (sym leads ∙ ap place_after empty)) number is differs (sym same)
+      no_version (empty, number, is, not_one, not_two, same) =
+          other (place_same place at_version (sym leads ∙ ap place_after empty)) number is not_one not_two (sym same)
 
       not_over : IsOneTooMany before line → ⊥
       not_over over = let (l, is, limit, same) = over_of place line (too_many_at before place leads line over) in within l is limit same

@@ -1,6 +1,7 @@
 pub mod WordLemmas
 pub mod NumberLemmas
 pub mod LineLemmas
+pub mod WeightsRead
 pub mod NumbersRead
 pub mod NamesRead
 pub mod LinesRead

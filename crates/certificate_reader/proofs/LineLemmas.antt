@@ -10,10 +10,10 @@ use Rattle.std.proofs.lemmas.Fmt.{decimal_is_IsNumeral}
 use Rattle.std.proofs.lemmas.Str.Parse.{tells_digits}
 use Rattle.model.specs.Words.{is_name, is_name_byte}
 use Rattle.model.specs.PlanWriting.{is_lower_name}
-use Rattle.model.specs.Claims.{bound, none}
+use Rattle.model.specs.Claims.{bound, none, Mark, opened, cut, dead}
 use Rattle.certificate_definitions.specs.Certificates.{is_number, is_weight}
-use Rattle.certificate_definitions.specs.CertificateText.{TextLine, version, claims, constant, atom, listed, last, after_blank, line_text}
-use Rattle.certificate_reader.specs.Words.{is_blank, is_word, line_head, line_rest, then_words, with_rest}
+use Rattle.certificate_definitions.specs.CertificateText.{TextLine, version, claims, constant, atom, listed, last, after_blank, line_text, weights_text}
+use Rattle.certificate_reader.specs.Words.{is_blank, is_word, line_head, line_rest, mark_head, then_words, with_rest, with_weights}
 use Rattle.certificate_reader.proofs.NumberLemmas.{is_below}
 use Rattle.certificate_reader.proofs.WordLemmas.{one_first}
 
@@ -58,11 +58,26 @@ lower_name_is_word name is = name_is_word name (and_parts _ _ (and_parts _ _ is)
 
 -- ---- a line by its first word and the rest
 
-listed_splits : (cost : ℕ) (cut : Option ℕ) (atoms : List ℕ)
-    → line_text (listed (record { cost = cost; cut = cut; atoms = atoms }))
-    ≡ with_rest (line_head (listed (record { cost = cost; cut = cut; atoms = atoms }))) (Some (line_rest (listed (record { cost = cost; cut = cut; atoms = atoms }))))
-listed_splits cost None atoms = refl
-listed_splits cost (Some rest) atoms = refl
+listed_splits : (cost : ℕ) (mark : Mark) (atoms : List ℕ)
+    → line_text (listed (record { cost = cost; mark = mark; atoms = atoms }))
+    ≡ with_rest (mark_head mark) (Some (line_rest (listed (record { cost = cost; mark = mark; atoms = atoms }))))
+listed_splits cost opened atoms = refl
+listed_splits cost (cut rest) atoms = refl
+listed_splits cost dead atoms = refl
+
+second_weight_split : (s t r : List ℕ) → (s ++ codes " ") ++ ((t ++ codes " ") ++ r) ≡ ((s ++ (codes " " ++ t)) ++ codes " ") ++ r
+second_weight_split s t r = simp append_assoc
+
+-- what stands behind weights stands behind their text, alone or with a blank before it
+weights_alone : (of_value : ℤ) (of_dead_end : Option ℤ)
+    → with_weights (record { of_value = of_value; of_dead_end = of_dead_end }) None ≡ weights_text (record { of_value = of_value; of_dead_end = of_dead_end })
+weights_alone of_value None = refl
+weights_alone of_value (Some n) = append_assoc (signed_decimal of_value) (codes " ") (signed_decimal n)
+
+weights_behind : (of_value : ℤ) (of_dead_end : Option ℤ) (rest : List ℕ)
+    → with_weights (record { of_value = of_value; of_dead_end = of_dead_end }) (Some rest) ≡ weights_text (record { of_value = of_value; of_dead_end = of_dead_end }) ++ codes " " ++ rest
+weights_behind of_value None rest = refl
+weights_behind of_value (Some n) rest = second_weight_split (signed_decimal of_value) (signed_decimal n) rest
 
 parts_split : (c s b o p f e : List ℕ) → ((((c ++ s) ++ (b ++ o)) ++ p) ++ f) ++ e ≡ c ++ ((s ++ b) ++ (((o ++ p) ++ f) ++ e))
 parts_split c s b o p f e = simp append_assoc
@@ -73,24 +88,27 @@ atom_splits : (s p f : List ℕ)
 atom_splits s p f = parts_split (codes "atom ") s (codes " ") (codes "(") p f (codes ")")
 
 pub line_splits : (line : TextLine) → line_text line ≡ with_rest (line_head line) (Some (line_rest line))
-line_splits version = refl
+line_splits (version v) = refl
 line_splits (claims (bound least)) = refl
 line_splits (claims none) = refl
-line_splits (constant k) = refl
-line_splits (atom a) = atom_splits (signed_decimal a.weight) a.atom.predicate (flat_map after_blank a.atom.objects)
-line_splits (listed l) = listed_splits l.cost l.cut l.atoms
+line_splits (constant k) = ap (λ rest. codes "constant " ++ rest) (sym (weights_alone k.of_value k.of_dead_end))
+line_splits (atom a) =
+    atom_splits (weights_text a.weights) a.atom.predicate (flat_map after_blank a.atom.objects)
+    ∙ ap (λ rest. codes "atom " ++ rest) (sym (weights_behind a.weights.of_value a.weights.of_dead_end (((codes "(" ++ a.atom.predicate) ++ flat_map after_blank a.atom.objects) ++ codes ")")))
+line_splits (listed l) = listed_splits l.cost l.mark l.atoms
 line_splits (last count) = refl
 
-listed_head : (cost : ℕ) (cut : Option ℕ) (atoms : List ℕ) → IsTrue (is_word (line_head (listed (record { cost = cost; cut = cut; atoms = atoms }))))
-listed_head cost None atoms = refl
-listed_head cost (Some rest) atoms = refl
+mark_is_word : (mark : Mark) → IsTrue (is_word (mark_head mark))
+mark_is_word opened = refl
+mark_is_word (cut rest) = refl
+mark_is_word dead = refl
 
 pub head_is_word : (line : TextLine) → IsTrue (is_word (line_head line))
-head_is_word version = refl
+head_is_word (version v) = refl
 head_is_word (claims claim) = refl
 head_is_word (constant k) = refl
 head_is_word (atom a) = refl
-head_is_word (listed l) = listed_head l.cost l.cut l.atoms
+head_is_word (listed l) = mark_is_word l.mark
 head_is_word (last count) = refl
 
 -- ---- several words

@@ -1,18 +1,20 @@
 -- The lines of states and atoms, by what stands behind their first word.
 use Rattle.std.proofs.Common.{◌≡◌, ℕ, Bool, true, false, List, [], ◌∷◌, ◌++◌, codes, map, Option, None, Some, refl, sym, ap, ◌∙◌, subst, append_assoc, append-nil}
-use Rattle.std.specs.Prelude.{◌&&◌, ℤ, IsTrue}
-use Rattle.std.specs.Fmt.{decimal, signed_decimal}
+use Rattle.std.specs.Prelude.{◌&&◌, ◌≤◌, IsTrue, length, nat_le}
+use Rattle.std.specs.Fmt.{decimal}
 use Rattle.std.specs.List.{flat_map, list_all}
 use Rattle.std.specs.Str.{bytes_eq}
 use Rattle.std.proofs.lemmas.Slice.Eq.{bytes_eq-Decides}
-use Rattle.std.proofs.lemmas.Bool.{and_parts}
+use Rattle.std.proofs.lemmas.Bool.{and_parts, le-leb}
 use Rattle.std.proofs.lemmas.List.{append_cancel_left, append_cancel_right}
 use Rattle.model.specs.PlanWriting.{is_lower_name}
-use Rattle.certificate_definitions.specs.Certificates.{is_number, is_weight, rise}
-use Rattle.certificate_definitions.specs.CertificateText.{NamedAtom, WeightedAtom, TextLine, version, claims, constant, atom, listed, last, after_blank, is_line}
-use Rattle.certificate_reader.specs.Words.{IsFirstWord, IsNumbered, IsReadAs, are_lower, atom_rest, line_head, then_words, with_rest}
+use Rattle.model.specs.Claims.{Mark, opened, cut, dead}
+use Rattle.certificate_definitions.specs.Certificates.{Version, two, is_number, is_mark, rise}
+use Rattle.certificate_definitions.specs.CertificateText.{NamedAtom, Weights, WeightedAtom, TextLine, version, claims, constant, atom, listed, last, after_blank, are_weights, is_line, line_text, longest_line}
+use Rattle.certificate_reader.specs.Words.{IsFirstWord, IsNumbered, IsReadAs, are_lower, atom_rest, mark_head, then_words, with_rest, with_weights}
 use Rattle.certificate_reader.proofs.WordLemmas.{one_first}
-use Rattle.certificate_reader.proofs.LineLemmas.{lower_name_is_word, number_is_word, weight_is_word, words_behind}
+use Rattle.certificate_reader.proofs.LineLemmas.{line_splits, lower_name_is_word, number_is_word, words_behind}
+use Rattle.certificate_reader.proofs.WeightsRead.{one_weights}
 
 -- ---- a number and numbers behind it
 
@@ -36,41 +38,82 @@ module _ (bytes word : List ℕ) (behind : Option (List ℕ)) (count : ℕ) (fir
     splits = first.splits ∙ (λ i. with_rest (sym same i) (sym numbers i));
   }
 
--- ---- open states
+-- ---- lines that are not these
 
 pub unlike : (text other : List ℕ) → bytes_eq text other ≡ false → text ≡ other → ⊥
 unlike text other differ same = absurd (cc (sym differ ∙ (bytes_eq-Decides text other).1 same))
 
+-- the word is that of no line that lists a state
+pub is_no_mark : (word : List ℕ) → bytes_eq (codes "open") word ≡ false → bytes_eq (codes "cut") word ≡ false → bytes_eq (codes "dead") word ≡ false
+    → (mark : Mark) → mark_head mark ≡ word → ⊥
+is_no_mark word no_open no_cut no_dead opened = unlike (codes "open") word no_open
+is_no_mark word no_open no_cut no_dead (cut rest) = unlike (codes "cut") word no_cut
+is_no_mark word no_open no_cut no_dead dead = unlike (codes "dead") word no_dead
+
 and_all : (a b c : Bool) → a ≡ true → b ≡ true → c ≡ true → a && b && c ≡ true
 and_all a b c x y z = λ i. x i && y i && z i
 
+-- a line that begins with the word of a state's mark lists a state
+module _ (word : List ℕ) (no_version : bytes_eq (codes "pddl-cert") word ≡ false) (no_claim : bytes_eq (codes "claim") word ≡ false)
+    (no_constant : bytes_eq (codes "constant") word ≡ false) (no_atom : bytes_eq (codes "atom") word ≡ false) (no_end : bytes_eq (codes "end") word ≡ false)
+    (rest : List ℕ) (v : Version) (count : ℕ) where
+  only_listed : ((cost : ℕ) (mark : Mark) (atoms : List ℕ) → IsReadAs word rest v count (listed (record { cost = cost; mark = mark; atoms = atoms })) → ⊥)
+      → (line : TextLine) → IsReadAs word rest v count line → ⊥
+  only_listed never (version w) read = unlike (codes "pddl-cert") word no_version read.head
+  only_listed never (claims claim) read = unlike (codes "claim") word no_claim read.head
+  only_listed never (constant k) read = unlike (codes "constant") word no_constant read.head
+  only_listed never (atom a) read = unlike (codes "atom") word no_atom read.head
+  only_listed never (listed l) read = never l.cost l.mark l.atoms read
+  only_listed never (last n) read = unlike (codes "end") word no_end read.head
+
+-- ---- open states and dead ends: a number, and numbers behind it
+
 module _ (rest : List ℕ) (count : ℕ) where
   pub open_is_read : (cost : ℕ) (atoms : List ℕ) → IsNumbered rest count cost atoms
-      → IsReadAs (codes "open") rest count (listed (record { cost = cost; cut = None; atoms = atoms }))
-  open_is_read cost atoms is = record {
+      → (v : Version) → IsReadAs (codes "open") rest v count (listed (record { cost = cost; mark = opened; atoms = atoms }))
+  open_is_read cost atoms is v = record {
     head = refl;
     behind = sym (words_behind decimal (decimal cost) atoms) ∙ sym is.splits;
     within = and_all (is_number cost) true (rise count 0 atoms) is.is_number refl is.rising;
   }
 
-  pub open_parts : (cost : ℕ) (cut : Option ℕ) (atoms : List ℕ) → IsReadAs (codes "open") rest count (listed (record { cost = cost; cut = cut; atoms = atoms }))
+  pub open_parts : (v : Version) (cost : ℕ) (mark : Mark) (atoms : List ℕ) → IsReadAs (codes "open") rest v count (listed (record { cost = cost; mark = mark; atoms = atoms }))
       → IsNumbered rest count cost atoms
-  open_parts cost None atoms read =
+  open_parts v cost opened atoms read =
       let parts = and_parts (is_number cost && true) (rise count 0 atoms) read.within in
       record {
         is_number = (and_parts (is_number cost) true parts.0).0;
         rising = parts.1;
         splits = sym read.behind ∙ sym (words_behind decimal (decimal cost) atoms);
       }
-  open_parts cost (Some least) atoms read = absurd (unlike (codes "cut") (codes "open") refl read.head)
+  open_parts v cost (cut least) atoms read = absurd (unlike (codes "cut") (codes "open") refl read.head)
+  open_parts v cost dead atoms read = absurd (unlike (codes "dead") (codes "open") refl read.head)
 
-  pub no_open : ((n : ℕ) (atoms : List ℕ) → IsNumbered rest count n atoms → ⊥) → (line : TextLine) → IsReadAs (codes "open") rest count line → ⊥
-  no_open never version read = absurd (unlike (codes "pddl-cert") (codes "open") refl read.head)
-  no_open never (claims claim) read = absurd (unlike (codes "claim") (codes "open") refl read.head)
-  no_open never (constant k) read = absurd (unlike (codes "constant") (codes "open") refl read.head)
-  no_open never (atom a) read = absurd (unlike (codes "atom") (codes "open") refl read.head)
-  no_open never (listed l) read = never l.cost l.atoms (open_parts l.cost l.cut l.atoms read)
-  no_open never (last n) read = absurd (unlike (codes "end") (codes "open") refl read.head)
+  pub no_open : ((n : ℕ) (atoms : List ℕ) → IsNumbered rest count n atoms → ⊥) → (v : Version) (line : TextLine) → IsReadAs (codes "open") rest v count line → ⊥
+  no_open never v = only_listed (codes "open") refl refl refl refl refl rest v count (λ cost mark atoms read. never cost atoms (open_parts v cost mark atoms read))
+
+  pub dead_is_read : (cost : ℕ) (atoms : List ℕ) → IsNumbered rest count cost atoms
+      → IsReadAs (codes "dead") rest two count (listed (record { cost = cost; mark = dead; atoms = atoms }))
+  dead_is_read cost atoms is = record {
+    head = refl;
+    behind = sym (words_behind decimal (decimal cost) atoms) ∙ sym is.splits;
+    within = and_all (is_number cost) true (rise count 0 atoms) is.is_number refl is.rising;
+  }
+
+  pub dead_parts : (v : Version) (cost : ℕ) (mark : Mark) (atoms : List ℕ) → IsReadAs (codes "dead") rest v count (listed (record { cost = cost; mark = mark; atoms = atoms }))
+      → IsNumbered rest count cost atoms
+  dead_parts v cost dead atoms read =
+      let parts = and_parts (is_number cost && is_mark v dead) (rise count 0 atoms) read.within in
+      record {
+        is_number = (and_parts (is_number cost) (is_mark v dead) parts.0).0;
+        rising = parts.1;
+        splits = sym read.behind ∙ sym (words_behind decimal (decimal cost) atoms);
+      }
+  dead_parts v cost (cut least) atoms read = absurd (unlike (codes "cut") (codes "dead") refl read.head)
+  dead_parts v cost opened atoms read = absurd (unlike (codes "open") (codes "dead") refl read.head)
+
+  pub no_dead : ((n : ℕ) (atoms : List ℕ) → IsNumbered rest count n atoms → ⊥) → (v : Version) (line : TextLine) → IsReadAs (codes "dead") rest v count line → ⊥
+  no_dead never v = only_listed (codes "dead") refl refl refl refl refl rest v count (λ cost mark atoms read. never cost atoms (dead_parts v cost mark atoms read))
 
 -- ---- cuts
 
@@ -91,16 +134,16 @@ cut_text cost least atoms =
 
 module _ (rest : List ℕ) (count : ℕ) where
   pub cut_is_read : (cost least : ℕ) (atoms : List ℕ) → IsCut rest count cost least atoms
-      → IsReadAs (codes "cut") rest count (listed (record { cost = cost; cut = Some least; atoms = atoms }))
-  cut_is_read cost least atoms is = record {
+      → (v : Version) → IsReadAs (codes "cut") rest v count (listed (record { cost = cost; mark = cut least; atoms = atoms }))
+  cut_is_read cost least atoms is v = record {
     head = refl;
     behind = sym (cut_text cost least atoms) ∙ ap (λ bytes. with_rest (decimal cost) (Some bytes)) (sym is.numbered.splits) ∙ sym is.splits;
     within = and_all (is_number cost) (is_number least) (rise count 0 atoms) is.is_number is.numbered.is_number is.numbered.rising;
   }
 
-  pub cut_of : (cost least : ℕ) (atoms : List ℕ) → IsReadAs (codes "cut") rest count (listed (record { cost = cost; cut = Some least; atoms = atoms }))
+  pub cut_of : (v : Version) (cost least : ℕ) (atoms : List ℕ) → IsReadAs (codes "cut") rest v count (listed (record { cost = cost; mark = cut least; atoms = atoms }))
       → IsCut rest count cost least atoms
-  cut_of cost least atoms read =
+  cut_of v cost least atoms read =
       let parts = and_parts (is_number cost && is_number least) (rise count 0 atoms) read.within in
       let numbers = and_parts (is_number cost) (is_number least) parts.0 in
       record {
@@ -110,32 +153,29 @@ module _ (rest : List ℕ) (count : ℕ) where
         splits = sym read.behind ∙ sym (cut_text cost least atoms);
       }
 
-  cut_parts : (cost : ℕ) (cut : Option ℕ) (atoms : List ℕ) → IsReadAs (codes "cut") rest count (listed (record { cost = cost; cut = cut; atoms = atoms }))
+  cut_parts : (v : Version) (cost : ℕ) (mark : Mark) (atoms : List ℕ) → IsReadAs (codes "cut") rest v count (listed (record { cost = cost; mark = mark; atoms = atoms }))
       → (least : ℕ) × IsCut rest count cost least atoms
-  cut_parts cost None atoms read = absurd (unlike (codes "open") (codes "cut") refl read.head)
-  cut_parts cost (Some least) atoms read = (least, cut_of cost least atoms read)
+  cut_parts v cost opened atoms read = absurd (unlike (codes "open") (codes "cut") refl read.head)
+  cut_parts v cost dead atoms read = absurd (unlike (codes "dead") (codes "cut") refl read.head)
+  cut_parts v cost (cut least) atoms read = (least, cut_of v cost least atoms read)
 
-  pub no_cut : ((cost least : ℕ) (atoms : List ℕ) → IsCut rest count cost least atoms → ⊥) → (line : TextLine) → IsReadAs (codes "cut") rest count line → ⊥
-  no_cut never version read = absurd (unlike (codes "pddl-cert") (codes "cut") refl read.head)
-  no_cut never (claims claim) read = absurd (unlike (codes "claim") (codes "cut") refl read.head)
-  no_cut never (constant k) read = absurd (unlike (codes "constant") (codes "cut") refl read.head)
-  no_cut never (atom a) read = absurd (unlike (codes "atom") (codes "cut") refl read.head)
-  no_cut never (listed l) read = let (least, is) = cut_parts l.cost l.cut l.atoms read in never l.cost least l.atoms is
-  no_cut never (last n) read = absurd (unlike (codes "end") (codes "cut") refl read.head)
+  pub no_cut : ((cost least : ℕ) (atoms : List ℕ) → IsCut rest count cost least atoms → ⊥) → (v : Version) (line : TextLine) → IsReadAs (codes "cut") rest v count line → ⊥
+  no_cut never v = only_listed (codes "cut") refl refl refl refl refl rest v count
+      (λ cost mark atoms read. let (least, is) = cut_parts v cost mark atoms read in never cost least atoms is)
 
   module _ (word : List ℕ) (behind : Option (List ℕ)) (first : IsFirstWord rest word behind) where
     cut_first : (cost least : ℕ) (atoms : List ℕ) (is : IsCut rest count cost least atoms) → (word ≡ decimal cost) × (behind ≡ Some is.bytes)
     cut_first cost least atoms is =
         one_first word (decimal cost) behind (Some is.bytes) first.is_word (number_is_word cost is.is_number) (sym first.splits ∙ is.splits)
 
-    pub no_cut_cost : ((n : ℕ) → IsTrue (is_number n) → decimal n ≡ word → ⊥) → (line : TextLine) → IsReadAs (codes "cut") rest count line → ⊥
+    pub no_cut_cost : ((n : ℕ) → IsTrue (is_number n) → decimal n ≡ word → ⊥) → (v : Version) (line : TextLine) → IsReadAs (codes "cut") rest v count line → ⊥
     no_cut_cost never = no_cut (λ cost least atoms is. never cost is.is_number (sym (cut_first cost least atoms is).0))
 
-    pub no_cut_alone : behind ≡ None → (line : TextLine) → IsReadAs (codes "cut") rest count line → ⊥
+    pub no_cut_alone : behind ≡ None → (v : Version) (line : TextLine) → IsReadAs (codes "cut") rest v count line → ⊥
     no_cut_alone alone = no_cut (λ cost least atoms is. absurd (cc (sym alone ∙ (cut_first cost least atoms is).1)))
 
     pub no_cut_behind : (bytes : List ℕ) → behind ≡ Some bytes → ((n : ℕ) (atoms : List ℕ) → IsNumbered bytes count n atoms → ⊥)
-        → (line : TextLine) → IsReadAs (codes "cut") rest count line → ⊥
+        → (v : Version) (line : TextLine) → IsReadAs (codes "cut") rest v count line → ⊥
     no_cut_behind bytes at never = no_cut (λ cost least atoms is.
         let same : is.bytes ≡ bytes = cc (sym (cut_first cost least atoms is).1 ∙ at) in
         never least atoms (subst (λ bytes. IsNumbered bytes count least atoms) same is.numbered))
@@ -151,43 +191,51 @@ module _ (rest : List ℕ) (count : ℕ) where
 
 -- ---- atoms
 
--- the bytes are a weight and, behind it, an atom
-module _ (rest : List ℕ) (word : List ℕ) (behind : Option (List ℕ)) (first : IsFirstWord rest word behind) where
-  weighed : (count : ℕ) (a : WeightedAtom) → IsReadAs (codes "atom") rest count (atom a) → (word ≡ signed_decimal a.weight) × (behind ≡ Some (atom_rest a.atom))
-  weighed count a read =
-      one_first word (signed_decimal a.weight) behind (Some (atom_rest a.atom)) first.is_word
-      (weight_is_word a.weight (weight_within count a read.within)) (sym first.splits ∙ sym read.behind)
-    where
-      weight_within : (count : ℕ) (a : WeightedAtom) → IsTrue (is_line count (atom a)) → IsTrue (is_weight a.weight)
-      weight_within count a within = (and_parts (is_weight a.weight) (are_lower a.atom) (and_parts (is_weight a.weight && are_lower a.atom) _ within).0).0
+-- the bytes are weights and, behind them, an atom
+module _ (rest : List ℕ) (v : Version) (count : ℕ) where
+  atom_within : (a : WeightedAtom) → IsTrue (is_line v count (atom a)) → IsTrue (are_weights v a.weights) × IsTrue (are_lower a.atom)
+  atom_within a within =
+      and_parts (are_weights v a.weights) (are_lower a.atom)
+      (and_parts (are_weights v a.weights && are_lower a.atom) (nat_le (length (line_text (atom a))) longest_line) within).0
 
-  pub no_weight_first : (count : ℕ) → ((w : ℤ) → IsTrue (is_weight w) → signed_decimal w ≡ word → ⊥) → (a : WeightedAtom) → IsReadAs (codes "atom") rest count (atom a) → ⊥
-  no_weight_first count never a read =
-      never a.weight (and_parts (is_weight a.weight) (are_lower a.atom) (and_parts (is_weight a.weight && are_lower a.atom) _ read.within).0).0 (sym (weighed count a read).0)
+  pub no_weights_first : ((w : Weights) (behind : Option (List ℕ)) → IsTrue (are_weights v w) → with_weights w behind ≡ rest → ⊥)
+      → (a : WeightedAtom) → IsReadAs (codes "atom") rest v count (atom a) → ⊥
+  no_weights_first never a read = never a.weights (Some (atom_rest a.atom)) (atom_within a read.within).0 read.behind
 
-  pub nothing_behind : (count : ℕ) → behind ≡ None → (a : WeightedAtom) → IsReadAs (codes "atom") rest count (atom a) → ⊥
-  nothing_behind count alone a read = absurd (cc (sym alone ∙ (weighed count a read).1))
+  module _ (w : Weights) (behind : Option (List ℕ)) (is : IsTrue (are_weights v w)) (first : with_weights w behind ≡ rest) where
+    behind_is : (a : WeightedAtom) → IsReadAs (codes "atom") rest v count (atom a) → behind ≡ Some (atom_rest a.atom)
+    behind_is a read = (one_weights v w a.weights behind (Some (atom_rest a.atom)) is (atom_within a read.within).0 (first ∙ sym read.behind)).1
 
-  pub no_atom_behind : (count : ℕ) (bytes : List ℕ) → behind ≡ Some bytes → ((a : NamedAtom) → IsTrue (are_lower a) → atom_rest a ≡ bytes → ⊥)
-      → (a : WeightedAtom) → IsReadAs (codes "atom") rest count (atom a) → ⊥
-  no_atom_behind count bytes at never a read =
-      never a.atom (and_parts (is_weight a.weight) (are_lower a.atom) (and_parts (is_weight a.weight && are_lower a.atom) _ read.within).0).1
-      (some_bytes (atom_rest a.atom) bytes (sym (weighed count a read).1 ∙ at))
-    where
-      some_bytes : (a b : List ℕ) → ◌≡◌ {A = Option (List ℕ)} (Some a) (Some b) → a ≡ b
-      some_bytes a b same = cc
+    pub nothing_behind : behind ≡ None → (a : WeightedAtom) → IsReadAs (codes "atom") rest v count (atom a) → ⊥
+    nothing_behind alone a read = absurd (cc (sym alone ∙ behind_is a read))
 
-listed_is_no_atom : (cost : ℕ) (cut : Option ℕ) (atoms : List ℕ) → line_head (listed (record { cost = cost; cut = cut; atoms = atoms })) ≡ codes "atom" → ⊥
-listed_is_no_atom cost None atoms = unlike (codes "open") (codes "atom") refl
-listed_is_no_atom cost (Some least) atoms = unlike (codes "cut") (codes "atom") refl
+    pub no_atom_behind : (bytes : List ℕ) → behind ≡ Some bytes → ((a : NamedAtom) → IsTrue (are_lower a) → atom_rest a ≡ bytes → ⊥)
+        → (a : WeightedAtom) → IsReadAs (codes "atom") rest v count (atom a) → ⊥
+    no_atom_behind bytes at never a read =
+        never a.atom (atom_within a read.within).1 (some_bytes (atom_rest a.atom) bytes (sym (behind_is a read) ∙ at))
+      where
+        some_bytes : (a b : List ℕ) → ◌≡◌ {A = Option (List ℕ)} (Some a) (Some b) → a ≡ b
+        some_bytes a b same = cc
 
-pub no_atom : (rest : List ℕ) (count : ℕ) → ((a : WeightedAtom) → IsReadAs (codes "atom") rest count (atom a) → ⊥) → (line : TextLine) → IsReadAs (codes "atom") rest count line → ⊥
-no_atom rest count never version read = unlike (codes "pddl-cert") (codes "atom") refl read.head
-no_atom rest count never (claims claim) read = unlike (codes "claim") (codes "atom") refl read.head
-no_atom rest count never (constant k) read = unlike (codes "constant") (codes "atom") refl read.head
-no_atom rest count never (atom a) read = never a read
-no_atom rest count never (listed l) read = listed_is_no_atom l.cost l.cut l.atoms read.head
-no_atom rest count never (last n) read = unlike (codes "end") (codes "atom") refl read.head
+pub atom_is_read : (rest : List ℕ) (v : Version) (count : ℕ) (a : WeightedAtom) → IsTrue (are_weights v a.weights) → IsTrue (are_lower a.atom)
+    → with_weights a.weights (Some (atom_rest a.atom)) ≡ rest → length (with_rest (codes "atom") (Some rest)) ≤ longest_line → IsReadAs (codes "atom") rest v count (atom a)
+atom_is_read rest v count a weights lower same short = record {
+  head = refl;
+  behind = same;
+  within =
+      let text : line_text (atom a) ≡ with_rest (codes "atom") (Some rest) = line_splits (atom a) ∙ ap (λ rest. with_rest (codes "atom") (Some rest)) same in
+      let fits : nat_le (length (line_text (atom a))) longest_line ≡ true = le-leb (length (line_text (atom a))) longest_line (subst (λ text. length text ≤ longest_line) (sym text) short) in
+      and_all (are_weights v a.weights) (are_lower a.atom) (nat_le (length (line_text (atom a))) longest_line) weights lower fits;
+}
+
+pub no_atom : (rest : List ℕ) (v : Version) (count : ℕ) → ((a : WeightedAtom) → IsReadAs (codes "atom") rest v count (atom a) → ⊥)
+    → (line : TextLine) → IsReadAs (codes "atom") rest v count line → ⊥
+no_atom rest v count never (version w) read = unlike (codes "pddl-cert") (codes "atom") refl read.head
+no_atom rest v count never (claims claim) read = unlike (codes "claim") (codes "atom") refl read.head
+no_atom rest v count never (constant k) read = unlike (codes "constant") (codes "atom") refl read.head
+no_atom rest v count never (atom a) read = never a read
+no_atom rest v count never (listed l) read = is_no_mark (codes "atom") refl refl refl l.mark read.head
+no_atom rest v count never (last n) read = unlike (codes "end") (codes "atom") refl read.head
 
 names_behind : (word : List ℕ) (words : List (List ℕ)) → with_rest word (then_words words None) ≡ word ++ flat_map after_blank words
 names_behind word [] = sym (append-nil word)

@@ -16,7 +16,7 @@ use Rattle.certificate_reader.specs.declared.stage.Stage.{Stage}
 use Rattle.certificate_reader.specs.declared.next.NextFault.{NextFault}
 use Rattle.certificate_reader.specs.declared.next.NextFault.TheVariants.{Text, Device, NoMemory}
 use Rattle.certificate_reader.specs.declared.next.TextFault.TheVariants.{Form, Version, Truncated, Limit}
-use Rattle.certificate_reader.specs.Stages.{IsOver, atoms_at}
+use Rattle.certificate_reader.specs.Stages.{IsOver, atoms_at, version_at}
 use Rattle.certificate_reader.specs.Ends.{is_end}
 use Rattle.certificate_reader.specs.Ready.{IsGrown}
 use Rattle.certificate_reader.proofs.FirstPlaces.{first_at, first_within, passes_nowhere}
@@ -60,18 +60,18 @@ module _ (place : Place) (bytes : List ℕ) (end : ℕ) (has : HasEnd bytes end)
       ∙ sym (append_assoc (take end bytes) (10 ∷ []) (drop (end + 1) bytes))
       ∙ (λ i. sym text i ++ codes "\n" ++ sym left i)
 
-  pub other_version_told : (place ≡ at_version) × ((number : ℕ) × IsTrue (is_number number) × (number ≢ 1) × (codes "pddl-cert " ++ decimal number ≡ take end bytes))
+  pub other_version_told : (place ≡ at_version) × ((number : ℕ) × IsTrue (is_number number) × (number ≢ 1) × (number ≢ 2) × (codes "pddl-cert " ++ decimal number ≡ take end bytes))
       → IsFaultAt place bytes Version
   other_version_told (at, is) before leads more = told_other_version before place leads (bytes ++ more) (take end bytes) (has_line bytes end has more) at is
 
   pub malformed_told : ((other : TextLine) (next : Place) → next_place place other ≡ Some next → line_text other ≢ take end bytes)
-      × ((other : TextLine) → IsTrue (is_line (atoms_at place) other) → IsOver place other → line_text other ≢ take end bytes)
-      × (place ≡ at_version → (number : ℕ) → IsTrue (is_number number) → number ≢ 1 → codes "pddl-cert " ++ decimal number ≢ take end bytes)
+      × ((other : TextLine) → IsTrue (is_line (version_at place) (atoms_at place) other) → IsOver place other → line_text other ≢ take end bytes)
+      × (place ≡ at_version → (number : ℕ) → IsTrue (is_number number) → number ≢ 1 → number ≢ 2 → codes "pddl-cert " ++ decimal number ≢ take end bytes)
       → IsFaultAt place bytes Form
   malformed_told (nowhere, limits, other) before leads more =
       told_malformed before place leads (bytes ++ more) (take end bytes) (has_line bytes end has more) nowhere limits other
 
-  pub too_many_told : (over : TextLine) × IsTrue (is_line (atoms_at place) over) × IsOver place over × (line_text over ≡ take end bytes) → IsFaultAt place bytes Limit
+  pub too_many_told : (over : TextLine) × IsTrue (is_line (version_at place) (atoms_at place) over) × IsOver place over × (line_text over ≡ take end bytes) → IsFaultAt place bytes Limit
   too_many_told (over, is, limit, same) before leads more =
       told_too_many before place leads (bytes ++ more) (take end bytes) (has_line bytes end has more) over is limit same
 

@@ -1,23 +1,21 @@
 -- A line of a text is one line.
-use Rattle.std.proofs.Common.{◌≡◌, ℕ, List, [], ◌∷◌, codes, map, Option, None, Some, refl, sym, ap, ◌∙◌, subst}
+use Rattle.std.proofs.Common.{◌≡◌, ℕ, ◌≤◌, List, [], ◌∷◌, codes, map, Option, None, Some, refl, sym, ap, ◌∙◌, subst, arith}
 use Rattle.std.specs.Prelude.{◌&&◌, IsTrue, nat_le}
-use Rattle.std.specs.Fmt.{decimal, signed_decimal}
+use Rattle.std.specs.Fmt.{decimal}
 use Rattle.std.specs.List.{list_all}
 use Rattle.std.proofs.lemmas.Bool.{and_parts}
 use Rattle.std.proofs.lemmas.List.{append_cancel_left}
-use Rattle.model.specs.Claims.{Claim, bound, none}
+use Rattle.model.specs.Claims.{Claim, bound, none, Mark, opened, cut, dead}
 use Rattle.model.specs.PlanWriting.{is_lower_name}
-use Rattle.certificate_definitions.specs.Certificates.{is_claim, is_number, is_weight}
-use Rattle.certificate_definitions.specs.CertificateText.{NamedAtom, WeightedAtom, TextLine, version, claims, constant, atom, listed, last, is_line, line_text, longest_line}
-use Rattle.certificate_reader.specs.Words.{IsNumbered, IsReadAs, are_lower, atom_rest, claim_rest, is_word, line_head, line_rest, then_words}
+use Rattle.certificate_definitions.specs.Certificates.{Version, one, two, is_claim, is_number}
+use Rattle.certificate_definitions.specs.CertificateText.{NamedAtom, WeightedAtom, TextLine, version, claims, constant, atom, listed, last, are_weights, is_line, line_text, longest_line, most_atoms, version_number}
+use Rattle.certificate_reader.specs.Words.{IsNumbered, IsReadAs, are_lower, atom_rest, claim_rest, is_word, line_head, line_rest, mark_head, then_words}
 use Rattle.certificate_reader.proofs.WordLemmas.{one_first}
-use Rattle.certificate_reader.proofs.LineLemmas.{all_words, head_is_word, line_splits, lower_name_is_word, number_is_word, weight_is_word}
-use Rattle.certificate_reader.proofs.NumberLemmas.{same_weight}
+use Rattle.certificate_reader.proofs.LineLemmas.{all_words, head_is_word, line_splits, lower_name_is_word, number_is_word}
+use Rattle.certificate_reader.proofs.WeightsRead.{one_weights}
 use Rattle.certificate_reader.proofs.NumbersRead.{same_number, rising_are_numbers}
 use Rattle.certificate_reader.proofs.NamesRead.{names_are_words}
-use Rattle.certificate_reader.proofs.LinesRead.{IsCut, cut_of, open_parts, atom_text, inner_of, same_inner, unlike}
-use Rattle.certificate_definitions.specs.CertificateText.{most_atoms}
-use Rattle.std.proofs.Common.{◌≤◌}
+use Rattle.certificate_reader.proofs.LinesRead.{IsCut, cut_of, dead_parts, open_parts, atom_text, inner_of, is_no_mark, same_inner, unlike}
 
 -- ---- claims
 
@@ -67,12 +65,13 @@ one_numbered bytes count few m n a b h g =
 
 -- ---- states and atoms
 
-open_same : (c d : ℕ) (a b : List ℕ) → (c ≡ d) × (a ≡ b) → ◌≡◌ {A = TextLine} (listed (record { cost = c; cut = None; atoms = a })) (listed (record { cost = d; cut = None; atoms = b }))
-open_same c d a b (costs, lists) = λ i. listed (record { cost = costs i; cut = None; atoms = lists i })
+marked_same : (mark : Mark) (c d : ℕ) (a b : List ℕ) → (c ≡ d) × (a ≡ b)
+    → ◌≡◌ {A = TextLine} (listed (record { cost = c; mark = mark; atoms = a })) (listed (record { cost = d; mark = mark; atoms = b }))
+marked_same mark c d a b (costs, lists) = λ i. listed (record { cost = costs i; mark = mark; atoms = lists i })
 
 cut_same : (c d k l : ℕ) (a b : List ℕ) → c ≡ d → (k ≡ l) × (a ≡ b)
-    → ◌≡◌ {A = TextLine} (listed (record { cost = c; cut = Some k; atoms = a })) (listed (record { cost = d; cut = Some l; atoms = b }))
-cut_same c d k l a b costs (leasts, lists) = λ i. listed (record { cost = costs i; cut = Some (leasts i); atoms = lists i })
+    → ◌≡◌ {A = TextLine} (listed (record { cost = c; mark = cut k; atoms = a })) (listed (record { cost = d; mark = cut l; atoms = b }))
+cut_same c d k l a b costs (leasts, lists) = λ i. listed (record { cost = costs i; mark = cut (leasts i); atoms = lists i })
 
 one_cut : (rest : List ℕ) (count : ℕ) → count ≤ most_atoms → (c d k l : ℕ) (a b : List ℕ) → IsCut rest count c k a → IsCut rest count d l b → (c ≡ d) × ((k ≡ l) × (a ≡ b))
 one_cut rest count few c d k l a b h g =
@@ -82,25 +81,34 @@ one_cut rest count few c d k l a b h g =
       one_numbered g.bytes count few k l a b (subst (λ bytes. IsNumbered bytes count k a) bytes h.numbered) g.numbered,
     )
 
-module _ (count : ℕ) (few : count ≤ most_atoms) (rest : List ℕ) where
-  one_open : (c d : ℕ) (a b : List ℕ) → IsReadAs (codes "open") rest count (listed (record { cost = c; cut = None; atoms = a }))
-      → IsReadAs (codes "open") rest count (listed (record { cost = d; cut = None; atoms = b }))
-      → ◌≡◌ {A = TextLine} (listed (record { cost = c; cut = None; atoms = a })) (listed (record { cost = d; cut = None; atoms = b }))
-  one_open c d a b h g = open_same c d a b (one_numbered rest count few c d a b (open_parts rest count c None a h) (open_parts rest count d None b g))
+module _ (v : Version) (count : ℕ) (few : count ≤ most_atoms) (rest : List ℕ) where
+  -- a line of a state that begins with this word
+  abbrev IsState : List ℕ → ℕ → Mark → List ℕ → Type 0
+  IsState head cost mark atoms = IsReadAs head rest v count (listed (record { cost = cost; mark = mark; atoms = atoms }))
 
-  one_state : (c d : ℕ) (k l : Option ℕ) (a b : List ℕ) (head : List ℕ) → IsReadAs head rest count (listed (record { cost = c; cut = k; atoms = a }))
-      → IsReadAs head rest count (listed (record { cost = d; cut = l; atoms = b }))
-      → ◌≡◌ {A = TextLine} (listed (record { cost = c; cut = k; atoms = a })) (listed (record { cost = d; cut = l; atoms = b }))
-  one_state c d None None a b head h g =
-      one_open c d a b (subst (λ head. IsReadAs head rest count (listed (record { cost = c; cut = None; atoms = a }))) (sym h.head) h)
-      (subst (λ head. IsReadAs head rest count (listed (record { cost = d; cut = None; atoms = b }))) (sym g.head) g)
-  one_state c d None (Some l) a b head h g = absurd (unlike (codes "open") (codes "cut") refl (h.head ∙ sym g.head))
-  one_state c d (Some k) None a b head h g = absurd (unlike (codes "cut") (codes "open") refl (h.head ∙ sym g.head))
-  one_state c d (Some k) (Some l) a b head h g =
-      let first = cut_of rest count c k a (subst (λ head. IsReadAs head rest count (listed (record { cost = c; cut = Some k; atoms = a }))) (sym h.head) h) in
-      let second = cut_of rest count d l b (subst (λ head. IsReadAs head rest count (listed (record { cost = d; cut = Some l; atoms = b }))) (sym g.head) g) in
+  by_marks : (head : List ℕ) (c d : ℕ) (k l : Mark) (a b : List ℕ) → IsState head c k a → IsState head d l b → mark_head k ≡ head → mark_head l ≡ head
+      → ◌≡◌ {A = TextLine} (listed (record { cost = c; mark = k; atoms = a })) (listed (record { cost = d; mark = l; atoms = b }))
+  by_marks head c d opened opened a b h g k_is l_is =
+      marked_same opened c d a b (one_numbered rest count few c d a b
+      (open_parts rest count v c opened a (subst (λ head. IsState head c opened a) (sym k_is) h)) (open_parts rest count v d opened b (subst (λ head. IsState head d opened b) (sym l_is) g)))
+  by_marks head c d dead dead a b h g k_is l_is =
+      marked_same dead c d a b (one_numbered rest count few c d a b
+      (dead_parts rest count v c dead a (subst (λ head. IsState head c dead a) (sym k_is) h)) (dead_parts rest count v d dead b (subst (λ head. IsState head d dead b) (sym l_is) g)))
+  by_marks head c d (cut k) (cut l) a b h g k_is l_is =
+      let first = cut_of rest count v c k a (subst (λ head. IsState head c (cut k) a) (sym k_is) h) in
+      let second = cut_of rest count v d l b (subst (λ head. IsState head d (cut l) b) (sym l_is) g) in
       let (costs, others) = one_cut rest count few c d k l a b first second in
       cut_same c d k l a b costs others
+  by_marks head c d opened dead a b h g k_is l_is = absurd (unlike (codes "open") (codes "dead") refl (k_is ∙ sym l_is))
+  by_marks head c d opened (cut l) a b h g k_is l_is = absurd (unlike (codes "open") (codes "cut") refl (k_is ∙ sym l_is))
+  by_marks head c d dead opened a b h g k_is l_is = absurd (unlike (codes "dead") (codes "open") refl (k_is ∙ sym l_is))
+  by_marks head c d dead (cut l) a b h g k_is l_is = absurd (unlike (codes "dead") (codes "cut") refl (k_is ∙ sym l_is))
+  by_marks head c d (cut k) opened a b h g k_is l_is = absurd (unlike (codes "cut") (codes "open") refl (k_is ∙ sym l_is))
+  by_marks head c d (cut k) dead a b h g k_is l_is = absurd (unlike (codes "cut") (codes "dead") refl (k_is ∙ sym l_is))
+
+  one_state : (head : List ℕ) (c d : ℕ) (k l : Mark) (a b : List ℕ) → IsState head c k a → IsState head d l b
+      → ◌≡◌ {A = TextLine} (listed (record { cost = c; mark = k; atoms = a })) (listed (record { cost = d; mark = l; atoms = b }))
+  one_state head c d k l a b h g = by_marks head c d k l a b h g h.head g.head
 
 one_name : (a b : NamedAtom) → IsTrue (are_lower a) → IsTrue (are_lower b) → atom_rest a ≡ atom_rest b → a ≡ b
 one_name a b a_are b_are same =
@@ -111,63 +119,64 @@ one_name a b a_are b_are same =
     let objects : a.objects ≡ b.objects = all_words a.objects b.objects (names_are_words a.objects a_objects) (names_are_words b.objects b_objects) both.1 in
     λ i. record { predicate = both.0 i; objects = objects i }
 
-one_atom : (a b : WeightedAtom) → IsTrue (is_weight a.weight && are_lower a.atom) → IsTrue (is_weight b.weight && are_lower b.atom) → line_rest (atom a) ≡ line_rest (atom b) → atom a ≡ atom b
-one_atom a b a_are b_are same =
-    let (a_weight, a_lower) = and_parts (is_weight a.weight) (are_lower a.atom) a_are in
-    let (b_weight, b_lower) = and_parts (is_weight b.weight) (are_lower b.atom) b_are in
-    let both = one_first (signed_decimal a.weight) (signed_decimal b.weight) (Some (atom_rest a.atom)) (Some (atom_rest b.atom)) (weight_is_word a.weight a_weight) (weight_is_word b.weight b_weight) same in
-    let weights : a.weight ≡ b.weight = same_weight a.weight b.weight a_weight b_weight both.0 in
+one_atom : (v : Version) (a b : WeightedAtom) → IsTrue (are_weights v a.weights && are_lower a.atom) → IsTrue (are_weights v b.weights && are_lower b.atom)
+    → line_rest (atom a) ≡ line_rest (atom b) → atom a ≡ atom b
+one_atom v a b a_are b_are same =
+    let (a_weights, a_lower) = and_parts (are_weights v a.weights) (are_lower a.atom) a_are in
+    let (b_weights, b_lower) = and_parts (are_weights v b.weights) (are_lower b.atom) b_are in
+    let both = one_weights v a.weights b.weights (Some (atom_rest a.atom)) (Some (atom_rest b.atom)) a_weights b_weights same in
     let names : a.atom ≡ b.atom = one_name a.atom b.atom a_lower b_lower (some_same (atom_rest a.atom) (atom_rest b.atom) both.1) in
-    λ i. atom (record { weight = weights i; atom = names i })
+    λ i. atom (record { weights = both.0 i; atom = names i })
 
 -- ---- any line
 
-listed_unlike : (cost : ℕ) (cut : Option ℕ) (atoms : List ℕ) (head : List ℕ) → (codes "open" ≡ head → ⊥) → (codes "cut" ≡ head → ⊥)
-    → line_head (listed (record { cost = cost; cut = cut; atoms = atoms })) ≡ head → ⊥
-listed_unlike cost None atoms head open_differs cut_differs = open_differs
-listed_unlike cost (Some least) atoms head open_differs cut_differs = cut_differs
+one_version : (v w : Version) → decimal (version_number v) ≡ decimal (version_number w) → version v ≡ version w
+one_version one one same = refl
+one_version two two same = refl
+one_version one two same = absurd (omega (arith, same_number 1 2 refl refl same))
+one_version two one same = absurd (omega (arith, same_number 2 1 refl refl same))
 
-module _ (count : ℕ) (few : count ≤ most_atoms) where
-  by_parts : (l m : TextLine) → IsTrue (is_line count l) → IsTrue (is_line count m) → line_head l ≡ line_head m → line_rest l ≡ line_rest m → l ≡ m
-  by_parts version version h g heads rests = refl
-  by_parts version (claims d) h g heads rests = absurd (unlike (codes "pddl-cert") (codes "claim") refl heads)
-  by_parts version (constant k) h g heads rests = absurd (unlike (codes "pddl-cert") (codes "constant") refl heads)
-  by_parts version (atom b) h g heads rests = absurd (unlike (codes "pddl-cert") (codes "atom") refl heads)
-  by_parts version (listed s) h g heads rests = absurd (listed_unlike s.cost s.cut s.atoms (codes "pddl-cert") (unlike (codes "open") (codes "pddl-cert") refl) (unlike (codes "cut") (codes "pddl-cert") refl) (sym heads))
-  by_parts version (last n) h g heads rests = absurd (unlike (codes "pddl-cert") (codes "end") refl heads)
-  by_parts (claims c) version h g heads rests = absurd (unlike (codes "claim") (codes "pddl-cert") refl heads)
+module _ (v : Version) (count : ℕ) (few : count ≤ most_atoms) where
+  by_parts : (l m : TextLine) → IsTrue (is_line v count l) → IsTrue (is_line v count m) → line_head l ≡ line_head m → line_rest l ≡ line_rest m → l ≡ m
+  by_parts (version u) (version w) h g heads rests = one_version u w rests
+  by_parts (version u) (claims d) h g heads rests = absurd (unlike (codes "pddl-cert") (codes "claim") refl heads)
+  by_parts (version u) (constant k) h g heads rests = absurd (unlike (codes "pddl-cert") (codes "constant") refl heads)
+  by_parts (version u) (atom b) h g heads rests = absurd (unlike (codes "pddl-cert") (codes "atom") refl heads)
+  by_parts (version u) (listed s) h g heads rests = absurd (is_no_mark (codes "pddl-cert") refl refl refl s.mark (sym heads))
+  by_parts (version u) (last n) h g heads rests = absurd (unlike (codes "pddl-cert") (codes "end") refl heads)
+  by_parts (claims c) (version w) h g heads rests = absurd (unlike (codes "claim") (codes "pddl-cert") refl heads)
   by_parts (claims c) (claims d) h g heads rests = ap (λ claim. claims claim) (one_claim c d h g rests)
   by_parts (claims c) (constant k) h g heads rests = absurd (unlike (codes "claim") (codes "constant") refl heads)
   by_parts (claims c) (atom b) h g heads rests = absurd (unlike (codes "claim") (codes "atom") refl heads)
-  by_parts (claims c) (listed s) h g heads rests = absurd (listed_unlike s.cost s.cut s.atoms (codes "claim") (unlike (codes "open") (codes "claim") refl) (unlike (codes "cut") (codes "claim") refl) (sym heads))
+  by_parts (claims c) (listed s) h g heads rests = absurd (is_no_mark (codes "claim") refl refl refl s.mark (sym heads))
   by_parts (claims c) (last n) h g heads rests = absurd (unlike (codes "claim") (codes "end") refl heads)
-  by_parts (constant k) version h g heads rests = absurd (unlike (codes "constant") (codes "pddl-cert") refl heads)
+  by_parts (constant k) (version w) h g heads rests = absurd (unlike (codes "constant") (codes "pddl-cert") refl heads)
   by_parts (constant k) (claims d) h g heads rests = absurd (unlike (codes "constant") (codes "claim") refl heads)
-  by_parts (constant k) (constant j) h g heads rests = ap (λ w. constant w) (same_weight k j h g rests)
+  by_parts (constant k) (constant j) h g heads rests = ap (λ k. constant k) (one_weights v k j None None h g rests).0
   by_parts (constant k) (atom b) h g heads rests = absurd (unlike (codes "constant") (codes "atom") refl heads)
-  by_parts (constant k) (listed s) h g heads rests = absurd (listed_unlike s.cost s.cut s.atoms (codes "constant") (unlike (codes "open") (codes "constant") refl) (unlike (codes "cut") (codes "constant") refl) (sym heads))
+  by_parts (constant k) (listed s) h g heads rests = absurd (is_no_mark (codes "constant") refl refl refl s.mark (sym heads))
   by_parts (constant k) (last n) h g heads rests = absurd (unlike (codes "constant") (codes "end") refl heads)
-  by_parts (atom a) version h g heads rests = absurd (unlike (codes "atom") (codes "pddl-cert") refl heads)
+  by_parts (atom a) (version w) h g heads rests = absurd (unlike (codes "atom") (codes "pddl-cert") refl heads)
   by_parts (atom a) (claims d) h g heads rests = absurd (unlike (codes "atom") (codes "claim") refl heads)
   by_parts (atom a) (constant k) h g heads rests = absurd (unlike (codes "atom") (codes "constant") refl heads)
-  by_parts (atom a) (atom b) h g heads rests = one_atom a b (and_parts (is_weight a.weight && are_lower a.atom) (nat_le _ longest_line) h).0 (and_parts (is_weight b.weight && are_lower b.atom) (nat_le _ longest_line) g).0 rests
-  by_parts (atom a) (listed s) h g heads rests = absurd (listed_unlike s.cost s.cut s.atoms (codes "atom") (unlike (codes "open") (codes "atom") refl) (unlike (codes "cut") (codes "atom") refl) (sym heads))
+  by_parts (atom a) (atom b) h g heads rests = one_atom v a b (and_parts (are_weights v a.weights && are_lower a.atom) (nat_le _ longest_line) h).0 (and_parts (are_weights v b.weights && are_lower b.atom) (nat_le _ longest_line) g).0 rests
+  by_parts (atom a) (listed s) h g heads rests = absurd (is_no_mark (codes "atom") refl refl refl s.mark (sym heads))
   by_parts (atom a) (last n) h g heads rests = absurd (unlike (codes "atom") (codes "end") refl heads)
-  by_parts (listed r) version h g heads rests = absurd (listed_unlike r.cost r.cut r.atoms (codes "pddl-cert") (unlike (codes "open") (codes "pddl-cert") refl) (unlike (codes "cut") (codes "pddl-cert") refl) heads)
-  by_parts (listed r) (claims d) h g heads rests = absurd (listed_unlike r.cost r.cut r.atoms (codes "claim") (unlike (codes "open") (codes "claim") refl) (unlike (codes "cut") (codes "claim") refl) heads)
-  by_parts (listed r) (constant k) h g heads rests = absurd (listed_unlike r.cost r.cut r.atoms (codes "constant") (unlike (codes "open") (codes "constant") refl) (unlike (codes "cut") (codes "constant") refl) heads)
-  by_parts (listed r) (atom b) h g heads rests = absurd (listed_unlike r.cost r.cut r.atoms (codes "atom") (unlike (codes "open") (codes "atom") refl) (unlike (codes "cut") (codes "atom") refl) heads)
-  by_parts (listed r) (listed s) h g heads rests = one_state count few (line_rest (listed s)) r.cost s.cost r.cut s.cut r.atoms s.atoms (line_head (listed s))
+  by_parts (listed r) (version w) h g heads rests = absurd (is_no_mark (codes "pddl-cert") refl refl refl r.mark heads)
+  by_parts (listed r) (claims d) h g heads rests = absurd (is_no_mark (codes "claim") refl refl refl r.mark heads)
+  by_parts (listed r) (constant k) h g heads rests = absurd (is_no_mark (codes "constant") refl refl refl r.mark heads)
+  by_parts (listed r) (atom b) h g heads rests = absurd (is_no_mark (codes "atom") refl refl refl r.mark heads)
+  by_parts (listed r) (listed s) h g heads rests = one_state v count few (line_rest (listed s)) (line_head (listed s)) r.cost s.cost r.mark s.mark r.atoms s.atoms
       (record { head = heads; behind = rests; within = h }) (record { head = refl; behind = refl; within = g })
-  by_parts (listed r) (last n) h g heads rests = absurd (listed_unlike r.cost r.cut r.atoms (codes "end") (unlike (codes "open") (codes "end") refl) (unlike (codes "cut") (codes "end") refl) heads)
-  by_parts (last m) version h g heads rests = absurd (unlike (codes "end") (codes "pddl-cert") refl heads)
+  by_parts (listed r) (last n) h g heads rests = absurd (is_no_mark (codes "end") refl refl refl r.mark heads)
+  by_parts (last m) (version w) h g heads rests = absurd (unlike (codes "end") (codes "pddl-cert") refl heads)
   by_parts (last m) (claims d) h g heads rests = absurd (unlike (codes "end") (codes "claim") refl heads)
   by_parts (last m) (constant k) h g heads rests = absurd (unlike (codes "end") (codes "constant") refl heads)
   by_parts (last m) (atom b) h g heads rests = absurd (unlike (codes "end") (codes "atom") refl heads)
-  by_parts (last m) (listed s) h g heads rests = absurd (listed_unlike s.cost s.cut s.atoms (codes "end") (unlike (codes "open") (codes "end") refl) (unlike (codes "cut") (codes "end") refl) (sym heads))
+  by_parts (last m) (listed s) h g heads rests = absurd (is_no_mark (codes "end") refl refl refl s.mark (sym heads))
   by_parts (last m) (last n) h g heads rests = ap (λ n. last n) (same_number m n h g rests)
 
-  pub one_line : (l m : TextLine) → IsTrue (is_line count l) → IsTrue (is_line count m) → line_text l ≡ line_text m → l ≡ m
+  pub one_line : (l m : TextLine) → IsTrue (is_line v count l) → IsTrue (is_line v count m) → line_text l ≡ line_text m → l ≡ m
   one_line l m h g same =
       let both = one_first (line_head l) (line_head m) (Some (line_rest l)) (Some (line_rest m)) (head_is_word l) (head_is_word m) (sym (line_splits l) ∙ same ∙ line_splits m) in
       by_parts l m h g both.0 (some_same (line_rest l) (line_rest m) both.1)

@@ -1,68 +1,93 @@
 -- A line is read by its first word and what stands behind it.
-use Rattle.std.proofs.Common.{◌≡◌, ℕ, true, List, codes, Option, None, Some, refl, sym, ap, ◌∙◌, subst, arith}
-use Rattle.std.specs.Prelude.{Result, Ok, Err, IsTrue}
+use Rattle.std.proofs.Common.{◌≡◌, ℕ, true, List, codes, Option, None, Some, refl, sym, ap, ◌∙◌, subst}
+use Rattle.std.specs.Prelude.{◌≢◌, Result, Ok, Err, IsTrue}
 use Rattle.std.specs.Borrow.{Bor}
 use Rattle.std.specs.Fmt.{decimal}
 use Rattle.std.specs.Str.{bytes_eq}
-use Rattle.std.proofs.lemmas.Fmt.{decimal_digit}
 use Rattle.std.proofs.lemmas.Slice.Eq.{bytes_eq-Decides}
-use Rattle.certificate_definitions.specs.Certificates.{is_number}
+use Rattle.certificate_definitions.specs.Certificates.{Version, one, two, is_number}
 use Rattle.certificate_reader.specs.declared.line.CertLine.{CertLine}
-use Rattle.certificate_reader.specs.Lines.{text_line_of}
-use Rattle.certificate_definitions.specs.CertificateText.{WeightedAtom, TextLine, version, claims, constant, atom, listed, last}
+use Rattle.certificate_reader.specs.declared.line.Version as code
+use Rattle.certificate_reader.specs.declared.line.Version.TheVariants.{One, Two}
+use Rattle.certificate_reader.specs.Lines.{text_line_of, version_of}
+use Rattle.certificate_definitions.specs.CertificateText.{Weights, WeightedAtom, TextLine, version, claims, constant, atom, listed, last, are_weights, version_number}
 use Rattle.certificate_reader.specs.declared.parsing.LineFault.{LineFault}
 use Rattle.certificate_reader.specs.declared.parsing.LineFault.TheVariants.{OtherVersion, Malformed, TooMany, NoMemory}
 use Rattle.certificate_reader.specs.Parsing.{IsParsed, IsParsedBehind}
-use Rattle.certificate_reader.specs.Words.{IsFirstWord, IsReadAs, line_head, line_rest, text_in, with_rest}
+use Rattle.certificate_reader.specs.Words.{IsFirstWord, IsReadAs, line_head, line_rest, text_in, with_rest, with_weights}
 use Rattle.certificate_reader.proofs.WordLemmas.{one_first}
 use Rattle.certificate_reader.proofs.LineLemmas.{head_is_word, line_splits}
-use Rattle.certificate_reader.proofs.LinesRead.{no_atom, unlike}
+use Rattle.certificate_reader.proofs.LinesRead.{is_no_mark, no_atom, unlike}
+use Rattle.certificate_reader.proofs.WeightsRead.{one_weights}
 
 -- ---- the first line
 
-pub one_is : decimal 1 ≡ codes "1"
-one_is = decimal_digit 1 (omega arith)
+pub is_version : (rest : List ℕ) (number : ℕ) (w : Version) → number ≡ version_number w → decimal number ≡ rest
+    → (v : Version) (count : ℕ) → IsReadAs (codes "pddl-cert") rest v count (version w)
+is_version rest number w is same v count = record { head = refl; behind = ap decimal (sym is) ∙ same; within = refl }
 
-pub is_version : (rest : List ℕ) (number count : ℕ) → number ≡ 1 → decimal number ≡ rest → IsReadAs (codes "pddl-cert") rest count version
-is_version rest number count one same = record { head = refl; behind = sym one_is ∙ ap decimal (sym one) ∙ same; within = refl }
+version_is_number : (v : Version) → IsTrue (is_number (version_number v))
+version_is_number one = refl
+version_is_number two = refl
 
-pub listed_is_no_version : (cost : ℕ) (cut : Option ℕ) (atoms : List ℕ)
-    → line_head (listed (record { cost = cost; cut = cut; atoms = atoms })) ≡ codes "pddl-cert" → ⊥
-listed_is_no_version cost None atoms = unlike (codes "open") (codes "pddl-cert") refl
-listed_is_no_version cost (Some least) atoms = unlike (codes "cut") (codes "pddl-cert") refl
+pub no_version : (rest : List ℕ) → ((n : ℕ) → IsTrue (is_number n) → decimal n ≡ rest → ⊥)
+    → (v : Version) (count : ℕ) (line : TextLine) → IsReadAs (codes "pddl-cert") rest v count line → ⊥
+no_version rest never v count (version w) read = never (version_number w) (version_is_number w) read.behind
+no_version rest never v count (claims claim) read = unlike (codes "claim") (codes "pddl-cert") refl read.head
+no_version rest never v count (constant k) read = unlike (codes "constant") (codes "pddl-cert") refl read.head
+no_version rest never v count (atom a) read = unlike (codes "atom") (codes "pddl-cert") refl read.head
+no_version rest never v count (listed l) read = is_no_mark (codes "pddl-cert") refl refl refl l.mark read.head
+no_version rest never v count (last n) read = unlike (codes "end") (codes "pddl-cert") refl read.head
 
-pub no_version : (rest : List ℕ) (count : ℕ) → ((n : ℕ) → IsTrue (is_number n) → decimal n ≡ rest → ⊥)
-    → (line : TextLine) → IsReadAs (codes "pddl-cert") rest count line → ⊥
-no_version rest count never version read = never 1 refl (one_is ∙ read.behind)
-no_version rest count never (claims claim) read = unlike (codes "claim") (codes "pddl-cert") refl read.head
-no_version rest count never (constant k) read = unlike (codes "constant") (codes "pddl-cert") refl read.head
-no_version rest count never (atom a) read = unlike (codes "atom") (codes "pddl-cert") refl read.head
-no_version rest count never (listed l) read = listed_is_no_version l.cost l.cut l.atoms read.head
-no_version rest count never (last n) read = unlike (codes "end") (codes "pddl-cert") refl read.head
+-- a version that is not 1 is 2
+pub is_two : (version : code.Version) → version ≢ One → version_of version ≡ two
+is_two One other = absurd (other refl)
+is_two Two other = refl
+
+-- ---- the line of the constants
+
+pub malformed_constant : (rest : List ℕ) (v : Version) → ((k : Weights) → IsTrue (are_weights v k) → with_weights k None ≡ rest → ⊥) → (count : ℕ)
+    → IsParsedBehind (codes "constant") rest v count (Err Malformed)
+malformed_constant rest v never count = (no_line, λ same n is told. absurd (unlike (codes "constant") (codes "pddl-cert") refl same))
+  where
+    no_line : (line : TextLine) → IsReadAs (codes "constant") rest v count line → ⊥
+    no_line (version w) read = unlike (codes "pddl-cert") (codes "constant") refl read.head
+    no_line (claims claim) read = unlike (codes "claim") (codes "constant") refl read.head
+    no_line (constant k) read = never k read.within read.behind
+    no_line (atom a) read = unlike (codes "atom") (codes "constant") refl read.head
+    no_line (listed l) read = is_no_mark (codes "constant") refl refl refl l.mark read.head
+    no_line (last n) read = unlike (codes "end") (codes "constant") refl read.head
+
+-- something stands behind the constants
+pub constant_goes_on : (rest : List ℕ) (v : Version) (w : Weights) (behind : Option (Bor (List ℕ))) (more : Bor (List ℕ)) → IsTrue (are_weights v w)
+    → with_weights w (text_in behind) ≡ rest → behind ≡ Some more → (k : Weights) → IsTrue (are_weights v k) → with_weights k None ≡ rest → ⊥
+constant_goes_on rest v w behind more is same at k k_is k_same =
+    let both = one_weights v k w None (text_in behind) k_is is (k_same ∙ sym same) in
+    absurd (cc (both.1 ∙ ap text_in at))
 
 -- ---- the line of an atom
 
-pub malformed_atom : (rest : List ℕ) → ((count : ℕ) (a : WeightedAtom) → IsReadAs (codes "atom") rest count (atom a) → ⊥) → (count : ℕ)
-    → IsParsedBehind (codes "atom") rest count (Err Malformed)
-malformed_atom rest never count = (no_atom rest count (never count), λ same n is told. absurd (unlike (codes "atom") (codes "pddl-cert") refl same))
+pub malformed_atom : (rest : List ℕ) (v : Version) → ((count : ℕ) (a : WeightedAtom) → IsReadAs (codes "atom") rest v count (atom a) → ⊥) → (count : ℕ)
+    → IsParsedBehind (codes "atom") rest v count (Err Malformed)
+malformed_atom rest v never count = (no_atom rest v count (never count), λ same n is told. absurd (unlike (codes "atom") (codes "pddl-cert") refl same))
 
 -- ---- any line
 
 -- what is told behind a word is told behind bytes that are it
-pub parsed_as : (word own rest : List ℕ) (count : ℕ) (r : Result CertLine LineFault) → bytes_eq word own ≡ true
-    → IsParsedBehind own rest count r → IsParsedBehind word rest count r
-parsed_as word own rest count r is told = subst (λ word. IsParsedBehind word rest count r) (sym ((bytes_eq-Decides word own).0 is)) told
+pub parsed_as : (word own rest : List ℕ) (v : Version) (count : ℕ) (r : Result CertLine LineFault) → bytes_eq word own ≡ true
+    → IsParsedBehind own rest v count r → IsParsedBehind word rest v count r
+parsed_as word own rest v count r is told = subst (λ word. IsParsedBehind word rest v count r) (sym ((bytes_eq-Decides word own).0 is)) told
 
 some_same : (a b : List ℕ) → ◌≡◌ {A = Option (List ℕ)} (Some a) (Some b) → a ≡ b
 some_same a b same = cc
 
 -- what is told of a word and the rest is told of the bytes that they are
-whole : (bytes word rest : List ℕ) (count : ℕ) → IsFirstWord bytes word (Some rest) → (r : Result CertLine LineFault) → IsParsedBehind word rest count r → IsParsed bytes count r
-whole bytes word rest count first (Ok line) read =
+whole : (bytes word rest : List ℕ) (v : Version) (count : ℕ) → IsFirstWord bytes word (Some rest) → (r : Result CertLine LineFault) → IsParsedBehind word rest v count r → IsParsed bytes v count r
+whole bytes word rest v count first (Ok line) read =
     (line_splits (text_line_of line) ∙ (λ i. with_rest (read.head i) (Some (read.behind i))) ∙ sym first.splits, read.within)
-whole bytes word rest count first (Err OtherVersion) (head, (n, is, differs, same)) =
-    (n, is, differs, (λ i. with_rest (sym head i) (Some (same i))) ∙ sym first.splits)
-whole bytes word rest count first (Err Malformed) (never, other) = (
+whole bytes word rest v count first (Err OtherVersion) (head, (n, is, not_one, not_two, same)) =
+    (n, is, not_one, not_two, (λ i. with_rest (sym head i) (Some (same i))) ∙ sym first.splits)
+whole bytes word rest v count first (Err Malformed) (never, other) = (
   λ line within same.
       let both = one_first (line_head line) word (Some (line_rest line)) (Some rest) (head_is_word line) first.is_word (sym (line_splits line) ∙ same ∙ first.splits) in
       never line (record { head = both.0; behind = some_same (line_rest line) rest both.1; within = within }),
@@ -70,10 +95,10 @@ whole bytes word rest count first (Err Malformed) (never, other) = (
       let both = one_first (codes "pddl-cert") word (Some (decimal n)) (Some rest) refl first.is_word (same ∙ first.splits) in
       other (sym both.0) n is (some_same (decimal n) rest both.1),
 )
-whole bytes word rest count first (Err TooMany) told = told
-whole bytes word rest count first (Err NoMemory) told = tt
+whole bytes word rest v count first (Err TooMany) told = told
+whole bytes word rest v count first (Err NoMemory) told = tt
 
-pub parsed_whole : (bytes word : List ℕ) (behind : Option (Bor (List ℕ))) (rest : Bor (List ℕ)) (count : ℕ) (r : Result CertLine LineFault)
-    → IsFirstWord bytes word (text_in behind) → behind ≡ Some rest → IsParsedBehind word rest.now count r → IsParsed bytes count r
-parsed_whole bytes word behind rest count r first is told =
-    whole bytes word rest.now count (subst (λ behind. IsFirstWord bytes word (text_in behind)) is first) r told
+pub parsed_whole : (bytes word : List ℕ) (behind : Option (Bor (List ℕ))) (rest : Bor (List ℕ)) (v : Version) (count : ℕ) (r : Result CertLine LineFault)
+    → IsFirstWord bytes word (text_in behind) → behind ≡ Some rest → IsParsedBehind word rest.now v count r → IsParsed bytes v count r
+parsed_whole bytes word behind rest v count r first is told =
+    whole bytes word rest.now v count (subst (λ behind. IsFirstWord bytes word (text_in behind)) is first) r told

@@ -21,37 +21,37 @@ use Rattle.certificate_reader.specs.Reader.{HasRead, HaveBegun, IsAdvance, IsAns
 
 -- one line more leads to a place within the limits
 pub leads_within : (place : Place) → IsWithin place → (line : TextLine) (next : Place) → next_place place line ≡ Some next → IsWithin next
-leads_within at_version within version next leads = subst IsWithin (place_same at_claim next leads) refl
+leads_within at_version within (version v) next leads = subst IsWithin (place_same (at_claim v) next leads) refl
 leads_within at_version within (claims claim) next leads = never next leads
 leads_within at_version within (constant k) next leads = never next leads
 leads_within at_version within (atom a) next leads = never next leads
 leads_within at_version within (listed l) next leads = never next leads
 leads_within at_version within (last count) next leads = never next leads
-leads_within at_claim within version next leads = never next leads
-leads_within at_claim within (claims claim) next leads = subst IsWithin (only_where (is_line 0 (claims claim)) at_constant next leads).1 refl
-leads_within at_claim within (constant k) next leads = never next leads
-leads_within at_claim within (atom a) next leads = never next leads
-leads_within at_claim within (listed l) next leads = never next leads
-leads_within at_claim within (last count) next leads = never next leads
-leads_within at_constant within version next leads = never next leads
-leads_within at_constant within (claims claim) next leads = never next leads
-leads_within at_constant within (constant k) next leads = subst IsWithin (only_where (is_line 0 (constant k)) (in_body 0 0) next leads).1 refl
-leads_within at_constant within (atom a) next leads = never next leads
-leads_within at_constant within (listed l) next leads = never next leads
-leads_within at_constant within (last count) next leads = never next leads
-leads_within (in_body n m) within version next leads = never next leads
-leads_within (in_body n m) within (claims claim) next leads = never next leads
-leads_within (in_body n m) within (constant k) next leads = never next leads
-leads_within (in_body n m) within (atom a) next leads =
-    let (holds, same) = only_where ((m == 0) && nat_lt n most_atoms && is_line n (atom a)) (in_body (n + 1) m) next leads in
-    let below : n < most_atoms = ltb-true n most_atoms (and_parts (m == 0) (nat_lt n most_atoms) (and_parts ((m == 0) && nat_lt n most_atoms) (is_line n (atom a)) holds).0).1 in
+leads_within (at_claim v) within (version w) next leads = never next leads
+leads_within (at_claim v) within (claims claim) next leads = subst IsWithin (only_where (is_line v 0 (claims claim)) (at_constant v) next leads).1 refl
+leads_within (at_claim v) within (constant k) next leads = never next leads
+leads_within (at_claim v) within (atom a) next leads = never next leads
+leads_within (at_claim v) within (listed l) next leads = never next leads
+leads_within (at_claim v) within (last count) next leads = never next leads
+leads_within (at_constant v) within (version w) next leads = never next leads
+leads_within (at_constant v) within (claims claim) next leads = never next leads
+leads_within (at_constant v) within (constant k) next leads = subst IsWithin (only_where (is_line v 0 (constant k)) (in_body v 0 0) next leads).1 refl
+leads_within (at_constant v) within (atom a) next leads = never next leads
+leads_within (at_constant v) within (listed l) next leads = never next leads
+leads_within (at_constant v) within (last count) next leads = never next leads
+leads_within (in_body v n m) within (version w) next leads = never next leads
+leads_within (in_body v n m) within (claims claim) next leads = never next leads
+leads_within (in_body v n m) within (constant k) next leads = never next leads
+leads_within (in_body v n m) within (atom a) next leads =
+    let (holds, same) = only_where ((m == 0) && nat_lt n most_atoms && is_line v n (atom a)) (in_body v (n + 1) m) next leads in
+    let below : n < most_atoms = ltb-true n most_atoms (and_parts (m == 0) (nat_lt n most_atoms) (and_parts ((m == 0) && nat_lt n most_atoms) (is_line v n (atom a)) holds).0).1 in
     subst IsWithin same (λ i. le-leb (n + 1) most_atoms (omega (arith, below)) i && (and_parts (nat_le n most_atoms) (nat_le m most_states) within).1 i)
-leads_within (in_body n m) within (listed l) next leads =
-    let (holds, same) = only_where (nat_lt m most_states && is_line n (listed l)) (in_body n (m + 1)) next leads in
-    let below : m < most_states = ltb-true m most_states (and_parts (nat_lt m most_states) (is_line n (listed l)) holds).0 in
+leads_within (in_body v n m) within (listed l) next leads =
+    let (holds, same) = only_where (nat_lt m most_states && is_line v n (listed l)) (in_body v n (m + 1)) next leads in
+    let below : m < most_states = ltb-true m most_states (and_parts (nat_lt m most_states) (is_line v n (listed l)) holds).0 in
     subst IsWithin same (λ i. (and_parts (nat_le n most_atoms) (nat_le m most_states) within).0 i && le-leb (m + 1) most_states (omega (arith, below)) i)
-leads_within (in_body n m) within (last count) next leads = subst IsWithin (only_where (count == m) ended next leads).1 refl
-leads_within ended within version next leads = never next leads
+leads_within (in_body v n m) within (last count) next leads = subst IsWithin (only_where (count == m) ended next leads).1 refl
+leads_within ended within (version w) next leads = never next leads
 leads_within ended within (claims claim) next leads = never next leads
 leads_within ended within (constant k) next leads = never next leads
 leads_within ended within (atom a) next leads = never next leads
@@ -65,9 +65,9 @@ body_length f g xs ys = omega (arith, length-append (map f xs) (map g ys), lengt
 
 pub few_lines : (lines : List TextLine) (place : Place) → StandsBefore place lines → length lines < 20000000
 few_lines lines at_version are = omega (arith, ap length are)
-few_lines lines at_claim are = omega (arith, ap length are)
-few_lines lines at_constant (claim, is, are) = omega (arith, ap length are)
-few_lines lines (in_body n m) body =
+few_lines lines (at_claim v) are = omega (arith, ap length are)
+few_lines lines (at_constant v) (claim, is, are) = omega (arith, ap length are)
+few_lines lines (in_body v n m) body =
     omega (arith, ap length body.lines_are, body_length (λ a. atom a) (λ l. listed l) body.atoms body.states, body.atom_count_is, body.state_count_is, body.few_atoms, body.few_states)
 few_lines lines ended (c, keeps, are) =
     let (counts, each) = and_parts (nat_le (length c.atoms) most_atoms && nat_le (length c.lines) most_states) _ keeps in
@@ -95,9 +95,9 @@ trailing_told before whole old bytes new grown some more =
 
 pub come_unless_ended : (at : Stage) (bytes : List ℕ) → at ≢ stage.Ended → come_at (place_of at) bytes ≡ is_ready bytes
 come_unless_ended stage.Version bytes goes_on = refl
-come_unless_ended stage.Claim bytes goes_on = refl
-come_unless_ended stage.Constant bytes goes_on = refl
-come_unless_ended (stage.Body n m) bytes goes_on = refl
+come_unless_ended (stage.Claim v) bytes goes_on = refl
+come_unless_ended (stage.Constants v) bytes goes_on = refl
+come_unless_ended (stage.Body v n m) bytes goes_on = refl
 come_unless_ended stage.Ended bytes goes_on = absurd (goes_on refl)
 
 pub prompt_unless_ended : (at : Stage) → at ≢ stage.Ended → (waited came : List ℕ) → IsPrompt is_ready waited came → IsPrompt (come_at (place_of at)) waited came

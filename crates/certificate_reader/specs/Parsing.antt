@@ -1,7 +1,7 @@
 -- What is told of bytes that are to be a line.
 use Rattle.std.specs.Prelude.{◌≡◌, ◌≢◌, ℕ, List, ◌++◌, codes, Result, Ok, Err, IsTrue}
 use Rattle.std.specs.Fmt.{decimal}
-use Rattle.certificate_definitions.specs.Certificates.{is_number}
+use Rattle.certificate_definitions.specs.Certificates.{Version, is_number}
 use Rattle.certificate_reader.specs.declared.line.CertLine.{CertLine}
 use Rattle.certificate_reader.specs.Lines.{text_line_of}
 use Rattle.certificate_definitions.specs.CertificateText.{TextLine, is_line, line_text}
@@ -9,24 +9,25 @@ use Rattle.certificate_reader.specs.declared.parsing.LineFault.{LineFault}
 use Rattle.certificate_reader.specs.declared.parsing.LineFault.TheVariants.{OtherVersion, Malformed, TooMany, NoMemory}
 use Rattle.certificate_reader.specs.Words.{IsReadAs}
 
--- the bytes are the line that is answered, where so many atoms are named; or the first line of another version; or neither
-abbrev pub IsParsed : List ℕ → ℕ → Result CertLine LineFault → Type 0
-IsParsed bytes atom_count (Ok line) = (line_text (text_line_of line) ≡ bytes) × IsTrue (is_line atom_count (text_line_of line))
-IsParsed bytes atom_count (Err OtherVersion) =
-    (number : ℕ) × IsTrue (is_number number) × (number ≢ 1) × (codes "pddl-cert " ++ decimal number ≡ bytes)
-IsParsed bytes atom_count (Err Malformed) =
-    ((line : TextLine) → IsTrue (is_line atom_count line) → line_text line ≢ bytes)
+-- the bytes are the line that is answered, in a text of this version in which so many atoms are named; or the first line of
+-- another version; or neither
+abbrev pub IsParsed : List ℕ → Version → ℕ → Result CertLine LineFault → Type 0
+IsParsed bytes v atom_count (Ok line) = (line_text (text_line_of line) ≡ bytes) × IsTrue (is_line v atom_count (text_line_of line))
+IsParsed bytes v atom_count (Err OtherVersion) =
+    (number : ℕ) × IsTrue (is_number number) × (number ≢ 1) × (number ≢ 2) × (codes "pddl-cert " ++ decimal number ≡ bytes)
+IsParsed bytes v atom_count (Err Malformed) =
+    ((line : TextLine) → IsTrue (is_line v atom_count line) → line_text line ≢ bytes)
     × ((number : ℕ) → IsTrue (is_number number) → codes "pddl-cert " ++ decimal number ≢ bytes)
-IsParsed bytes atom_count (Err TooMany) = ⊥
-IsParsed bytes atom_count (Err NoMemory) = Unit {0}
+IsParsed bytes v atom_count (Err TooMany) = ⊥
+IsParsed bytes v atom_count (Err NoMemory) = Unit {0}
 
 -- the same of bytes that are this word and, behind a blank, these
-abbrev pub IsParsedBehind : (word rest : List ℕ) → ℕ → Result CertLine LineFault → Type 0
-IsParsedBehind word rest atom_count (Ok line) = IsReadAs word rest atom_count (text_line_of line)
-IsParsedBehind word rest atom_count (Err OtherVersion) =
-    (word ≡ codes "pddl-cert") × ((number : ℕ) × IsTrue (is_number number) × (number ≢ 1) × (decimal number ≡ rest))
-IsParsedBehind word rest atom_count (Err Malformed) =
-    ((line : TextLine) → IsReadAs word rest atom_count line → ⊥)
+abbrev pub IsParsedBehind : (word rest : List ℕ) → Version → ℕ → Result CertLine LineFault → Type 0
+IsParsedBehind word rest v atom_count (Ok line) = IsReadAs word rest v atom_count (text_line_of line)
+IsParsedBehind word rest v atom_count (Err OtherVersion) =
+    (word ≡ codes "pddl-cert") × ((number : ℕ) × IsTrue (is_number number) × (number ≢ 1) × (number ≢ 2) × (decimal number ≡ rest))
+IsParsedBehind word rest v atom_count (Err Malformed) =
+    ((line : TextLine) → IsReadAs word rest v atom_count line → ⊥)
     × (word ≡ codes "pddl-cert" → (number : ℕ) → IsTrue (is_number number) → decimal number ≢ rest)
-IsParsedBehind word rest atom_count (Err TooMany) = ⊥
-IsParsedBehind word rest atom_count (Err NoMemory) = Unit {0}
+IsParsedBehind word rest v atom_count (Err TooMany) = ⊥
+IsParsedBehind word rest v atom_count (Err NoMemory) = Unit {0}

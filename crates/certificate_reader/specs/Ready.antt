@@ -15,9 +15,9 @@ is_ready bytes = is_some (position is_end bytes) || nat_lt longest_line (length 
 -- what is to be told next is in these bytes: a line, or too long a one, and behind the last line any byte
 abbrev pub come_at : Place → List ℕ → Bool
 come_at at_version bytes = is_ready bytes
-come_at at_claim bytes = is_ready bytes
-come_at at_constant bytes = is_ready bytes
-come_at (in_body atoms states) bytes = is_ready bytes
+come_at (at_claim v) bytes = is_ready bytes
+come_at (at_constant v) bytes = is_ready bytes
+come_at (in_body v atoms states) bytes = is_ready bytes
 come_at ended [] = false
 come_at ended (byte ∷ bytes) = true
 

@@ -1,9 +1,9 @@
 -- Where the code's reader stands, and what comes of a line there.
 use Rattle.std.specs.Prelude.{◌≡◌, ◌≢◌, ℕ, Bool, true, ◌&&◌, nat_le, List, ◌++◌, codes, None, Some, Result, Ok, Err, IsTrue}
 use Rattle.std.specs.Fmt.{decimal}
-use Rattle.certificate_definitions.specs.Certificates.{is_number}
+use Rattle.certificate_definitions.specs.Certificates.{Version, one, is_number}
 use Rattle.certificate_reader.specs.declared.line.CertLine.{CertLine}
-use Rattle.certificate_reader.specs.Lines.{text_line_of}
+use Rattle.certificate_reader.specs.Lines.{text_line_of, version_of}
 use Rattle.certificate_definitions.specs.CertificateText.{TextLine, atom, listed, is_line, line_text, most_atoms, most_states}
 use Rattle.certificate_definitions.specs.CertificateMachine.{Place, at_version, at_claim, at_constant, in_body, ended, next_place}
 use Rattle.certificate_reader.specs.declared.stage.Stage.{Stage}
@@ -15,25 +15,33 @@ use Rattle.certificate_reader.specs.declared.parsing.LineFault.TheVariants.{Othe
 
 abbrev pub place_of : Stage → Place
 place_of stage.Version = at_version
-place_of stage.Claim = at_claim
-place_of stage.Constant = at_constant
-place_of (stage.Body atoms states) = in_body atoms states
+place_of (stage.Claim version) = at_claim (version_of version)
+place_of (stage.Constants version) = at_constant (version_of version)
+place_of (stage.Body version atoms states) = in_body (version_of version) atoms states
 place_of stage.Ended = ended
+
+-- the version of the text; where none is told yet, or none matters any more, any will do
+abbrev pub version_at : Place → Version
+version_at at_version = one
+version_at (at_claim v) = v
+version_at (at_constant v) = v
+version_at (in_body v atoms states) = v
+version_at ended = one
 
 -- how many atoms stand before the place
 abbrev pub atoms_at : Place → ℕ
 atoms_at at_version = 0
-atoms_at at_claim = 0
-atoms_at at_constant = 0
-atoms_at (in_body atoms states) = atoms
+atoms_at (at_claim v) = 0
+atoms_at (at_constant v) = 0
+atoms_at (in_body v atoms states) = atoms
 atoms_at ended = 0
 
 -- the place is behind no more atoms and states than there may be
 abbrev pub is_within : Place → Bool
 is_within at_version = true
-is_within at_claim = true
-is_within at_constant = true
-is_within (in_body atoms states) = nat_le atoms most_atoms && nat_le states most_states
+is_within (at_claim v) = true
+is_within (at_constant v) = true
+is_within (in_body v atoms states) = nat_le atoms most_atoms && nat_le states most_states
 is_within ended = true
 
 abbrev pub IsWithin : Place → Type 0
@@ -41,8 +49,8 @@ IsWithin place = IsTrue (is_within place)
 
 -- the line could stand there but for a limit
 abbrev pub IsOver : Place → TextLine → Type 0
-IsOver (in_body atoms states) (atom a) = (states ≡ 0) × (atoms ≡ most_atoms)
-IsOver (in_body atoms states) (listed l) = states ≡ most_states
+IsOver (in_body v atoms states) (atom a) = (states ≡ 0) × (atoms ≡ most_atoms)
+IsOver (in_body v atoms states) (listed l) = states ≡ most_states
 IsOver _ _ = ⊥
 
 abbrev pub IsStep : Place → TextLine → Step → Type 0
@@ -54,10 +62,10 @@ IsStep place line step.Misplaced = (next_place place line ≡ None) × (IsOver p
 abbrev pub IsReadAt : Place → List ℕ → Result (CertLine × Stage) LineFault → Type 0
 IsReadAt place bytes (Ok (line, next)) = (line_text (text_line_of line) ≡ bytes) × (next_place place (text_line_of line) ≡ Some (place_of next))
 IsReadAt place bytes (Err OtherVersion) =
-    (place ≡ at_version) × ((number : ℕ) × IsTrue (is_number number) × (number ≢ 1) × (codes "pddl-cert " ++ decimal number ≡ bytes))
-IsReadAt place bytes (Err TooMany) = (line : TextLine) × IsTrue (is_line (atoms_at place) line) × IsOver place line × (line_text line ≡ bytes)
+    (place ≡ at_version) × ((number : ℕ) × IsTrue (is_number number) × (number ≢ 1) × (number ≢ 2) × (codes "pddl-cert " ++ decimal number ≡ bytes))
+IsReadAt place bytes (Err TooMany) = (line : TextLine) × IsTrue (is_line (version_at place) (atoms_at place) line) × IsOver place line × (line_text line ≡ bytes)
 IsReadAt place bytes (Err Malformed) =
     ((line : TextLine) (next : Place) → next_place place line ≡ Some next → line_text line ≢ bytes)
-    × ((line : TextLine) → IsTrue (is_line (atoms_at place) line) → IsOver place line → line_text line ≢ bytes)
-    × (place ≡ at_version → (number : ℕ) → IsTrue (is_number number) → number ≢ 1 → codes "pddl-cert " ++ decimal number ≢ bytes)
+    × ((line : TextLine) → IsTrue (is_line (version_at place) (atoms_at place) line) → IsOver place line → line_text line ≢ bytes)
+    × (place ≡ at_version → (number : ℕ) → IsTrue (is_number number) → number ≢ 1 → number ≢ 2 → codes "pddl-cert " ++ decimal number ≢ bytes)
 IsReadAt place bytes (Err NoMemory) = Unit {0}

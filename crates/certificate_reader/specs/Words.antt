@@ -1,14 +1,14 @@
 -- The words of a line, and a line by its first word and what stands behind it.
-use Rattle.std.specs.Prelude.{◌≡◌, ℕ, ◌==◌, Bool, not, List, [], ◌∷◌, ◌++◌, codes, map, Option, None, Some, IsTrue}
+use Rattle.std.specs.Prelude.{◌≡◌, ℕ, ℤ, ◌==◌, Bool, not, List, [], ◌∷◌, ◌++◌, codes, map, Option, None, Some, IsTrue}
 use Rattle.std.specs.Borrow.{Bor}
 use Rattle.std.specs.Char.{is_ascii_uppercase}
 use Rattle.std.specs.Fmt.{decimal, signed_decimal}
 use Rattle.std.specs.List.{flat_map, list_all}
 use Rattle.std.specs.Option.{option_map, option_map_or}
 use Rattle.model.specs.PlanWriting.{is_lower_name}
-use Rattle.model.specs.Claims.{Claim, bound, none}
-use Rattle.certificate_definitions.specs.Certificates.{is_number, rise}
-use Rattle.certificate_definitions.specs.CertificateText.{NamedAtom, TextLine, version, claims, constant, atom, listed, last, after_blank, is_line}
+use Rattle.model.specs.Claims.{Claim, bound, none, Mark, opened, cut, dead}
+use Rattle.certificate_definitions.specs.Certificates.{Version, is_number, rise}
+use Rattle.certificate_definitions.specs.CertificateText.{NamedAtom, Weights, TextLine, version, claims, constant, atom, listed, last, after_blank, is_line, version_number}
 
 -- the bytes of a word, where there is one
 abbrev pub text_in : Option (Bor (List ℕ)) → Option (List ℕ)
@@ -31,13 +31,25 @@ pub record IsFirstWord (bytes word : List ℕ) (rest : Option (List ℕ)) : Type
   pub is_word : IsTrue (is_word word)
   pub splits : bytes ≡ with_rest word rest
 
+-- the first word of a line that lists a state
+abbrev pub mark_head : Mark → List ℕ
+mark_head opened = codes "open"
+mark_head (cut rest) = codes "cut"
+mark_head dead = codes "dead"
+
+-- and what stands behind it, up to the numbers of atoms
+abbrev pub mark_rest : Mark → ℕ → List ℕ
+mark_rest opened cost = decimal cost
+mark_rest (cut rest) cost = decimal cost ++ after_blank (decimal rest)
+mark_rest dead cost = decimal cost
+
 -- the first word of a line
 abbrev pub line_head : TextLine → List ℕ
-line_head version = codes "pddl-cert"
+line_head (version v) = codes "pddl-cert"
 line_head (claims claim) = codes "claim"
 line_head (constant k) = codes "constant"
 line_head (atom a) = codes "atom"
-line_head (listed l) = option_map_or (λ (rest : ℕ). codes "cut") l.cut (codes "open")
+line_head (listed l) = mark_head l.mark
 line_head (last count) = codes "end"
 
 -- what stands behind it
@@ -45,18 +57,20 @@ abbrev pub claim_rest : Claim → List ℕ
 claim_rest (bound least) = codes "bound " ++ decimal least
 claim_rest none = codes "none"
 
--- what stands behind the weight of an atom
+-- the words of weights, and what stands behind them, if anything does
+abbrev pub with_weights : Weights → Option (List ℕ) → List ℕ
+with_weights w rest = with_rest (signed_decimal w.of_value) (option_map_or (λ (n : ℤ). Some (with_rest (signed_decimal n) rest)) w.of_dead_end rest)
+
+-- what stands behind the weights of an atom
 abbrev pub atom_rest : NamedAtom → List ℕ
 atom_rest a = codes "(" ++ a.predicate ++ flat_map after_blank a.objects ++ codes ")"
 
 abbrev pub line_rest : TextLine → List ℕ
-line_rest version = codes "1"
+line_rest (version v) = decimal (version_number v)
 line_rest (claims claim) = claim_rest claim
-line_rest (constant k) = signed_decimal k
-line_rest (atom a) = with_rest (signed_decimal a.weight) (Some (atom_rest a.atom))
-line_rest (listed l) =
-    option_map_or (λ (rest : ℕ). decimal l.cost ++ after_blank (decimal rest)) l.cut (decimal l.cost)
-    ++ flat_map (λ (number : ℕ). after_blank (decimal number)) l.atoms
+line_rest (constant k) = with_weights k None
+line_rest (atom a) = with_weights a.weights (Some (atom_rest a.atom))
+line_rest (listed l) = mark_rest l.mark l.cost ++ flat_map (λ (number : ℕ). after_blank (decimal number)) l.atoms
 line_rest (last count) = decimal count
 
 -- these words, each behind a blank, and then the rest, if any: all but the first blank
@@ -79,7 +93,7 @@ abbrev pub is_no_capital : ℕ → Bool
 is_no_capital byte = not (is_ascii_uppercase byte)
 
 -- the line begins with this word, behind which these bytes stand, and keeps the limits
-pub record IsReadAs (word rest : List ℕ) (atom_count : ℕ) (line : TextLine) : Type 0 where
+pub record IsReadAs (word rest : List ℕ) (v : Version) (atom_count : ℕ) (line : TextLine) : Type 0 where
   pub head : line_head line ≡ word
   pub behind : line_rest line ≡ rest
-  pub within : IsTrue (is_line atom_count line)
+  pub within : IsTrue (is_line v atom_count line)

@@ -17,8 +17,8 @@ mod waiting;
 
 pub use laws::texts_are_certificates_one_for_one;
 pub use line::{
-    CertLine, Claim, LONGEST_LINE, MAX_ATOMS, MAX_STATE_LINES, MAX_WEIGHT, NUMBER_LIMIT, NamedAtom,
-    StateLine,
+    CertLine, Claim, LONGEST_LINE, MAX_ATOMS, MAX_STATE_LINES, MAX_WEIGHT, Mark, NUMBER_LIMIT,
+    NamedAtom, StateLine, Version, Weights,
 };
 pub use next::TextFault;
 pub use reader::{CertFault, CertReader};

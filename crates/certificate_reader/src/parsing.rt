@@ -1,18 +1,19 @@
 //! A line of a certificate's text, read.
 ghost use Rattle.std.specs.Prelude.{◌≡◌, ◌≢◌, ℕ, ◌≤◌, ◌++◌, codes, Err, IfNone, IfOk, IfSome, IsTrue, List, Some, length};
 ghost use Rattle.std.specs.Fmt.{decimal};
+ghost use Rattle.certificate_definitions.specs.Certificates as certificates;
 ghost use Rattle.certificate_definitions.specs.Certificates.{is_number};
 ghost use Rattle.certificate_definitions.specs.CertificateText.{TextLine, is_line, line_text, listed, longest_line, most_atoms};
-ghost use Rattle.certificate_reader.specs.Lines.{line_of, named_atom_of, text_line_of};
+ghost use Rattle.certificate_reader.specs.Lines.{line_of, named_atom_of, text_line_of, version_of};
 ghost use Rattle.certificate_definitions.specs.CertificateText as text;
 ghost use Rattle.certificate_reader.specs.Parsing.{IsParsed, IsParsedBehind};
 ghost use Rattle.certificate_reader.specs.Words.{IsReadAs, are_lower, atom_rest, with_rest};
 
 use crate::first_word::{first_word, is};
-use crate::line::{CertLine, NamedAtom, StateLine};
+use crate::line::{CertLine, Mark, NamedAtom, StateLine, Version};
 use crate::lower_names::{copy, is_lower_name, names};
-use crate::number::{number, weight};
-use crate::parts::{claim, numbered};
+use crate::number::number;
+use crate::parts::{claim, numbered, weights};
 use std::alloc::{AllocError, Global};
 
 /// Why bytes are not read as a line.
@@ -39,21 +40,26 @@ impl From<AllocError> for LineFault {
     }
 }
 
-/// The line that these bytes are, without an LF, where so many atoms are named by their numbers.
+/// The line that these bytes are, without an LF, in a text of this version, where so many atoms are named by their numbers.
 ///
 /// # Errors
-/// [`LineFault::OtherVersion`] for `pddl-cert N` where N is not 1; [`LineFault::Malformed`] for all else that is no line;
+/// [`LineFault::OtherVersion`] for `pddl-cert N` where N is neither 1 nor 2; [`LineFault::Malformed`] for all else that is no line;
 /// [`LineFault::NoMemory`] where memory is refused.
-pub(crate) fn parse(alloc: Global, bytes: &[u8], atom_count: usize) -> Result<CertLine, LineFault>
+pub(crate) fn parse(
+    alloc: Global,
+    bytes: &[u8],
+    version: Version,
+    atom_count: usize,
+) -> Result<CertLine, LineFault>
     requires few { atom_count ≤ most_atoms }
     requires short { length bytes.now ≤ longest_line }
-    ensures { IsParsed bytes.now atom_count result }
+    ensures { IsParsed bytes.now (version_of version) atom_count result }
 {
     let (word, behind) = first_word(bytes);
     let Some(rest) = behind else {
         return Err(LineFault::Malformed);
     };
-    parse_behind(alloc, word, rest, atom_count)
+    parse_behind(alloc, word, rest, version, atom_count)
 }
 
 /// The line that begins with this word, behind which the rest stands.
@@ -61,11 +67,12 @@ fn parse_behind(
     alloc: Global,
     word: &[u8],
     rest: &[u8],
+    version: Version,
     atom_count: usize,
 ) -> Result<CertLine, LineFault>
     requires few { atom_count ≤ most_atoms }
     requires short { length (with_rest word.now (Some rest.now)) ≤ longest_line }
-    ensures { IsParsedBehind word.now rest.now atom_count result }
+    ensures { IsParsedBehind word.now rest.now (version_of version) atom_count result }
 {
     if is(word, b"open") {
         return open_line(alloc, rest, atom_count);
@@ -73,8 +80,11 @@ fn parse_behind(
     if is(word, b"cut") {
         return cut_line(alloc, rest, atom_count);
     }
+    if is(word, b"dead") {
+        return dead_line(alloc, rest, version, atom_count);
+    }
     if is(word, b"atom") {
-        return atom_line(alloc, rest);
+        return atom_line(alloc, rest, version);
     }
     if is(word, b"end") {
         return last_line(rest);
@@ -83,7 +93,7 @@ fn parse_behind(
         return claim_line(rest);
     }
     if is(word, b"constant") {
-        return constant_line(rest);
+        return constant_line(rest, version);
     }
     if is(word, b"pddl-cert") {
         return head_line(rest);
@@ -93,10 +103,11 @@ fn parse_behind(
 
 /// The first line, of which the rest stands behind `pddl-cert`.
 fn head_line(rest: &[u8]) -> Result<CertLine, LineFault>
-    ensures { (atom_count : ℕ) → IsParsedBehind (codes "pddl-cert") rest.now atom_count result }
+    ensures { (v : certificates.Version) (atom_count : ℕ) → IsParsedBehind (codes "pddl-cert") rest.now v atom_count result }
 {
     match number(rest) {
-        Some(1) => Ok(CertLine::Head),
+        Some(1) => Ok(CertLine::Version(Version::One)),
+        Some(2) => Ok(CertLine::Version(Version::Two)),
         Some(_) => Err(LineFault::OtherVersion),
         None => Err(LineFault::Malformed),
     }
@@ -104,7 +115,7 @@ fn head_line(rest: &[u8]) -> Result<CertLine, LineFault>
 
 /// The line of the claim that stands behind `claim`.
 fn claim_line(rest: &[u8]) -> Result<CertLine, LineFault>
-    ensures { (atom_count : ℕ) → IsParsedBehind (codes "claim") rest.now atom_count result }
+    ensures { (v : certificates.Version) (atom_count : ℕ) → IsParsedBehind (codes "claim") rest.now v atom_count result }
 {
     match claim(rest) {
         Some(claim) => Ok(CertLine::Claim(claim)),
@@ -112,19 +123,22 @@ fn claim_line(rest: &[u8]) -> Result<CertLine, LineFault>
     }
 }
 
-/// The line of the constant that stands behind `constant`.
-fn constant_line(rest: &[u8]) -> Result<CertLine, LineFault>
-    ensures { (atom_count : ℕ) → IsParsedBehind (codes "constant") rest.now atom_count result }
+/// The line of the constants that stand behind `constant`.
+fn constant_line(rest: &[u8], version: Version) -> Result<CertLine, LineFault>
+    ensures { (atom_count : ℕ) → IsParsedBehind (codes "constant") rest.now (version_of version) atom_count result }
 {
-    match weight(rest) {
-        Some(constant) => Ok(CertLine::Constant(constant)),
-        None => Err(LineFault::Malformed),
+    let Some((constants, behind)) = weights(rest, version) else {
+        return Err(LineFault::Malformed);
+    };
+    match behind {
+        None => Ok(CertLine::Constants(constants)),
+        Some(_) => Err(LineFault::Malformed),
     }
 }
 
 /// The last line, whose count stands behind `end`.
 fn last_line(rest: &[u8]) -> Result<CertLine, LineFault>
-    ensures { (atom_count : ℕ) → IsParsedBehind (codes "end") rest.now atom_count result }
+    ensures { (v : certificates.Version) (atom_count : ℕ) → IsParsedBehind (codes "end") rest.now v atom_count result }
 {
     match number(rest) {
         Some(count) => Ok(CertLine::Last { count }),
@@ -132,20 +146,19 @@ fn last_line(rest: &[u8]) -> Result<CertLine, LineFault>
     }
 }
 
-/// The line of the atom, with its weight, that stands behind `atom`.
-fn atom_line(alloc: Global, rest: &[u8]) -> Result<CertLine, LineFault>
+/// The line of the atom, with its weights, that stands behind `atom`.
+fn atom_line(alloc: Global, rest: &[u8], version: Version) -> Result<CertLine, LineFault>
     requires short { length (with_rest (codes "atom") (Some rest.now)) ≤ longest_line }
-    ensures { (atom_count : ℕ) → IsParsedBehind (codes "atom") rest.now atom_count result }
+    ensures { (atom_count : ℕ) → IsParsedBehind (codes "atom") rest.now (version_of version) atom_count result }
 {
-    let (word, behind) = first_word(rest);
-    let Some(weight) = weight(word) else {
+    let Some((weights, behind)) = weights(rest, version) else {
         return Err(LineFault::Malformed);
     };
     let Some(behind) = behind else {
         return Err(LineFault::Malformed);
     };
     match named_atom(alloc, behind)? {
-        Some(atom) => Ok(CertLine::Weight { weight, atom }),
+        Some(atom) => Ok(CertLine::Weight { weights, atom }),
         None => Err(LineFault::Malformed),
     }
 }
@@ -153,7 +166,7 @@ fn atom_line(alloc: Global, rest: &[u8]) -> Result<CertLine, LineFault>
 /// The line of the open state that stands behind `open`.
 fn open_line(alloc: Global, rest: &[u8], atom_count: usize) -> Result<CertLine, LineFault>
     requires few { atom_count ≤ most_atoms }
-    ensures { IsParsedBehind (codes "open") rest.now atom_count result }
+    ensures { (v : certificates.Version) → IsParsedBehind (codes "open") rest.now v atom_count result }
 {
     match open(alloc, rest, atom_count)? {
         Some(line) => Ok(CertLine::Listed(line)),
@@ -164,9 +177,25 @@ fn open_line(alloc: Global, rest: &[u8], atom_count: usize) -> Result<CertLine, 
 /// The line of the cut that stands behind `cut`.
 fn cut_line(alloc: Global, rest: &[u8], atom_count: usize) -> Result<CertLine, LineFault>
     requires few { atom_count ≤ most_atoms }
-    ensures { IsParsedBehind (codes "cut") rest.now atom_count result }
+    ensures { (v : certificates.Version) → IsParsedBehind (codes "cut") rest.now v atom_count result }
 {
     match cut(alloc, rest, atom_count)? {
+        Some(line) => Ok(CertLine::Listed(line)),
+        None => Err(LineFault::Malformed),
+    }
+}
+
+/// The line of the dead end that stands behind `dead`.
+fn dead_line(
+    alloc: Global,
+    rest: &[u8],
+    version: Version,
+    atom_count: usize,
+) -> Result<CertLine, LineFault>
+    requires few { atom_count ≤ most_atoms }
+    ensures { IsParsedBehind (codes "dead") rest.now (version_of version) atom_count result }
+{
+    match dead(alloc, rest, version, atom_count)? {
         Some(line) => Ok(CertLine::Listed(line)),
         None => Err(LineFault::Malformed),
     }
@@ -175,13 +204,13 @@ fn cut_line(alloc: Global, rest: &[u8], atom_count: usize) -> Result<CertLine, L
 /// The open state that stands behind `open`, and `None` where none does.
 fn open(alloc: Global, rest: &[u8], atom_count: usize) -> Result<Option<StateLine>, AllocError>
     requires few { atom_count ≤ most_atoms }
-    ensures some { IfOk result (λ found. IfSome found (λ l. IsReadAs (codes "open") rest.now atom_count (listed (line_of l)))) }
-    ensures none { IfOk result (λ found. IfNone found ((line : TextLine) → IsReadAs (codes "open") rest.now atom_count line → ⊥)) }
+    ensures some { IfOk result (λ found. IfSome found (λ l. (v : certificates.Version) → IsReadAs (codes "open") rest.now v atom_count (listed (line_of l)))) }
+    ensures none { IfOk result (λ found. IfNone found ((v : certificates.Version) (line : TextLine) → IsReadAs (codes "open") rest.now v atom_count line → ⊥)) }
 {
     match numbered(alloc, rest, atom_count)? {
         Some((cost, atoms)) => Ok(Some(StateLine {
             cost,
-            cut: None,
+            mark: Mark::Open,
             atoms,
         })),
         None => Ok(None),
@@ -191,8 +220,8 @@ fn open(alloc: Global, rest: &[u8], atom_count: usize) -> Result<Option<StateLin
 /// The cut that stands behind `cut`, and `None` where none does.
 fn cut(alloc: Global, rest: &[u8], atom_count: usize) -> Result<Option<StateLine>, AllocError>
     requires few { atom_count ≤ most_atoms }
-    ensures some { IfOk result (λ found. IfSome found (λ l. IsReadAs (codes "cut") rest.now atom_count (listed (line_of l)))) }
-    ensures none { IfOk result (λ found. IfNone found ((line : TextLine) → IsReadAs (codes "cut") rest.now atom_count line → ⊥)) }
+    ensures some { IfOk result (λ found. IfSome found (λ l. (v : certificates.Version) → IsReadAs (codes "cut") rest.now v atom_count (listed (line_of l)))) }
+    ensures none { IfOk result (λ found. IfNone found ((v : certificates.Version) (line : TextLine) → IsReadAs (codes "cut") rest.now v atom_count line → ⊥)) }
 {
     let (word, behind) = first_word(rest);
     let Some(cost) = number(word) else {
@@ -204,14 +233,38 @@ fn cut(alloc: Global, rest: &[u8], atom_count: usize) -> Result<Option<StateLine
     match numbered(alloc, behind, atom_count)? {
         Some((least, atoms)) => Ok(Some(StateLine {
             cost,
-            cut: Some(least),
+            mark: Mark::Cut { rest: least },
             atoms,
         })),
         None => Ok(None),
     }
 }
 
-/// The atom that stands behind a weight, and `None` where none does.
+/// The dead end that stands behind `dead`, and `None` where none does, as never in version 1.
+fn dead(
+    alloc: Global,
+    rest: &[u8],
+    version: Version,
+    atom_count: usize,
+) -> Result<Option<StateLine>, AllocError>
+    requires few { atom_count ≤ most_atoms }
+    ensures some { IfOk result (λ found. IfSome found (λ l. IsReadAs (codes "dead") rest.now (version_of version) atom_count (listed (line_of l)))) }
+    ensures none { IfOk result (λ found. IfNone found ((line : TextLine) → IsReadAs (codes "dead") rest.now (version_of version) atom_count line → ⊥)) }
+{
+    if let Version::One = version {
+        return Ok(None);
+    }
+    match numbered(alloc, rest, atom_count)? {
+        Some((cost, atoms)) => Ok(Some(StateLine {
+            cost,
+            mark: Mark::Dead,
+            atoms,
+        })),
+        None => Ok(None),
+    }
+}
+
+/// The atom that stands behind the weights, and `None` where none does.
 fn named_atom(alloc: Global, rest: &[u8]) -> Result<Option<NamedAtom>, AllocError>
     ensures some { IfOk result (λ found. IfSome found (λ a. IsTrue (are_lower (named_atom_of a)) × (atom_rest (named_atom_of a) ≡ rest.now))) }
     ensures none { IfOk result (λ found. IfNone found ((a : text.NamedAtom) → IsTrue (are_lower a) → atom_rest a ≢ rest.now)) }

@@ -1,16 +1,17 @@
 //! What stands behind the first word of a line.
-ghost use Rattle.std.specs.Prelude.{◌≡◌, ◌≢◌, ℕ, ◌≤◌, ◌<◌, Err, IfNone, IfOk, IfSome, IsTrue, List, None, OnOk, codes, map};
-ghost use Rattle.std.specs.Fmt.{decimal};
+ghost use Rattle.std.specs.Prelude.{◌≡◌, ◌≢◌, ℕ, ℤ, ◌≤◌, ◌<◌, Err, IfNone, IfOk, IfSome, IsTrue, List, None, OnOk, Option, Some, codes, map};
+ghost use Rattle.std.specs.Fmt.{decimal, signed_decimal};
 ghost use Rattle.std.specs.List.{list_all};
 ghost use Rattle.model.specs.Claims as model;
-ghost use Rattle.certificate_definitions.specs.Certificates.{is_claim, is_number, rise};
-ghost use Rattle.certificate_definitions.specs.CertificateText.{most_atoms};
-ghost use Rattle.certificate_reader.specs.Lines.{claim_of};
-ghost use Rattle.certificate_reader.specs.Words.{IsNumbered, claim_rest, text_in, then_words};
+ghost use Rattle.certificate_definitions.specs.Certificates.{is_claim, is_number, is_weight, rise};
+ghost use Rattle.certificate_definitions.specs.CertificateText as text;
+ghost use Rattle.certificate_definitions.specs.CertificateText.{are_weights, most_atoms};
+ghost use Rattle.certificate_reader.specs.Lines.{claim_of, version_of, weights_of};
+ghost use Rattle.certificate_reader.specs.Words.{IsNumbered, claim_rest, text_in, then_words, with_rest, with_weights};
 
 use crate::first_word::{first_word, is};
-use crate::line::Claim;
-use crate::number::number;
+use crate::line::{Claim, Version, Weights};
+use crate::number::{number, weight};
 use std::alloc::{AllocError, Global};
 
 /// The claim that the bytes are, and `None` where they are none.
@@ -33,6 +34,52 @@ pub(crate) fn claim(rest: &[u8]) -> Option<Claim>
         Some(least) => Some(Claim::Bound(least)),
         None => None,
     }
+}
+
+/// The constants, or the weights of an atom, that the bytes begin with, and what stands behind them; `None` where they begin
+/// with none. In version 1 there is one, in version 2 there are two.
+pub(crate) fn weights(bytes: &[u8], version: Version) -> Option<(Weights, Option<&[u8]>)>
+    ensures some { IfSome result (λ read. IsTrue (are_weights (version_of version) (weights_of read.0))
+        × (with_weights (weights_of read.0) (text_in read.1) ≡ bytes.now)) }
+    ensures none { IfNone result ((w : text.Weights) (rest : Option (List ℕ)) → IsTrue (are_weights (version_of version) w)
+        → with_weights w rest ≢ bytes.now) }
+{
+    let (word, behind) = first_word(bytes);
+    let Some(of_value) = weight(word) else {
+        return None;
+    };
+    match version {
+        Version::One => Some((
+            Weights {
+                of_value,
+                of_dead_end: None,
+            },
+            behind,
+        )),
+        Version::Two => two_weights(of_value, behind),
+    }
+}
+
+/// This weight and one behind it, with what stands behind that; `None` where there is none behind it.
+fn two_weights(of_value: i64, behind: Option<&[u8]>) -> Option<(Weights, Option<&[u8]>)>
+    ensures some { IfSome result (λ read. (n : ℤ) × (weights_of read.0 ≡ record { of_value = of_value; of_dead_end = Some n }) × IsTrue (is_weight n)
+        × (Some (with_rest (signed_decimal n) (text_in read.1)) ≡ text_in behind.entry)) }
+    ensures none { IfNone result ((n : ℤ) (rest : Option (List ℕ)) → IsTrue (is_weight n) → Some (with_rest (signed_decimal n) rest) ≢ text_in behind.entry) }
+{
+    let Some(bytes) = behind else {
+        return None;
+    };
+    let (word, rest) = first_word(bytes);
+    let Some(of_dead_end) = weight(word) else {
+        return None;
+    };
+    Some((
+        Weights {
+            of_value,
+            of_dead_end: Some(of_dead_end),
+        },
+        rest,
+    ))
 }
 
 /// A number and, behind it, numbers of atoms, rising, and `None` where something else stands there.

@@ -2,10 +2,10 @@
 ghost use Rattle.std.specs.Prelude.{◌≡◌, ℕ, ◌≤◌, IsTrue, length};
 ghost use Rattle.certificate_definitions.specs.CertificateText.{WeightedAtom, atom, is_line, longest_line};
 ghost use Rattle.certificate_definitions.specs.CertificateMachine.{in_body};
-ghost use Rattle.certificate_reader.specs.Lines.{text_line_of};
-ghost use Rattle.certificate_reader.specs.Stages.{IsReadAt, IsStep, IsWithin, atoms_at, place_of};
+ghost use Rattle.certificate_reader.specs.Lines.{text_line_of, version_of};
+ghost use Rattle.certificate_reader.specs.Stages.{IsReadAt, IsStep, IsWithin, atoms_at, place_of, version_at};
 
-use crate::line::{CertLine, MAX_ATOMS, MAX_STATE_LINES};
+use crate::line::{CertLine, MAX_ATOMS, MAX_STATE_LINES, Version};
 use crate::parsing::{LineFault, parse};
 use std::alloc::Global;
 
@@ -14,12 +14,14 @@ use std::alloc::Global;
 pub(crate) enum Stage {
     /// The version.
     Version,
-    /// The claim.
-    Claim,
-    /// The constant.
-    Constant,
+    /// The claim, in a text of this version.
+    Claim(Version),
+    /// The constants.
+    Constants(Version),
     /// An atom, where there was no state yet, or a state, or the last line.
     Body {
+        /// The version of the text.
+        version: Version,
         /// How many atoms there were.
         atoms: usize,
         /// How many states there were.
@@ -41,6 +43,18 @@ pub(crate) enum Step {
 }
 
 impl Stage {
+    /// The version of the text. Where it is not known yet, and where no line comes any more, any will do.
+    pub(crate) fn version(self) -> Version
+        ensures { version_of result ≡ version_at (place_of self) }
+    {
+        match self {
+            Stage::Claim(version) => version,
+            Stage::Constants(version) => version,
+            Stage::Body { version, .. } => version,
+            _ => Version::One,
+        }
+    }
+
     /// How many atoms there were.
     pub(crate) fn atoms(self) -> usize
         ensures { result ≡ atoms_at (place_of self) }
@@ -54,44 +68,50 @@ impl Stage {
     /// What comes of this line.
     pub(crate) fn after(self, line: &CertLine) -> Step
         requires within { IsWithin (place_of self) }
-        requires line { IsTrue (is_line (atoms_at (place_of self)) (text_line_of line.now)) }
+        requires line { IsTrue (is_line (version_at (place_of self)) (atoms_at (place_of self)) (text_line_of line.now)) }
         ensures { IsStep (place_of self) (text_line_of line.now) result }
     {
         match self {
             Stage::Version => match line {
-                CertLine::Head => Step::Next(Stage::Claim),
+                CertLine::Version(version) => Step::Next(Stage::Claim(*version)),
                 _ => Step::Misplaced,
             },
-            Stage::Claim => match line {
-                CertLine::Claim(_) => Step::Next(Stage::Constant),
+            Stage::Claim(version) => match line {
+                CertLine::Claim(_) => Step::Next(Stage::Constants(version)),
                 _ => Step::Misplaced,
             },
-            Stage::Constant => match line {
-                CertLine::Constant(_) => Step::Next(Stage::Body {
+            Stage::Constants(version) => match line {
+                CertLine::Constants(_) => Step::Next(Stage::Body {
+                    version,
                     atoms: 0,
                     states: 0,
                 }),
                 _ => Step::Misplaced,
             },
-            Stage::Body { atoms, states } => after_body(atoms, states, line),
+            Stage::Body {
+                version,
+                atoms,
+                states,
+            } => after_body(version, atoms, states, line),
             Stage::Ended => Step::Misplaced,
         }
     }
 }
 
 /// What comes of this line behind so many atoms and states.
-fn after_body(atoms: usize, states: usize, line: &CertLine) -> Step
-    requires within { IsWithin (in_body atoms states) }
-    requires line { IsTrue (is_line atoms (text_line_of line.now)) }
-    ensures { IsStep (in_body atoms states) (text_line_of line.now) result }
+fn after_body(version: Version, atoms: usize, states: usize, line: &CertLine) -> Step
+    requires within { IsWithin (in_body (version_of version) atoms states) }
+    requires line { IsTrue (is_line (version_of version) atoms (text_line_of line.now)) }
+    ensures { IsStep (in_body (version_of version) atoms states) (text_line_of line.now) result }
 {
     match line {
-        CertLine::Weight { .. } => after_atom(atoms, states),
+        CertLine::Weight { .. } => after_atom(version, atoms, states),
         CertLine::Listed(_) => {
             if states >= MAX_STATE_LINES {
                 return Step::TooMany;
             }
             Step::Next(Stage::Body {
+                version,
                 atoms,
                 states: states + 1,
             })
@@ -108,9 +128,9 @@ fn after_body(atoms: usize, states: usize, line: &CertLine) -> Step
 }
 
 /// What comes of an atom behind so many atoms and states.
-fn after_atom(atoms: usize, states: usize) -> Step
-    requires within { IsWithin (in_body atoms states) }
-    ensures { (a : WeightedAtom) → IsTrue (is_line atoms (atom a)) → IsStep (in_body atoms states) (atom a) result }
+fn after_atom(version: Version, atoms: usize, states: usize) -> Step
+    requires within { IsWithin (in_body (version_of version) atoms states) }
+    ensures { (a : WeightedAtom) → IsTrue (is_line (version_of version) atoms (atom a)) → IsStep (in_body (version_of version) atoms states) (atom a) result }
 {
     if states > 0 {
         return Step::Misplaced;
@@ -119,6 +139,7 @@ fn after_atom(atoms: usize, states: usize) -> Step
         return Step::TooMany;
     }
     Step::Next(Stage::Body {
+        version,
         atoms: atoms + 1,
         states,
     })
@@ -134,7 +155,7 @@ pub(crate) fn read_line(
     requires short { length bytes.now ≤ longest_line }
     ensures { IsReadAt (place_of stage) bytes.now result }
 {
-    match parse(alloc, bytes, stage.atoms()) {
+    match parse(alloc, bytes, stage.version(), stage.atoms()) {
         Ok(line) => match stage.after(&line) {
             Step::Next(next) => Ok((line, next)),
             Step::TooMany => Err(LineFault::TooMany),

@@ -95,14 +95,33 @@ pub record IsFairAtGoals (task : Task) (atoms : List Atom) (p : PotentialFunctio
 
 -- ---- fair potential functions
 
--- each kept instance is fair at its cost, and so are the goals
-pub record AreFair (task : Task) (atoms : List Atom) (p : PotentialFunction) : Type 0 where
-  pub instances : All (λ (i : Instance). IsFairAt (cost_of task i) task atoms p.weights i) (kept_instances task)
+-- each kept instance is fair at its allowance, and so are the goals
+pub record AreFairAt (allowance : Instance → ℕ) (task : Task) (atoms : List Atom) (p : PotentialFunction) : Type 0 where
+  pub instances : All (λ (i : Instance). IsFairAt (allowance i) task atoms p.weights i) (kept_instances task)
   pub goals : IsFairAtGoals task atoms p
 
--- the instance of this number is the first that is not fair
-pub record IsFirstUnfair (task : Task) (atoms : List Atom) (p : PotentialFunction) (number : ℕ) : Type 0 where
+-- fair: no kept instance makes the sum of weights fall by more than it costs
+abbrev pub AreFair : Task → List Atom → PotentialFunction → Type 0
+AreFair task = AreFairAt (cost_of task) task
+
+-- nothing is allowed to an instance, whatever it costs
+abbrev pub nothing : Instance → ℕ
+nothing i = 0
+
+-- dead-fair: no kept instance makes the sum of weights fall at all
+abbrev pub AreDeadFair : Task → List Atom → PotentialFunction → Type 0
+AreDeadFair = AreFairAt nothing
+
+-- the instance of this number is the first that is not fair at its allowance
+pub record IsFirstUnfairAt (allowance : Instance → ℕ) (task : Task) (atoms : List Atom) (p : PotentialFunction) (number : ℕ) : Type 0 where
   pub instance : Instance
   pub named : slice_get (kept_instances task) number ≡ Some instance
-  pub unfair : ¬ IsFairAt (cost_of task instance) task atoms p.weights instance
-  pub earlier : (n : ℕ) (i : Instance) → n < number → slice_get (kept_instances task) n ≡ Some i → IsFairAt (cost_of task i) task atoms p.weights i
+  pub unfair : ¬ IsFairAt (allowance instance) task atoms p.weights instance
+  pub earlier : (n : ℕ) (i : Instance) → n < number → slice_get (kept_instances task) n ≡ Some i → IsFairAt (allowance i) task atoms p.weights i
+
+-- the first that may make the sum of weights fall by more than it costs, and the first that may make it fall at all
+abbrev pub IsFirstUnfair : Task → List Atom → PotentialFunction → ℕ → Type 0
+IsFirstUnfair task = IsFirstUnfairAt (cost_of task) task
+
+abbrev pub IsFirstDeadUnfair : Task → List Atom → PotentialFunction → ℕ → Type 0
+IsFirstDeadUnfair = IsFirstUnfairAt nothing

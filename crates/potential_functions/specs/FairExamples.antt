@@ -1,4 +1,4 @@
--- Worked examples of potential functions: what an instance may lose by one atom, what is left at a goal, values, and three
+-- Worked examples of potential functions: what an instance may lose by one atom, what is left at a goal, values, and four
 -- small tasks. Each is chosen so that a wrong reading says otherwise.
 use Rattle.std.specs.Prelude.{◌≡◌, ℕ, true, false, ℤ, pos, neg_ℤ, List, [], ◌∷◌, codes, All}
 use Rattle.model.specs.Task.{Atom, variable, object, atom, and, not, forall, add, when, by_number, Schema, Task, Instance}
@@ -8,8 +8,8 @@ use Rattle.model.specs.NumberedLiterals.{NumberedLiteral, NumberedChange}
 use Rattle.model.specs.Examples.{formulas, lifted, ground, instance, root, untyped, any, fact, adds, deletes, all}
 use Rattle.model.specs.GroundingExamples.{value, becomes}
 use Rattle.potential_functions.specs.PotentialFunctions as potential
-use Rattle.potential_functions.specs.PotentialFunctions.{PotentialFunction}
-use Rattle.potential_functions.specs.Fair.{loses_at_most, instance_loses, IsFairAt, goal_gives_at_most, IsFairAtGoals, AreFair, IsFirstUnfair}
+use Rattle.potential_functions.specs.PotentialFunctions.{PotentialFunction, is_dead_by}
+use Rattle.potential_functions.specs.Fair.{loses_at_most, instance_loses, IsFairAt, goal_gives_at_most, IsFairAtGoals, AreFair, nothing, AreDeadFair, IsFirstUnfair, IsFirstDeadUnfair}
 use Rattle.potential_functions.specs.Settled.{initial_value}
 
 abbrev pub minus : ℕ → ℤ
@@ -145,10 +145,52 @@ lamps_task = record {
 abbrev pub lamps_atoms : List Atom
 lamps_atoms = ground 0 (0 ∷ []) ∷ ground 0 (1 ∷ []) ∷ []
 
--- the instances are fair, and the goals are not
-pub record IsUnfairAtGoals (task : Task) (atoms : List Atom) (p : PotentialFunction) : Type 0 where
-  pub instances : All (λ (i : Instance). IsFairAt (cost_of task i) task atoms p.weights i) (kept_instances task)
+-- ---- a token that is here or there
+
+-- (define (domain token) (:predicates (x) (y))
+--  (:action fore :parameters () :precondition (x) :effect (and (not (x)) (y)))
+--  (:action back :parameters () :precondition (y) :effect (and (not (y)) (x))))
+-- (define (problem t) (:domain token) (:init (x)) (:goal (and (x) (y))))
+abbrev pub moves : List ℕ → ℕ → ℕ → Schema
+moves name from to = record {
+  name = name;
+  parameters = [];
+  precondition = atom (lifted from []);
+  effect = all (deletes (lifted from []) ∷ adds (lifted to []) ∷ []);
+  increase = by_number 0;
+}
+
+abbrev pub token_task : Task
+token_task = record {
+  types = root ∷ [];
+  objects = [];
+  predicates = fact (codes "x") ∷ fact (codes "y") ∷ [];
+  functions = [];
+  schemas = moves (codes "fore") 0 1 ∷ moves (codes "back") 1 0 ∷ [];
+  init = ground 0 [] ∷ [];
+  values = [];
+  goal = and (formulas (atom (lifted 0 []) ∷ atom (lifted 1 []) ∷ []));
+  has_metric = false;
+}
+
+-- (x) and (y)
+abbrev pub token_atoms : List Atom
+token_atoms = ground 0 [] ∷ ground 1 [] ∷ []
+
+-- one token is missing at the goal
+abbrev pub one_missing : PotentialFunction
+one_missing = potentials (pos 2) (minus 1 ∷ minus 1 ∷ [])
+
+-- the instances are fair at their allowances, and the goals are not
+pub record IsUnfairAtGoalsAt (allowance : Instance → ℕ) (task : Task) (atoms : List Atom) (p : PotentialFunction) : Type 0 where
+  pub instances : All (λ (i : Instance). IsFairAt (allowance i) task atoms p.weights i) (kept_instances task)
   pub goals : ¬ IsFairAtGoals task atoms p
+
+abbrev pub IsUnfairAtGoals : Task → List Atom → PotentialFunction → Type 0
+IsUnfairAtGoals task = IsUnfairAtGoalsAt (cost_of task) task
+
+abbrev pub IsDeadUnfairAtGoals : Task → List Atom → PotentialFunction → Type 0
+IsDeadUnfairAtGoals = IsUnfairAtGoalsAt nothing
 
 pub record AreJudged : Type 0 where
   -- An add makes the atom true, whatever it was; where it was true before, nothing is lost and nothing won.
@@ -215,3 +257,16 @@ pub record AreJudged : Type 0 where
   -- Each lamp is worth its flip.
   pub lamps_are_fair : AreFair lamps_task lamps_atoms (potentials (pos 2) (minus 1 ∷ minus 1 ∷ []))
   pub lamps_begin_at : initial_value lamps_task lamps_atoms (potentials (pos 2) (minus 1 ∷ minus 1 ∷ [])) ≡ 2
+  -- The token is here or there, never both: neither step makes the sum fall, and from the start, whose value is 1, no list
+  -- leads to the goal.
+  pub token_is_dead_fair : AreDeadFair token_task token_atoms one_missing
+  pub token_begins_at : initial_value token_task token_atoms one_missing ≡ 1
+  pub token_begins_dead : is_dead_by one_missing (true ∷ false ∷ []) ≡ true
+  pub token_never_there : is_dead_by one_missing (false ∷ false ∷ []) ≡ true
+  pub both_is_not_dead : is_dead_by one_missing (true ∷ true ∷ []) ≡ false
+  pub dead_constant_too_high : IsDeadUnfairAtGoals token_task token_atoms (potentials (pos 3) (minus 1 ∷ minus 1 ∷ []))
+  -- Where (y) weighs more, `fore` may make the sum fall by 1, as it costs: that is fair, and not dead-fair.
+  pub fore_costs_one : AreFair token_task token_atoms (potentials (pos 2) (minus 1 ∷ minus 2 ∷ []))
+  pub fore_is_dead_unfair : IsFirstDeadUnfair token_task token_atoms (potentials (pos 2) (minus 1 ∷ minus 2 ∷ [])) 0
+  -- What an instance costs counts for nothing there: hops are fair, and the first is not dead-fair.
+  pub hops_are_not_dead_fair : IsFirstDeadUnfair hop_task hop_atoms (potentials (pos 6) hop_weights) 0

@@ -1,13 +1,14 @@
--- What fair potential functions are for: their value is a lower bound of what is still to pay.
-use Rattle.std.specs.Prelude.{◌≡◌, ℕ, ◌+◌, ◌≤◌, Bool, true, IsTrue, List, length, All, Some}
+-- What fair potential functions are for: their value is a lower bound of what is still to pay. And what dead-fair ones are for:
+-- a state whose value is at least 1 is a dead end.
+use Rattle.std.specs.Prelude.{◌≡◌, ℕ, ◌+◌, ◌≤◌, Bool, true, false, IsTrue, List, length, All, Some}
 use Rattle.model.specs.Task.{Atom, Task, Instance}
 use Rattle.model.specs.Runs.{run, cost_of_all}
 use Rattle.model.specs.Meaning.{State, cost_of, step, meets_goal, system_of}
 use Rattle.model.specs.Fluents.{is_fluent, HasInitialStatics}
 use Rattle.model.specs.NumberedAtoms.{are_distinct}
 use Rattle.model.specs.Grounding.{ground_step, ground_system}
-use Rattle.potential_functions.specs.PotentialFunctions.{PotentialFunction, value, value_of_state}
-use Rattle.potential_functions.specs.Fair.{AreFair}
+use Rattle.potential_functions.specs.PotentialFunctions.{PotentialFunction, value, value_of_state, is_dead_by, is_dead_state}
+use Rattle.potential_functions.specs.Fair.{AreFair, AreDeadFair}
 
 -- numbered atoms are fluent, and none has two numbers
 pub record AreNumberable (task : Task) (atoms : List Atom) : Type 0 where
@@ -47,3 +48,46 @@ pub record AreLowerBounds (task : Task) (atoms : List Atom) (p : PotentialFuncti
 
 abbrev pub FairOnesAreLowerBounds : Type 0
 FairOnesAreLowerBounds = (task : Task) (atoms : List Atom) (p : PotentialFunction) → AreNumberable task atoms → AreFair task atoms p → AreLowerBounds task atoms p
+
+-- ---- dead ends
+
+-- No list of instances, of whatever length, runs from a state with the initial static atoms that is told a dead end to one
+-- that meets the goal.
+abbrev pub TellsDeadEndsOf : Task → List Atom → PotentialFunction → Type 0
+TellsDeadEndsOf task atoms p =
+    (state end : State) (plan : List Instance) → HasInitialStatics task state → IsTrue (is_dead_state atoms p state) → run (system_of task) state plan ≡ Some end
+    → meets_goal task end ≡ false
+
+-- the value of such a state never falls, and is 0 where the goal is met
+pub record NeverFalls (task : Task) (atoms : List Atom) (p : PotentialFunction) : Type 0 where
+  pub never_falls : (state next : State) (i : Instance) → HasInitialStatics task state → step task state i ≡ Some next
+      → value_of_state atoms p state ≤ value_of_state atoms p next
+  pub ends : (state : State) → HasInitialStatics task state → IsTrue (meets_goal task state) → value_of_state atoms p state ≡ 0
+
+-- the same of the ground task
+abbrev pub TellsGroundDeadEndsOf : Task → List Atom → PotentialFunction → Type 0
+TellsGroundDeadEndsOf task atoms p =
+    (bits end : List Bool) (plan : List ℕ) → length bits ≡ length atoms → IsTrue (is_dead_by p bits) → run (ground_system task atoms) bits plan ≡ Some end
+    → (ground_system task atoms).meets_goal end ≡ false
+
+pub record NeverFallsInGround (task : Task) (atoms : List Atom) (p : PotentialFunction) : Type 0 where
+  pub never_falls : (bits next : List Bool) (number : ℕ) → length bits ≡ length atoms → ground_step task atoms bits number ≡ Some next
+      → value p bits ≤ value p next
+  pub ends : (bits : List Bool) → length bits ≡ length atoms → IsTrue ((ground_system task atoms).meets_goal bits) → value p bits ≡ 0
+
+-- a packed state that is told a dead end leads only to such, and does not meet the goal
+pub record StaysDeadInGround (task : Task) (atoms : List Atom) (p : PotentialFunction) : Type 0 where
+  pub stays : (bits next : List Bool) (number : ℕ) → length bits ≡ length atoms → IsTrue (is_dead_by p bits) → ground_step task atoms bits number ≡ Some next
+      → IsTrue (is_dead_by p next)
+  pub no_goal : (bits : List Bool) → length bits ≡ length atoms → IsTrue (is_dead_by p bits) → (ground_system task atoms).meets_goal bits ≡ false
+
+-- What dead-fair potential functions do.
+pub record TellDeadEnds (task : Task) (atoms : List Atom) (p : PotentialFunction) : Type 0 where
+  pub dead_ends : TellsDeadEndsOf task atoms p
+  pub consistent : NeverFalls task atoms p
+  pub ground_dead_ends : TellsGroundDeadEndsOf task atoms p
+  pub ground_consistent : NeverFallsInGround task atoms p
+  pub ground_stays : StaysDeadInGround task atoms p
+
+abbrev pub DeadFairOnesTellDeadEnds : Type 0
+DeadFairOnesTellDeadEnds = (task : Task) (atoms : List Atom) (p : PotentialFunction) → AreNumberable task atoms → AreDeadFair task atoms p → TellDeadEnds task atoms p

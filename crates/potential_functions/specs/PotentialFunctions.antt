@@ -1,6 +1,6 @@
 -- Potential functions: a weight for each numbered atom and a constant, which give each state a value (Pommerening, Helmert,
 -- Röger & Seipp 2015, "From Non-Negative to General Operator Cost Partitioning", potential heuristics).
-use Rattle.std.specs.Prelude.{ℕ, zero, suc, Bool, false, if◌then◌else◌, ℤ, pos, negsuc, ◌+ℤ◌, neg_ℤ, ◌≤ℤ◌, List, length, get_or, All}
+use Rattle.std.specs.Prelude.{ℕ, zero, suc, Bool, false, if◌then◌else◌, nat_le, ℤ, pos, negsuc, ◌+ℤ◌, neg_ℤ, ◌≤ℤ◌, List, length, get_or, All}
 use Rattle.model.specs.Task.{Atom}
 use Rattle.model.specs.Meaning.{State}
 use Rattle.model.specs.Grounding.{bits_of_state}
@@ -38,6 +38,16 @@ value p bits = or_zero (score p bits)
 -- the value of a state, where these atoms have numbers: the others have the weight 0
 abbrev pub value_of_state : List Atom → PotentialFunction → State → ℕ
 value_of_state atoms p state = value p (bits_of_state atoms state)
+
+-- ---- dead ends
+
+-- the packed state is told a dead end: its value is at least 1
+abbrev pub is_dead_by : PotentialFunction → List Bool → Bool
+is_dead_by p bits = nat_le 1 (value p bits)
+
+-- the state is told one, where these atoms have numbers
+abbrev pub is_dead_state : List Atom → PotentialFunction → State → Bool
+is_dead_state atoms p state = is_dead_by p (bits_of_state atoms state)
 
 -- ---- the range of constant and weights
 

@@ -1,9 +1,9 @@
--- Settled potential functions: fair ones that no small change makes better.
+-- Settled potential functions: fair ones that no small change makes better. What improving gives, of fair and of dead-fair ones.
 use Rattle.std.specs.Prelude.{◌≡◌, ◌≢◌, ℕ, ◌+◌, ◌≤◌, ◌⊎◌, pos, ◌+ℤ◌, ◌≤ℤ◌, List, length}
 use Rattle.model.specs.Task.{Atom, Task}
 use Rattle.model.specs.Grounding.{ground_system}
 use Rattle.potential_functions.specs.PotentialFunctions.{PotentialFunction, weight, value, AreInRange}
-use Rattle.potential_functions.specs.Fair.{AreFair}
+use Rattle.potential_functions.specs.Fair.{AreFair, AreDeadFair}
 
 -- they differ by at most one in the weight of one atom, and freely in the constant
 pub record AreNear (p q : PotentialFunction) : Type 0 where
@@ -28,3 +28,9 @@ pub record IsImproved (task : Task) (atoms : List Atom) (by : ℕ) (p q : Potent
   pub fair : AreFair task atoms q
   pub no_lower : initial_value task atoms p ≤ initial_value task atoms q
   pub end : IsSettled task atoms q ⊎ (initial_value task atoms p + by ≤ initial_value task atoms q)
+
+-- What improving dead-fair ones gives: dead-fair ones, whose initial value is no lower.
+pub record IsDeadImproved (task : Task) (atoms : List Atom) (p q : PotentialFunction) : Type 0 where
+  pub as_many : length q.weights ≡ length p.weights
+  pub dead_fair : AreDeadFair task atoms q
+  pub no_lower : initial_value task atoms p ≤ initial_value task atoms q

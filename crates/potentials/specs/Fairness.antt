@@ -1,19 +1,41 @@
 -- What is told of potentials.
-use Rattle.std.specs.Prelude.{List, All}
+use Rattle.std.specs.Prelude.{ℕ, List, All}
 use Rattle.model.specs.Task.{Atom, Task, Instance}
 use Rattle.model.specs.Meaning.{cost_of}
 use Rattle.model.specs.ClosedOff.{kept_instances}
 use Rattle.potential_functions.specs.PotentialFunctions.{PotentialFunction}
-use Rattle.potential_functions.specs.Fair.{IsFairAt, IsFairAtGoals, AreFair, IsFirstUnfair}
+use Rattle.potential_functions.specs.Fair.{IsFairAt, IsFairAtGoals, AreFairAt, nothing, IsFirstUnfairAt}
+use Rattle.potentials.specs.declared.fairness.Allowance.{Allowance}
+use Rattle.potentials.specs.declared.fairness.Allowance.TheVariants.{Cost, Nothing}
 use Rattle.potentials.specs.declared.fairness.Fairness.{Fairness}
 use Rattle.potentials.specs.declared.fairness.Fairness.TheVariants.{Fair, Goal}
 use Rattle.potentials.specs.declared.fairness.Fairness.TheVariants as told
 
--- each kept instance is fair at its cost
-abbrev pub AreInstancesFair : Task → List Atom → PotentialFunction → Type 0
-AreInstancesFair task atoms p = All (λ (i : Instance). IsFairAt (cost_of task i) task atoms p.weights i) (kept_instances task)
+-- how much is allowed to an instance of the task
+abbrev pub allowed_by : Allowance → Task → Instance → ℕ
+allowed_by Cost task = cost_of task
+allowed_by Nothing task = nothing
 
+-- each kept instance is fair at its allowance
+abbrev pub AreInstancesFairAt : (Instance → ℕ) → Task → List Atom → PotentialFunction → Type 0
+AreInstancesFairAt allowance task atoms p = All (λ (i : Instance). IsFairAt (allowance i) task atoms p.weights i) (kept_instances task)
+
+-- at its cost; and at nothing
+abbrev pub AreInstancesFair : Task → List Atom → PotentialFunction → Type 0
+AreInstancesFair task = AreInstancesFairAt (cost_of task) task
+
+abbrev pub AreInstancesDeadFair : Task → List Atom → PotentialFunction → Type 0
+AreInstancesDeadFair = AreInstancesFairAt nothing
+
+abbrev pub TellsAt : (Instance → ℕ) → Task → List Atom → PotentialFunction → Fairness → Type 0
+TellsAt allowance task atoms p Fair = AreFairAt allowance task atoms p
+TellsAt allowance task atoms p (told.Instance number) = IsFirstUnfairAt allowance task atoms p number
+TellsAt allowance task atoms p Goal = AreInstancesFairAt allowance task atoms p × (¬ IsFairAtGoals task atoms p)
+
+-- whether they are fair
 abbrev pub Tells : Task → List Atom → PotentialFunction → Fairness → Type 0
-Tells task atoms p Fair = AreFair task atoms p
-Tells task atoms p (told.Instance number) = IsFirstUnfair task atoms p number
-Tells task atoms p Goal = AreInstancesFair task atoms p × (¬ IsFairAtGoals task atoms p)
+Tells task = TellsAt (cost_of task) task
+
+-- whether they are dead-fair
+abbrev pub TellsDead : Task → List Atom → PotentialFunction → Fairness → Type 0
+TellsDead = TellsAt nothing

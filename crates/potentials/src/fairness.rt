@@ -4,9 +4,9 @@ ghost use Rattle.grounding.specs.Ground.{task_in, atoms_in};
 ghost use Rattle.model.specs.Task.{Instance};
 ghost use Rattle.model.specs.Meaning.{cost_of};
 ghost use Rattle.model.specs.ClosedOff.{kept_instances};
-ghost use Rattle.potential_functions.specs.Fair.{IsFairAt, IsFairAtGoals, IsFirstUnfair};
+ghost use Rattle.potential_functions.specs.Fair.{IsFairAt, IsFairAtGoals, IsFirstUnfairAt};
 ghost use Rattle.potentials.specs.Potentials.{potentials_of};
-ghost use Rattle.potentials.specs.Fairness.{AreInstancesFair, Tells};
+ghost use Rattle.potentials.specs.Fairness.{allowed_by, AreInstancesFairAt, TellsAt, Tells, TellsDead};
 
 use crate::goals::goal_gives_at_most;
 use crate::instances::instance_count;
@@ -27,6 +27,15 @@ pub enum Fairness {
     Goal,
 }
 
+/// What an instance is allowed to lose.
+#[derive(Clone, Copy, Debug)]
+enum Allowance {
+    /// What it costs.
+    Cost,
+    /// Nothing at all.
+    Nothing,
+}
+
 impl Potentials {
     /// Whether they are fair for the ground task: no kept instance may lose more than it costs, and at a goal they are at
     /// most 0. There is a weight for each numbered atom.
@@ -34,13 +43,30 @@ impl Potentials {
         requires { length (potentials_of self.now).weights ≡ length (atoms_in ground.now) }
         ensures { IfOk result (Tells (task_in ground.now) (atoms_in ground.now) (potentials_of self.now)) }
     {
-        match self.first_unfair(ground) {
-            Some(number) => Ok(Fairness::Instance(number)),
+        Ok(self.fairness(ground, Allowance::Cost))
+    }
+
+    /// Whether they are dead-fair for the ground task: no kept instance may lose anything, and at a goal they are at most 0.
+    /// So a state of which the value is at least 1 is a dead end. There is a weight for each numbered atom.
+    pub fn dead_fair(&self, _alloc: Global, ground: &Ground<'_>) -> Result<Fairness, NoMemory>
+        requires { length (potentials_of self.now).weights ≡ length (atoms_in ground.now) }
+        ensures { IfOk result (TellsDead (task_in ground.now) (atoms_in ground.now) (potentials_of self.now)) }
+    {
+        Ok(self.fairness(ground, Allowance::Nothing))
+    }
+
+    /// Whether they are fair where this is allowed to each instance.
+    fn fairness(&self, ground: &Ground<'_>, allowance: Allowance) -> Fairness
+        requires { length (potentials_of self.now).weights ≡ length (atoms_in ground.now) }
+        ensures { TellsAt (allowed_by allowance (task_in ground.now)) (task_in ground.now) (atoms_in ground.now) (potentials_of self.now) result }
+    {
+        match self.first_unfair(ground, allowance) {
+            Some(number) => Fairness::Instance(number),
             None => {
                 if self.is_fair_at_goals(ground) {
-                    Ok(Fairness::Fair)
+                    Fairness::Fair
                 } else {
-                    Ok(Fairness::Goal)
+                    Fairness::Goal
                 }
             }
         }
@@ -57,12 +83,14 @@ impl Potentials {
     }
 
     /// The number of the first instance that is not fair, if there is one.
-    fn first_unfair(&self, ground: &Ground<'_>) -> Option<u32>
+    fn first_unfair(&self, ground: &Ground<'_>, allowance: Allowance) -> Option<u32>
         requires { length (potentials_of self.now).weights ≡ length (atoms_in ground.now) }
-        ensures { MatchOption result (AreInstancesFair (task_in ground.now) (atoms_in ground.now) (potentials_of self.now)) (IsFirstUnfair (task_in ground.now) (atoms_in ground.now) (potentials_of self.now)) }
+        ensures { MatchOption result
+            (AreInstancesFairAt (allowed_by allowance (task_in ground.now)) (task_in ground.now) (atoms_in ground.now) (potentials_of self.now))
+            (IsFirstUnfairAt (allowed_by allowance (task_in ground.now)) (task_in ground.now) (atoms_in ground.now) (potentials_of self.now)) }
     {
         for number in 0..instance_count(ground) {
-            if !self.is_fair_at(ground, number) {
+            if !self.is_fair_within(ground, number, allowance) {
                 return Some(number);
             }
         }
@@ -76,18 +104,41 @@ impl Potentials {
         ensures { (i : Instance) → slice_get (kept_instances (task_in ground.now)) number ≡ Some i
             → (IsTrue result ↔ IsFairAt (cost_of (task_in ground.now) i) (task_in ground.now) (atoms_in ground.now) (potentials_of self.now).weights i) }
     {
+        self.is_fair_within(ground, number, Allowance::Cost)
+    }
+
+    /// Whether the instance of this number is fair where this is allowed to it.
+    fn is_fair_within(&self, ground: &Ground<'_>, number: u32, allowance: Allowance) -> bool
+        requires width { length (potentials_of self.now).weights ≡ length (atoms_in ground.now) }
+        requires within { number < length (kept_instances (task_in ground.now)) }
+        ensures { (i : Instance) → slice_get (kept_instances (task_in ground.now)) number ≡ Some i
+            → (IsTrue result ↔ IsFairAt (allowed_by allowance (task_in ground.now) i) (task_in ground.now) (atoms_in ground.now) (potentials_of self.now).weights i) }
+    {
         let losses = loses_at_most(
             ground.literals(number),
             ground.counting(number),
             self.weights(),
         );
-        is_at_most(losses, ground.cost(number))
+        is_at_most(losses, allowance.of(ground, number))
     }
 }
 
-/// Whether the number is no more than the cost.
-fn is_at_most(number: i64, cost: u32) -> bool
-    ensures { IsTrue result ↔ (number ≤ℤ pos cost) }
+impl Allowance {
+    /// How much is allowed to the instance of this number.
+    fn of(self, ground: &Ground<'_>, number: u32) -> u32
+        requires { number < length (kept_instances (task_in ground.now)) }
+        ensures { (i : Instance) → slice_get (kept_instances (task_in ground.now)) number ≡ Some i → result ≡ allowed_by self (task_in ground.now) i }
+    {
+        match self {
+            Allowance::Cost => ground.cost(number),
+            Allowance::Nothing => 0,
+        }
+    }
+}
+
+/// Whether the number is at most what is allowed.
+fn is_at_most(number: i64, allowed: u32) -> bool
+    ensures { IsTrue result ↔ (number ≤ℤ pos allowed) }
 {
-    number <= i64::from(cost)
+    number <= i64::from(allowed)
 }

@@ -1,9 +1,11 @@
--- The value that fair potentials give is a consistent estimate, whatever bits a state has.
-use Rattle.std.proofs.Common.{◌≡◌, ◌∙◌, ℕ, ◌<◌, inl, inr, Bool, true, false, List, [], length, get_or, sym, ap, subst, arith, ℤ, pos, negsuc, refl, ◌+ℤ◌}
+-- The value that fair potentials give is a consistent estimate, whatever bits a state has, and what dead-fair ones tell are
+-- dead ends.
+use Rattle.std.proofs.Common.{◌≡◌, ◌∙◌, ℕ, zero, suc, ◌<◌, inl, inr, Bool, true, false, List, [], length, get_or, sym, ap, subst, arith, ℤ, pos, negsuc, refl, ◌+ℤ◌, ◌≤ℤ◌, nat_le, All}
 use Rattle.std.specs.Prelude.{IsTrue, if◌then◌else◌, slice_get}
 use Rattle.std.specs.Option.{option_map, option_and_then}
 use Rattle.std.specs.FinSet.{contains}
 use Rattle.std.proofs.lemmas.Bool.{cases_lt}
+use Rattle.std.proofs.lemmas.Int.{ints}
 use Rattle.std.proofs.lemmas.List.{length-map, get_or-map, get_or_past}
 use Rattle.std.proofs.lemmas.List.Elements.{All-contains}
 use Rattle.std.proofs.lemmas.Option.{slice_get-get_or}
@@ -16,11 +18,13 @@ use Rattle.model.specs.Grounding.{state_of_bits, bits_of_state, ground_step, gro
 use Rattle.model.proofs.NumberingLemmas.{stands_in-Contains}
 use Rattle.model.proofs.PackedStates.{chosen-stands_in, contains-fluent, contains-static, contains-numbered, packed-bits_of_state}
 use Rattle.search.specs.Estimates.{IsConsistent, above_zero, value_by}
-use Rattle.potential_functions.specs.PotentialFunctions.{PotentialFunction, weight, sum_below, given, score, or_zero, value}
-use Rattle.potential_functions.specs.Fair.{AreFair}
+use Rattle.search.specs.DeadEnds.{TellsDeadEnds}
+use Rattle.potential_functions.specs.PotentialFunctions.{PotentialFunction, weight, sum_below, given, score, or_zero, value, is_dead_by}
+use Rattle.potential_functions.specs.Fair.{AreFair, AreDeadFair}
 use Rattle.potential_functions.specs.Laws.{AreNumberable}
-use Rattle.potential_functions.proofs.Sums.{sum-alike}
-use Rattle.potential_functions.proofs.LowerBound.{are_lower_bounds}
+use Rattle.potential_functions.proofs.Sums.{sum-alike, sum-least, sum-zero}
+use Rattle.potential_functions.proofs.Falls.{or_zero-most}
+use Rattle.potential_functions.proofs.LowerBound.{are_lower_bounds, tell_dead_ends}
 use Rattle.potentials.proofs.WordLemmas.{sum-past, given-past}
 
 same-value : (z : ℤ) → above_zero z ≡ or_zero z
@@ -91,3 +95,33 @@ module _ (task : Task) (atoms : List Atom) (numberable : AreNumberable task atom
               let after = same-value (score p next) in
               omega arith;
         }
+
+    again-dead : (bits : List Bool) → is_dead_by p (again bits) ≡ is_dead_by p bits
+    again-dead bits = ap (λ z. nat_le 1 (or_zero z)) (again-score bits)
+
+    pub dead_fair_tells : AreDeadFair task atoms p → TellsDeadEnds (ground_system task atoms) (is_dead_by p)
+    dead_fair_tells fair =
+        let laws = (tell_dead_ends task atoms p numberable fair).ground_stays in
+        record {
+          no_goal = λ bits told.
+              subst (λ (s : State). meets_goal task s ≡ false) (again-state bits) (laws.no_goal (again bits) (again-long bits) (again-dead bits ∙ told));
+          stays_dead = λ bits next number told leads. laws.stays (again bits) next number (again-long bits) (again-dead bits ∙ told) (again-step bits number ∙ leads);
+        }
+
+-- where neither the constant nor a weight is above 0, no state is told dead
+pub none-told : (p : PotentialFunction) → p.constant ≤ℤ pos 0 → All (λ w. w ≤ℤ pos 0) p.weights → (bits : List Bool) → is_dead_by p bits ≡ false
+none-told p constant weights bits =
+    let sums = sum-least (length bits) (given p.weights bits) (λ k. pos 0) (λ k below. given-most (get_or bits k false) (weight p.weights k) (weight-most p.weights weights k)) in
+    let none = sum-zero (length bits) in
+    let most = or_zero-most (score p bits) 0 (omega (arith, ints)) in
+    let is : value p bits ≡ 0 = omega arith in
+    ap (nat_le 1) is
+  where
+    weight-most : (ws : List ℤ) → All (λ w. w ≤ℤ pos 0) ws → (n : ℕ) → weight ws n ≤ℤ pos 0
+    weight-most [] all n = omega (arith, ints)
+    weight-most (w ∷ ws) all zero = all 0 (pos 0) (omega arith)
+    weight-most (w ∷ ws) all (suc n) = weight-most ws (λ k d below. all (suc k) d (omega arith)) n
+
+    given-most : (bit : Bool) (w : ℤ) → w ≤ℤ pos 0 → (if bit then w else pos 0) ≤ℤ pos 0
+    given-most true w most = most
+    given-most false w most = omega (arith, ints)

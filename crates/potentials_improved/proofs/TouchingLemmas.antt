@@ -159,7 +159,7 @@ module _ (task : Task) (atoms : List Atom) (p : PotentialFunction) where
   fair_at-none n i among named = absurd (Contains-none n among)
 
   -- one number more
-  pub fair_at-next : (numbers : List ℕ) (place d : ℕ) (answer : Bool) → place < length numbers → Decides task atoms p answer (get_or numbers place d) → answer ≡ true
+  pub fair_at-next : (numbers : List ℕ) (place d : ℕ) (answer : Bool) → place < length numbers → Decides task atoms p (cost_of task) answer (get_or numbers place d) → answer ≡ true
       → AreFairAt task atoms p (take place numbers) → AreFairAt task atoms p (take (place + 1) numbers)
   fair_at-next numbers place d answer within decides passes before n i among named =
       let x = get_or numbers place d in
@@ -168,7 +168,7 @@ module _ (task : Task) (atoms : List Atom) (p : PotentialFunction) where
         | inr is ↦ (decides i (subst (λ k. slice_get (kept_instances task) k ≡ Some i) is named)).0 passes
       ]
 
-  pub unfair_at : (numbers : List ℕ) (place d : ℕ) (answer : Bool) → place < length numbers → get_or numbers place d < length (kept_instances task) → Decides task atoms p answer (get_or numbers place d) → answer ≡ false
+  pub unfair_at : (numbers : List ℕ) (place d : ℕ) (answer : Bool) → place < length numbers → get_or numbers place d < length (kept_instances task) → Decides task atoms p (cost_of task) answer (get_or numbers place d) → answer ≡ false
       → AreFairAt task atoms p numbers → ⊥
   unfair_at numbers place d answer within below decides fails all =
       let x = get_or numbers place d in

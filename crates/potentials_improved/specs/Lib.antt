@@ -1,4 +1,5 @@
 pub mod FairPotentials
+pub mod DeadFairPotentials
 pub mod Climb
 pub mod Touching
 pub mod Drafted

@@ -1,7 +1,6 @@
 //! What weights are made better for: the values of states.
 use crate::tables::Tables;
 use faults::NoMemory;
-use packed_state::Packed;
 use std::alloc::Global;
 use std::num::nearest_i64_to_f64;
 
@@ -17,8 +16,6 @@ pub(crate) struct Move {
 pub(crate) struct Aim {
     states: i64,
     times: Vec<i64>,
-    /// The numbers of the atoms of the state that was added last.
-    numbers: Vec<u32>,
 }
 
 /// The initial state, whose value is to be raised first, and sampled ones.
@@ -41,21 +38,31 @@ impl Aim {
         Ok(Aim {
             states: 0,
             times: vec![in alloc; 0; width as usize]?,
-            numbers: Vec::new(alloc),
         })
     }
 
-    /// One state more.
-    pub(crate) fn add(&mut self, state: &Packed) -> Result<(), NoMemory> {
-        self.states = self.states.saturating_add(1);
-        state.list_numbers(&mut self.numbers)?;
-        for place in 0..self.numbers.len() {
-            if place < self.numbers.len() {
-                let number = self.numbers[place];
-                self.count(number);
-            }
+    /// The state of these true atoms.
+    pub(crate) fn one(alloc: Global, width: u32, atoms: &[u32]) -> Result<Aim, NoMemory> {
+        let mut aim = Aim::none(alloc, width)?;
+        aim.add(atoms);
+        Ok(aim)
+    }
+
+    /// These states, each by its true atoms.
+    pub(crate) fn all(alloc: Global, width: u32, states: &[Vec<u32>]) -> Result<Aim, NoMemory> {
+        let mut aim = Aim::none(alloc, width)?;
+        for atoms in states {
+            aim.add(atoms);
         }
-        Ok(())
+        Ok(aim)
+    }
+
+    /// One state more, of these true atoms.
+    fn add(&mut self, atoms: &[u32]) {
+        self.states = self.states.saturating_add(1);
+        for atom in atoms {
+            self.count(*atom);
+        }
     }
 
     /// The atom is true in one state more.

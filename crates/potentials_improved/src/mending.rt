@@ -256,6 +256,6 @@ impl Mending {
 }
 
 /// Whether the number stands for a whole one.
-fn is_whole(number: f64) -> bool {
+pub(crate) fn is_whole(number: f64) -> bool {
     (number - number.round()).abs() < NEAR
 }

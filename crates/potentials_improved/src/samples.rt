@@ -1,14 +1,10 @@
 //! States on the way from the initial one, by walks that go where chance leads.
-use crate::aims::Aim;
 use faults::NoMemory;
 use grounding::Ground;
 use packed_state::Packed;
 use potentials::instance_count;
 use std::alloc::Global;
 use std::num::nearest_usize_to_f64;
-
-/// How many walks there are, each of which gives one state.
-const WALKS: u32 = 32;
 
 /// The most steps of a walk.
 const MAX_STEPS: u32 = 64;
@@ -34,24 +30,33 @@ struct Walk {
     chance: Chance,
 }
 
-/// The ends of some walks from the initial state; none where there are so many instances that no walk may take a step.
+/// The states in which so many walks from the initial one end, each as its true atoms; none where there are so many instances
+/// that no walk may take a step.
 pub(crate) fn sampled(
     alloc: Global,
     ground: &Ground<'_>,
     initial: &Packed,
-) -> Result<Aim, NoMemory> {
+    walks: u32,
+) -> Result<Vec<Vec<u32>>, NoMemory> {
+    let mut samples = Vec::new(alloc);
     let most = most_steps(instance_count(ground));
-    let mut aim = Aim::none(alloc, ground.width())?;
     if most == 0 {
-        return Ok(aim);
+        return Ok(samples);
     }
     let mut walk = Walk::new(alloc, ground.width())?;
-    for _ in 0..WALKS {
+    for _ in 0..walks {
         walk.start(initial);
         walk.go(ground, most)?;
-        aim.add(&walk.state)?;
+        samples.push(true_atoms(alloc, &walk.state)?)?;
     }
-    Ok(aim)
+    Ok(samples)
+}
+
+/// The numbers of the atoms that are true in the state.
+pub(crate) fn true_atoms(alloc: Global, state: &Packed) -> Result<Vec<u32>, NoMemory> {
+    let mut atoms = Vec::new(alloc);
+    state.list_numbers(&mut atoms)?;
+    Ok(atoms)
 }
 
 /// The most steps that a walk may take, where there are so many instances.

@@ -1,7 +1,8 @@
 //! The simplex algorithm (Dantzig 1951), for fair potentials whose weights need not be whole numbers.
 //!
 //! It goes from vertex to vertex of the fair potentials, and begins where all weights are 0, so that what it has come to is
-//! fair wherever it stops. At a vertex as many limits are tight as there are variables, and with each goes an edge, along
+//! fair wherever it stops. Where nothing costs anything, the edges without an end are of use: along them no instance loses.
+//! At a vertex as many limits are tight as there are variables, and with each goes an edge, along
 //! which it alone loosens. The next edge is the steepest one (Goldfarb & Reid 1977), and costs are taken for a little higher
 //! than they are, each by a part of its own, so that hardly two vertices are in one place (Charnes 1952).
 use crate::aims::Aims;
@@ -14,9 +15,6 @@ use std::num::nearest_i64_to_f64;
 
 /// The most steps.
 const MAX_STEPS: u32 = 65_536;
-
-/// How many numbers may be looked at before no further step is taken.
-const MAX_WORK: u64 = 4_194_304;
 
 /// What is no more than this is nothing: a gain, or how fast a limit gets nearer.
 const NOTHING: f64 = 1e-9;
@@ -50,6 +48,17 @@ struct Stop {
     rate: f64,
 }
 
+/// What comes of a step.
+#[derive(Clone, Copy, PartialEq, Eq)]
+enum Step {
+    /// The next vertex.
+    Taken,
+    /// No edge along which anything is gained.
+    AtBest,
+    /// An edge without an end, the last one now.
+    Endless,
+}
+
 /// A vertex. Its limits are those of the instances, which lose no more than they cost, and then those of the variables, which
 /// are at least 0.
 #[derive(Drop)]
@@ -62,15 +71,18 @@ pub(crate) struct Vertex {
     /// How fast each limit gets nearer along the edge that is taken, and which do.
     rates: Vec<f64>,
     nearing: Vec<usize>,
+    /// How many numbers were looked at, and may be before no further step is taken.
     work: u64,
+    max_work: u64,
 }
 
 impl Vertex {
-    /// That of weights that are all 0.
+    /// That of weights that are all 0. So many numbers may be looked at.
     pub(crate) fn new(
         alloc: Global,
         tables: &Tables,
         program: &LinearProgram,
+        max_work: u64,
     ) -> Result<Vertex, NoMemory> {
         let instances = tables.costs().len();
         let variables = program.variables().len();
@@ -82,6 +94,7 @@ impl Vertex {
             rates: vec![in alloc; 0.0; instances.saturating_add(variables)]?,
             nearing: Vec::new(alloc),
             work: 0,
+            max_work,
         };
         vertex.fill_slacks(tables.costs())?;
         for variable in 0..variables {
@@ -126,39 +139,76 @@ impl Vertex {
         aims: &Aims,
         share: f64,
     ) -> Result<bool, NoMemory> {
-        for edge in self.edges.iter_mut() {
-            edge.aim_at(tables, program, aims, share);
-        }
+        self.aim_at(tables, program, aims, share);
         let before = self.work;
         for _ in 0..MAX_STEPS {
-            if self.work > MAX_WORK || !self.step(tables, program)? {
+            if self.work > self.max_work || self.step(tables, program)? != Step::Taken {
                 return Ok(self.work > before);
             }
         }
         Ok(true)
     }
 
-    /// Goes to the next vertex; tells whether there is one.
-    fn step(&mut self, tables: &Tables, program: &LinearProgram) -> Result<bool, NoMemory> {
+    /// Goes on until it comes to an edge without an end along which the initial state gains: how far each variable grows
+    /// along it.
+    pub(crate) fn endless(
+        &mut self,
+        tables: &Tables,
+        program: &LinearProgram,
+        aims: &Aims,
+    ) -> Result<Option<&[f64]>, NoMemory> {
+        self.aim_at(tables, program, aims, 0.0);
+        for _ in 0..MAX_STEPS {
+            if self.work > self.max_work {
+                return Ok(None);
+            }
+            match self.step(tables, program)? {
+                Step::Taken => {}
+                Step::AtBest => return Ok(None),
+                Step::Endless => {
+                    return Ok(match self.edges.last() {
+                        Some(edge) => Some(edge.along.as_slice()),
+                        None => None,
+                    });
+                }
+            }
+        }
+        Ok(None)
+    }
+
+    /// Notes what is gained along each edge.
+    fn aim_at(&mut self, tables: &Tables, program: &LinearProgram, aims: &Aims, share: f64) {
+        let mut read = self.edges.len();
+        for edge in self.edges.iter_mut() {
+            edge.aim_at(tables, program, aims, share);
+            read = read.saturating_add(edge.along.len());
+        }
+        self.count(read);
+    }
+
+    /// Goes to the next vertex, if there is one.
+    fn step(&mut self, tables: &Tables, program: &LinearProgram) -> Result<Step, NoMemory> {
         let Some(place) = self.steepest() else {
-            return Ok(false);
+            return Ok(Step::AtBest);
         };
         if place >= self.edges.len() {
-            return Ok(false);
+            return Ok(Step::AtBest);
         }
         let mut edge = self.edges.swap_remove(place);
         edge.fill(self.variables)?;
         self.fill_rates(tables, program, &edge)?;
         let stop = self.first_stop();
         self.advance(stop);
+        let mut came_of_it = Step::Endless;
         if let Some(stop) = stop {
             self.set_slack(edge.limit, stop.far);
             self.set_slack(stop.limit, TIGHT);
             edge.turn(stop);
             self.bend(tables, program, &edge)?;
+            came_of_it = Step::Taken;
         }
         self.edges.push(edge)?;
-        Ok(stop.is_some())
+        Ok(came_of_it)
     }
 
     /// The place of the edge along which most is gained for its length.

@@ -80,6 +80,24 @@ impl Tables {
         &self.costs
     }
 
+    /// Each instance costs nothing from now on: so it may lose nothing.
+    pub(crate) fn forget_costs(&mut self) {
+        for cost in self.costs.iter_mut() {
+            *cost = 0;
+        }
+    }
+
+    /// The greatest constant by which these weights give at most 0 at a goal.
+    pub(crate) fn constant(&self, weights: &[i64]) -> i64 {
+        let mut constant = 0i64;
+        let mut atom = 0u32;
+        for weight in weights {
+            constant = constant.saturating_sub(self.at_goal(atom).gives(*weight));
+            atom = atom.saturating_add(1);
+        }
+        constant
+    }
+
     /// The instances that touch the atom.
     pub(crate) fn instances_of(&self, atom: u32) -> &[Touch] {
         self.touching.of(atom)

@@ -1,97 +1,168 @@
 -- What the found states prove once no state waits that is cheaper than a goal state.
-use Rattle.std.proofs.Common.{◌≡◌, ℕ, zero, suc, ◌+◌, ◌≤◌, inl, inr, List, [], ◌∷◌, length, Bool, Option, Some, None, true, false, refl, sym, ap, ◌∙◌, subst, arith}
+use Rattle.std.proofs.Common.{◌≡◌, ℕ, zero, suc, ◌+◌, ◌*◌, ◌≤◌, inl, inr, List, [], ◌∷◌, length, Bool, Some, true, false, refl, sym, ap, ◌∙◌, subst, arith}
 use Rattle.std.specs.Prelude.{slice_get, Contains, if◌then◌else◌}
 use Rattle.std.proofs.lemmas.Bool.{false≢true}
 use Rattle.std.proofs.lemmas.Option.{same_Some, slice_get_within}
 use Rattle.std.proofs.lemmas.List.Sums.{sum_by-append, count_by-le-length}
 use Rattle.std.proofs.Math.Nat.{mul-le-mul_right}
 use Rattle.model.specs.Runs.{System, run, cost_of_all, CostsAtLeast, Solves, IsOptimal, IsUnsolvable}
-use Rattle.model.specs.Claims.{Claim, bound, none, Allows, Line, IsListedWithin, IsClosed}
+use Rattle.model.specs.Claims.{Claim, bound, none, Allows, ClaimHolds, Mark, opened, cut, dead, Line, IsListedWithin, IsClosed}
 use Rattle.model.proofs.ClaimsLemmas.{claim-of_closed}
 use Rattle.model.proofs.ListLemmas.{Contains-here, Contains-there, Contains-cases, Contains-none}
 use Rattle.search.specs.declared.nodes.Node.{Node}
 use Rattle.search.specs.Estimates.{IsConsistent}
-use Rattle.search.specs.Outcome.{line_of, lines_of, AreFound, AreExpandedWithin}
-use Rattle.search.specs.Nodes.{Waiting, Found, found_of, AreNodes, IsFoundWithin, AreOpen, parent_of, begins, follows, IsPath, IsReachedIn, IsWay, expanded_count, dearest}
+use Rattle.search.specs.DeadEnds.{TellsDeadEnds}
+use Rattle.search.specs.Outcome.{line_of, lines_of, IsReachableAt, ReachingCostsAtLeast, AreFound, AreExpandedWithin}
+use Rattle.search.specs.Nodes.{Waiting, Found, found_of, IsWaiting, total_of, AreNodes, IsFoundWithin, AreOpen, parent_of, begins, follows, IsPath, IsReachedIn, IsWay, expanded_count, dearest}
 use Rattle.search.proofs.Consistent.{lower_bound}
+use Rattle.search.proofs.DeadEnds.{are_dead_ends}
 use Rattle.search.proofs.NodesLemmas.{run-push}
 use Rattle.search.proofs.Linked.{found_of-get, get-found_of, length-found_of}
 use Rattle.search.proofs.Lists.{get_exists}
 
 -- a line of the listing is that of a place
-line-at : {S : Type 0} (value : S → ℕ) (states : List S) (all : List Node) (line : Line S) → Contains (lines_of value states all) line
-    → (k : ℕ) × (s : S) × (r : Node) × (slice_get states k ≡ Some s) × (slice_get all k ≡ Some r) × (line_of value s r ≡ line)
-line-at value [] all line at = absurd (Contains-none line at)
-line-at value (s ∷ states) [] line at = absurd (Contains-none line at)
-line-at {S} value (s ∷ states) (r ∷ all) line at =
-    elim (Contains-cases (line_of value s r) (lines_of value states all) line at) [
+line-at : {S : Type 0} (value : S → ℕ) (is_dead : S → Bool) (states : List S) (all : List Node) (line : Line S) → Contains (lines_of value is_dead states all) line
+    → (k : ℕ) × (s : S) × (r : Node) × (slice_get states k ≡ Some s) × (slice_get all k ≡ Some r) × (line_of value is_dead s r ≡ line)
+line-at value is_dead [] all line at = absurd (Contains-none line at)
+line-at value is_dead (s ∷ states) [] line at = absurd (Contains-none line at)
+line-at {S} value is_dead (s ∷ states) (r ∷ all) line at =
+    elim (Contains-cases (line_of value is_dead s r) (lines_of value is_dead states all) line at) [
       | inl is ↦ (0, s, r, refl, refl, is)
-      | inr later ↦ let (k, s', r', is_s, is_r, is) = line-at value states all line later in (suc k, s', r', is_s, is_r, is)
+      | inr later ↦ let (k, s', r', is_s, is_r, is) = line-at value is_dead states all line later in (suc k, s', r', is_s, is_r, is)
     ]
 
-at-line : {S : Type 0} (value : S → ℕ) (states : List S) (all : List Node) (k : ℕ) (s : S) (r : Node) → slice_get states k ≡ Some s → slice_get all k ≡ Some r
-    → Contains (lines_of value states all) (line_of value s r)
-at-line value [] all k s r is_s is_r = absurd (cc)
-at-line value (x ∷ states) [] k s r is_s is_r = absurd (cc)
-at-line {S} value (x ∷ states) (y ∷ all) zero s r is_s is_r =
+at-line : {S : Type 0} (value : S → ℕ) (is_dead : S → Bool) (states : List S) (all : List Node) (k : ℕ) (s : S) (r : Node) → slice_get states k ≡ Some s → slice_get all k ≡ Some r
+    → Contains (lines_of value is_dead states all) (line_of value is_dead s r)
+at-line value is_dead [] all k s r is_s is_r = absurd (cc)
+at-line value is_dead (x ∷ states) [] k s r is_s is_r = absurd (cc)
+at-line {S} value is_dead (x ∷ states) (y ∷ all) zero s r is_s is_r =
     let a : x ≡ s = same_Some x s is_s in
     let b : y ≡ r = same_Some y r is_r in
-    subst (λ l. Contains (line_of value x y ∷ lines_of value states all) l) (ap (λ (w : S). line_of value w y) a ∙ ap (λ (w : Node). line_of value s w) b)
-    (Contains-here (line_of value x y) (lines_of value states all))
-at-line value (x ∷ states) (y ∷ all) (suc k) s r is_s is_r =
-    Contains-there (line_of value x y) (lines_of value states all) (line_of value s r) (at-line value states all k s r is_s is_r)
+    subst (λ l. Contains (line_of value is_dead x y ∷ lines_of value is_dead states all) l) (ap (λ (w : S). line_of value is_dead w y) a ∙ ap (λ (w : Node). line_of value is_dead s w) b)
+    (Contains-here (line_of value is_dead x y) (lines_of value is_dead states all))
+at-line value is_dead (x ∷ states) (y ∷ all) (suc k) s r is_s is_r =
+    Contains-there (line_of value is_dead x y) (lines_of value is_dead states all) (line_of value is_dead s r) (at-line value is_dead states all k s r is_s is_r)
 
-open_if : (b : Bool) (estimate : ℕ) → ◌≡◌ {A = Option ℕ} (if b then None else Some estimate) None → b ≡ true
-open_if true estimate is = refl
-open_if false estimate is = absurd (cc)
+-- what a mark tells
+abbrev rest_of : Mark → ℕ
+rest_of opened = 0
+rest_of (cut rest) = rest
+rest_of dead = 0
 
-cut_if : (b : Bool) (estimate rest : ℕ) → (if b then None else Some estimate) ≡ Some rest → (b ≡ false) × (rest ≡ estimate)
-cut_if true estimate rest is = absurd (cc)
-cut_if false estimate rest is = (refl, sym (same_Some estimate rest is))
+open_if : (expanded told : Bool) (estimate : ℕ) → (if expanded then opened else (if told then dead else cut estimate)) ≡ opened → expanded ≡ true
+open_if true told estimate is = refl
+open_if false true estimate is = absurd (cc)
+open_if false false estimate is = absurd (cc)
 
-module _ {S : Type 0} (t : System S ℕ) (value : S → ℕ) (states : List S) (all : List Node)
+cut_if : (expanded told : Bool) (estimate rest : ℕ) → (if expanded then opened else (if told then dead else cut estimate)) ≡ cut rest → (expanded ≡ false) × (told ≡ false) × (rest ≡ estimate)
+cut_if true told estimate rest is = absurd (cc)
+cut_if false true estimate rest is = absurd (cc)
+cut_if false false estimate rest is = (refl, refl, sym (ap rest_of is))
+
+dead_if : (expanded told : Bool) (estimate : ℕ) → (if expanded then opened else (if told then dead else cut estimate)) ≡ dead → told ≡ true
+dead_if true told estimate is = absurd (cc)
+dead_if false true estimate is = refl
+dead_if false false estimate is = absurd (cc)
+
+-- what a listing needs of the found states
+pub record AreListed {S : Type 0} (t : System S ℕ) (is_dead : S → Bool) (nodes : List (Found S)) : Type 0 where
+  pub root : (n : Found S) × (slice_get nodes 0 ≡ Some n) × (n.state ≡ t.initial) × (n.node.cost ≡ 0)
+  pub distinct : (j k : ℕ) (m n : Found S) → slice_get nodes j ≡ Some m → slice_get nodes k ≡ Some n → m.state ≡ n.state → j ≡ k
+  pub cheap : (k : ℕ) (n : Found S) → slice_get nodes k ≡ Some n → n.node.cost ≤ length nodes * dearest
+  pub reachable : (k : ℕ) (n : Found S) → slice_get nodes k ≡ Some n → IsReachableAt t n.state n.node.cost
+  pub no_goal : (k : ℕ) (n : Found S) → slice_get nodes k ≡ Some n → n.node.is_expanded ≡ true → t.meets_goal n.state ≡ false
+  pub cheapest : (k : ℕ) (n : Found S) → slice_get nodes k ≡ Some n → n.node.is_expanded ≡ true → ReachingCostsAtLeast t n.state n.node.cost
+  pub alive : (k : ℕ) (n : Found S) → slice_get nodes k ≡ Some n → n.node.is_expanded ≡ true → is_dead n.state ≡ false
+
+-- what holds of them at any time suffices
+pub are_listed : {S : Type 0} (t : System S ℕ) (value : S → ℕ) (is_dead : S → Bool) (nodes : List (Found S)) (queue : List Waiting) → AreNodes t value is_dead nodes queue → AreListed t is_dead nodes
+are_listed {S} t value is_dead nodes queue are = record {
+  root = are.root;
+  distinct = are.distinct;
+  cheap = λ k n at. omega (arith, are.cheap k n at, mul-le-mul_right dearest (count_by-le-length (λ (x : Found S). x.node.is_expanded) nodes));
+  reachable = are.reachable;
+  no_goal = are.no_goal;
+  cheapest = are.cheapest;
+  alive = are.alive;
+}
+
+module _ {S : Type 0} (t : System S ℕ) (value : S → ℕ) (is_dead : S → Bool) (states : List S) (all : List Node)
     (one_each : length all ≡ length states) where
-  node_at : (k : ℕ) (s : S) (r : Node) → slice_get states k ≡ Some s → slice_get all k ≡ Some r
+  pub node_at : (k : ℕ) (s : S) (r : Node) → slice_get states k ≡ Some s → slice_get all k ≡ Some r
       → slice_get (found_of states all) k ≡ Some (record { state = s; node = r })
   node_at k s r is_s is_r = get-found_of states all k s r is_s is_r
 
-  listed : (s : S) (cost : ℕ) → IsFoundWithin (found_of states all) s cost → IsListedWithin (lines_of value states all) s cost
-  listed s cost (k, n, at, is, within) =
+  listed_within : (s : S) (cost : ℕ) → IsFoundWithin (found_of states all) s cost → IsListedWithin (lines_of value is_dead states all) s cost
+  listed_within s cost (k, n, at, is, within) =
       let parts = found_of-get states all k n at in
-      (line_of value n.state n.node, at-line value states all k n.state n.node parts.0 parts.1, is, within)
+      (line_of value is_dead n.state n.node, at-line value is_dead states all k n.state n.node parts.0 parts.1, is, within)
 
-  module _ (queue : List Waiting) (nodes : AreNodes t value (found_of states all) queue) where
+  module _ (listed : AreListed t is_dead (found_of states all)) where
     pub closed : (claim : Claim) → AreOpen t (found_of states all)
-        → ((k : ℕ) (n : Found S) → slice_get (found_of states all) k ≡ Some n → n.node.is_expanded ≡ false → Allows claim (n.node.cost + value n.state))
-        → IsClosed t value claim (lines_of value states all)
+        → ((k : ℕ) (n : Found S) → slice_get (found_of states all) k ≡ Some n → IsWaiting is_dead n → Allows claim (total_of value n))
+        → IsClosed t value is_dead claim (lines_of value is_dead states all)
     closed claim are_open allowed = record {
-      initial_listed = let (n, at, is, free) = nodes.root in listed t.initial 0 (0, n, at, is, omega (arith, free));
-      successors_listed = λ line a next at cut step.
-          let (k, s, r, is_s, is_r, is) = line-at value states all line at in
+      initial_listed = let (n, at, is, free) = listed.root in listed_within t.initial 0 (0, n, at, is, omega (arith, free));
+      successors_listed = λ line a next at mark step.
+          let (k, s, r, is_s, is_r, is) = line-at value is_dead states all line at in
           let there = node_at k s r is_s is_r in
-          let expanded : r.is_expanded ≡ true = open_if r.is_expanded (value s) (ap (λ (l : Line S). l.cut) is ∙ cut) in
+          let expanded : r.is_expanded ≡ true = open_if r.is_expanded (is_dead s) (value s) (ap (λ (l : Line S). l.mark) is ∙ mark) in
           let same : s ≡ line.state = ap (λ (l : Line S). l.state) is in
           let same_cost : r.cost ≡ line.cost = ap (λ (l : Line S). l.cost) is in
-          subst (λ c. IsListedWithin (lines_of value states all) next (c + t.cost a)) same_cost
-          (listed next (r.cost + t.cost a)
+          subst (λ c. IsListedWithin (lines_of value is_dead states all) next (c + t.cost a)) same_cost
+          (listed_within next (r.cost + t.cost a)
           (are_open k (record { state = s; node = r }) there expanded a next (ap (λ (x : S). t.step x a) same ∙ step)));
-      open_goals_allowed = λ line at cut goal.
-          let (k, s, r, is_s, is_r, is) = line-at value states all line at in
+      open_goals_allowed = λ line at mark goal.
+          let (k, s, r, is_s, is_r, is) = line-at value is_dead states all line at in
           let there = node_at k s r is_s is_r in
-          let expanded : r.is_expanded ≡ true = open_if r.is_expanded (value s) (ap (λ (l : Line S). l.cut) is ∙ cut) in
+          let expanded : r.is_expanded ≡ true = open_if r.is_expanded (is_dead s) (value s) (ap (λ (l : Line S). l.mark) is ∙ mark) in
           let same : s ≡ line.state = ap (λ (l : Line S). l.state) is in
-          absurd (false≢true (sym (nodes.no_goal k (record { state = s; node = r }) there expanded) ∙ ap t.meets_goal same ∙ goal));
-      cuts_allowed = λ line rest at cut.
-          let (k, s, r, is_s, is_r, is) = line-at value states all line at in
+          absurd (false≢true (sym (listed.no_goal k (record { state = s; node = r }) there expanded) ∙ ap t.meets_goal same ∙ goal));
+      cuts_allowed = λ line rest at mark.
+          let (k, s, r, is_s, is_r, is) = line-at value is_dead states all line at in
           let there = node_at k s r is_s is_r in
-          let (waits, is_value) = cut_if r.is_expanded (value s) rest (ap (λ (l : Line S). l.cut) is ∙ cut) in
+          let (waits, alive, is_value) = cut_if r.is_expanded (is_dead s) (value s) rest (ap (λ (l : Line S). l.mark) is ∙ mark) in
           let same : s ≡ line.state = ap (λ (l : Line S). l.state) is in
           let same_cost : r.cost ≡ line.cost = ap (λ (l : Line S). l.cost) is in
           let same_value : value s ≡ value line.state = ap value same in (
             omega (arith, is_value, same_value),
-            subst (λ c. Allows claim (c + rest)) same_cost (subst (λ c. Allows claim (r.cost + c)) (sym is_value) (allowed k (record { state = s; node = r }) there waits)),
+            subst (λ c. Allows claim (c + rest)) same_cost (subst (λ c. Allows claim (r.cost + c)) (sym is_value) (allowed k (record { state = s; node = r }) there (waits, alive))),
           );
+      dead_are_dead = λ line at mark.
+          let (k, s, r, is_s, is_r, is) = line-at value is_dead states all line at in
+          let told : is_dead s ≡ true = dead_if r.is_expanded (is_dead s) (value s) (ap (λ (l : Line S). l.mark) is ∙ mark) in
+          ap is_dead (sym (ap (λ (l : Line S). l.state) is)) ∙ told;
     }
+
+    pub found_states : (claim : Claim) (max_states : ℕ) → length states ≤ max_states → IsClosed t value is_dead claim (lines_of value is_dead states all)
+        → AreFound t value is_dead claim max_states states all
+    found_states claim max_states within is_closed = record {
+      one_for_each = one_each;
+      within_limit = within;
+      distinct = λ j k s at_j at_k.
+          let r_j = get_exists all j (omega (arith, slice_get_within states j s at_j)) in
+          let r_k = get_exists all k (omega (arith, slice_get_within states k s at_k)) in
+          let there_j = node_at j s r_j.0 at_j r_j.1 in
+          let there_k = node_at k s r_k.0 at_k r_k.1 in
+          listed.distinct j k (record { state = s; node = r_j.0 }) (record { state = s; node = r_k.0 }) there_j there_k refl;
+      reachable = λ k s r at_s at_r. listed.reachable k (record { state = s; node = r }) (node_at k s r at_s at_r);
+      cheap = λ k r at_r.
+          let s = get_exists states k (omega (arith, slice_get_within all k r at_r)) in
+          let there = node_at k s.0 r s.1 at_r in
+          rw (length-found_of states all one_each) at (listed.cheap k (record { state = s.0; node = r }) there);
+      expanded_cheapest = λ k s r at_s at_r expanded. listed.cheapest k (record { state = s; node = r }) (node_at k s r at_s at_r) expanded;
+      expanded_alive = λ k s r at_s at_r expanded. listed.alive k (record { state = s; node = r }) (node_at k s r at_s at_r) expanded;
+      closed = is_closed;
+    }
+
+    -- what a closed listing claims is true
+    pub claimed : IsConsistent t value → TellsDeadEnds t is_dead → (claim : Claim) → IsClosed t value is_dead claim (lines_of value is_dead states all) → ClaimHolds t claim
+    claimed consistent tells claim is_closed =
+        claim-of_closed t value is_dead claim (lines_of value is_dead states all) (lower_bound t value consistent) (are_dead_ends t is_dead tells) is_closed
+
+  module _ (queue : List Waiting) (nodes : AreNodes t value is_dead (found_of states all) queue) where
+    listing : AreListed t is_dead (found_of states all)
+    listing = are_listed t value is_dead (found_of states all) queue nodes
 
     few_expanded : expanded_count (found_of states all) ≤ length states
     few_expanded =
@@ -127,59 +198,37 @@ module _ {S : Type 0} (t : System S ℕ) (value : S → ℕ) (states : List S) (
           ap (cost_of_all t) is ∙ sum_by-append t.cost before (node.action ∷ []) ∙ omega (arith, costs, leads.cost, ap t.cost by),
         )
 
-    found_states : (claim : Claim) (max_states : ℕ) → length states ≤ max_states → IsClosed t value claim (lines_of value states all) → AreFound t value claim max_states states all
-    found_states claim max_states within is_closed = record {
-      one_for_each = one_each;
-      within_limit = within;
-      distinct = λ j k s at_j at_k.
-          let r_j = get_exists all j (omega (arith, slice_get_within states j s at_j)) in
-          let r_k = get_exists all k (omega (arith, slice_get_within states k s at_k)) in
-          let there_j = node_at j s r_j.0 at_j r_j.1 in
-          let there_k = node_at k s r_k.0 at_k r_k.1 in
-          nodes.distinct j k (record { state = s; node = r_j.0 }) (record { state = s; node = r_k.0 }) there_j there_k refl;
-      reachable = λ k s r at_s at_r.
-          let there = node_at k s r at_s at_r in
-          nodes.reachable k (record { state = s; node = r }) there;
-      cheap = λ k r at_r.
-          let s = get_exists states k (omega (arith, slice_get_within all k r at_r)) in
-          let there = node_at k s.0 r s.1 at_r in
-          omega (arith, nodes.cheap k (record { state = s.0; node = r }) there, mul-le-mul_right dearest few_expanded);
-      expanded_cheapest = λ k s r at_s at_r expanded. nodes.cheapest k (record { state = s; node = r }) (node_at k s r at_s at_r) expanded;
-      closed = is_closed;
-    }
-
     -- no list that solves costs less than the sum of the node whose turn came: each has to pass through one that waits
-    pub no_plan_cheaper : IsConsistent t value → (one : Found S) → AreOpen t (found_of states all)
-        → ((k : ℕ) (n : Found S) → slice_get (found_of states all) k ≡ Some n → n.node.is_expanded ≡ false → one.node.cost + value one.state ≤ n.node.cost + value n.state)
-        → CostsAtLeast t (one.node.cost + value one.state)
-    no_plan_cheaper consistent one are_open least =
-        let sum = one.node.cost + value one.state in
-        claim-of_closed t value (bound sum) (lines_of value states all) (lower_bound t value consistent)
-        (closed (bound sum) are_open (λ k n at waits. least k n at waits))
+    pub no_plan_cheaper : IsConsistent t value → TellsDeadEnds t is_dead → (one : Found S) → AreOpen t (found_of states all)
+        → ((k : ℕ) (n : Found S) → slice_get (found_of states all) k ≡ Some n → IsWaiting is_dead n → total_of value one ≤ total_of value n)
+        → CostsAtLeast t (total_of value one)
+    no_plan_cheaper consistent tells one are_open least =
+        let sum = total_of value one in
+        claimed listing consistent tells (bound sum) (closed listing (bound sum) are_open (λ k n at waits. least k n at waits))
 
     -- a goal state whose turn came is reached by a cheapest list
-    pub optimal : IsConsistent t value → (i : ℕ) (one : Found S) (steps : List ℕ) (max_states : ℕ) → AreOpen t (found_of states all) → slice_get (found_of states all) i ≡ Some one
-        → ((k : ℕ) (n : Found S) → slice_get (found_of states all) k ≡ Some n → n.node.is_expanded ≡ false → one.node.cost + value one.state ≤ n.node.cost + value n.state)
+    pub optimal : IsConsistent t value → TellsDeadEnds t is_dead → (i : ℕ) (one : Found S) (steps : List ℕ) (max_states : ℕ) → AreOpen t (found_of states all) → slice_get (found_of states all) i ≡ Some one
+        → ((k : ℕ) (n : Found S) → slice_get (found_of states all) k ≡ Some n → IsWaiting is_dead n → total_of value one ≤ total_of value n)
         → t.meets_goal one.state ≡ true → IsPath all i steps → length steps ≤ length all → length states ≤ max_states
-        → IsOptimal t steps × (cost_of_all t steps ≡ one.node.cost) × AreFound t value (bound one.node.cost) max_states states all
+        → IsOptimal t steps × (cost_of_all t steps ≡ one.node.cost) × AreFound t value is_dead (bound one.node.cost) max_states states all
         × (length steps ≤ max_states) × AreExpandedWithin value one.node.cost states all
-    optimal consistent i one steps max_states are_open stands least goal path short within =
+    optimal consistent tells i one steps max_states are_open stands least goal path short within =
         let nothing_left : value one.state ≡ 0 = consistent.zero_at_goals one.state goal in
-        let is_closed = closed (bound one.node.cost) are_open (λ k n at waits. omega (arith, least k n at waits, nothing_left)) in
-        let holds = no_plan_cheaper consistent one are_open least in
+        let is_closed = closed listing (bound one.node.cost) are_open (λ k n at waits. omega (arith, least k n at waits, nothing_left)) in
+        let holds = no_plan_cheaper consistent tells one are_open least in
         let (runs, costs) = path_runs i steps one path stands in
         let solves : Solves t steps = (one.state, runs, goal) in (
           (solves, λ plan is_plan. omega (arith, holds plan is_plan, costs)),
           costs,
-          found_states (bound one.node.cost) max_states within is_closed,
+          found_states listing (bound one.node.cost) max_states within is_closed,
           omega (arith, short, one_each, within),
           λ k s r at_s at_r expanded. omega (arith, nodes.no_dearer k (record { state = s; node = r }) (node_at k s r at_s at_r) expanded steps solves, costs),
         )
 
     -- where no state waits, none solves
-    pub unsolvable : IsConsistent t value → (max_states : ℕ) → AreOpen t (found_of states all)
-        → ((k : ℕ) (n : Found S) → slice_get (found_of states all) k ≡ Some n → n.node.is_expanded ≡ false → ⊥) → length states ≤ max_states
-        → IsUnsolvable t × AreFound t value none max_states states all
-    unsolvable consistent max_states are_open none_waits within =
-        let is_closed = closed none are_open (λ k n at waits. none_waits k n at waits) in
-        (claim-of_closed t value none (lines_of value states all) (lower_bound t value consistent) is_closed, found_states none max_states within is_closed)
+    pub unsolvable : IsConsistent t value → TellsDeadEnds t is_dead → (max_states : ℕ) → AreOpen t (found_of states all)
+        → ((k : ℕ) (n : Found S) → slice_get (found_of states all) k ≡ Some n → IsWaiting is_dead n → ⊥) → length states ≤ max_states
+        → IsUnsolvable t × AreFound t value is_dead none max_states states all
+    unsolvable consistent tells max_states are_open none_waits within =
+        let is_closed = closed listing none are_open (λ k n at waits. none_waits k n at waits) in
+        (claimed listing consistent tells none is_closed, found_states listing none max_states within is_closed)

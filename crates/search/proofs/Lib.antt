@@ -1,5 +1,6 @@
 pub mod Closed
 pub mod Consistent
+pub mod DeadEnds
 pub mod Limit
 pub mod Linked
 pub mod Lists
@@ -8,4 +9,5 @@ pub mod NodesLemmas
 pub mod Queue
 pub mod QueueLemmas
 pub mod Steps
+pub mod Stopped
 pub mod Ways

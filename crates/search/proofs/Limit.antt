@@ -1,5 +1,5 @@
 -- Where one state more is found than may be listed: each of them is found from one whose sum is no more than any plan costs.
-use Rattle.std.proofs.Common.{◌≡◌, ℕ, ◌+◌, ◌≢◌, inl, inr, List, [], ◌∷◌, ◌++◌, length, Some, true, refl, sym, ap, ◌∙◌, subst, arith}
+use Rattle.std.proofs.Common.{◌≡◌, ℕ, ◌+◌, ◌≢◌, inl, inr, List, [], ◌∷◌, ◌++◌, length, Bool, Some, true, refl, sym, ap, ◌∙◌, subst, arith}
 use Rattle.std.specs.Prelude.{slice_get, Contains}
 use Rattle.std.proofs.lemmas.Bool.{cases_eq}
 use Rattle.std.proofs.lemmas.Option.{same_Some, slice_get_within}
@@ -42,8 +42,8 @@ reachable-of_precedes : {S A : Type 0} (t : System S A) (value : S → ℕ) (s :
 reachable-of_precedes t value s (is_initial is) = ([], ap Some (sym is))
 reachable-of_precedes t value s (is_next actions before a runs no_goal no_dearer step) = (actions ++ a ∷ [], run-push t t.initial actions a before s runs step)
 
-module _ {S : Type 0} (t : System S ℕ) (value : S → ℕ) (states : List S) (all : List Node) (queue : List Waiting)
-    (one_each : length all ≡ length states) (nodes : AreNodes t value (found_of states all) queue) where
+module _ {S : Type 0} (t : System S ℕ) (value : S → ℕ) (is_dead : S → Bool) (states : List S) (all : List Node) (queue : List Waiting)
+    (one_each : length all ≡ length states) (nodes : AreNodes t value is_dead (found_of states all) queue) where
   node_there : (k : ℕ) (x : S) → slice_get states k ≡ Some x → (n : Found S) × (slice_get (found_of states all) k ≡ Some n) × (n.state ≡ x)
   node_there k x at =
       let r = get_exists all k (omega (arith, slice_get_within states k x at)) in
@@ -77,7 +77,7 @@ module _ {S : Type 0} (t : System S ℕ) (value : S → ℕ) (states : List S) (
   with_reach x precedes = (reachable-of_precedes t value x precedes, precedes)
 
   -- the listed states are as many as the limit allows, and an action leads to a new one from the state whose turn it is
-  pub more_reachable : (i : ℕ) (turn : IsTurn (found_of states all) i) (a : ℕ) (s : S) → t.step turn.found.state a ≡ Some s → (¬ Contains states s)
+  pub more_reachable : (i : ℕ) (turn : IsTurn value (found_of states all) i) (a : ℕ) (s : S) → t.step turn.found.state a ≡ Some s → (¬ Contains states s)
       → (max_states : ℕ) → length states ≡ max_states → AreMoreReachable t value max_states
   more_reachable i turn a s step is_new max_states full = (
     states ++ s ∷ [],

@@ -1,5 +1,5 @@
 -- The found states are the two lists put together, place by place.
-use Rattle.std.proofs.Common.{◌≡◌, ℕ, zero, suc, ◌+◌, ◌≤◌, List, [], ◌∷◌, ◌++◌, length, set, get_or, Bool, cond, Some, false, refl, sym, ap, ◌∙◌, subst, arith}
+use Rattle.std.proofs.Common.{◌≡◌, ℕ, zero, suc, ◌+◌, ◌≤◌, List, [], ◌∷◌, ◌++◌, length, set, get_or, Bool, cond, Some, true, false, refl, sym, ap, ◌∙◌, subst, arith}
 use Rattle.std.specs.Prelude.{slice_get}
 use Rattle.std.proofs.lemmas.Option.{same_Some, get_or_from_slice_get, slice_get_within}
 use Rattle.std.proofs.lemmas.List.Sums.{sum_by-append, sum_by-set}
@@ -69,10 +69,10 @@ module _ {S : Type 0} where
       let one : one_if (get_or nodes j n).node.is_expanded ≡ one_if n.node.is_expanded = ap (λ (x : Found S). one_if x.node.is_expanded) here in
       omega (arith, one, sum_by-set (λ (x : Found S). one_if x.node.is_expanded) nodes j m n (slice_get_within nodes j n at))
 
-  pub count-mark : (nodes : List (Found S)) (j : ℕ) (n : Found S) → slice_get nodes j ≡ Some n → n.node.is_expanded ≡ false → expanded_count (set nodes j (marked n)) ≡ expanded_count nodes + 1
+  pub count-mark : (nodes : List (Found S)) (j : ℕ) (n : Found S) → slice_get nodes j ≡ Some n → n.node.is_expanded ≡ false → expanded_count (set nodes j (marked true n)) ≡ expanded_count nodes + 1
   count-mark nodes j n at waits =
       let one : one_if n.node.is_expanded ≡ 0 = ap (λ b. one_if b) waits in
-      omega (arith, one, count-set nodes j n (marked n) at)
+      omega (arith, one, count-set nodes j n (marked true n) at)
 
   -- a node is new
   pub updates-push : (nodes : List (Found S)) (m : Found S) → m.node.is_expanded ≡ false → ((k : ℕ) (n : Found S) → slice_get nodes k ≡ Some n → n.state ≡ m.state → ⊥)

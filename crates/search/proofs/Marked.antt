@@ -1,19 +1,19 @@
 -- What a search keeps true when a state's turn comes and goes.
-use Rattle.std.proofs.Common.{◌≡◌, ℕ, ◌+◌, ◌*◌, ◌≤◌, ◌≢◌, inl, inr, List, Some, true, false, refl, sym, ap, ◌∙◌, subst, arith}
+use Rattle.std.proofs.Common.{◌≡◌, ℕ, ◌+◌, ◌*◌, ◌≤◌, ◌≢◌, inl, inr, List, Bool, Some, true, false, refl, sym, ap, ◌∙◌, subst, arith}
 use Rattle.std.specs.Prelude.{slice_get, Contains, All}
 use Rattle.std.proofs.lemmas.Bool.{cases_eq, false≢true}
 use Rattle.std.proofs.lemmas.List.Elements.{All-weaker}
 use Rattle.std.proofs.lemmas.Option.{same_Some}
 use Rattle.model.specs.Runs.{System, CostsAtLeast}
-use Rattle.search.specs.Nodes.{Waiting, place_of, entry, IsEntryOf, parent_of, begins, follows, IsWay, HasWay, Found, expanded_count, Leads, dearest, AreNodes, IsFoundWithin, IsOpen, AreOpen, AreOpenBut, IsTurn, marked}
+use Rattle.search.specs.Nodes.{Waiting, place_of, entry, IsWaiting, total_of, IsEntryOf, parent_of, begins, follows, IsWay, HasWay, Found, expanded_count, Leads, dearest, AreNodes, IsFoundWithin, IsOpen, AreOpen, AreOpenBut, IsTurn, marked}
 use Rattle.search.specs.Outcome.{IsReachableAt, ReachingCostsAtLeast}
 
 module _ {S : Type 0} (nodes after : List (Found S)) (i : ℕ) (one : Found S) (stood : slice_get nodes i ≡ Some one) (waited : one.node.is_expanded ≡ false)
-    (here : slice_get after i ≡ Some (marked one)) (others : (k : ℕ) → k ≢ i → slice_get after k ≡ slice_get nodes k) (count : expanded_count after ≡ expanded_count nodes + 1) where
-  each_marked : (P : ℕ → Found S → Type 0) → P i (marked one) → ((k : ℕ) (n : Found S) → k ≢ i → slice_get nodes k ≡ Some n → P k n) → (k : ℕ) (n : Found S) → slice_get after k ≡ Some n → P k n
+    (here : slice_get after i ≡ Some (marked true one)) (others : (k : ℕ) → k ≢ i → slice_get after k ≡ slice_get nodes k) (count : expanded_count after ≡ expanded_count nodes + 1) where
+  each_marked : (P : ℕ → Found S → Type 0) → P i (marked true one) → ((k : ℕ) (n : Found S) → k ≢ i → slice_get nodes k ≡ Some n → P k n) → (k : ℕ) (n : Found S) → slice_get after k ≡ Some n → P k n
   each_marked P at_i elsewhere k n at =
       elim (cases_eq k i) [
-        | inl e ↦ subst (λ p. P p n) (sym e) (subst (λ x. P i x) (same_Some (marked one) n (sym here ∙ ap (slice_get after) (sym e) ∙ at)) at_i)
+        | inl e ↦ subst (λ p. P p n) (sym e) (subst (λ x. P i x) (same_Some (marked true one) n (sym here ∙ ap (slice_get after) (sym e) ∙ at)) at_i)
         | inr other ↦ elsewhere k n other (sym (others k other) ∙ at)
       ]
 
@@ -32,7 +32,7 @@ module _ {S : Type 0} (nodes after : List (Found S)) (i : ℕ) (one : Found S) (
       elim (cases_eq k i) [
         | inl e ↦
             let same : one ≡ n = same_Some one n (sym stood ∙ ap (slice_get nodes) (sym e) ∙ at) in
-            (i, marked one, here, ap (λ (x : Found S). x.state) same ∙ is, omega (arith, within, ap (λ (x : Found S). x.node.cost) same))
+            (i, marked true one, here, ap (λ (x : Found S). x.state) same ∙ is, omega (arith, within, ap (λ (x : Found S). x.node.cost) same))
         | inr other ↦ (k, n, others k other ∙ at, is, within)
       ]
 
@@ -44,29 +44,30 @@ module _ {S : Type 0} (nodes after : List (Found S)) (i : ℕ) (one : Found S) (
       elim (cases_eq k i) [
         | inl e ↦
             let same : one ≡ n = same_Some one n (sym stood ∙ ap (slice_get nodes) (sym e) ∙ at) in
-            follows (marked n) before elsewhere (ap (slice_get after) e ∙ here ∙ ap (λ (x : Found S). Some (marked x)) same) rest is
+            follows (marked true n) before elsewhere (ap (slice_get after) e ∙ here ∙ ap (λ (x : Found S). Some (marked true x)) same) rest is
         | inr other ↦ follows n before elsewhere (others k other ∙ at) rest is
       ]
 
   -- an entry's state stays where it is
-  entry_marked : (value : S → ℕ) (w : Waiting) → IsEntryOf value nodes w → IsEntryOf value after w
-  entry_marked value w of =
+  entry_marked : (value : S → ℕ) (is_dead : S → Bool) (w : Waiting) → IsEntryOf value is_dead nodes w → IsEntryOf value is_dead after w
+  entry_marked value is_dead w of =
       elim (cases_eq (place_of w) i) [
         | inl e ↦
             let same : one ≡ of.found = same_Some one of.found (sym stood ∙ ap (slice_get nodes) (sym e) ∙ of.stands) in
             record {
-              found = marked one;
+              found = marked true one;
               stands = ap (slice_get after) e ∙ here;
+              alive = ap (λ (x : Found S). is_dead x.state) same ∙ of.alive;
               estimate = of.estimate ∙ sym (ap (λ (x : Found S). value x.state) same);
               part = of.part;
             }
-        | inr other ↦ record { found = of.found; stands = others (place_of w) other ∙ of.stands; estimate = of.estimate; part = of.part }
+        | inr other ↦ record { found = of.found; stands = others (place_of w) other ∙ of.stands; alive = of.alive; estimate = of.estimate; part = of.part }
       ]
 
-  pub entries_marked : (value : S → ℕ) (queue : List Waiting) → All (IsEntryOf value nodes) queue → All (IsEntryOf value after) queue
-  entries_marked value queue all = All-weaker (IsEntryOf value nodes) (IsEntryOf value after) (entry_marked value) queue all
+  pub entries_marked : (value : S → ℕ) (is_dead : S → Bool) (queue : List Waiting) → All (IsEntryOf value is_dead nodes) queue → All (IsEntryOf value is_dead after) queue
+  entries_marked value is_dead queue all = All-weaker (IsEntryOf value is_dead nodes) (IsEntryOf value is_dead after) (entry_marked value is_dead) queue all
 
-  module _ (t : System S ℕ) (value : S → ℕ) (queue queue' : List Waiting) (old : AreNodes t value nodes queue) where
+  module _ (t : System S ℕ) (value : S → ℕ) (is_dead : S → Bool) (queue queue' : List Waiting) (old : AreNodes t value is_dead nodes queue) (alive : is_dead one.state ≡ false) where
     leads_marked : (n : Found S) → Leads t nodes n → Leads t after n
     leads_marked n leads = record {
       parent = leads.parent;
@@ -76,7 +77,7 @@ module _ {S : Type 0} (nodes after : List (Found S)) (i : ℕ) (one : Found S) (
       step = leads.step;
     }
 
-    marked_leads : (n : Found S) → Leads t after n → Leads t after (marked n)
+    marked_leads : (n : Found S) → Leads t after n → Leads t after (marked true n)
     marked_leads n leads = record {
       parent = leads.parent;
       stands = leads.stands;
@@ -90,15 +91,16 @@ module _ {S : Type 0} (nodes after : List (Found S)) (i : ℕ) (one : Found S) (
         let (way, leads, short) = old.shallow k n at in
         (way, way_marked k way leads, omega (arith, short, count))
 
-    pub nodes_marked : t.meets_goal one.state ≡ false → CostsAtLeast t (one.node.cost + value one.state) → ReachingCostsAtLeast t one.state one.node.cost
-        → ((k : ℕ) (n : Found S) → slice_get nodes k ≡ Some n → n.node.is_expanded ≡ false → k ≢ i → Contains queue' (entry n.node.cost (value n.state) k))
-        → All (IsEntryOf value nodes) queue' → AreNodes t value after queue'
-    nodes_marked no_goal no_dearer cheapest queued entries = record {
+    pub nodes_marked : t.meets_goal one.state ≡ false → CostsAtLeast t (total_of value one) → ReachingCostsAtLeast t one.state one.node.cost
+        → ((k : ℕ) (n : Found S) → slice_get nodes k ≡ Some n → IsWaiting is_dead n → total_of value one ≤ total_of value n)
+        → ((k : ℕ) (n : Found S) → slice_get nodes k ≡ Some n → IsWaiting is_dead n → k ≢ i → Contains queue' (entry n.node.cost (value n.state) k))
+        → All (IsEntryOf value is_dead nodes) queue' → AreNodes t value is_dead after queue'
+    nodes_marked no_goal no_dearer cheapest least queued entries = record {
       root =
           elim (cases_eq 0 i) [
             | inl e ↦
                 let same : one ≡ old.root.0 = same_Some one old.root.0 (sym stood ∙ ap (slice_get nodes) (sym e) ∙ old.root.1) in
-                (marked one, ap (slice_get after) e ∙ here, ap (λ (x : Found S). x.state) same ∙ old.root.2, ap (λ (x : Found S). x.node.cost) same ∙ old.root.3)
+                (marked true one, ap (slice_get after) e ∙ here, ap (λ (x : Found S). x.state) same ∙ old.root.2, ap (λ (x : Found S). x.node.cost) same ∙ old.root.3)
             | inr other ↦ (old.root.0, others 0 other ∙ old.root.1, old.root.2, old.root.3)
           ];
       linked = each_marked (λ k n. k ≢ 0 → Leads t after n)
@@ -114,22 +116,35 @@ module _ {S : Type 0} (nodes after : List (Found S)) (i : ℕ) (one : Found S) (
       shallow = each_marked (λ k n. HasWay after k (expanded_count after)) (way_still i one stood) (λ k n _ at. way_still k n at);
       reachable = each_marked (λ k n. IsReachableAt t n.state n.node.cost) (old.reachable i one stood) (λ k n _ at. old.reachable k n at);
       no_goal = each_marked (λ k n. n.node.is_expanded ≡ true → t.meets_goal n.state ≡ false) (λ _. no_goal) (λ k n _ at. old.no_goal k n at);
-      no_dearer = each_marked (λ k n. n.node.is_expanded ≡ true → CostsAtLeast t (n.node.cost + value n.state)) (λ _. no_dearer) (λ k n _ at. old.no_dearer k n at);
+      no_dearer = each_marked (λ k n. n.node.is_expanded ≡ true → CostsAtLeast t (total_of value n)) (λ _. no_dearer) (λ k n _ at. old.no_dearer k n at);
       cheapest = each_marked (λ k n. n.node.is_expanded ≡ true → ReachingCostsAtLeast t n.state n.node.cost) (λ _. cheapest) (λ k n _ at. old.cheapest k n at);
-      queued = each_marked (λ k n. n.node.is_expanded ≡ false → Contains queue' (entry n.node.cost (value n.state) k))
-          (λ waits. absurd (false≢true (sym waits)))
+      alive = each_marked (λ k n. n.node.is_expanded ≡ true → is_dead n.state ≡ false) (λ _. alive) (λ k n _ at. old.alive k n at);
+      ordered = λ p k x n at_p at_k expanded waits.
+          each_marked (λ k n. IsWaiting is_dead n → total_of value x ≤ total_of value n)
+          (λ is_waiting. absurd (false≢true (sym is_waiting.0)))
+          (λ k n _ at is_waiting.
+          each_marked (λ p x. x.node.is_expanded ≡ true → total_of value x ≤ total_of value n)
+          (λ _. least k n at is_waiting)
+          (λ p x _ at_x was_expanded. old.ordered p k x n at_x at was_expanded is_waiting)
+          p x at_p expanded)
+          k n at_k waits;
+      queued = each_marked (λ k n. IsWaiting is_dead n → Contains queue' (entry n.node.cost (value n.state) k))
+          (λ waits. absurd (false≢true (sym waits.0)))
           (λ k n other at waits. queued k n at waits other);
-      entries = entries_marked value queue' entries;
+      entries = entries_marked value is_dead queue' entries;
     }
 
     -- its turn begins
-    pub turn_marked : IsTurn after i
+    pub turn_marked : IsTurn value after i
     turn_marked =
         let (way, leads, short) = old.shallow i one stood in
         record {
-          found = marked one;
+          found = marked true one;
           stands = here;
           is_expanded = refl;
+          greatest = each_marked (λ k n. n.node.is_expanded ≡ true → total_of value n ≤ total_of value one)
+              (λ _. omega arith)
+              (λ k n _ at expanded. old.ordered k i n one at stood expanded (waited, alive));
           cheap = rw count (omega (arith, old.cheap i one stood));
           way = way;
           leads = way_marked i way leads;

@@ -1,5 +1,5 @@
 -- What a search keeps true, through each of its steps.
-use Rattle.std.proofs.Common.{◌≡◌, ℕ, ◌+◌, ◌*◌, ◌≤◌, ◌≢◌, ◌⊎◌, inl, inr, List, [], ◌∷◌, ◌++◌, Some, None, true, false, refl, sym, ap, ◌∙◌, subst, arith}
+use Rattle.std.proofs.Common.{◌≡◌, ℕ, ◌+◌, ◌*◌, ◌≤◌, ◌≢◌, ◌⊎◌, inl, inr, List, [], ◌∷◌, ◌++◌, Bool, Some, None, true, false, refl, sym, ap, ◌∙◌, subst, arith}
 use Rattle.std.specs.Prelude.{slice_get, Contains, All, IsPermutation}
 use Rattle.std.proofs.lemmas.List.Elements.{All-weaker, All-cons}
 use Rattle.std.proofs.lemmas.List.Sorted.{Contains-permutation, All-permutation}
@@ -11,16 +11,21 @@ use Rattle.std.proofs.lemmas.List.{length-append}
 use Rattle.std.proofs.lemmas.List.Sums.{sum_by-append}
 use Rattle.model.specs.Runs.{System, run, CostsAtLeast}
 use Rattle.search.specs.Outcome.{IsReachableAt, ReachingCostsAtLeast}
-use Rattle.search.specs.Nodes.{Waiting, place_of, entry, IsEntryOf, parent_of, begins, follows, IsWay, HasWay, Found, expanded_count, Leads, dearest, AreNodes, IsFoundWithin, IsOpen, AreOpenBut, IsTurn, Updates}
+use Rattle.search.specs.Nodes.{Waiting, place_of, entry, IsWaiting, total_of, IsEntryOf, parent_of, begins, follows, IsWay, HasWay, Found, expanded_count, Leads, dearest, AreNodes, IsFoundWithin, IsOpen, AreOpenBut, IsTurn, Updates}
 use Rattle.search.specs.Progress.{Continues, IsListed}
 
 -- What holds of the nodes after a step of an expansion, by which the state is reached by the action.
-pub record Stepped {S : Type 0} (t : System S ℕ) (value : S → ℕ) (nodes after : List (Found S)) (queue : List Waiting) (i : ℕ) (a : ℕ) (s : S) : Type 0 where
-  pub sound : AreNodes t value after queue
-  pub turn : IsTurn after i
+pub record Stepped {S : Type 0} (t : System S ℕ) (value : S → ℕ) (is_dead : S → Bool) (nodes after : List (Found S)) (queue : List Waiting) (i : ℕ) (a : ℕ) (s : S) : Type 0 where
+  pub sound : AreNodes t value is_dead after queue
+  pub turn : IsTurn value after i
   pub others : AreOpenBut t after i
   pub continues : Continues nodes after i
   pub listed : IsListed t after i a s
+
+-- the queue once a state is reached by a way that is new: its entry joins the others, unless the state is told dead
+abbrev pub IsJoined : Bool → Waiting → List Waiting → List Waiting → Type 0
+IsJoined true w queue queue' = queue' ≡ queue
+IsJoined false w queue queue' = IsPermutation (w ∷ queue) queue'
 
 module _ {S A : Type 0} (t : System S A) where
   -- a list that leads to a state, and one more action
@@ -73,16 +78,51 @@ module _ {S : Type 0} (nodes after : List (Found S)) (j : ℕ) (m : Found S) (up
       ]
 
   -- an entry's state stays where it is
-  entry_still : (value : S → ℕ) (w : Waiting) → IsEntryOf value nodes w → IsEntryOf value after w
-  entry_still value w of =
+  entry_still : (value : S → ℕ) (is_dead : S → Bool) (w : Waiting) → IsEntryOf value is_dead nodes w → IsEntryOf value is_dead after w
+  entry_still value is_dead w of =
       elim (cases_eq (place_of w) j) [
         | inl e ↦
             let was : slice_get nodes j ≡ Some of.found = ap (slice_get nodes) (sym e) ∙ of.stands in
-            record { found = m; stands = ap (slice_get after) e ∙ updates.here; estimate = of.estimate ∙ ap value (updates.same_state of.found was); part = of.part }
-        | inr other ↦ record { found = of.found; stands = updates.others (place_of w) other ∙ of.stands; estimate = of.estimate; part = of.part }
+            let same = updates.same_state of.found was in
+            record { found = m; stands = ap (slice_get after) e ∙ updates.here; alive = ap is_dead (sym same) ∙ of.alive; estimate = of.estimate ∙ ap value same; part = of.part }
+        | inr other ↦ record { found = of.found; stands = updates.others (place_of w) other ∙ of.stands; alive = of.alive; estimate = of.estimate; part = of.part }
       ]
 
-  module _ (t : System S ℕ) (value : S → ℕ) where
+  -- an expanded node was there before
+  expanded_before : (k : ℕ) (n : Found S) → slice_get after k ≡ Some n → n.node.is_expanded ≡ true → slice_get nodes k ≡ Some n
+  expanded_before k n at expanded =
+      elim (at_cases k n at) [
+        | inl is ↦ absurd (false≢true (sym updates.waits ∙ ap (λ (x : Found S). x.node.is_expanded) is.1 ∙ expanded))
+        | inr was ↦ was.1
+      ]
+
+  -- what the queue has once the updated node's entry has joined it, or has not since its state is told dead
+  pub record HasJoined (value : S → ℕ) (is_dead : S → Bool) (queue queue' : List Waiting) : Type 0 where
+    pub keeps : (w : Waiting) → Contains queue w → Contains queue' w
+    pub queued : IsWaiting is_dead m → Contains queue' (entry m.node.cost (value m.state) j)
+    pub entries : All (IsEntryOf value is_dead after) queue'
+
+  pub has_joined : (value : S → ℕ) (is_dead : S → Bool) (queue queue' : List Waiting) → All (IsEntryOf value is_dead nodes) queue
+      → IsJoined (is_dead m.state) (entry m.node.cost (value m.state) j) queue queue' → HasJoined value is_dead queue queue'
+  has_joined value is_dead queue queue' entries =
+      let one = entry m.node.cost (value m.state) j in
+      let all_in : All (IsEntryOf value is_dead after) queue = All-weaker (IsEntryOf value is_dead nodes) (IsEntryOf value is_dead after) (entry_still value is_dead) queue entries in
+      elim (is_dead m.state) as (λ d. is_dead m.state ≡ d → IsJoined d one queue queue' → HasJoined value is_dead queue queue') [
+        | true ↦ λ dead same. record {
+          keeps = λ w at. subst (λ q. Contains q w) (sym same) at;
+          queued = λ waits. absurd (false≢true (sym waits.1 ∙ dead));
+          entries = subst (λ q. All (IsEntryOf value is_dead after) q) (sym same) all_in;
+        }
+        | false ↦ λ alive joins.
+            let of : IsEntryOf value is_dead after one = record { found = m; stands = updates.here; alive = alive; estimate = refl; part = omega arith } in
+            record {
+              keeps = λ w at. Contains-permutation (one ∷ queue) queue' w joins (Contains-there one queue w at);
+              queued = λ _. Contains-permutation (one ∷ queue) queue' one joins (Contains-here one queue);
+              entries = All-permutation (IsEntryOf value is_dead after) (one ∷ queue) queue' joins (All-cons (IsEntryOf value is_dead after) one queue of all_in);
+            }
+      ] refl
+
+  module _ (t : System S ℕ) (value : S → ℕ) (is_dead : S → Bool) where
     leads_still : (n : Found S) → Leads t nodes n → Leads t after n
     leads_still n leads = record {
       parent = leads.parent;
@@ -97,7 +137,7 @@ module _ {S : Type 0} (nodes after : List (Found S)) (j : ℕ) (m : Found S) (up
     not_here k n at expanded e = false≢true (sym (updates.waited n (ap (slice_get nodes) (sym e) ∙ at)) ∙ expanded)
 
     -- a way to another node than the updated one leads there still, since it passes through expanded ones
-    way_still : (queue : List Waiting) → AreNodes t value nodes queue → (k : ℕ) (way : List ℕ) → IsWay nodes k way → k ≢ j → IsWay after k way
+    way_still : (queue : List Waiting) → AreNodes t value is_dead nodes queue → (k : ℕ) (way : List ℕ) → IsWay nodes k way → k ≢ j → IsWay after k way
     way_still queue old k way (begins first none) other = begins first none
     way_still queue old k way (follows n before elsewhere at earlier is) other =
         let leads = old.linked k n at elsewhere in
@@ -108,18 +148,15 @@ module _ {S : Type 0} (nodes after : List (Found S)) (j : ℕ) (m : Found S) (up
     open_still n is_open a next step = found_still next (n.node.cost + t.cost a) (is_open a next step)
 
     pub open_but_still : (i : ℕ) → AreOpenBut t nodes i → AreOpenBut t after i
-    open_but_still i all k n at expanded other =
-        elim (at_cases k n at) [
-          | inl is ↦ absurd (false≢true (sym updates.waits ∙ ap (λ (x : Found S). x.node.is_expanded) is.1 ∙ expanded))
-          | inr was ↦ open_still n (all k n was.1 expanded other)
-        ]
+    open_but_still i all k n at expanded other = open_still n (all k n (expanded_before k n at expanded) expanded other)
 
     -- the node's turn is not over
-    pub turn_still : (queue : List Waiting) → AreNodes t value nodes queue → (i : ℕ) (turn : IsTurn nodes i) → IsTurn after i
+    pub turn_still : (queue : List Waiting) → AreNodes t value is_dead nodes queue → (i : ℕ) (turn : IsTurn value nodes i) → IsTurn value after i
     turn_still queue old i turn = record {
       found = turn.found;
       stands = stays i turn.found turn.stands turn.is_expanded;
       is_expanded = turn.is_expanded;
+      greatest = λ k n at expanded. turn.greatest k n (expanded_before k n at expanded) expanded;
       cheap = rw updates.count turn.cheap;
       way = turn.way;
       leads = way_still queue old i turn.way turn.leads (not_here i turn.found turn.stands turn.is_expanded);
@@ -127,7 +164,7 @@ module _ {S : Type 0} (nodes after : List (Found S)) (j : ℕ) (m : Found S) (up
     }
 
     -- the way to the updated node is that to the node whose turn it is, and its action
-    way_here : (i : ℕ) (turn : IsTurn nodes i) (queue : List Waiting) → AreNodes t value nodes queue → parent_of m.node ≡ i → HasWay after j (expanded_count after)
+    way_here : (i : ℕ) (turn : IsTurn value nodes i) (queue : List Waiting) → AreNodes t value is_dead nodes queue → parent_of m.node ≡ i → HasWay after j (expanded_count after)
     way_here i turn queue old parent =
         elim (cases_eq j 0) [
           | inl first ↦ ([], begins first refl, omega arith)
@@ -140,12 +177,11 @@ module _ {S : Type 0} (nodes after : List (Found S)) (j : ℕ) (m : Found S) (up
         ]
 
     -- a state that an action leads to from the node whose turn it is joins the others, or is now reached at a lower cost
-    pub nodes_updated : (i : ℕ) (turn : IsTurn nodes i) (queue queue' : List Waiting) → AreNodes t value nodes queue
+    pub nodes_updated : (i : ℕ) (turn : IsTurn value nodes i) (queue queue' : List Waiting) → AreNodes t value is_dead nodes queue
         → parent_of m.node ≡ i → m.node.cost ≡ turn.found.node.cost + t.cost m.node.action → t.cost m.node.action ≤ dearest
-        → t.step turn.found.state m.node.action ≡ Some m.state
-        → ((w : Waiting) → Contains queue w → Contains queue' w) → Contains queue' (entry m.node.cost (value m.state) j) → All (IsEntryOf value after) queue'
-        → AreNodes t value after queue'
-    nodes_updated i turn queue queue' old parent cost affordable step keeps queued entries =
+        → t.step turn.found.state m.node.action ≡ Some m.state → value turn.found.state ≤ t.cost m.node.action + value m.state
+        → HasJoined value is_dead queue queue' → AreNodes t value is_dead after queue'
+    nodes_updated i turn queue queue' old parent cost affordable step falls joined =
         let leads : Leads t after m = record {
           parent = turn.found;
           stands = ap (slice_get after) parent ∙ stays i turn.found turn.stands turn.is_expanded;
@@ -180,33 +216,36 @@ module _ {S : Type 0} (nodes after : List (Found S)) (j : ℕ) (m : Found S) (up
           no_goal = each_after (λ k n. n.node.is_expanded ≡ true → t.meets_goal n.state ≡ false)
               (λ expanded. absurd (false≢true (sym updates.waits ∙ expanded)))
               (λ k n other at. old.no_goal k n at);
-          no_dearer = each_after (λ k n. n.node.is_expanded ≡ true → CostsAtLeast t (n.node.cost + value n.state))
+          no_dearer = each_after (λ k n. n.node.is_expanded ≡ true → CostsAtLeast t (total_of value n))
               (λ expanded. absurd (false≢true (sym updates.waits ∙ expanded)))
               (λ k n other at. old.no_dearer k n at);
           cheapest = each_after (λ k n. n.node.is_expanded ≡ true → ReachingCostsAtLeast t n.state n.node.cost)
               (λ expanded. absurd (false≢true (sym updates.waits ∙ expanded)))
               (λ k n other at. old.cheapest k n at);
-          queued = each_after (λ k n. n.node.is_expanded ≡ false → Contains queue' (entry n.node.cost (value n.state) k))
-              (λ _. queued)
-              (λ k n other at waits. keeps (entry n.node.cost (value n.state) k) (old.queued k n at waits));
-          entries = entries;
+          alive = each_after (λ k n. n.node.is_expanded ≡ true → is_dead n.state ≡ false)
+              (λ expanded. absurd (false≢true (sym updates.waits ∙ expanded)))
+              (λ k n other at. old.alive k n at);
+          ordered = λ p k x n at_p at_k expanded waits.
+              let was = expanded_before p x at_p expanded in
+              each_after (λ k n. IsWaiting is_dead n → total_of value x ≤ total_of value n)
+              (λ _. omega (arith, turn.greatest p x was expanded, cost, falls))
+              (λ k n other at is_waiting. old.ordered p k x n was at expanded is_waiting)
+              k n at_k waits;
+          queued = each_after (λ k n. IsWaiting is_dead n → Contains queue' (entry n.node.cost (value n.state) k))
+              joined.queued
+              (λ k n other at waits. joined.keeps (entry n.node.cost (value n.state) k) (old.queued k n at waits));
+          entries = joined.entries;
         }
 
     -- all that a step keeps
-    pub stepped : (i : ℕ) (turn : IsTurn nodes i) (queue queue' : List Waiting) → AreNodes t value nodes queue → AreOpenBut t nodes i
+    pub stepped : (i : ℕ) (turn : IsTurn value nodes i) (queue queue' : List Waiting) → AreNodes t value is_dead nodes queue → AreOpenBut t nodes i
         → parent_of m.node ≡ i → m.node.cost ≡ turn.found.node.cost + t.cost m.node.action → t.cost m.node.action ≤ dearest
-        → t.step turn.found.state m.node.action ≡ Some m.state
-        → IsPermutation (entry m.node.cost (value m.state) j ∷ queue) queue'
-        → Stepped t value nodes after queue' i m.node.action m.state
-    stepped i turn queue queue' old others parent cost affordable step joins =
-        let one = entry m.node.cost (value m.state) j in
-        let of : IsEntryOf value after one = record { found = m; stands = updates.here; estimate = refl; part = omega arith } in
-        let all_in : All (IsEntryOf value after) queue = All-weaker (IsEntryOf value nodes) (IsEntryOf value after) (entry_still value) queue old.entries in
+        → t.step turn.found.state m.node.action ≡ Some m.state → value turn.found.state ≤ t.cost m.node.action + value m.state
+        → IsJoined (is_dead m.state) (entry m.node.cost (value m.state) j) queue queue'
+        → Stepped t value is_dead nodes after queue' i m.node.action m.state
+    stepped i turn queue queue' old others parent cost affordable step falls joins =
         record {
-          sound = nodes_updated i turn queue queue' old parent cost affordable step
-              (λ w at. Contains-permutation (one ∷ queue) queue' w joins (Contains-there one queue w at))
-              (Contains-permutation (one ∷ queue) queue' one joins (Contains-here one queue))
-              (All-permutation (IsEntryOf value after) (one ∷ queue) queue' joins (All-cons (IsEntryOf value after) one queue of all_in));
+          sound = nodes_updated i turn queue queue' old parent cost affordable step falls (has_joined value is_dead queue queue' old.entries joins);
           turn = turn_still queue old i turn;
           others = open_but_still i others;
           continues = record {

@@ -74,10 +74,11 @@ module _ (initial old new : List Waiting) (all : List Node) (x : Waiting) (keeps
   }
 
   -- a current entry is taken
-  pub takes-popped : IsFirst x old → IsCurrent all x → (turn : Turn) → place_of x ≡ turn.id.0 → estimate_of x ≡ turn.estimate → TakesNext initial new all turn
-  takes-popped ahead now turn place estimate = record {
+  pub takes-popped : IsFirst x old → IsCurrent all x → (turn : Turn) → place_of x ≡ turn.id.0 → sum_of x ≡ turn.sum → estimate_of x ≡ turn.estimate → TakesNext initial new all turn
+  takes-popped ahead now turn place sum estimate = record {
     next = x;
     stands = place;
+    sum = sum;
     estimate = estimate;
     among = popped.0;
     current = now;

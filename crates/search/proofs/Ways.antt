@@ -1,25 +1,33 @@
 -- Where lists of actions come to, among the found states.
-use Rattle.std.proofs.Common.{◌≡◌, ℕ, ◌+◌, ◌≤◌, ◌⊎◌, inl, inr, List, [], ◌∷◌, None, Some, true, false, refl, sym, ap, ◌∙◌, subst, arith}
+use Rattle.std.proofs.Common.{◌≡◌, ℕ, ◌+◌, ◌≤◌, ◌⊎◌, inl, inr, List, [], ◌∷◌, Bool, None, Some, true, false, refl, sym, ap, ◌∙◌, subst, arith}
 use Rattle.std.specs.Prelude.{slice_get}
 use Rattle.std.specs.Option.{option_and_then}
+use Rattle.std.proofs.lemmas.Bool.{false≢true}
 use Rattle.std.proofs.lemmas.Option.{same_Some}
 use Rattle.std.proofs.lemmas.List.Sums.{sum_by-cons}
 use Rattle.model.specs.Runs.{System, run, cost_of_all}
 use Rattle.search.specs.Estimates.{IsConsistent}
+use Rattle.search.specs.DeadEnds.{TellsDeadEnds}
 use Rattle.search.specs.Outcome.{ReachingCostsAtLeast}
-use Rattle.search.specs.Nodes.{Waiting, Found, AreNodes, IsFoundWithin, AreOpen}
+use Rattle.search.specs.Nodes.{Waiting, Found, IsWaiting, total_of, AreNodes, IsFoundWithin, AreOpen}
 use Rattle.search.proofs.Consistent.{falls_along}
+use Rattle.search.proofs.DeadEnds.{dead_along}
 
-module _ {S : Type 0} (t : System S ℕ) (value : S → ℕ) (consistent : IsConsistent t value) (nodes : List (Found S)) (are_open : AreOpen t nodes)
-    (least : ℕ) (at_least : (k : ℕ) (n : Found S) → slice_get nodes k ≡ Some n → n.node.is_expanded ≡ false → least ≤ n.node.cost + value n.state) where
-  -- A list that runs from a found state to another comes to one that waits, or leads to one that is found at no more than
-  -- the list costs.
-  from_found : (plan : List ℕ) (end : S) (k : ℕ) (n : Found S) → slice_get nodes k ≡ Some n → run t n.state plan ≡ Some end
+module _ {S : Type 0} (t : System S ℕ) (value : S → ℕ) (is_dead : S → Bool) (consistent : IsConsistent t value) (tells : TellsDeadEnds t is_dead)
+    (nodes : List (Found S)) (are_open : AreOpen t nodes)
+    (least : ℕ) (at_least : (k : ℕ) (n : Found S) → slice_get nodes k ≡ Some n → IsWaiting is_dead n → least ≤ total_of value n) where
+  -- A list that runs from a found state to one that is not told dead comes to one that waits, or leads to one that is found
+  -- at no more than the list costs. It comes to none that is told dead.
+  from_found : (plan : List ℕ) (end : S) (k : ℕ) (n : Found S) → is_dead end ≡ false → slice_get nodes k ≡ Some n → run t n.state plan ≡ Some end
       → (least ≤ n.node.cost + cost_of_all t plan + value end) ⊎ IsFoundWithin nodes end (n.node.cost + cost_of_all t plan)
-  from_found [] end k n at runs = inr (k, n, at, same_Some n.state end runs, omega arith)
-  from_found (a ∷ plan) end k n at runs =
+  from_found [] end k n alive at runs = inr (k, n, at, same_Some n.state end runs, omega arith)
+  from_found (a ∷ plan) end k n alive at runs =
       elim n.node.is_expanded as (λ b. n.node.is_expanded ≡ b → (least ≤ n.node.cost + cost_of_all t (a ∷ plan) + value end) ⊎ IsFoundWithin nodes end (n.node.cost + cost_of_all t (a ∷ plan))) [
-        | false ↦ λ waits. inl (omega (arith, at_least k n at waits, falls_along t value consistent (a ∷ plan) n.state end runs))
+        | false ↦ λ not_expanded.
+            elim (is_dead n.state) as (λ d. is_dead n.state ≡ d → (least ≤ n.node.cost + cost_of_all t (a ∷ plan) + value end) ⊎ IsFoundWithin nodes end (n.node.cost + cost_of_all t (a ∷ plan))) [
+              | false ↦ λ living. inl (omega (arith, at_least k n at (not_expanded, living), falls_along t value consistent (a ∷ plan) n.state end runs))
+              | true ↦ λ told. absurd (false≢true (sym alive ∙ dead_along t is_dead tells (a ∷ plan) n.state end runs told))
+            ] refl
         | true ↦ λ expanded.
             elim (t.step n.state a) as (λ o. t.step n.state a ≡ o → option_and_then (λ next. run t next plan) o ≡ Some end
             → (least ≤ n.node.cost + cost_of_all t (a ∷ plan) + value end) ⊎ IsFoundWithin nodes end (n.node.cost + cost_of_all t (a ∷ plan))) [
@@ -27,7 +35,7 @@ module _ {S : Type 0} (t : System S ℕ) (value : S → ℕ) (consistent : IsCon
               | Some next ↦ λ leads on.
                   let (j, m, there, is, within) = are_open k n at expanded a next leads in
                   let paid : cost_of_all t (a ∷ plan) ≡ t.cost a + cost_of_all t plan = sum_by-cons t.cost a plan in
-                  elim (from_found plan end j m there (subst (λ (s : S). run t s plan ≡ Some end) (sym is) on)) [
+                  elim (from_found plan end j m alive there (subst (λ (s : S). run t s plan ≡ Some end) (sym is) on)) [
                     | inl waits ↦ inl (omega (arith, waits, within, paid))
                     | inr (i, x, stands, same, cheap) ↦ inr (i, x, stands, same, omega (arith, cheap, within, paid))
                   ]
@@ -35,11 +43,11 @@ module _ {S : Type 0} (t : System S ℕ) (value : S → ℕ) (consistent : IsCon
       ] refl
 
   -- a waiting state of the least sum is reached by a cheapest way
-  pub cheapest_way : (queue : List Waiting) → AreNodes t value nodes queue → (i : ℕ) (one : Found S) → slice_get nodes i ≡ Some one
-      → one.node.cost + value one.state ≤ least → ReachingCostsAtLeast t one.state one.node.cost
-  cheapest_way queue old i one stands is_least actions runs =
+  pub cheapest_way : (queue : List Waiting) → AreNodes t value is_dead nodes queue → (i : ℕ) (one : Found S) → slice_get nodes i ≡ Some one → is_dead one.state ≡ false
+      → total_of value one ≤ least → ReachingCostsAtLeast t one.state one.node.cost
+  cheapest_way queue old i one stands alive is_least actions runs =
       let (root, at, is, free) = old.root in
-      elim (from_found actions one.state 0 root at (subst (λ (s : S). run t s actions ≡ Some one.state) (sym is) runs)) [
+      elim (from_found actions one.state 0 root alive at (subst (λ (s : S). run t s actions ≡ Some one.state) (sym is) runs)) [
         | inl waits ↦ omega (arith, waits, free, is_least)
         | inr (k, n, there, same, within) ↦
             let place : k ≡ i = old.distinct k i n one there stands same in

@@ -1,4 +1,5 @@
 pub mod Estimates
+pub mod DeadEnds
 pub mod Transitions
 pub mod Outcome
 pub mod Nodes

@@ -1,11 +1,11 @@
 -- What a search keeps true of the states that it has found.
-use Rattle.std.specs.Prelude.{◌≡◌, ℕ, ◌+◌, ◌*◌, ◌≤◌, ◌<◌, ◌≢◌, true, false, List, [], ◌∷◌, ◌++◌, length, slice_get, Some, Contains, count_by, All}
+use Rattle.std.specs.Prelude.{◌≡◌, ℕ, ◌+◌, ◌*◌, ◌≤◌, ◌<◌, ◌≢◌, Bool, true, false, List, [], ◌∷◌, ◌++◌, length, slice_get, Some, Contains, count_by, All}
 use Rattle.std.specs.declared.cmp.Reverse.{Reverse}
 use Rattle.model.specs.Runs.{System, CostsAtLeast}
 use Rattle.search.specs.declared.nodes.StateId.{StateId}
 use Rattle.search.specs.declared.nodes.Node.{Node}
 use Rattle.search.specs.declared.nodes.ShortId.{ShortId}
-use Rattle.search.specs.Outcome.{IsReachableAt, ReachingCostsAtLeast}
+use Rattle.search.specs.Outcome.{IsReachableAt, ReachingCostsAtLeast, IsCut}
 
 -- a waiting state as the queue holds it: the sum of its cost and its estimate, the estimate, and its place
 abbrev pub Waiting : Type 0
@@ -53,10 +53,19 @@ found_of [] nodes = []
 found_of (s ∷ states) [] = []
 found_of (s ∷ states) (node ∷ nodes) = record { state = s; node = node } ∷ found_of states nodes
 
--- the entry is one of a found state, with the state's estimate
-pub record IsEntryOf {S : Type 0} (value : S → ℕ) (nodes : List (Found S)) (w : Waiting) : Type 0 where
+-- the found state waits to be expanded: it was not yet, and it is not told dead
+abbrev pub IsWaiting : {S : Type 0} → (S → Bool) → Found S → Type 0
+IsWaiting is_dead n = IsCut is_dead n.state n.node
+
+-- what a found state costs, with its estimate
+abbrev pub total_of : {S : Type 0} → (S → ℕ) → Found S → ℕ
+total_of value n = n.node.cost + value n.state
+
+-- the entry is one of a found state that is not told dead, with the state's estimate
+pub record IsEntryOf {S : Type 0} (value : S → ℕ) (is_dead : S → Bool) (nodes : List (Found S)) (w : Waiting) : Type 0 where
   pub found : Found S
   pub stands : slice_get nodes (place_of w) ≡ Some found
+  pub alive : is_dead found.state ≡ false
   pub estimate : estimate_of w ≡ value found.state
   pub part : estimate_of w ≤ sum_of w
 
@@ -97,8 +106,9 @@ HasWay {S} nodes k most = (path : List ℕ) × IsWay nodes k path × (length pat
 abbrev pub dearest : ℕ
 dearest = 4294967295
 
-module _ {S : Type 0} (t : System S ℕ) (value : S → ℕ) (nodes : List (Found S)) where
-  -- What holds of the found states at any time. Those that wait are in the queue, at their cost and with their estimate.
+module _ {S : Type 0} (t : System S ℕ) (value : S → ℕ) (is_dead : S → Bool) (nodes : List (Found S)) where
+  -- What holds of the found states at any time. Those that wait are in the queue, at their cost and with their estimate, and
+  -- none of them has a lesser sum of these than one that was expanded.
   pub record AreNodes (queue : List Waiting) : Type 0 where
     pub root : (n : Found S) × (slice_get nodes 0 ≡ Some n) × (n.state ≡ t.initial) × (n.node.cost ≡ 0)
     pub linked : (k : ℕ) (n : Found S) → slice_get nodes k ≡ Some n → k ≢ 0 → Leads t nodes n
@@ -109,8 +119,11 @@ module _ {S : Type 0} (t : System S ℕ) (value : S → ℕ) (nodes : List (Foun
     pub no_goal : (k : ℕ) (n : Found S) → slice_get nodes k ≡ Some n → n.node.is_expanded ≡ true → t.meets_goal n.state ≡ false
     pub no_dearer : (k : ℕ) (n : Found S) → slice_get nodes k ≡ Some n → n.node.is_expanded ≡ true → CostsAtLeast t (n.node.cost + value n.state)
     pub cheapest : (k : ℕ) (n : Found S) → slice_get nodes k ≡ Some n → n.node.is_expanded ≡ true → ReachingCostsAtLeast t n.state n.node.cost
-    pub queued : (k : ℕ) (n : Found S) → slice_get nodes k ≡ Some n → n.node.is_expanded ≡ false → Contains queue (entry n.node.cost (value n.state) k)
-    pub entries : All (IsEntryOf value nodes) queue
+    pub alive : (k : ℕ) (n : Found S) → slice_get nodes k ≡ Some n → n.node.is_expanded ≡ true → is_dead n.state ≡ false
+    pub ordered : (j k : ℕ) (m n : Found S) → slice_get nodes j ≡ Some m → slice_get nodes k ≡ Some n → m.node.is_expanded ≡ true → IsWaiting is_dead n
+        → total_of value m ≤ total_of value n
+    pub queued : (k : ℕ) (n : Found S) → slice_get nodes k ≡ Some n → IsWaiting is_dead n → Contains queue (entry n.node.cost (value n.state) k)
+    pub entries : All (IsEntryOf value is_dead nodes) queue
 
 -- the state is found, at no more than this cost
 abbrev pub IsFoundWithin : {S : Type 0} → List (Found S) → S → ℕ → Type 0
@@ -128,11 +141,12 @@ AreOpen {S} t nodes = (k : ℕ) (n : Found S) → slice_get nodes k ≡ Some n �
 abbrev pub AreOpenBut : {S : Type 0} → System S ℕ → List (Found S) → ℕ → Type 0
 AreOpenBut {S} t nodes i = (k : ℕ) (n : Found S) → slice_get nodes k ≡ Some n → n.node.is_expanded ≡ true → k ≢ i → IsOpen t nodes n
 
--- the node at this place is being expanded
-pub record IsTurn {S : Type 0} (nodes : List (Found S)) (i : ℕ) : Type 0 where
+-- the node at this place is being expanded, and no expanded one has a greater sum
+pub record IsTurn {S : Type 0} (value : S → ℕ) (nodes : List (Found S)) (i : ℕ) : Type 0 where
   pub found : Found S
   pub stands : slice_get nodes i ≡ Some found
   pub is_expanded : found.node.is_expanded ≡ true
+  pub greatest : (k : ℕ) (n : Found S) → slice_get nodes k ≡ Some n → n.node.is_expanded ≡ true → total_of value n ≤ total_of value found
   pub cheap : found.node.cost + dearest ≤ expanded_count nodes * dearest
   pub way : List ℕ
   pub leads : IsWay nodes i way
@@ -150,9 +164,9 @@ pub record Updates {S : Type 0} (nodes after : List (Found S)) (j : ℕ) (m : Fo
   pub only : (k : ℕ) (n : Found S) → slice_get nodes k ≡ Some n → n.state ≡ m.state → k ≡ j
   pub longer : length nodes ≤ length after
 
--- the node once it is expanded
-abbrev pub expanded : Node → Node
-expanded node = record { cost = node.cost; is_expanded = true; parent = node.parent; action = node.action }
+-- the node once it is marked as expanded, or as not
+abbrev pub marked_as : Bool → Node → Node
+marked_as is_expanded node = record { cost = node.cost; is_expanded = is_expanded; parent = node.parent; action = node.action }
 
-abbrev pub marked : {S : Type 0} → Found S → Found S
-marked n = record { state = n.state; node = expanded n.node }
+abbrev pub marked : {S : Type 0} → Bool → Found S → Found S
+marked is_expanded n = record { state = n.state; node = marked_as is_expanded n.node }

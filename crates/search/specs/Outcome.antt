@@ -1,7 +1,7 @@
 -- What a search tells of a transition system.
-use Rattle.std.specs.Prelude.{◌≡◌, ℕ, ◌+◌, ◌*◌, ◌<◌, ◌≤◌, true, false, if◌then◌else◌, List, [], ◌∷◌, length, slice_get, Some, None, Contains}
+use Rattle.std.specs.Prelude.{◌≡◌, ℕ, ◌+◌, ◌*◌, ◌<◌, ◌≤◌, Bool, true, false, if◌then◌else◌, List, [], ◌∷◌, length, slice_get, Some, Contains}
 use Rattle.model.specs.Runs.{System, run, cost_of_all, IsReachable, CostsAtLeast, IsOptimal, IsUnsolvable}
-use Rattle.model.specs.Claims.{Claim, bound, none, Line, IsClosed}
+use Rattle.model.specs.Claims.{Claim, bound, none, Mark, opened, cut, dead, Line, IsClosed}
 use Rattle.search.specs.declared.nodes.Node.{Node}
 use Rattle.search.specs.declared.best.Outcome.{Outcome}
 use Rattle.search.specs.declared.best.Outcome.TheVariants.{Found, Exhausted, States}
@@ -15,18 +15,24 @@ IsReachableAt {S} {A} t s cost = (actions : List A) × (run t t.initial actions 
 abbrev pub ReachingCostsAtLeast : {S A : Type 0} → System S A → S → ℕ → Type 0
 ReachingCostsAtLeast {S} {A} t s least = (actions : List A) → run t t.initial actions ≡ Some s → least ≤ cost_of_all t actions
 
--- a found state in a listing: open where it was expanded, and otherwise cut, where what follows costs at least its estimate
-abbrev pub line_of : {S : Type 0} → (S → ℕ) → S → Node → Line S
-line_of value s node = record { state = s; cost = node.cost; cut = if node.is_expanded then None else Some (value s) }
+-- what a listing says of a found state: that it is open where it was expanded, a dead end where it is told dead, and
+-- otherwise a cut, where what follows costs at least its estimate
+abbrev pub mark_of : {S : Type 0} → (S → ℕ) → (S → Bool) → S → Node → Mark
+mark_of value is_dead s node = if node.is_expanded then opened else (if is_dead s then dead else cut (value s))
+
+-- a found state in a listing
+abbrev pub line_of : {S : Type 0} → (S → ℕ) → (S → Bool) → S → Node → Line S
+line_of value is_dead s node = record { state = s; cost = node.cost; mark = mark_of value is_dead s node }
 
 -- the found states, in the order of the two lists
-abbrev pub lines_of : {S : Type 0} → (S → ℕ) → List S → List Node → List (Line S)
-lines_of value [] nodes = []
-lines_of value (s ∷ states) [] = []
-lines_of value (s ∷ states) (node ∷ nodes) = line_of value s node ∷ lines_of value states nodes
+abbrev pub lines_of : {S : Type 0} → (S → ℕ) → (S → Bool) → List S → List Node → List (Line S)
+lines_of value is_dead [] nodes = []
+lines_of value is_dead (s ∷ states) [] = []
+lines_of value is_dead (s ∷ states) (node ∷ nodes) = line_of value is_dead s node ∷ lines_of value is_dead states nodes
 
--- what is known of the states that a search by this estimate found, no more than it was allowed to list
-pub record AreFound {S A : Type 0} (t : System S A) (value : S → ℕ) (claim : Claim) (max_states : ℕ) (states : List S) (nodes : List Node) : Type 0 where
+-- what is known of the states that a search by this estimate and this test for dead ends found, no more than it was
+-- allowed to list
+pub record AreFound {S A : Type 0} (t : System S A) (value : S → ℕ) (is_dead : S → Bool) (claim : Claim) (max_states : ℕ) (states : List S) (nodes : List Node) : Type 0 where
   pub one_for_each : length nodes ≡ length states
   pub within_limit : length states ≤ max_states
   pub distinct : AreDistinct states
@@ -36,7 +42,9 @@ pub record AreFound {S A : Type 0} (t : System S A) (value : S → ℕ) (claim :
   -- an expanded state was reached by a cheapest way
   pub expanded_cheapest : (k : ℕ) (s : S) (node : Node) → slice_get states k ≡ Some s → slice_get nodes k ≡ Some node → node.is_expanded ≡ true
       → ReachingCostsAtLeast t s node.cost
-  pub closed : IsClosed t value claim (lines_of value states nodes)
+  -- no state that is told dead was expanded
+  pub expanded_alive : (k : ℕ) (s : S) (node : Node) → slice_get states k ≡ Some s → slice_get nodes k ≡ Some node → node.is_expanded ≡ true → is_dead s ≡ false
+  pub closed : IsClosed t value is_dead claim (lines_of value is_dead states nodes)
 
 -- each expanded state costs, with its estimate, at most this
 abbrev pub AreExpandedWithin : {S : Type 0} → (S → ℕ) → ℕ → List S → List Node → Type 0
@@ -58,14 +66,30 @@ abbrev pub AreMoreReachable : {S A : Type 0} → System S A → (S → ℕ) → 
 AreMoreReachable {S} t value max_states =
     (states : List S) × AreDistinct states × ((s : S) → Contains states s → IsReachable t s × PrecedesPlans t value s) × (max_states < length states)
 
--- The outcome of a search by this estimate is true: the steps are a cheapest list that solves, or none solves, and the
--- found states prove it; or there are more states than the limit.
-abbrev pub IsTrueOutcome : {S Store : Type 0} → System S ℕ → (S → ℕ) → (Store → List S) → ℕ → Outcome Store → Type 0
-IsTrueOutcome t value states_of max_states (Found steps cost found) =
+-- the found state is a cut: it was not expanded, and it is not told dead
+abbrev pub IsCut : {S : Type 0} → (S → Bool) → S → Node → Type 0
+IsCut is_dead s node = (node.is_expanded ≡ false) × (is_dead s ≡ false)
+
+-- What is known of the found states where a search stops at the limit: they are as many as it may list, and they prove that
+-- each list that solves costs at least as much as the least sum of cost and estimate over their cuts, of which there is
+-- one at least. No expanded state has a greater sum. A state whose expansion was not finished is a cut.
+pub record IsAtLimit {S A : Type 0} (t : System S A) (value : S → ℕ) (is_dead : S → Bool) (max_states least : ℕ) (states : List S) (nodes : List Node) : Type 0 where
+  pub found : AreFound t value is_dead (bound least) max_states states nodes
+  pub full : length states ≡ max_states
+  pub at_most_each_cut : (k : ℕ) (s : S) (node : Node) → slice_get states k ≡ Some s → slice_get nodes k ≡ Some node → IsCut is_dead s node → least ≤ node.cost + value s
+  pub of_some_cut : (k : ℕ) × (s : S) × (node : Node) × (slice_get states k ≡ Some s) × (slice_get nodes k ≡ Some node) × IsCut is_dead s node × (node.cost + value s ≡ least)
+  pub expanded_within : AreExpandedWithin value least states nodes
+  pub costs_at_least : CostsAtLeast t least
+
+-- The outcome of a search by this estimate and this test for dead ends is true: the steps are a cheapest list that solves,
+-- or none solves, and the found states prove it; or there are more states than the limit, and the found ones prove the bound.
+abbrev pub IsTrueOutcome : {S Store : Type 0} → System S ℕ → (S → ℕ) → (S → Bool) → (Store → List S) → ℕ → Outcome Store → Type 0
+IsTrueOutcome t value is_dead states_of max_states (Found steps cost found) =
     IsOptimal t steps.items × (cost_of_all t steps.items ≡ cost)
-    × AreFound t value (bound cost) max_states (states_of found.store) found.nodes.items
+    × AreFound t value is_dead (bound cost) max_states (states_of found.store) found.nodes.items
     × (length steps.items ≤ max_states)
     × AreExpandedWithin value cost (states_of found.store) found.nodes.items
-IsTrueOutcome t value states_of max_states (Exhausted found) =
-    IsUnsolvable t × AreFound t value none max_states (states_of found.store) found.nodes.items
-IsTrueOutcome t value states_of max_states States = AreMoreReachable t value max_states
+IsTrueOutcome t value is_dead states_of max_states (Exhausted found) =
+    IsUnsolvable t × AreFound t value is_dead none max_states (states_of found.store) found.nodes.items
+IsTrueOutcome t value is_dead states_of max_states (States least found) =
+    AreMoreReachable t value max_states × IsAtLimit t value is_dead max_states least (states_of found.store) found.nodes.items

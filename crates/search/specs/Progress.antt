@@ -1,5 +1,5 @@
 -- What a search keeps true from one step to the next.
-use Rattle.std.specs.Prelude.{◌≡◌, ◌≢◌, ℕ, ◌+◌, ◌≤◌, false, List, length, slice_get, Some, Contains, All}
+use Rattle.std.specs.Prelude.{◌≡◌, ◌≢◌, ℕ, ◌+◌, ◌≤◌, Bool, List, length, slice_get, Some, Contains, All}
 use Rattle.model.specs.Runs.{System}
 use Rattle.search.specs.declared.nodes.Node.{Node}
 use Rattle.packed_state.specs.Packed.{bits_of}
@@ -7,13 +7,15 @@ use Rattle.search.specs.declared.progress.Buffers.{Buffers}
 use Rattle.search.specs.declared.progress.Progress.{Progress}
 use Rattle.search.specs.declared.turns.Turn.{Turn}
 use Rattle.search.specs.Queue.{waiting_in, IsQueue}
-use Rattle.search.specs.Nodes.{Waiting, sum_of, estimate_of, place_of, entry, IsCurrent, IsEntryOf, Found, found_of, expanded_count, AreNodes, IsFoundWithin, AreOpen, AreOpenBut, IsTurn}
+use Rattle.search.specs.Outcome.{AreMoreReachable}
+use Rattle.search.specs.Nodes.{Waiting, sum_of, estimate_of, place_of, entry, IsCurrent, IsWaiting, total_of, IsEntryOf, Found, found_of, expanded_count, AreNodes, IsFoundWithin, AreOpen, AreOpenBut, IsTurn}
 
 -- Of those that wait, the state whose turn it is has the least sum of cost and estimate; of equal sum, the least estimate;
 -- and of these it comes first. It leaves the queue, and the others stay in it.
 pub record TakesNext (old new : List Waiting) (all : List Node) (turn : Turn) : Type 0 where
   pub next : Waiting
   pub stands : place_of next ≡ turn.id.0
+  pub sum : sum_of next ≡ turn.sum
   pub estimate : estimate_of next ≡ turn.estimate
   pub among : Contains old next
   pub current : IsCurrent all next
@@ -26,30 +28,31 @@ pub record TakesNext (old new : List Waiting) (all : List Node) (turn : Turn) : 
 abbrev pub nodes_in : {S Store : Type 0} → (Store → List S) → Progress Store → List (Found S)
 nodes_in states_of p = found_of (states_of p.store) p.nodes.items
 
-module _ {S Store : Type 0} (t : System S ℕ) (value : S → ℕ) (states_of : Store → List S) (p : Progress Store) where
+module _ {S Store : Type 0} (t : System S ℕ) (value : S → ℕ) (is_dead : S → Bool) (states_of : Store → List S) (p : Progress Store) where
   -- between two turns
   pub record IsSearch : Type 0 where
     pub one_each : length p.nodes.items ≡ length (states_of p.store)
-    pub nodes : AreNodes t value (nodes_in states_of p) (waiting_in p.queue)
+    pub nodes : AreNodes t value is_dead (nodes_in states_of p) (waiting_in p.queue)
     pub heap : IsQueue p.queue
 
-  -- the turn of the state at this place came: it waits, and is no more in the queue
-  pub record IsAtTurn (i : ℕ) : Type 0 where
+  -- the turn of a state came: it waits, and is no more in the queue
+  pub record IsAtTurn (turn : Turn) : Type 0 where
     pub one_each : length p.nodes.items ≡ length (states_of p.store)
     pub queue : List Waiting
-    pub nodes : AreNodes t value (nodes_in states_of p) queue
+    pub nodes : AreNodes t value is_dead (nodes_in states_of p) queue
     pub heap : IsQueue p.queue
     pub found : Found S
-    pub stands : slice_get (nodes_in states_of p) i ≡ Some found
-    pub waits : found.node.is_expanded ≡ false
-    pub least : (k : ℕ) (n : Found S) → slice_get (nodes_in states_of p) k ≡ Some n → n.node.is_expanded ≡ false → found.node.cost + value found.state ≤ n.node.cost + value n.state
-    pub rest : (k : ℕ) (n : Found S) → slice_get (nodes_in states_of p) k ≡ Some n → n.node.is_expanded ≡ false → k ≢ i → Contains (waiting_in p.queue) (entry n.node.cost (value n.state) k)
-    pub entries : All (IsEntryOf value (nodes_in states_of p)) (waiting_in p.queue)
+    pub stands : slice_get (nodes_in states_of p) turn.id.0 ≡ Some found
+    pub waits : IsWaiting is_dead found
+    pub sum : turn.sum ≡ total_of value found
+    pub least : (k : ℕ) (n : Found S) → slice_get (nodes_in states_of p) k ≡ Some n → IsWaiting is_dead n → total_of value found ≤ total_of value n
+    pub rest : (k : ℕ) (n : Found S) → slice_get (nodes_in states_of p) k ≡ Some n → IsWaiting is_dead n → k ≢ turn.id.0 → Contains (waiting_in p.queue) (entry n.node.cost (value n.state) k)
+    pub entries : All (IsEntryOf value is_dead (nodes_in states_of p)) (waiting_in p.queue)
 
   -- the state at this place is being expanded
   pub record IsExpanding (i : ℕ) : Type 0 where
     pub search : IsSearch
-    pub turn : IsTurn (nodes_in states_of p) i
+    pub turn : IsTurn value (nodes_in states_of p) i
     pub others_open : AreOpenBut t (nodes_in states_of p) i
 
 -- what was found stays found, at no higher cost, and the state that is being expanded stays as it is
@@ -63,15 +66,22 @@ abbrev pub IsListed : {S : Type 0} → System S ℕ → List (Found S) → ℕ �
 IsListed {S} t nodes i a s = (n : Found S) → slice_get nodes i ≡ Some n → IsFoundWithin nodes s (n.node.cost + t.cost a)
 
 -- The action's successor is listed while the state at this place is being expanded.
-pub record Reaches {S Store : Type 0} (t : System S ℕ) (value : S → ℕ) (states_of : Store → List S) (old new : Progress Store) (i max_states : ℕ) (a : ℕ) (s : S) : Type 0 where
-  pub expanding : IsExpanding t value states_of new i
+pub record Reaches {S Store : Type 0} (t : System S ℕ) (value : S → ℕ) (is_dead : S → Bool) (states_of : Store → List S) (old new : Progress Store) (i max_states : ℕ) (a : ℕ) (s : S) : Type 0 where
+  pub expanding : IsExpanding t value is_dead states_of new i
   pub within : length (states_of new.store) ≤ max_states
   pub continues : Continues (nodes_in states_of old) (nodes_in states_of new) i
   pub listed : IsListed t (nodes_in states_of new) i a s
 
+-- The limit allows no state more, and nothing has changed.
+pub record IsFull {S Store : Type 0} (t : System S ℕ) (value : S → ℕ) (states_of : Store → List S) (old new : Progress Store) (max_states : ℕ) : Type 0 where
+  pub more : AreMoreReachable t value max_states
+  pub full : length (states_of old.store) ≡ max_states
+  pub store : states_of new.store ≡ states_of old.store
+  pub nodes : new.nodes.items ≡ old.nodes.items
+
 -- The states' turn is over.
-pub record Expands {S Store : Type 0} (t : System S ℕ) (value : S → ℕ) (states_of : Store → List S) (old new : Progress Store) (max_states : ℕ) : Type 0 where
-  pub search : IsSearch t value states_of new
+pub record Expands {S Store : Type 0} (t : System S ℕ) (value : S → ℕ) (is_dead : S → Bool) (states_of : Store → List S) (old new : Progress Store) (max_states : ℕ) : Type 0 where
+  pub search : IsSearch t value is_dead states_of new
   pub are_open : AreOpen t (nodes_in states_of new)
   pub within : length (states_of new.store) ≤ max_states
   pub count : expanded_count (nodes_in states_of new) ≡ expanded_count (nodes_in states_of old) + 1

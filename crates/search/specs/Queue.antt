@@ -1,11 +1,11 @@
 -- The queue of a search: what its two heaps hold, and what they keep.
-use Rattle.std.specs.Prelude.{ℕ, ◌/◌, ◌%◌, ◌≤◌, ◌<◌, List, ◌∷◌, ◌++◌, map, All, IsPermutation}
+use Rattle.std.specs.Prelude.{◌≡◌, ℕ, ◌/◌, ◌%◌, ◌≤◌, ◌<◌, List, ◌∷◌, ◌++◌, map, Option, None, Some, All, IsPermutation}
 use Rattle.std.specs.declared.cmp.Ordering.{Ordering}
 use Rattle.std.specs.declared.cmp.Reverse.{Reverse}
 use Rattle.std.specs.Ordering.{nat_cmp, ordering_then}
 use Rattle.std.specs.BinaryHeap.{IsHeap, heap_items}
 use Rattle.search.specs.declared.waiting.Queue.{Queue}
-use Rattle.search.specs.Nodes.{Waiting, sum_of, entry_at}
+use Rattle.search.specs.Nodes.{Waiting, sum_of, entry_at, entry}
 
 -- the queue's order: the least sum is on top, then the least estimate, and then the least place
 abbrev pub by_sum : Waiting → Waiting → Ordering
@@ -34,3 +34,8 @@ pub record IsQueue (queue : Queue) : Type 0 where
 pub record Joins (old new : Queue) (w : Waiting) : Type 0 where
   pub joins : IsPermutation (w ∷ waiting_in old) (waiting_in new)
   pub heap : IsQueue old → IsQueue new
+
+-- the state at this place, of this cost, joins the queue by its estimate, or, where there is none, the queue stays as it is
+abbrev pub JoinsBy : Queue → Queue → ℕ → ℕ → Option ℕ → Type 0
+JoinsBy old new cost place None = new ≡ old
+JoinsBy old new cost place (Some estimate) = Joins old new (entry cost estimate place)

@@ -4,7 +4,9 @@ ghost use Rattle.model.specs.Limits.{max_states_listed};
 ghost use Rattle.search.specs.Estimates.{value_by};
 ghost use Rattle.search.specs.Outcome.{IsTrueOutcome};
 
+use crate::dead_ends::DeadEnd;
 use crate::estimates::Estimate;
+use crate::guide::Guide;
 use crate::nodes::FoundStates;
 use crate::progress::{Buffers, Progress};
 use crate::transitions::TransitionSystem;
@@ -33,7 +35,12 @@ pub enum Outcome<S> {
         states: FoundStates<S>,
     },
     /// More states would have to be listed than may be, before any plan is sure to be a cheapest one.
-    States,
+    States {
+        /// Each plan costs at least this.
+        bound: u64,
+        /// The states that were found: as many as may be.
+        states: FoundStates<S>,
+    },
 }
 
 /// Searches for a cheapest plan, by A* (Hart, Nilsson & Raphael, A Formal Basis for the Heuristic Determination of Minimum
@@ -42,16 +49,22 @@ pub enum Outcome<S> {
 /// least estimate; and among these the one that was found first. A goal state is answered when its turn comes. With the
 /// estimate 0 (`NoEstimate`) that is uniform-cost search, or Dijkstra's algorithm.
 ///
+/// A state that `dead_ends` tells dead is listed as a dead end, and never expanded; with `NoDeadEnd` there is none.
+///
 /// What differs from these: the states stand in a store, in the order in which they were found, and are named by
 /// their places there; actions are the system's numbers. Where a cheaper way to a waiting state is found, the old entry
 /// stays in the queue beside the new one, and is passed over when it comes up (lazy deletion). To an expanded state there
 /// is no cheaper way, since an estimate is consistent. At most `max_states` states are listed: where one more would have
-/// to be, the answer is `States`. Each turn writes into the same buffers, so that a state takes no memory but its place in
+/// to be, the answer is `States`, with the sum of the state whose turn it is as the bound; that state is not expanded then,
+/// though some of its successors may be listed. Whether a state is a dead end is asked where it is found, or found by a
+/// cheaper way. Each turn writes into the same buffers, so that a state takes no memory but its place in
 /// the store, among the nodes and in the queue.
 ///
 /// The clause promises what costs decide. A plan that is found is a cheapest one. `States` is told only where more
 /// states than the limit are next to one that is, with its estimate, no dearer than any plan (`PrecedesPlans`): where there
-/// are no more of these, the answer is a plan, or that there is none. The clause leaves open which of several cheapest plans
+/// are no more of these, the answer is a plan, or that there is none. No state that is told dead is expanded. The bound of
+/// `States` is the least sum of cost and estimate over the found states that are neither expanded nor told dead, and the
+/// found states prove it (`IsAtLimit`). The clause leaves open which of several cheapest plans
 /// is answered, which states whose sum is as much as these cost are expanded before, and the order of the states in the
 /// store. Of that order, the contract of `next_waiting` says that it gives the state found first of those of the least
 /// estimate of those of the least sum; that this is the one to be expanded or answered, and that states are found in the
@@ -59,29 +72,36 @@ pub enum Outcome<S> {
 ///
 /// ```text
 /// let store = PooledStore::new(alloc, system.width())?;
-/// match best_first(alloc, &system, &NoEstimate(&system), store, 1_000_000)? {
+/// match best_first(alloc, &system, &NoEstimate(&system), &NoDeadEnd(&system), store, 1_000_000)? {
 ///     Outcome::Found { steps, cost, states } => ..,
 ///     Outcome::Exhausted { states } => ..,
-///     Outcome::States => ..,
+///     Outcome::States { bound, states } => ..,
 /// }
 /// ```
-pub fn best_first<T: TransitionSystem, E: Estimate, S: StateStore>(
+pub fn best_first<T: TransitionSystem, E: Estimate, D: DeadEnd, S: StateStore>(
     alloc: Global,
     system: &T,
     estimate: &E,
+    dead_ends: &D,
     store: S,
     max_states: u32,
 ) -> Result<Outcome<S>, NoMemory>
     requires made_for { E.system_of estimate.now ≡ T.means system.now }
     requires estimate_width { E.width_of estimate.now ≡ T.width_of system.now }
+    requires dead_for { D.system_of dead_ends.now ≡ T.means system.now }
+    requires dead_width { D.width_of dead_ends.now ≡ T.width_of system.now }
     requires empty { S.states store ≡ [] }
     requires width { S.width_of store ≡ T.width_of system.now }
     requires some { 1 ≤ max_states }
     requires limit { max_states ≤ max_states_listed }
-    ensures { IfOk result (IsTrueOutcome (T.means system.now) (value_by (E.score_of estimate.now)) S.states max_states) }
+    ensures { IfOk result (IsTrueOutcome (T.means system.now) (value_by (E.score_of estimate.now)) (D.is_dead dead_ends.now) S.states max_states) }
 {
     let mut buffers = Buffers::new(alloc, system.width())?;
-    let mut progress = Progress::start(alloc, system, estimate, store)?;
+    let guide = Guide {
+        estimate,
+        dead_ends,
+    };
+    let mut progress = Progress::start(alloc, system, &guide, store)?;
     while let Some(turn) = progress.next_waiting() {
         progress.store.get(turn.id.0, &mut buffers.state);
         if system.meets_goal(&buffers.state) {
@@ -93,8 +113,11 @@ pub fn best_first<T: TransitionSystem, E: Estimate, S: StateStore>(
                 states,
             });
         }
-        if !progress.expand(system, estimate, &mut buffers, turn, max_states)? {
-            return Ok(Outcome::States);
+        if !progress.expand(system, &guide, &mut buffers, turn, max_states)? {
+            return Ok(Outcome::States {
+                bound: turn.sum,
+                states: progress.into_states(),
+            });
         }
     }
     Ok(Outcome::Exhausted {

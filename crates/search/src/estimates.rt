@@ -42,15 +42,6 @@ pub fn value_of(score: i64) -> u64
     if score > 0 { score as u64 } else { 0 }
 }
 
-/// The estimate of the state.
-pub(crate) fn value_in<E: Estimate>(estimate: &E, state: &Packed) -> u64
-    requires { length (bits_of state.now) ≡ E.width_of estimate.now }
-    ensures value { result ≡ value_by (E.score_of estimate.now) (bits_of state.now) }
-    ensures within { result < 2 ^ 63 }
-{
-    value_of(estimate.score(state))
-}
-
 /// The estimate 0 for each state of a system.
 #[derive(Clone, Copy)]
 pub struct NoEstimate<'a, T>(pub &'a T);

@@ -2,7 +2,9 @@
 #![tactic(auto)]
 
 mod best;
+mod dead_ends;
 mod estimates;
+mod guide;
 mod nodes;
 mod progress;
 mod transitions;
@@ -10,6 +12,7 @@ mod turns;
 mod waiting;
 
 pub use best::{MAX_STATES, Outcome, best_first};
+pub use dead_ends::{DeadEnd, NoDeadEnd};
 pub use estimates::{Estimate, NoEstimate, value_of};
 pub use nodes::{FoundStates, Node, StateId};
 pub use transitions::TransitionSystem;

@@ -3,13 +3,15 @@ ghost use Rattle.std.specs.Prelude.{◌≡◌, ◌≢◌, ℕ, ◌+◌, ◌<◌,
 ghost use Rattle.packed_state.specs.Packed.{bits_of};
 ghost use Rattle.packed_state.specs.Store.{IsPlaced};
 ghost use Rattle.search.specs.Estimates.{value_by};
-ghost use Rattle.search.specs.Outcome.{AreMoreReachable};
-ghost use Rattle.search.specs.Nodes.{Waiting, entry, IsEntry, IsCurrent, AreOpen, IsPath, IsReachedIn};
-ghost use Rattle.search.specs.Queue.{waiting_in, IsQueue, Joins};
-ghost use Rattle.search.specs.Progress.{TakesNext, nodes_in, IsSearch, IsAtTurn, IsExpanding, Reaches, Expands, AreWide};
+ghost use Rattle.search.specs.Outcome.{AreMoreReachable, IsAtLimit};
+ghost use Rattle.search.specs.Nodes.{Waiting, IsEntry, IsCurrent, AreOpen, IsPath, IsReachedIn};
+ghost use Rattle.search.specs.Queue.{waiting_in, IsQueue, JoinsBy};
+ghost use Rattle.search.specs.Progress.{TakesNext, nodes_in, IsSearch, IsAtTurn, IsExpanding, Reaches, IsFull, Expands, AreWide};
 
 use crate::best::MAX_STATES;
-use crate::estimates::{Estimate, value_in};
+use crate::dead_ends::DeadEnd;
+use crate::estimates::Estimate;
+use crate::guide::Guide;
 use crate::nodes::{FoundStates, Node, ShortId, StateId, steps_to};
 use crate::transitions::TransitionSystem;
 use crate::turns::{Parent, Turn};
@@ -64,7 +66,7 @@ fn place_of_state<S: StateStore>(
     ensures width { S.width_of store.new ≡ S.width_of store.old }
     ensures within { IfOk result (λ _. length (S.states store.new) ≤ max_states) }
     ensures placed { IfOk result (λ r. MatchOption r
-        ((¬ Contains (S.states store.old) (bits_of state.now)) × (length (S.states store.old) ≡ max_states))
+        ((¬ Contains (S.states store.old) (bits_of state.now)) × (length (S.states store.old) ≡ max_states) × (S.states store.new ≡ S.states store.old))
         (λ p. IsPlaced (S.states store.old) (S.states store.new) (bits_of state.now) p.0.0 p.1)) }
 {
     if store.len() < max_states as usize {
@@ -78,17 +80,18 @@ fn place_of_state<S: StateStore>(
 }
 
 impl<S: StateStore> Progress<S> {
-    /// The initial state alone is found, and waits.
-    pub(crate) fn start<T: TransitionSystem, E: Estimate>(
+    /// The initial state alone is found, and waits unless it is told dead.
+    pub(crate) fn start<T: TransitionSystem, E: Estimate, D: DeadEnd>(
         alloc: Global,
         system: &T,
-        estimate: &E,
+        guide: &Guide<'_, E, D>,
         mut store: S,
     ) -> Result<Progress<S>, NoMemory>
-        requires estimate_width { E.width_of estimate.now ≡ T.width_of system.now }
+        requires estimate_width { E.width_of guide.now.estimate.now ≡ T.width_of system.now }
+        requires dead_width { D.width_of guide.now.dead_ends.now ≡ T.width_of system.now }
         requires empty { S.states store ≡ [] }
         requires width { S.width_of store ≡ T.width_of system.now }
-        ensures search { IfOk result (λ p. IsSearch (T.means system.now) (value_by (E.score_of estimate.now)) S.states p) }
+        ensures search { IfOk result (λ p. IsSearch (T.means system.now) (value_by (E.score_of guide.now.estimate.now)) (D.is_dead guide.now.dead_ends.now) S.states p) }
         ensures open { IfOk result (λ p. AreOpen (T.means system.now) (nodes_in S.states p)) }
         ensures one { IfOk result (λ p. length (S.states p.store) ≡ 1) }
         ensures width { IfOk result (λ p. S.width_of p.store ≡ T.width_of system.now) }
@@ -100,7 +103,7 @@ impl<S: StateStore> Progress<S> {
             nodes: Vec::new(alloc),
             queue: Queue::new(alloc),
         };
-        let value = value_in(estimate, &initial);
+        let value = guide.value_in(&initial);
         let node = Node {
             cost: 0,
             is_expanded: false,
@@ -129,86 +132,90 @@ impl<S: StateStore> Progress<S> {
         while let Some(Reverse((sum, estimate, id))) = self.queue.pop() {
             let node = self.nodes[id.0 as usize];
             if !node.is_expanded && node.cost == sum - estimate {
-                return Some(Turn { id, estimate });
+                return Some(Turn { id, sum, estimate });
             }
         }
         None
     }
 
-    /// A new state waits.
-    fn add(&mut self, id: StateId, node: Node, estimate: u64) -> Result<(), NoMemory>
-        requires sum { node.cost + estimate < 2 ^ 64 }
+    /// A new state waits by its estimate, unless it has none.
+    fn add(&mut self, id: StateId, node: Node, estimate: Option<u64>) -> Result<(), NoMemory>
+        requires sum { IfSome estimate (λ e. node.cost + e < 2 ^ 64) }
         requires place { id.0 < MAX_STATES }
         ensures store { self.new.store ≡ self.old.store }
         ensures nodes { OnOk result (self.new.nodes.items ≡ self.old.nodes.items ++ node ∷ []) }
         ensures queue { OnOk result
-            (Joins self.old.queue self.new.queue (entry node.cost estimate id.0)) }
+            (JoinsBy self.old.queue self.new.queue node.cost id.0 estimate) }
     {
         self.nodes.push(node)?;
         self.enqueue(id, node.cost, estimate)
     }
 
-    /// A cheaper way to a waiting state is kept in place of the dearer.
-    fn improve(&mut self, id: StateId, node: Node, estimate: u64) -> Result<(), NoMemory>
+    /// A cheaper way to a state that is not expanded is kept in place of the dearer.
+    fn improve(&mut self, id: StateId, node: Node, estimate: Option<u64>) -> Result<(), NoMemory>
         requires found { id.0 < length self.old.nodes.items }
-        requires sum { node.cost + estimate < 2 ^ 64 }
+        requires sum { IfSome estimate (λ e. node.cost + e < 2 ^ 64) }
         requires place { id.0 < MAX_STATES }
         ensures store { self.new.store ≡ self.old.store }
         ensures nodes { self.new.nodes.items ≡ slice_set self.old.nodes.items id.0 node }
         ensures queue { OnOk result
-            (Joins self.old.queue self.new.queue (entry node.cost estimate id.0)) }
+            (JoinsBy self.old.queue self.new.queue node.cost id.0 estimate) }
     {
         self.nodes[id.0 as usize] = node;
         self.enqueue(id, node.cost, estimate)
     }
 
-    /// The state waits at this cost.
-    fn enqueue(&mut self, id: StateId, cost: u64, estimate: u64) -> Result<(), NoMemory>
-        requires sum { cost + estimate < 2 ^ 64 }
+    /// The state waits at this cost by its estimate, unless it has none.
+    fn enqueue(&mut self, id: StateId, cost: u64, estimate: Option<u64>) -> Result<(), NoMemory>
+        requires sum { IfSome estimate (λ e. cost + e < 2 ^ 64) }
         requires place { id.0 < MAX_STATES }
         ensures store { self.new.store ≡ self.old.store }
         ensures nodes { self.new.nodes.items ≡ self.old.nodes.items }
         ensures queue { OnOk result
-            (Joins self.old.queue self.new.queue (entry cost estimate id.0)) }
+            (JoinsBy self.old.queue self.new.queue cost id.0 estimate) }
     {
-        self.queue.push(Reverse((cost + estimate, estimate, id)))
+        match estimate {
+            Some(estimate) => self.queue.push(Reverse((cost + estimate, estimate, id))),
+            None => Ok(()),
+        }
     }
 
-    /// The state is expanded from now on.
-    fn mark_expanded(&mut self, id: StateId)
+    /// The state is marked as expanded from now on, or as not expanded.
+    fn mark(&mut self, id: StateId, is_expanded: bool)
         requires { id.0 < length self.old.nodes.items }
         ensures store { self.new.store ≡ self.old.store }
         ensures nodes { (node : _) → slice_get self.old.nodes.items id.0 ≡ Some node
-            → self.new.nodes.items ≡ slice_set self.old.nodes.items id.0 (record node { is_expanded = true }) }
+            → self.new.nodes.items ≡ slice_set self.old.nodes.items id.0 (record node { is_expanded = is_expanded }) }
         ensures queue { self.new.queue ≡ self.old.queue }
     {
-        self.nodes[id.0 as usize].is_expanded = true;
+        self.nodes[id.0 as usize].is_expanded = is_expanded;
     }
 
     /// Lists a successor of the state that is being expanded; tells whether the limit allows that.
-    fn reach<T: TransitionSystem, E: Estimate>(
+    fn reach<T: TransitionSystem, E: Estimate, D: DeadEnd>(
         &mut self,
         system: &T,
-        estimate: &E,
+        guide: &Guide<'_, E, D>,
         parent: &Parent<'_>,
         action: u32,
         state: &Packed,
         max_states: u32,
     ) -> Result<bool, NoMemory>
-        requires made_for { E.system_of estimate.now ≡ T.means system.now }
-        requires estimate_width { E.width_of estimate.now ≡ S.width_of self.old.store }
-        requires expanding { IsExpanding (T.means system.now) (value_by (E.score_of estimate.now)) S.states self.old parent.now.id.0 }
+        requires made_for { E.system_of guide.now.estimate.now ≡ T.means system.now }
+        requires estimate_width { E.width_of guide.now.estimate.now ≡ S.width_of self.old.store }
+        requires dead_width { D.width_of guide.now.dead_ends.now ≡ S.width_of self.old.store }
+        requires expanding { IsExpanding (T.means system.now) (value_by (E.score_of guide.now.estimate.now)) (D.is_dead guide.now.dead_ends.now) S.states self.old parent.now.id.0 }
         requires parent { slice_get (S.states self.old.store) parent.now.id.0 ≡ Some (bits_of parent.now.state.now) }
         requires parent_width { length (bits_of parent.now.state.now) ≡ S.width_of self.old.store }
-        requires score { parent.now.score ≡ E.score_of estimate.now (bits_of parent.now.state.now) }
+        requires score { parent.now.score ≡ E.score_of guide.now.estimate.now (bits_of parent.now.state.now) }
         requires leads { (T.means system.now).step (bits_of parent.now.state.now) action ≡ Some (bits_of state.now) }
         requires width { length (bits_of state.now) ≡ S.width_of self.old.store }
         requires within { length (S.states self.old.store) ≤ max_states }
         requires limit { max_states ≤ MAX_STATES }
         ensures width { S.width_of self.new.store ≡ S.width_of self.old.store }
         ensures listed { IfOk result (λ is_listed. MatchBool is_listed
-            (Reaches (T.means system.now) (value_by (E.score_of estimate.now)) S.states self.old self.new parent.now.id.0 max_states action (bits_of state.now))
-            (AreMoreReachable (T.means system.now) (value_by (E.score_of estimate.now)) max_states)) }
+            (Reaches (T.means system.now) (value_by (E.score_of guide.now.estimate.now)) (D.is_dead guide.now.dead_ends.now) S.states self.old self.new parent.now.id.0 max_states action (bits_of state.now))
+            (IsFull (T.means system.now) (value_by (E.score_of guide.now.estimate.now)) S.states self.old self.new max_states)) }
     {
         let before = self.nodes[parent.id.0 as usize];
         let cost = before.cost + u64::from(system.cost(action));
@@ -222,28 +229,31 @@ impl<S: StateStore> Progress<S> {
             return Ok(false);
         };
         if is_new {
-            let value = parent.value_after(estimate, action, state);
+            let value = parent.value_after(guide, action, state);
             self.add(id, node, value)?;
         } else if cost < self.nodes[id.0 as usize].cost {
-            let value = parent.value_after(estimate, action, state);
+            let value = parent.value_after(guide, action, state);
             self.improve(id, node, value)?;
         }
         Ok(true)
     }
 
     /// Lists the successors of the state whose turn it is, which the buffers hold; tells whether the limit allows that.
-    pub(crate) fn expand<T: TransitionSystem, E: Estimate>(
+    /// Where it does not, the state is not expanded.
+    pub(crate) fn expand<T: TransitionSystem, E: Estimate, D: DeadEnd>(
         &mut self,
         system: &T,
-        estimate: &E,
+        guide: &Guide<'_, E, D>,
         buffers: &mut Buffers,
         turn: Turn,
         max_states: u32,
     ) -> Result<bool, NoMemory>
-        requires made_for { E.system_of estimate.now ≡ T.means system.now }
-        requires estimate_width { E.width_of estimate.now ≡ T.width_of system.now }
-        requires turn { IsAtTurn (T.means system.now) (value_by (E.score_of estimate.now)) S.states self.old turn.id.0 }
-        requires value { turn.estimate ≡ value_by (E.score_of estimate.now) (bits_of buffers.old.state) }
+        requires made_for { E.system_of guide.now.estimate.now ≡ T.means system.now }
+        requires dead_for { D.system_of guide.now.dead_ends.now ≡ T.means system.now }
+        requires estimate_width { E.width_of guide.now.estimate.now ≡ T.width_of system.now }
+        requires dead_width { D.width_of guide.now.dead_ends.now ≡ T.width_of system.now }
+        requires turn { IsAtTurn (T.means system.now) (value_by (E.score_of guide.now.estimate.now)) (D.is_dead guide.now.dead_ends.now) S.states self.old turn }
+        requires value { turn.estimate ≡ value_by (E.score_of guide.now.estimate.now) (bits_of buffers.old.state) }
         requires open { AreOpen (T.means system.now) (nodes_in S.states self.old) }
         requires state { slice_get (S.states self.old.store) turn.id.0 ≡ Some (bits_of buffers.old.state) }
         requires no_goal { (T.means system.now).meets_goal (bits_of buffers.old.state) ≡ false }
@@ -254,12 +264,13 @@ impl<S: StateStore> Progress<S> {
         ensures width { IfOk result (λ _. S.width_of self.new.store ≡ T.width_of system.now) }
         ensures buffers { IfOk result (λ _. AreWide (T.width_of system.now) buffers.new) }
         ensures listed { IfOk result (λ is_listed. MatchBool is_listed
-            (Expands (T.means system.now) (value_by (E.score_of estimate.now)) S.states self.old self.new max_states)
-            (AreMoreReachable (T.means system.now) (value_by (E.score_of estimate.now)) max_states)) }
+            (Expands (T.means system.now) (value_by (E.score_of guide.now.estimate.now)) (D.is_dead guide.now.dead_ends.now) S.states self.old self.new max_states)
+            (AreMoreReachable (T.means system.now) (value_by (E.score_of guide.now.estimate.now)) max_states
+                × IsAtLimit (T.means system.now) (value_by (E.score_of guide.now.estimate.now)) (D.is_dead guide.now.dead_ends.now) max_states turn.sum (S.states self.new.store) self.new.nodes.items)) }
     {
         system.applicable(&buffers.state, &mut buffers.applicable)?;
-        self.mark_expanded(turn.id);
-        let score = turn.score(estimate, &buffers.state);
+        self.mark(turn.id, true);
+        let score = turn.score(guide.estimate, &buffers.state);
         for &action in &buffers.applicable {
             system.successor(action, &buffers.state, &mut buffers.next);
             let parent = Parent {
@@ -267,7 +278,8 @@ impl<S: StateStore> Progress<S> {
                 state: &buffers.state,
                 score,
             };
-            if !self.reach(system, estimate, &parent, action, &buffers.next, max_states)? {
+            if !self.reach(system, guide, &parent, action, &buffers.next, max_states)? {
+                self.mark(turn.id, false);
                 return Ok(false);
             }
         }

@@ -1,16 +1,20 @@
 //! The state whose turn it is, as the queue gives it and as its successors need it.
-ghost use Rattle.std.specs.Prelude.{◌≡◌, ◌<◌, ◌^◌, Some, length};
+ghost use Rattle.std.specs.Prelude.{◌≡◌, Some, length};
 ghost use Rattle.packed_state.specs.Packed.{bits_of};
 ghost use Rattle.search.specs.Estimates.{value_by};
+ghost use Rattle.search.specs.DeadEnds.{IsValueUnlessDead};
 
+use crate::dead_ends::DeadEnd;
 use crate::estimates::{Estimate, value_of};
+use crate::guide::Guide;
 use crate::nodes::StateId;
 use packed_state::Packed;
 
-/// A state whose turn came, and its estimate.
+/// A state whose turn came, its estimate, and the sum of its cost and that.
 #[derive(Clone, Copy)]
 pub(crate) struct Turn {
     pub(crate) id: StateId,
+    pub(crate) sum: u64,
     pub(crate) estimate: u64,
 }
 
@@ -37,15 +41,24 @@ impl Turn {
 }
 
 impl Parent<'_> {
-    /// The estimate of the state that the action leads to.
-    pub(crate) fn value_after<E: Estimate>(&self, estimate: &E, action: u32, next: &Packed) -> u64
-        requires width { length (bits_of self.now.state.now) ≡ E.width_of estimate.now }
-        requires next_width { length (bits_of next.now) ≡ E.width_of estimate.now }
-        requires score { self.now.score ≡ E.score_of estimate.now (bits_of self.now.state.now) }
-        requires leads { (E.system_of estimate.now).step (bits_of self.now.state.now) action ≡ Some (bits_of next.now) }
-        ensures value { result ≡ value_by (E.score_of estimate.now) (bits_of next.now) }
-        ensures within { result < 2 ^ 63 }
+    /// The estimate of the state that the action leads to, unless that is told dead.
+    pub(crate) fn value_after<E: Estimate, D: DeadEnd>(
+        &self,
+        guide: &Guide<'_, E, D>,
+        action: u32,
+        next: &Packed,
+    ) -> Option<u64>
+        requires width { length (bits_of self.now.state.now) ≡ E.width_of guide.now.estimate.now }
+        requires next_width { length (bits_of next.now) ≡ E.width_of guide.now.estimate.now }
+        requires dead_width { length (bits_of next.now) ≡ D.width_of guide.now.dead_ends.now }
+        requires score { self.now.score ≡ E.score_of guide.now.estimate.now (bits_of self.now.state.now) }
+        requires leads { (E.system_of guide.now.estimate.now).step (bits_of self.now.state.now) action ≡ Some (bits_of next.now) }
+        ensures { IsValueUnlessDead (value_by (E.score_of guide.now.estimate.now)) (D.is_dead guide.now.dead_ends.now) (bits_of next.now) result }
     {
-        value_of(estimate.score_after(self.score, self.state, action, next))
+        if guide.dead_ends.dead(next) {
+            None
+        } else {
+            Some(value_of(guide.estimate.score_after(self.score, self.state, action, next)))
+        }
     }
 }

@@ -1,11 +1,9 @@
 use Rattle.std.proofs.Common.{◌∙◌, ◌++◌, ap, codes, map}
-use Rattle.std.specs.Fmt.{signed_decimal}
-use Rattle.std.specs.Int.{w64}
-use Rattle.std.proofs.lemmas.Int.{to_z-of_z}
 use Rattle.std.specs.List.{flat_map}
 use Rattle.typing.specs.Task.{task_of}
 use Rattle.typing.specs.TaskParts.{atom_of, object_of}
 use Rattle.model.specs.PlanWriting.{object_text}
+use Rattle.certificate_reader.specs.Lines.{weights_of}
 use Rattle.certificate_definitions.specs.CertificateNames.{predicate_name}
 use Rattle.certificate.proofs.LineTextLemmas.{where_added, atom_text}
 use Rattle.certificate.proofs.line_text.add_atom.Goals as goal
@@ -20,5 +18,5 @@ returns c =
     (ap (λ xs. xs ++ codes ")\n")
     (c.in_ok-add_names.ensures ∙ ap (λ xs. c.extend_from_slice-2.new.self.items ++ xs) objects
     ∙ ap (λ xs. xs ++ names) (c.in_ok-extend_from_slice-2.ensures.items ∙ ap (λ xs. c.extend_from_slice.new.self.items ++ xs) c.predicate_name.ensures
-    ∙ ap (λ xs. xs ++ name) (c.in_ok-extend_from_slice.ensures.items ∙ ap (λ xs. xs ++ codes " (") (c.in_ok-add_weight.ensures ∙ ap (λ w. c.args.text.now.items ++ (codes "atom " ++ signed_decimal w)) (to_z-of_z w64 c.args.weight c.ranges.weight)))))
-    ∙ atom_text task (atom_of c.args.atom.now) c.args.weight c.args.text.now.items)
+    ∙ ap (λ xs. xs ++ name) (c.in_ok-extend_from_slice.ensures.items ∙ ap (λ xs. xs ++ codes " (") c.in_ok-add_weights.ensures)))
+    ∙ atom_text task (atom_of c.args.atom.now) (weights_of c.args.weights) c.args.text.now.items)

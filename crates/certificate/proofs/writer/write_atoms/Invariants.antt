@@ -1,17 +1,15 @@
-use Rattle.std.proofs.Common.{◌≡◌, length, map, take}
-use Rattle.std.specs.Prelude.{zip}
+use Rattle.std.proofs.Common.{◌≡◌, take}
 use Rattle.std.specs.List.{flat_map}
 use Rattle.typing.specs.Task.{task_of}
-use Rattle.typing.specs.TaskParts.{atom_of}
-use Rattle.certificate.specs.Gathering.{IsPassedOn, atom_line}
+use Rattle.certificate.specs.Gathering.{IsPassedOn, atom_line, atoms_weighed}
 use Rattle.certificate.proofs.writer.write_atoms.Given as goal
 
 -- the lines so far are passed on, and no call has failed
-abbrev pub invariant-loop-atom : goal.invariant-loop-atom
-invariant-loop-atom g l =
+abbrev pub invariant-loop-place : goal.invariant-loop-place
+invariant-loop-place g l =
     record {
       passed : IsPassedOn (g.W.Sink.taken l.initial.out) (g.W.Sink.taken l.out) l.initial.held.items l.held.items
-          (flat_map (atom_line (task_of l.task)) (take (length l.yielded) (zip (map atom_of l.atoms) l.weights)));
+          (flat_map (atom_line (task_of l.task) (g.C.WritableCert.certificate l.cert).version) (take l.place (atoms_weighed (g.C.WritableCert.certificate l.cert))));
       failures : g.W.Sink.failures l.out ≡ g.W.Sink.failures l.initial.out;
       name : g.W.Sink.name l.out ≡ g.W.Sink.name l.initial.out;
     }

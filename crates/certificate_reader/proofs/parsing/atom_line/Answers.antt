@@ -1,6 +1,7 @@
-use Rattle.std.proofs.Common.{ap}
-use Rattle.certificate_reader.specs.Words.{text_in}
-use Rattle.certificate_reader.proofs.LinesRead.{no_weight_first, no_atom_behind}
+use Rattle.std.proofs.Common.{Some, ap, sym, ◌∙◌}
+use Rattle.certificate_reader.specs.Lines.{named_atom_of, version_of, weights_of}
+use Rattle.certificate_reader.specs.Words.{text_in, with_weights}
+use Rattle.certificate_reader.proofs.LinesRead.{atom_is_read, no_weights_first, nothing_behind, no_atom_behind}
 use Rattle.certificate_reader.proofs.ParseLemmas.{malformed_atom}
 use Rattle.std.proofs.lemmas.Result.{err_from_is_err_and}
 use Rattle.certificate_reader.proofs.parsing.atom_line.Goals as goal
@@ -9,9 +10,26 @@ pub returns-in_err-atom : goal.returns-in_err-atom
 returns-in_err-atom c = λ count. let p = err_from_is_err_and c.from_residual.result c.from_residual.ensures.1 in rw (p.1, p.2) tt
 
 pub returns-in_default : goal.returns-in_default
-returns-in_default c = malformed_atom c.args.rest.now (λ count. no_weight_first c.args.rest.now _ _ c.first_word.ensures count c.in_default.ensures.none)
+returns-in_default c =
+    malformed_atom c.args.rest.now (version_of c.args.version) (λ count. no_weights_first c.args.rest.now (version_of c.args.version) count c.in_default.ensures.none)
 
 pub returns-in-None : goal.returns-in-None
 returns-in-None c =
     let never = rw c.in-None.is at c.in_ok-atom.ensures.none in
-    malformed_atom c.args.rest.now (λ count. no_atom_behind c.args.rest.now _ _ c.first_word.ensures count c.in-Some-behind.behind.now (ap text_in c.in-Some-behind.is) never)
+    let read = c.in-Some.ensures.some in
+    malformed_atom c.args.rest.now (version_of c.args.version) (λ count. no_atom_behind c.args.rest.now (version_of c.args.version) count
+    (weights_of c.in-Some.weights) (text_in c.in-Some.behind) read.0 read.1 c.in-Some-behind.behind.now (ap text_in c.in-Some-behind.is) never)
+
+pub returns-in_default-behind : goal.returns-in_default-behind
+returns-in_default-behind c =
+    let read = c.in-Some.ensures.some in
+    malformed_atom c.args.rest.now (version_of c.args.version) (λ count. nothing_behind c.args.rest.now (version_of c.args.version) count
+    (weights_of c.in-Some.weights) (text_in c.in-Some.behind) read.0 read.1 (ap text_in c.in_default-behind.is))
+
+pub returns-in-Some-2 : goal.returns-in-Some-2
+returns-in-Some-2 c = λ count.
+    let read = c.in-Some.ensures.some in
+    let atom = rw c.in-Some-2.is at c.in_ok-atom.ensures.some in
+    atom_is_read c.args.rest.now (version_of c.args.version) count (record { weights = weights_of c.in-Some.weights; atom = named_atom_of c.in-Some-2.atom }) read.0 atom.0
+    (ap (λ text. with_weights (weights_of c.in-Some.weights) (Some text)) atom.1 ∙ ap (λ behind. with_weights (weights_of c.in-Some.weights) (text_in behind)) (sym c.in-Some-behind.is) ∙ read.1)
+    c.requires.short

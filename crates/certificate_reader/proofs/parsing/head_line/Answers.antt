@@ -1,9 +1,17 @@
-use Rattle.std.proofs.Common.{arith}
+use Rattle.std.proofs.Common.{◌≡◌, arith}
+use Rattle.certificate_definitions.specs.Certificates.{one, two}
 use Rattle.certificate_reader.proofs.ParseLemmas.{is_version, no_version}
 use Rattle.certificate_reader.proofs.parsing.head_line.Goals as goal
 
 pub returns-in-Some-eq1 : goal.returns-in-Some-eq1
-returns-in-Some-eq1 c = λ count. is_version c.args.rest.now c.in-Some-eq1.field-0 count (omega (arith, c.in-Some-eq1.field-0-test)) c.in-Some-eq1.ensures.some.1
+returns-in-Some-eq1 c =
+    let first : c.in-Some-eq1.field-0 ≡ 1 = omega (arith, c.in-Some-eq1.field-0-test) in
+    is_version c.args.rest.now c.in-Some-eq1.field-0 one first c.in-Some-eq1.ensures.some.1
+
+pub returns-in-Some-eq2 : goal.returns-in-Some-eq2
+returns-in-Some-eq2 c =
+    let second : c.in-Some-eq2.field-0 ≡ 2 = omega (arith, c.in-Some-eq2.field-0-test) in
+    is_version c.args.rest.now c.in-Some-eq2.field-0 two second c.in-Some-eq2.ensures.some.1
 
 pub returns-in-None : goal.returns-in-None
-returns-in-None c = λ count. (no_version c.args.rest.now count c.in-None.ensures.none, λ same. c.in-None.ensures.none)
+returns-in-None c = λ v count. (no_version c.args.rest.now c.in-None.ensures.none v count, λ same. c.in-None.ensures.none)

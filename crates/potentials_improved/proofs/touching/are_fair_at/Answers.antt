@@ -1,6 +1,7 @@
 use Rattle.std.proofs.Common.{◌≡◌, ◌<◌, ◌≤◌, true≢false, refl, get_or, length, map, subst, sym, arith}
 use Rattle.std.proofs.lemmas.List.{get_or-map, length-map, take_all}
 use Rattle.grounding.specs.Ground.{task_in, atoms_in}
+use Rattle.model.specs.Meaning.{cost_of}
 use Rattle.model.specs.ClosedOff.{kept_instances}
 use Rattle.potentials.specs.Potentials.{potentials_of}
 use Rattle.potentials.proofs.FairLemmas.{Decides}
@@ -24,7 +25,7 @@ loop-place-preserved c =
     let numbers = map number_of c.args.instances.now in
     let within : c.loop-place.place < length numbers = omega (arith, length-map c.args.instances.now number_of, c.loop-place-test.true) in
     fair_at-next t a p numbers c.loop-place.place 0 c.is_fair_at.result within
-    (subst (Decides t a p c.is_fair_at.result) (sym (get_or-map number_of c.args.instances.now c.loop-place.place _ 0 c.loop-place-test.true)) c.is_fair_at.ensures)
+    (subst (Decides t a p (cost_of t) c.is_fair_at.result) (sym (get_or-map number_of c.args.instances.now c.loop-place.place _ 0 c.loop-place-test.true)) c.is_fair_at.ensures)
     c.if-not-is_fair_at.false c.loop-place.invariant
 
 pub returns-then-not-is_fair_at : goal.returns-then-not-is_fair_at
@@ -36,7 +37,7 @@ returns-then-not-is_fair_at c =
     let within : c.loop-place.place < length numbers = omega (arith, length-map c.args.instances.now number_of, c.loop-place-test.true) in (
       λ e. absurd (true≢false (sym e)),
       λ all. absurd (unfair_at t a p numbers c.loop-place.place 0 c.is_fair_at.result within (c.requires.within c.loop-place.place 0 within)
-          (subst (Decides t a p c.is_fair_at.result) (sym (get_or-map number_of c.args.instances.now c.loop-place.place _ 0 c.loop-place-test.true)) c.is_fair_at.ensures)
+          (subst (Decides t a p (cost_of t) c.is_fair_at.result) (sym (get_or-map number_of c.args.instances.now c.loop-place.place _ 0 c.loop-place-test.true)) c.is_fair_at.ensures)
           c.if-not-is_fair_at.true all),
     )
 

@@ -8,6 +8,7 @@ use Rattle.search.specs.Progress.{AreWide}
 use Rattle.model.specs.Claims.{bound}
 use Rattle.model.specs.Runs.{System}
 use Rattle.search.specs.Estimates.{IsConsistent, value_by}
+use Rattle.search.specs.DeadEnds.{TellsDeadEnds}
 use Rattle.search.specs.Outcome.{AreFound, AreExpandedWithin}
 use Rattle.search.specs.Nodes.{Found, found_of, expanded_count, IsEntryOf}
 use Rattle.search.proofs.Linked.{length-found_of}
@@ -27,32 +28,33 @@ next_waiting-requires-clause-heap g c =
 pub next_waiting-requires-clause-entries : goal.next_waiting-requires-clause-entries
 next_waiting-requires-clause-entries g c =
     let search = c.loop-turn.invariant.search in
-    entries_of _ _ _ _ _ search.one_each search.nodes
+    entries_of _ _ _ _ _ _ search.one_each search.nodes
 
 pub get-requires-clause-there : goal.get-requires-clause-there
 get-requires-clause-there g c =
     let search = c.loop-turn.invariant.search in
-    let next = at_turn _ _ _ _ _ search.one_each search.nodes _ c.in-Some.turn c.in-Some.ensures.some in
+    let next = at_turn _ _ _ _ _ _ search.one_each search.nodes _ c.in-Some.turn c.in-Some.ensures.some in
     rw c.in-Some.ensures.store (slice_get_within _ _ next.found.state next.state)
 
 pub index-requires : goal.index-requires
 index-requires g c =
     let search = c.loop-turn.invariant.search in
-    let next = at_turn _ _ _ _ _ search.one_each search.nodes _ c.in-Some.turn c.in-Some.ensures.some in
+    let next = at_turn _ _ _ _ _ _ search.one_each search.nodes _ c.in-Some.turn c.in-Some.ensures.some in
     omega (arith, slice_get_within c.loop-turn.progress.nodes.items _ next.found.node next.node, ap length c.in-Some.ensures.nodes, c.next_waiting.new.self.nodes.ok.0)
 
 pub into_plan-requires : goal.into_plan-requires
 into_plan-requires g c =
     let search = c.loop-turn.invariant.search in
-    let next = at_turn _ _ _ _ _ search.one_each search.nodes _ c.in-Some.turn c.in-Some.ensures.some in
-    rw c.in-Some.ensures.nodes (reached_in _ _ _ _ search.one_each _ search.nodes _ next.found next.stands)
+    let next = at_turn _ _ _ _ _ _ search.one_each search.nodes _ c.in-Some.turn c.in-Some.ensures.some in
+    rw c.in-Some.ensures.nodes (reached_in _ _ _ _ _ search.one_each _ search.nodes _ next.found next.stands)
 
 pub returns-then-meets_goal : goal.returns-then-meets_goal
 returns-then-meets_goal g c =
     let search = c.loop-turn.invariant.search in
-    let next = at_turn _ _ _ _ _ search.one_each search.nodes _ c.in-Some.turn c.in-Some.ensures.some in
+    let next = at_turn _ _ _ _ _ _ search.one_each search.nodes _ c.in-Some.turn c.in-Some.ensures.some in
     let t = g.T.TransitionSystem.means c.args.system.now in
     let value = value_by (g.E.Estimate.score_of c.args.estimate.now) in
+    let is_dead = g.D.DeadEnd.is_dead c.args.dead_ends.now in
     let states = g.S.StateStore.states c.loop-turn.progress.store in
     let all = c.loop-turn.progress.nodes.items in
     let id = c.in-Some.turn.id.0 in
@@ -65,12 +67,13 @@ returns-then-meets_goal g c =
     let path = rw c.in-Some.ensures.nodes at c.in_ok-steps.ensures.path in
     let short = rw c.in-Some.ensures.nodes at c.in_ok-steps.ensures.short in
     let consistent = subst (λ (u : System (List Bool) ℕ). IsConsistent u value) c.requires.made_for (g.met.E.Estimate.is_consistent c.args.estimate.now) in
-    let best = optimal _ _ _ _ search.one_each _ search.nodes consistent id next.found c.in_ok-steps.steps.items c.args.max_states
+    let tells = subst (λ (u : System (List Bool) ℕ). TellsDeadEnds u is_dead) c.requires.dead_for (g.met.D.DeadEnd.tells_dead_ends c.args.dead_ends.now) in
+    let best = optimal _ _ _ _ _ search.one_each _ search.nodes consistent tells id next.found c.in_ok-steps.steps.items c.args.max_states
     c.loop-turn.invariant.are_open next.stands next.least meets path short c.loop-turn.invariant.within in (
       best.0,
       best.1 ∙ same_cost,
       rw (c.in_ok-steps.ensures.store, c.in-Some.ensures.store, c.in_ok-steps.ensures.nodes, c.in-Some.ensures.nodes)
-          (subst (λ (n : ℕ). AreFound t value (bound n) c.args.max_states states all) same_cost best.2),
+          (subst (λ (n : ℕ). AreFound t value is_dead (bound n) c.args.max_states states all) same_cost best.2),
       best.3,
       rw (c.in_ok-steps.ensures.store, c.in-Some.ensures.store, c.in_ok-steps.ensures.nodes, c.in-Some.ensures.nodes)
           (subst (λ (n : ℕ). AreExpandedWithin value n states all) same_cost best.4),
@@ -79,7 +82,7 @@ returns-then-meets_goal g c =
 pub expand-requires-clause-turn : goal.expand-requires-clause-turn
 expand-requires-clause-turn g c =
     let search = c.loop-turn.invariant.search in
-    let next = at_turn _ _ _ _ _ search.one_each search.nodes _ c.in-Some.turn c.in-Some.ensures.some in
+    let next = at_turn _ _ _ _ _ _ search.one_each search.nodes _ c.in-Some.turn c.in-Some.ensures.some in
     record {
       one_each = rw (c.in-Some.ensures.nodes, c.in-Some.ensures.store) search.one_each;
       queue = waiting_in c.loop-turn.progress.queue;
@@ -88,16 +91,17 @@ expand-requires-clause-turn g c =
       found = next.found;
       stands = rw (c.in-Some.ensures.store, c.in-Some.ensures.nodes) next.stands;
       waits = next.waits;
+      sum = next.sum;
       least = rw (c.in-Some.ensures.store, c.in-Some.ensures.nodes) next.least;
       rest = rw (c.in-Some.ensures.store, c.in-Some.ensures.nodes) next.rest;
       entries = rw (c.in-Some.ensures.store, c.in-Some.ensures.nodes)
-          (All-among (IsEntryOf (value_by (g.E.Estimate.score_of c.args.estimate.now)) (found_of (g.S.StateStore.states c.loop-turn.progress.store) c.loop-turn.progress.nodes.items)) _ _ c.in-Some.ensures.kept search.nodes.entries);
+          (All-among (IsEntryOf (value_by (g.E.Estimate.score_of c.args.estimate.now)) (g.D.DeadEnd.is_dead c.args.dead_ends.now) (found_of (g.S.StateStore.states c.loop-turn.progress.store) c.loop-turn.progress.nodes.items)) _ _ c.in-Some.ensures.kept search.nodes.entries);
     }
 
 pub expand-requires-clause-value : goal.expand-requires-clause-value
 expand-requires-clause-value g c =
     let search = c.loop-turn.invariant.search in
-    let next = at_turn _ _ _ _ _ search.one_each search.nodes _ c.in-Some.turn c.in-Some.ensures.some in
+    let next = at_turn _ _ _ _ _ _ search.one_each search.nodes _ c.in-Some.turn c.in-Some.ensures.some in
     let got : slice_get (g.S.StateStore.states c.loop-turn.progress.store) c.in-Some.turn.id.0 ≡ Some (bits_of c.get.new.into) = rw c.in-Some.ensures.store at c.get.ensures.set in
     next.estimate ∙ ap (value_by (g.E.Estimate.score_of c.args.estimate.now)) (sym (same_Some (bits_of c.get.new.into) next.found.state (sym got ∙ next.state)))
 
@@ -134,7 +138,9 @@ pub returns : goal.returns
 returns g c =
     let search = c.loop-turn.invariant.search in
     let value = value_by (g.E.Estimate.score_of c.args.estimate.now) in
+    let is_dead = g.D.DeadEnd.is_dead c.args.dead_ends.now in
     let consistent = subst (λ (u : System (List Bool) ℕ). IsConsistent u value) c.requires.made_for (g.met.E.Estimate.is_consistent c.args.estimate.now) in
-    let result = unsolvable _ _ _ _ search.one_each _ search.nodes consistent c.args.max_states c.loop-turn.invariant.are_open
-    (none_waits _ _ _ _ _ search.one_each search.nodes c.in_default.ensures.none) c.loop-turn.invariant.within in
-    (result.0, rw (c.into_states.ensures.store, c.in_default.ensures.store, c.into_states.ensures.nodes, c.in_default.ensures.nodes) result.1)
+    let tells = subst (λ (u : System (List Bool) ℕ). TellsDeadEnds u is_dead) c.requires.dead_for (g.met.D.DeadEnd.tells_dead_ends c.args.dead_ends.now) in
+    let result = unsolvable _ _ _ _ _ search.one_each _ search.nodes consistent tells c.args.max_states c.loop-turn.invariant.are_open
+    (none_waits _ _ _ _ _ _ search.one_each search.nodes c.in_default.ensures.none) c.loop-turn.invariant.within in
+    (result.0, rw (c.into_states-2.ensures.store, c.in_default.ensures.store, c.into_states-2.ensures.nodes, c.in_default.ensures.nodes) result.1)

@@ -9,7 +9,7 @@ invariant-loop-turn g l =
     let t = g.T.TransitionSystem.means l.system in
     let states_of = g.S.StateStore.states in
     record {
-      search : IsSearch t (value_by (g.E.Estimate.score_of l.estimate)) states_of l.progress;
+      search : IsSearch t (value_by (g.E.Estimate.score_of l.estimate)) (g.D.DeadEnd.is_dead l.dead_ends) states_of l.progress;
       are_open : AreOpen t (nodes_in states_of l.progress);
       within : length (states_of l.progress.store) ≤ l.max_states;
       width : g.S.StateStore.width_of l.progress.store ≡ g.T.TransitionSystem.width_of l.system;

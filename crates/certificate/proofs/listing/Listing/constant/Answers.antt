@@ -6,4 +6,4 @@ use Rattle.certificate.proofs.NumbersLemmas.{constant_within}
 use Rattle.certificate.proofs.listing.Listing.constant.Goals as goal
 
 pub returns-clause-within_limits : goal.returns-clause-within_limits
-returns-clause-within_limits c = ap is_weight (to_z-of_z w64 c.args.self.now.beginning.constant (search rules)) ∙ constant_within c.args.self.now
+returns-clause-within_limits c = ap is_weight (to_z-of_z w64 c.args.self.now.beginning.potential.constant (search rules)) ∙ constant_within c.args.self.now

@@ -1,11 +1,12 @@
-use Rattle.std.proofs.Common.{◌≡◌, ◌<◌, None, Some, length, sym, ap, subst, arith}
+use Rattle.std.proofs.Common.{◌≡◌, ◌<◌, Some, length, sym, ap, subst, arith}
 use Rattle.std.specs.Prelude.{slice_get, slice_index_or}
 use Rattle.std.proofs.lemmas.List.{length-map}
 use Rattle.std.proofs.lemmas.Option.{slice_get-get_or}
 use Rattle.packed_state.specs.Packed.{bits_of}
 use Rattle.packed_state.specs.PooledView.{pooled_states}
+use Rattle.certificate_reader.specs.declared.line.Mark.TheVariants.{Open}
 use Rattle.certificate.specs.ListedSets.{marked}
-use Rattle.certificate.specs.ListingParts.{mark_of}
+use Rattle.certificate.specs.ListingParts.{listed_of}
 use Rattle.certificate.specs.Listing.{certificate_in, store_in}
 use Rattle.certificate.proofs.NumbersLemmas.{count_of_lines, few_lines, line_read, where_listed}
 use Rattle.certificate.proofs.writable.ListingWritableCert.read_line.Goals as goal
@@ -20,11 +21,11 @@ get-requires-clause-there c =
 pub returns-clause-line : goal.returns-clause-line
 returns-clause-line c =
     let listing = c.args.self.now in
-    let mark = slice_index_or c.marks.result.now c.args.place (record { cost = 0; cut = None }) in
+    let mark = slice_index_or c.marks.result.now c.args.place (record { cost = 0; mark = Open }) in
     let within : c.args.place < length c.marks.result.now =
-    omega (arith, c.requires.there, length-map c.marks.result.now mark_of, ap length c.marks.ensures, length-map (certificate_in listing).lines marked) in
+    omega (arith, c.requires.there, length-map c.marks.result.now listed_of, ap length c.marks.ensures, length-map (certificate_in listing).lines marked) in
     let set : slice_get (pooled_states (store_in listing)) c.args.place ≡ Some (bits_of c.get.new.into) =
     subst (λ store. slice_get (pooled_states store) c.args.place ≡ Some (bits_of c.get.new.into)) c.sets.ensures c.get.ensures.set in
-    where_listed c.list_numbers.result (certificate_in listing).lines c.args.place (mark_of mark) (bits_of c.get.new.into) c.list_numbers.new.into.items
-    (line_read listing c.args.place c.marks.result.now mark (bits_of c.get.new.into) c.marks.ensures (slice_get-get_or c.marks.result.now c.args.place (record { cost = 0; cut = None }) within) set)
+    where_listed c.list_numbers.result (certificate_in listing).lines c.args.place (listed_of mark) (bits_of c.get.new.into) c.list_numbers.new.into.items
+    (line_read listing c.args.place c.marks.result.now mark (bits_of c.get.new.into) c.marks.ensures (slice_get-get_or c.marks.result.now c.args.place (record { cost = 0; mark = Open }) within) set)
     c.list_numbers.ensures.ok

@@ -1,5 +1,6 @@
 use Rattle.std.proofs.Common.{subst}
 use Rattle.grounding.specs.Ground.{task_in, atoms_in}
+use Rattle.model.specs.Meaning.{cost_of}
 use Rattle.potentials.specs.Potentials.{potentials_of}
 use Rattle.potentials.specs.Fairness.{Tells}
 use Rattle.potentials.proofs.FairLemmas.{unfair-instance}
@@ -17,7 +18,7 @@ returns-in-Instance c =
     let t = task_in c.args.ground.now in
     let a = atoms_in c.args.ground.now in
     let p = potentials_of c.args.potentials in
-    record { fair = unfair-instance t a p _ (subst (Tells t a p) c.in-Instance.is c.in_ok-fairness.ensures) }
+    record { fair = unfair-instance t a p (cost_of t) _ (subst (Tells t a p) c.in-Instance.is c.in_ok-fairness.ensures) }
 
 pub returns : goal.returns
 returns c =

@@ -1,5 +1,5 @@
-use Rattle.std.proofs.Common.{rules, ◌≡◌, ℕ, Bool, List, ◌+◌, get_or, drop, sym, ap, ◌∙◌, subst, arith, Some, true, false}
-use Rattle.std.specs.Prelude.{IsTrue, is_some}
+use Rattle.std.proofs.Common.{rules, ◌≡◌, ℕ, Bool, List, ◌+◌, get_or, drop, set, sym, ap, ◌∙◌, subst, arith, Some, true, false}
+use Rattle.std.specs.Prelude.{IsTrue, is_some, slice_get}
 use Rattle.search.specs.Queue.{waiting_in}
 use Rattle.std.proofs.lemmas.List.{drop_more, drop_all}
 use Rattle.std.proofs.lemmas.Option.{same_Some}
@@ -7,9 +7,12 @@ use Rattle.model.proofs.ListLemmas.{Contains-here}
 use Rattle.packed_state.specs.Packed.{bits_of}
 use Rattle.model.specs.Runs.{System}
 use Rattle.search.specs.Estimates.{IsConsistent, value_by}
-use Rattle.search.specs.Nodes.{found_of, marked}
+use Rattle.search.specs.DeadEnds.{TellsDeadEnds}
+use Rattle.search.specs.declared.nodes.Node.{Node}
+use Rattle.search.specs.Nodes.{Found, found_of, total_of, marked_as, marked}
 use Rattle.search.proofs.Linked.{found_of-get}
 use Rattle.search.proofs.Marked.{open_all}
+use Rattle.search.proofs.Stopped.{at_limit}
 use Rattle.search.proofs.Steps.{HasBegun, turn_begins, left_start, left_more, left_end, stands_still, continues_same, continues_trans}
 use Rattle.search.proofs.progress.Progress.expand.Given.{Over}
 use Rattle.search.proofs.progress.Progress.expand.Goals.{After-deref-action-items}
@@ -21,41 +24,49 @@ is_state g c =
     let turn = c.requires.turn in
     same_Some _ turn.found.state (sym c.requires.state ∙ (found_of-get (g.S.StateStore.states c.args.self.now.store) c.args.self.now.nodes.items c.args.turn.id.0 turn.found turn.stands).0)
 
-has_begun : (g : Over) (c : After-deref-action-items g) → HasBegun (g.T.TransitionSystem.means c.args.system.now) (value_by (g.E.Estimate.score_of c.args.estimate.now))
-    (found_of (g.S.StateStore.states c.args.self.now.store) c.args.self.now.nodes.items) (g.S.StateStore.states c.mark_expanded.new.self.store) c.mark_expanded.new.self.nodes.items
+-- what guides the search keeps its laws
+consistent : (g : Over) (c : After-deref-action-items g) → IsConsistent (g.T.TransitionSystem.means c.args.system.now) (value_by (g.E.Estimate.score_of c.args.guide.now.estimate.now))
+consistent g c =
+    subst (λ (u : System (List Bool) ℕ). IsConsistent u (value_by (g.E.Estimate.score_of c.args.guide.now.estimate.now))) c.requires.made_for (g.met.E.Estimate.is_consistent c.args.guide.now.estimate.now)
+
+tells : (g : Over) (c : After-deref-action-items g) → TellsDeadEnds (g.T.TransitionSystem.means c.args.system.now) (g.D.DeadEnd.is_dead c.args.guide.now.dead_ends.now)
+tells g c =
+    subst (λ (u : System (List Bool) ℕ). TellsDeadEnds u (g.D.DeadEnd.is_dead c.args.guide.now.dead_ends.now)) c.requires.dead_for (g.met.D.DeadEnd.tells_dead_ends c.args.guide.now.dead_ends.now)
+
+has_begun : (g : Over) (c : After-deref-action-items g) → HasBegun (g.T.TransitionSystem.means c.args.system.now) (value_by (g.E.Estimate.score_of c.args.guide.now.estimate.now)) (g.D.DeadEnd.is_dead c.args.guide.now.dead_ends.now)
+    (found_of (g.S.StateStore.states c.args.self.now.store) c.args.self.now.nodes.items) (g.S.StateStore.states c.mark.new.self.store) c.mark.new.self.nodes.items
     (waiting_in c.args.self.now.queue) c.args.turn.id.0 c.requires.turn.found
 has_begun g c =
     let turn = c.requires.turn in
     let t = g.T.TransitionSystem.means c.args.system.now in
     let states = g.S.StateStore.states c.args.self.now.store in
     let all = c.args.self.now.nodes.items in
-    let value = value_by (g.E.Estimate.score_of c.args.estimate.now) in
-    turn_begins t value (subst (λ (u : System (List Bool) ℕ). IsConsistent u value) c.requires.made_for (g.met.E.Estimate.is_consistent c.args.estimate.now)) states all
+    turn_begins t _ _ (consistent g c) (tells g c) states all
     turn.queue _ turn.one_each turn.nodes _ turn.found turn.stands turn.waits turn.least turn.rest turn.entries
-    (subst (λ x. t.meets_goal x ≡ false) (is_state g c) c.requires.no_goal) c.requires.open _ _ (ap g.S.StateStore.states c.mark_expanded.ensures.store)
-    (c.mark_expanded.ensures.nodes turn.found.node (found_of-get states all _ turn.found turn.stands).1)
+    (subst (λ x. t.meets_goal x ≡ false) (is_state g c) c.requires.no_goal) c.requires.open _ _ (ap g.S.StateStore.states c.mark.ensures.store)
+    (c.mark.ensures.nodes turn.found.node (found_of-get states all _ turn.found turn.stands).1)
 
 pub loop-action-init : goal.loop-action-init
 loop-action-init g c =
     let turn = c.requires.turn in
-    let begun = c.mark_expanded.new.self in
+    let begun = c.mark.new.self in
     let nodes = found_of (g.S.StateStore.states begun.store) begun.nodes.items in
     let begins = has_begun g (goal.at.loop-action-init g c).After-deref-action-items in
     record {
       expanding = record {
-        search = record { one_each = begins.one_each; nodes = rw c.mark_expanded.ensures.queue begins.nodes; heap = rw c.mark_expanded.ensures.queue turn.heap };
+        search = record { one_each = begins.one_each; nodes = rw c.mark.ensures.queue begins.nodes; heap = rw c.mark.ensures.queue turn.heap };
         turn = begins.turn;
         others_open = begins.others_open;
       };
-      within = rw c.mark_expanded.ensures.store c.requires.within;
+      within = rw c.mark.ensures.store c.requires.within;
       continues = continues_same nodes c.args.turn.id.0;
-      width = rw c.mark_expanded.ensures.store c.requires.width;
+      width = rw c.mark.ensures.store c.requires.width;
       state = c.requires.buffers.state;
       score = search rules;
       next = c.requires.buffers.next;
-      stands = rw c.mark_expanded.ensures.store c.requires.state;
+      stands = rw c.mark.ensures.store c.requires.state;
       left = rw c.deref-action-items.ensures.value
-          (left_start (g.T.TransitionSystem.means c.args.system.now) nodes c.args.turn.id.0 (marked turn.found) begins.stands (bits_of c.args.buffers.now.state) c.applicable.new.into.items
+          (left_start (g.T.TransitionSystem.means c.args.system.now) nodes c.args.turn.id.0 (marked true turn.found) begins.stands (bits_of c.args.buffers.now.state) c.applicable.new.into.items
           (is_state g (goal.at.loop-action-init g c).After-deref-action-items) c.in_ok-applicable.ensures.ok);
     }
 
@@ -82,7 +93,7 @@ loop-action-preserved g c =
     let states' = g.S.StateStore.states c.reach.new.self.store in
     let nodes = found_of states c.loop-action.self.nodes.items in
     let after = found_of states' c.reach.new.self.nodes.items in
-    let begun = found_of (g.S.StateStore.states c.mark_expanded.new.self.store) c.mark_expanded.new.self.nodes.items in
+    let begun = found_of (g.S.StateStore.states c.mark.new.self.store) c.mark.new.self.nodes.items in
     let parts = found_of-get states c.loop-action.self.nodes.items c.args.turn.id.0 e.turn.found e.turn.stands in
     let numbers = c.deref-action-items.result.now in
     let a = get_or numbers c.loop-action.action-index 0 in
@@ -103,6 +114,31 @@ loop-action-preserved g c =
       stands = stands_still states states' c.loop-action.self.nodes.items c.reach.new.self.nodes.items c.args.turn.id.0 e.turn.found s e.turn.stands reaches.continues inv.stands;
       left = left_more t nodes c.args.turn.id.0 e.turn.found e.turn.stands after a next (drop (c.loop-action.action-index + 1) numbers) left leads reaches.continues reaches.listed;
     }
+
+pub returns-then-not-branch-clause-listed : goal.returns-then-not-branch-clause-listed
+returns-then-not-branch-clause-listed g c =
+    let inv = c.loop-action.invariant in
+    let e = inv.expanding in
+    let value = value_by (g.E.Estimate.score_of c.args.guide.now.estimate.now) in
+    let is_dead = g.D.DeadEnd.is_dead c.args.guide.now.dead_ends.now in
+    let states = g.S.StateStore.states c.loop-action.self.store in
+    let all = c.loop-action.self.nodes.items in
+    let i = c.args.turn.id.0 in
+    let stopped : c.in_ok-reach.field-0 ≡ false = c.if-not-branch.true in
+    let full = rw stopped at c.in_ok-reach.ensures.listed in
+    let here = (goal.at.returns-then-not-branch-clause-listed g c).After-deref-action-items in
+    let one : Found (List Bool) = marked true c.requires.turn.found in
+    let same : one ≡ e.turn.found = same_Some one e.turn.found (sym (inv.continues.stays one (has_begun g here).stands) ∙ e.turn.stands) in
+    let sum : c.args.turn.sum ≡ total_of value e.turn.found = c.requires.turn.sum ∙ ap (total_of value) same in
+    let back = c.mark-then-not-branch.new.self in
+    let stored : g.S.StateStore.states back.store ≡ states = ap g.S.StateStore.states c.mark-then-not-branch.ensures.store ∙ full.store in
+    let stood : slice_get c.reach.new.self.nodes.items i ≡ Some e.turn.found.node = ap (λ (ns : List Node). slice_get ns i) full.nodes ∙ (found_of-get states all i e.turn.found e.turn.stands).1 in
+    let taken_back : back.nodes.items ≡ set all i (marked_as false e.turn.found.node) =
+    c.mark-then-not-branch.ensures.nodes e.turn.found.node stood ∙ ap (λ (ns : List Node). set ns i (marked_as false e.turn.found.node)) full.nodes in (
+      full.more,
+      at_limit (g.T.TransitionSystem.means c.args.system.now) value is_dead states all (waiting_in c.loop-action.self.queue) e.search.one_each e.search.nodes i e.turn e.others_open
+          (consistent g here) (tells g here) (g.S.StateStore.states back.store) back.nodes.items c.args.max_states c.args.turn.sum stored taken_back full.full sum,
+    )
 
 pub returns-clause-listed : goal.returns-clause-listed
 returns-clause-listed g c =

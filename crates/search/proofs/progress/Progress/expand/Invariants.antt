@@ -11,13 +11,13 @@ invariant-loop-action g l =
     let t = g.T.TransitionSystem.means l.system in
     let states_of = g.S.StateStore.states in
     record {
-      expanding : IsExpanding t (value_by (g.E.Estimate.score_of l.estimate)) states_of l.self l.turn.id.0;
+      expanding : IsExpanding t (value_by (g.E.Estimate.score_of l.guide.estimate.now)) (g.D.DeadEnd.is_dead l.guide.dead_ends.now) states_of l.self l.turn.id.0;
       within : length (states_of l.self.store) ≤ l.max_states;
       continues : Continues (nodes_in states_of l.initial.self) (nodes_in states_of l.self) l.turn.id.0;
       width : g.S.StateStore.width_of l.self.store ≡ g.T.TransitionSystem.width_of l.system;
       state : length (bits_of l.buffers.1.0) ≡ g.T.TransitionSystem.width_of l.system;
       next : length (bits_of l.buffers.1.1.0) ≡ g.T.TransitionSystem.width_of l.system;
       stands : slice_get (states_of l.self.store) l.turn.id.0 ≡ Some (bits_of l.buffers.1.0);
-      score : l.score ≡ g.E.Estimate.score_of l.estimate (bits_of l.buffers.1.0);
+      score : l.score ≡ g.E.Estimate.score_of l.guide.estimate.now (bits_of l.buffers.1.0);
       left : AreLeft t (nodes_in states_of l.self) l.turn.id.0 (drop l.action-index l.action-items);
     }

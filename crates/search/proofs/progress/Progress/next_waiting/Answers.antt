@@ -23,7 +23,7 @@ returns-then-node-sum-clause-some g c =
     let same : r.cost + estimate_of x ≡ sum_of x = omega (arith, c.if-node-sum.true, of.1) in
     takes-popped (waiting_in c.args.self.now.queue) (waiting_in c.loop-sum.self.queue) (waiting_in c.pop.new.self) all x keeps c.in-Some.ensures.permutation
     (c.in-Some.ensures.order c.loop-sum.invariant.heap).1 (current-read all x r of.0 read (not_true r.is_expanded c.if-not-node.true) same)
-    (record { id = x.0.2; estimate = x.0.1 }) refl refl
+    (record { id = x.0.2; sum = x.0.0; estimate = x.0.1 }) refl refl refl
 
 pub loop-sum-preserved : goal.loop-sum-preserved
 loop-sum-preserved g c =

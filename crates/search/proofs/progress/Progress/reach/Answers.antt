@@ -1,16 +1,17 @@
-use Rattle.std.proofs.Common.{◌≡◌, ◌+◌, ◌<◌, ◌≤◌, [], ◌∷◌, length, ap, sym, subst, refl, ◌∙◌, arith, vec_len, Some, false}
-use Rattle.std.specs.Prelude.{Contains, IsPermutation, slice_get}
+use Rattle.std.proofs.Common.{◌≡◌, ℕ, ◌+◌, ◌<◌, ◌≤◌, List, [], ◌∷◌, length, Bool, ap, sym, subst, refl, ◌∙◌, arith, vec_len, Some, false}
+use Rattle.std.specs.Prelude.{Contains, slice_get}
 use Rattle.search.specs.Queue.{waiting_in}
 use Rattle.std.proofs.lemmas.List.{length-append}
 use Rattle.std.proofs.lemmas.Option.{get_or_from_slice_get, slice_get_read, slice_get_within}
 use Rattle.packed_state.specs.Packed.{bits_of}
 use Rattle.packed_state.specs.Store.{IsPlaced}
 use Rattle.search.specs.declared.nodes.Node.{Node}
-use Rattle.search.specs.Estimates.{value_by}
-use Rattle.search.specs.Nodes.{entry, found_of}
+use Rattle.model.specs.Runs.{System}
+use Rattle.search.specs.Estimates.{IsConsistent, value_by}
+use Rattle.search.specs.Nodes.{found_of}
 use Rattle.search.proofs.Limit.{more_reachable}
 use Rattle.search.proofs.Linked.{found_of-get, length-found_of}
-use Rattle.search.proofs.Steps.{turn_limits, placed_new, placed_old, leads_from, stepped_new, stepped_cheaper, stepped_same}
+use Rattle.search.proofs.Steps.{turn_limits, value_fits, joined_by, placed_new, placed_old, leads_from, stepped_new, stepped_cheaper, stepped_same}
 use Rattle.search.proofs.progress.Progress.reach.Given.{Over}
 use Rattle.search.proofs.progress.Progress.reach.Goals.{After-from, In-Some}
 use Rattle.search.proofs.progress.Progress.reach.Goals as goal
@@ -29,7 +30,7 @@ limits g c =
     let states = g.S.StateStore.states c.args.self.now.store in
     let all = c.args.self.now.nodes.items in
     subst (λ (n : Node). n.cost + 4294967295 ≤ 72057594021150720) (sym (read_parent g c))
-    (turn_limits (found_of states all) c.args.parent.now.id.0 c.args.max_states e.turn (omega (arith, length-found_of states all e.search.one_each, c.requires.within)) c.requires.limit)
+    (turn_limits (value_by (g.E.Estimate.score_of c.args.guide.now.estimate.now)) (found_of states all) c.args.parent.now.id.0 c.args.max_states e.turn (omega (arith, length-found_of states all e.search.one_each, c.requires.within)) c.requires.limit)
 
 -- the action leads from the state whose turn it is to the successor
 leads : (g : Over) (c : After-from g) → (g.T.TransitionSystem.means c.args.system.now).step c.requires.expanding.turn.found.state c.args.action ≡ Some (bits_of c.args.state.now)
@@ -38,6 +39,14 @@ leads g c =
     let states = g.S.StateStore.states c.args.self.now.store in
     leads_from (g.T.TransitionSystem.means c.args.system.now) states _ turn.found.state _ c.args.parent.now.id.0 c.args.action c.requires.parent
     (found_of-get states c.args.self.now.nodes.items c.args.parent.now.id.0 turn.found turn.stands).0 c.requires.leads
+
+-- and the estimate falls there by no more than what it costs
+falls : (g : Over) (c : After-from g) → value_by (g.E.Estimate.score_of c.args.guide.now.estimate.now) c.requires.expanding.turn.found.state
+    ≤ (g.T.TransitionSystem.means c.args.system.now).cost c.args.action + value_by (g.E.Estimate.score_of c.args.guide.now.estimate.now) (bits_of c.args.state.now)
+falls g c =
+    let value = value_by (g.E.Estimate.score_of c.args.guide.now.estimate.now) in
+    (subst (λ (u : System (List Bool) ℕ). IsConsistent u value) c.requires.made_for (g.met.E.Estimate.is_consistent c.args.guide.now.estimate.now)).falls_by_no_more
+    c.requires.expanding.turn.found.state (bits_of c.args.state.now) c.args.action (leads g c)
 
 -- a state that is not new has its place, and a node
 was_listed : (g : Over) (c : In-Some g) → c.in-Some.is_new ≡ false → (slice_get (g.S.StateStore.states c.args.self.now.store) c.in-Some.id.0 ≡ Some (bits_of c.args.state.now))
@@ -72,10 +81,15 @@ returns-in_default-clause-listed g c =
     let e = c.requires.expanding in
     let states = g.S.StateStore.states c.args.self.now.store in
     let s = bits_of c.args.state.now in
-    let full : (¬ Contains states s) × (length states ≡ c.args.max_states) = rw c.in_default.is at c.in_ok-id.ensures.placed in
-    more_reachable (g.T.TransitionSystem.means c.args.system.now) (value_by (g.E.Estimate.score_of c.args.estimate.now)) states c.args.self.now.nodes.items (waiting_in c.args.self.now.queue)
-    e.search.one_each e.search.nodes c.args.parent.now.id.0 e.turn c.args.action s
-    (leads g (goal.at.returns-in_default-clause-listed g c).After-from) full.0 c.args.max_states full.1
+    let full : (¬ Contains states s) × (length states ≡ c.args.max_states) × (g.S.StateStore.states c.place_of_state.new.store ≡ states) = rw c.in_default.is at c.in_ok-id.ensures.placed in
+    record {
+      more = more_reachable (g.T.TransitionSystem.means c.args.system.now) (value_by (g.E.Estimate.score_of c.args.guide.now.estimate.now)) (g.D.DeadEnd.is_dead c.args.guide.now.dead_ends.now) states
+          c.args.self.now.nodes.items (waiting_in c.args.self.now.queue) e.search.one_each e.search.nodes c.args.parent.now.id.0 e.turn c.args.action s
+          (leads g (goal.at.returns-in_default-clause-listed g c).After-from) full.0 c.args.max_states full.1;
+      full = full.1;
+      store = full.2;
+      nodes = refl;
+    }
 
 pub index-requires : goal.index-requires
 index-requires g c =
@@ -98,17 +112,19 @@ returns-in_ok-add-clause-listed g c =
     let placed : IsPlaced states after s c.in-Some.id.0 c.in-Some.is_new = rw c.in-Some.is at c.in_ok-id.ensures.placed in
     let new = placed_new states after s c.in-Some.id.0 c.in-Some.is_new c.if-is_new.true placed in
     let stored : g.S.StateStore.states c.add.new.self.store ≡ after = rw c.in_ok-add.ensures.store refl in
-    let step = stepped_new (g.T.TransitionSystem.means c.args.system.now) (value_by (g.E.Estimate.score_of c.args.estimate.now)) states all (waiting_in c.args.self.now.queue) c.args.parent.now.id.0
+    let joined = joined_by (value_by (g.E.Estimate.score_of c.args.guide.now.estimate.now)) (g.D.DeadEnd.is_dead c.args.guide.now.dead_ends.now) s c.value_after-value.result c.args.self.now.queue c.add.new.self.queue
+    (c.index-before.result.now.cost + c.from.result) c.in-Some.id.0 c.value_after-value.ensures c.in_ok-add.ensures.queue in
+    let step = stepped_new (g.T.TransitionSystem.means c.args.system.now) (value_by (g.E.Estimate.score_of c.args.guide.now.estimate.now)) (g.D.DeadEnd.is_dead c.args.guide.now.dead_ends.now) states all (waiting_in c.args.self.now.queue) c.args.parent.now.id.0
     e.search.one_each e.search.nodes e.turn e.others_open s
     (record { cost = c.index-before.result.now.cost + c.from.result; is_expanded = false; parent = c.new.result; action = c.args.action }) refl c.new.ensures
     (omega (arith, same, c.from.ensures, c.cost.ensures)) (omega (arith, c.cost.ensures))
-    (leads g here)
+    (leads g here) (falls g here)
     new.0 (g.S.StateStore.states c.add.new.self.store) c.add.new.self.nodes.items c.in-Some.id.0 (waiting_in c.add.new.self.queue)
     (stored ∙ new.1) c.in_ok-add.ensures.nodes new.2
-    (subst (λ v. IsPermutation (entry (c.index-before.result.now.cost + c.from.result) v c.in-Some.id.0 ∷ waiting_in c.args.self.now.queue) (waiting_in c.add.new.self.queue)) c.value_after-value.ensures.value c.in_ok-add.ensures.queue.joins) in
+    joined.0 in
     record {
       expanding = record {
-        search = record { one_each = step.0; nodes = step.1.sound; heap = c.in_ok-add.ensures.queue.heap e.search.heap };
+        search = record { one_each = step.0; nodes = step.1.sound; heap = joined.1 e.search.heap };
         turn = step.1.turn;
         others_open = step.1.others;
       };
@@ -130,18 +146,20 @@ returns-in_ok-improve-clause-listed g c =
     let was : slice_get all c.in-Some.id.0 ≡ Some c.index.result.now =
     slice_get_read all (length all) c.in-Some.id.0 c.index.result.now refl known.2 c.index.ensures in
     let stored : g.S.StateStore.states c.improve.new.self.store ≡ after = rw c.in_ok-improve.ensures.store refl in
-    let step = stepped_cheaper (g.T.TransitionSystem.means c.args.system.now) (value_by (g.E.Estimate.score_of c.args.estimate.now)) states all (waiting_in c.args.self.now.queue) c.args.parent.now.id.0
+    let joined = joined_by (value_by (g.E.Estimate.score_of c.args.guide.now.estimate.now)) (g.D.DeadEnd.is_dead c.args.guide.now.dead_ends.now) s c.value_after-value-then-cost-index.result c.args.self.now.queue c.improve.new.self.queue
+    (c.index-before.result.now.cost + c.from.result) c.in-Some.id.0 c.value_after-value-then-cost-index.ensures c.in_ok-improve.ensures.queue in
+    let step = stepped_cheaper (g.T.TransitionSystem.means c.args.system.now) (value_by (g.E.Estimate.score_of c.args.guide.now.estimate.now)) (g.D.DeadEnd.is_dead c.args.guide.now.dead_ends.now) states all (waiting_in c.args.self.now.queue) c.args.parent.now.id.0
     e.search.one_each e.search.nodes e.turn e.others_open s
     (record { cost = c.index-before.result.now.cost + c.from.result; is_expanded = false; parent = c.new.result; action = c.args.action }) refl c.new.ensures
     (omega (arith, same, c.from.ensures, c.cost.ensures)) (omega (arith, c.cost.ensures))
-    (leads g here)
+    (leads g here) (falls g here)
     c.in-Some.id.0 c.index.result.now known.0 was c.if-cost-index.true
     (g.S.StateStore.states c.improve.new.self.store) c.improve.new.self.nodes.items (waiting_in c.improve.new.self.queue)
     (stored ∙ known.1) c.in_ok-improve.ensures.nodes
-    (subst (λ v. IsPermutation (entry (c.index-before.result.now.cost + c.from.result) v c.in-Some.id.0 ∷ waiting_in c.args.self.now.queue) (waiting_in c.improve.new.self.queue)) c.value_after-value-then-cost-index.ensures.value c.in_ok-improve.ensures.queue.joins) in
+    joined.0 in
     record {
       expanding = record {
-        search = record { one_each = step.0; nodes = step.1.sound; heap = c.in_ok-improve.ensures.queue.heap e.search.heap };
+        search = record { one_each = step.0; nodes = step.1.sound; heap = joined.1 e.search.heap };
         turn = step.1.turn;
         others_open = step.1.others;
       };
@@ -162,11 +180,11 @@ returns-else-cost-index-clause-listed g c =
     let known = was_listed g (goal.at.returns-else-cost-index-clause-listed g c).In-Some c.if-is_new.false in
     let was : slice_get all c.in-Some.id.0 ≡ Some c.index.result.now =
     slice_get_read all (length all) c.in-Some.id.0 c.index.result.now refl known.2 c.index.ensures in
-    let step = stepped_same (g.T.TransitionSystem.means c.args.system.now) (value_by (g.E.Estimate.score_of c.args.estimate.now)) states all (waiting_in c.args.self.now.queue) c.args.parent.now.id.0
+    let step = stepped_same (g.T.TransitionSystem.means c.args.system.now) (value_by (g.E.Estimate.score_of c.args.guide.now.estimate.now)) (g.D.DeadEnd.is_dead c.args.guide.now.dead_ends.now) states all (waiting_in c.args.self.now.queue) c.args.parent.now.id.0
     e.search.one_each e.search.nodes e.turn e.others_open s
     (record { cost = c.index-before.result.now.cost + c.from.result; is_expanded = false; parent = c.new.result; action = c.args.action }) refl c.new.ensures
     (omega (arith, same, c.from.ensures, c.cost.ensures)) (omega (arith, c.cost.ensures))
-    (leads g here)
+    (leads g here) (falls g here)
     c.in-Some.id.0 c.index.result.now known.0 was c.if-cost-index.false after known.1 in
     record {
       expanding = record {
@@ -181,11 +199,15 @@ returns-else-cost-index-clause-listed g c =
 
 pub add-requires-clause-sum : goal.add-requires-clause-sum
 add-requires-clause-sum g c =
-    omega (arith, limits g (goal.at.add-requires-clause-sum g c).After-from, c.from.ensures, c.cost.ensures, c.value_after-value.ensures.within)
+    value_fits (value_by (g.E.Estimate.score_of c.args.guide.now.estimate.now)) (g.D.DeadEnd.is_dead c.args.guide.now.dead_ends.now) (bits_of c.args.state.now)
+    c.value_after-value.result (c.index-before.result.now.cost + c.from.result) c.value_after-value.ensures
+    (omega (arith, limits g (goal.at.add-requires-clause-sum g c).After-from, c.from.ensures, c.cost.ensures))
 
 pub improve-requires-clause-sum : goal.improve-requires-clause-sum
 improve-requires-clause-sum g c =
-    omega (arith, limits g (goal.at.improve-requires-clause-sum g c).After-from, c.from.ensures, c.cost.ensures, c.value_after-value-then-cost-index.ensures.within)
+    value_fits (value_by (g.E.Estimate.score_of c.args.guide.now.estimate.now)) (g.D.DeadEnd.is_dead c.args.guide.now.dead_ends.now) (bits_of c.args.state.now)
+    c.value_after-value-then-cost-index.result (c.index-before.result.now.cost + c.from.result) c.value_after-value-then-cost-index.ensures
+    (omega (arith, limits g (goal.at.improve-requires-clause-sum g c).After-from, c.from.ensures, c.cost.ensures))
 
 pub add-requires-clause-place : goal.add-requires-clause-place
 add-requires-clause-place g c =

@@ -1,10 +1,8 @@
-use Rattle.std.proofs.Common.{◌≡◌, ◌∷◌, refl, subst, ◌∙◌, arith}
-use Rattle.std.specs.Prelude.{IsPermutation}
+use Rattle.std.proofs.Common.{◌≡◌, refl, ◌∙◌, arith}
 use Rattle.search.specs.Queue.{waiting_in}
 use Rattle.packed_state.specs.Packed.{bits_of}
 use Rattle.search.specs.Estimates.{value_by}
-use Rattle.search.specs.Nodes.{entry}
-use Rattle.search.proofs.Steps.{placed_first, nodes_start}
+use Rattle.search.proofs.Steps.{value_fits, joined_by, placed_first, nodes_start}
 use Rattle.search.proofs.progress.Progress.start.Goals as goal
 
 pub returns-clause-search : goal.returns-clause-search
@@ -14,15 +12,22 @@ returns-clause-search g c =
     let stored = states c.insert_if_new.new.self in
     let placed = placed_first (states c.args.store) stored s c.in_ok-place.place c.in_ok-place.field-0-1 c.requires.empty c.in_ok-place.ensures.ok in
     let same : states c.add.new.self.store ≡ stored = rw c.in_ok-add.ensures.store refl in
-    let nodes = nodes_start (g.T.TransitionSystem.means c.args.system.now) (value_by (g.E.Estimate.score_of c.args.estimate.now)) (states c.add.new.self.store) c.add.new.self.nodes.items
+    let value = value_by (g.E.Estimate.score_of c.args.guide.now.estimate.now) in
+    let is_dead = g.D.DeadEnd.is_dead c.args.guide.now.dead_ends.now in
+    let joined = joined_by value is_dead s c.value_in-value.result c.new-2.result c.add.new.self.queue 0 c.in_ok-place.place c.value_in-value.ensures c.in_ok-add.ensures.queue in
+    let nodes = nodes_start (g.T.TransitionSystem.means c.args.system.now) value is_dead (states c.add.new.self.store) c.add.new.self.nodes.items
     (waiting_in c.new-2.result) (waiting_in c.add.new.self.queue) s c.in_ok-place.place _ _ (same ∙ placed.0)
     (rw c.new.ensures.items at c.in_ok-add.ensures.nodes)
-    c.in_ok-initial.ensures.initial placed.1 c.new-2.ensures.none
-    (subst (λ v. IsPermutation (entry 0 v c.in_ok-place.place ∷ waiting_in c.new-2.result) (waiting_in c.add.new.self.queue)) c.value_in-value.ensures.value c.in_ok-add.ensures.queue.joins) in
-    record { one_each = nodes.0; nodes = nodes.1; heap = c.in_ok-add.ensures.queue.heap c.new-2.ensures.queue }
+    c.in_ok-initial.ensures.initial placed.1 c.new-2.ensures.none joined.0 in
+    record { one_each = nodes.0; nodes = nodes.1; heap = joined.1 c.new-2.ensures.queue }
 
 pub add-requires-clause-place : goal.add-requires-clause-place
 add-requires-clause-place g c =
     let states = g.S.StateStore.states in
     let placed = placed_first (states c.args.store) (states c.insert_if_new.new.self) (bits_of c.in_ok-initial.initial) c.in_ok-place.place c.in_ok-place.field-0-1 c.requires.empty c.in_ok-place.ensures.ok in
     omega (arith, placed.1)
+
+pub add-requires-clause-sum : goal.add-requires-clause-sum
+add-requires-clause-sum g c =
+    value_fits (value_by (g.E.Estimate.score_of c.args.guide.now.estimate.now)) (g.D.DeadEnd.is_dead c.args.guide.now.dead_ends.now) (bits_of c.in_ok-initial.initial)
+    c.value_in-value.result 0 c.value_in-value.ensures (omega arith)

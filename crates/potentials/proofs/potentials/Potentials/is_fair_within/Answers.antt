@@ -4,10 +4,11 @@ use Rattle.std.proofs.lemmas.Int.{to_z-of_z}
 use Rattle.std.specs.Prelude.{All}
 use Rattle.grounding.specs.Ground.{task_in, atoms_in}
 use Rattle.potential_functions.specs.PotentialFunctions.{IsInRange}
+use Rattle.potentials.specs.Fairness.{allowed_by}
 use Rattle.potentials.specs.Potentials.{potentials_of}
 use Rattle.potentials.proofs.GroundLemmas.{few-atoms}
 use Rattle.potentials.proofs.FairLemmas.{below-counting, decides-fair}
-use Rattle.potentials.proofs.potentials.Potentials.is_fair_at.Goals as goal
+use Rattle.potentials.proofs.potentials.Potentials.is_fair_within.Goals as goal
 
 pub loses_at_most-losses-requires-clause-range : goal.loses_at_most-losses-requires-clause-range
 loses_at_most-losses-requires-clause-range c = subst (All IsInRange) (sym c.weights.ensures) c.args.self.now.weights_in_range
@@ -21,5 +22,5 @@ loses_at_most-losses-requires-clause-below c =
 
 pub returns : goal.returns
 returns c =
-    decides-fair (task_in c.args.ground.now) (atoms_in c.args.ground.now) (potentials_of c.args.self.now) c.weights.result.now c.weights.ensures c.requires.width c.args.number _ _ c.loses_at_most-losses.result _ _ _
-    c.literals.ensures c.counting.ensures c.loses_at_most-losses.ensures c.cost.ensures (to_z-of_z w64 c.loses_at_most-losses.result (search rules)) c.is_at_most.ensures
+    decides-fair (task_in c.args.ground.now) (atoms_in c.args.ground.now) (potentials_of c.args.self.now) (allowed_by c.args.allowance (task_in c.args.ground.now)) c.weights.result.now c.weights.ensures c.requires.width c.args.number _ _ c.loses_at_most-losses.result _ _ _
+    c.literals.ensures c.counting.ensures c.loses_at_most-losses.ensures c.of.ensures (to_z-of_z w64 c.loses_at_most-losses.result (search rules)) c.is_at_most.ensures
