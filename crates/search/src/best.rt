@@ -31,7 +31,7 @@ pub enum Outcome<S> {
     },
     /// There is no plan.
     Exhausted {
-        /// The states that were found: all that are reachable.
+        /// The states that were found: all that are reachable, but for those that only dead ends lead to.
         states: FoundStates<S>,
     },
     /// More states would have to be listed than may be, before any plan is sure to be a cheapest one.
@@ -54,21 +54,21 @@ pub enum Outcome<S> {
 /// What differs from these: the states stand in a store, in the order in which they were found, and are named by
 /// their places there; actions are the system's numbers. Where a cheaper way to a waiting state is found, the old entry
 /// stays in the queue beside the new one, and is passed over when it comes up (lazy deletion). To an expanded state there
-/// is no cheaper way, since an estimate is consistent. At most `max_states` states are listed: where one more would have
-/// to be, the answer is `States`, with the sum of the state whose turn it is as the bound; that state is not expanded then,
-/// though some of its successors may be listed. Whether a state is a dead end is asked where it is found, or found by a
-/// cheaper way. Each turn writes into the same buffers, so that a state takes no memory but its place in
-/// the store, among the nodes and in the queue.
+/// is no cheaper way, since an estimate is consistent. Whether a state is a dead end is asked where it is found, and where a
+/// cheaper way to it is. At most `max_states` states are listed: where one more would have to be, the answer is `States`,
+/// with the sum of the state whose turn it is as the bound; that state is not expanded then, though some of its successors
+/// may be listed. Each turn writes into the same buffers, so that a state takes no memory but its place in the store, among
+/// the nodes and in the queue.
 ///
 /// The clause promises what costs decide. A plan that is found is a cheapest one. `States` is told only where more
 /// states than the limit are next to one that is, with its estimate, no dearer than any plan (`PrecedesPlans`): where there
-/// are no more of these, the answer is a plan, or that there is none. No state that is told dead is expanded. The bound of
-/// `States` is the least sum of cost and estimate over the found states that are neither expanded nor told dead, and the
-/// found states prove it (`IsAtLimit`). The clause leaves open which of several cheapest plans
-/// is answered, which states whose sum is as much as these cost are expanded before, and the order of the states in the
-/// store. Of that order, the contract of `next_waiting` says that it gives the state found first of those of the least
-/// estimate of those of the least sum; that this is the one to be expanded or answered, and that states are found in the
-/// order of the successors, is shown by tests alone.
+/// are no more of these, the answer is a plan, or that there is none. Its bound is the least sum of cost and estimate over
+/// the found states that are neither expanded nor told dead, and the found states prove it (`IsAtLimit`). No state that is
+/// told dead is expanded. The clause leaves open which of several cheapest plans is answered, which states whose sum is as
+/// much as these cost are expanded before, and the order of the states in the store. Of that order, the contract of
+/// `next_waiting` says that it gives the state found first of those of the least estimate of those of the least sum; that
+/// this is the one to be expanded or answered, and that states are found in the order of the successors, is shown by tests
+/// alone.
 ///
 /// ```text
 /// let store = PooledStore::new(alloc, system.width())?;

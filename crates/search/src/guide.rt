@@ -23,9 +23,8 @@ impl<E: Estimate, D: DeadEnd> Guide<'_, E, D> {
         ensures { IsValueUnlessDead (value_by (E.score_of self.now.estimate.now)) (D.is_dead self.now.dead_ends.now) (bits_of state.now) result }
     {
         if self.dead_ends.dead(state) {
-            None
-        } else {
-            Some(value_of(self.estimate.score(state)))
+            return None;
         }
+        Some(value_of(self.estimate.score(state)))
     }
 }

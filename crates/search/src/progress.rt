@@ -266,7 +266,7 @@ impl<S: StateStore> Progress<S> {
         ensures listed { IfOk result (λ is_listed. MatchBool is_listed
             (Expands (T.means system.now) (value_by (E.score_of guide.now.estimate.now)) (D.is_dead guide.now.dead_ends.now) S.states self.old self.new max_states)
             (AreMoreReachable (T.means system.now) (value_by (E.score_of guide.now.estimate.now)) max_states
-                × IsAtLimit (T.means system.now) (value_by (E.score_of guide.now.estimate.now)) (D.is_dead guide.now.dead_ends.now) max_states turn.sum (S.states self.new.store) self.new.nodes.items)) }
+            × IsAtLimit (T.means system.now) (value_by (E.score_of guide.now.estimate.now)) (D.is_dead guide.now.dead_ends.now) max_states turn.sum (S.states self.new.store) self.new.nodes.items)) }
     {
         system.applicable(&buffers.state, &mut buffers.applicable)?;
         self.mark(turn.id, true);

@@ -56,9 +56,9 @@ impl Parent<'_> {
         ensures { IsValueUnlessDead (value_by (E.score_of guide.now.estimate.now)) (D.is_dead guide.now.dead_ends.now) (bits_of next.now) result }
     {
         if guide.dead_ends.dead(next) {
-            None
-        } else {
-            Some(value_of(guide.estimate.score_after(self.score, self.state, action, next)))
+            return None;
         }
+        let score = guide.estimate.score_after(self.score, self.state, action, next);
+        Some(value_of(score))
     }
 }

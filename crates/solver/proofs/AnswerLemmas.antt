@@ -19,22 +19,23 @@ use Rattle.solver.specs.Reachable.{AreMoreReachable}
 use Rattle.solver.specs.Limit.{is_limit}
 use Rattle.solver.proofs.ByCost.{more_by_cost}
 use Rattle.solver.proofs.GroundLemmas.{length-reachable, more_reachable, numbers_named, one_named}
-use Rattle.solver.proofs.PotentialLemmas.{estimate-value, most_value, value-most, lower_bound}
-use Rattle.solver.proofs.ListingLemmas.{found_line, node_at}
+use Rattle.solver.proofs.PotentialLemmas.{estimate-value, most_value, value-most, lower_bound, are_dead_ends}
+use Rattle.solver.proofs.FoundLines.{found_line, node_at}
+use Rattle.solver.proofs.LimitLemmas.{limit_claim}
 use Rattle.model.specs.Task.{Task, Atom, Instance}
-use Rattle.model.specs.Runs.{System, run, cost_of_all, Solves, IsOptimal, IsUnsolvable}
-use Rattle.model.specs.Claims.{Claim, bound, none, Line, IsClosed, IsLowerBound}
+use Rattle.model.specs.Runs.{System, run, cost_of_all, Solves, CostsAtLeast, IsOptimal, IsUnsolvable}
+use Rattle.model.specs.Claims.{Claim, bound, none, Line, IsClosed, IsLowerBound, AreDeadEnds}
 use Rattle.model.specs.Meaning.{State, step, is_instance, system_of}
 use Rattle.certificate_definitions.specs.Certificates.{is_claim}
-use Rattle.potential_functions.specs.PotentialFunctions.{PotentialFunction, score, value, AreInRange}
-use Rattle.potential_functions.specs.Laws.{AreLowerBounds}
+use Rattle.potential_functions.specs.PotentialFunctions.{PotentialFunction, score, value, is_dead_by, AreInRange}
+use Rattle.potential_functions.specs.Laws.{AreLowerBounds, TellDeadEnds}
 use Rattle.model.specs.Fluents.{is_fluent}
 use Rattle.model.specs.ClosedOff.{kept_instances}
 use Rattle.model.specs.NumberedAtoms.{numbered_atoms}
 use Rattle.model.specs.Grounding.{ground_system, StandsFor, NamesKept}
 use Rattle.model.proofs.ClaimsLemmas.{claim-of_closed}
 use Rattle.model.proofs.InstancesLemmas.{is_instance-of_step}
-use Rattle.model.proofs.BisimulationLemmas.{same_cost}
+use Rattle.model.proofs.BisimulationLemmas.{same_cost, bound_forth}
 use Rattle.model.proofs.GroundTaskLemmas.{ground_task_is_bisimilar, ground_task_solves_alike}
 
 all_instances_run : (task : Task) (plan : List Instance) (s end : State) → run (system_of task) s plan ≡ Some end → list_all (is_instance task) plan ≡ true
@@ -56,13 +57,13 @@ most_of_limit limit within = leb-true limit 16777216 (and_parts (nat_le 1 limit)
 -- ---- an outcome
 
 -- what is found by the estimate is found by the values
-pub outcome_by : {Store : Type 0} (t : System (List Bool) ℕ) (p : PotentialFunction) (states_of : Store → List (List Bool)) (max_states : ℕ) (outcome told : Outcome Store) → outcome ≡ told
-    → IsTrueOutcome t (value_by (score p)) states_of max_states outcome → IsTrueOutcome t (value p) states_of max_states told
-outcome_by t p states_of max_states outcome told is true_outcome =
-    subst (IsTrueOutcome t (value p) states_of max_states) is (subst (λ (v : List Bool → ℕ). IsTrueOutcome t v states_of max_states outcome) (estimate-value p) true_outcome)
+pub outcome_by : {Store : Type 0} (t : System (List Bool) ℕ) (p : PotentialFunction) (is_dead : List Bool → Bool) (states_of : Store → List (List Bool)) (max_states : ℕ) (outcome told : Outcome Store) → outcome ≡ told
+    → IsTrueOutcome t (value_by (score p)) is_dead states_of max_states outcome → IsTrueOutcome t (value p) is_dead states_of max_states told
+outcome_by t p is_dead states_of max_states outcome told is true_outcome =
+    subst (IsTrueOutcome t (value p) is_dead states_of max_states) is (subst (λ (v : List Bool → ℕ). IsTrueOutcome t v is_dead states_of max_states outcome) (estimate-value p) true_outcome)
 
-pub found_among_more : {S A : Type 0} {t : System S A} {value : S → ℕ} {claim : Claim} {count most : ℕ} {states : List S} {nodes : List Node} → AreFound t value claim count states nodes → count ≤ most
-    → AreFound t value claim most states nodes
+pub found_among_more : {S A : Type 0} {t : System S A} {value : S → ℕ} {is_dead : S → Bool} {claim : Claim} {count most : ℕ} {states : List S} {nodes : List Node} → AreFound t value is_dead claim count states nodes
+    → count ≤ most → AreFound t value is_dead claim most states nodes
 found_among_more found le = record {
   one_for_each = found.one_for_each;
   within_limit = omega (arith, found.within_limit, le);
@@ -70,6 +71,7 @@ found_among_more found le = record {
   reachable = found.reachable;
   cheap = found.cheap;
   expanded_cheapest = found.expanded_cheapest;
+  expanded_alive = found.expanded_alive;
   closed = found.closed;
 }
 
@@ -83,19 +85,19 @@ never least most cost more reached within = omega (arith, more, reached, within)
 
 -- Where some list solves, the claim of a listing is at most what its dearest line costs with the greatest value: else it
 -- would show that none does.
-module _ {S A : Type 0} (t : System S A) (value : S → ℕ) (cost : ℕ) (states : List S) (nodes : List Node) (max_states : ℕ) (found : AreFound t value (bound cost) max_states states nodes)
-    (low : (k : ℕ) (s : S) → slice_get states k ≡ Some s → value s ≤ most_value) where
+module _ {S A : Type 0} (t : System S A) (value : S → ℕ) (is_dead : S → Bool) (cost : ℕ) (states : List S) (nodes : List Node) (max_states : ℕ)
+    (found : AreFound t value is_dead (bound cost) max_states states nodes) (low : (k : ℕ) (s : S) → slice_get states k ≡ Some s → value s ≤ most_value) where
   abbrev most : ℕ
   most = length states * 4294967295
 
-  within : (line : Line S) → Contains (lines_of value states nodes) line → (line.cost ≤ most) × (value line.state ≤ most_value)
+  within : (line : Line S) → Contains (lines_of value is_dead states nodes) line → (line.cost ≤ most) × (value line.state ≤ most_value)
   within line at =
-      let (k, s, node, there, here, is) = found_line value states nodes line at in (
+      let (k, s, node, there, here, is) = found_line value is_dead states nodes line at in (
         subst (λ n. n ≤ most) (ap (λ (l : Line S). l.cost) (sym is)) (found.cheap k node here),
         subst (λ n. n ≤ most_value) (ap (λ (l : Line S). value l.state) (sym is)) (low k s there),
       )
 
-  none_solves : most + most_value < cost → IsClosed t value none (lines_of value states nodes)
+  none_solves : most + most_value < cost → IsClosed t value is_dead none (lines_of value is_dead states nodes)
   none_solves more = record {
     initial_listed = found.closed.initial_listed;
     successors_listed = found.closed.successors_listed;
@@ -104,22 +106,23 @@ module _ {S A : Type 0} (t : System S A) (value : S → ℕ) (cost : ℕ) (state
     cuts_allowed = λ line rest at cut.
         let allowed = found.closed.cuts_allowed line rest at cut in
         (allowed.0, never cost (most + most_value) (line.cost + rest) more allowed.1 (omega (arith, allowed.0, (within line at).0, (within line at).1)));
+    dead_are_dead = found.closed.dead_are_dead;
   }
 
-  bound_within : IsLowerBound t value → (plan : List A) → Solves t plan → cost ≤ most + most_value
-  bound_within lower plan solves =
+  bound_within : IsLowerBound t value → AreDeadEnds t is_dead → (plan : List A) → Solves t plan → cost ≤ most + most_value
+  bound_within lower dead_ends plan solves =
       elim (nat_le cost (most + most_value)) as (λ v. nat_le cost (most + most_value) ≡ v → cost ≤ most + most_value) [
         | true ↦ λ is. leb-true cost (most + most_value) is
-        | false ↦ λ is_not. absurd (claim-of_closed t value none (lines_of value states nodes) lower (none_solves (beyond cost (most + most_value) is_not)) plan solves)
+        | false ↦ λ is_not. absurd (claim-of_closed t value is_dead none (lines_of value is_dead states nodes) lower dead_ends (none_solves (beyond cost (most + most_value) is_not)) plan solves)
       ] refl
 
 -- so what is found among so few states is cheap
-cheap_plan : {S A : Type 0} (t : System S A) (value : S → ℕ) (cost max_states : ℕ) (states : List S) (nodes : List Node) (plan : List A) → Solves t plan
-    → AreFound t value (bound cost) max_states states nodes → ((k : ℕ) (s : S) → slice_get states k ≡ Some s → value s ≤ most_value) → IsLowerBound t value → max_states ≤ 16777216
-    → is_claim (bound cost) ≡ true
-cheap_plan t value cost max_states states nodes plan solves found low lower few =
+cheap_plan : {S A : Type 0} (t : System S A) (value : S → ℕ) (is_dead : S → Bool) (cost max_states : ℕ) (states : List S) (nodes : List Node) (plan : List A) → Solves t plan
+    → AreFound t value is_dead (bound cost) max_states states nodes → ((k : ℕ) (s : S) → slice_get states k ≡ Some s → value s ≤ most_value) → IsLowerBound t value → AreDeadEnds t is_dead
+    → max_states ≤ 16777216 → is_claim (bound cost) ≡ true
+cheap_plan t value is_dead cost max_states states nodes plan solves found low lower dead_ends few =
     let few_found : length states ≤ 16777216 = omega (arith, found.within_limit, few) in
-    let cheap = bound_within t value cost states nodes max_states found low lower plan solves in
+    let cheap = bound_within t value is_dead cost states nodes max_states found low lower dead_ends plan solves in
     lt-ltb cost 1152921504606846976 (omega (arith, cheap, few_found))
 
 -- ---- what the ground task's answer says of its task
@@ -150,19 +153,35 @@ module _ (task : Task) (atoms : List Atom) (numbered : atoms ≡ numbered_atoms 
   pub task_unsolvable : IsUnsolvable (ground_system task atoms) → IsUnsolvable (system_of task)
   task_unsolvable unsolvable = (ground_task_solves_alike task [] none_more).unsolvable (subst (λ (l : List Atom). IsUnsolvable (ground_system task l)) numbered unsolvable)
 
-  -- a claim that is shown by potentials of so few atoms is a certificate's
-  pub claim_allowed : (p : PotentialFunction) (cost max_states : ℕ) (states : List (List Bool)) (nodes : List Node) (plan : List ℕ) → Solves (ground_system task atoms) plan
-      → AreFound (ground_system task atoms) (value p) (bound cost) max_states states nodes → AreInRange p → AreLowerBounds task atoms p → length atoms ≤ 1048576 → max_states ≤ 16777216
-      → is_claim (bound cost) ≡ true
-  claim_allowed p cost max_states states nodes plan solves found range bounds few_atoms few =
-      cheap_plan (ground_system task atoms) (value p) cost max_states states nodes plan solves found
-      (λ k bits at. value-most p bits range (omega (arith, few_atoms, width_at k bits at))) (lower_bound task atoms p bounds) few
-    where
-      width_at : (k : ℕ) (bits : List Bool) → slice_get states k ≡ Some bits → length bits ≡ length atoms
-      width_at k bits at =
-          let (node, there) = node_at nodes k (omega (arith, slice_get_within states k bits at, found.one_for_each)) in
-          let reached = found.reachable k bits node at there in
-          length-reachable task atoms bits (reached.0, reached.1)
+  -- the values of found states are small, where so few atoms have numbers
+  found_values : (p : PotentialFunction) (is_dead : List Bool → Bool) (claim : Claim) (max_states : ℕ) (states : List (List Bool)) (nodes : List Node)
+      → AreFound (ground_system task atoms) (value p) is_dead claim max_states states nodes → AreInRange p → length atoms ≤ 1048576
+      → (k : ℕ) (bits : List Bool) → slice_get states k ≡ Some bits → value p bits ≤ most_value
+  found_values p is_dead claim max_states states nodes found range few_atoms k bits at =
+      let (node, there) = node_at nodes k (omega (arith, slice_get_within states k bits at, found.one_for_each)) in
+      let reached = found.reachable k bits node at there in
+      let wide = length-reachable task atoms bits (reached.0, reached.1) in
+      value-most p bits range (omega (arith, few_atoms, wide))
+
+  -- a claim that is shown by potentials of so few atoms is a certificate's: that of a plan, and that of a search that stops at the limit
+  pub claim_allowed : (p q : PotentialFunction) (cost max_states : ℕ) (states : List (List Bool)) (nodes : List Node) (plan : List ℕ) → Solves (ground_system task atoms) plan
+      → AreFound (ground_system task atoms) (value p) (is_dead_by q) (bound cost) max_states states nodes → AreInRange p → AreLowerBounds task atoms p → TellDeadEnds task atoms q
+      → length atoms ≤ 1048576 → max_states ≤ 16777216 → is_claim (bound cost) ≡ true
+  claim_allowed p q cost max_states states nodes plan solves found range bounds tell few_atoms few =
+      cheap_plan (ground_system task atoms) (value p) (is_dead_by q) cost max_states states nodes plan solves found
+      (found_values p (is_dead_by q) (bound cost) max_states states nodes found range few_atoms) (lower_bound task atoms p bounds) (are_dead_ends task atoms q tell) few
+
+  pub limit_allowed : (p q : PotentialFunction) (least max_states : ℕ) (states : List (List Bool)) (nodes : List Node)
+      → search.IsAtLimit (ground_system task atoms) (value p) (is_dead_by q) max_states least states nodes → AreInRange p → length atoms ≤ 1048576 → max_states ≤ 16777216 → is_claim (bound least) ≡ true
+  limit_allowed p q least max_states states nodes limit range few_atoms few =
+      limit_claim (ground_system task atoms) (value p) (is_dead_by q) max_states least states nodes limit
+      (found_values p (is_dead_by q) (bound least) max_states states nodes limit.found range few_atoms) few
+
+  -- what each list costs at least that solves the ground task, each that solves the task costs too
+  pub task_costs_at_least : (least : ℕ) → CostsAtLeast (ground_system task atoms) least → CostsAtLeast (system_of task) least
+  task_costs_at_least least lower =
+      bound_forth ground (system_of task) (StandsFor task (numbered_atoms task [])) (NamesKept task) (ground_task_is_bisimilar task [] none_more) least
+      (subst (λ (l : List Atom). CostsAtLeast (ground_system task l) least) numbered lower)
 
   pub more_of_task : (value : List Bool → ℕ) (max_states : ℕ) → search.AreMoreReachable (ground_system task atoms) value max_states → AreMoreReachable (system_of task) max_states
   more_of_task value max_states more =

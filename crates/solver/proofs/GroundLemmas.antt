@@ -7,6 +7,7 @@ use Rattle.std.proofs.lemmas.List.{length-map}
 use Rattle.std.proofs.lemmas.Option.{slice_get_within}
 use Rattle.packed_state.specs.Store.{AreDistinct}
 use Rattle.search.specs.Transitions.{AreApplicable}
+use Rattle.search.specs.Outcome.{IsReachableAt}
 use Rattle.solver.specs.Reachable.{PrecedesPlans, is_initial, is_next, AreMoreReachable}
 use Rattle.model.specs.Task.{Atom, Task, Instance}
 use Rattle.model.specs.Runs.{run, cost_of_all, CostsAtLeast, IsReachable}
@@ -87,7 +88,7 @@ module _ (task : Task) where
   distinct_states states long distinct =
       distinct_views view states (λ j k s s' at_j at_k same. one_state s s' (long j s at_j) (long k s' at_k) same) distinct
 
-  -- ---- limits
+  -- ---- reachable states, and limits
 
   precedes : (bits : List Bool) → PrecedesPlans (ground_system task atoms) bits → PrecedesPlans (system_of task) (view bits)
   precedes bits (is_initial is) = is_initial (ap view is ∙ both.initial)
@@ -99,10 +100,15 @@ module _ (task : Task) where
       (subst (λ cost. CostsAtLeast (system_of task) cost) paid (bound_forth (ground_system task atoms) (system_of task) (λ b s. view b ≡ s) (NamesKept task) both (cost_of_all (ground_system task atoms) actions) cheap))
       (next.3 ∙ ap Some (sym next.4))
 
-  reached : (bits : List Bool) → IsReachable (ground_system task atoms) bits → IsReachable (system_of task) (view bits)
-  reached bits (actions, runs) =
+  -- what is reachable in the ground task is so in the task, at the same cost
+  pub reached_at : (bits : List Bool) (cost : ℕ) → IsReachableAt (ground_system task atoms) bits cost → IsReachableAt (system_of task) (view bits) cost
+  reached_at bits cost (actions, runs, paid) =
       let other = run_forth (ground_system task atoms) (system_of task) (λ b s. view b ≡ s) (NamesKept task) both actions (ground_system task atoms).initial (system_of task).initial bits both.initial runs in
-      (other.0, other.3 ∙ ap Some (sym other.4))
+      let as_much = same_cost (ground_system task atoms) (system_of task) (λ b s. view b ≡ s) (NamesKept task) both actions other.0 other.2 in
+      (other.0, other.3 ∙ ap Some (sym other.4), sym as_much ∙ paid)
+
+  reached : (bits : List Bool) → IsReachable (ground_system task atoms) bits → IsReachable (system_of task) (view bits)
+  reached bits (actions, runs) = let there = reached_at bits (cost_of_all (ground_system task atoms) actions) (actions, runs, refl) in (there.0, there.1)
 
   pub more_reachable : (max_states : ℕ) → AreMoreReachable (ground_system task atoms) max_states → AreMoreReachable (system_of task) max_states
   more_reachable max_states (states, distinct, preceding, more) = (

@@ -1,7 +1,9 @@
 pub mod TypedLemmas
 pub mod GroundLemmas
 pub mod PotentialLemmas
+pub mod FoundLines
 pub mod ListingLemmas
+pub mod LimitLemmas
 pub mod AnswerLemmas
 pub mod ByCost
 pub mod LoopLemmas

@@ -1,8 +1,8 @@
 -- The lines of the found states make a closed certificate.
-use Rattle.std.proofs.Common.{◌≡◌, ◌∙◌, ◌≢◌, ℕ, zero, suc, ◌+◌, ◌<◌, ◌≤◌, Bool, true, false, not, ◌&&◌, List, [], ◌∷◌, ◌++◌, length, map, get_or, cond, None, Some, inl, inr, refl, sym, ap, subst, arith}
+use Rattle.std.proofs.Common.{◌≡◌, ◌∙◌, ◌≢◌, ℕ, zero, suc, ◌+◌, ◌<◌, ◌≤◌, Bool, true, false, not, ◌&&◌, List, [], ◌∷◌, ◌++◌, length, map, get_or, cond, None, Some, refl, sym, ap, subst, arith}
 use Rattle.std.specs.Prelude.{nat_le, nat_lt, slice_get, Contains, All, AllPairs, IsTrue, filter, if◌then◌else◌}
 use Rattle.std.specs.List.{list_all, filter_map, range_with_len, cons_option}
-use Rattle.std.specs.Option.{option_map, option_map_or}
+use Rattle.std.specs.Option.{option_map}
 use Rattle.std.specs.FinSet.{from_list}
 use Rattle.std.proofs.lemmas.Bool.{and_parts, and_from, not-true, true≢false, lt-ltb, le-leb}
 use Rattle.std.proofs.lemmas.List.{length-map}
@@ -14,25 +14,23 @@ use Rattle.search.specs.declared.nodes.Node.{Node}
 use Rattle.search.specs.Outcome as search
 use Rattle.search.specs.Outcome.{AreFound, AreExpandedWithin}
 use Rattle.solver.specs.Improved.{AreSettledOrHigh, HasSettledOrHigh}
-use Rattle.certificate.specs.declared.listing_parts.Mark.{Mark}
-use Rattle.certificate.specs.ListedSets.{lines_with}
-use Rattle.certificate.specs.ListingParts.{mark_of}
-use Rattle.solver.specs.Listing.{mark_of_line, numbers_in, state_line, found_certificate, IsShownBy, AreOpenWithin}
+use Rattle.solver.specs.Listing.{numbers_in, state_line, found_certificate, IsShownBy, AreOpenWithin}
 use Rattle.solver.proofs.TypedLemmas.{numbered_typed}
 use Rattle.solver.proofs.GroundLemmas.{length-reachable, distinct_states}
 use Rattle.solver.proofs.PotentialLemmas.{most_value, value-most, potentials-pass, value-packed}
+use Rattle.solver.proofs.FoundLines.{expanded_of_open, dead_of_told, found_line, length-lines, node_at}
 use Rattle.model.specs.Task.{Task, Atom}
 use Rattle.model.specs.WellTyped.{is_task, is_atom}
 use Rattle.model.specs.Runs.{System}
-use Rattle.model.specs.Claims.{Claim, Line, IsClosed}
+use Rattle.model.specs.Claims.{Claim, opened, cut, dead, Line, IsClosed}
 use Rattle.model.specs.Meaning.{State, system_of}
 use Rattle.model.specs.Fluents.{is_fluent, static_atoms}
 use Rattle.model.specs.NumberedAtoms.{stands_in, are_distinct, numbered_atoms}
 use Rattle.model.specs.Grounding.{chosen, state_of_bits, ground_system, NamesKept}
-use Rattle.certificate_definitions.specs.Certificates.{Certificate, StateLine, is_number, is_claim, is_state_line, are_potentials, keeps_limits, rise, state_of_line, lines_of, value_of}
-use Rattle.potential_functions.specs.PotentialFunctions.{PotentialFunction, value, AreInRange}
-use Rattle.potential_functions.specs.Fair.{AreFair}
-use Rattle.model.proofs.ListLemmas.{Contains-cases, Contains-none, map-Contains}
+use Rattle.certificate_definitions.specs.Certificates.{two, Certificate, StateLine, is_number, is_claim, is_weight, is_mark, is_state_line, are_potentials, keeps_limits, rise, state_of_line, lines_of, value_of, is_dead_end_of}
+use Rattle.potential_functions.specs.PotentialFunctions.{PotentialFunction, value, is_dead_by, AreInRange}
+use Rattle.potential_functions.specs.Fair.{AreFair, AreDeadFair}
+use Rattle.model.proofs.ListLemmas.{map-Contains}
 use Rattle.model.proofs.LimitsLemmas.{numbered_again}
 use Rattle.model.proofs.NumberingLemmas.{stands_in-got}
 use Rattle.model.proofs.GroundTaskLemmas.{numbered-distinct, numbered-fluent, ground_task_is_bisimilar}
@@ -105,25 +103,6 @@ numbers_rise bits = rise_filter (has bits) (length bits) 0 0 (length bits) (omeg
 
 -- ---- the lines
 
--- a line is that of a found state
-pub found_line : {S : Type 0} (value : S → ℕ) (states : List S) (nodes : List Node) (line : Line S) → Contains (search.lines_of value states nodes) line
-    → (k : ℕ) × (s : S) × (n : Node) × (slice_get states k ≡ Some s) × (slice_get nodes k ≡ Some n) × (line ≡ search.line_of value s n)
-found_line value [] nodes line at = absurd (Contains-none line at)
-found_line value (s ∷ states) [] line at = absurd (Contains-none line at)
-found_line value (s ∷ states) (n ∷ nodes) line at =
-    elim (Contains-cases (search.line_of value s n) (search.lines_of value states nodes) line at) [
-      | inl is ↦ (0, s, n, refl, refl, sym is)
-      | inr later ↦ let (k, s', n', there, here, is) = found_line value states nodes line later in (suc k, s', n', there, here, is)
-    ]
-
--- an open line is that of an expanded state
-pub open_line : (value : ℕ) (node : Node) → (if node.is_expanded then None else Some value) ≡ None → node.is_expanded ≡ true
-open_line value node is_open = of_flag node.is_expanded is_open
-  where
-    of_flag : (b : Bool) → (if b then None else Some value) ≡ None → b ≡ true
-    of_flag true is = refl
-    of_flag false is = absurd (cc)
-
 -- lines of distinct states
 states_apart : {S : Type 0} (lines : List (Line S)) → AreDistinct (map (λ (l : Line S). l.state) lines) → AllPairs (λ (k l : Line S). k.state ≢ l.state) lines
 states_apart {S} lines distinct i j d before within is =
@@ -133,36 +112,16 @@ states_apart {S} lines distinct i j d before within is =
     state_at : (k : ℕ) → k < length lines → slice_get (map (λ (l : Line S). l.state) lines) k ≡ Some (get_or lines k d).state
     state_at k below = slice_get-map (λ (l : Line S). l.state) lines k ∙ ap (option_map (λ (l : Line S). l.state)) (slice_get-get_or lines k d below)
 
-pub node_at : (nodes : List Node) (k : ℕ) → k < length nodes → (node : Node) × (slice_get nodes k ≡ Some node)
-node_at [] k below = absurd (omega (arith, below))
-node_at (node ∷ nodes) zero below = (node, refl)
-node_at (n ∷ nodes) (suc k) below = node_at nodes k (omega (arith, below))
-
-pub length-lines : {S : Type 0} (value : S → ℕ) (states : List S) (nodes : List Node) → length nodes ≡ length states → length (search.lines_of value states nodes) ≡ length states
-length-lines value [] nodes one = refl
-length-lines value (s ∷ states) [] one = absurd (omega (arith, one))
-length-lines value (s ∷ states) (node ∷ nodes) one = ap suc (length-lines value states nodes (omega (arith, one)))
-
--- the lines of the marks and the states are those of the found states
-pub lines_of_marks : (value : List Bool → ℕ) (states : List (List Bool)) (nodes : List Node)
-    → lines_with (map mark_of_line (search.lines_of value states nodes)) states ≡ map state_line (search.lines_of value states nodes)
-lines_of_marks value [] nodes = refl
-lines_of_marks value (s ∷ states) [] = refl
-lines_of_marks value (s ∷ states) (node ∷ nodes) = ap (λ lines. state_line (search.line_of value s node) ∷ lines) (lines_of_marks value states nodes)
-
-pub as_many_marks : (value : List Bool → ℕ) (marks : List Mark) (states : List (List Bool)) (nodes : List Node) → length nodes ≡ length states
-    → map mark_of marks ≡ map mark_of_line (search.lines_of value states nodes) → length marks ≡ length states
-as_many_marks value marks states nodes one are =
-    sym (length-map marks mark_of) ∙ ap length are ∙ length-map (search.lines_of value states nodes) mark_of_line ∙ length-lines value states nodes one
-
--- a listing closed by some values is closed by others that are no lower at its cuts
-closed_higher : {S A : Type 0} (t : System S A) (value value' : S → ℕ) (claim : Claim) (lines : List (Line S)) → ((line : Line S) → Contains lines line → value line.state ≤ value' line.state)
-    → IsClosed t value claim lines → IsClosed t value' claim lines
-closed_higher t value value' claim lines higher closed = record {
+-- a listing closed by some values and dead ends is closed by others that say no less of its states
+closed_higher : {S A : Type 0} (t : System S A) (value value' : S → ℕ) (is_dead is_dead' : S → Bool) (claim : Claim) (lines : List (Line S))
+    → ((line : Line S) → Contains lines line → (value line.state ≤ value' line.state) × (is_dead line.state ≡ true → is_dead' line.state ≡ true))
+    → IsClosed t value is_dead claim lines → IsClosed t value' is_dead' claim lines
+closed_higher t value value' is_dead is_dead' claim lines higher closed = record {
   initial_listed = closed.initial_listed;
   successors_listed = closed.successors_listed;
   open_goals_allowed = closed.open_goals_allowed;
-  cuts_allowed = λ line rest among cut. let allowed = closed.cuts_allowed line rest among cut in (omega (arith, allowed.0, higher line among), allowed.1);
+  cuts_allowed = λ line rest among is_cut. let allowed = closed.cuts_allowed line rest among is_cut in (omega (arith, allowed.0, (higher line among).0), allowed.1);
+  dead_are_dead = λ line among marked. (higher line among).1 (closed.dead_are_dead line among marked);
 }
 
 pairs_apart : (atoms : List Atom) → are_distinct atoms ≡ true → AllPairs (λ (a b : Atom). a ≢ b) atoms
@@ -179,40 +138,51 @@ pairs_apart (a ∷ atoms) distinct (suc i) (suc j) d before within =
 
 -- ---- the certificate
 
-module _ (task : Task) (claim : Claim) (most : ℕ) (p : PotentialFunction) (states : List (List Bool)) (nodes : List Node) where
+module _ (task : Task) (claim : Claim) (most : ℕ) (p q : PotentialFunction) (states : List (List Bool)) (nodes : List Node) where
   abbrev atoms : List Atom
   atoms = numbered_atoms task []
 
   abbrev none_more : All (λ (a : Atom). IsTrue (is_fluent task a.predicate)) []
   none_more = λ k d below. absurd (omega (arith, below))
 
-  abbrev view : Line (List Bool) → Line State
-  view line = record { state = state_of_bits task atoms line.state; cost = line.cost; cut = line.cut }
+  abbrev pub view : Line (List Bool) → Line State
+  view line = record { state = state_of_bits task atoms line.state; cost = line.cost; mark = line.mark }
 
   abbrev lines : List (Line (List Bool))
-  lines = search.lines_of (value p) states nodes
+  lines = search.lines_of (value p) (is_dead_by q) states nodes
 
-  abbrev made : Certificate
-  made = found_certificate claim atoms p states nodes
+  abbrev pub made : Certificate
+  made = found_certificate claim atoms p q states nodes
 
   abbrev entry : StateLine → Line State
-  entry l = record { state = state_of_line task made l; cost = l.cost; cut = l.cut }
+  entry l = record { state = state_of_line task made l; cost = l.cost; mark = l.mark }
 
-  listing : lines_of task made ≡ map view lines
+  pub listing : lines_of task made ≡ map view lines
   listing = map-map entry state_line lines ∙ each lines
     where
       each : (ls : List (Line (List Bool))) → map (λ l. entry (state_line l)) ls ≡ map view ls
       each [] = refl
-      each (l ∷ ls) = λ i. record { state = from_list (named_chosen atoms l.state i ++ static_atoms task); cost = l.cost; cut = l.cut } ∷ each ls i
+      each (l ∷ ls) = λ i. record { state = from_list (named_chosen atoms l.state i ++ static_atoms task); cost = l.cost; mark = l.mark } ∷ each ls i
 
   -- the states of the listing, in their order
   listed_states : (ss : List (List Bool)) (ns : List Node) → length ns ≡ length ss
-      → map (λ (l : Line State). l.state) (map view (search.lines_of (value p) ss ns)) ≡ map (state_of_bits task atoms) ss
+      → map (λ (l : Line State). l.state) (map view (search.lines_of (value p) (is_dead_by q) ss ns)) ≡ map (state_of_bits task atoms) ss
   listed_states [] ns one = refl
   listed_states (s ∷ ss) [] one = absurd (omega (arith, one))
   listed_states (s ∷ ss) (n ∷ ns) one = ap (λ later. state_of_bits task atoms s ∷ later) (listed_states ss ns (omega (arith, one)))
 
-  module _ (found : AreFound (ground_system task atoms) (value p) claim most states nodes) where
+  pub length-made : length nodes ≡ length states → length made.lines ≡ length states
+  length-made one = length-map lines state_line ∙ length-lines (value p) (is_dead_by q) states nodes one
+
+  -- a line of the listing is that of a found state
+  pub line_found : (line : Line State) → Contains (lines_of task made) line
+      → (k : ℕ) × (s : List Bool) × (n : Node) × (slice_get states k ≡ Some s) × (slice_get nodes k ≡ Some n) × (line ≡ view (search.line_of (value p) (is_dead_by q) s n))
+  line_found line' among' =
+      let (line, among, is) = map-Contains view lines line' (subst (λ (ls : List (Line State)). Contains ls line') listing among') in
+      let (k, s, n, there, here, from) = found_line (value p) (is_dead_by q) states nodes line among in
+      (k, s, n, there, here, sym is ∙ ap view from)
+
+  module _ (found : AreFound (ground_system task atoms) (value p) (is_dead_by q) claim most states nodes) where
     pub found_width : (k : ℕ) (bits : List Bool) → slice_get states k ≡ Some bits → length bits ≡ length atoms
     found_width k bits at =
         let (node, there) = node_at nodes k (omega (arith, slice_get_within states k bits at, found.one_for_each)) in
@@ -220,18 +190,35 @@ module _ (task : Task) (claim : Claim) (most : ℕ) (p : PotentialFunction) (sta
         length-reachable task atoms bits (reached.0, reached.1)
 
     -- the certificate gives a listed state the value by which it was found
-    same_value : (line : Line (List Bool)) → Contains lines line → value_of made (state_of_bits task atoms line.state) ≡ value p line.state
-    same_value line among =
-        let (k, s, n, there, here, is) = found_line (value p) states nodes line among in
-        let long : length line.state ≡ length atoms = ap (λ (l : Line (List Bool)). length l.state) is ∙ found_width k s there in
-        value-packed task p line.state long
+    pub same_value : (k : ℕ) (bits : List Bool) → slice_get states k ≡ Some bits → value_of made (state_of_bits task atoms bits) ≡ value p bits
+    same_value k bits at = value-packed task p bits (found_width k bits at)
 
-    pub shown_by : is_task task ≡ true → length p.weights ≡ length atoms → AreFair task atoms p → keeps_limits made ≡ true → IsShownBy task claim (length states) made
-    shown_by well many fair kept = record {
+    -- and tells it a dead end where it was found so
+    same_dead : (k : ℕ) (bits : List Bool) → slice_get states k ≡ Some bits → is_dead_end_of made (state_of_bits task atoms bits) ≡ is_dead_by q bits
+    same_dead k bits at = ap (nat_le 1) (value-packed task q bits (found_width k bits at))
+
+    same_listing : (line : Line (List Bool)) → Contains lines line
+        → (value p line.state ≤ value_of made (state_of_bits task atoms line.state)) × (is_dead_by q line.state ≡ true → is_dead_end_of made (state_of_bits task atoms line.state) ≡ true)
+    same_listing line among =
+        let (k, s, n, there, here, is) = found_line (value p) (is_dead_by q) states nodes line among in
+        let at : slice_get states k ≡ Some line.state = there ∙ ap (λ (l : Line (List Bool)). Some l.state) (sym is) in
+        (omega (arith, same_value k line.state at), λ told. same_dead k line.state at ∙ told)
+
+    told_dead : (line : Line State) → Contains (lines_of task made) line → is_dead_end_of made line.state ≡ true → line.mark ≡ dead
+    told_dead line among told =
+        let (k, s, n, there, here, is) = line_found line among in
+        let dead_found : is_dead_by q s ≡ true = sym (same_dead k s there) ∙ ap (λ (l : Line State). is_dead_end_of made l.state) (sym is) ∙ told in
+        ap (λ (l : Line State). l.mark) is ∙ dead_of_told (value p) (is_dead_by q) s n (found.expanded_alive k s n there here) dead_found
+
+    pub shown_by : is_task task ≡ true → length p.weights ≡ length atoms → length q.weights ≡ length atoms → AreFair task atoms p → AreDeadFair task atoms q → keeps_limits made ≡ true
+        → IsShownBy task claim (length states) made
+    shown_by well many dead_many fair dead_fair kept = record {
       claims = refl;
       closed = record {
         one_weight_an_atom = many;
+        one_dead_end_weight_an_atom = dead_many;
         potentials_are_fair = subst (λ (l : List Atom). AreFair task l p) (sym (numbered_again task)) fair;
+        dead_ends_are_fair = subst (λ (l : List Atom). AreDeadFair task l q) (sym (numbered_again task)) dead_fair;
         atoms_are_fluent = λ k d below.
             let a = get_or atoms k d in
             let there = stands_in-got atoms k a (slice_get-get_or atoms k d below) in
@@ -239,93 +226,108 @@ module _ (task : Task) (claim : Claim) (most : ℕ) (p : PotentialFunction) (sta
         atoms_are_distinct = pairs_apart atoms (numbered-distinct task []);
         states_are_distinct = subst (AllPairs (λ (k l : Line State). k.state ≢ l.state)) (sym listing)
             (states_apart (map view lines) (subst (λ (ss : List State). AreDistinct ss) (sym (listed_states states nodes found.one_for_each)) (distinct_states task states found_width found.distinct)));
-        listing_is_closed = subst (IsClosed (system_of task) (value_of made) claim) (sym listing)
+        listing_is_closed = subst (IsClosed (system_of task) (value_of made) (is_dead_end_of made) claim) (sym listing)
             (closed_forth (ground_system task atoms) (system_of task) (state_of_bits task atoms) (NamesKept task) (ground_task_is_bisimilar task [] none_more)
-            (λ bits. value_of made (state_of_bits task atoms bits)) (value_of made) (λ s. omega arith) claim lines
-            (closed_higher (ground_system task atoms) (value p) (λ bits. value_of made (state_of_bits task atoms bits)) claim lines (λ line among. omega (arith, same_value line among)) found.closed));
+            (λ bits. value_of made (state_of_bits task atoms bits)) (value_of made) (λ s. omega arith)
+            (λ bits. is_dead_end_of made (state_of_bits task atoms bits)) (is_dead_end_of made) (λ s told. told) claim lines
+            (closed_higher (ground_system task atoms) (value p) (λ bits. value_of made (state_of_bits task atoms bits)) (is_dead_by q) (λ bits. is_dead_end_of made (state_of_bits task atoms bits)) claim lines
+            same_listing found.closed));
       };
-      within_limit = omega (arith, length-map lines state_line, length-lines (value p) states nodes found.one_for_each);
+      within_limit = omega (arith, length-made found.one_for_each);
       atoms = refl;
       within_limits = kept;
+      version = refl;
+      dead_ends_are_told = told_dead;
     }
 
     pub open_within : (cost : ℕ) → AreExpandedWithin (value p) cost states nodes → AreOpenWithin task cost made
-    open_within cost within line' among' is_open =
-        let (line, among, is) = map-Contains view lines line' (subst (λ (ls : List (Line State)). Contains ls line') listing among') in
-        let (k, s, n, there, here, from) = found_line (value p) states nodes line among in
-        let cut : (if n.is_expanded then None else Some (value p s)) ≡ None = ap (λ (l : Line (List Bool)). l.cut) (sym from) ∙ ap (λ (l : Line State). l.cut) is ∙ is_open in
-        let cheap = within k s n there here (open_line (value p s) n cut) in
-        let same = same_value line among in
-        let value_same : value_of made line'.state ≡ value_of made (state_of_bits task atoms line.state) = ap (λ (l : Line State). value_of made l.state) (sym is) in
-        let cost_same : line'.cost ≡ line.cost = ap (λ (l : Line State). l.cost) (sym is) in
-        let cost_found : line.cost ≡ n.cost = ap (λ (l : Line (List Bool)). l.cost) from in
-        let value_found : value p line.state ≡ value p s = ap (λ (l : Line (List Bool)). value p l.state) from in
-        omega (arith, cheap, same, value_same, cost_same, cost_found, value_found)
+    open_within cost within line among is_open =
+        let (k, s, n, there, here, is) = line_found line among in
+        let marked : search.mark_of (value p) (is_dead_by q) s n ≡ opened = ap (λ (l : Line State). l.mark) (sym is) ∙ is_open in
+        let cheap = within k s n there here (expanded_of_open (value p) (is_dead_by q) s n marked) in
+        let same = same_value k s there in
+        let value_same : value_of made line.state ≡ value_of made (state_of_bits task atoms s) = ap (λ (l : Line State). value_of made l.state) is in
+        let cost_same : line.cost ≡ n.cost = ap (λ (l : Line State). l.cost) is in
+        omega (arith, cheap, same, value_same, cost_same)
 
-    module _ (range : AreInRange p) (few_atoms : length atoms ≤ 1048576) where
+    module _ (range : AreInRange p) (dead_range : AreInRange q) (few_atoms : length atoms ≤ 1048576) where
       small_value : (k : ℕ) (bits : List Bool) → slice_get states k ≡ Some bits → value p bits ≤ most_value
       small_value k bits at = value-most p bits range (omega (arith, few_atoms, found_width k bits at))
 
-      pub keeps : is_claim claim ≡ true → length p.weights ≡ length atoms → most ≤ 16777216 → keeps_limits made ≡ true
-      keeps small width few =
-          and_from (is_claim claim && nat_le (length atoms) 1048576 && nat_le (length made.lines) 16777216 && list_all (is_state_line (length atoms)) made.lines) (are_potentials (length atoms) p)
-          (and_from (is_claim claim && nat_le (length atoms) 1048576 && nat_le (length made.lines) 16777216) (list_all (is_state_line (length atoms)) made.lines)
+      pub keeps : is_claim claim ≡ true → length p.weights ≡ length atoms → length q.weights ≡ length atoms → most ≤ 16777216 → keeps_limits made ≡ true
+      keeps small width dead_width few =
+          and_from (is_claim claim && nat_le (length atoms) 1048576 && nat_le (length made.lines) 16777216 && list_all (is_state_line two (length atoms)) made.lines && are_potentials is_weight (length atoms) p)
+          (are_potentials is_weight (length atoms) q)
+          (and_from (is_claim claim && nat_le (length atoms) 1048576 && nat_le (length made.lines) 16777216 && list_all (is_state_line two (length atoms)) made.lines) (are_potentials is_weight (length atoms) p)
+          (and_from (is_claim claim && nat_le (length atoms) 1048576 && nat_le (length made.lines) 16777216) (list_all (is_state_line two (length atoms)) made.lines)
           (and_from (is_claim claim && nat_le (length atoms) 1048576) (nat_le (length made.lines) 16777216)
           (and_from (is_claim claim) (nat_le (length atoms) 1048576) small (le-leb (length atoms) 1048576 few_atoms))
-          (le-leb (length made.lines) 16777216 (omega (arith, length-map lines state_line, length-lines (value p) states nodes found.one_for_each, found.within_limit, few))))
+          (le-leb (length made.lines) 16777216 (omega (arith, length-made found.one_for_each, found.within_limit, few))))
           (all_pass states nodes found_width small_value (λ k node at. omega (arith, found.cheap k node at, found.within_limit, few))))
-          (potentials-pass p (length atoms) range width)
+          (potentials-pass p (length atoms) range width))
+          (potentials-pass q (length atoms) dead_range dead_width)
         where
-          small_cut : (b : Bool) (rest : ℕ) → rest ≤ most_value → option_map_or is_number (if b then None else Some rest) true ≡ true
-          small_cut true rest most = refl
-          small_cut false rest most = lt-ltb rest 1152921504606846976 (omega (arith, most))
+          small_mark : (is_expanded is_dead : Bool) (rest : ℕ) → rest ≤ most_value → is_mark two (if is_expanded then opened else (if is_dead then dead else cut rest)) ≡ true
+          small_mark true is_dead rest most = refl
+          small_mark false true rest most = refl
+          small_mark false false rest most = lt-ltb rest 1152921504606846976 (omega (arith, most))
 
           all_pass : (ss : List (List Bool)) (ns : List Node) → ((k : ℕ) (bits : List Bool) → slice_get ss k ≡ Some bits → length bits ≡ length atoms)
               → ((k : ℕ) (bits : List Bool) → slice_get ss k ≡ Some bits → value p bits ≤ most_value)
               → ((k : ℕ) (node : Node) → slice_get ns k ≡ Some node → node.cost < 1152921504606846976)
-              → list_all (is_state_line (length atoms)) (map state_line (search.lines_of (value p) ss ns)) ≡ true
+              → list_all (is_state_line two (length atoms)) (map state_line (search.lines_of (value p) (is_dead_by q) ss ns)) ≡ true
           all_pass [] ns long low cheap = refl
           all_pass (s ∷ ss) [] long low cheap = refl
           all_pass (s ∷ ss) (n ∷ ns) long low cheap =
-              and_from (is_state_line (length atoms) (state_line (search.line_of (value p) s n))) (list_all (is_state_line (length atoms)) (map state_line (search.lines_of (value p) ss ns)))
-              (and_from (is_number n.cost && option_map_or is_number (if n.is_expanded then None else Some (value p s)) true) (rise (length atoms) 0 (numbers_in s))
-              (and_from (is_number n.cost) (option_map_or is_number (if n.is_expanded then None else Some (value p s)) true) (lt-ltb n.cost 1152921504606846976 (cheap 0 n refl)) (small_cut n.is_expanded (value p s) (low 0 s refl)))
+              and_from (is_state_line two (length atoms) (state_line (search.line_of (value p) (is_dead_by q) s n))) (list_all (is_state_line two (length atoms)) (map state_line (search.lines_of (value p) (is_dead_by q) ss ns)))
+              (and_from (is_number n.cost && is_mark two (search.mark_of (value p) (is_dead_by q) s n)) (rise (length atoms) 0 (numbers_in s))
+              (and_from (is_number n.cost) (is_mark two (search.mark_of (value p) (is_dead_by q) s n)) (lt-ltb n.cost 1152921504606846976 (cheap 0 n refl)) (small_mark n.is_expanded (is_dead_by q s) (value p s) (low 0 s refl)))
               (ap (λ width. rise width 0 (numbers_in s)) (sym (long 0 s refl)) ∙ numbers_rise s))
               (all_pass ss ns (λ k. long (suc k)) (λ k. low (suc k)) (λ k. cheap (suc k)))
 
-pub found_widths : (task : Task) (claim : Claim) (most : ℕ) (p : PotentialFunction) (states : List (List Bool)) (nodes : List Node) (known : List Atom) → known ≡ numbered_atoms task []
-    → AreFound (ground_system task known) (value p) claim most states nodes → All (λ (bits : List Bool). length bits ≡ length known) states
-found_widths task claim most p states nodes known numbered found k d below =
-    found_width task claim most p states nodes (subst (λ (l : List Atom). AreFound (ground_system task l) (value p) claim most states nodes) numbered found) k (get_or states k d) (slice_get-get_or states k d below)
+pub found_widths : (task : Task) (claim : Claim) (most : ℕ) (p q : PotentialFunction) (states : List (List Bool)) (nodes : List Node) (known : List Atom) → known ≡ numbered_atoms task []
+    → AreFound (ground_system task known) (value p) (is_dead_by q) claim most states nodes → All (λ (bits : List Bool). length bits ≡ length known) states
+found_widths task claim most p q states nodes known numbered found k d below =
+    found_width task claim most p q states nodes (subst (λ (l : List Atom). AreFound (ground_system task l) (value p) (is_dead_by q) claim most states nodes) numbered found) k (get_or states k d) (slice_get-get_or states k d below)
     ∙ ap length (sym numbered)
 
 -- ---- for a certificate of these parts
 
 -- what is shown with so many states is shown with more
 more_allowed : {task : Task} {claim : Claim} {count most : ℕ} {certificate : Certificate} → IsShownBy task claim count certificate → count ≤ most → IsShownBy task claim most certificate
-more_allowed given le = record { claims = given.claims; closed = given.closed; within_limit = omega (arith, given.within_limit, le); atoms = given.atoms; within_limits = given.within_limits }
+more_allowed given le = record {
+  claims = given.claims;
+  closed = given.closed;
+  within_limit = omega (arith, given.within_limit, le);
+  atoms = given.atoms;
+  within_limits = given.within_limits;
+  version = given.version;
+  dead_ends_are_told = given.dead_ends_are_told;
+}
 
-module _ (task : Task) (claim : Claim) (most : ℕ) (p : PotentialFunction) (states : List (List Bool)) (nodes : List Node) (known : List Atom) (numbered : known ≡ numbered_atoms task [])
-    (found : AreFound (ground_system task known) (value p) claim most states nodes) (certificate : Certificate) (is : certificate ≡ found_certificate claim known p states nodes) where
-  same_found : AreFound (ground_system task (numbered_atoms task [])) (value p) claim most states nodes
-  same_found = subst (λ (l : List Atom). AreFound (ground_system task l) (value p) claim most states nodes) numbered found
+module _ (task : Task) (claim : Claim) (most : ℕ) (p q : PotentialFunction) (states : List (List Bool)) (nodes : List Node) (known : List Atom) (numbered : known ≡ numbered_atoms task [])
+    (found : AreFound (ground_system task known) (value p) (is_dead_by q) claim most states nodes) (certificate : Certificate) (is : certificate ≡ found_certificate claim known p q states nodes) where
+  pub same_found : AreFound (ground_system task (numbered_atoms task [])) (value p) (is_dead_by q) claim most states nodes
+  same_found = subst (λ (l : List Atom). AreFound (ground_system task l) (value p) (is_dead_by q) claim most states nodes) numbered found
 
-  is_made : made task claim most p states nodes ≡ certificate
-  is_made = sym (is ∙ ap (λ (l : List Atom). found_certificate claim l p states nodes) numbered)
+  pub is_made : made task claim most p q states nodes ≡ certificate
+  is_made = sym (is ∙ ap (λ (l : List Atom). found_certificate claim l p q states nodes) numbered)
 
-  pub shown : (max_states : ℕ) → length states ≤ max_states → is_task task ≡ true → length p.weights ≡ length known → AreFair task known p → keeps_limits certificate ≡ true
-      → IsShownBy task claim max_states certificate
-  shown max_states le well many fair kept =
+  pub shown : (max_states : ℕ) → length states ≤ max_states → is_task task ≡ true → length p.weights ≡ length known → length q.weights ≡ length known → AreFair task known p → AreDeadFair task known q
+      → keeps_limits certificate ≡ true → IsShownBy task claim max_states certificate
+  shown max_states le well many dead_many fair dead_fair kept =
       more_allowed (subst (IsShownBy task claim (length states)) is_made
-      (shown_by task claim most p states nodes same_found well (many ∙ ap length numbered) (subst (λ (l : List Atom). AreFair task l p) numbered fair) (ap keeps_limits is_made ∙ kept))) le
+      (shown_by task claim most p q states nodes same_found well (many ∙ ap length numbered) (dead_many ∙ ap length numbered)
+      (subst (λ (l : List Atom). AreFair task l p) numbered fair) (subst (λ (l : List Atom). AreDeadFair task l q) numbered dead_fair) (ap keeps_limits is_made ∙ kept))) le
 
   pub opened_within : (cost : ℕ) → AreExpandedWithin (value p) cost states nodes → AreOpenWithin task cost certificate
-  opened_within cost within = subst (AreOpenWithin task cost) is_made (open_within task claim most p states nodes same_found cost within)
+  opened_within cost within = subst (AreOpenWithin task cost) is_made (open_within task claim most p q states nodes same_found cost within)
 
   pub settled_or_high : AreSettledOrHigh task known p → HasSettledOrHigh task certificate
   settled_or_high given = subst (HasSettledOrHigh task) (sym is) given
 
-  pub within_limits : AreInRange p → length p.weights ≡ length known → is_claim claim ≡ true → length known ≤ 1048576 → most ≤ 16777216 → keeps_limits certificate ≡ true
-  within_limits range width small few_atoms few =
+  pub within_limits : AreInRange p → AreInRange q → length p.weights ≡ length known → length q.weights ≡ length known → is_claim claim ≡ true → length known ≤ 1048576 → most ≤ 16777216
+      → keeps_limits certificate ≡ true
+  within_limits range dead_range width dead_width small few_atoms few =
       ap keeps_limits (sym is_made)
-      ∙ keeps task claim most p states nodes same_found range (subst (λ (l : List Atom). length l ≤ 1048576) numbered few_atoms) small (width ∙ ap length numbered) few
+      ∙ keeps task claim most p q states nodes same_found range dead_range (subst (λ (l : List Atom). length l ≤ 1048576) numbered few_atoms) small (width ∙ ap length numbered) (dead_width ∙ ap length numbered) few

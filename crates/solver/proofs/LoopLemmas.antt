@@ -1,4 +1,4 @@
--- The steps of the loops: one line, one instance or one atom more.
+-- The steps of the loops: one instance or one atom more.
 use Rattle.std.proofs.Common.{◌≡◌, ◌∙◌, ℕ, zero, suc, ◌+◌, ◌<◌, Bool, true, false, not, inl, inr, List, [], ◌∷◌, ◌++◌, length, map, take, get_or, Some, refl, sym, ap, subst, arith}
 use Rattle.std.specs.Prelude.{All, Contains, slice_get, if◌then◌else◌}
 use Rattle.std.specs.List.{AllZip, list_any, take-map}
@@ -12,11 +12,6 @@ use Rattle.std.proofs.lemmas.Map.Views.{Contains-from_any}
 use Rattle.typing.specs.TaskParts.{atom_of, object_of}
 use Rattle.formulas.specs.declared.instance.Instance as code
 use Rattle.formulas.specs.State.{instance_of}
-use Rattle.certificate.specs.declared.listing_parts.Mark.{Mark}
-use Rattle.certificate.specs.ListingParts.{mark_of}
-use Rattle.search.specs.declared.nodes.Node.{Node}
-use Rattle.search.specs.Outcome as search
-use Rattle.solver.specs.Listing.{mark_of_line}
 use Rattle.model.specs.Task.{Task, Instance, Atom}
 use Rattle.model.specs.NumberedAtoms.{stands_in, are_distinct}
 use Rattle.model.proofs.NumberingLemmas.{stands_in-got}
@@ -26,34 +21,9 @@ use Rattle.model.specs.ClosedOff.{kept_instances}
 use Rattle.model.specs.Grounding.{NamesKept}
 use Rattle.model.proofs.ListLemmas.{Contains-got, Contains-cases, Contains-map, Contains-none}
 
--- ---- the lines
-
-lines_more : {S : Type 0} (value : S → ℕ) (states : List S) (nodes : List Node) (i : ℕ) (s : S) (node : Node) → slice_get states i ≡ Some s → slice_get nodes i ≡ Some node
-    → search.lines_of value (take (suc i) states) (take (suc i) nodes) ≡ search.lines_of value (take i states) (take i nodes) ++ search.line_of value s node ∷ []
-lines_more value [] nodes i s node at_s at_n = absurd (cc)
-lines_more value (x ∷ states) [] i s node at_s at_n = absurd (cc)
-lines_more value (x ∷ states) (n ∷ nodes) zero s node at_s at_n =
-    let same_state : x ≡ s = cc in
-    let same_node : n ≡ node = cc in
-    λ i. search.line_of value (same_state i) (same_node i) ∷ []
-lines_more value (x ∷ states) (n ∷ nodes) (suc i) s node at_s at_n = ap (λ l. search.line_of value x n ∷ l) (lines_more value states nodes i s node at_s at_n)
-
 -- each state is of this width
 pub width_at : (width : ℕ) (states : List (List Bool)) → All (λ (bits : List Bool). length bits ≡ width) states → (k : ℕ) (bits : List Bool) → slice_get states k ≡ Some bits → length bits ≡ width
 width_at width states all k bits at = All-contains (λ (b : List Bool). length b ≡ width) states bits all (Contains-got states k bits at)
-
-plus_one : (k : ℕ) → k + 1 ≡ suc k
-plus_one k = omega arith
-
-pub marks_next : (value : List Bool → ℕ) (marks new : List Mark) (mark : Mark) (states : List (List Bool)) (nodes : List Node) (i : ℕ) (s : List Bool) (node : Node)
-    → map mark_of marks ≡ map mark_of_line (search.lines_of value (take i states) (take i nodes)) → new ≡ marks ++ mark ∷ [] → mark_of mark ≡ mark_of_line (search.line_of value s node)
-    → slice_get states i ≡ Some s → slice_get nodes i ≡ Some node → map mark_of new ≡ map mark_of_line (search.lines_of value (take (i + 1) states) (take (i + 1) nodes))
-marks_next value marks new mark states nodes i s node so_far pushed is at_s at_n =
-    ap (map mark_of) pushed ∙ map-append mark_of marks (mark ∷ [])
-    ∙ (λ j. so_far j ++ is j ∷ [])
-    ∙ sym (ap (λ k. map mark_of_line (search.lines_of value (take k states) (take k nodes))) (plus_one i)
-    ∙ ap (map mark_of_line) (lines_more value states nodes i s node at_s at_n)
-    ∙ map-append mark_of_line (search.lines_of value (take i states) (take i nodes)) (search.line_of value s node ∷ []))
 
 -- ---- the instances
 

@@ -9,10 +9,10 @@ use Rattle.model.specs.Task.{Task, Atom}
 use Rattle.model.specs.Fluents.{is_fluent}
 use Rattle.model.specs.NumberedAtoms.{numbered_atoms}
 use Rattle.model.specs.Grounding.{state_of_bits, bits_of_state, ground_system}
-use Rattle.model.specs.Claims.{IsLowerBound}
+use Rattle.model.specs.Claims.{IsLowerBound, AreDeadEnds}
 use Rattle.model.proofs.GroundTaskLemmas.{packs_states}
-use Rattle.potential_functions.specs.PotentialFunctions.{PotentialFunction, score, or_zero, value, given, IsInRange, AreInRange}
-use Rattle.potential_functions.specs.Laws.{AreLowerBounds}
+use Rattle.potential_functions.specs.PotentialFunctions.{PotentialFunction, score, or_zero, value, is_dead_by, given, IsInRange, AreInRange}
+use Rattle.potential_functions.specs.Laws.{AreLowerBounds, TellDeadEnds}
 use Rattle.potential_functions.specs.Settled.{IsImproved}
 use Rattle.potential_functions.proofs.Zero.{zero_potentials}
 use Rattle.potential_functions.proofs.Falls.{or_zero-most}
@@ -68,7 +68,7 @@ weights-pass (w ∷ weights) all =
     and_from (is_weight w) (list_all is_weight weights) (weight-passes w (all 0 (pos 0) (omega arith))) (weights-pass weights (λ k d below. all (suc k) d (omega (arith, below))))
 
 -- so they keep the limits of a certificate
-pub potentials-pass : (p : PotentialFunction) (count : ℕ) → AreInRange p → length p.weights ≡ count → are_potentials count p ≡ true
+pub potentials-pass : (p : PotentialFunction) (count : ℕ) → AreInRange p → length p.weights ≡ count → are_potentials is_weight count p ≡ true
 potentials-pass p count range width =
     and_from (is_weight p.constant && (length p.weights == count)) (list_all is_weight p.weights)
     (and_from (is_weight p.constant) (length p.weights == count) (weight-passes p.constant range.constant) (eq-eqb (length p.weights) count width))
@@ -89,3 +89,6 @@ module _ (task : Task) (p : PotentialFunction) where
 
 pub lower_bound : (task : Task) (atoms : List Atom) (p : PotentialFunction) → AreLowerBounds task atoms p → IsLowerBound (ground_system task atoms) (value p)
 lower_bound task atoms p bounds s end plan reached runs goal = bounds.ground_bound s end plan (length-reachable task atoms s reached) runs goal
+
+pub are_dead_ends : (task : Task) (atoms : List Atom) (q : PotentialFunction) → TellDeadEnds task atoms q → AreDeadEnds (ground_system task atoms) (is_dead_by q)
+are_dead_ends task atoms q tell s end plan reached told runs = tell.ground_dead_ends s end plan (length-reachable task atoms s reached) told runs

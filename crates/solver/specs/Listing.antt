@@ -1,14 +1,14 @@
 -- What the certificate of a search's found states is made of.
-use Rattle.std.specs.Prelude.{◌≡◌, ℕ, ◌+◌, ◌≤◌, Bool, IsTrue, List, [], length, map, Contains, None}
+use Rattle.std.specs.Prelude.{◌≡◌, ℕ, ◌+◌, ◌≤◌, Bool, IsTrue, List, [], length, map, Contains}
 use Rattle.std.specs.List.{filter, range_with_len}
 use Rattle.packed_state.specs.Sets.{has}
 use Rattle.search.specs.declared.nodes.Node.{Node}
 use Rattle.search.specs.Outcome as search
 use Rattle.model.specs.Task.{Task, Atom}
 use Rattle.model.specs.Meaning.{State}
-use Rattle.model.specs.Claims.{Claim, Line}
-use Rattle.potential_functions.specs.PotentialFunctions.{PotentialFunction, value}
-use Rattle.certificate_definitions.specs.Certificates.{Certificate, StateLine, IsClosedFor, keeps_limits, lines_of, value_of}
+use Rattle.model.specs.Claims.{Claim, opened, dead, Line}
+use Rattle.potential_functions.specs.PotentialFunctions.{PotentialFunction, value, is_dead_by}
+use Rattle.certificate_definitions.specs.Certificates.{two, Certificate, StateLine, IsClosedFor, keeps_limits, lines_of, value_of, is_dead_end_of}
 use Rattle.certificate.specs.ListedSets.{Marked}
 use Rattle.model.specs.NumberedAtoms.{numbered_atoms}
 
@@ -18,31 +18,37 @@ numbers_in bits = filter (has bits) (range_with_len 0 (length bits))
 
 -- the certificate's line for a listed packed state
 abbrev pub state_line : Line (List Bool) → StateLine
-state_line line = record { cost = line.cost; cut = line.cut; atoms = numbers_in line.state }
+state_line line = record { cost = line.cost; mark = line.mark; atoms = numbers_in line.state }
 
--- its cost, and with what it is cut
+-- its cost and its mark
 abbrev pub mark_of_line : {S : Type 0} → Line S → Marked
-mark_of_line line = record { cost = line.cost; cut = line.cut }
+mark_of_line line = record { cost = line.cost; mark = line.mark }
 
--- the certificate that lists these found states, each expanded one as open and each other as a cut with its value
-abbrev pub found_certificate : Claim → List Atom → PotentialFunction → List (List Bool) → List Node → Certificate
-found_certificate claim atoms p states nodes = record {
+-- the certificate that lists these found states, each expanded one as open, each other as a dead end where the potentials
+-- `dead_ends` tell it one, and else as a cut with its value by `p`
+abbrev pub found_certificate : Claim → List Atom → (p dead_ends : PotentialFunction) → List (List Bool) → List Node → Certificate
+found_certificate claim atoms p dead_ends states nodes = record {
+  version = two;
   claim = claim;
   atoms = atoms;
   potentials = p;
-  lines = map state_line (search.lines_of (value p) states nodes);
+  dead_ends = dead_ends;
+  lines = map state_line (search.lines_of (value p) (is_dead_by dead_ends) states nodes);
 }
 
 -- The certificate is closed for the task, claims this, keeps the limits of a certificate's text, and lists at most
--- `max_states` states by the numbered atoms, each at the place that is its number.
+-- `max_states` states by the numbered atoms, each at the place that is its number. It is of version 2, and each listed state
+-- that its potentials tell a dead end is listed as one.
 pub record IsShownBy (task : Task) (claim : Claim) (max_states : ℕ) (certificate : Certificate) : Type 0 where
   pub claims : certificate.claim ≡ claim
   pub closed : IsClosedFor task certificate
   pub within_limit : length certificate.lines ≤ max_states
   pub atoms : certificate.atoms ≡ numbered_atoms task []
   pub within_limits : IsTrue (keeps_limits certificate)
+  pub version : certificate.version ≡ two
+  pub dead_ends_are_told : (line : Line State) → Contains (lines_of task certificate) line → IsTrue (is_dead_end_of certificate line.state) → line.mark ≡ dead
 
 -- each open state of the certificate costs, with its value, at most this
 abbrev pub AreOpenWithin : Task → ℕ → Certificate → Type 0
 AreOpenWithin task most certificate =
-    (line : Line State) → Contains (lines_of task certificate) line → line.cut ≡ None → line.cost + value_of certificate line.state ≤ most
+    (line : Line State) → Contains (lines_of task certificate) line → line.mark ≡ opened → line.cost + value_of certificate line.state ≤ most

@@ -8,9 +8,10 @@ use Rattle.solver.specs.declared.answer.Answer.TheVariants.{Plan, Unsolvable, Un
 use Rattle.solver.specs.declared.answer.Exceeded.TheVariants.{Instances, Atoms, States}
 use Rattle.solver.specs.Improved.{HasSettledOrHigh}
 use Rattle.solver.specs.Listing.{IsShownBy, AreOpenWithin}
+use Rattle.solver.specs.AtLimit.{IsAtLimit}
 use Rattle.solver.specs.Reachable.{AreMoreReachable}
 use Rattle.model.specs.Task.{Task}
-use Rattle.model.specs.Runs.{cost_of_all, IsOptimal, IsUnsolvable}
+use Rattle.model.specs.Runs.{cost_of_all, CostsAtLeast, IsOptimal, IsUnsolvable}
 use Rattle.model.specs.Claims.{bound, none}
 use Rattle.model.specs.Meaning.{system_of, is_instance}
 use Rattle.model.specs.Limits.{max_numbered_atoms}
@@ -21,7 +22,8 @@ use Rattle.model.specs.Grounding.{of_instances, of_atoms, limit_told}
 -- settled or high. Beside a plan no state is open that costs, with its value, more than the plan. Or a limit is exceeded:
 -- that of the instances exactly where more than `instances` of the task's are kept, that of the atoms exactly where no
 -- more are kept and too many atoms have numbers, and else that of the states, where more than `states` are reachable and
--- may have to be found.
+-- may have to be found. Then each list that solves costs at least the bound, and the certificate of the `states` states that
+-- were found shows it.
 abbrev pub IsTrueAnswer : Task → ℕ → ℕ → Answer → Type 0
 IsTrueAnswer task states instances (Plan steps cost cert) =
     IsOptimal (system_of task) (plan_of steps) × (cost_of_all (system_of task) (plan_of steps) ≡ cost)
@@ -35,4 +37,9 @@ IsTrueAnswer task states instances (Unsolvable cert) =
     × (limit_told instances max_numbered_atoms task [] ≡ None)
 IsTrueAnswer task states instances (Unknown Instances) = limit_told instances max_numbered_atoms task [] ≡ Some of_instances
 IsTrueAnswer task states instances (Unknown Atoms) = limit_told instances max_numbered_atoms task [] ≡ Some of_atoms
-IsTrueAnswer task states instances (Unknown States) = AreMoreReachable (system_of task) states × (limit_told instances max_numbered_atoms task [] ≡ None)
+IsTrueAnswer task states instances (Unknown (States least cert)) =
+    AreMoreReachable (system_of task) states × (limit_told instances max_numbered_atoms task [] ≡ None)
+    × CostsAtLeast (system_of task) least
+    × IsShownBy task (bound least) states (certificate_in cert)
+    × HasSettledOrHigh task (certificate_in cert)
+    × IsAtLimit task least states (certificate_in cert)

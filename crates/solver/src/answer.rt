@@ -2,11 +2,14 @@
 ghost use Rattle.std.specs.Prelude.{[], IfOk, IsTrue};
 ghost use Rattle.typing.specs.Task.{task_of};
 ghost use Rattle.grounding.specs.Ground.{task_in, atoms_in, IsGroundOf};
+ghost use Rattle.potential_functions.specs.Fair.{AreDeadFair};
 ghost use Rattle.potentials_improved.specs.FairPotentials.{potentials_in, AreOf};
+ghost use Rattle.potentials_improved.specs.DeadFairPotentials as dead;
 ghost use Rattle.solver.specs.Improved.{AreSettledOrHigh};
 ghost use Rattle.solver.specs.Solver.{IsTrueAnswer};
 ghost use Rattle.model.specs.WellTyped.{is_task};
 
+use crate::dead_ends::improved_dead_ends;
 use crate::estimate::improved_potentials;
 use crate::limits::Limits;
 use crate::listing::cert_of;
@@ -17,7 +20,7 @@ use faults::{NoMemory, Refused};
 use formulas::Plan;
 use grounding::{Ground, GroundLimit};
 use packed_state::PooledStore;
-use potentials_improved::Fair;
+use potentials_improved::{DeadFair, Fair};
 use search::{Outcome, best_first};
 use std::alloc::Global;
 use typing::Task;
@@ -39,19 +42,24 @@ pub enum Answer {
         /// It shows that there is none.
         cert: Listing,
     },
-    /// A limit is exceeded, and nothing is said of plans.
+    /// A limit is exceeded.
     Unknown(Exceeded),
 }
 
-/// A limit that a task exceeds.
-#[derive(Clone, Copy, Debug, PartialEq, Eq)]
+/// A limit that a task exceeds, and what is known of plans then: of the first two limits nothing.
+#[derive(Drop)]
 pub enum Exceeded {
     /// That of the kept instances. Those that the start closes off are not counted.
     Instances,
     /// That of the atoms that have numbers, 1,048,576.
     Atoms,
-    /// That of the listed states.
-    States,
+    /// That of the listed states. Every plan costs at least the bound.
+    States {
+        /// What every plan costs at least.
+        bound: u64,
+        /// It shows that no plan costs less.
+        cert: Listing,
+    },
 }
 
 /// A cheapest plan of the task, or that it has none, with the certificate that shows it.
@@ -61,15 +69,19 @@ pub enum Exceeded {
 /// match solve(alloc, &task, limits)? {
 ///     Answer::Plan { steps, cost, cert } => ..,
 ///     Answer::Unsolvable { cert } => ..,
+///     Answer::Unknown(Exceeded::States { bound, cert }) => ..,
 ///     Answer::Unknown(limit) => ..,
 /// }
 /// ```
 ///
 /// The search goes by fair potentials of the ground task, which are made better first, in at most 8 rounds; the certificate
 /// has them too. Where they are not settled, they give the initial state a value of at least 8. Beside a plan, each state
-/// that the certificate lists as open costs, with its value, no more than the plan.
+/// that the certificate lists as open costs, with its value, no more than the plan. By dead-fair potentials, which the
+/// certificate has beside them, states are told dead ends: they are listed, and the search goes no further from them.
 ///
-/// A certificate then lists at most 100,000 states. Two limits are told before any potentials are looked for: `Unknown(Exceeded::Instances)`
+/// A certificate then lists at most 100,000 states. Where more would have to be listed, `Unknown(Exceeded::States { .. })` has a
+/// certificate of 100,000, and in it the bound is the least sum of cost and value of a state that is still to be expanded: no
+/// open state has a greater sum. Two limits are told before any potentials are looked for: `Unknown(Exceeded::Instances)`
 /// exactly where the task has more than 10,000 kept instances, which are those that its start does not close off, and
 /// `Unknown(Exceeded::Atoms)` exactly where it has no more, and more than 1,048,576 atoms would have numbers.
 pub fn solve(alloc: Global, task: &Task, limits: Limits) -> Result<Answer, NoMemory>
@@ -90,25 +102,29 @@ fn solve_ground(alloc: Global, ground: &Ground<'_>, limits: Limits) -> Result<An
     ensures { IfOk result (IsTrueAnswer (task_in ground.now) limits.states limits.instances) }
 {
     let estimate = improved_potentials(alloc, ground)?;
-    solve_by(alloc, ground, &estimate, limits)
+    let dead_ends = improved_dead_ends(alloc, ground)?;
+    solve_by(alloc, ground, &estimate, &dead_ends, limits)
 }
 
-/// The same by this estimate.
+/// The same by this estimate and these dead ends.
 fn solve_by(
     alloc: Global,
     ground: &Ground<'_>,
     estimate: &Fair<'_, '_>,
+    dead_ends: &DeadFair<'_, '_>,
     limits: Limits,
 ) -> Result<Answer, NoMemory>
     requires typed { IsTrue (is_task (task_in ground.now)) }
     requires ground { IsGroundOf (task_in ground.now) [] limits.instances ground.now }
     requires fair { AreOf ground.now (potentials_in estimate.now) estimate.now }
     requires improved { AreSettledOrHigh (task_in ground.now) (atoms_in ground.now) (potentials_in estimate.now) }
+    requires dead_ends { dead.AreOf ground.now (dead.potentials_in dead_ends.now) dead_ends.now }
+    requires dead_fair { AreDeadFair (task_in ground.now) (atoms_in ground.now) (dead.potentials_in dead_ends.now) }
     ensures { IfOk result (IsTrueAnswer (task_in ground.now) limits.states limits.instances) }
 {
     let system = GroundSystem(ground);
     let store = PooledStore::new(alloc, ground.width())?;
-    let outcome = best_first(alloc, &system, estimate, store, limits.states())?;
+    let outcome = best_first(alloc, &system, estimate, dead_ends, store, limits.states())?;
     match outcome {
         Outcome::Found {
             steps,
@@ -116,13 +132,16 @@ fn solve_by(
             states,
         } => {
             let steps = plan_of(alloc, ground, &steps)?;
-            let cert = cert_of(alloc, estimate, Claim::Bound(cost), states)?;
+            let cert = cert_of(alloc, estimate, dead_ends, Claim::Bound(cost), states)?;
             Ok(Answer::Plan { steps, cost, cert })
         }
         Outcome::Exhausted { states } => {
-            let cert = cert_of(alloc, estimate, Claim::Unsolvable, states)?;
+            let cert = cert_of(alloc, estimate, dead_ends, Claim::Unsolvable, states)?;
             Ok(Answer::Unsolvable { cert })
         }
-        Outcome::States => Ok(Answer::Unknown(Exceeded::States)),
+        Outcome::States { bound, states } => {
+            let cert = cert_of(alloc, estimate, dead_ends, Claim::Bound(bound), states)?;
+            Ok(Answer::Unknown(Exceeded::States { bound, cert }))
+        }
     }
 }

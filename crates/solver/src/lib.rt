@@ -2,6 +2,7 @@
 #![tactic(auto)]
 
 mod answer;
+mod dead_ends;
 mod estimate;
 mod limits;
 mod listing;

@@ -1,4 +1,4 @@
-use Rattle.std.proofs.Common.{List, Bool, ◌≡◌, ℕ, ◌+◌, length, ap, sym, ◌∙◌, subst, arith, Some, get_or, true}
+use Rattle.std.proofs.Common.{List, Bool, ◌≡◌, ℕ, ◌+◌, length, ap, sym, ◌∙◌, subst, arith, Some, get_or, true, false}
 use Rattle.std.specs.Prelude.{slice_get}
 use Rattle.search.specs.Queue.{waiting_in}
 use Rattle.std.proofs.lemmas.List.Sums.{count_by-le-length}
@@ -133,6 +133,11 @@ loop-turn-preserved g c =
     let listed : c.in_ok-expand.field-0 ≡ true = c.if-not-branch.false in
     let expands = rw listed at c.in_ok-expand.ensures.listed in
     record { search = expands.search; are_open = expands.are_open; within = expands.within; width = c.in_ok-expand.ensures.width; buffers = c.in_ok-expand.ensures.buffers }
+
+pub returns-then-not-branch : goal.returns-then-not-branch
+returns-then-not-branch g c =
+    let stopped : c.in_ok-expand.field-0 ≡ false = c.if-not-branch.true in
+    rw (c.into_states.ensures.store, c.into_states.ensures.nodes) (rw stopped at c.in_ok-expand.ensures.listed)
 
 pub returns : goal.returns
 returns g c =

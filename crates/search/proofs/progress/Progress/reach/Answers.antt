@@ -1,4 +1,4 @@
-use Rattle.std.proofs.Common.{◌≡◌, ℕ, ◌+◌, ◌<◌, ◌≤◌, List, [], ◌∷◌, length, Bool, ap, sym, subst, refl, ◌∙◌, arith, vec_len, Some, false}
+use Rattle.std.proofs.Common.{◌≡◌, ℕ, ◌+◌, ◌<◌, ◌≤◌, List, [], ◌∷◌, length, get_or, Bool, ap, sym, subst, refl, ◌∙◌, arith, vec_len, Some, false}
 use Rattle.std.specs.Prelude.{Contains, slice_get}
 use Rattle.search.specs.Queue.{waiting_in}
 use Rattle.std.proofs.lemmas.List.{length-append}
@@ -20,8 +20,11 @@ use Rattle.search.proofs.progress.Progress.reach.Goals as goal
 read_parent : (g : Over) (c : After-from g) → c.index-before.result.now ≡ c.requires.expanding.turn.found.node
 read_parent g c =
     let turn = c.requires.expanding.turn in
-    c.index-before.ensures ∙ get_or_from_slice_get c.args.self.now.nodes.items c.args.parent.now.id.0 turn.found.node c.index-before.result.now
-    (found_of-get (g.S.StateStore.states c.args.self.now.store) c.args.self.now.nodes.items c.args.parent.now.id.0 turn.found turn.stands).1
+    let all = c.args.self.now.nodes.items in
+    let i = c.args.parent.now.id.0 in
+    let read : c.index-before.result.now ≡ get_or all i c.index-before.result.now = c.index-before.ensures in
+    read ∙ get_or_from_slice_get all i turn.found.node c.index-before.result.now
+    (found_of-get (g.S.StateStore.states c.args.self.now.store) all i turn.found turn.stands).1
 
 -- what it costs leaves room for one step more
 limits : (g : Over) (c : After-from g) → c.index-before.result.now.cost + 4294967295 ≤ 72057594021150720
@@ -88,7 +91,7 @@ returns-in_default-clause-listed g c =
           (leads g (goal.at.returns-in_default-clause-listed g c).After-from) full.0 c.args.max_states full.1;
       full = full.1;
       store = full.2;
-      nodes = refl;
+      nodes = refl {A = List Node};
     }
 
 pub index-requires : goal.index-requires
