@@ -76,11 +76,15 @@ module _ {R : Type 0} (remaining : R → Option (List ℕ)) (task : Task) (first
     told_of_text code.PlanInvalid line told = told_anyway line 53 told
     told_of_text code.PlanDearer line told = told_anyway line 54 told
     told_of_text code.Limit line told = told_anyway line 55 told
+    told_of_text code.DeadUnfair line told = told_anyway line 56 told
+    told_of_text code.DeadUnfairGoal line told = told_anyway line 57 told
+    told_of_text code.NotDead line told = told_anyway line 58 told
 
     -- no line of an accepted text is refused
     pub none_at_fault : (plan : Option (List Instance)) → IsAccepted task text plan → (e : Refusal) → IsLineRefusal remaining task first now e → IsNoFault e
     none_at_fault plan accepted (refusal.Line c line) told = accepted_has_no_fault task text plan accepted (number_of c) line (told_of_text c line told)
     none_at_fault plan accepted (refusal.Unfair i) told = absurd told
+    none_at_fault plan accepted (refusal.DeadUnfair i) told = absurd told
     none_at_fault plan accepted (refusal.Plain c) told = absurd told
     none_at_fault plan accepted refusal.NoMemory told = tt
     none_at_fault plan accepted refusal.Device told = tt
@@ -118,6 +122,7 @@ pub counts_judged : (task : Task) (c : Certificate) (plan : Option (List Instanc
 counts_judged task c plan most before after (Ok answer) wrong same = same
 counts_judged task c plan most before after (Err (refusal.Line code line)) wrong same = same
 counts_judged task c plan most before after (Err (refusal.Unfair i)) wrong same = same
+counts_judged task c plan most before after (Err (refusal.DeadUnfair i)) wrong same = same
 counts_judged task c plan most before after (Err (refusal.Plain code)) wrong same = same
 counts_judged task c plan most before after (Err refusal.NoMemory) wrong same = same
 counts_judged task c plan most before after (Err refusal.Device) wrong same = absurd wrong

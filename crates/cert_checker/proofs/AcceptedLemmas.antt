@@ -1,10 +1,10 @@
 -- What is so of a text that is accepted: its certificate keeps the limits and is the only one, and no line of it is at fault.
-use Rattle.std.proofs.Common.{◌≡◌, ◌≢◌, ℕ, suc, ◌+◌, inl, inr, ⊎_elim, true, List, [], ◌∷◌, ◌++◌, codes, map, length, length-append, Option, None, Some, refl, sym, ap, ◌∙◌, subst, append_assoc, append-nil, true≢false, arith}
-use Rattle.std.specs.Prelude.{◌&&◌, ◌==◌, nat_lt, IsTrue, IsSome, All, AllPairs, Contains, nat_le}
+use Rattle.std.proofs.Common.{◌≡◌, ◌≢◌, ℕ, suc, ◌+◌, inl, inr, ⊎_elim, Bool, true, false, List, [], ◌∷◌, ◌++◌, codes, map, length, length-append, Option, None, Some, refl, sym, ap, ◌∙◌, subst, append_assoc, append-nil, true≢false, arith}
+use Rattle.std.specs.Prelude.{◌&&◌, ◌==◌, nat_lt, ℤ, IsTrue, All, AllPairs, Contains, nat_le}
 use Rattle.std.specs.Fmt.{decimal}
 use Rattle.std.specs.List.{list_all}
-use Rattle.std.proofs.lemmas.Bool.{and_parts, eq-eqb, ltb-true}
-use Rattle.std.proofs.lemmas.Fmt.{decimal_digit}
+use Rattle.std.specs.Option.{option_map_or}
+use Rattle.std.proofs.lemmas.Bool.{and_parts, eq-eqb, false≢true, ltb-true}
 use Rattle.std.proofs.lemmas.List.{append_cancel_left, length-map, map-append}
 use Rattle.std.proofs.lemmas.List.Elements.{Contains-append_left, Contains-append_right, Contains-append_cases, filter_map-append}
 use Rattle.std.proofs.lemmas.List.Folds.{list_all-append, list_all-map}
@@ -12,13 +12,13 @@ use Rattle.model.specs.Task.{Atom, Task, Instance}
 use Rattle.model.specs.WellTyped.{is_atom}
 use Rattle.model.specs.Fluents.{is_fluent}
 use Rattle.model.specs.Meaning.{State}
-use Rattle.model.specs.Claims.{Claim, Allows, Line, none}
+use Rattle.model.specs.Claims.{Claim, Allows, opened, Line, none}
 use Rattle.potential_functions.specs.PotentialFunctions.{PotentialFunction}
-use Rattle.certificate_definitions.specs.Certificates.{Certificate, IsClosedFor, StateLine, are_potentials, is_claim, is_weight, keeps_limits, state_of_line}
+use Rattle.certificate_definitions.specs.Certificates.{Version, one, two, Certificate, IsClosedFor, StateLine, are_potentials, is_claim, is_dead_end_weight, is_weight, keeps_limits, state_of_line}
 use Rattle.model.proofs.ListLemmas.{Contains-cases, Contains-filter_map, Contains-here, Contains-map, Contains-none, Contains-there, map-Contains}
-use Rattle.certificate_definitions.specs.CertificateText.{NamedAtom, WeightedAtom, NamedCertificate, TextLine, version, claims, constant, atom, listed, last, AreWhole, BeginCertificate, HasLine, IsFaultAfter, IsOneTooMany, IsOtherVersion, other_version, malformed, too_long, trailing, cut_short, too_many, is_line, keeps_text_limits, line_text, longest_line, most_atoms, most_states, text_lines, text_of, whole_line}
-use Rattle.certificate_definitions.specs.CertificateNames.{AllName, IsTextOf, Names}
-use Rattle.certificate_definitions.specs.CertificateChecking.{HasAtom, IsAccepted, IsLineFault, IsWrongAfter, IsWrongHere, not_fluent, repeated_atom, repeated_state, cut_not_allowed}
+use Rattle.certificate_definitions.specs.CertificateText.{NamedAtom, Weights, WeightedAtom, NamedCertificate, TextLine, version, claims, constant, atom, listed, last, AreWhole, BeginCertificate, HasLine, IsFaultAfter, IsOneTooMany, IsOtherVersion, other_version, malformed, too_long, trailing, cut_short, too_many, are_weights, is_line, keeps_text_limits, line_text, longest_line, most_atoms, most_states, text_lines, text_of, version_number, whole_line}
+use Rattle.certificate_definitions.specs.CertificateNames.{AllName, IsTextOf, Names, dead_ends_said, of_dead_end_or_zero, potentials_said}
+use Rattle.certificate_definitions.specs.CertificateChecking.{HasAtom, IsAccepted, IsCut, IsLineFault, IsWrongAfter, IsWrongHere, not_fluent, repeated_atom, repeated_state, cut_not_allowed}
 use Rattle.certificate_definitions.specs.CertificateMachine.{Place, at_version, at_claim, at_constant, in_body, ended, next_place}
 use Rattle.certificate_definitions.proofs.Machine.{StandsBefore, end_of_whole, followed, never, only_where, place_of_beginning, stands}
 use Rattle.certificate_definitions.proofs.TooMany.{IsTooManyAt, too_many_at}
@@ -33,45 +33,70 @@ use Rattle.certificate_reader.proofs.OneLine.{one_line}
 
 -- ---- the limits
 
-weights_kept : (count : ℕ) (atoms : List WeightedAtom) → list_all (is_line count) (map (λ a. atom a) atoms) ≡ true → list_all is_weight (map (λ (a : WeightedAtom). a.weight) atoms) ≡ true
-weights_kept count [] all = refl
-weights_kept count (a ∷ atoms) all =
-    let (here, more) = and_parts (is_line count (atom a)) (list_all (is_line count) (map (λ a. atom a) atoms)) all in
-    let (first, _) = and_parts (is_weight a.weight && are_lower a.atom) (nat_le (length (line_text (atom a))) longest_line) here in
-    let weight = (and_parts (is_weight a.weight) (are_lower a.atom) first).0 in
-    λ i. weight i && weights_kept count atoms more i
+-- the weights of a line, for values and for dead ends
+value_kept : (v : Version) (w : Weights) → are_weights v w ≡ true → is_weight w.of_value ≡ true
+value_kept one w are = (and_parts (is_weight w.of_value) (option_map_or (λ (n : ℤ). false) w.of_dead_end true) are).0
+value_kept two w are = (and_parts (is_weight w.of_value) (option_map_or is_weight w.of_dead_end false) are).0
 
--- the potential function that is said
-abbrev potentials_said : NamedCertificate → PotentialFunction
-potentials_said said = record { constant = said.constant; weights = map (λ (a : WeightedAtom). a.weight) said.atoms }
+dead_end_kept : (v : Version) (w : Weights) → are_weights v w ≡ true → is_dead_end_weight v (of_dead_end_or_zero w) ≡ true
+dead_end_kept v w are = by_second v w.of_value w.of_dead_end are
+  where
+    by_second : (v : Version) (value : ℤ) (dead_end : Option ℤ) → are_weights v (record { of_value = value; of_dead_end = dead_end }) ≡ true
+        → is_dead_end_weight v (of_dead_end_or_zero (record { of_value = value; of_dead_end = dead_end })) ≡ true
+    by_second one value None are = refl
+    by_second one value (Some dead_end) are = absurd (false≢true (and_parts (is_weight value) false are).1)
+    by_second two value None are = absurd (false≢true (and_parts (is_weight value) false are).1)
+    by_second two value (Some dead_end) are = (and_parts (is_weight value) (is_weight dead_end) are).1
 
-keeps_by_parts : (said : NamedCertificate) (c : Certificate) → IsTrue (keeps_text_limits said) → said.claim ≡ c.claim → length said.atoms ≡ length c.atoms → c.potentials ≡ potentials_said said
-    → said.lines ≡ c.lines → IsTrue (keeps_limits c)
-keeps_by_parts said c keeps claim_is count potentials_are lines_are =
+line_weights : (v : Version) (count : ℕ) (a : WeightedAtom) → is_line v count (atom a) ≡ true → are_weights v a.weights ≡ true
+line_weights v count a is = (and_parts (are_weights v a.weights) (are_lower a.atom) (and_parts (are_weights v a.weights && are_lower a.atom) (nat_le (length (line_text (atom a))) longest_line) is).0).0
+
+-- so are those of all lines, where this is so of each
+weights_kept : (test : WeightedAtom → Bool) (v : Version) (count : ℕ) → ((a : WeightedAtom) → are_weights v a.weights ≡ true → test a ≡ true)
+    → (atoms : List WeightedAtom) → list_all (is_line v count) (map (λ a. atom a) atoms) ≡ true → list_all test atoms ≡ true
+weights_kept test v count each [] all = refl
+weights_kept test v count each (a ∷ atoms) all =
+    let (here, more) = and_parts (is_line v count (atom a)) (list_all (is_line v count) (map (λ a. atom a) atoms)) all in
+    λ i. each a (line_weights v count a here) i && weights_kept test v count each atoms more i
+
+keeps_by_parts : (said : NamedCertificate) (c : Certificate) → IsTrue (keeps_text_limits said) → said.version ≡ c.version → said.claim ≡ c.claim → length said.atoms ≡ length c.atoms
+    → c.potentials ≡ potentials_said said → c.dead_ends ≡ dead_ends_said said → said.lines ≡ c.lines → IsTrue (keeps_limits c)
+keeps_by_parts said c keeps version_is claim_is count potentials_are dead_ends_are lines_are =
     let k : ℕ = length said.atoms in
-    let (counts, each) = and_parts (nat_le k most_atoms && nat_le (length said.lines) most_states) (list_all (is_line k) (text_lines said)) keeps in
+    let v : Version = said.version in
+    let (counts, each) = and_parts (nat_le k most_atoms && nat_le (length said.lines) most_states) (list_all (is_line v k) (text_lines said)) keeps in
     let (few, few_states) = and_parts (nat_le k most_atoms) (nat_le (length said.lines) most_states) counts in
     let atom_lines : List TextLine = map (λ a. atom a) said.atoms in
     let state_lines : List TextLine = map (λ l. listed l) said.lines in
     let end : List TextLine = last (length said.lines) ∷ [] in
-    let (claim, others) = and_parts (is_claim said.claim) (is_weight said.constant && list_all (is_line k) ((atom_lines ++ state_lines) ++ end)) each in
-    let (constant_is, behind) = and_parts (is_weight said.constant) (list_all (is_line k) ((atom_lines ++ state_lines) ++ end)) others in
-    let (body, _) = and_parts (list_all (is_line k) (atom_lines ++ state_lines)) (list_all (is_line k) end) (sym (list_all-append (is_line k) (atom_lines ++ state_lines) end) ∙ behind) in
-    let (atoms, states) = and_parts (list_all (is_line k) atom_lines) (list_all (is_line k) state_lines) (sym (list_all-append (is_line k) atom_lines state_lines) ∙ body) in
-    let states_are : list_all (λ l. is_line k (listed l)) said.lines ≡ true = sym (list_all-map (is_line k) (λ l. listed l) said.lines) ∙ states in
-    let many = eq-eqb (length (potentials_said said).weights) k (length-map said.atoms (λ (a : WeightedAtom). a.weight)) in
-    let weights = weights_kept k said.atoms atoms in
-    let potentials : are_potentials k (potentials_said said) ≡ true = λ i. (constant_is i && many i) && weights i in
-    let all : (((is_claim said.claim && nat_le k most_atoms) && nat_le (length said.lines) most_states) && list_all (λ l. is_line k (listed l)) said.lines) && are_potentials k (potentials_said said) ≡ true =
-    λ i. (((claim i && few i) && few_states i) && states_are i) && potentials i in
-    (λ i. (((is_claim (sym claim_is i) && nat_le (sym count i) most_atoms) && nat_le (length (sym lines_are i)) most_states) && list_all (λ l. is_line (sym count i) (listed l)) (sym lines_are i))
-    && are_potentials (sym count i) (potentials_are i)) ∙ all
+    let (claim, others) = and_parts (is_claim said.claim) (are_weights v said.constants && list_all (is_line v k) ((atom_lines ++ state_lines) ++ end)) each in
+    let (constants_are, behind) = and_parts (are_weights v said.constants) (list_all (is_line v k) ((atom_lines ++ state_lines) ++ end)) others in
+    let (body, _) = and_parts (list_all (is_line v k) (atom_lines ++ state_lines)) (list_all (is_line v k) end) (sym (list_all-append (is_line v k) (atom_lines ++ state_lines) end) ∙ behind) in
+    let (atoms, states) = and_parts (list_all (is_line v k) atom_lines) (list_all (is_line v k) state_lines) (sym (list_all-append (is_line v k) atom_lines state_lines) ∙ body) in
+    let states_are : list_all (λ l. is_line v k (listed l)) said.lines ≡ true = sym (list_all-map (is_line v k) (λ l. listed l) said.lines) ∙ states in
+    let value_of : WeightedAtom → ℤ = λ a. a.weights.of_value in
+    let dead_end_of : WeightedAtom → ℤ = λ a. of_dead_end_or_zero a.weights in
+    let values : are_potentials is_weight k (potentials_said said) ≡ true =
+    kept_potentials is_weight k (potentials_said said) (value_kept v said.constants constants_are) (length-map said.atoms value_of)
+    (list_all-map is_weight value_of said.atoms ∙ weights_kept (λ a. is_weight (value_of a)) v k (λ a are. value_kept v a.weights are) said.atoms atoms) in
+    let dead_ends : are_potentials (is_dead_end_weight v) k (dead_ends_said said) ≡ true =
+    kept_potentials (is_dead_end_weight v) k (dead_ends_said said) (dead_end_kept v said.constants constants_are) (length-map said.atoms dead_end_of)
+    (list_all-map (is_dead_end_weight v) dead_end_of said.atoms ∙ weights_kept (λ a. is_dead_end_weight v (dead_end_of a)) v k (λ a are. dead_end_kept v a.weights are) said.atoms atoms) in
+    let all : ((((is_claim said.claim && nat_le k most_atoms) && nat_le (length said.lines) most_states) && list_all (λ l. is_line v k (listed l)) said.lines) && are_potentials is_weight k (potentials_said said))
+    && are_potentials (is_dead_end_weight v) k (dead_ends_said said) ≡ true =
+    λ i. ((((claim i && few i) && few_states i) && states_are i) && values i) && dead_ends i in
+    (λ i. ((((is_claim (sym claim_is i) && nat_le (sym count i) most_atoms) && nat_le (length (sym lines_are i)) most_states) && list_all (λ l. is_line (sym version_is i) (sym count i) (listed l)) (sym lines_are i))
+    && are_potentials is_weight (sym count i) (potentials_are i)) && are_potentials (is_dead_end_weight (sym version_is i)) (sym count i) (dead_ends_are i)) ∙ all
+  where
+    kept_potentials : (is_in_range : ℤ → Bool) (count : ℕ) (p : PotentialFunction) → is_in_range p.constant ≡ true → length p.weights ≡ count → list_all is_in_range p.weights ≡ true
+        → are_potentials is_in_range count p ≡ true
+    kept_potentials is_in_range count p constant_is many weights = λ i. (constant_is i && eq-eqb (length p.weights) count many i) && weights i
 
 -- the certificate of a text keeps the limits
 pub limits_kept : (task : Task) (text : List ℕ) (c : Certificate) → IsTextOf task text c → IsTrue (keeps_limits c)
 limits_kept task text c is =
     let count = sym (length-map is.said.atoms (λ (a : WeightedAtom). a.atom)) ∙ named_length task (map (λ (a : WeightedAtom). a.atom) is.said.atoms) c.atoms is.atoms in
-    keeps_by_parts is.said c is.text.within is.claim count is.potentials is.lines
+    keeps_by_parts is.said c is.text.within is.version is.claim count is.potentials is.dead_ends is.lines
 
 -- ---- one certificate for a text
 
@@ -90,12 +115,14 @@ same_atoms task (n ∷ names) (x ∷ a) (y ∷ b) (here, are) (there, others) =
 pub one_certificate : (task : Task) (text : List ℕ) (c d : Certificate) → IsTextOf task text c → IsTextOf task text d → c ≡ d
 one_certificate task text c d is other =
     let said : is.said ≡ other.said = one_text.one_certificate text is.said other.said is.text other.text in
+    let version_is : c.version ≡ d.version = sym is.version ∙ ap (λ (n : NamedCertificate). n.version) said ∙ other.version in
     let claim : c.claim ≡ d.claim = sym is.claim ∙ ap (λ (n : NamedCertificate). n.claim) said ∙ other.claim in
     let lines : c.lines ≡ d.lines = sym is.lines ∙ ap (λ (n : NamedCertificate). n.lines) said ∙ other.lines in
     let potentials : c.potentials ≡ d.potentials = is.potentials ∙ ap potentials_said said ∙ sym other.potentials in
+    let dead_ends : c.dead_ends ≡ d.dead_ends = is.dead_ends ∙ ap dead_ends_said said ∙ sym other.dead_ends in
     let atoms : c.atoms ≡ d.atoms = same_atoms task (map (λ (a : WeightedAtom). a.atom) other.said.atoms) c.atoms d.atoms
     (subst (λ (n : NamedCertificate). AllName task (map (λ (a : WeightedAtom). a.atom) n.atoms) c.atoms) said is.atoms) other.atoms in
-    λ i. record { claim = claim i; atoms = atoms i; potentials = potentials i; lines = lines i }
+    λ i. record { version = version_is i; claim = claim i; atoms = atoms i; potentials = potentials i; dead_ends = dead_ends i; lines = lines i }
 
 -- ---- no line says what is wrong of the task
 
@@ -149,9 +176,9 @@ claim_there : (said : NamedCertificate) (d : Claim) → Contains (text_lines sai
 claim_there said d there =
     ⊎_elim (λ same. absurd (cc same))
     (λ later. ⊎_elim (λ same. claims_same said.claim d same)
-    (λ others. ⊎_elim (λ same. absurd (cc same)) (λ body. absurd (no_claim body)) (Contains-cases (constant said.constant) ((atom_lines ++ state_lines) ++ end) (claims d) others))
-    (Contains-cases (claims said.claim) (constant said.constant ∷ (atom_lines ++ state_lines) ++ end) (claims d) later))
-    (Contains-cases version (claims said.claim ∷ constant said.constant ∷ (atom_lines ++ state_lines) ++ end) (claims d) there)
+    (λ others. ⊎_elim (λ same. absurd (cc same)) (λ body. absurd (no_claim body)) (Contains-cases (constant said.constants) ((atom_lines ++ state_lines) ++ end) (claims d) others))
+    (Contains-cases (claims said.claim) (constant said.constants ∷ (atom_lines ++ state_lines) ++ end) (claims d) later))
+    (Contains-cases (version said.version) (claims said.claim ∷ constant said.constants ∷ (atom_lines ++ state_lines) ++ end) (claims d) there)
   where
     atom_lines : List TextLine
     atom_lines = map (λ a. atom a) said.atoms
@@ -172,12 +199,8 @@ claim_there said d there =
         (λ among. ⊎_elim (λ same. absurd (cc same)) (λ nowhere. Contains-none (claims d) nowhere) (Contains-cases (last (length said.lines)) [] (claims d) among))
         (Contains-append_cases (atom_lines ++ state_lines) end (claims d) there)
 
-some_there : {X : Type 0} (o : Option X) → IsSome o → (x : X) × (o ≡ Some x)
-some_there None is = absurd (true≢false (sym is))
-some_there (Some x) is = (x, refl)
-
 abbrev line_at : Task → Certificate → StateLine → Line State
-line_at task c l = record { state = state_of_line task c l; cost = l.cost; cut = l.cut }
+line_at task c l = record { state = state_of_line task c l; cost = l.cost; mark = l.mark }
 
 module _ (task : Task) (c : Certificate) (closed : IsClosedFor task c) (said : NamedCertificate) (claim_is : said.claim ≡ c.claim) (named : AllName task (map (λ (a : WeightedAtom). a.atom) said.atoms) c.atoms)
     (lines_are : said.lines ≡ c.lines) where
@@ -206,11 +229,10 @@ module _ (task : Task) (c : Certificate) (closed : IsClosedFor task c) (said : N
         (subst (AllPairs (λ (k l : Line State). k.state ≢ l.state))
         (ap (map (line_at task c)) (lines_behind l splits) ∙ map-append (line_at task c) (states_told before) (l ∷ states_told after)) closed.states_are_distinct)
         (Contains-map (line_at task c) (states_told before) k (Contains-filter_map state_in before (listed k) k there refl))
-        (ap (λ (numbers : List ℕ). state_of_line task c (record { cost = 0; cut = None; atoms = numbers })) same)
+        (ap (λ (numbers : List ℕ). state_of_line task c (record { cost = 0; mark = opened; atoms = numbers })) same)
 
-    no_cut : (l : StateLine) → text_lines said ≡ before ++ listed l ∷ after → IsSome l.cut → Contains before (claims none) → ⊥
-    no_cut l splits cut there =
-        let (rest, is) = some_there l.cut cut in
+    no_cut : (l : StateLine) → text_lines said ≡ before ++ listed l ∷ after → IsCut l.mark → Contains before (claims none) → ⊥
+    no_cut l splits (rest, is) there =
         let is_none : c.claim ≡ none = sym claim_is
         ∙ claim_there said none (subst (λ lines. Contains lines (claims none)) (sym splits) (Contains-append_left before (listed l ∷ after) (claims none) there)) in
         let among : Contains c.lines l = subst (λ lines. Contains lines l) (sym (lines_behind l splits)) (Contains-append_right (states_told before) (l ∷ states_told after) l (Contains-here l (states_told after))) in
@@ -231,10 +253,10 @@ module _ (task : Task) (c : Certificate) (closed : IsClosedFor task c) (said : N
 -- ---- no line is at fault
 
 no_line : (bytes line : List ℕ) → bytes ≡ [] → HasLine bytes line → ⊥
-no_line bytes line nothing (behind, splits, one, few) = nothing_there line behind (sym nothing ∙ splits ∙ append_assoc line (10 ∷ []) behind)
+no_line bytes line nothing (behind, splits, single, few) = nothing_there line behind (sym nothing ∙ splits ∙ append_assoc line (10 ∷ []) behind)
 
 nothing_behind : (line : TextLine) (next : Place) → next_place ended line ≡ Some next → ⊥
-nothing_behind version next leads = never next leads
+nothing_behind (version v) next leads = never next leads
 nothing_behind (claims claim) next leads = never next leads
 nothing_behind (constant k) next leads = never next leads
 nothing_behind (atom a) next leads = never next leads
@@ -242,31 +264,39 @@ nothing_behind (listed l) next leads = never next leads
 nothing_behind (last count) next leads = never next leads
 
 -- a line that leads on is within the limits
-within_limits : (before : List TextLine) (place next : Place) (line : TextLine) → StandsBefore place before → IsTrue (is_line most_atoms line) → next_place place line ≡ Some next
-    → IsTooManyAt place (line_text line) → ⊥
-within_limits before (in_body n m) next line body is leads (inl (empty, full, (a, a_is, same))) =
-    let here : line ≡ atom a = one_line most_atoms (omega arith) line (atom a) is a_is same in
-    let holds = (only_where ((m == 0) && nat_lt n most_atoms && is_line n (atom a)) (in_body (n + 1) m) next (subst (λ line. next_place (in_body n m) line ≡ Some next) here leads)).0 in
-    let below = (and_parts (m == 0) (nat_lt n most_atoms) (and_parts ((m == 0) && nat_lt n most_atoms) (is_line n (atom a)) holds).0).1 in
+within_limits : (before : List TextLine) (place next : Place) (line : TextLine) (w : Version) → StandsBefore place before → ((v : Version) (n m : ℕ) → StandsBefore (in_body v n m) before → w ≡ v)
+    → IsTrue (is_line w most_atoms line) → next_place place line ≡ Some next → IsTooManyAt place (line_text line) → ⊥
+within_limits before (in_body v n m) next line w body versions is leads (inl (empty, full, (a, a_is, same))) =
+    let line_is = subst (λ v. IsTrue (is_line v most_atoms line)) (versions v n m body) is in
+    let here : line ≡ atom a = one_line v most_atoms (omega arith) line (atom a) line_is a_is same in
+    let holds = (only_where ((m == 0) && nat_lt n most_atoms && is_line v n (atom a)) (in_body v (n + 1) m) next (subst (λ line. next_place (in_body v n m) line ≡ Some next) here leads)).0 in
+    let below = (and_parts (m == 0) (nat_lt n most_atoms) (and_parts ((m == 0) && nat_lt n most_atoms) (is_line v n (atom a)) holds).0).1 in
     omega (arith, full, ltb-true n most_atoms below)
-within_limits before (in_body n m) next line body is leads (inr (full, (l, l_is, same))) =
-    let here : line ≡ listed l = one_line most_atoms (omega arith) line (listed l) is (one_text.line_more n body.few_atoms (listed l) l_is) same in
-    let holds = (only_where (nat_lt m most_states && is_line n (listed l)) (in_body n (m + 1)) next (subst (λ line. next_place (in_body n m) line ≡ Some next) here leads)).0 in
-    omega (arith, full, ltb-true m most_states (and_parts (nat_lt m most_states) (is_line n (listed l)) holds).0)
-within_limits before at_version next line body is leads over = over
-within_limits before at_claim next line body is leads over = over
-within_limits before at_constant next line body is leads over = over
-within_limits before ended next line body is leads over = over
+within_limits before (in_body v n m) next line w body versions is leads (inr (full, (l, l_is, same))) =
+    let line_is = subst (λ v. IsTrue (is_line v most_atoms line)) (versions v n m body) is in
+    let here : line ≡ listed l = one_line v most_atoms (omega arith) line (listed l) line_is (one_text.line_more v n body.few_atoms (listed l) l_is) same in
+    let holds = (only_where (nat_lt m most_states && is_line v n (listed l)) (in_body v n (m + 1)) next (subst (λ line. next_place (in_body v n m) line ≡ Some next) here leads)).0 in
+    omega (arith, full, ltb-true m most_states (and_parts (nat_lt m most_states) (is_line v n (listed l)) holds).0)
+within_limits before at_version next line w body versions is leads over = over
+within_limits before (at_claim v) next line w body versions is leads over = over
+within_limits before (at_constant v) next line w body versions is leads over = over
+within_limits before ended next line w body versions is leads over = over
+
+first_same : (a b : TextLine) (xs ys : List TextLine) → a ∷ xs ≡ b ∷ ys → a ≡ b
+first_same a b xs ys same = cc same
+
+version_same : (u v : Version) → version u ≡ version v → u ≡ v
+version_same u v same = cc same
 
 module _ (said : NamedCertificate) (keeps : IsTrue (keeps_text_limits said)) (before : List TextLine) where
   -- behind the last line nothing is at fault
   no_fault_at_end : text_lines said ≡ before ++ [] → (bytes : List ℕ) → bytes ≡ [] → (number : ℕ) → IsFaultAfter before bytes number → ⊥
   no_fault_at_end splits bytes nothing number (other_version line has is) = no_line bytes line nothing has
   no_fault_at_end splits bytes nothing number (malformed line has nowhere this few) = no_line bytes line nothing has
-  no_fault_at_end splits bytes nothing number (too_long front rest are long one) =
+  no_fault_at_end splits bytes nothing number (too_long front rest are long single) =
       omega (arith, long, length-append front rest, ap length (sym are ∙ nothing))
   no_fault_at_end splits bytes nothing number (trailing whole some) = some nothing
-  no_fault_at_end splits bytes nothing number (cut_short not_whole one few) = not_whole (said, keeps, splits ∙ append-nil before)
+  no_fault_at_end splits bytes nothing number (cut_short not_whole single few) = not_whole (said, keeps, splits ∙ append-nil before)
   no_fault_at_end splits bytes nothing number (too_many line has over) = no_line bytes line nothing has
 
   -- and where a line follows, it is the one that may
@@ -277,26 +307,35 @@ module _ (said : NamedCertificate) (keeps : IsTrue (keeps_text_limits said)) (be
     begun_before : BeginCertificate before
     begun_before = (l ∷ more, (said, keeps, splits))
 
-    keeps_here : IsTrue (is_line most_atoms l)
+    keeps_here : IsTrue (is_line said.version most_atoms l)
     keeps_here =
-        let all = sym (list_all-append (is_line most_atoms) before (l ∷ more)) ∙ ap (list_all (is_line most_atoms)) (sym splits) ∙ kept_lines said keeps in
-        (and_parts (is_line most_atoms l) (list_all (is_line most_atoms) more) (and_parts (list_all (is_line most_atoms) before) (list_all (is_line most_atoms) (l ∷ more)) all).1).0
+        let test = is_line said.version most_atoms in
+        let all = sym (list_all-append test before (l ∷ more)) ∙ ap (list_all test) (sym splits) ∙ kept_lines said keeps in
+        (and_parts (test l) (list_all test more) (and_parts (list_all test before) (list_all test (l ∷ more)) all).1).0
+
+    -- the lines behind the first
+    abbrev behind_version : List TextLine
+    behind_version = claims said.claim ∷ constant said.constants ∷ (map (λ a. atom a) said.atoms ++ map (λ l. listed l) said.lines) ++ last (length said.lines) ∷ []
 
     this_version : IsOtherVersion before (line_text l) → ⊥
-    this_version (empty, n, is, differs, same) =
-        let here : version ≡ l = first_same version l (claims said.claim ∷ constant said.constant ∷ (map (λ a. atom a) said.atoms ++ map (λ l. listed l) said.lines) ++ last (length said.lines) ∷ []) more
-        (splits ∙ ap (λ lines. lines ++ l ∷ more) empty) in
-        let digits : codes "1" ≡ decimal n = append_cancel_left (codes "pddl-cert ") (codes "1") (decimal n) (ap line_text here ∙ same) in
-        differs (same_number n 1 is refl (sym digits ∙ sym (decimal_digit 1 (omega arith))))
+    this_version (empty, n, is, not_one, not_two, same) =
+        let here : version said.version ≡ l = first_same (version said.version) l behind_version more (splits ∙ ap (λ lines. lines ++ l ∷ more) empty) in
+        by_version said.version (append_cancel_left (codes "pddl-cert ") (decimal (version_number said.version)) (decimal n) (ap line_text here ∙ same))
       where
-        first_same : (a b : TextLine) (xs ys : List TextLine) → a ∷ xs ≡ b ∷ ys → a ≡ b
-        first_same a b xs ys same = cc same
+        by_version : (v : Version) → decimal (version_number v) ≡ decimal n → ⊥
+        by_version one digits = not_one (same_number n 1 is refl (sym digits))
+        by_version two digits = not_two (same_number n 2 is refl (sym digits))
+
+    version_before : (v : Version) (n m : ℕ) → StandsBefore (in_body v n m) before → said.version ≡ v
+    version_before v n m body =
+        version_same said.version v (first_same (version said.version) (version v) behind_version
+        ((claims body.claim ∷ constant body.constant ∷ map (λ a. atom a) body.atoms ++ map (λ l. listed l) body.states) ++ l ∷ more) (splits ∙ ap (λ lines. lines ++ l ∷ more) body.lines_are))
 
     not_too_many : IsOneTooMany before (line_text l) → ⊥
     not_too_many over =
         let (place, at) = place_of_beginning before begun_before in
         let (next, leads) = followed before place at l begun in
-        within_limits before place next l (stands before place at) keeps_here leads (too_many_at before place at (line_text l) over)
+        within_limits before place next l said.version (stands before place at) version_before keeps_here leads (too_many_at before place at (line_text l) over)
 
     not_whole_yet : AreWhole before → ⊥
     not_whole_yet whole =
@@ -304,14 +343,14 @@ module _ (said : NamedCertificate) (keeps : IsTrue (keeps_text_limits said)) (be
         nothing_behind l next leads
 
     no_fault_at_line : (bytes : List ℕ) → bytes ≡ text_of (l ∷ more) → (number : ℕ) → IsFaultAfter before bytes number → ⊥
-    no_fault_at_line bytes are number (other_version line has is) = this_version (subst (IsOtherVersion before) (sym (line_is_first bytes line l more keeps_here are has)) is)
-    no_fault_at_line bytes are number (malformed line has nowhere this few) = nowhere (l, begun, line_is_first bytes line l more keeps_here are has)
-    no_fault_at_line bytes are number (too_long front rest splits long one) =
-        one (end_within front rest (line_text l) (text_of more) (sym splits ∙ are ∙ first_line l more) (omega (arith, long, line_short l keeps_here)))
+    no_fault_at_line bytes are number (other_version line has is) = this_version (subst (IsOtherVersion before) (sym (line_is_first said.version bytes line l more keeps_here are has)) is)
+    no_fault_at_line bytes are number (malformed line has nowhere this few) = nowhere (l, begun, line_is_first said.version bytes line l more keeps_here are has)
+    no_fault_at_line bytes are number (too_long front rest splits long single) =
+        single (end_within front rest (line_text l) (text_of more) (sym splits ∙ are ∙ first_line l more) (omega (arith, long, line_short said.version l keeps_here)))
     no_fault_at_line bytes are number (trailing whole some) = not_whole_yet whole
-    no_fault_at_line bytes are number (cut_short not_whole one few) =
-        one (subst (λ bytes. Contains bytes 10) (sym (are ∙ first_line l more)) (Contains-append_right (line_text l) (10 ∷ text_of more) 10 (Contains-here 10 (text_of more))))
-    no_fault_at_line bytes are number (too_many line has over) = not_too_many (subst (IsOneTooMany before) (sym (line_is_first bytes line l more keeps_here are has)) over)
+    no_fault_at_line bytes are number (cut_short not_whole single few) =
+        single (subst (λ bytes. Contains bytes 10) (sym (are ∙ first_line l more)) (Contains-append_right (line_text l) (10 ∷ text_of more) 10 (Contains-here 10 (text_of more))))
+    no_fault_at_line bytes are number (too_many line has over) = not_too_many (subst (IsOneTooMany before) (sym (line_is_first said.version bytes line l more keeps_here are has)) over)
 
   no_text_fault : (rest : List TextLine) → text_lines said ≡ before ++ rest → (bytes : List ℕ) → bytes ≡ text_of rest → (number : ℕ) → IsFaultAfter before bytes number → ⊥
   no_text_fault [] splits = no_fault_at_end splits
@@ -329,13 +368,15 @@ accepted_has_no_fault task text plan accepted number line fault =
     keeps = accepted.is_text.text.within
 
     left : (rest : List TextLine) × (text_lines said ≡ fault.before ++ rest) × (fault.bytes ≡ text_of rest)
-    left = split_off fault.before (text_lines said) fault.bytes (begun_kept fault.before fault.begins) (kept_lines said keeps) (sym accepted.is_text.text.lines ∙ fault.splits)
+    left =
+        let same = sym accepted.is_text.text.lines ∙ fault.splits in
+        split_off said.version fault.before (text_lines said) fault.bytes (begun_kept said fault.before fault.bytes fault.begins same) (kept_lines said keeps) same
 
     no_wrong : IsWrongHere task fault.before fault.bytes number → ⊥
     no_wrong (wrong, more, are, begun, is_wrong) =
         let joined : text_of fault.before ++ fault.bytes ≡ text_of (fault.before ++ wrong ∷ []) ++ more =
         ap (λ bytes. text_of fault.before ++ bytes) are ∙ sym (append_assoc (text_of fault.before) (whole_line wrong) more) ∙ ap (λ text. text ++ more) (sym (text_push fault.before wrong)) in
-        let (rest, splits, _) = split_off (fault.before ++ wrong ∷ []) (text_lines said) more (begun_kept (fault.before ++ wrong ∷ []) begun) (kept_lines said keeps)
-        (sym accepted.is_text.text.lines ∙ fault.splits ∙ joined) in
+        let same = sym accepted.is_text.text.lines ∙ fault.splits ∙ joined in
+        let (rest, splits, _) = split_off said.version (fault.before ++ wrong ∷ []) (text_lines said) more (begun_kept said (fault.before ++ wrong ∷ []) more begun same) (kept_lines said keeps) same in
         not_wrong task accepted.certificate accepted.closed said accepted.is_text.claim accepted.is_text.atoms accepted.is_text.lines fault.before rest wrong number
         (splits ∙ append_assoc fault.before (wrong ∷ []) rest) is_wrong

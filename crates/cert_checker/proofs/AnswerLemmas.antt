@@ -17,7 +17,7 @@ use Rattle.model.specs.Runs.{System, cost_of_all, Solves, CostsAtLeast, IsOptima
 use Rattle.model.specs.Meaning.{State}
 use Rattle.model.specs.Claims.{Line}
 use Rattle.certificate_definitions.specs.Certificates.{Certificate, lines_of, IsClosedFor}
-use Rattle.certificate_definitions.specs.CertificateRefusals.{Reason, limit, unfair, IsPlanWithin, IsWrong, IsWrongLine}
+use Rattle.certificate_definitions.specs.CertificateRefusals.{Reason, limit, unfair, dead_unfair, IsPlanWithin, IsWrong, IsWrongLine}
 use Rattle.model.proofs.ListLemmas.{Contains-place}
 use Rattle.certificate_definitions.proofs.CertificateRefusalsLemmas.{right, right_line}
 
@@ -29,7 +29,9 @@ on_ok (Err e) p = tt
 pub closed_for : (task : Task) (c : Certificate) (most : ℕ) → IsRightUpTo task c most (length (lines_of task c)) → IsClosedFor task c
 closed_for task c most right = record {
   one_weight_an_atom = right.weighed;
-  potentials_are_fair = right.fair;
+  one_dead_end_weight_an_atom = right.dead_ends_weighed;
+  potentials_are_fair = right.fair.fair;
+  dead_ends_are_fair = right.fair.dead_fair;
   atoms_are_fluent = right.atoms.fluent;
   atoms_are_distinct = right.atoms.distinct;
   states_are_distinct = right.distinct;
@@ -38,6 +40,7 @@ closed_for task c most right = record {
     successors_listed = λ line i next listed is leads. ((closed line listed).is_open is).successors_listed i next leads;
     open_goals_allowed = λ line listed is. ((closed line listed).is_open is).goal_allowed;
     cuts_allowed = λ line rest listed is. (closed line listed).is_cut rest is;
+    dead_are_dead = λ line listed is. (closed line listed).is_dead is;
   };
 }
   where
@@ -59,11 +62,15 @@ only_limit task c plan most closed within None wrong = absurd wrong
 not_limit : unfair ≡ limit → ⊥
 not_limit same = absurd (cc)
 
+dead_not_limit : dead_unfair ≡ limit → ⊥
+dead_not_limit same = absurd (cc)
+
 -- a true refusal of a closed certificate, with a plan that costs no more than is claimed, is of no fault of theirs
 pub no_fault : (task : Task) (c : Certificate) (plan : Option (List Instance)) (most : ℕ) → IsClosedFor task c → IsPlanWithin task c.claim plan → (e : Refusal) → IsTrueRefusal task c plan most e → IsNoFault e
 no_fault task c plan most closed within (refusal.Line code line) wrong = no_line task c closed line (reason_of code) wrong
 no_fault task c plan most closed within (refusal.Plain code) wrong = only_limit task c plan most closed within (reason_of code) wrong
 no_fault task c plan most closed within (refusal.Unfair i) wrong = absurd (not_limit (right task c closed plan most unfair within (instance_of i, wrong.0, wrong.1)))
+no_fault task c plan most closed within (refusal.DeadUnfair i) wrong = absurd (dead_not_limit (right task c closed plan most dead_unfair within (instance_of i, wrong.0, wrong.1)))
 no_fault task c plan most closed within refusal.NoMemory wrong = tt
 no_fault task c plan most closed within refusal.Device wrong = tt
 no_fault task c plan most closed within refusal.Failed wrong = wrong

@@ -10,16 +10,14 @@ use Rattle.indexmap.specs.IndexSet.{insert_key}
 use Rattle.task_parts.specs.declared.atoms.Atom as code
 use Rattle.typing.specs.TaskParts.{atom_of}
 use Rattle.formulas.proofs.Equality.{atom_eq, equal_atoms, same_atoms, one_atom}
-use Rattle.model.specs.Task.{Task}
+use Rattle.model.specs.Task.{Atom, Task}
 use Rattle.model.specs.WellTyped.{is_atom}
 use Rattle.model.specs.Fluents.{is_fluent}
-use Rattle.model.specs.Claims.{Claim}
 use Rattle.model.proofs.ListLemmas.{Contains-map, map-Contains}
-use Rattle.potential_functions.specs.PotentialFunctions.{PotentialFunction}
-use Rattle.certificate_definitions.specs.CertificateText.{WeightedAtom, TextLine, atom}
-use Rattle.certificate_definitions.specs.CertificateNames.{Names}
+use Rattle.certificate_definitions.specs.CertificateText.{Weights, WeightedAtom, TextLine, atom}
+use Rattle.certificate_definitions.specs.CertificateNames.{Names, of_dead_end_or_zero}
 use Rattle.certificate_definitions.specs.CertificateChecking.{IsWrongAfter}
-use Rattle.cert_checker.specs.Told.{HaveTold}
+use Rattle.cert_checker.specs.Told.{Heading, HaveTold}
 use Rattle.cert_checker.proofs.ToldLemmas.{told_new_atom, wrong_again}
 
 any_there : (x : code.Atom) (keys : List code.Atom) → Contains (map atom_of keys) (atom_of x) → list_any (atom_eq x) keys ≡ true
@@ -35,18 +33,29 @@ was_new : (is_new old : Bool) → is_new ≡ not old → is_new ≡ true → old
 was_new is_new true is holds = absurd (false≢true (sym is ∙ holds))
 was_new is_new false is holds = refl
 
-module _ (task : Task) (before : List TextLine) (claim : Claim) (keys : List code.Atom) (potentials : PotentialFunction)
-    (told : HaveTold task before claim (map atom_of keys) potentials) (said : WeightedAtom) (a : code.Atom) (names : Names task said.atom (atom_of a)) (typed : IsTrue (is_atom task (atom_of a))) (changes : IsTrue (is_fluent task (atom_of a).predicate))
-    (is_new : Bool) (added : is_new ≡ not (list_any (atom_eq a) keys)) where
-  pub new_is_told : is_new ≡ true → (after : List code.Atom) → after ≡ insert_key atom_eq keys a
-      → HaveTold task (before ++ atom said ∷ []) claim (map atom_of after) (record { constant = potentials.constant; weights = potentials.weights ++ said.weight ∷ [] })
+-- the heading with these atoms, and the weights of one more
+abbrev pub with_atom : Heading → Weights → List Atom → Heading
+with_atom heading weights atoms = record {
+  version = heading.version;
+  claim = heading.claim;
+  atoms = atoms;
+  potentials = record { constant = heading.potentials.constant; weights = heading.potentials.weights ++ weights.of_value ∷ [] };
+  dead_ends = record { constant = heading.dead_ends.constant; weights = heading.dead_ends.weights ++ of_dead_end_or_zero weights ∷ [] };
+}
+
+module _ (task : Task) (before : List TextLine) (heading : Heading) (keys : List code.Atom) (atoms_are : heading.atoms ≡ map atom_of keys)
+    (told : HaveTold task before heading) (said : WeightedAtom) (a : code.Atom) (names : Names task said.atom (atom_of a)) (typed : IsTrue (is_atom task (atom_of a)))
+    (changes : IsTrue (is_fluent task (atom_of a).predicate)) (is_new : Bool) (added : is_new ≡ not (list_any (atom_eq a) keys)) where
+  pub new_is_told : is_new ≡ true → (after : List code.Atom) → after ≡ insert_key atom_eq keys a → HaveTold task (before ++ atom said ∷ []) (with_atom heading said.weights (map atom_of after))
   new_is_told holds after is =
       let absent = was_new is_new (list_any (atom_eq a) keys) added holds in
-      subst (λ atoms. HaveTold task (before ++ atom said ∷ []) claim atoms (record { constant = potentials.constant; weights = potentials.weights ++ said.weight ∷ [] }))
-      (sym (ap (map atom_of) (is ∙ ap (λ b. if b then keys else keys ++ a ∷ []) absent) ∙ map-append atom_of keys (a ∷ [])))
-      (told_new_atom task before claim (map atom_of keys) potentials told said (atom_of a) names typed changes (λ among. false≢true (sym absent ∙ any_there a keys among)))
+      subst (λ atoms. HaveTold task (before ++ atom said ∷ []) (with_atom heading said.weights atoms))
+      (ap (λ atoms. atoms ++ atom_of a ∷ []) atoms_are ∙ sym (ap (map atom_of) (is ∙ ap (λ b. if b then keys else keys ++ a ∷ []) absent) ∙ map-append atom_of keys (a ∷ [])))
+      (told_new_atom task before heading told said (atom_of a) names typed changes
+      (λ among. false≢true (sym absent ∙ any_there a keys (subst (λ atoms. Contains atoms (atom_of a)) atoms_are among))))
 
   pub again_is_wrong : is_new ≡ false → IsWrongAfter task before (atom said) 44
   again_is_wrong fails =
-      wrong_again task before claim (map atom_of keys) potentials told said (atom_of a) names typed changes
-      (Contains-map atom_of keys a (Contains-from_any (λ a b alike. one_atom a b (equal_atoms a b alike)) a keys (was_there is_new (list_any (atom_eq a) keys) added fails)))
+      wrong_again task before heading told said (atom_of a) names typed changes
+      (subst (λ atoms. Contains atoms (atom_of a)) (sym atoms_are)
+      (Contains-map atom_of keys a (Contains-from_any (λ a b alike. one_atom a b (equal_atoms a b alike)) a keys (was_there is_new (list_any (atom_eq a) keys) added fails))))

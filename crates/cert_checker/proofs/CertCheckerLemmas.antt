@@ -1,7 +1,7 @@
 -- Why a certificate that the checker goes through without a refusal is closed.
 use Rattle.std.proofs.Common.{◌≡◌, ℕ, zero, suc, ◌+◌, ◌<◌, ◌≤◌, true, ◌&&◌, List, [], ◌∷◌, ◌++◌, length, map, take, get_or, Option, None, Some, inl, inr, refl, sym, ap, ◌∙◌, subst, arith}
 use Rattle.std.specs.Prelude.{IsTrue, MatchOption, OnOk, Result, Ok, Err, nat_eq, nat_le, Contains, slice_get}
-use Rattle.std.specs.Option.{option_eq, option_map_or}
+use Rattle.std.specs.Option.{option_eq}
 use Rattle.std.proofs.lemmas.Bool.{eqb-true, ltb-true, and_parts}
 use Rattle.std.specs.List.{list_all}
 use Rattle.std.proofs.lemmas.List.{take_all, take_more, map-append, length-map}
@@ -12,8 +12,8 @@ use Rattle.cert_checker.specs.CheckedLines.{HasCost, IsListedAt, IsOpenClosed, I
 use Rattle.model.specs.Task.{Task, Instance}
 use Rattle.model.specs.Meaning.{State, system_of}
 use Rattle.model.specs.Instances.{successors_of}
-use Rattle.model.specs.Claims.{Allows, Line, IsListedWithin}
-use Rattle.certificate_definitions.specs.Certificates.{Certificate, StateLine, are_potentials, is_claim, is_number, is_state_line, keeps_limits, lines_of, rise, state_of_line}
+use Rattle.model.specs.Claims.{Allows, Mark, opened, cut, dead, Line, IsListedWithin}
+use Rattle.certificate_definitions.specs.Certificates.{Version, one, two, Certificate, StateLine, are_potentials, is_claim, is_dead_end_of, is_dead_end_weight, is_mark, is_number, is_state_line, is_weight, keeps_limits, lines_of, rise, state_of_line}
 use Rattle.certificate_definitions.specs.CertificateRefusals.{IsListed}
 use Rattle.model.proofs.ListLemmas.{Contains-cases, Contains-none}
 use Rattle.model.proofs.InstancesLemmas.{Contains-successors}
@@ -41,7 +41,7 @@ same_place xs i x y at_x at_y = cc
 -- ---- the listing
 
 abbrev pub entry : Task → Certificate → StateLine → Line State
-entry task cert l = record { state = state_of_line task cert l; cost = l.cost; cut = l.cut }
+entry task cert l = record { state = state_of_line task cert l; cost = l.cost; mark = l.mark }
 
 pub listed_within : {S : Type 0} (lines : List (Line S)) (s : S) (listed cost : ℕ) → IsListedAt lines s listed → listed ≤ cost → IsListedWithin lines s cost
 listed_within lines s listed cost at le = (at.0, at.1, at.2, omega (arith, at.3))
@@ -81,16 +81,25 @@ open_closed task cert state cost view xs k past is all goal = record {
 
 -- ---- each line
 
-pub line_open : (task : Task) (cert : Certificate) (s : State) (cost : ℕ) → IsOpenClosed task cert s cost → IsLineClosed task cert (record { state = s; cost = cost; cut = None })
+pub line_open : (task : Task) (cert : Certificate) (s : State) (cost : ℕ) → IsOpenClosed task cert s cost → IsLineClosed task cert (record { state = s; cost = cost; mark = opened })
 line_open task cert s cost closed = record {
   is_open = λ _. closed;
   is_cut = λ rest is. absurd (cc);
+  is_dead = λ is. absurd (cc);
 }
 
-pub line_cut : (task : Task) (cert : Certificate) (s : State) (cost rest : ℕ) → IsCutClosed cert s cost rest → IsLineClosed task cert (record { state = s; cost = cost; cut = Some rest })
+pub line_cut : (task : Task) (cert : Certificate) (s : State) (cost rest : ℕ) → IsCutClosed cert s cost rest → IsLineClosed task cert (record { state = s; cost = cost; mark = cut rest })
 line_cut task cert s cost rest closed = record {
   is_open = λ is. absurd (cc);
   is_cut = λ other is. let alike : rest ≡ other = cc in subst (IsCutClosed cert s cost) alike closed;
+  is_dead = λ is. absurd (cc);
+}
+
+pub line_dead : (task : Task) (cert : Certificate) (s : State) (cost : ℕ) → IsTrue (is_dead_end_of cert s) → IsLineClosed task cert (record { state = s; cost = cost; mark = dead })
+line_dead task cert s cost told = record {
+  is_open = λ is. absurd (cc);
+  is_cut = λ rest is. absurd (cc);
+  is_dead = λ _. told;
 }
 
 -- ---- the initial state
@@ -113,23 +122,29 @@ lines_within task cert k line at = omega (arith, slice_get_within (lines_of task
 
 -- ---- limits
 
-pub lines_within_limits : (c : Certificate) → keeps_limits c ≡ true → list_all (is_state_line (length c.atoms)) c.lines ≡ true
+pub lines_within_limits : (c : Certificate) → keeps_limits c ≡ true → list_all (is_state_line c.version (length c.atoms)) c.lines ≡ true
 lines_within_limits c keeps =
     let counts = is_claim c.claim && nat_le (length c.atoms) 1048576 && nat_le (length c.lines) 16777216 in
-    let states = list_all (is_state_line (length c.atoms)) c.lines in
-    (and_parts counts states (and_parts (counts && states) (are_potentials (length c.atoms) c.potentials) keeps).0).1
+    let states = list_all (is_state_line c.version (length c.atoms)) c.lines in
+    let values = are_potentials is_weight (length c.atoms) c.potentials in
+    (and_parts counts states (and_parts (counts && states) values
+    (and_parts (counts && states && values) (are_potentials (is_dead_end_weight c.version) (length c.atoms) c.dead_ends) keeps).0).0).1
 
-small_line : (c : Certificate) (place : ℕ) (l : StateLine) → keeps_limits c ≡ true → slice_get c.lines place ≡ Some l → (is_number l.cost && option_map_or is_number l.cut true) ≡ true
+small_line : (c : Certificate) (place : ℕ) (l : StateLine) → keeps_limits c ≡ true → slice_get c.lines place ≡ Some l → (is_number l.cost && is_mark c.version l.mark) ≡ true
 small_line c place l keeps at =
     let all = lines_within_limits c keeps in
-    (and_parts (is_number l.cost && option_map_or is_number l.cut true) (rise (length c.atoms) 0 l.atoms) (passes_got (is_state_line (length c.atoms)) c.lines place l at all)).0
+    (and_parts (is_number l.cost && is_mark c.version l.mark) (rise (length c.atoms) 0 l.atoms) (passes_got (is_state_line c.version (length c.atoms)) c.lines place l at all)).0
 
-pub small_cost : (c : Certificate) (place cost : ℕ) (o : Option ℕ) → keeps_limits c ≡ true → HasCost c place cost o → cost < 1152921504606846976
-small_cost c place cost o keeps (l, at, cost_is, cut_is) =
-    let small = ltb-true l.cost 1152921504606846976 (and_parts (is_number l.cost) (option_map_or is_number l.cut true) (small_line c place l keeps at)).0 in
+pub small_cost : (c : Certificate) (place cost : ℕ) (mark : Mark) → keeps_limits c ≡ true → HasCost c place cost mark → cost < 1152921504606846976
+small_cost c place cost mark keeps (l, at, cost_is, mark_is) =
+    let small = ltb-true l.cost 1152921504606846976 (and_parts (is_number l.cost) (is_mark c.version l.mark) (small_line c place l keeps at)).0 in
     omega (arith, small, cost_is)
 
-pub small_cut : (c : Certificate) (place cost rest : ℕ) → keeps_limits c ≡ true → HasCost c place cost (Some rest) → rest < 1152921504606846976
-small_cut c place cost rest keeps (l, at, cost_is, cut_is) =
-    let small = (and_parts (is_number l.cost) (option_map_or is_number l.cut true) (small_line c place l keeps at)).1 in
-    ltb-true rest 1152921504606846976 (subst (λ o. option_map_or is_number o true ≡ true) cut_is small)
+pub small_cut : (c : Certificate) (place cost rest : ℕ) → keeps_limits c ≡ true → HasCost c place cost (cut rest) → rest < 1152921504606846976
+small_cut c place cost rest keeps (l, at, cost_is, mark_is) =
+    let small = (and_parts (is_number l.cost) (is_mark c.version l.mark) (small_line c place l keeps at)).1 in
+    ltb-true rest 1152921504606846976 (cut_small c.version (subst (λ mark. is_mark c.version mark ≡ true) mark_is small))
+  where
+    cut_small : (v : Version) → is_mark v (cut rest) ≡ true → is_number rest ≡ true
+    cut_small one is = is
+    cut_small two is = is

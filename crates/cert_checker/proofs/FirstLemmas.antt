@@ -10,20 +10,19 @@ use Rattle.cert_checker.specs.declared.refusal.RefusalCode.{RefusalCode}
 use Rattle.cert_checker.specs.Reasons.{reason_of}
 use Rattle.cert_checker.specs.CertChecker.{IsFirstRefusal, IsFirstSuccessor, IsFirstToLeave}
 use Rattle.cert_checker.specs.FluentAtoms.{AreFluent}
-use Rattle.cert_checker.specs.CheckedLines.{CutsAreAllowed, IsLineClosed, IsRightUpTo}
+use Rattle.cert_checker.specs.CheckedLines.{AreFairFor, CutsAreAllowed, IsLineClosed, IsRightUpTo}
 use Rattle.model.proofs.ListLemmas.{Contains-got}
 use Rattle.cert_checker.proofs.CertCheckerLemmas.{AllListed, entry, slice_get-map, got_mapped}
 use Rattle.cert_checker.proofs.RefusalsLemmas.{AreApart}
 use Rattle.model.specs.Task.{Task, Instance}
 use Rattle.model.specs.Meaning.{State, system_of}
 use Rattle.model.specs.Instances.{successors_of}
-use Rattle.model.specs.NumberedAtoms.{numbered_atoms}
 use Rattle.model.specs.Limits.{max_numbered_atoms}
 use Rattle.model.specs.Grounding.{limit_told}
-use Rattle.model.specs.Claims.{none, Line, IsListedWithin}
-use Rattle.potential_functions.specs.Fair.{AreFair}
+use Rattle.model.specs.Claims.{none, opened, Line, IsListedWithin}
 use Rattle.certificate_definitions.specs.Certificates.{Certificate, StateLine, lines_of, IsClosedFor}
 use Rattle.certificate_definitions.specs.CertificateRefusals.{Reason, state_line, IsFirst}
+use Rattle.certificate_definitions.specs.CertificateChecking.{IsCut}
 use Rattle.certificate_definitions.proofs.CertificateRefusalsLemmas.{apart}
 
 both_of : (P Q : Reason → Type 0) (o : Option Reason) → MatchOption o ⊥ P → MatchOption o ⊥ Q → MatchOption o ⊥ (λ reason. P reason × Q reason)
@@ -43,9 +42,9 @@ slice_get-take k xs i x lt at =
 
 -- the one that is gone through now is the first that may leave the listing
 pub first_to_leave : {X : Type 0} (task : Task) (c : Certificate) (place : ℕ) (s : State) (cost : ℕ) (view : X → Instance × State) (xs : List X) (k : ℕ) (x : X)
-    → slice_get (lines_of task c) place ≡ Some (record { state = s; cost = cost; cut = None }) → k < length xs → x ≡ get_or xs k x → map view xs ≡ successors_of task s
+    → slice_get (lines_of task c) place ≡ Some (record { state = s; cost = cost; mark = opened }) → k < length xs → x ≡ get_or xs k x → map view xs ≡ successors_of task s
     → AllListed task c cost (map view (take k xs))
-    → IsFirstToLeave task c (state_line c place) (record { state = s; cost = cost; cut = None }) (view x).0 (view x).1
+    → IsFirstToLeave task c (state_line c place) (record { state = s; cost = cost; mark = opened }) (view x).0 (view x).1
 first_to_leave {X} task c place s cost view xs k x there lt at is before = record {
   stands_there = (place, refl, there);
   is_open = refl;
@@ -61,21 +60,20 @@ first_to_leave {X} task c place s cost view xs k x there lt at is before = recor
 -- ---- cuts
 
 -- a certificate that claims that there is no plan, and has no cut, cuts none that it may not
-pub cuts_allowed : (task : Task) (c : Certificate) → (c.claim ≡ none → All (λ (l : StateLine). l.cut ≡ None) c.lines) → CutsAreAllowed task c (length (lines_of task c))
-cuts_allowed task c all place l rest below at cut claim =
+pub cuts_allowed : (task : Task) (c : Certificate) → (c.claim ≡ none → All (λ (l : StateLine). ¬ IsCut l.mark) c.lines) → CutsAreAllowed task c (length (lines_of task c))
+cuts_allowed task c all place l rest below at at_cut claim =
     let (line, there, is) = got_mapped (entry task c) c.lines place l at in
-    let uncut : line.cut ≡ None = All-contains (λ (l : StateLine). l.cut ≡ None) c.lines line (all claim) (Contains-got c.lines place line there) in
-    let same : line.cut ≡ l.cut = ap (λ (l : Line State). l.cut) is in
-    absurd (cc)
+    All-contains (λ (l : StateLine). ¬ IsCut l.mark) c.lines line (all claim) (Contains-got c.lines place line there) (rest, ap (λ (l : Line State). l.mark) is ∙ at_cut)
 
 -- ---- the lines so far
 
 -- all is right up to the first state line
-pub right_from : (task : Task) (c : Certificate) (most : ℕ) → length c.potentials.weights ≡ length c.atoms → AreApart task c → AreFluent task c.atoms → CutsAreAllowed task c (length (lines_of task c))
-    → limit_told most max_numbered_atoms task c.atoms ≡ None → AreFair task (numbered_atoms task c.atoms) c.potentials → IsListedWithin (lines_of task c) (system_of task).initial 0
+pub right_from : (task : Task) (c : Certificate) (most : ℕ) → (length c.potentials.weights ≡ length c.atoms) × (length c.dead_ends.weights ≡ length c.atoms) → AreApart task c → AreFluent task c.atoms → CutsAreAllowed task c (length (lines_of task c))
+    → limit_told most max_numbered_atoms task c.atoms ≡ None → AreFairFor task c → IsListedWithin (lines_of task c) (system_of task).initial 0
     → IsRightUpTo task c most 0
 right_from task c most weighed apart atoms allowed few fair initial = record {
-  weighed = weighed;
+  weighed = weighed.0;
+  dead_ends_weighed = weighed.1;
   atoms = atoms;
   distinct = apart;
   allowed = allowed;
@@ -89,6 +87,7 @@ pub right_to_line : (task : Task) (c : Certificate) (most place : ℕ) → IsRig
     → ((k : ℕ) (l : Line State) → k < place → slice_get (lines_of task c) k ≡ Some l → IsLineClosed task c l) → IsRightUpTo task c most place
 right_to_line task c most place right lines = record {
   weighed = right.weighed;
+  dead_ends_weighed = right.dead_ends_weighed;
   atoms = right.atoms;
   distinct = right.distinct;
   allowed = right.allowed;

@@ -1,22 +1,21 @@
 -- States that are taken, and states that stood before.
-use Rattle.std.proofs.Common.{◌≡◌, ℕ, Bool, true, false, List, [], ◌∷◌, ◌++◌, map, Option, None, Some, refl, sym, ap, ◌∙◌, subst}
-use Rattle.std.specs.Prelude.{IsSome, ◌&&◌, All, Contains, OnOk, Result, Ok, Err}
+use Rattle.std.proofs.Common.{◌≡◌, ℕ, Bool, true, false, List, [], ◌∷◌, ◌++◌, map, Some, refl, sym, ap, ◌∙◌, subst}
+use Rattle.std.specs.Prelude.{◌&&◌, All, Contains, OnOk, Result, Ok, Err}
 use Rattle.std.specs.List.{list_all}
 use Rattle.std.proofs.lemmas.List.{map-append}
 use Rattle.std.proofs.lemmas.List.Elements.{All-push, filter_map-append}
 use Rattle.std.proofs.lemmas.List.Folds.{list_all-append}
 use Rattle.packed_state.specs.Store.{IsPlaced}
 use Rattle.packed_state.specs.Sets.{set_of}
-use Rattle.model.specs.Task.{Atom, Task}
+use Rattle.model.specs.Task.{Task}
 use Rattle.model.specs.Claims.{Claim, none}
 use Rattle.certificate_definitions.specs.Certificates.{StateLine, rise}
 use Rattle.model.proofs.ListLemmas.{Contains-filter_map, filter_map-Contains, Contains-got, Contains-map, Contains-place, map-Contains}
 use Rattle.model.proofs.Tests.{passes_got}
-use Rattle.potential_functions.specs.PotentialFunctions.{PotentialFunction}
 use Rattle.certificate_definitions.specs.CertificateText.{TextLine, version, claims, constant, atom, listed, last}
-use Rattle.certificate_definitions.specs.CertificateChecking.{IsWrongAfter, ListsAtoms, not_fluent, repeated_atom, repeated_state, cut_not_allowed}
+use Rattle.certificate_definitions.specs.CertificateChecking.{IsCut, IsWrongAfter, ListsAtoms, not_fluent, repeated_atom, repeated_state, cut_not_allowed}
 use Rattle.certificate.specs.ListedSets.{Marked, marked}
-use Rattle.cert_checker.specs.Told.{HaveTold, state_in, states_told}
+use Rattle.cert_checker.specs.Told.{Heading, HaveTold, state_in, states_told}
 use Rattle.cert_checker.specs.Listed.{HaveListed, IsAdded}
 use Rattle.certificate.proofs.SetsLemmas.{one_set}
 use Rattle.cert_checker.proofs.ToldLemmas.{told_else}
@@ -31,16 +30,12 @@ pub added_there : {X : Type 0} (old new : List X) (x y : X) (place : ℕ) (is_ne
 added_there old new x y place true same (absent, pushed, at) = (λ among. absent (subst (Contains old) (sym same) among), pushed ∙ ap (λ z. old ++ z ∷ []) same)
 added_there old new x y place false same (there, kept) = (subst (Contains old) same (Contains-got old place x there), kept)
 
-no_cut : (cut : Option ℕ) → (IsSome cut → ⊥) → cut ≡ None
-no_cut None none_is = refl
-no_cut (Some rest) none_is = absurd (none_is refl)
-
 -- a state that is told stands in the lines, and one that stands there is told
 told_state : (lines : List TextLine) (l : StateLine) → Contains (states_told lines) l → Contains lines (listed l)
 told_state lines l told = let (line, there, is) = filter_map-Contains state_in lines l told in subst (Contains lines) (line_is line is) there
   where
     line_is : (line : TextLine) → state_in line ≡ Some l → line ≡ listed l
-    line_is version is = absurd (cc is)
+    line_is (version v) is = absurd (cc is)
     line_is (claims claim) is = absurd (cc is)
     line_is (constant k) is = absurd (cc is)
     line_is (atom a) is = absurd (cc is)
@@ -69,7 +64,7 @@ module _ (before : List TextLine) (claim : Claim) (width : ℕ) (marks : List Ma
       (Contains-map (λ (l : StateLine). set_of width l.atoms) (states_told before) m (state_told before m stands)))
 
   -- one more
-  pub listed_more : ((claim ≡ none) × IsSome l.cut → ⊥) → (more_marks : List Marked) (more_sets : List (List Bool)) → more_marks ≡ marks ++ marked l ∷ [] → more_sets ≡ sets ++ set_of width l.atoms ∷ []
+  pub listed_more : ((claim ≡ none) × IsCut l.mark → ⊥) → (more_marks : List Marked) (more_sets : List (List Bool)) → more_marks ≡ marks ++ marked l ∷ [] → more_sets ≡ sets ++ set_of width l.atoms ∷ []
       → HaveListed (before ++ listed l ∷ []) claim width more_marks more_sets
   listed_more allowed more_marks more_sets marks_more sets_more =
       let states : states_told (before ++ listed l ∷ []) ≡ states_told before ++ l ∷ [] = filter_map-append state_in before (listed l ∷ []) in
@@ -77,26 +72,27 @@ module _ (before : List TextLine) (claim : Claim) (width : ℕ) (marks : List Ma
         rising = ap (list_all (λ (l : StateLine). rise width 0 l.atoms)) states
             ∙ list_all-append (λ (l : StateLine). rise width 0 l.atoms) (states_told before) (l ∷ []) ∙ (λ i. have.rising i && (rising i && true));
         marks_are = marks_more ∙ ap (λ marks. marks ++ marked l ∷ []) have.marks_are ∙ sym (map-append marked (states_told before) (l ∷ [])) ∙ ap (map marked) (sym states);
-        allowed = λ is_none. subst (All (λ (l : StateLine). l.cut ≡ None)) (sym states) (All-push (λ (l : StateLine). l.cut ≡ None) (states_told before) l (have.allowed is_none) (no_cut l.cut (λ cut. allowed (is_none, cut))));
+        allowed = λ is_none. subst (All (λ (l : StateLine). ¬ IsCut l.mark)) (sym states) (All-push (λ (l : StateLine). ¬ IsCut l.mark) (states_told before) l (have.allowed is_none) (λ cut. allowed (is_none, cut)));
         sets_are = sets_more ∙ ap (λ sets. sets ++ set_of width l.atoms ∷ []) have.sets_are ∙ sym (map-append (λ (l : StateLine). set_of width l.atoms) (states_told before) (l ∷ []))
             ∙ ap (map (λ (l : StateLine). set_of width l.atoms)) (sym states);
       }
 
-  module _ (task : Task) (atoms : List Atom) (potentials : PotentialFunction) (told : HaveTold task before claim atoms potentials) where
+  module _ (task : Task) (heading : Heading) (claim_is : heading.claim ≡ claim) (told : HaveTold task before heading) where
     -- the line is not wrong where its set is new, and it is no cut that is not allowed
-    right_state : (Contains sets (set_of width l.atoms) → ⊥) → ((claim ≡ none) × IsSome l.cut → ⊥) → (line : TextLine) (number : ℕ) → IsWrongAfter task before line number → line ≡ listed l → ⊥
+    right_state : (Contains sets (set_of width l.atoms) → ⊥) → ((claim ≡ none) × IsCut l.mark → ⊥) → (line : TextLine) (number : ℕ) → IsWrongAfter task before line number → line ≡ listed l → ⊥
     right_state new allowed line number (not_fluent b none_is) same = absurd (cc same)
     right_state new allowed line number (repeated_atom b is there) same = absurd (cc same)
     right_state new allowed line number (repeated_state m there) same =
         let is : m ≡ l = cc in new (set_is_listed (subst (λ (m : StateLine). ListsAtoms before m.atoms) is there))
     right_state new allowed line number (cut_not_allowed m first cut there) same =
-        let is : m ≡ l = cc in allowed (told.one_claim none there, subst (λ (m : StateLine). IsSome m.cut) is cut)
+        let is : m ≡ l = cc in allowed (sym claim_is ∙ told.one_claim none there, subst (λ (m : StateLine). IsCut m.mark) is cut)
 
-    pub state_told_more : (Contains sets (set_of width l.atoms) → ⊥) → ((claim ≡ none) × IsSome l.cut → ⊥) → HaveTold task (before ++ listed l ∷ []) claim atoms potentials
-    state_told_more new allowed = told_else task before claim atoms potentials told (listed l) (λ d same. cc same) (λ k same. cc same) refl (λ number wrong. right_state new allowed (listed l) number wrong refl)
+    pub state_told_more : (Contains sets (set_of width l.atoms) → ⊥) → ((claim ≡ none) × IsCut l.mark → ⊥) → HaveTold task (before ++ listed l ∷ []) heading
+    state_told_more new allowed =
+        told_else task before heading told (listed l) (λ v same. cc same) (λ d same. cc same) (λ k same. cc same) refl (λ number wrong. right_state new allowed (listed l) number wrong refl)
 
     pub state_again : Contains sets (set_of width l.atoms) → IsWrongAfter task before (listed l) 44
     state_again there = repeated_state l (set_was_listed there)
 
-    pub cut_is_wrong : (Contains sets (set_of width l.atoms) → ⊥) → (claim ≡ none) × IsSome l.cut → IsWrongAfter task before (listed l) 52
-    cut_is_wrong new (is_none, cut) = cut_not_allowed l (λ listed. new (set_is_listed listed)) cut (told.none_stands is_none)
+    pub cut_is_wrong : (Contains sets (set_of width l.atoms) → ⊥) → (claim ≡ none) × IsCut l.mark → IsWrongAfter task before (listed l) 52
+    cut_is_wrong new (is_none, cut) = cut_not_allowed l (λ listed. new (set_is_listed listed)) cut (told.none_stands (claim_is ∙ is_none))

@@ -9,21 +9,21 @@ use Rattle.packed_state.specs.Sets.{set_of}
 use Rattle.typing.specs.TaskParts.{atom_of}
 use Rattle.model.specs.Task.{Atom, Task}
 use Rattle.model.specs.Claims.{Claim}
-use Rattle.certificate_definitions.specs.Certificates.{StateLine, rise}
+use Rattle.certificate_definitions.specs.Certificates.{Certificate, StateLine, rise}
+use Rattle.certificate_definitions.specs.CertificateChecking.{IsCut}
 use Rattle.certificate_reader.specs.declared.line.CertLine.{CertLine}
-use Rattle.certificate_reader.specs.Lines.{claim_of, text_line_of}
+use Rattle.certificate_reader.specs.Lines.{claim_of, text_line_of, version_of}
 use Rattle.certificate_definitions.specs.CertificateText.{WeightedAtom, NamedCertificate, TextLine, AreWhole, BeginCertificate, atom, claims, constant, last, listed, most_atoms, text_lines, text_of, version}
-use Rattle.certificate_definitions.specs.CertificateNames.{AllName}
+use Rattle.certificate_definitions.specs.CertificateNames.{AllName, of_dead_end_or_zero}
 use Rattle.certificate_reader.specs.declared.reader.CertReader.{CertReader}
 use Rattle.certificate_reader.specs.Reader.{IsAnswer, has_failed, lines_read}
 use Rattle.model.proofs.ListLemmas.{Contains-here, Contains-there}
 use Rattle.certificate.specs.ListedSets.{Marked, line_with, lines_with, marked}
 use Rattle.cert_checker.specs.Told.{atoms_told, is_body, names_told, states_told}
-use Rattle.certificate.specs.declared.listing_parts.Mark.{Mark}
+use Rattle.certificate.specs.declared.listing_parts.Listed.{Listed}
 use Rattle.cert_checker.specs.Listed.{HaveListed, IsFit}
-use Rattle.certificate.specs.ListingParts.{mark_of}
+use Rattle.certificate.specs.ListingParts.{listed_of, potential_of}
 use Rattle.certificate.specs.declared.listing_parts.Beginning.{Beginning}
-use Rattle.certificate.specs.ListingParts.{potentials_in}
 use Rattle.cert_checker.specs.Taking.{HasTaken}
 use Rattle.cert_checker.specs.Reading.{IsAt, IsBegun, IsListedSoFar, IsRead}
 use Rattle.certificate.proofs.SetsLemmas.{numbers_back}
@@ -42,20 +42,25 @@ lines_back : (width : ℕ) (lines : List StateLine) → list_all (λ (l : StateL
 lines_back width [] rising = refl
 lines_back width (l ∷ lines) rising =
     let (here, more) = and_parts (rise width 0 l.atoms) (list_all (λ (l : StateLine). rise width 0 l.atoms) lines) rising in
-    let line : line_with (marked l) (set_of width l.atoms) ≡ l = λ i. record { cost = l.cost; cut = l.cut; atoms = numbers_back width l.atoms here i } in
+    let line : line_with (marked l) (set_of width l.atoms) ≡ l = λ i. record { cost = l.cost; mark = l.mark; atoms = numbers_back width l.atoms here i } in
     let rest = lines_back width lines more in
     λ i. line i ∷ rest i
 
+-- the lines behind the first three
+abbrev body_of : NamedCertificate → List TextLine
+body_of c = (map (λ a. atom a) c.atoms ++ map (λ l. listed l) c.lines) ++ last (length c.lines) ∷ []
+
+version_stands : (c : NamedCertificate) → Contains (text_lines c) (version c.version)
+version_stands c = Contains-here (version c.version) (claims c.claim ∷ constant c.constants ∷ body_of c)
+
 claim_stands : (c : NamedCertificate) → Contains (text_lines c) (claims c.claim)
 claim_stands c =
-    let body : List TextLine = (map (λ a. atom a) c.atoms ++ map (λ l. listed l) c.lines) ++ last (length c.lines) ∷ [] in
-    Contains-there version (claims c.claim ∷ constant c.constant ∷ body) (claims c.claim) (Contains-here (claims c.claim) (constant c.constant ∷ body))
+    Contains-there (version c.version) (claims c.claim ∷ constant c.constants ∷ body_of c) (claims c.claim) (Contains-here (claims c.claim) (constant c.constants ∷ body_of c))
 
-constant_stands : (c : NamedCertificate) → Contains (text_lines c) (constant c.constant)
+constant_stands : (c : NamedCertificate) → Contains (text_lines c) (constant c.constants)
 constant_stands c =
-    let body : List TextLine = (map (λ a. atom a) c.atoms ++ map (λ l. listed l) c.lines) ++ last (length c.lines) ∷ [] in
-    Contains-there version (claims c.claim ∷ constant c.constant ∷ body) (constant c.constant)
-    (Contains-there (claims c.claim) (constant c.constant ∷ body) (constant c.constant) (Contains-here (constant c.constant) body))
+    Contains-there (version c.version) (claims c.claim ∷ constant c.constants ∷ body_of c) (constant c.constants)
+    (Contains-there (claims c.claim) (constant c.constants ∷ body_of c) (constant c.constants) (Contains-here (constant c.constants) (body_of c)))
 
 module _ {R : Type 0} (remaining : R → Option (List ℕ)) (task : Task) (first now : CertReader R) (beginning : Beginning) where
   abbrev claim : Claim
@@ -83,7 +88,7 @@ module _ {R : Type 0} (remaining : R → Option (List ℕ)) (task : Task) (first
     nothing no_marks no_sets lines none_told = record {
       rising = ap (list_all (λ (l : StateLine). rise width 0 l.atoms)) none_told;
       marks_are = no_marks ∙ ap (map marked) (sym none_told);
-      allowed = λ is_none. subst (All (λ (l : StateLine). l.cut ≡ None)) (sym none_told) (λ k d within. absurd (omega (arith, within)));
+      allowed = λ is_none. subst (All (λ (l : StateLine). ¬ IsCut l.mark)) (sym none_told) (λ k d within. absurd (omega (arith, within)));
       sets_are = no_sets ∙ ap (map (λ (l : StateLine). set_of width l.atoms)) (sym none_told);
     }
 
@@ -99,14 +104,23 @@ module _ {R : Type 0} (remaining : R → Option (List ℕ)) (task : Task) (first
         (ap length have.sets_are ∙ length-map (states_told before) (λ (l : StateLine). set_of width l.atoms)))
 
     -- the text is read to its end
-    pub read_whole : IsListedSoFar remaining task first now beginning width marks sets None
-        → IsRead remaining task first now (record { claim = claim; atoms = atoms; potentials = potentials_in beginning; lines = lines_with marks sets })
+    abbrev certificate : Certificate
+    certificate = record {
+      version = version_of beginning.version;
+      claim = claim;
+      atoms = atoms;
+      potentials = potential_of beginning.potential;
+      dead_ends = potential_of beginning.dead_ends;
+      lines = lines_with marks sets;
+    }
+
+    pub read_whole : IsListedSoFar remaining task first now beginning width marks sets None → IsRead remaining task first now certificate
     read_whole (lines, over, told, have) = by_certificate over.whole
       where
         states_are : lines_with marks sets ≡ states_told lines
         states_are = (λ i. lines_with (have.marks_are i) (have.sets_are i)) ∙ lines_back width (states_told lines) have.rising
 
-        by_certificate : AreWhole lines → IsRead remaining task first now (record { claim = claim; atoms = atoms; potentials = potentials_in beginning; lines = lines_with marks sets })
+        by_certificate : AreWhole lines → IsRead remaining task first now certificate
         by_certificate (c, keeps, are) = record {
           text = text_of lines;
           consumed = over.consumed;
@@ -114,11 +128,16 @@ module _ {R : Type 0} (remaining : R → Option (List ℕ)) (task : Task) (first
           is_text = record {
             said = c;
             text = record { within = keeps; lines = ap text_of (sym are) };
+            version = sym (told.one_version c.version (subst (λ lines. Contains lines (version c.version)) are (version_stands c)));
             claim = sym (told.one_claim c.claim (subst (λ lines. Contains lines (claims c.claim)) are (claim_stands c)));
             atoms = subst (λ (said : List WeightedAtom). AllName task (map (λ a. a.atom) said) atoms) (ap atoms_told (sym are) ∙ atoms_of_text c) told.named;
             potentials =
-                let constant_is = told.one_constant c.constant (subst (λ lines. Contains lines (constant c.constant)) are (constant_stands c)) in
-                let weights_are = told.weighed ∙ ap (map (λ (a : WeightedAtom). a.weight)) (ap atoms_told (sym are) ∙ atoms_of_text c) in
+                let constant_is = told.one_constant c.constants (subst (λ lines. Contains lines (constant c.constants)) are (constant_stands c)) in
+                let weights_are = told.weighed ∙ ap (map (λ (a : WeightedAtom). a.weights.of_value)) (ap atoms_told (sym are) ∙ atoms_of_text c) in
+                λ i. record { constant = constant_is i; weights = weights_are i };
+            dead_ends =
+                let constant_is = told.one_dead_end_constant c.constants (subst (λ lines. Contains lines (constant c.constants)) are (constant_stands c)) in
+                let weights_are = told.dead_ends_weighed ∙ ap (map (λ (a : WeightedAtom). of_dead_end_or_zero a.weights)) (ap atoms_told (sym are) ∙ atoms_of_text c) in
                 λ i. record { constant = constant_is i; weights = weights_are i };
             lines = sym (states_are ∙ ap states_told (sym are) ∙ states_of_text c);
           };
@@ -127,7 +146,7 @@ module _ {R : Type 0} (remaining : R → Option (List ℕ)) (task : Task) (first
           right = told.right;
           fluent = told.fluent;
           distinct = told.distinct;
-          allowed = λ is_none. subst (All (λ (l : StateLine). l.cut ≡ None)) (sym states_are) (have.allowed is_none);
+          allowed = λ is_none. subst (All (λ (l : StateLine). ¬ IsCut l.mark)) (sym states_are) (have.allowed is_none);
         }
 
     -- what comes behind a line that was taken
@@ -151,8 +170,8 @@ module _ {R : Type 0} (remaining : R → Option (List ℕ)) (task : Task) (first
       fewer_left None over = omega (arith, at.read.count, over.read.count, few_read remaining first now (before ++ line ∷ []) at)
 
 -- there is a mark for each set
-pub as_many_listed : {R : Type 0} (remaining : R → Option (List ℕ)) (task : Task) (first now : CertReader R) (beginning : Beginning) (width : ℕ) (marks : List Mark)
-    (sets : List (List Bool)) → IsListedSoFar remaining task first now beginning width (map mark_of marks) sets None → length marks ≡ length sets
+pub as_many_listed : {R : Type 0} (remaining : R → Option (List ℕ)) (task : Task) (first now : CertReader R) (beginning : Beginning) (width : ℕ) (marks : List Listed)
+    (sets : List (List Bool)) → IsListedSoFar remaining task first now beginning width (map listed_of marks) sets None → length marks ≡ length sets
 as_many_listed remaining task first now beginning width marks sets (lines, over, told, have) =
-    sym (length-map marks mark_of) ∙ ap length have.marks_are ∙ length-map (states_told lines) marked
+    sym (length-map marks listed_of) ∙ ap length have.marks_are ∙ length-map (states_told lines) marked
     ∙ sym (length-map (states_told lines) (λ (l : StateLine). set_of width l.atoms)) ∙ sym (ap length have.sets_are)

@@ -1,7 +1,7 @@
 -- What is told of a certificate is the first thing that is wrong: nothing before it is.
-use Rattle.std.proofs.Common.{◌≡◌, ◌≢◌, ℕ, ◌<◌, ◌⊎◌, ◌&&◌, true, List, length, Option, None, Some, inl, inr, refl, sym, ap, ◌∙◌, subst, arith}
+use Rattle.std.proofs.Common.{◌≡◌, ◌≢◌, ℕ, ◌+◌, ◌<◌, ◌≤◌, ◌⊎◌, ◌&&◌, true, List, length, Option, None, Some, inl, inr, refl, sym, ap, ◌∙◌, subst, arith}
 use Rattle.std.specs.Prelude.{IsSome, IsTrue, AllPairs, slice_get}
-use Rattle.std.proofs.lemmas.Bool.{cases_eq}
+use Rattle.std.proofs.lemmas.Bool.{cases_eq, false≢true}
 use Rattle.std.proofs.lemmas.Option.{slice_get_within, get_or_from_slice_get}
 use Rattle.std.proofs.lemmas.List.Elements.{All-contains}
 use Rattle.model.specs.Task.{Atom, Task, Instance}
@@ -12,14 +12,16 @@ use Rattle.model.specs.ClosedOff.{kept_instances}
 use Rattle.model.specs.NumberedAtoms.{numbered_atoms}
 use Rattle.model.specs.Limits.{max_numbered_atoms}
 use Rattle.model.specs.Grounding.{limit_told}
-use Rattle.model.specs.Claims.{none, Allows, Line, IsListedWithin}
+use Rattle.model.specs.Claims.{none, Allows, opened, cut, Line, IsListedWithin}
 use Rattle.model.specs.Fluents.{is_fluent}
 use Rattle.certificate_definitions.specs.Certificates.{Certificate, lines_of, IsClosedFor}
-use Rattle.certificate_definitions.specs.CertificateRefusals.{Reason, not_fluent, repeated, no_initial, unfair, unfair_goal, goal_open, successor_missing, successor_dearer, cut_weak, cut_not_allowed, plan_invalid, plan_dearer, limit, IsWrongLine, IsWrong, IsFirst, stage_of, rank_of, state_line}
-use Rattle.potential_functions.specs.Fair.{IsFairAt, AreFair}
-use Rattle.potentials.specs.Fairness.{AreInstancesFair}
+use Rattle.certificate_definitions.specs.CertificateRefusals.{Reason, not_fluent, repeated, no_initial, unfair, unfair_goal, goal_open, successor_missing, successor_dearer, cut_weak, cut_not_allowed, plan_invalid, plan_dearer, limit, dead_unfair, dead_unfair_goal, not_dead, IsWrongLine, IsWrong, IsFirst, stage_of, rank_of, state_line}
+use Rattle.potential_functions.specs.PotentialFunctions.{PotentialFunction}
+use Rattle.potential_functions.specs.Fair.{nothing, IsFairAt, IsFairAtGoals}
+use Rattle.potentials.specs.Fairness.{AreInstancesFair, AreInstancesFairAt, AreInstancesDeadFair}
 use Rattle.cert_checker.specs.FluentAtoms.{AreFluent}
-use Rattle.cert_checker.specs.CheckedLines.{CutsAreAllowed, IsLineClosed, IsRightUpTo}
+use Rattle.cert_checker.specs.CheckedLines.{AreFairFor, CutsAreAllowed, IsLineClosed, IsRightUpTo}
+use Rattle.cert_checker.specs.CertChecker.{IsUnfairAt}
 use Rattle.certificate_definitions.proofs.CertificateRefusalsLemmas.{apart, right_line}
 
 -- ---- what is known of a beginning of the certificate
@@ -32,7 +34,7 @@ pub record AtomsAreRight (task : Task) (c : Certificate) (count : ℕ) : Type 0 
 -- of the first so many state lines no two list one state, and none is cut where no cut is allowed
 pub record StatesAreRight (task : Task) (c : Certificate) (count : ℕ) : Type 0 where
   pub distinct : (i j : ℕ) (k l : Line State) → i < j → j < count → slice_get (lines_of task c) i ≡ Some k → slice_get (lines_of task c) j ≡ Some l → k.state ≡ l.state → ⊥
-  pub allowed : (place : ℕ) (l : Line State) (rest : ℕ) → place < count → slice_get (lines_of task c) place ≡ Some l → l.cut ≡ Some rest → c.claim ≡ none → ⊥
+  pub allowed : (place : ℕ) (l : Line State) (rest : ℕ) → place < count → slice_get (lines_of task c) place ≡ Some l → l.mark ≡ cut rest → c.claim ≡ none → ⊥
 
 pub atoms_right : (task : Task) (c : Certificate) → AreFluent task c.atoms → AtomsAreRight task c (length c.atoms)
 atoms_right task c right = record {
@@ -46,6 +48,29 @@ pub states_right_all : (task : Task) (c : Certificate) → AllPairs (λ (k l : L
 states_right_all task c pairs allowed = record {
   distinct = λ i j k l lt within at_i at_j same. apart (λ (x y : Line State). x.state ≢ y.state) (lines_of task c) i j k l pairs lt at_i at_j same;
   allowed = allowed;
+}
+
+-- the first so many things that are asked of the potential functions are so
+pub record AreFairUpTo (task : Task) (c : Certificate) (count : ℕ) : Type 0 where
+  pub instances : 0 < count → AreInstancesFair task (numbered_atoms task c.atoms) c.potentials
+  pub goals : 1 < count → IsFairAtGoals task (numbered_atoms task c.atoms) c.potentials
+  pub dead_instances : 2 < count → AreInstancesDeadFair task (numbered_atoms task c.atoms) c.dead_ends
+  pub dead_goals : 3 < count → IsFairAtGoals task (numbered_atoms task c.atoms) c.dead_ends
+
+fair_so_far : (task : Task) (c : Certificate) (most count : ℕ) → AreFairUpTo task c most → count ≤ most → AreFairUpTo task c count
+fair_so_far task c most count fair few = record {
+  instances = λ below. fair.instances (omega arith);
+  goals = λ below. fair.goals (omega arith);
+  dead_instances = λ below. fair.dead_instances (omega arith);
+  dead_goals = λ below. fair.dead_goals (omega arith);
+}
+
+fair_wholly : (task : Task) (c : Certificate) (count : ℕ) → AreFairFor task c → AreFairUpTo task c count
+fair_wholly task c count both = record {
+  instances = λ below. both.fair.instances;
+  goals = λ below. both.fair.goals;
+  dead_instances = λ below. both.dead_fair.instances;
+  dead_goals = λ below. both.dead_fair.goals;
 }
 
 none_told : {X : Type 0} (o : Option X) → o ≡ None → IsSome o → ⊥
@@ -70,8 +95,8 @@ module _ (task : Task) (c : Certificate) where
       atoms.distinct j k a (omega arith) (slice_get_within c.atoms k a at_k) at_j at_k
   states_right count line repeated atoms right reach stage (inr (other, l, before, earlier, (j, told_j, at_j), (k, told_k, at_k), same)) =
       right.distinct j k other l (omega arith) (reach k told_k (slice_get_within (lines_of task c) k l at_k)) at_j at_k same
-  states_right count line cut_not_allowed atoms right reach stage (l, rest, (k, told, at), cut, claim) =
-      right.allowed k l rest (reach k told (slice_get_within (lines_of task c) k l at)) at cut claim
+  states_right count line cut_not_allowed atoms right reach stage (l, rest, (k, told, at), is_cut, claim) =
+      right.allowed k l rest (reach k told (slice_get_within (lines_of task c) k l at)) at is_cut claim
   states_right count line no_initial atoms right reach stage wrong = wrong
   states_right count line goal_open atoms right reach stage wrong = absurd (omega arith)
   states_right count line successor_missing atoms right reach stage wrong = absurd (omega arith)
@@ -82,6 +107,9 @@ module _ (task : Task) (c : Certificate) where
   states_right count line limit atoms right reach stage wrong = wrong
   states_right count line unfair atoms right reach stage wrong = wrong
   states_right count line unfair_goal atoms right reach stage wrong = wrong
+  states_right count line dead_unfair atoms right reach stage wrong = wrong
+  states_right count line dead_unfair_goal atoms right reach stage wrong = wrong
+  states_right count line not_dead atoms right reach stage wrong = absurd (omega arith)
 
   -- what is looked for in reading is wrong with a line alone
   of_line : (plan : Option (List Instance)) (most : ℕ) (r : Reason) → stage_of r ≡ 0 → IsWrong task c plan most r → ⊥
@@ -98,6 +126,9 @@ module _ (task : Task) (c : Certificate) where
   of_line plan most limit stage wrong = absurd (omega arith)
   of_line plan most unfair stage wrong = absurd (omega arith)
   of_line plan most unfair_goal stage wrong = absurd (omega arith)
+  of_line plan most dead_unfair stage wrong = absurd (omega arith)
+  of_line plan most dead_unfair_goal stage wrong = absurd (omega arith)
+  of_line plan most not_dead stage wrong = wrong
 
   -- ---- after reading
 
@@ -126,6 +157,9 @@ module _ (task : Task) (c : Certificate) where
   in_limit plan most plan_dearer l within stage wrong = absurd (omega arith)
   in_limit plan most unfair l within stage wrong = absurd (omega arith)
   in_limit plan most unfair_goal l within stage wrong = absurd (omega arith)
+  in_limit plan most dead_unfair l within stage wrong = absurd (omega arith)
+  in_limit plan most dead_unfair_goal l within stage wrong = absurd (omega arith)
+  in_limit plan most not_dead l within stage wrong = absurd (omega arith)
 
   before_fair : (plan : Option (List Instance)) (most : ℕ) (r : Reason) (l : ℕ) → AtomsAreRight task c (length c.atoms) → StatesAreRight task c (length (lines_of task c)) → limit_told most max_numbered_atoms task c.atoms ≡ None
       → stage_of r < 2 → IsWrongLine task c r l ⊎ IsWrong task c plan most r → ⊥
@@ -135,43 +169,20 @@ module _ (task : Task) (c : Certificate) where
         | inr later ↦ in_limit plan most r l within (omega arith) wrong
       ]
 
-  pub first_unfair : (plan : Option (List Instance)) (most : ℕ) → AtomsAreRight task c (length c.atoms) → StatesAreRight task c (length (lines_of task c)) → limit_told most max_numbered_atoms task c.atoms ≡ None
-      → IsFirst task c plan most unfair 0
-  first_unfair plan most atoms states within r l (inl before) wrong = before_fair plan most r l atoms states within before wrong
-  first_unfair plan most atoms states within r l (inr (same, inl before)) wrong = omega arith
-  first_unfair plan most atoms states within r l (inr (same, inr (there, rank))) wrong = omega arith
+  all_fair : (allowance : Instance → ℕ) (p : PotentialFunction) → AreInstancesFairAt allowance task (numbered_atoms task c.atoms) p → (i : Instance) × IsUnfairAt allowance task c p i → ⊥
+  all_fair allowance p fair (i, kept, wrong) =
+      wrong (All-contains (λ (i : Instance). IsFairAt (allowance i) task (numbered_atoms task c.atoms) p.weights i) (kept_instances task) i fair kept)
 
-  all_fair : (plan : Option (List Instance)) (most : ℕ) → AreInstancesFair task (numbered_atoms task c.atoms) c.potentials → IsWrong task c plan most unfair → ⊥
-  all_fair plan most fair (i, kept, wrong) =
-      wrong (All-contains (λ (i : Instance). IsFairAt (cost_of task i) task (numbered_atoms task c.atoms) c.potentials.weights i) (kept_instances task) i fair kept)
-
-  pub first_unfair_goal : (plan : Option (List Instance)) (most : ℕ) → AtomsAreRight task c (length c.atoms) → StatesAreRight task c (length (lines_of task c)) → limit_told most max_numbered_atoms task c.atoms ≡ None
-      → AreInstancesFair task (numbered_atoms task c.atoms) c.potentials → IsFirst task c plan most unfair_goal 0
-  first_unfair_goal plan most atoms states within fair r l (inl before) wrong = before_fair plan most r l atoms states within before wrong
-  first_unfair_goal plan most atoms states within fair r l (inr (same, inl before)) wrong = omega arith
-  first_unfair_goal plan most atoms states within fair r l (inr (same, inr (there, rank))) wrong = before_goal r same rank wrong
-    where
-      before_goal : (r : Reason) → stage_of r ≡ 2 → rank_of r < 1 → IsWrongLine task c r l ⊎ IsWrong task c plan most r → ⊥
-      before_goal unfair stage rank (inl wrong) = wrong
-      before_goal unfair stage rank (inr wrong) = all_fair plan most fair wrong
-      before_goal unfair_goal stage rank wrong = omega arith
-      before_goal not_fluent stage rank wrong = absurd (omega arith)
-      before_goal repeated stage rank wrong = absurd (omega arith)
-      before_goal cut_not_allowed stage rank wrong = absurd (omega arith)
-      before_goal limit stage rank wrong = absurd (omega arith)
-      before_goal no_initial stage rank wrong = absurd (omega arith)
-      before_goal goal_open stage rank wrong = absurd (omega arith)
-      before_goal successor_missing stage rank wrong = absurd (omega arith)
-      before_goal successor_dearer stage rank wrong = absurd (omega arith)
-      before_goal cut_weak stage rank wrong = absurd (omega arith)
-      before_goal plan_invalid stage rank wrong = absurd (omega arith)
-      before_goal plan_dearer stage rank wrong = absurd (omega arith)
-
-  in_fair : (plan : Option (List Instance)) (most : ℕ) (r : Reason) (l : ℕ) → AreFair task (numbered_atoms task c.atoms) c.potentials → stage_of r ≡ 2 → IsWrongLine task c r l ⊎ IsWrong task c plan most r → ⊥
+  -- nothing is wrong of what is asked of the potential functions so far
+  in_fair : (plan : Option (List Instance)) (most : ℕ) (r : Reason) (l : ℕ) → AreFairUpTo task c (rank_of r + 1) → stage_of r ≡ 2 → IsWrongLine task c r l ⊎ IsWrong task c plan most r → ⊥
   in_fair plan most unfair l fair stage (inl wrong) = wrong
-  in_fair plan most unfair l fair stage (inr wrong) = all_fair plan most fair.instances wrong
+  in_fair plan most unfair l fair stage (inr wrong) = all_fair (cost_of task) c.potentials (fair.instances (omega arith)) wrong
   in_fair plan most unfair_goal l fair stage (inl wrong) = wrong
-  in_fair plan most unfair_goal l fair stage (inr wrong) = wrong fair.goals
+  in_fair plan most unfair_goal l fair stage (inr wrong) = wrong (fair.goals (omega arith))
+  in_fair plan most dead_unfair l fair stage (inl wrong) = wrong
+  in_fair plan most dead_unfair l fair stage (inr wrong) = all_fair nothing c.dead_ends (fair.dead_instances (omega arith)) wrong
+  in_fair plan most dead_unfair_goal l fair stage (inl wrong) = wrong
+  in_fair plan most dead_unfair_goal l fair stage (inr wrong) = wrong (fair.dead_goals (omega arith))
   in_fair plan most not_fluent l fair stage wrong = absurd (omega arith)
   in_fair plan most repeated l fair stage wrong = absurd (omega arith)
   in_fair plan most cut_not_allowed l fair stage wrong = absurd (omega arith)
@@ -181,19 +192,28 @@ module _ (task : Task) (c : Certificate) where
   in_fair plan most successor_missing l fair stage wrong = absurd (omega arith)
   in_fair plan most successor_dearer l fair stage wrong = absurd (omega arith)
   in_fair plan most cut_weak l fair stage wrong = absurd (omega arith)
+  in_fair plan most not_dead l fair stage wrong = absurd (omega arith)
   in_fair plan most plan_invalid l fair stage wrong = absurd (omega arith)
   in_fair plan most plan_dearer l fair stage wrong = absurd (omega arith)
 
+  -- what is asked of them is told first where all that is asked before is so
+  pub first_asked : (reason : Reason) (plan : Option (List Instance)) (most : ℕ) → stage_of reason ≡ 2 → AtomsAreRight task c (length c.atoms) → StatesAreRight task c (length (lines_of task c))
+      → limit_told most max_numbered_atoms task c.atoms ≡ None → AreFairUpTo task c (rank_of reason) → IsFirst task c plan most reason 0
+  first_asked reason plan most stage atoms states within fair r l (inl before) wrong = before_fair plan most r l atoms states within (omega (arith, before, stage)) wrong
+  first_asked reason plan most stage atoms states within fair r l (inr (same, inl before)) wrong = omega arith
+  first_asked reason plan most stage atoms states within fair r l (inr (same, inr (there, rank))) wrong =
+      in_fair plan most r l (fair_so_far task c (rank_of reason) (rank_of r + 1) fair (omega (arith, rank))) (same ∙ stage) wrong
+
   before_initial : (plan : Option (List Instance)) (most : ℕ) (r : Reason) (l : ℕ) → AtomsAreRight task c (length c.atoms) → StatesAreRight task c (length (lines_of task c)) → limit_told most max_numbered_atoms task c.atoms ≡ None
-      → AreFair task (numbered_atoms task c.atoms) c.potentials → stage_of r < 3 → IsWrongLine task c r l ⊎ IsWrong task c plan most r → ⊥
+      → AreFairFor task c → stage_of r < 3 → IsWrongLine task c r l ⊎ IsWrong task c plan most r → ⊥
   before_initial plan most r l atoms states within fair stage wrong =
       elim (cases_eq (stage_of r) 2) [
-        | inl unfair_told ↦ in_fair plan most r l fair unfair_told wrong
+        | inl unfair_told ↦ in_fair plan most r l (fair_wholly task c (rank_of r + 1) fair) unfair_told wrong
         | inr earlier ↦ before_fair plan most r l atoms states within (omega arith) wrong
       ]
 
   pub first_initial : (plan : Option (List Instance)) (most : ℕ) → AtomsAreRight task c (length c.atoms) → StatesAreRight task c (length (lines_of task c)) → limit_told most max_numbered_atoms task c.atoms ≡ None
-      → AreFair task (numbered_atoms task c.atoms) c.potentials → IsFirst task c plan most no_initial 0
+      → AreFairFor task c → IsFirst task c plan most no_initial 0
   first_initial plan most atoms states within fair r l (inl before) wrong = before_initial plan most r l atoms states within fair before wrong
   first_initial plan most atoms states within fair r l (inr (same, inl before)) wrong = omega arith
   first_initial plan most atoms states within fair r l (inr (same, inr (there, rank))) wrong = omega arith
@@ -207,6 +227,9 @@ module _ (task : Task) (c : Certificate) where
   in_initial plan most limit l listed stage wrong = absurd (omega arith)
   in_initial plan most unfair l listed stage wrong = absurd (omega arith)
   in_initial plan most unfair_goal l listed stage wrong = absurd (omega arith)
+  in_initial plan most dead_unfair l listed stage wrong = absurd (omega arith)
+  in_initial plan most dead_unfair_goal l listed stage wrong = absurd (omega arith)
+  in_initial plan most not_dead l listed stage wrong = absurd (omega arith)
   in_initial plan most goal_open l listed stage wrong = absurd (omega arith)
   in_initial plan most successor_missing l listed stage wrong = absurd (omega arith)
   in_initial plan most successor_dearer l listed stage wrong = absurd (omega arith)
@@ -231,10 +254,10 @@ module _ (task : Task) (c : Certificate) where
       missing (listed.0, listed.1, listed.2)
   line_right successor_dearer line place lt right stage (l, i, next, ((k, told, at), is_open, leads), is_listed, dearer) =
       dearer (((right k l (omega arith) at).is_open is_open).successors_listed i next leads)
-  line_right cut_weak line place lt right stage (l, rest, (k, told, at), cut, inl more) =
-      let allowed = (right k l (omega arith) at).is_cut rest cut in
+  line_right cut_weak line place lt right stage (l, rest, (k, told, at), is_cut, inl more) =
+      let allowed = (right k l (omega arith) at).is_cut rest is_cut in
       omega (arith, allowed.0)
-  line_right cut_weak line place lt right stage (l, rest, (k, told, at), cut, inr denied) = denied ((right k l (omega arith) at).is_cut rest cut).1
+  line_right cut_weak line place lt right stage (l, rest, (k, told, at), is_cut, inr denied) = denied ((right k l (omega arith) at).is_cut rest is_cut).1
   line_right not_fluent line place lt right stage wrong = absurd (omega arith)
   line_right repeated line place lt right stage wrong = absurd (omega arith)
   line_right cut_not_allowed line place lt right stage wrong = absurd (omega arith)
@@ -242,6 +265,9 @@ module _ (task : Task) (c : Certificate) where
   line_right limit line place lt right stage wrong = wrong
   line_right unfair line place lt right stage wrong = wrong
   line_right unfair_goal line place lt right stage wrong = wrong
+  line_right dead_unfair line place lt right stage wrong = wrong
+  line_right dead_unfair_goal line place lt right stage wrong = wrong
+  line_right not_dead line place lt right stage (l, (k, told, at), is_dead, alive) = false≢true (sym alive ∙ (right k l (omega arith) at).is_dead is_dead)
   line_right plan_invalid line place lt right stage wrong = wrong
   line_right plan_dearer line place lt right stage wrong = wrong
 
@@ -257,6 +283,9 @@ module _ (task : Task) (c : Certificate) where
   of_state_line plan most limit stage wrong = absurd (omega arith)
   of_state_line plan most unfair stage wrong = absurd (omega arith)
   of_state_line plan most unfair_goal stage wrong = absurd (omega arith)
+  of_state_line plan most dead_unfair stage wrong = absurd (omega arith)
+  of_state_line plan most dead_unfair_goal stage wrong = absurd (omega arith)
+  of_state_line plan most not_dead stage wrong = wrong
   of_state_line plan most plan_invalid stage wrong = absurd (omega arith)
   of_state_line plan most plan_dearer stage wrong = absurd (omega arith)
 
@@ -269,16 +298,21 @@ module _ (task : Task) (c : Certificate) where
   first_in_line plan most place reason right stage here r l (inr (same, inr (there, rank))) (inr wrong) = of_state_line plan most r (same ∙ stage) wrong
 
   -- of an open state whose goal is as it is to be
-  pub open_here : (place : ℕ) (l : Line State) → slice_get (lines_of task c) place ≡ Some l → l.cut ≡ None → (IsTrue ((system_of task).meets_goal l.state) → Allows c.claim l.cost)
+  pub open_here : (place : ℕ) (l : Line State) → slice_get (lines_of task c) place ≡ Some l → l.mark ≡ opened → (IsTrue ((system_of task).meets_goal l.state) → Allows c.claim l.cost)
       → (r : Reason) → stage_of r ≡ 4 → rank_of r < 1 → IsWrongLine task c r (state_line c place) → ⊥
-  open_here place l here is_open allowed goal_open stage rank (other, (k, told, at), cut, goal, denied) =
+  open_here place l here is_open allowed goal_open stage rank (other, (k, told, at), is_opened, goal, denied) =
       let there : k ≡ place = omega arith in
       let same = the_line place k other l there at here in
       denied (subst (λ (a : Line State). Allows c.claim a.cost) (sym same) (allowed (subst (λ (a : Line State). IsTrue ((system_of task).meets_goal a.state)) same goal)))
-  open_here place l here is_open allowed cut_weak stage rank (other, rest, (k, told, at), cut, wrong) =
+  open_here place l here is_open allowed cut_weak stage rank (other, rest, (k, told, at), is_cut, wrong) =
       let there : k ≡ place = omega arith in
       let same = the_line place k other l there at here in
-      let none_cut = ap (λ (a : Line State). a.cut) same in
+      let none_cut = ap (λ (a : Line State). a.mark) same in
+      absurd (cc)
+  open_here place l here is_open allowed not_dead stage rank (other, (k, told, at), is_dead, alive) =
+      let there : k ≡ place = omega arith in
+      let same = the_line place k other l there at here in
+      let none_dead = ap (λ (a : Line State). a.mark) same in
       absurd (cc)
   open_here place l here is_open allowed successor_missing stage rank wrong = omega arith
   open_here place l here is_open allowed successor_dearer stage rank wrong = omega arith
@@ -289,6 +323,8 @@ module _ (task : Task) (c : Certificate) where
   open_here place l here is_open allowed limit stage rank wrong = wrong
   open_here place l here is_open allowed unfair stage rank wrong = wrong
   open_here place l here is_open allowed unfair_goal stage rank wrong = wrong
+  open_here place l here is_open allowed dead_unfair stage rank wrong = wrong
+  open_here place l here is_open allowed dead_unfair_goal stage rank wrong = wrong
   open_here place l here is_open allowed plan_invalid stage rank wrong = wrong
   open_here place l here is_open allowed plan_dearer stage rank wrong = wrong
 
@@ -298,8 +334,10 @@ module _ (task : Task) (c : Certificate) where
   before_plan plan most r l closed within stage (inl wrong) = right_line task c closed r l wrong
   before_plan plan most limit l closed within stage (inr wrong) = none_told (limit_told most max_numbered_atoms task c.atoms) within wrong
   before_plan plan most no_initial l closed within stage (inr wrong) = wrong closed.listing_is_closed.initial_listed
-  before_plan plan most unfair l closed within stage (inr wrong) = all_fair plan most closed.potentials_are_fair.instances wrong
+  before_plan plan most unfair l closed within stage (inr wrong) = all_fair (cost_of task) c.potentials closed.potentials_are_fair.instances wrong
   before_plan plan most unfair_goal l closed within stage (inr wrong) = wrong closed.potentials_are_fair.goals
+  before_plan plan most dead_unfair l closed within stage (inr wrong) = all_fair nothing c.dead_ends closed.dead_ends_are_fair.instances wrong
+  before_plan plan most dead_unfair_goal l closed within stage (inr wrong) = wrong closed.dead_ends_are_fair.goals
   before_plan plan most plan_invalid l closed within stage (inr wrong) = omega arith
   before_plan plan most plan_dearer l closed within stage (inr wrong) = omega arith
   before_plan plan most not_fluent l closed within stage (inr wrong) = wrong
@@ -309,6 +347,7 @@ module _ (task : Task) (c : Certificate) where
   before_plan plan most successor_missing l closed within stage (inr wrong) = wrong
   before_plan plan most successor_dearer l closed within stage (inr wrong) = wrong
   before_plan plan most cut_weak l closed within stage (inr wrong) = wrong
+  before_plan plan most not_dead l closed within stage (inr wrong) = wrong
 
   pub first_invalid : (plan : Option (List Instance)) (most : ℕ) → IsClosedFor task c → limit_told most max_numbered_atoms task c.atoms ≡ None → IsFirst task c plan most plan_invalid 0
   first_invalid plan most closed within r l (inl before) wrong = before_plan plan most r l closed within before wrong
@@ -335,3 +374,6 @@ module _ (task : Task) (c : Certificate) where
       solving limit stage rank wrong = absurd (omega arith)
       solving unfair stage rank wrong = absurd (omega arith)
       solving unfair_goal stage rank wrong = absurd (omega arith)
+      solving dead_unfair stage rank wrong = absurd (omega arith)
+      solving dead_unfair_goal stage rank wrong = absurd (omega arith)
+      solving not_dead stage rank wrong = absurd (omega arith)

@@ -2,7 +2,6 @@
 use Rattle.std.proofs.Common.{◌≡◌, ◌∙◌, ℕ, append-nil, zero, suc, ◌+◌, ◌<◌, ◌≤◌, Bool, true, false, ◌&&◌, ◌||◌, inl, inr, List, [], ◌∷◌, ◌++◌, length, get_or, Some, refl, sym, ap, arith, true≢false}
 use Rattle.std.specs.Prelude.{IsTrue, All, Contains, if◌then◌else◌, nat_le, nat_lt, slice_get}
 use Rattle.std.specs.List.{filter_map}
-use Rattle.std.specs.Option.{option_map_or}
 use Rattle.std.specs.Ordering.{eq_by_cmp}
 use Rattle.std.specs.FinSet.{contains-from_list}
 use Rattle.std.specs.Cmp.{both_ways}
@@ -19,7 +18,7 @@ use Rattle.model.specs.Task.{Atom, Task}
 use Rattle.model.specs.WellTyped.{is_atom}
 use Rattle.model.specs.Meaning.{atom_cmp}
 use Rattle.model.specs.Fluents.{is_fluent, static_atoms}
-use Rattle.certificate_definitions.specs.Certificates.{Certificate, StateLine, state_of_line, is_number, is_state_line, rise}
+use Rattle.certificate_definitions.specs.Certificates.{Version, Certificate, StateLine, state_of_line, is_mark, is_number, is_state_line, rise}
 use Rattle.model.specs.NumberedAtoms.{stands_in, are_distinct}
 use Rattle.model.specs.Grounding.{chosen, state_of_bits, bits_of_state}
 use Rattle.model.proofs.Atoms.{atoms_total, same_state, stands_in-append}
@@ -160,5 +159,5 @@ module _ (task : Task) (c : Certificate) where
 
 -- ---- the numbers of a certificate's lines
 
-pub names_atoms : (count : ℕ) (l : StateLine) → is_state_line count l ≡ true → (k : ℕ) → Contains l.atoms k → k < count
-names_atoms count l is = rise-within count 0 l.atoms (and_parts (is_number l.cost && option_map_or is_number l.cut true) (rise count 0 l.atoms) is).1
+pub names_atoms : (v : Version) (count : ℕ) (l : StateLine) → is_state_line v count l ≡ true → (k : ℕ) → Contains l.atoms k → k < count
+names_atoms v count l is = rise-within count 0 l.atoms (and_parts (is_number l.cost && is_mark v l.mark) (rise count 0 l.atoms) is).1

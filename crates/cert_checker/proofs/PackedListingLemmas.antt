@@ -13,17 +13,17 @@ use Rattle.cert_checker.specs.FluentAtoms.{AreFluent}
 use Rattle.cert_checker.specs.CheckedLines.{HasCost, Stands, IsListedAt}
 use Rattle.cert_checker.specs.PackedLines.{packed_line, HoldsLines, IsPackedListing, NamesAtoms}
 use Rattle.cert_checker.proofs.CertCheckerLemmas.{entry, got_mapped, lines_within_limits, slice_get-map}
-use Rattle.cert_checker.proofs.WeightsLemmas.{alike, one_for_each, value-numbered}
+use Rattle.cert_checker.proofs.WeightsLemmas.{alike, value-numbered}
 use Rattle.cert_checker.specs.Weights.{HasItsWeights}
-use Rattle.potential_functions.specs.PotentialFunctions.{PotentialFunction, value}
+use Rattle.potential_functions.specs.PotentialFunctions.{PotentialFunction, value, value_of_state}
 use Rattle.cert_checker.proofs.GroundSuccessors.{leads_by, leads_by-successors}
 use Rattle.cert_checker.proofs.RefusalsLemmas.{AreApart}
 use Rattle.cert_checker.proofs.PackedLinesLemmas.{all_fluent, length-set_of, names_atoms, one_set, state_packed}
 use Rattle.model.specs.Task.{Atom, Task}
 use Rattle.model.specs.Meaning.{State, initial_state}
 use Rattle.model.specs.Instances.{successors_of}
-use Rattle.model.specs.Claims.{Line}
-use Rattle.certificate_definitions.specs.Certificates.{Certificate, StateLine, is_state_line, keeps_limits, state_of_line, lines_of, value_of}
+use Rattle.model.specs.Claims.{Mark, Line}
+use Rattle.certificate_definitions.specs.Certificates.{Certificate, StateLine, is_state_line, keeps_limits, state_of_line, lines_of}
 use Rattle.certificate_definitions.specs.CertificateRefusals.{IsListed}
 use Rattle.model.specs.NumberedAtoms.{numbered_atoms, HasNumberedFluents}
 use Rattle.model.specs.Grounding.{state_of_bits, bits_of_state, applicable_numbers, PacksStates}
@@ -63,7 +63,7 @@ names_its_atoms : (c : Certificate) → keeps_limits c ≡ true → (l : StateLi
 names_its_atoms c keeps l among =
     let all = lines_within_limits c keeps in
     let (place, at) = Contains-place c.lines l among in
-    names_atoms (length c.atoms) l (passes_got (is_state_line (length c.atoms)) c.lines place l at all)
+    names_atoms c.version (length c.atoms) l (passes_got (is_state_line c.version (length c.atoms)) c.lines place l at all)
 
 pub holds_lines : (listing : Listing) (width : ℕ) → pooled_width (store_in listing) ≡ width → HoldsLines (certificate_in listing) width (store_in listing)
 holds_lines listing width wide = record {
@@ -94,20 +94,20 @@ module _ (task : Task) (atoms : List Atom) (c : Certificate) (store : PooledStor
       let first = first_numbered task atoms c listed.fluent listed.numbered in
       subst (λ those. state_of_bits task those (packed_line (length those) l) ≡ state_of_line task c l) (sym first.1) (state_packed task c first.0 l (listed.holds.named l at))
 
-  pub stands_there : (place : ℕ) (bits : List Bool) → slice_get (pooled_states store) place ≡ Some bits → (cost : ℕ) (cut : Option ℕ) → HasCost c place cost cut
-      → Stands task c place (state_of_bits task atoms bits) cost cut
-  stands_there place bits at cost cut (l, at_l, cost_is, cut_is) =
+  pub stands_there : (place : ℕ) (bits : List Bool) → slice_get (pooled_states store) place ≡ Some bits → (cost : ℕ) (mark : Mark) → HasCost c place cost mark
+      → Stands task c place (state_of_bits task atoms bits) cost mark
+  stands_there place bits at cost mark (l, at_l, cost_is, mark_is) =
       let there = set_there c (length atoms) store listed.holds place l at_l in
       let set : packed_line (length atoms) l ≡ bits = cc in
       let same : state_of_line task c l ≡ state_of_bits task atoms bits = sym (line_state l (Contains-got c.lines place l at_l)) ∙ ap (state_of_bits task atoms) set in
-      slice_get-map (entry task c) c.lines place l at_l ∙ (λ i. Some (record { state = same i; cost = cost_is i; cut = cut_is i }))
+      slice_get-map (entry task c) c.lines place l at_l ∙ (λ i. Some (record { state = same i; cost = cost_is i; mark = mark_is i }))
 
   -- a state that is found is listed at the cost of its line
-  pub found_at : (place : ℕ) (bits : List Bool) (cost : ℕ) (cut : Option ℕ) → slice_get (pooled_states store) place ≡ Some bits → HasCost c place cost cut
+  pub found_at : (place : ℕ) (bits : List Bool) (cost : ℕ) (mark : Mark) → slice_get (pooled_states store) place ≡ Some bits → HasCost c place cost mark
       → IsListedAt (lines_of task c) (state_of_bits task atoms bits) cost
-  found_at place bits cost cut at has =
-      let stands = stands_there place bits at cost cut has in
-      (record { state = state_of_bits task atoms bits; cost = cost; cut = cut }, Contains-got (lines_of task c) place _ stands, refl, refl)
+  found_at place bits cost mark at has =
+      let stands = stands_there place bits at cost mark has in
+      (record { state = state_of_bits task atoms bits; cost = cost; mark = mark }, Contains-got (lines_of task c) place _ stands, refl, refl)
 
   -- and one that is not found is not listed
   pub not_listed : (bits : List Bool) → length bits ≡ length atoms → ¬ Contains (pooled_states store) bits → ¬ IsListed (lines_of task c) (state_of_bits task atoms bits)
@@ -142,10 +142,10 @@ module _ (task : Task) (atoms : List Atom) (c : Certificate) (store : PooledStor
   -- ---- the value
 
   -- the packed state has the value of the state that it stands for
-  pub value_there : (p : PotentialFunction) (bits : List Bool) → HasItsWeights c (length atoms) p → keeps_limits c ≡ true → length bits ≡ length atoms
-      → value p bits ≡ value_of c (state_of_bits task atoms bits)
-  value_there p bits has keeps long =
+  pub value_there : (said p : PotentialFunction) (bits : List Bool) → HasItsWeights said (length atoms) p → length said.weights ≡ length c.atoms → length bits ≡ length atoms
+      → value p bits ≡ value_of_state c.atoms said (state_of_bits task atoms bits)
+  value_there said p bits has weighed long =
       let first = first_numbered task atoms c listed.fluent listed.numbered in
       let state = state_of_bits task atoms bits in
       ap (value p) (sym (packs.one_packed bits long))
-      ∙ value-numbered p c.potentials (alike c (length atoms) p has) atoms c.atoms first.0 state first.1 (omega (arith, one_for_each c keeps))
+      ∙ value-numbered p said (alike said (length atoms) p has) atoms c.atoms first.0 state first.1 (omega (arith, weighed))

@@ -6,15 +6,14 @@ use Rattle.std.proofs.lemmas.Bool.{and_parts, eqb-true, leb-true, ltb-true}
 use Rattle.std.proofs.lemmas.List.Elements.{filter_map-append}
 use Rattle.model.specs.Task.{Atom, Task}
 use Rattle.model.specs.Claims.{Claim}
-use Rattle.certificate_definitions.specs.Certificates.{StateLine, is_number, rise}
-use Rattle.std.specs.Option.{option_map_or}
-use Rattle.potential_functions.specs.PotentialFunctions.{PotentialFunction}
+use Rattle.certificate_definitions.specs.Certificates.{Version, StateLine, is_mark, is_number, rise}
+use Rattle.certificate_definitions.specs.CertificateChecking.{IsCut}
 use Rattle.certificate_definitions.specs.CertificateText.{NamedAtom, WeightedAtom, NamedCertificate, TextLine, version, claims, constant, atom, listed, last, is_line, most_atoms, most_states, text_lines, AreWhole, BeginCertificate}
 use Rattle.certificate_definitions.specs.CertificateNames.{AllName}
 use Rattle.certificate_definitions.specs.CertificateMachine.{Place, at_version, at_claim, at_constant, in_body, ended, next_place}
 use Rattle.certificate_definitions.proofs.Machine.{StandsBefore, never, only_where, place_of_beginning, place_same, stands}
 use Rattle.certificate_reader.proofs.FaultsRead.{one_line_behind}
-use Rattle.cert_checker.specs.Told.{HaveTold, atom_in, atoms_told, is_body, state_in, states_told}
+use Rattle.cert_checker.specs.Told.{Heading, HaveTold, atom_in, atoms_told, is_body, state_in, states_told}
 use Rattle.certificate_reader.specs.declared.line.CertLine.{CertLine}
 use Rattle.certificate_reader.specs.declared.line.CertLine.TheVariants as code
 use Rattle.certificate_reader.specs.declared.line.StateLine.{StateLine as StateLine_}
@@ -67,18 +66,18 @@ fit_there before line begun sets = let at = placed before line begun in by_line 
   where
     by_line : (line : TextLine) (place : Place) → StandsBefore place before → (next : Place) → next_place place line ≡ Some next → length sets ≡ length (states_told before)
         → IsFit (length (atoms_told before)) sets line
-    by_line version place stands next leads count = tt
+    by_line (version v) place stands next leads count = tt
     by_line (claims claim) place stands next leads count = tt
     by_line (constant k) place stands next leads count = tt
     by_line (atom a) place stands next leads count = tt
     by_line (last n) place stands next leads count = tt
     by_line (listed l) at_version stands next leads count = never next leads
-    by_line (listed l) at_claim stands next leads count = never next leads
-    by_line (listed l) at_constant stands next leads count = never next leads
+    by_line (listed l) (at_claim v) stands next leads count = never next leads
+    by_line (listed l) (at_constant v) stands next leads count = never next leads
     by_line (listed l) ended stands next leads count = never next leads
-    by_line (listed l) (in_body n m) body next leads count =
-        let (below, is) = and_parts (nat_lt m most_states) (is_line n (listed l)) (only_where (nat_lt m most_states && is_line n (listed l)) (in_body n (m + 1)) next leads).0 in
-        let rising : rise n 0 l.atoms ≡ true = (and_parts (is_number l.cost && option_map_or is_number l.cut true) (rise n 0 l.atoms) is).1 in
+    by_line (listed l) (in_body v n m) body next leads count =
+        let (below, is) = and_parts (nat_lt m most_states) (is_line v n (listed l)) (only_where (nat_lt m most_states && is_line v n (listed l)) (in_body v n (m + 1)) next leads).0 in
+        let rising : rise n 0 l.atoms ≡ true = (and_parts (is_number l.cost && is_mark v l.mark) (rise n 0 l.atoms) is).1 in
         let atoms : n ≡ length (atoms_told before) = sym (ap (λ lines. length (atoms_told lines)) body.lines_are ∙ ap length (atoms_of_body body.atoms body.states) ∙ body.atom_count_is) in
         let states : length (states_told before) ≡ m = ap (λ lines. length (states_told lines)) body.lines_are ∙ ap length (states_of_body body.atoms body.states) ∙ body.state_count_is in
         (subst (λ n. rise n 0 l.atoms ≡ true) atoms rising, omega (arith, count, states, ltb-true m most_states below))
@@ -91,19 +90,19 @@ body_follows before line next begun body =
     let same : second.place ≡ first.next = place_same second.place first.next (sym second.at ∙ one_line_behind before first.place first.next line first.at first.leads) in
     by_line line first.place first.next first.leads body next second.next (subst (λ place. next_place place next ≡ Some second.next) same second.leads)
   where
-    behind_state : (n m : ℕ) (next : TextLine) (after : Place) → next_place (in_body n (m + 1)) next ≡ Some after → is_body next ≡ true
-    behind_state n m version after leads = never after leads
-    behind_state n m (claims claim) after leads = never after leads
-    behind_state n m (constant k) after leads = never after leads
-    behind_state n m (atom a) after leads =
-        let holds = (only_where (((m + 1) == 0) && nat_lt n most_atoms && is_line n (atom a)) (in_body (n + 1) (m + 1)) after leads).0 in
-        let none = (and_parts ((m + 1) == 0) (nat_lt n most_atoms) (and_parts (((m + 1) == 0) && nat_lt n most_atoms) (is_line n (atom a)) holds).0).0 in
+    behind_state : (v : Version) (n m : ℕ) (next : TextLine) (after : Place) → next_place (in_body v n (m + 1)) next ≡ Some after → is_body next ≡ true
+    behind_state v n m (version w) after leads = never after leads
+    behind_state v n m (claims claim) after leads = never after leads
+    behind_state v n m (constant k) after leads = never after leads
+    behind_state v n m (atom a) after leads =
+        let holds = (only_where (((m + 1) == 0) && nat_lt n most_atoms && is_line v n (atom a)) (in_body v (n + 1) (m + 1)) after leads).0 in
+        let none = (and_parts ((m + 1) == 0) (nat_lt n most_atoms) (and_parts (((m + 1) == 0) && nat_lt n most_atoms) (is_line v n (atom a)) holds).0).0 in
         absurd (omega (arith, eqb-true (m + 1) 0 none))
-    behind_state n m (listed l) after leads = refl
-    behind_state n m (last count) after leads = refl
+    behind_state v n m (listed l) after leads = refl
+    behind_state v n m (last count) after leads = refl
 
     behind_last : (next : TextLine) (after : Place) → next_place ended next ≡ Some after → is_body next ≡ true
-    behind_last version after leads = never after leads
+    behind_last (version v) after leads = never after leads
     behind_last (claims claim) after leads = never after leads
     behind_last (constant k) after leads = never after leads
     behind_last (atom a) after leads = never after leads
@@ -111,41 +110,41 @@ body_follows before line next begun body =
     behind_last (last count) after leads = never after leads
 
     by_line : (line : TextLine) (place then : Place) → next_place place line ≡ Some then → is_body line ≡ true → (next : TextLine) (after : Place) → next_place then next ≡ Some after → is_body next ≡ true
-    by_line version place then leads body next after leads_on = absurd (true≢false (sym body))
+    by_line (version v) place then leads body next after leads_on = absurd (true≢false (sym body))
     by_line (claims claim) place then leads body next after leads_on = absurd (true≢false (sym body))
     by_line (constant k) place then leads body next after leads_on = absurd (true≢false (sym body))
     by_line (atom a) place then leads body next after leads_on = absurd (true≢false (sym body))
     by_line (listed l) at_version then leads body next after leads_on = never then leads
-    by_line (listed l) at_claim then leads body next after leads_on = never then leads
-    by_line (listed l) at_constant then leads body next after leads_on = never then leads
-    by_line (listed l) (in_body n m) then leads body next after leads_on =
-        let same = (only_where (nat_lt m most_states && is_line n (listed l)) (in_body n (m + 1)) then leads).1 in
-        behind_state n m next after (subst (λ place. next_place place next ≡ Some after) (sym same) leads_on)
+    by_line (listed l) (at_claim v) then leads body next after leads_on = never then leads
+    by_line (listed l) (at_constant v) then leads body next after leads_on = never then leads
+    by_line (listed l) (in_body v n m) then leads body next after leads_on =
+        let same = (only_where (nat_lt m most_states && is_line v n (listed l)) (in_body v n (m + 1)) then leads).1 in
+        behind_state v n m next after (subst (λ place. next_place place next ≡ Some after) (sym same) leads_on)
     by_line (listed l) ended then leads body next after leads_on = never then leads
     by_line (last count) at_version then leads body next after leads_on = never then leads
-    by_line (last count) at_claim then leads body next after leads_on = never then leads
-    by_line (last count) at_constant then leads body next after leads_on = never then leads
-    by_line (last count) (in_body n m) then leads body next after leads_on =
+    by_line (last count) (at_claim v) then leads body next after leads_on = never then leads
+    by_line (last count) (at_constant v) then leads body next after leads_on = never then leads
+    by_line (last count) (in_body v n m) then leads body next after leads_on =
         let same = (only_where (count == m) ended then leads).1 in
         behind_last next after (subst (λ place. next_place place next ≡ Some after) (sym same) leads_on)
     by_line (last count) ended then leads body next after leads_on = never then leads
 
 -- a line of the body that lists no state tells nothing
-pub last_tells : (task : Task) (before : List TextLine) (claim : Claim) (atoms : List Atom) (potentials : PotentialFunction) (width : ℕ) (marks : List Marked) (sets : List (List Bool)) (line : CertLine)
-    → ((l : StateLine_) → line ≡ code.Listed l → ⊥) → is_body (text_line_of line) ≡ true → HaveTold task before claim atoms potentials → HaveListed before claim width marks sets
-    → HaveTold task (before ++ text_line_of line ∷ []) claim atoms potentials × HaveListed (before ++ text_line_of line ∷ []) claim width marks sets
-last_tells task before claim atoms potentials width marks sets code.Head other body told have = absurd (true≢false (sym body))
-last_tells task before claim atoms potentials width marks sets (code.Claim c) other body told have = absurd (true≢false (sym body))
-last_tells task before claim atoms potentials width marks sets (code.Constant k) other body told have = absurd (true≢false (sym body))
-last_tells task before claim atoms potentials width marks sets (code.Weight weight a) other body told have = absurd (true≢false (sym body))
-last_tells task before claim atoms potentials width marks sets (code.Listed l) other body told have = absurd (other l refl)
-last_tells task before claim atoms potentials width marks sets (code.Last n) other body told have =
+pub last_tells : (task : Task) (before : List TextLine) (heading : Heading) (claim : Claim) (width : ℕ) (marks : List Marked) (sets : List (List Bool)) (line : CertLine)
+    → ((l : StateLine_) → line ≡ code.Listed l → ⊥) → is_body (text_line_of line) ≡ true → HaveTold task before heading → HaveListed before claim width marks sets
+    → HaveTold task (before ++ text_line_of line ∷ []) heading × HaveListed (before ++ text_line_of line ∷ []) claim width marks sets
+last_tells task before heading claim width marks sets (code.Version v) other body told have = absurd (true≢false (sym body))
+last_tells task before heading claim width marks sets (code.Claim c) other body told have = absurd (true≢false (sym body))
+last_tells task before heading claim width marks sets (code.Constants k) other body told have = absurd (true≢false (sym body))
+last_tells task before heading claim width marks sets (code.Weight weights a) other body told have = absurd (true≢false (sym body))
+last_tells task before heading claim width marks sets (code.Listed l) other body told have = absurd (other l refl)
+last_tells task before heading claim width marks sets (code.Last n) other body told have =
     let same : states_told (before ++ last n ∷ []) ≡ states_told before = states_same before (last n) refl in (
-      told_last task before claim atoms potentials told n,
+      told_last task before heading told n,
       record {
         rising = subst (λ states. list_all (λ (l : StateLine). rise width 0 l.atoms) states ≡ true) (sym same) have.rising;
         marks_are = have.marks_are ∙ ap (map marked) (sym same);
-        allowed = λ is_none. subst (All (λ (l : StateLine). l.cut ≡ None)) (sym same) (have.allowed is_none);
+        allowed = λ is_none. subst (All (λ (l : StateLine). ¬ IsCut l.mark)) (sym same) (have.allowed is_none);
         sets_are = have.sets_are ∙ ap (map (λ (l : StateLine). set_of width l.atoms)) (sym same);
       },
     )
@@ -156,16 +155,16 @@ few_atoms_told lines begun = let (place, leads) = place_of_beginning lines begun
   where
     whole_atoms : AreWhole lines → length (atoms_told lines) ≤ most_atoms
     whole_atoms (c, keeps, are) =
-        let (counts, each) = and_parts (nat_le (length c.atoms) most_atoms && nat_le (length c.lines) most_states) (list_all (is_line (length c.atoms)) (text_lines c)) keeps in
+        let (counts, each) = and_parts (nat_le (length c.atoms) most_atoms && nat_le (length c.lines) most_states) (list_all (is_line c.version (length c.atoms)) (text_lines c)) keeps in
         let few = leb-true (length c.atoms) most_atoms (and_parts (nat_le (length c.atoms) most_atoms) (nat_le (length c.lines) most_states) counts).0 in
         let atoms : length (atoms_told lines) ≡ length c.atoms = ap (λ lines. length (atoms_told lines)) (sym are) ∙ ap length (atoms_of_text c) in
         omega (arith, atoms, few)
 
     by_place : (place : Place) → StandsBefore place lines → length (atoms_told lines) ≤ most_atoms
     by_place at_version are = omega (arith, ap (λ lines. length (atoms_told lines)) are)
-    by_place at_claim are = omega (arith, ap (λ lines. length (atoms_told lines)) are)
-    by_place at_constant (claim, is, are) = omega (arith, ap (λ lines. length (atoms_told lines)) are)
-    by_place (in_body n m) body =
+    by_place (at_claim v) are = omega (arith, ap (λ lines. length (atoms_told lines)) are)
+    by_place (at_constant v) (claim, is, are) = omega (arith, ap (λ lines. length (atoms_told lines)) are)
+    by_place (in_body v n m) body =
         let atoms : length (atoms_told lines) ≡ n = ap (λ lines. length (atoms_told lines)) body.lines_are ∙ ap length (atoms_of_body body.atoms body.states) ∙ body.atom_count_is in
         omega (arith, atoms, body.few_atoms)
     by_place ended whole = whole_atoms whole

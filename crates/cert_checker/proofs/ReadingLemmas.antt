@@ -18,7 +18,7 @@ use Rattle.certificate_reader.proofs.ReaderLemmas.{few_lines}
 use Rattle.cert_checker.specs.declared.refusal.Refusal.{Refusal}
 use Rattle.cert_checker.specs.declared.refusal.Refusal.TheVariants as refusal
 use Rattle.cert_checker.specs.declared.refusal.RefusalCode.{RefusalCode}
-use Rattle.cert_checker.specs.declared.refusal.RefusalCode.TheVariants.{CertForm, CertVersion, Truncated as CutShort, NotFluent, Repeated, NoInitial, Unfair, UnfairGoal, GoalOpen, SuccessorMissing, SuccessorDearer, CutWeak, CutNotAllowed, PlanInvalid, PlanDearer, Limit as Exceeded}
+use Rattle.cert_checker.specs.declared.refusal.RefusalCode.TheVariants.{CertForm, CertVersion, Truncated as CutShort, NotFluent, Repeated, NoInitial, Unfair, UnfairGoal, GoalOpen, SuccessorMissing, SuccessorDearer, CutWeak, CutNotAllowed, PlanInvalid, PlanDearer, Limit as Exceeded, DeadUnfair, DeadUnfairGoal, NotDead}
 use Rattle.cert_checker.specs.RefusalCode.{number_of}
 use Rattle.cert_checker.proofs.ToldLemmas.{begin_front}
 use Rattle.cert_checker.specs.CertFaults.{refusal_of}
@@ -160,10 +160,14 @@ module _ {R : Type 0} (remaining : R → Option (List ℕ)) (first now : CertRea
   wrong_here PlanInvalid wrong = (at.bytes, at.consumed, line_fault_here 53 wrong)
   wrong_here PlanDearer wrong = (at.bytes, at.consumed, line_fault_here 54 wrong)
   wrong_here Exceeded wrong = (at.bytes, at.consumed, line_fault_here 55 wrong)
+  wrong_here DeadUnfair wrong = (at.bytes, at.consumed, line_fault_here 56 wrong)
+  wrong_here DeadUnfairGoal wrong = (at.bytes, at.consumed, line_fault_here 57 wrong)
+  wrong_here NotDead wrong = (at.bytes, at.consumed, line_fault_here 58 wrong)
 
   pub wrong_told : (r : Refusal) → IsWrongNow task before line r → IsLineRefusal remaining task first now r
   wrong_told (refusal.Line code number) (number_is, wrong) = subst (IsToldAt remaining task first now code) (sym number_is) (wrong_here code wrong)
   wrong_told (refusal.Unfair i) wrong = absurd wrong
+  wrong_told (refusal.DeadUnfair i) wrong = absurd wrong
   wrong_told (refusal.Plain code) wrong = absurd wrong
   wrong_told refusal.NoMemory wrong = tt
   wrong_told refusal.Device wrong = absurd wrong
@@ -173,6 +177,7 @@ module _ {R : Type 0} (remaining : R → Option (List ℕ)) (first now : CertRea
 counts_none : (T : Type 0) (task : Task) (before : List TextLine) (line : TextLine) (failed now : ℕ) (x : Refusal) → IsWrongNow task before line x → now ≡ failed → CountsRefusal {T = T} failed now (Err x)
 counts_none T task before line failed now (refusal.Line code number) wrong same = same
 counts_none T task before line failed now (refusal.Unfair i) wrong same = absurd wrong
+counts_none T task before line failed now (refusal.DeadUnfair i) wrong same = absurd wrong
 counts_none T task before line failed now (refusal.Plain code) wrong same = absurd wrong
 counts_none T task before line failed now refusal.NoMemory wrong same = same
 counts_none T task before line failed now refusal.Device wrong same = absurd wrong

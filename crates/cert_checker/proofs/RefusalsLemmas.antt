@@ -6,8 +6,9 @@ use Rattle.std.proofs.lemmas.Bool.{cases_order, eq-eqb, false≢true}
 use Rattle.cert_checker.specs.declared.refusal.Refusal.{Refusal}
 use Rattle.cert_checker.specs.declared.refusal.Refusal.TheVariants as refusal
 use Rattle.cert_checker.specs.declared.refusal.RefusalCode.{RefusalCode}
-use Rattle.certificate.specs.declared.listing_parts.Mark.{Mark}
-use Rattle.certificate.specs.ListingParts.{mark_of}
+use Rattle.certificate.specs.declared.listing_parts.Listed.{Listed}
+use Rattle.certificate_reader.specs.Lines.{mark_of}
+use Rattle.certificate.specs.ListingParts.{listed_of}
 use Rattle.certificate.specs.ListedSets.{Marked, marked}
 use Rattle.std.proofs.lemmas.List.{length-map}
 use Rattle.cert_checker.specs.Reasons.{reason_of}
@@ -16,9 +17,9 @@ use Rattle.cert_checker.proofs.CertCheckerLemmas.{got_mapped, slice_get-map}
 use Rattle.model.specs.Task.{Task, Instance}
 use Rattle.model.specs.Meaning.{State, step, meets_goal, system_of}
 use Rattle.model.specs.Instances.{successors_of}
-use Rattle.model.specs.Claims.{Claim, Allows, Line, IsListedWithin}
-use Rattle.certificate_definitions.specs.Certificates.{Certificate, lines_of, value_of}
-use Rattle.certificate_definitions.specs.CertificateRefusals.{goal_open, successor_missing, successor_dearer, cut_weak, IsWrongLine, IsListed, state_line}
+use Rattle.model.specs.Claims.{Claim, Allows, opened, cut, dead, Line, IsListedWithin}
+use Rattle.certificate_definitions.specs.Certificates.{Certificate, is_dead_end_of, lines_of, value_of}
+use Rattle.certificate_definitions.specs.CertificateRefusals.{goal_open, successor_missing, successor_dearer, cut_weak, not_dead, IsWrongLine, IsListed, state_line}
 use Rattle.model.proofs.ListLemmas.{Contains-place, Contains-map}
 use Rattle.model.proofs.InstancesLemmas.{successors-Contains}
 use Rattle.certificate_definitions.proofs.CertificateRefusalsLemmas.{apart}
@@ -31,15 +32,16 @@ told task c r code line is wrong = subst (IsTrueAnyway task c) (sym is) (λ plan
 
 -- ---- a line of the certificate, and its state
 
--- the mark at a line's place has its cost and its cut
-pub has_cost : (c : Certificate) (marks : List Mark) (place : ℕ) (mark : Mark) → map mark_of marks ≡ map marked c.lines → slice_get marks place ≡ Some mark → HasCost c place mark.cost mark.cut
-has_cost c marks place mark same at =
-    let there : slice_get (map marked c.lines) place ≡ Some (mark_of mark) = subst (λ those. slice_get those place ≡ Some (mark_of mark)) same (slice_get-map mark_of marks place mark at) in
-    let (l, at_l, is) = got_mapped marked c.lines place (mark_of mark) there in
-    (l, at_l, ap (λ (m : Marked). m.cost) is, ap (λ (m : Marked). m.cut) is)
+-- what is listed at a line's place has its cost and its mark
+pub has_cost : (c : Certificate) (marks : List Listed) (place : ℕ) (listed : Listed) → map listed_of marks ≡ map marked c.lines → slice_get marks place ≡ Some listed
+    → HasCost c place listed.cost (mark_of listed.mark)
+has_cost c marks place listed same at =
+    let there : slice_get (map marked c.lines) place ≡ Some (listed_of listed) = subst (λ those. slice_get those place ≡ Some (listed_of listed)) same (slice_get-map listed_of marks place listed at) in
+    let (l, at_l, is) = got_mapped marked c.lines place (listed_of listed) there in
+    (l, at_l, ap (λ (m : Marked). m.cost) is, ap (λ (m : Marked). m.mark) is)
 
-pub as_many_marks : (c : Certificate) (marks : List Mark) → map mark_of marks ≡ map marked c.lines → length marks ≡ length c.lines
-as_many_marks c marks same = sym (length-map marks mark_of) ∙ ap length same ∙ length-map c.lines marked
+pub as_many_marks : (c : Certificate) (marks : List Listed) → map listed_of marks ≡ map marked c.lines → length marks ≡ length c.lines
+as_many_marks c marks same = sym (length-map marks listed_of) ∙ ap length same ∙ length-map c.lines marked
 
 -- ---- distinct states are listed once
 
@@ -76,9 +78,9 @@ not_listed_at_none lines s t (Some cost) pairs listed is same within =
 
 -- ---- open states
 
-pub wrong_goal : (task : Task) (c : Certificate) (place : ℕ) (s : State) (cost : ℕ) → Stands task c place s cost None → IsTrue (meets_goal task s) → ¬ Allows c.claim cost
+pub wrong_goal : (task : Task) (c : Certificate) (place : ℕ) (s : State) (cost : ℕ) → Stands task c place s cost opened → IsTrue (meets_goal task s) → ¬ Allows c.claim cost
     → IsWrongLine task c goal_open (state_line c place)
-wrong_goal task c place s cost there goal denied = (record { state = s; cost = cost; cut = None }, (place, refl, there), refl, goal, denied)
+wrong_goal task c place s cost there goal denied = (record { state = s; cost = cost; mark = opened }, (place, refl, there), refl, goal, denied)
 
 -- each successor that is gone through is one that an instance leads to
 pub leads_there : {X : Type 0} (task : Task) (s : State) (view : X → Instance × State) (xs : List X) (k : ℕ) (x : X) → k < length xs → x ≡ get_or xs k x
@@ -86,10 +88,10 @@ pub leads_there : {X : Type 0} (task : Task) (s : State) (view : X → Instance 
 leads_there task s view xs k x lt at is =
     successors-Contains task s (view x).0 (view x).1 (subst (λ l. Contains {X = Instance × State} l (view x)) is (Contains-map view xs x (k, lt, sym at)))
 
-pub wrong_missing : (task : Task) (c : Certificate) (place : ℕ) (s : State) (cost : ℕ) (i : Instance) (next : State) → Stands task c place s cost None → step task s i ≡ Some next
+pub wrong_missing : (task : Task) (c : Certificate) (place : ℕ) (s : State) (cost : ℕ) (i : Instance) (next : State) → Stands task c place s cost opened → step task s i ≡ Some next
     → ¬ IsListed (lines_of task c) next → IsWrongLine task c successor_missing (state_line c place)
 wrong_missing task c place s cost i next there leads missing =
-    (record { state = s; cost = cost; cut = None }, i, next, ((place, refl, there), refl, leads), missing)
+    (record { state = s; cost = cost; mark = opened }, i, next, ((place, refl, there), refl, leads), missing)
 
 pub listed_somewhere : (lines : List (Line State)) (s : State) (listed : ℕ) → IsListedAt lines s listed → IsListed lines s
 listed_somewhere lines s listed at = (at.0, at.1, at.2)
@@ -99,10 +101,10 @@ pub not_within : (task : Task) (c : Certificate) (s : State) (listed most : ℕ)
 not_within task c s listed most apart at dearer within = omega (arith, one_cost (lines_of task c) s listed most apart at within)
 
 pub wrong_dearer : (task : Task) (c : Certificate) (place : ℕ) (s : State) (cost : ℕ) (i : Instance) (next : State) (listed : ℕ) → AreApart task c
-    → Stands task c place s cost None → step task s i ≡ Some next → IsListedAt (lines_of task c) next listed → cost + (system_of task).cost i < listed
+    → Stands task c place s cost opened → step task s i ≡ Some next → IsListedAt (lines_of task c) next listed → cost + (system_of task).cost i < listed
     → IsWrongLine task c successor_dearer (state_line c place)
 wrong_dearer task c place s cost i next listed apart there leads at dearer = (
-  record { state = s; cost = cost; cut = None },
+  record { state = s; cost = cost; mark = opened },
   i,
   next,
   ((place, refl, there), refl, leads),
@@ -112,9 +114,14 @@ wrong_dearer task c place s cost i next listed apart there leads at dearer = (
 
 -- ---- cuts
 
-pub wrong_cut : (task : Task) (c : Certificate) (place : ℕ) (s : State) (cost rest : ℕ) → Stands task c place s cost (Some rest) → (value_of c s < rest) ⊎ ¬ Allows c.claim (cost + rest)
+pub wrong_cut : (task : Task) (c : Certificate) (place : ℕ) (s : State) (cost rest : ℕ) → Stands task c place s cost (cut rest) → (value_of c s < rest) ⊎ ¬ Allows c.claim (cost + rest)
     → IsWrongLine task c cut_weak (state_line c place)
-wrong_cut task c place s cost rest there wrong = (record { state = s; cost = cost; cut = Some rest }, rest, (place, refl, there), refl, wrong)
+wrong_cut task c place s cost rest there wrong = (record { state = s; cost = cost; mark = cut rest }, rest, (place, refl, there), refl, wrong)
+
+-- ---- dead ends
+
+pub wrong_dead : (task : Task) (c : Certificate) (place : ℕ) (s : State) (cost : ℕ) → Stands task c place s cost dead → is_dead_end_of c s ≡ false → IsWrongLine task c not_dead (state_line c place)
+wrong_dead task c place s cost there alive = (record { state = s; cost = cost; mark = dead }, (place, refl, there), refl, alive)
 
 pub not_allowed : (claim whole : Claim) (cost : ℕ) (b : Bool) → claim ≡ whole → IsTrue b ↔ Allows claim cost → b ≡ false → ¬ Allows whole cost
 not_allowed claim whole cost b same iff fails allowed = false≢true (sym fails ∙ iff.1 (subst (λ k. Allows k cost) (sym same) allowed))

@@ -1,25 +1,27 @@
 -- A list of actions that runs stays on open states of a closed listing, to its end or until it comes to a cut.
-use Rattle.std.proofs.Common.{◌≡◌, ℕ, zero, suc, ◌+◌, ◌<◌, ◌≤◌, List, [], ◌∷◌, length, take, drop, get_or, Option, None, Some, refl, sym, ap, ◌∙◌, subst, arith}
-use Rattle.std.specs.Prelude.{All, Contains, IsTrue}
+use Rattle.std.proofs.Common.{◌≡◌, ℕ, zero, suc, ◌+◌, ◌<◌, ◌≤◌, List, [], ◌∷◌, ◌++◌, length, take, drop, get_or, Option, None, Some, refl, sym, ap, ◌∙◌, subst, arith}
+use Rattle.std.specs.Prelude.{All, Bool, Contains, IsTrue, nat_le}
 use Rattle.std.specs.Option.{option_and_then}
-use Rattle.std.proofs.lemmas.Bool.{and_parts}
+use Rattle.std.proofs.lemmas.Bool.{and_parts, false≢true}
 use Rattle.std.proofs.lemmas.Option.{same_Some}
 use Rattle.std.proofs.lemmas.List.Elements.{All-contains_itself}
 use Rattle.std.proofs.lemmas.List.Sums.{sum_by-cons}
-use Rattle.model.specs.Runs.{System, run, cost_of_all, Solves}
+use Rattle.model.specs.Runs.{System, run, cost_of_all, IsReachable, Solves}
 use Rattle.model.specs.Task.{Atom, Task, Instance}
 use Rattle.model.specs.WellTyped.{is_atom}
-use Rattle.model.specs.Meaning.{system_of}
+use Rattle.model.specs.Meaning.{State, system_of}
+use Rattle.model.specs.Grounding.{bits_of_state}
 use Rattle.model.specs.Fluents.{is_fluent}
 use Rattle.model.specs.NumberedAtoms.{numbered_atoms}
-use Rattle.model.specs.Claims.{Claim, Line, IsClosed, ClaimHolds, IsLowerBound}
-use Rattle.certificate_definitions.specs.Certificates.{Certificate, lines_of, value_of, IsClosedFor}
-use Rattle.model.proofs.ClaimsLemmas.{claim-of_closed}
+use Rattle.model.specs.Claims.{Claim, opened, cut, dead, Line, IsClosed, ClaimHolds, IsLowerBound, AreDeadEnds}
+use Rattle.certificate_definitions.specs.Certificates.{Certificate, is_dead_end_of, lines_of, value_of, IsClosedFor}
+use Rattle.model.proofs.ClaimsLemmas.{claim-of_closed, reachable_next}
 use Rattle.model.proofs.GroundTaskLemmas.{are_numbered, numbered-distinct, numbered-fluent}
 use Rattle.model.proofs.NumberingLemmas.{distinct-from_pairs, Contains-stands_in}
 use Rattle.model.proofs.StaticLemmas.{contains-reachable}
+use Rattle.potential_functions.specs.PotentialFunctions.{PotentialFunction, value, value_of_state}
 use Rattle.potential_functions.specs.Laws.{AreNumberable}
-use Rattle.potential_functions.proofs.LowerBound.{fair_ones_are_lower_bounds}
+use Rattle.potential_functions.proofs.LowerBound.{dead_fair_ones_tell_dead_ends, fair_ones_are_lower_bounds}
 use Rattle.cert_checker.proofs.WeightsLemmas.{alike_itself, value-numbered}
 use Rattle.cert_checker.specs.OnListing.{IsOpenWithin, IsOnCut, StaysListed, to_its_end, to_a_cut}
 
@@ -29,7 +31,7 @@ module _ {S A : Type 0} (t : System S A) (lines : List (Line S)) where
 
   -- the state is listed as a cut at no more than this cost
   abbrev IsListedCut : S → ℕ → Type 0
-  IsListedCut s cost = (line : Line S) × Contains lines line × (line.state ≡ s) × (line.cost ≤ cost) × (rest : ℕ) × (line.cut ≡ Some rest)
+  IsListedCut s cost = (line : Line S) × Contains lines line × (line.state ≡ s) × (line.cost ≤ cost) × (rest : ℕ) × (line.mark ≡ cut rest)
 
   cut_at_more : (s : S) (m n : ℕ) → IsListedCut s m → m ≤ n → IsListedCut s n
   cut_at_more s m n at le = (at.0, at.1, at.2, omega (arith, at.3), at.4, at.5)
@@ -78,69 +80,78 @@ module _ {S A : Type 0} (t : System S A) (lines : List (Line S)) where
         each_one : (n : ℕ) → n ≤ length (a ∷ plan) → OpenFrom from cost (a ∷ plan) n
         each_one zero within = (from, refl, open_at_more from cost _ here (omega arith))
         each_one (suc n) within = open_before n (each n (omega arith))
-    stays_before here (open_to m within each cut) = open_to (suc m) (omega arith) each_one (cut_before m cut)
+    stays_before here (open_to m within each at_last) = open_to (suc m) (omega arith) each_one (cut_before m at_last)
       where
         each_one : (k : ℕ) → k < suc m → OpenFrom from cost (a ∷ plan) k
         each_one zero below = (from, refl, open_at_more from cost _ here (omega arith))
         each_one (suc k) below = open_before k (each k (omega arith))
 
-module _ {S A : Type 0} (t : System S A) (value : S → ℕ) (claim : Claim) (lines : List (Line S)) (closed : IsClosed t value claim lines) where
-  at_cut : (plan : List A) (line : Line S) (rest : ℕ) → Contains lines line → line.cut ≡ Some rest → StaysFrom t lines line.state line.cost plan
-  at_cut plan line rest listed cut = open_to 0 (omega arith) (λ k below. absurd (omega arith)) (line.state, refl, (line, listed, refl, omega arith, rest, cut))
+module _ {S A : Type 0} (t : System S A) (value : S → ℕ) (is_dead : S → Bool) (claim : Claim) (lines : List (Line S)) (dead_ends : AreDeadEnds t is_dead)
+    (closed : IsClosed t value is_dead claim lines) where
+  at_cut : (plan : List A) (line : Line S) (rest : ℕ) → Contains lines line → line.mark ≡ cut rest → StaysFrom t lines line.state line.cost plan
+  at_cut plan line rest listed is_cut = open_to 0 (omega arith) (λ k below. absurd (omega arith)) (line.state, refl, (line, listed, refl, omega arith, rest, is_cut))
 
-  at_end : (line : Line S) → Contains lines line → line.cut ≡ None → StaysFrom t lines line.state line.cost []
+  at_end : (line : Line S) → Contains lines line → line.mark ≡ opened → StaysFrom t lines line.state line.cost []
   at_end line listed is_open = all_open each
     where
       each : (n : ℕ) → n ≤ 0 → OpenFrom t lines line.state line.cost [] n
       each zero within = (line.state, refl, (line, listed, refl, omega arith, is_open))
       each (suc n) within = absurd (omega arith)
 
+  -- no list that solves meets a state that is listed as a dead end
+  at_dead : (plan : List A) (line : Line S) (end : S) → Contains lines line → line.mark ≡ dead → IsReachable t line.state → run t line.state plan ≡ Some end → IsTrue (t.meets_goal end) → ⊥
+  at_dead plan line end listed marked reached runs goal = false≢true (sym (dead_ends line.state end plan reached (closed.dead_are_dead line listed marked) runs) ∙ goal)
+
   -- from a listed state on
-  from_line : (plan : List A) (line : Line S) (end : S) → Contains lines line → run t line.state plan ≡ Some end → StaysFrom t lines line.state line.cost plan
-  from_line [] line end listed runs =
-      elim line.cut as (λ c. line.cut ≡ c → StaysFrom t lines line.state line.cost []) [
-        | None ↦ λ is_open. at_end line listed is_open
-        | Some rest ↦ λ cut. at_cut [] line rest listed cut
+  from_line : (plan : List A) (line : Line S) (end : S) → Contains lines line → IsReachable t line.state → run t line.state plan ≡ Some end → IsTrue (t.meets_goal end)
+      → StaysFrom t lines line.state line.cost plan
+  from_line [] line end listed reached runs goal =
+      elim line.mark as (λ m. line.mark ≡ m → StaysFrom t lines line.state line.cost []) [
+        | opened ↦ λ is_open. at_end line listed is_open
+        | cut rest ↦ λ is_cut. at_cut [] line rest listed is_cut
+        | dead ↦ λ marked. absurd (at_dead [] line end listed marked reached runs goal)
       ] refl
-  from_line (a ∷ plan) line end listed runs =
-      elim line.cut as (λ c. line.cut ≡ c → StaysFrom t lines line.state line.cost (a ∷ plan)) [
-        | None ↦ λ is_open.
+  from_line (a ∷ plan) line end listed reached runs goal =
+      elim line.mark as (λ m. line.mark ≡ m → StaysFrom t lines line.state line.cost (a ∷ plan)) [
+        | opened ↦ λ is_open.
             elim (t.step line.state a) as (λ o. t.step line.state a ≡ o → option_and_then (λ next. run t next plan) o ≡ Some end → StaysFrom t lines line.state line.cost (a ∷ plan)) [
               | None ↦ λ _ none_runs. absurd (cc)
               | Some next ↦ λ leads runs_on.
                   let there = closed.successors_listed line a next listed is_open leads in
-                  let stays = from_line plan there.0 end there.1 (subst (λ (s : S). run t s plan ≡ Some end) (sym there.2) runs_on) in
+                  let stays = from_line plan there.0 end there.1 (subst (IsReachable t) (sym there.2) (reachable_next t line.state next a reached leads))
+                  (subst (λ (s : S). run t s plan ≡ Some end) (sym there.2) runs_on) goal in
                   stays_before t lines a plan line.state next line.cost there.0.cost leads there.3 (line, listed, refl, omega arith, is_open)
                   (subst (λ (s : S). StaysFrom t lines s there.0.cost plan) there.2 stays)
             ] refl runs
-        | Some rest ↦ λ cut. at_cut (a ∷ plan) line rest listed cut
+        | cut rest ↦ λ is_cut. at_cut (a ∷ plan) line rest listed is_cut
+        | dead ↦ λ marked. absurd (at_dead (a ∷ plan) line end listed marked reached runs goal)
       ] refl
 
   -- where a list that solves comes to a cut, the rest of the list costs at least what the cut stands for
   left_to_pay : IsLowerBound t value → (plan : List A) (solves : Solves t plan) (n : ℕ) (s : S) (line : Line S) (rest : ℕ)
-      → run t t.initial (take n plan) ≡ Some s → Contains lines line → line.state ≡ s → line.cut ≡ Some rest → rest ≤ cost_of_all t (drop n plan)
-  left_to_pay lower plan solves n s line rest runs listed is cut =
+      → run t t.initial (take n plan) ≡ Some s → Contains lines line → line.state ≡ s → line.mark ≡ cut rest → rest ≤ cost_of_all t (drop n plan)
+  left_to_pay lower plan solves n s line rest runs listed is is_cut =
       let others = rest_runs t lines plan t.initial s solves.0 n runs solves.1 in
       let least = lower s solves.0 (drop n plan) (take n plan, runs) others solves.2 in
-      omega (arith, (closed.cuts_allowed line rest listed cut).0, ap value is, least)
+      omega (arith, (closed.cuts_allowed line rest listed is_cut).0, ap value is, least)
 
   pub stays_listed : IsLowerBound t value → (plan : List A) → Solves t plan → StaysListed t lines plan
   stays_listed lower plan solves =
       let there = closed.initial_listed in
       by_stay there.3
       (subst (λ (s : S). StaysFrom t lines s there.0.cost plan) there.2
-      (from_line plan there.0 solves.0 there.1 (subst (λ (s : S). run t s plan ≡ Some solves.0) (sym there.2) solves.1)))
+      (from_line plan there.0 solves.0 there.1 (subst (IsReachable t) (sym there.2) ([], refl)) (subst (λ (s : S). run t s plan ≡ Some solves.0) (sym there.2) solves.1) solves.2))
     where
       on_cut : (n : ℕ) → CutFrom t lines t.initial 0 plan n → IsOnCut t lines plan n
-      on_cut n cut =
-          let (s, runs, at) = cut in
+      on_cut n there =
+          let (s, runs, at) = there in
           let (line, listed, is, low, rest, is_cut) = at in
           (s, runs, (line, listed, is, omega (arith, low), rest, is_cut, omega (arith, low, left_to_pay lower plan solves n s line rest runs listed is is_cut)))
 
       by_stay : {cost : ℕ} → cost ≤ 0 → StaysFrom t lines t.initial cost plan → StaysListed t lines plan
       by_stay {cost} low (all_open each) = to_its_end (λ n within. let at = each n within in (at.0, at.1, open_at_more t lines at.0 _ _ at.2 (omega arith)))
-      by_stay {cost} low (open_to m within each cut) =
-          to_a_cut m within (λ k below. let at = each k below in (at.0, at.1, open_at_more t lines at.0 _ _ at.2 (omega arith))) (on_cut m (cut.0, cut.1, cut_at_more t lines cut.0 _ _ cut.2 (omega arith)))
+      by_stay {cost} low (open_to m within each at_last) =
+          to_a_cut m within (λ k below. let at = each k below in (at.0, at.1, open_at_more t lines at.0 _ _ at.2 (omega arith))) (on_cut m (at_last.0, at_last.1, cut_at_more t lines at_last.0 _ _ at_last.2 (omega arith)))
 
 -- ---- a certificate that is closed for a task
 
@@ -156,17 +167,31 @@ module _ (task : Task) (c : Certificate) (closed : IsClosedFor task c) where
         numbered-fluent task c.atoms more_fluent (get_or atoms place d) (Contains-stands_in atoms (get_or atoms place d) (All-contains_itself atoms place d within));
   }
 
+  -- the certificate's atoms are the first of those that have numbers
+  numbered_first : (others : List Atom) × (numbered_atoms task c.atoms ≡ c.atoms ++ others)
+  numbered_first = (are_numbered task c.atoms).more_first (distinct-from_pairs c.atoms closed.atoms_are_distinct)
+
+  -- so a state has the same value where the others have numbers too
+  value_same : (p : PotentialFunction) → length p.weights ≡ length c.atoms → (s : State) → value p (bits_of_state (numbered_atoms task c.atoms) s) ≡ value_of_state c.atoms p s
+  value_same p weighed s = value-numbered p p (alike_itself p) (numbered_atoms task c.atoms) c.atoms numbered_first.0 s numbered_first.1 (omega (arith, weighed))
+
   -- what is still to pay from a reachable state on does not fall short of the value that the certificate gives to it
   pub value_below : IsLowerBound (system_of task) (value_of c)
   value_below s end plan reached runs goal =
-      let atoms = numbered_atoms task c.atoms in
-      let (others, first) = (are_numbered task c.atoms).more_first (distinct-from_pairs c.atoms closed.atoms_are_distinct) in
-      let same = value-numbered c.potentials c.potentials (alike_itself c.potentials) atoms c.atoms others s first (omega (arith, closed.one_weight_an_atom)) in
-      let lower = (fair_ones_are_lower_bounds task atoms c.potentials numberable closed.potentials_are_fair).bound s end plan (λ q static. contains-reachable task s q static reached) runs goal in
-      omega (arith, same, lower)
+      let lower = (fair_ones_are_lower_bounds task (numbered_atoms task c.atoms) c.potentials numberable closed.potentials_are_fair).bound s end plan
+      (λ q static. contains-reachable task s q static reached) runs goal in
+      omega (arith, value_same c.potentials closed.one_weight_an_atom s, lower)
+
+  -- and a reachable state that it tells to be a dead end is one
+  pub tells_dead_ends : AreDeadEnds (system_of task) (is_dead_end_of c)
+  tells_dead_ends s end plan reached told runs =
+      (dead_fair_ones_tell_dead_ends task (numbered_atoms task c.atoms) c.dead_ends numberable closed.dead_ends_are_fair).dead_ends s end plan
+      (λ q static. contains-reachable task s q static reached) (ap (nat_le 1) (value_same c.dead_ends closed.one_dead_end_weight_an_atom s) ∙ told) runs
 
 pub closed_holds : (task : Task) (c : Certificate) → IsClosedFor task c → ClaimHolds (system_of task) c.claim
-closed_holds task c closed = claim-of_closed (system_of task) (value_of c) c.claim (lines_of task c) (value_below task c closed) closed.listing_is_closed
+closed_holds task c closed =
+    claim-of_closed (system_of task) (value_of c) (is_dead_end_of c) c.claim (lines_of task c) (value_below task c closed) (tells_dead_ends task c closed) closed.listing_is_closed
 
 pub solving_stays : (task : Task) (c : Certificate) (plan : List Instance) → IsClosedFor task c → Solves (system_of task) plan → StaysListed (system_of task) (lines_of task c) plan
-solving_stays task c plan closed = stays_listed (system_of task) (value_of c) c.claim (lines_of task c) closed.listing_is_closed (value_below task c closed) plan
+solving_stays task c plan closed =
+    stays_listed (system_of task) (value_of c) (is_dead_end_of c) c.claim (lines_of task c) (tells_dead_ends task c closed) closed.listing_is_closed (value_below task c closed) plan

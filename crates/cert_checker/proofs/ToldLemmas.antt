@@ -1,6 +1,6 @@
 -- What one line more tells.
 use Rattle.std.proofs.Common.{◌≡◌, ◌≢◌, ℕ, ◌⊎◌, inl, inr, ⊎_elim, Bool, true, false, List, [], ◌∷◌, ◌++◌, map, None, Some, refl, sym, ap, ◌∙◌, subst, append_assoc, append-nil, true≢false, arith}
-use Rattle.std.specs.Prelude.{IsTrue, ◌&&◌, Contains, ℤ, pos}
+use Rattle.std.specs.Prelude.{IsTrue, ◌&&◌, Contains, pos}
 use Rattle.std.proofs.lemmas.List.{map-append}
 use Rattle.std.proofs.lemmas.List.Elements.{All-nil, All-push, Contains-push, Contains-push_cases, Contains-append_left, Contains-get_or}
 use Rattle.std.proofs.lemmas.List.Elements.{filter_map-append}
@@ -11,12 +11,13 @@ use Rattle.model.specs.WellTyped.{is_atom}
 use Rattle.model.specs.Fluents.{is_fluent}
 use Rattle.model.specs.Claims.{Claim, bound, none}
 use Rattle.potential_functions.specs.PotentialFunctions.{PotentialFunction}
-use Rattle.certificate_definitions.specs.CertificateText.{NamedAtom, WeightedAtom, TextLine, version, claims, constant, atom, listed, last, BeginCertificate, AreWhole}
-use Rattle.certificate_definitions.specs.CertificateNames.{AllName, Names}
+use Rattle.certificate_definitions.specs.Certificates.{Version, one}
+use Rattle.certificate_definitions.specs.CertificateText.{NamedAtom, Weights, WeightedAtom, TextLine, version, claims, constant, atom, listed, last, BeginCertificate, AreWhole}
+use Rattle.certificate_definitions.specs.CertificateNames.{AllName, Names, of_dead_end_or_zero}
 use Rattle.certificate_definitions.specs.CertificateMachine.{Place, at_version, at_claim, at_constant, in_body, ended, next_place, place_after}
 use Rattle.certificate_definitions.specs.CertificateChecking.{AreRight, IsWrongAfter, not_fluent, repeated_atom, repeated_state, cut_not_allowed}
 use Rattle.certificate_definitions.proofs.Machine.{StandsBefore, never, stands, followed, place_of_beginning}
-use Rattle.cert_checker.specs.Told.{HaveTold, atom_in, atoms_told, names_told, state_in, states_told, weights_told}
+use Rattle.cert_checker.specs.Told.{Heading, HaveTold, atom_in, atoms_told, dead_ends_told, names_told, state_in, states_told, values_told}
 use Rattle.cert_checker.proofs.NamesLemmas.{one_named, same_names}
 
 -- ---- lists of lines
@@ -29,7 +30,7 @@ pub told_atom : (lines : List TextLine) (a : WeightedAtom) → Contains (atoms_t
 told_atom lines a told = let (line, there, is) = filter_map-Contains atom_in lines a told in subst (Contains lines) (line_is line is) there
   where
     line_is : (line : TextLine) → atom_in line ≡ Some a → line ≡ atom a
-    line_is version is = absurd (cc is)
+    line_is (version v) is = absurd (cc is)
     line_is (claims claim) is = absurd (cc is)
     line_is (constant k) is = absurd (cc is)
     line_is (atom b) is = let same : b ≡ a = cc in ap (λ a. atom a) same
@@ -54,35 +55,46 @@ placed before line begun =
     let (next, is) = followed before place leads line begun in
     record { place = place; at = leads; stands = stands before place leads; next = next; leads = is }
 
+-- before the version nothing stands
+nothing_first : (before : List TextLine) (v : Version) (line : TextLine) → BeginCertificate (before ++ version v ∷ []) → Contains before line → ⊥
+nothing_first before v line begun there = let at = placed before (version v) begun in by_place at.place at.stands at.next at.leads
+  where
+    by_place : (place : Place) → StandsBefore place before → (next : Place) → next_place place (version v) ≡ Some next → ⊥
+    by_place at_version are next leads = Contains-none line (subst (λ lines. Contains lines line) are there)
+    by_place (at_claim w) are next leads = never next leads
+    by_place (at_constant w) are next leads = never next leads
+    by_place (in_body w n m) are next leads = never next leads
+    by_place ended are next leads = never next leads
+
 -- before the claim none stands
 only_claim : (before : List TextLine) (c d : Claim) → BeginCertificate (before ++ claims c ∷ []) → Contains before (claims d) → ⊥
 only_claim before c d begun there = let at = placed before (claims c) begun in by_place at.place at.stands at.next at.leads
   where
     by_place : (place : Place) → StandsBefore place before → (next : Place) → next_place place (claims c) ≡ Some next → ⊥
     by_place at_version are next leads = never next leads
-    by_place at_claim are next leads = no_claim (subst (λ lines. Contains lines (claims d)) are there)
+    by_place (at_claim v) are next leads = no_claim (subst (λ lines. Contains lines (claims d)) are there)
       where
-        no_claim : Contains (version ∷ []) (claims d) → ⊥
-        no_claim there = ⊎_elim (λ same. absurd (cc same)) (λ none. Contains-none (claims d) none) (Contains-cases version [] (claims d) there)
-    by_place at_constant are next leads = never next leads
-    by_place (in_body n m) are next leads = never next leads
+        no_claim : Contains (version v ∷ []) (claims d) → ⊥
+        no_claim there = ⊎_elim (λ same. absurd (cc same)) (λ none. Contains-none (claims d) none) (Contains-cases (version v) [] (claims d) there)
+    by_place (at_constant v) are next leads = never next leads
+    by_place (in_body v n m) are next leads = never next leads
     by_place ended are next leads = never next leads
 
 -- before the constant none stands
-only_constant : (before : List TextLine) (k d : ℤ) → BeginCertificate (before ++ constant k ∷ []) → Contains before (constant d) → ⊥
+only_constant : (before : List TextLine) (k d : Weights) → BeginCertificate (before ++ constant k ∷ []) → Contains before (constant d) → ⊥
 only_constant before k d begun there = let at = placed before (constant k) begun in by_place at.place at.stands at.next at.leads
   where
-    no_constant : (claim : Claim) → Contains (version ∷ claims claim ∷ []) (constant d) → ⊥
-    no_constant claim there =
+    no_constant : (v : Version) (claim : Claim) → Contains (version v ∷ claims claim ∷ []) (constant d) → ⊥
+    no_constant v claim there =
         ⊎_elim (λ same. absurd (cc same))
         (λ later. ⊎_elim (λ same. absurd (cc same)) (λ none. Contains-none (constant d) none) (Contains-cases (claims claim) [] (constant d) later))
-        (Contains-cases version (claims claim ∷ []) (constant d) there)
+        (Contains-cases (version v) (claims claim ∷ []) (constant d) there)
 
     by_place : (place : Place) → StandsBefore place before → (next : Place) → next_place place (constant k) ≡ Some next → ⊥
     by_place at_version are next leads = never next leads
-    by_place at_claim are next leads = never next leads
-    by_place at_constant (claim, is, are) next leads = no_constant claim (subst (λ lines. Contains lines (constant d)) are there)
-    by_place (in_body n m) are next leads = never next leads
+    by_place (at_claim v) are next leads = never next leads
+    by_place (at_constant v) (claim, is, are) next leads = no_constant v claim (subst (λ lines. Contains lines (constant d)) are there)
+    by_place (in_body v n m) are next leads = never next leads
     by_place ended are next leads = never next leads
 
 -- ---- one line more
@@ -113,7 +125,7 @@ right_more task before line right not_wrong front rest other number splits wrong
 
 -- a line that tells of no atom and no state is not wrong
 abbrev pub is_plain : TextLine → Bool
-is_plain version = true
+is_plain (version v) = true
 is_plain (claims claim) = true
 is_plain (constant k) = true
 is_plain (atom a) = false
@@ -154,48 +166,89 @@ name_of_atom task (n ∷ names) (b ∷ atoms) a (here, are) there =
 names_more : (before : List TextLine) (a : WeightedAtom) → names_told (before ++ atom a ∷ []) ≡ names_told before ++ a.atom ∷ []
 names_more before a = ap (map (λ (a : WeightedAtom). a.atom)) (filter_map-append atom_in before (atom a ∷ [])) ∙ map-append (λ (a : WeightedAtom). a.atom) (atoms_told before) (a ∷ [])
 
-weights_more : (before : List TextLine) (a : WeightedAtom) → weights_told (before ++ atom a ∷ []) ≡ weights_told before ++ a.weight ∷ []
-weights_more before a = ap (map (λ (a : WeightedAtom). a.weight)) (filter_map-append atom_in before (atom a ∷ [])) ∙ map-append (λ (a : WeightedAtom). a.weight) (atoms_told before) (a ∷ [])
+values_more : (before : List TextLine) (a : WeightedAtom) → values_told (before ++ atom a ∷ []) ≡ values_told before ++ a.weights.of_value ∷ []
+values_more before a =
+    ap (map (λ (a : WeightedAtom). a.weights.of_value)) (filter_map-append atom_in before (atom a ∷ [])) ∙ map-append (λ (a : WeightedAtom). a.weights.of_value) (atoms_told before) (a ∷ [])
+
+dead_ends_more : (before : List TextLine) (a : WeightedAtom) → dead_ends_told (before ++ atom a ∷ []) ≡ dead_ends_told before ++ of_dead_end_or_zero a.weights ∷ []
+dead_ends_more before a =
+    ap (map (λ (a : WeightedAtom). of_dead_end_or_zero a.weights)) (filter_map-append atom_in before (atom a ∷ []))
+    ∙ map-append (λ (a : WeightedAtom). of_dead_end_or_zero a.weights) (atoms_told before) (a ∷ [])
 
 -- no lines tell nothing
-pub told_nothing : (task : Task) → HaveTold task [] (bound 0) [] (record { constant = pos 0; weights = [] })
+abbrev pub nothing_said : PotentialFunction
+nothing_said = record { constant = pos 0; weights = [] }
+
+pub told_nothing : (task : Task) → HaveTold task [] (record { version = one; claim = bound 0; atoms = []; potentials = nothing_said; dead_ends = nothing_said })
 told_nothing task = record {
+  one_version = λ v there. absurd (Contains-none (version v) there);
   one_claim = λ c there. absurd (Contains-none (claims c) there);
   none_stands = λ same. absurd (cc same);
   one_constant = λ k there. absurd (Contains-none (constant k) there);
+  one_dead_end_constant = λ k there. absurd (Contains-none (constant k) there);
   named = tt;
   weighed = refl;
+  dead_ends_weighed = refl;
   fluent = All-nil (λ (a : Atom). IsTrue (is_atom task a && is_fluent task a.predicate));
   distinct = λ i j d below within. absurd (omega (arith, within));
   right = λ front rest line number splits wrong. nothing_before front line rest splits;
 }
 
-module _ (task : Task) (before : List TextLine) (claim : Claim) (atoms : List Atom) (potentials : PotentialFunction)
-    (told : HaveTold task before claim atoms potentials) where
+module _ (task : Task) (before : List TextLine) (heading : Heading) (told : HaveTold task before heading) where
   no_atom_more : (line : TextLine) → atom_in line ≡ None → atoms_told (before ++ line ∷ []) ≡ atoms_told before
   no_atom_more line none_in = filter_map-append atom_in before (line ∷ []) ∙ ap (λ more. atoms_told before ++ more) (none_more line none_in) ∙ append-nil (atoms_told before)
     where
       none_more : (line : TextLine) → atom_in line ≡ None → atoms_told (line ∷ []) ≡ []
-      none_more version is = refl
+      none_more (version v) is = refl
       none_more (claims claim) is = refl
       none_more (constant k) is = refl
       none_more (atom a) is = absurd (cc is)
       none_more (listed l) is = refl
       none_more (last count) is = refl
 
-  named_still : (line : TextLine) → atom_in line ≡ None → AllName task (names_told (before ++ line ∷ [])) atoms
-  named_still line none_in = subst (λ (told : List WeightedAtom). AllName task (map (λ a. a.atom) told) atoms) (sym (no_atom_more line none_in)) told.named
+  named_still : (line : TextLine) → atom_in line ≡ None → AllName task (names_told (before ++ line ∷ [])) heading.atoms
+  named_still line none_in = subst (λ (told : List WeightedAtom). AllName task (map (λ a. a.atom) told) heading.atoms) (sym (no_atom_more line none_in)) told.named
 
-  weighed_still : (line : TextLine) → atom_in line ≡ None → potentials.weights ≡ weights_told (before ++ line ∷ [])
-  weighed_still line none_in = told.weighed ∙ ap (map (λ (a : WeightedAtom). a.weight)) (sym (no_atom_more line none_in))
+  weighed_still : (line : TextLine) → atom_in line ≡ None → heading.potentials.weights ≡ values_told (before ++ line ∷ [])
+  weighed_still line none_in = told.weighed ∙ ap (map (λ (a : WeightedAtom). a.weights.of_value)) (sym (no_atom_more line none_in))
 
-  pub told_claim : (c : Claim) → BeginCertificate (before ++ claims c ∷ []) → HaveTold task (before ++ claims c ∷ []) c atoms potentials
+  dead_ends_weighed_still : (line : TextLine) → atom_in line ≡ None → heading.dead_ends.weights ≡ dead_ends_told (before ++ line ∷ [])
+  dead_ends_weighed_still line none_in = told.dead_ends_weighed ∙ ap (map (λ (a : WeightedAtom). of_dead_end_or_zero a.weights)) (sym (no_atom_more line none_in))
+
+  -- what was told of a line is told still, where the next one is another
+  among_more : (line other : TextLine) → (line ≡ other → ⊥) → Contains (before ++ line ∷ []) other → Contains before other
+  among_more line other differs there = ⊎_elim (λ earlier. earlier) (λ same. absurd (differs same)) (Contains-push_cases before line other there)
+
+  pub told_version : (v : Version) → BeginCertificate (before ++ version v ∷ [])
+      → HaveTold task (before ++ version v ∷ []) (record { version = v; claim = heading.claim; atoms = heading.atoms; potentials = heading.potentials; dead_ends = heading.dead_ends })
+  told_version v begun = record {
+    one_version = λ w there. ⊎_elim (λ earlier. absurd (nothing_first before v (version w) begun earlier)) (λ same. version_same w same) (Contains-push_cases before (version v) (version w) there);
+    one_claim = λ d there. told.one_claim d (among_more (version v) (claims d) (λ same. cc same) there);
+    none_stands = λ none_is. Contains-append_left before (version v ∷ []) (claims none) (told.none_stands none_is);
+    one_constant = λ k there. told.one_constant k (among_more (version v) (constant k) (λ same. cc same) there);
+    one_dead_end_constant = λ k there. told.one_dead_end_constant k (among_more (version v) (constant k) (λ same. cc same) there);
+    named = named_still (version v) refl;
+    weighed = weighed_still (version v) refl;
+    dead_ends_weighed = dead_ends_weighed_still (version v) refl;
+    fluent = told.fluent;
+    distinct = told.distinct;
+    right = right_more task before (version v) told.right (λ number wrong. plain_is_right task before (version v) number wrong refl);
+  }
+    where
+      version_same : (w : Version) → version v ≡ version w → v ≡ w
+      version_same w same = cc same
+
+  pub told_claim : (c : Claim) → BeginCertificate (before ++ claims c ∷ [])
+      → HaveTold task (before ++ claims c ∷ []) (record { version = heading.version; claim = c; atoms = heading.atoms; potentials = heading.potentials; dead_ends = heading.dead_ends })
   told_claim c begun = record {
+    one_version = λ v there. told.one_version v (among_more (claims c) (version v) (λ same. cc same) there);
     one_claim = λ d there. ⊎_elim (λ earlier. absurd (only_claim before c d begun earlier)) (λ same. claim_same d same) (Contains-push_cases before (claims c) (claims d) there);
     none_stands = λ none_is. subst (λ d. Contains (before ++ claims c ∷ []) (claims d)) none_is (Contains-push before (claims c));
-    one_constant = λ k there. ⊎_elim (λ earlier. told.one_constant k earlier) (λ same. absurd (cc same)) (Contains-push_cases before (claims c) (constant k) there);
+    one_constant = λ k there. told.one_constant k (among_more (claims c) (constant k) (λ same. cc same) there);
+    one_dead_end_constant = λ k there. told.one_dead_end_constant k (among_more (claims c) (constant k) (λ same. cc same) there);
     named = named_still (claims c) refl;
     weighed = weighed_still (claims c) refl;
+    dead_ends_weighed = dead_ends_weighed_still (claims c) refl;
     fluent = told.fluent;
     distinct = told.distinct;
     right = right_more task before (claims c) told.right (λ number wrong. plain_is_right task before (claims c) number wrong refl);
@@ -204,70 +257,92 @@ module _ (task : Task) (before : List TextLine) (claim : Claim) (atoms : List At
       claim_same : (d : Claim) → claims c ≡ claims d → c ≡ d
       claim_same d same = cc same
 
-  pub told_constant : (k : ℤ) → BeginCertificate (before ++ constant k ∷ []) → HaveTold task (before ++ constant k ∷ []) claim atoms (record { constant = k; weights = potentials.weights })
+  pub told_constant : (k : Weights) → BeginCertificate (before ++ constant k ∷ [])
+      → HaveTold task (before ++ constant k ∷ []) (record {
+        version = heading.version;
+        claim = heading.claim;
+        atoms = heading.atoms;
+        potentials = record { constant = k.of_value; weights = heading.potentials.weights };
+        dead_ends = record { constant = of_dead_end_or_zero k; weights = heading.dead_ends.weights };
+      })
   told_constant k begun = record {
-    one_claim = λ d there. ⊎_elim (λ earlier. told.one_claim d earlier) (λ same. absurd (cc same)) (Contains-push_cases before (constant k) (claims d) there);
+    one_version = λ v there. told.one_version v (among_more (constant k) (version v) (λ same. cc same) there);
+    one_claim = λ d there. told.one_claim d (among_more (constant k) (claims d) (λ same. cc same) there);
     none_stands = λ none_is. Contains-append_left before (constant k ∷ []) (claims none) (told.none_stands none_is);
-    one_constant = λ d there. ⊎_elim (λ earlier. absurd (only_constant before k d begun earlier)) (λ same. constant_same d same) (Contains-push_cases before (constant k) (constant d) there);
+    one_constant = λ d there. ap (λ (w : Weights). w.of_value) (constant_is d there);
+    one_dead_end_constant = λ d there. ap of_dead_end_or_zero (constant_is d there);
     named = named_still (constant k) refl;
     weighed = weighed_still (constant k) refl;
+    dead_ends_weighed = dead_ends_weighed_still (constant k) refl;
     fluent = told.fluent;
     distinct = told.distinct;
     right = right_more task before (constant k) told.right (λ number wrong. plain_is_right task before (constant k) number wrong refl);
   }
     where
-      constant_same : (d : ℤ) → constant k ≡ constant d → k ≡ d
+      constant_same : (d : Weights) → constant k ≡ constant d → k ≡ d
       constant_same d same = cc same
 
-  -- a line that tells neither the claim, nor the constant, nor an atom
-  pub told_else : (line : TextLine) → ((d : Claim) → line ≡ claims d → ⊥) → ((k : ℤ) → line ≡ constant k → ⊥) → atom_in line ≡ None
-      → ((number : ℕ) → IsWrongAfter task before line number → ⊥) → HaveTold task (before ++ line ∷ []) claim atoms potentials
-  told_else line no_claim no_constant no_atom is_right = record {
-    one_claim = λ d there. ⊎_elim (λ earlier. told.one_claim d earlier) (λ same. absurd (no_claim d same)) (Contains-push_cases before line (claims d) there);
+      constant_is : (d : Weights) → Contains (before ++ constant k ∷ []) (constant d) → k ≡ d
+      constant_is d there = ⊎_elim (λ earlier. absurd (only_constant before k d begun earlier)) (λ same. constant_same d same) (Contains-push_cases before (constant k) (constant d) there)
+
+  -- a line that tells neither the version, nor the claim, nor the constants, nor an atom
+  pub told_else : (line : TextLine) → ((v : Version) → line ≡ version v → ⊥) → ((d : Claim) → line ≡ claims d → ⊥) → ((k : Weights) → line ≡ constant k → ⊥) → atom_in line ≡ None
+      → ((number : ℕ) → IsWrongAfter task before line number → ⊥) → HaveTold task (before ++ line ∷ []) heading
+  told_else line no_version no_claim no_constant no_atom is_right = record {
+    one_version = λ v there. told.one_version v (among_more line (version v) (no_version v) there);
+    one_claim = λ d there. told.one_claim d (among_more line (claims d) (no_claim d) there);
     none_stands = λ none_is. Contains-append_left before (line ∷ []) (claims none) (told.none_stands none_is);
-    one_constant = λ k there. ⊎_elim (λ earlier. told.one_constant k earlier) (λ same. absurd (no_constant k same)) (Contains-push_cases before line (constant k) there);
+    one_constant = λ k there. told.one_constant k (among_more line (constant k) (no_constant k) there);
+    one_dead_end_constant = λ k there. told.one_dead_end_constant k (among_more line (constant k) (no_constant k) there);
     named = named_still line no_atom;
     weighed = weighed_still line no_atom;
+    dead_ends_weighed = dead_ends_weighed_still line no_atom;
     fluent = told.fluent;
     distinct = told.distinct;
     right = right_more task before line told.right is_right;
   }
 
-  pub told_version : HaveTold task (before ++ version ∷ []) claim atoms potentials
-  told_version = told_else version (λ d same. cc same) (λ k same. cc same) refl (λ number wrong. plain_is_right task before version number wrong refl)
-
-  pub told_last : (count : ℕ) → HaveTold task (before ++ last count ∷ []) claim atoms potentials
-  told_last count = told_else (last count) (λ d same. cc same) (λ k same. cc same) refl (λ number wrong. plain_is_right task before (last count) number wrong refl)
+  pub told_last : (count : ℕ) → HaveTold task (before ++ last count ∷ []) heading
+  told_last count =
+      told_else (last count) (λ v same. cc same) (λ d same. cc same) (λ k same. cc same) refl (λ number wrong. plain_is_right task before (last count) number wrong refl)
 
   module _ (said : WeightedAtom) (a : Atom) (names : Names task said.atom a) (typed : IsTrue (is_atom task a)) (changes : IsTrue (is_fluent task a.predicate)) where
-    right_atom : (Contains atoms a → ⊥) → (line : TextLine) (number : ℕ) → IsWrongAfter task before line number → line ≡ atom said → ⊥
+    right_atom : (Contains heading.atoms a → ⊥) → (line : TextLine) (number : ℕ) → IsWrongAfter task before line number → line ≡ atom said → ⊥
     right_atom new line number (not_fluent b none_is) same =
         let here : b ≡ said = cc in absurd (none_is (a, subst (λ (b : WeightedAtom). Names task b.atom a) (sym here) names, typed, changes))
     right_atom new line number (repeated_atom b is (earlier, there, earlier_is)) same =
         let here : b ≡ said = cc in
         let same_name : earlier.atom ≡ said.atom = earlier_is ∙ ap (λ (b : WeightedAtom). b.atom) here in
-        let (other, stands, other_is) = atom_of_name task (names_told before) atoms earlier.atom told.named
+        let (other, stands, other_is) = atom_of_name task (names_told before) heading.atoms earlier.atom told.named
         (Contains-map (λ (a : WeightedAtom). a.atom) (atoms_told before) earlier (atom_told before earlier there)) in
-        absurd (new (subst (Contains atoms) (one_named task said.atom other a (subst (λ name. Names task name other) same_name other_is) names) stands))
+        absurd (new (subst (Contains heading.atoms) (one_named task said.atom other a (subst (λ name. Names task name other) same_name other_is) names) stands))
     right_atom new line number (repeated_state l there) same = absurd (cc same)
     right_atom new line number (cut_not_allowed l first cut there) same = absurd (cc same)
 
-    pub told_new_atom : (Contains atoms a → ⊥)
-        → HaveTold task (before ++ atom said ∷ []) claim (atoms ++ a ∷ []) (record { constant = potentials.constant; weights = potentials.weights ++ said.weight ∷ [] })
+    pub told_new_atom : (Contains heading.atoms a → ⊥) → HaveTold task (before ++ atom said ∷ []) (record {
+      version = heading.version;
+      claim = heading.claim;
+      atoms = heading.atoms ++ a ∷ [];
+      potentials = record { constant = heading.potentials.constant; weights = heading.potentials.weights ++ said.weights.of_value ∷ [] };
+      dead_ends = record { constant = heading.dead_ends.constant; weights = heading.dead_ends.weights ++ of_dead_end_or_zero said.weights ∷ [] };
+    })
     told_new_atom new = record {
-      one_claim = λ d there. ⊎_elim (λ earlier. told.one_claim d earlier) (λ same. absurd (cc same)) (Contains-push_cases before (atom said) (claims d) there);
+      one_version = λ v there. told.one_version v (among_more (atom said) (version v) (λ same. cc same) there);
+      one_claim = λ d there. told.one_claim d (among_more (atom said) (claims d) (λ same. cc same) there);
       none_stands = λ none_is. Contains-append_left before (atom said ∷ []) (claims none) (told.none_stands none_is);
-      one_constant = λ k there. ⊎_elim (λ earlier. told.one_constant k earlier) (λ same. absurd (cc same)) (Contains-push_cases before (atom said) (constant k) there);
-      named = subst (λ names. AllName task names (atoms ++ a ∷ [])) (sym (names_more before said)) (named_push task (names_told before) atoms said.atom a told.named names);
-      weighed = ap (λ weights. weights ++ said.weight ∷ []) told.weighed ∙ sym (weights_more before said);
-      fluent = All-push (λ (a : Atom). IsTrue (is_atom task a && is_fluent task a.predicate)) atoms a told.fluent (λ i. typed i && changes i);
-      distinct = all_pairs_push (λ (a b : Atom). a ≢ b) atoms a told.distinct (λ k d within same. new (subst (Contains atoms) same (Contains-get_or atoms k d within)));
+      one_constant = λ k there. told.one_constant k (among_more (atom said) (constant k) (λ same. cc same) there);
+      one_dead_end_constant = λ k there. told.one_dead_end_constant k (among_more (atom said) (constant k) (λ same. cc same) there);
+      named = subst (λ names. AllName task names (heading.atoms ++ a ∷ [])) (sym (names_more before said)) (named_push task (names_told before) heading.atoms said.atom a told.named names);
+      weighed = ap (λ weights. weights ++ said.weights.of_value ∷ []) told.weighed ∙ sym (values_more before said);
+      dead_ends_weighed = ap (λ weights. weights ++ of_dead_end_or_zero said.weights ∷ []) told.dead_ends_weighed ∙ sym (dead_ends_more before said);
+      fluent = All-push (λ (a : Atom). IsTrue (is_atom task a && is_fluent task a.predicate)) heading.atoms a told.fluent (λ i. typed i && changes i);
+      distinct = all_pairs_push (λ (a b : Atom). a ≢ b) heading.atoms a told.distinct (λ k d within same. new (subst (Contains heading.atoms) same (Contains-get_or heading.atoms k d within)));
       right = right_more task before (atom said) told.right (λ number wrong. right_atom new (atom said) number wrong refl);
     }
 
-    pub wrong_again : Contains atoms a → IsWrongAfter task before (atom said) 44
+    pub wrong_again : Contains heading.atoms a → IsWrongAfter task before (atom said) 44
     wrong_again stands =
-        let (name, among, is) = name_of_atom task (names_told before) atoms a told.named stands in
+        let (name, among, is) = name_of_atom task (names_told before) heading.atoms a told.named stands in
         let (other, there, other_is) = map-Contains (λ (a : WeightedAtom). a.atom) (atoms_told before) name among in
         repeated_atom said (a, names, typed, changes) (other, told_atom before other there, other_is ∙ same_names task name said.atom a is names)
 
@@ -276,7 +351,7 @@ pub states_same : (lines : List TextLine) (line : TextLine) → state_in line �
 states_same lines line is = filter_map-append state_in lines (line ∷ []) ∙ ap (λ more. states_told lines ++ more) (alone line is) ∙ append-nil (states_told lines)
   where
     alone : (line : TextLine) → state_in line ≡ None → states_told (line ∷ []) ≡ []
-    alone version is = refl
+    alone (version v) is = refl
     alone (claims claim) is = refl
     alone (constant k) is = refl
     alone (atom a) is = refl

@@ -10,20 +10,20 @@ use Rattle.std.proofs.lemmas.Bool.{and_parts, eqb-true, leb-true, ltb-true}
 use Rattle.std.proofs.lemmas.List.{length-append, length-map, length-replicate, map-append, get_or_append_left, get_or_default, get_or_past, take_all}
 use Rattle.std.proofs.lemmas.Option.{same_Some}
 use Rattle.model.specs.Task.{Atom, Task, Instance}
-use Rattle.model.specs.Meaning.{State, cost_of}
+use Rattle.model.specs.Meaning.{State}
 use Rattle.model.specs.ClosedOff.{kept_instances}
 use Rattle.model.specs.NumberedAtoms.{numbered_atoms}
 use Rattle.model.specs.NumberedLiterals.{literals_of_instance, literals_of_goal, counting_of_instance}
 use Rattle.model.specs.Grounding.{bits_of_state}
 use Rattle.model.proofs.ListLemmas.{Contains-got}
 use Rattle.potential_functions.specs.PotentialFunctions.{PotentialFunction, weight, sum_below, given, or_zero, value, value_of_state, IsInRange, AreInRange}
-use Rattle.potential_functions.specs.Fair.{touches, worst, loses, instance_loses, IsFairAt, says, goal_gives, goal_gives_at_most, IsFairAtGoals, AreFair, IsFirstUnfair}
+use Rattle.potential_functions.specs.Fair.{touches, worst, loses, instance_loses, IsFairAt, says, goal_gives, goal_gives_at_most, IsFairAtGoals, AreFairAt, IsFirstUnfairAt}
 use Rattle.potential_functions.proofs.Sums.{sum-alike}
 use Rattle.potential_functions.proofs.Ranges.{zero-range}
-use Rattle.potentials.specs.Fairness.{AreInstancesFair}
-use Rattle.certificate_definitions.specs.Certificates.{Certificate, is_claim, is_weight, is_state_line, are_potentials, keeps_limits}
+use Rattle.potentials.specs.Fairness.{AreInstancesFairAt}
+use Rattle.certificate_definitions.specs.Certificates.{Certificate, is_claim, is_weight, is_dead_end_weight, is_state_line, are_potentials, keeps_limits}
 use Rattle.cert_checker.specs.Weights.{HasItsWeights}
-use Rattle.cert_checker.specs.CertChecker.{IsFirstToLose, IsUnfair}
+use Rattle.cert_checker.specs.CertChecker.{IsFirstToLoseAt, IsUnfairAt}
 
 -- ---- the same weights
 
@@ -51,14 +51,15 @@ module _ (task : Task) (atoms : List Atom) (p q : PotentialFunction) (same : Are
       (λ n below. ap (λ z. if says literals n false then pos 0 else if says literals n true then z else int_max (pos 0) z) (same.weights n)) in
       record { within = subst (λ z. (z +ℤ goal_gives_at_most (length atoms) q.weights literals) ≤ℤ pos 0) same.constant (subst (λ z. (p.constant +ℤ z) ≤ℤ pos 0) gives fair.within) }
 
-  pub instance-alike : (i : Instance) → IsFairAt (cost_of task i) task atoms p.weights i → IsFairAt (cost_of task i) task atoms q.weights i
-  instance-alike i fair = fair_at-alike p.weights q.weights same.weights (cost_of task i) task atoms i fair
+  module _ (allowance : Instance → ℕ) where
+    pub instance-alike : (i : Instance) → IsFairAt (allowance i) task atoms p.weights i → IsFairAt (allowance i) task atoms q.weights i
+    instance-alike i fair = fair_at-alike p.weights q.weights same.weights (allowance i) task atoms i fair
 
-  pub instances-alike : AreInstancesFair task atoms p → AreInstancesFair task atoms q
-  instances-alike fair = λ place d below. instance-alike (get_or (kept_instances task) place d) (fair place d below)
+    pub instances-alike : AreInstancesFairAt allowance task atoms p → AreInstancesFairAt allowance task atoms q
+    instances-alike fair = λ place d below. instance-alike (get_or (kept_instances task) place d) (fair place d below)
 
-  pub fair-alike : AreFair task atoms p → AreFair task atoms q
-  fair-alike fair = record { instances = instances-alike fair.instances; goals = goals-alike fair.goals }
+    pub fair-alike : AreFairAt allowance task atoms p → AreFairAt allowance task atoms q
+    fair-alike fair = record { instances = instances-alike fair.instances; goals = goals-alike fair.goals }
 
 pub alike_itself : (p : PotentialFunction) → AreAlike p p
 alike_itself p = record { constant = refl; weights = λ n. refl }
@@ -107,22 +108,26 @@ value-numbered p q same atoms first more s is enough =
 
 -- ---- a certificate's potentials, with weights for more atoms
 
--- there is a weight for each atom, and each of them, and the constant, is within the limits
-pub potentials_within : (c : Certificate) → keeps_limits c ≡ true → are_potentials (length c.atoms) c.potentials ≡ true
-potentials_within c keeps =
-    (and_parts (is_claim c.claim && nat_le (length c.atoms) 1048576 && nat_le (length c.lines) 16777216 && list_all (is_state_line (length c.atoms)) c.lines) (are_potentials (length c.atoms) c.potentials) keeps).1
-
-pub one_for_each : (c : Certificate) → keeps_limits c ≡ true → length c.potentials.weights ≡ length c.atoms
+-- there is a weight for each atom in both potential functions, as the limits say
+pub one_for_each : (c : Certificate) → keeps_limits c ≡ true → (length c.potentials.weights ≡ length c.atoms) × (length c.dead_ends.weights ≡ length c.atoms)
 one_for_each c keeps =
-    let p = c.potentials in
-    let first = (and_parts (is_weight p.constant && (length p.weights == length c.atoms)) (list_all is_weight p.weights) (potentials_within c keeps)).0 in
-    eqb-true (length p.weights) (length c.atoms) (and_parts (is_weight p.constant) (length p.weights == length c.atoms) first).1
+    let most = is_claim c.claim && nat_le (length c.atoms) 1048576 && nat_le (length c.lines) 16777216 && list_all (is_state_line c.version (length c.atoms)) c.lines in
+    let values = are_potentials is_weight (length c.atoms) c.potentials in
+    let (first, dead_ends) = and_parts (most && values) (are_potentials (is_dead_end_weight c.version) (length c.atoms) c.dead_ends) keeps in (
+      one_weight_each is_weight (length c.atoms) c.potentials (and_parts most values first).1,
+      one_weight_each (is_dead_end_weight c.version) (length c.atoms) c.dead_ends dead_ends,
+    )
+  where
+    one_weight_each : (is_in_range : ℤ → Bool) (count : ℕ) (p : PotentialFunction) → are_potentials is_in_range count p ≡ true → length p.weights ≡ count
+    one_weight_each is_in_range count p are =
+        let first = (and_parts (is_in_range p.constant && (length p.weights == count)) (list_all is_in_range p.weights) are).0 in
+        eqb-true (length p.weights) count (and_parts (is_in_range p.constant) (length p.weights == count) first).1
 
-pub alike : (c : Certificate) (width : ℕ) (p : PotentialFunction) → HasItsWeights c width p → AreAlike p c.potentials
-alike c width p has = record { constant = has.constant; weights = has.weights }
+pub alike : (said : PotentialFunction) (width : ℕ) (p : PotentialFunction) → HasItsWeights said width p → AreAlike p said
+alike said width p has = record { constant = has.constant; weights = has.weights }
 
-pub alike_back : (c : Certificate) (width : ℕ) (p : PotentialFunction) → HasItsWeights c width p → AreAlike c.potentials p
-alike_back c width p has = record { constant = sym has.constant; weights = λ n. sym (has.weights n) }
+pub alike_back : (said : PotentialFunction) (width : ℕ) (p : PotentialFunction) → HasItsWeights said width p → AreAlike said p
+alike_back said width p has = record { constant = sym has.constant; weights = λ n. sym (has.weights n) }
 
 -- weights with zeros behind them
 weight-zeros : (v : List ℤ) (more n : ℕ) → weight (v ++ replicate more (pos 0)) n ≡ weight v n
@@ -135,9 +140,9 @@ weight-zeros [] more n = zeros more n
 weight-zeros (w ∷ v) more zero = refl
 weight-zeros (w ∷ v) more (suc n) = weight-zeros v more n
 
-pub widened : (c : Certificate) (width : ℕ) (p : PotentialFunction) (v : List ℤ) → length c.potentials.weights ≤ width → v ≡ c.potentials.weights → p.constant ≡ c.potentials.constant
-    → p.weights ≡ take width v ++ replicate (width - length v) (pos 0) → HasItsWeights c width p
-widened c width p v enough same constant are =
+pub widened : (said : PotentialFunction) (width : ℕ) (p : PotentialFunction) (v : List ℤ) → length said.weights ≤ width → v ≡ said.weights → p.constant ≡ said.constant
+    → p.weights ≡ take width v ++ replicate (width - length v) (pos 0) → HasItsWeights said width p
+widened said width p v enough same constant are =
     let all : take width v ≡ v = take_all width v (omega (arith, ap length same, enough)) in
     let is : p.weights ≡ v ++ replicate (width - length v) (pos 0) = are ∙ ap (λ l. l ++ replicate (width - length v) (pos 0)) all in
     record {
@@ -160,43 +165,53 @@ weight_in_range [] n all = zero-range
 weight_in_range (w ∷ v) zero all = in_range w (and_parts (is_weight w) (list_all is_weight v) all).0
 weight_in_range (w ∷ v) (suc n) all = weight_in_range v n (and_parts (is_weight w) (list_all is_weight v) all).1
 
-pub are_in_range : (c : Certificate) (width : ℕ) (p : PotentialFunction) → keeps_limits c ≡ true → HasItsWeights c width p → AreInRange p
-are_in_range c width p keeps has =
-    let q = c.potentials in
-    let both = and_parts (is_weight q.constant && (length q.weights == length c.atoms)) (list_all is_weight q.weights) (potentials_within c keeps) in
-    record {
-      constant = subst IsInRange (sym has.constant) (in_range q.constant (and_parts (is_weight q.constant) (length q.weights == length c.atoms) both.0).0);
-      weights = all_in_range p.weights (λ n. subst IsInRange (sym (has.weights n)) (weight_in_range q.weights n both.1));
-    }
+-- those within the limits of a certificate's text are in range
+pub said_in_range : (said : PotentialFunction) → is_weight said.constant ≡ true → list_all is_weight said.weights ≡ true → AreInRange said
+said_in_range said constant weights = record { constant = in_range said.constant constant; weights = all_in_range said.weights (λ n. weight_in_range said.weights n weights) }
+
+-- and so they are with further weights
+range_at : (v : List ℤ) (n : ℕ) → All IsInRange v → IsInRange (weight v n)
+range_at [] n all = zero-range
+range_at (w ∷ v) zero all = all 0 w (omega arith)
+range_at (w ∷ v) (suc n) all = range_at v n (λ k d below. all (suc k) d (omega (arith, below)))
+
+pub widened_in_range : (said : PotentialFunction) (width : ℕ) (p : PotentialFunction) → AreInRange said → HasItsWeights said width p → AreInRange p
+widened_in_range said width p within has = record {
+  constant = subst IsInRange (sym has.constant) within.constant;
+  weights = all_in_range p.weights (λ n. subst IsInRange (sym (has.weights n)) (range_at said.weights n within.weights));
+}
 
 -- ---- what is told of them is told of the certificate
 
-module _ (task : Task) (c : Certificate) (atoms : List Atom) (p : PotentialFunction) (numbered : atoms ≡ numbered_atoms task c.atoms) (has : HasItsWeights c (length atoms) p) where
-  pub fair_told : AreFair task atoms p → AreFair task (numbered_atoms task c.atoms) c.potentials
-  fair_told fair = subst (λ those. AreFair task those c.potentials) numbered (fair-alike task atoms p c.potentials (alike c (length atoms) p has) fair)
+module _ (allowance : Instance → ℕ) (task : Task) (c : Certificate) (said : PotentialFunction) (atoms : List Atom) (p : PotentialFunction) (numbered : atoms ≡ numbered_atoms task c.atoms)
+    (has : HasItsWeights said (length atoms) p) where
+  pub fair_told : AreFairAt allowance task atoms p → AreFairAt allowance task (numbered_atoms task c.atoms) said
+  fair_told fair = subst (λ those. AreFairAt allowance task those said) numbered (fair-alike task atoms p said (alike said (length atoms) p has) allowance fair)
 
-  pub instances_told : AreInstancesFair task atoms p → AreInstancesFair task (numbered_atoms task c.atoms) c.potentials
-  instances_told fair = subst (λ those. AreInstancesFair task those c.potentials) numbered (instances-alike task atoms p c.potentials (alike c (length atoms) p has) fair)
+  pub instances_told : AreInstancesFairAt allowance task atoms p → AreInstancesFairAt allowance task (numbered_atoms task c.atoms) said
+  instances_told fair = subst (λ those. AreInstancesFairAt allowance task those said) numbered (instances-alike task atoms p said (alike said (length atoms) p has) allowance fair)
 
-  pub goals_told : ¬ IsFairAtGoals task atoms p → ¬ IsFairAtGoals task (numbered_atoms task c.atoms) c.potentials
+  pub goals_told : ¬ IsFairAtGoals task atoms p → ¬ IsFairAtGoals task (numbered_atoms task c.atoms) said
   goals_told unfair fair =
-      unfair (goals-alike task atoms c.potentials p (alike_back c (length atoms) p has) (subst (λ those. IsFairAtGoals task those c.potentials) (sym numbered) fair))
+      unfair (goals-alike task atoms said p (alike_back said (length atoms) p has) (subst (λ those. IsFairAtGoals task those said) (sym numbered) fair))
 
-  pub first_told : (number : ℕ) (i : Instance) → IsFirstUnfair task atoms p number → slice_get (kept_instances task) number ≡ Some i → IsFirstToLose task c i
+  pub first_told : (number : ℕ) (i : Instance) → IsFirstUnfairAt allowance task atoms p number → slice_get (kept_instances task) number ≡ Some i → IsFirstToLoseAt allowance task c said i
   first_told number i first at =
-      subst (λ those. (n : ℕ) × (f : IsFirstUnfair task those c.potentials n) × (f.instance ≡ i)) numbered (number, there, is)
+      subst (λ those. (n : ℕ) × (f : IsFirstUnfairAt allowance task those said n) × (f.instance ≡ i)) numbered (number, there, is)
     where
-      there : IsFirstUnfair task atoms c.potentials number
+      there : IsFirstUnfairAt allowance task atoms said number
       there = record {
         instance = first.instance;
         named = first.named;
-        unfair = λ fair. first.unfair (instance-alike task atoms c.potentials p (alike_back c (length atoms) p has) first.instance fair);
-        earlier = λ n j below before. instance-alike task atoms p c.potentials (alike c (length atoms) p has) j (first.earlier n j below before);
+        unfair = λ fair. first.unfair (instance-alike task atoms said p (alike_back said (length atoms) p has) allowance first.instance fair);
+        earlier = λ n j below before. instance-alike task atoms p said (alike said (length atoms) p has) allowance j (first.earlier n j below before);
       }
 
       is : there.instance ≡ i
       is = same_Some first.instance i (sym first.named ∙ at)
 
--- the first one that is unfair is one
-pub unfair_one : (task : Task) (c : Certificate) (i : Instance) → IsFirstToLose task c i → IsUnfair task c i
-unfair_one task c i (number, first, is) = subst (IsUnfair task c) is (Contains-got (kept_instances task) number first.instance first.named, first.unfair)
+  -- the first one that is unfair is one
+  pub unfair_told : (number : ℕ) (i : Instance) → IsFirstUnfairAt allowance task atoms p number → slice_get (kept_instances task) number ≡ Some i → IsUnfairAt allowance task c said i
+  unfair_told number i first at =
+      let (place, there, is) = first_told number i first at in
+      subst (IsUnfairAt allowance task c said) is (Contains-got (kept_instances task) place there.instance there.named, there.unfair)

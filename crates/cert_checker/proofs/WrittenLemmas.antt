@@ -1,7 +1,6 @@
 -- What is written of a certificate within the limits is a text that says it.
 use Rattle.std.proofs.Common.{◌≡◌, ℕ, suc, ◌*◌, ◌≤◌, Bool, true, false, cond, List, [], ◌∷◌, ◌++◌, codes, map, length, length-append, Option, None, Some, refl, sym, ap, ◌∙◌, subst, true≢false, arith}
-use Rattle.std.specs.Prelude.{◌&&◌, ℤ, IsTrue, All, nat_le, nat_lt, slice_get, zip}
-use Rattle.std.specs.Fmt.{signed_decimal}
+use Rattle.std.specs.Prelude.{◌&&◌, zero, ℤ, pos, negsuc, IsTrue, All, nat_le, nat_lt, slice_get, zip}
 use Rattle.std.specs.Char.{to_ascii_lowercase}
 use Rattle.std.specs.Cmp.Lexicographic.{pointwise}
 use Rattle.std.specs.List.{flat_map, list_all}
@@ -18,16 +17,16 @@ use Rattle.model.specs.Resolution.{is_same}
 use Rattle.model.specs.PlanText.{object_names}
 use Rattle.model.specs.PlanWriting.{are_lower_names, differ, is_lower_name, object_name}
 use Rattle.model.specs.Fluents.{is_fluent}
-use Rattle.certificate_definitions.specs.Certificates.{Certificate, IsClosedFor, are_potentials, is_claim, is_number, is_state_line, is_weight, keeps_limits}
+use Rattle.certificate_definitions.specs.Certificates.{Version, one, two, Certificate, IsClosedFor, are_potentials, is_claim, is_dead_end_weight, is_number, is_state_line, is_weight, keeps_limits}
 use Rattle.certificate_definitions.specs.CertificateRefusals.{IsPlanWithin}
 use Rattle.model.proofs.PlanWritingLemmas.{first_at}
 use Rattle.model.proofs.Tests.{passes_got}
-use Rattle.certificate_definitions.specs.CertificateText.{WeightedAtom, TextLine, atom, listed, last, after_blank, is_line, line_text, longest_line, most_atoms, most_states, text_lines}
-use Rattle.certificate_definitions.specs.CertificateNames.{AllName, AreNumbersOf, IsNumberOf, IsTextOf, Names, are_atoms_of, certificate_text, has_atom_names, named, named_atom, predicate_name, predicate_names, weighted_atom}
+use Rattle.certificate_definitions.specs.CertificateText.{Weights, WeightedAtom, TextLine, atom, listed, last, after_blank, are_weights, is_line, line_text, longest_line, most_atoms, most_states, text_lines, weights_text}
+use Rattle.certificate_definitions.specs.CertificateNames.{AllName, AreNumbersOf, IsNumberOf, IsTextOf, Names, are_atoms_of, certificate_text, has_atom_names, named, named_atom, of_dead_end_or_zero, predicate_name, predicate_names, weighted_atom, weights_in}
 use Rattle.certificate_definitions.specs.CertificateChecking.{IsAccepted}
 use Rattle.cert_checker.proofs.NamesLemmas.{few_objects}
 use Rattle.certificate.proofs.NumbersLemmas.{potential_parts}
-use Rattle.cert_checker.proofs.SplitLemmas.{weight_short}
+use Rattle.cert_checker.proofs.SplitLemmas.{weights_short}
 
 -- ---- the number of a name
 
@@ -65,13 +64,13 @@ names_short (name ∷ names) lower =
     let rest = names_short names others in
     omega (arith, few, rest, length-append (after_blank name) (flat_map after_blank names))
 
-atom_short : (weight : ℤ) (predicate : Name) (objects : List Name) → IsTrue (is_weight weight) → is_lower_name predicate ≡ true → list_all is_lower_name objects ≡ true → length objects ≤ 8
-    → length (line_text (atom (record { weight = weight; atom = record { predicate = predicate; objects = objects } }))) ≤ longest_line
-atom_short weight predicate objects is lower lowers few =
-    let digits = weight_short weight is in
+atom_short : (v : Version) (weights : Weights) (predicate : Name) (objects : List Name) → IsTrue (are_weights v weights) → is_lower_name predicate ≡ true → list_all is_lower_name objects ≡ true
+    → length objects ≤ 8 → length (line_text (atom (record { weights = weights; atom = record { predicate = predicate; objects = objects } }))) ≤ longest_line
+atom_short v weights predicate objects are lower lowers few =
+    let digits = weights_short v weights are in
     let short = lower_short predicate lower in
     let rest = names_short objects lowers in
-    let front : List ℕ = codes "atom " ++ signed_decimal weight in
+    let front : List ℕ = codes "atom " ++ weights_text weights in
     let words = flat_map after_blank objects in
     omega (
       arith,
@@ -79,7 +78,7 @@ atom_short weight predicate objects is lower lowers few =
       few,
       short,
       rest,
-      length-append (codes "atom ") (signed_decimal weight),
+      length-append (codes "atom ") (weights_text weights),
       length-append front (codes " ("),
       length-append (front ++ codes " (") predicate,
       length-append ((front ++ codes " (") ++ predicate) words,
@@ -88,20 +87,52 @@ atom_short weight predicate objects is lower lowers few =
 
 -- ---- atoms and their weights
 
-module _ (task : Task) where
-  -- of atoms with a weight each the names are those of the atoms, and the weights are these
-  names_of_zip : (atoms : List Atom) (weights : List ℤ) → length weights ≡ length atoms
-      → map (λ (a : WeightedAtom). a.atom) (map (weighted_atom task) (zip atoms weights)) ≡ map (named_atom task) atoms
-  names_of_zip [] weights same = refl
-  names_of_zip (a ∷ atoms) [] same = absurd (omega (arith, same))
-  names_of_zip (a ∷ atoms) (w ∷ weights) same = ap (λ names. named_atom task a ∷ names) (names_of_zip atoms weights (omega (arith, same)))
+-- what is written of two weights says them
+value_in : (v : Version) (value dead_end : ℤ) → (weights_in v value dead_end).of_value ≡ value
+value_in one value dead_end = refl
+value_in two value dead_end = refl
 
-  weights_of_zip : (atoms : List Atom) (weights : List ℤ) → length weights ≡ length atoms
-      → map (λ (a : WeightedAtom). a.weight) (map (weighted_atom task) (zip atoms weights)) ≡ weights
-  weights_of_zip [] [] same = refl
-  weights_of_zip [] (w ∷ weights) same = absurd (omega (arith, same))
-  weights_of_zip (a ∷ atoms) [] same = absurd (omega (arith, same))
-  weights_of_zip (a ∷ atoms) (w ∷ weights) same = ap (λ weights. w ∷ weights) (weights_of_zip atoms weights (omega (arith, same)))
+dead_end_in : (v : Version) (value dead_end : ℤ) → is_dead_end_weight v dead_end ≡ true → of_dead_end_or_zero (weights_in v value dead_end) ≡ dead_end
+dead_end_in one value (pos zero) within = refl
+dead_end_in one value (pos (suc n)) within = absurd (true≢false (sym within))
+dead_end_in one value (negsuc n) within = absurd (true≢false (sym within))
+dead_end_in two value dead_end within = refl
+
+weights_keep : (v : Version) (value dead_end : ℤ) → is_weight value ≡ true → is_dead_end_weight v dead_end ≡ true → are_weights v (weights_in v value dead_end) ≡ true
+weights_keep one value dead_end is within = λ i. is i && true
+weights_keep two value dead_end is within = λ i. is i && within i
+
+module _ (task : Task) (v : Version) where
+  -- of atoms with two weights each the names are those of the atoms, and the weights are these
+  names_of_zip : (atoms : List Atom) (values dead_ends : List ℤ) → length values ≡ length atoms → length dead_ends ≡ length atoms
+      → map (λ (a : WeightedAtom). a.atom) (map (weighted_atom task v) (zip atoms (zip values dead_ends))) ≡ map (named_atom task) atoms
+  names_of_zip [] values dead_ends same others = refl
+  names_of_zip (a ∷ atoms) [] dead_ends same others = absurd (omega (arith, same))
+  names_of_zip (a ∷ atoms) (x ∷ values) [] same others = absurd (omega (arith, others))
+  names_of_zip (a ∷ atoms) (x ∷ values) (y ∷ dead_ends) same others =
+      ap (λ names. named_atom task a ∷ names) (names_of_zip atoms values dead_ends (omega (arith, same)) (omega (arith, others)))
+
+  values_of_zip : (atoms : List Atom) (values dead_ends : List ℤ) → length values ≡ length atoms → length dead_ends ≡ length atoms
+      → map (λ (a : WeightedAtom). a.weights.of_value) (map (weighted_atom task v) (zip atoms (zip values dead_ends))) ≡ values
+  values_of_zip [] [] dead_ends same others = refl
+  values_of_zip [] (x ∷ values) dead_ends same others = absurd (omega (arith, same))
+  values_of_zip (a ∷ atoms) [] dead_ends same others = absurd (omega (arith, same))
+  values_of_zip (a ∷ atoms) (x ∷ values) [] same others = absurd (omega (arith, others))
+  values_of_zip (a ∷ atoms) (x ∷ values) (y ∷ dead_ends) same others =
+      let rest = values_of_zip atoms values dead_ends (omega (arith, same)) (omega (arith, others)) in
+      λ i. value_in v x y i ∷ rest i
+
+  dead_ends_of_zip : (atoms : List Atom) (values dead_ends : List ℤ) → length values ≡ length atoms → length dead_ends ≡ length atoms → list_all (is_dead_end_weight v) dead_ends ≡ true
+      → map (λ (a : WeightedAtom). of_dead_end_or_zero a.weights) (map (weighted_atom task v) (zip atoms (zip values dead_ends))) ≡ dead_ends
+  dead_ends_of_zip [] values [] same others within = refl
+  dead_ends_of_zip [] values (y ∷ dead_ends) same others within = absurd (omega (arith, others))
+  dead_ends_of_zip (a ∷ atoms) [] dead_ends same others within = absurd (omega (arith, same))
+  dead_ends_of_zip (a ∷ atoms) (x ∷ values) [] same others within = absurd (omega (arith, others))
+  dead_ends_of_zip (a ∷ atoms) (x ∷ values) (y ∷ dead_ends) same others within =
+      let (here, more) = and_parts (is_dead_end_weight v y) (list_all (is_dead_end_weight v) dead_ends) within in
+      let first = dead_end_in v x y here in
+      let rest = dead_ends_of_zip atoms values dead_ends (omega (arith, same)) (omega (arith, others)) more in
+      λ i. first i ∷ rest i
 
 -- ---- the atoms
 
@@ -146,23 +177,27 @@ module _ (task : Task) (predicates_named : are_lower_names (predicate_names task
       ((atom_named a here).names, atoms_named atoms more)
 
   -- and their lines keep the limits
-  module _ (well : is_task task ≡ true) (count : ℕ) where
-    atom_line : (a : Atom) (weight : ℤ) → is_atom task a ≡ true → IsTrue (is_weight weight) → is_line count (atom (weighted_atom task (a, weight))) ≡ true
-    atom_line a weight typed within =
-        let is = atom_named a typed in
+  module _ (well : is_task task ≡ true) (v : Version) (count : ℕ) where
+    atom_line : (a : Atom) (value dead_end : ℤ) → is_atom task a ≡ true → is_weight value ≡ true → is_dead_end_weight v dead_end ≡ true
+        → is_line v count (atom (weighted_atom task v (a, (value, dead_end)))) ≡ true
+    atom_line a value dead_end typed is within =
+        let at = atom_named a typed in
         let few : length (map (object_name task) a.objects) ≤ 8 = subst (λ n. n ≤ 8) (sym (length-map a.objects (object_name task))) (few_objects task a well typed) in
-        let short = le-leb (length (line_text (atom (weighted_atom task (a, weight))))) longest_line
-        (atom_short weight (predicate_name task a.predicate) (map (object_name task) a.objects) within is.lower is.lowers few) in
-        λ i. (within i && (is.lower i && is.lowers i)) && short i
+        let are = weights_keep v value dead_end is within in
+        let short = le-leb (length (line_text (atom (weighted_atom task v (a, (value, dead_end)))))) longest_line
+        (atom_short v (weights_in v value dead_end) (predicate_name task a.predicate) (map (object_name task) a.objects) are at.lower at.lowers few) in
+        λ i. (are i && (at.lower i && at.lowers i)) && short i
 
-    atom_lines : (atoms : List Atom) (weights : List ℤ) → list_all (is_atom task) atoms ≡ true → list_all is_weight weights ≡ true
-        → list_all (is_line count) (map (λ a. atom a) (map (weighted_atom task) (zip atoms weights))) ≡ true
-    atom_lines [] weights typed within = refl
-    atom_lines (a ∷ atoms) [] typed within = refl
-    atom_lines (a ∷ atoms) (w ∷ weights) typed within =
+    atom_lines : (atoms : List Atom) (values dead_ends : List ℤ) → list_all (is_atom task) atoms ≡ true → list_all is_weight values ≡ true → list_all (is_dead_end_weight v) dead_ends ≡ true
+        → list_all (is_line v count) (map (λ a. atom a) (map (weighted_atom task v) (zip atoms (zip values dead_ends)))) ≡ true
+    atom_lines [] values dead_ends typed are within = refl
+    atom_lines (a ∷ atoms) [] dead_ends typed are within = refl
+    atom_lines (a ∷ atoms) (x ∷ values) [] typed are within = refl
+    atom_lines (a ∷ atoms) (x ∷ values) (y ∷ dead_ends) typed are within =
         let (here, more) = and_parts (is_atom task a) (list_all (is_atom task) atoms) typed in
-        let (first, others) = and_parts (is_weight w) (list_all is_weight weights) within in
-        λ i. atom_line a w here first i && atom_lines atoms weights more others i
+        let (value, values_are) = and_parts (is_weight x) (list_all is_weight values) are in
+        let (dead_end, others) = and_parts (is_dead_end_weight v y) (list_all (is_dead_end_weight v) dead_ends) within in
+        λ i. atom_line a x y here value dead_end i && atom_lines atoms values dead_ends more values_are others i
 
 -- ---- the text
 
@@ -170,56 +205,79 @@ module _ (task : Task) (c : Certificate) (well : IsTrue (is_task task)) (has_nam
   names_both : (are_lower_names (predicate_names task) ≡ true) × (are_lower_names (object_names task) ≡ true)
   names_both = and_parts (are_lower_names (predicate_names task)) (are_lower_names (object_names task)) has_names
 
-  -- the limits are those of the claim and the counts, of the lines, and of the potential function
-  limits : ((is_claim c.claim && nat_le (length c.atoms) most_atoms && nat_le (length c.lines) most_states) ≡ true) × (list_all (is_state_line (length c.atoms)) c.lines ≡ true)
-      × (are_potentials (length c.atoms) c.potentials ≡ true)
+  -- the limits are those of the claim and the counts, of the lines, and of the potential functions
+  record AreLimits : Type 0 where
+    counts : (is_claim c.claim && nat_le (length c.atoms) most_atoms && nat_le (length c.lines) most_states) ≡ true
+    states : list_all (is_state_line c.version (length c.atoms)) c.lines ≡ true
+    values : are_potentials is_weight (length c.atoms) c.potentials ≡ true
+    dead_ends : are_potentials (is_dead_end_weight c.version) (length c.atoms) c.dead_ends ≡ true
+
+  limits : AreLimits
   limits =
       let most = is_claim c.claim && nat_le (length c.atoms) most_atoms && nat_le (length c.lines) most_states in
-      let (first, potentials) = and_parts (most && list_all (is_state_line (length c.atoms)) c.lines) (are_potentials (length c.atoms) c.potentials) keeps in
-      let (counts, states) = and_parts most (list_all (is_state_line (length c.atoms)) c.lines) first in
-      (counts, states, potentials)
+      let lines = list_all (is_state_line c.version (length c.atoms)) c.lines in
+      let weighed = are_potentials is_weight (length c.atoms) c.potentials in
+      let (first, dead) = and_parts (most && lines && weighed) (are_potentials (is_dead_end_weight c.version) (length c.atoms) c.dead_ends) keeps in
+      let (second, valued) = and_parts (most && lines) weighed first in
+      let (third, listing) = and_parts most lines second in
+      record { counts = third; states = listing; values = valued; dead_ends = dead }
 
   as_many : length c.potentials.weights ≡ length c.atoms
-  as_many = (potential_parts (length c.atoms) c.potentials limits.2).1
+  as_many = (potential_parts is_weight (length c.atoms) c.potentials limits.values).1
+
+  as_many_dead_ends : length c.dead_ends.weights ≡ length c.atoms
+  as_many_dead_ends = (potential_parts (is_dead_end_weight c.version) (length c.atoms) c.dead_ends limits.dead_ends).1
 
   names_are : map (λ (a : WeightedAtom). a.atom) (named task c).atoms ≡ map (named_atom task) c.atoms
-  names_are = names_of_zip task c.atoms c.potentials.weights as_many
+  names_are = names_of_zip task c.version c.atoms c.potentials.weights c.dead_ends.weights as_many as_many_dead_ends
 
-  weights_are : map (λ (a : WeightedAtom). a.weight) (named task c).atoms ≡ c.potentials.weights
-  weights_are = weights_of_zip task c.atoms c.potentials.weights as_many
+  values_are : map (λ (a : WeightedAtom). a.weights.of_value) (named task c).atoms ≡ c.potentials.weights
+  values_are = values_of_zip task c.version c.atoms c.potentials.weights c.dead_ends.weights as_many as_many_dead_ends
+
+  dead_ends_are : map (λ (a : WeightedAtom). of_dead_end_or_zero a.weights) (named task c).atoms ≡ c.dead_ends.weights
+  dead_ends_are =
+      dead_ends_of_zip task c.version c.atoms c.potentials.weights c.dead_ends.weights as_many as_many_dead_ends
+      (potential_parts (is_dead_end_weight c.version) (length c.atoms) c.dead_ends limits.dead_ends).2
 
   names_count : length (named task c).atoms ≡ length c.atoms
-  names_count = sym (length-map (named task c).atoms (λ (a : WeightedAtom). a.weight)) ∙ ap length weights_are ∙ as_many
+  names_count = sym (length-map (named task c).atoms (λ (a : WeightedAtom). a.weights.of_value)) ∙ ap length values_are ∙ as_many
 
   within_limits : (count : ℕ) → count ≡ length c.atoms
-      → (nat_le count most_atoms && nat_le (length c.lines) most_states && list_all (is_line count) (text_lines (named task c))) ≡ true
+      → (nat_le count most_atoms && nat_le (length c.lines) most_states && list_all (is_line c.version count) (text_lines (named task c))) ≡ true
   within_limits count same =
-      let (counts, states, potentials) = limits in
-      let (first, few_states) = and_parts (is_claim c.claim && nat_le (length c.atoms) most_atoms) (nat_le (length c.lines) most_states) counts in
+      let keeps_line : TextLine → Bool = is_line c.version count in
+      let (first, few_states) = and_parts (is_claim c.claim && nat_le (length c.atoms) most_atoms) (nat_le (length c.lines) most_states) limits.counts in
       let (claim, few) = and_parts (is_claim c.claim) (nat_le (length c.atoms) most_atoms) first in
-      let (constant_is, _, weights_within) = potential_parts (length c.atoms) c.potentials potentials in
+      let (constant_is, _, values_within) = potential_parts is_weight (length c.atoms) c.potentials limits.values in
+      let (dead_constant_is, _, dead_ends_within) = potential_parts (is_dead_end_weight c.version) (length c.atoms) c.dead_ends limits.dead_ends in
+      let constants_are = weights_keep c.version c.potentials.constant c.dead_ends.constant constant_is dead_constant_is in
       let (predicates, objects) = names_both in
       let atoms : List TextLine = map (λ a. atom a) (named task c).atoms in
       let lines : List TextLine = map (λ l. listed l) c.lines in
       let end : List TextLine = last (length c.lines) ∷ [] in
-      let atoms_are : list_all (is_line count) atoms ≡ true = atom_lines task predicates objects well count c.atoms c.potentials.weights typed weights_within in
-      let lines_are : list_all (is_line count) lines ≡ true =
-      list_all-map (is_line count) (λ l. listed l) c.lines ∙ ap (λ n. list_all (is_state_line n) c.lines) same ∙ states in
+      let atoms_are : list_all keeps_line atoms ≡ true =
+      atom_lines task predicates objects well c.version count c.atoms c.potentials.weights c.dead_ends.weights typed values_within dead_ends_within in
+      let lines_are : list_all keeps_line lines ≡ true =
+      list_all-map keeps_line (λ l. listed l) c.lines ∙ ap (λ n. list_all (is_state_line c.version n) c.lines) same ∙ limits.states in
       let below = leb-true (length c.lines) most_states few_states in
       let number : is_number (length c.lines) ≡ true = lt-ltb (length c.lines) 1152921504606846976 (omega (arith, below)) in
-      let end_is : list_all (is_line count) end ≡ true = λ i. number i && true in
-      let body : list_all (is_line count) (atoms ++ lines) ≡ true = list_all-append (is_line count) atoms lines ∙ (λ i. atoms_are i && lines_are i) in
-      let behind : list_all (is_line count) ((atoms ++ lines) ++ end) ≡ true = list_all-append (is_line count) (atoms ++ lines) end ∙ (λ i. body i && end_is i) in
+      let end_is : list_all keeps_line end ≡ true = λ i. number i && true in
+      let body : list_all keeps_line (atoms ++ lines) ≡ true = list_all-append keeps_line atoms lines ∙ (λ i. atoms_are i && lines_are i) in
+      let behind : list_all keeps_line ((atoms ++ lines) ++ end) ≡ true = list_all-append keeps_line (atoms ++ lines) end ∙ (λ i. body i && end_is i) in
       let few_atoms : nat_le count most_atoms ≡ true = ap (λ n. nat_le n most_atoms) same ∙ few in
-      λ i. (few_atoms i && few_states i) && (claim i && (constant_is i && behind i))
+      λ i. (few_atoms i && few_states i) && (claim i && (constants_are i && behind i))
 
   pub written_reads_back : IsTextOf task (certificate_text task c) c
   written_reads_back = record {
     said = named task c;
     text = record { within = within_limits (length (named task c).atoms) names_count; lines = refl };
+    version = refl;
     claim = refl;
     atoms = subst (λ names. AllName task names c.atoms) (sym names_are) (atoms_named task names_both.0 names_both.1 c.atoms typed);
-    potentials = λ i. record { constant = c.potentials.constant; weights = sym weights_are i };
+    potentials = λ i. record { constant = sym (value_in c.version c.potentials.constant c.dead_ends.constant) i; weights = sym values_are i };
+    dead_ends =
+        let constant_is = dead_end_in c.version c.potentials.constant c.dead_ends.constant (potential_parts (is_dead_end_weight c.version) (length c.atoms) c.dead_ends limits.dead_ends).0 in
+        λ i. record { constant = sym constant_is i; weights = sym dead_ends_are i };
     lines = refl;
   }
 

@@ -12,10 +12,11 @@ use Rattle.model.specs.Meaning.{State, cost_of, system_of}
 use Rattle.model.specs.ClosedOff.{kept_instances}
 use Rattle.model.specs.NumberedAtoms.{numbered_atoms}
 use Rattle.model.specs.Instances.{successors_of}
-use Rattle.model.specs.Claims.{Claim, bound, none, Line, IsListedWithin}
-use Rattle.potential_functions.specs.Fair.{IsFairAt, IsFirstUnfair}
+use Rattle.model.specs.Claims.{Claim, bound, none, opened, Line, IsListedWithin}
+use Rattle.potential_functions.specs.PotentialFunctions.{PotentialFunction}
+use Rattle.potential_functions.specs.Fair.{nothing, IsFairAt, IsFirstUnfairAt}
 use Rattle.certificate_definitions.specs.Certificates.{Certificate, lines_of}
-use Rattle.certificate_definitions.specs.CertificateRefusals.{Reason, limit, unfair, successor_missing, successor_dearer, IsFirst, IsListed, HasState, IsWrong, IsWrongLine}
+use Rattle.certificate_definitions.specs.CertificateRefusals.{Reason, limit, unfair, dead_unfair, successor_missing, successor_dearer, IsFirst, IsListed, HasState, IsWrong, IsWrongLine}
 
 -- What an accepted certificate shows is true, of all lists of instances: the plan that was handed in is optimal at
 -- this cost; every list that solves costs at least this; no list solves.
@@ -30,18 +31,33 @@ Answers claim plan (Optimal cost) = (claim ≡ bound cost) × IsSome plan
 Answers claim plan (AtLeast cost) = (claim ≡ bound cost) × (plan ≡ None)
 Answers claim plan Unsolvable = (claim ≡ none) × (plan ≡ None)
 
--- the instance is kept, and may lose more than it costs
-abbrev pub IsUnfair : Task → Certificate → Instance → Type 0
-IsUnfair task c i = Contains (kept_instances task) i × ¬ IsFairAt (cost_of task i) task (numbered_atoms task c.atoms) c.potentials.weights i
+-- the instance is kept, and may lose more than it is allowed to, where the certificate's atoms have the first numbers
+abbrev pub IsUnfairAt : (allowance : Instance → ℕ) → Task → Certificate → PotentialFunction → Instance → Type 0
+IsUnfairAt allowance task c p i = Contains (kept_instances task) i × ¬ IsFairAt (allowance i) task (numbered_atoms task c.atoms) p.weights i
 
 -- no kept instance before it may
+abbrev pub IsFirstToLoseAt : (allowance : Instance → ℕ) → Task → Certificate → PotentialFunction → Instance → Type 0
+IsFirstToLoseAt allowance task c p i = (number : ℕ) × (first : IsFirstUnfairAt allowance task (numbered_atoms task c.atoms) p number) × (first.instance ≡ i)
+
+-- it may lose more than it costs
+abbrev pub IsUnfair : Task → Certificate → Instance → Type 0
+IsUnfair task c = IsUnfairAt (cost_of task) task c c.potentials
+
 abbrev pub IsFirstToLose : Task → Certificate → Instance → Type 0
-IsFirstToLose task c i = (number : ℕ) × (first : IsFirstUnfair task (numbered_atoms task c.atoms) c.potentials number) × (first.instance ≡ i)
+IsFirstToLose task c = IsFirstToLoseAt (cost_of task) task c c.potentials
+
+-- it may lose anything at all of what tells dead ends
+abbrev pub IsDeadUnfair : Task → Certificate → Instance → Type 0
+IsDeadUnfair task c = IsUnfairAt nothing task c c.dead_ends
+
+abbrev pub IsFirstDeadToLose : Task → Certificate → Instance → Type 0
+IsFirstDeadToLose task c = IsFirstToLoseAt nothing task c c.dead_ends
 
 -- The refusal is true of the certificate, the plan that was handed in, if one was, and the limit of kept instances.
 abbrev pub IsTrueRefusal : Task → Certificate → Option (List Instance) → ℕ → Refusal → Type 0
 IsTrueRefusal task c plan most (refusal.Line code line) = MatchOption (reason_of code) ⊥ (λ reason. IsWrongLine task c reason line)
 IsTrueRefusal task c plan most (refusal.Unfair i) = IsUnfair task c (instance_of i)
+IsTrueRefusal task c plan most (refusal.DeadUnfair i) = IsDeadUnfair task c (instance_of i)
 IsTrueRefusal task c plan most (refusal.Plain code) = MatchOption (reason_of code) ⊥ (λ reason. IsWrong task c plan most reason)
 IsTrueRefusal task c plan most refusal.NoMemory = Unit {0}
 IsTrueRefusal task c plan most refusal.Device = ⊥
@@ -52,6 +68,7 @@ IsTrueRefusal task c plan most refusal.Failed = ⊥
 abbrev pub IsNoFault : Refusal → Type 0
 IsNoFault (refusal.Line code line) = ⊥
 IsNoFault (refusal.Unfair i) = ⊥
+IsNoFault (refusal.DeadUnfair i) = ⊥
 IsNoFault (refusal.Plain code) = reason_of code ≡ Some limit
 IsNoFault refusal.NoMemory = Unit {0}
 IsNoFault refusal.Device = Unit {0}
@@ -61,7 +78,7 @@ IsNoFault refusal.Failed = ⊥
 -- before it, in the order of all instances, leads to a state that is listed at no more than the line's cost and its own.
 pub record IsFirstToLeave (task : Task) (c : Certificate) (line : ℕ) (l : Line State) (i : Instance) (next : State) : Type 0 where
   pub stands_there : HasState task c line l
-  pub is_open : l.cut ≡ None
+  pub is_open : l.mark ≡ opened
   pub place : ℕ
   pub leads : slice_get (successors_of task l.state) place ≡ Some (i, next)
   pub listed_before : (k : ℕ) (j : Instance) (s : State) → k < place → slice_get (successors_of task l.state) k ≡ Some (j, s)
@@ -81,6 +98,7 @@ abbrev pub IsFirstRefusal : Task → Certificate → Option (List Instance) → 
 IsFirstRefusal task c plan most (refusal.Line code line) =
     MatchOption (reason_of code) ⊥ (λ reason. IsFirst task c plan most reason line × IsFirstSuccessor task c reason line)
 IsFirstRefusal task c plan most (refusal.Unfair i) = IsFirst task c plan most unfair 0 × IsFirstToLose task c (instance_of i)
+IsFirstRefusal task c plan most (refusal.DeadUnfair i) = IsFirst task c plan most dead_unfair 0 × IsFirstDeadToLose task c (instance_of i)
 IsFirstRefusal task c plan most (refusal.Plain code) = MatchOption (reason_of code) ⊥ (λ reason. IsFirst task c plan most reason 0)
 IsFirstRefusal task c plan most refusal.NoMemory = Unit {0}
 IsFirstRefusal task c plan most refusal.Device = ⊥

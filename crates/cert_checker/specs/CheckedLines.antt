@@ -8,9 +8,9 @@ use Rattle.model.specs.Meaning.{State, initial_state, step, meets_goal, system_o
 use Rattle.model.specs.NumberedAtoms.{numbered_atoms}
 use Rattle.model.specs.Limits.{max_numbered_atoms}
 use Rattle.model.specs.Grounding.{limit_told}
-use Rattle.model.specs.Claims.{none, Allows, Line, IsListedWithin}
-use Rattle.potential_functions.specs.Fair.{AreFair}
-use Rattle.certificate_definitions.specs.Certificates.{Certificate, StateLine, lines_of, value_of}
+use Rattle.model.specs.Claims.{none, Allows, Mark, opened, cut, dead, Line, IsListedWithin}
+use Rattle.potential_functions.specs.Fair.{AreFair, AreDeadFair}
+use Rattle.certificate_definitions.specs.Certificates.{Certificate, StateLine, lines_of, value_of, is_dead_end_of}
 
 -- the refusal is true, whatever plan is handed in and whatever the limit of kept instances
 abbrev pub IsTrueAnyway : Task → Certificate → Refusal → Type 0
@@ -19,7 +19,7 @@ IsTrueAnyway task c refusal = (plan : Option (List Instance)) (most : ℕ) → I
 -- of the first so many state lines none is cut where it is claimed that no list solves
 abbrev pub CutsAreAllowed : Task → Certificate → ℕ → Type 0
 CutsAreAllowed task c count =
-    (place : ℕ) (l : Line State) (rest : ℕ) → place < count → slice_get (lines_of task c) place ≡ Some l → l.cut ≡ Some rest → c.claim ≡ none → ⊥
+    (place : ℕ) (l : Line State) (rest : ℕ) → place < count → slice_get (lines_of task c) place ≡ Some l → l.mark ≡ cut rest → c.claim ≡ none → ⊥
 
 -- The refusal is the first, where nothing is wrong with what was read and the ground task keeps its limits, whatever plan is
 -- handed in.
@@ -28,13 +28,13 @@ IsFirstGrounded task c refusal =
     AllPairs (λ (k l : Line State). k.state ≢ l.state) (lines_of task c) → CutsAreAllowed task c (length (lines_of task c))
     → (plan : Option (List Instance)) (most : ℕ) → limit_told most max_numbered_atoms task c.atoms ≡ None → IsFirstRefusal task c plan most refusal
 
--- the certificate's line at this place has this cost and this cut
-abbrev pub HasCost : Certificate → ℕ → ℕ → Option ℕ → Type 0
-HasCost c place cost cut = (l : StateLine) × (slice_get c.lines place ≡ Some l) × (l.cost ≡ cost) × (l.cut ≡ cut)
+-- the certificate's line at this place has this cost and this mark
+abbrev pub HasCost : Certificate → ℕ → ℕ → Mark → Type 0
+HasCost c place cost mark = (l : StateLine) × (slice_get c.lines place ≡ Some l) × (l.cost ≡ cost) × (l.mark ≡ mark)
 
--- the listing has this state at this place, at this cost and with this cut
-abbrev pub Stands : Task → Certificate → ℕ → State → ℕ → Option ℕ → Type 0
-Stands task c place state cost cut = slice_get (lines_of task c) place ≡ Some (record { state = state; cost = cost; cut = cut })
+-- the listing has this state at this place, at this cost and with this mark
+abbrev pub Stands : Task → Certificate → ℕ → State → ℕ → Mark → Type 0
+Stands task c place state cost mark = slice_get (lines_of task c) place ≡ Some (record { state = state; cost = cost; mark = mark })
 
 -- the state is listed at just this cost
 abbrev pub IsListedAt : {S : Type 0} → List (Line S) → S → ℕ → Type 0
@@ -52,18 +52,25 @@ IsCutClosed c state cost rest = (rest ≤ value_of c state) × Allows c.claim (c
 
 -- what is said of each line of a closed listing
 pub record IsLineClosed (task : Task) (c : Certificate) (line : Line State) : Type 0 where
-  pub is_open : line.cut ≡ None → IsOpenClosed task c line.state line.cost
-  pub is_cut : (rest : ℕ) → line.cut ≡ Some rest → IsCutClosed c line.state line.cost rest
+  pub is_open : line.mark ≡ opened → IsOpenClosed task c line.state line.cost
+  pub is_cut : (rest : ℕ) → line.mark ≡ cut rest → IsCutClosed c line.state line.cost rest
+  pub is_dead : line.mark ≡ dead → IsTrue (is_dead_end_of c line.state)
+
+-- the certificate's potential functions are fair and dead-fair for the ground task in which its atoms have the first numbers
+pub record AreFairFor (task : Task) (c : Certificate) : Type 0 where
+  pub fair : AreFair task (numbered_atoms task c.atoms) c.potentials
+  pub dead_fair : AreDeadFair task (numbered_atoms task c.atoms) c.dead_ends
 
 -- All is right up to the state line at this place: the reading of the certificate, the limits of its ground task, its
--- potential function, the initial state, and the state lines before.
+-- potential functions, the initial state, and the state lines before.
 pub record IsRightUpTo (task : Task) (c : Certificate) (most place : ℕ) : Type 0 where
   pub weighed : length c.potentials.weights ≡ length c.atoms
+  pub dead_ends_weighed : length c.dead_ends.weights ≡ length c.atoms
   pub atoms : AreFluent task c.atoms
   pub distinct : AllPairs (λ (k l : Line State). k.state ≢ l.state) (lines_of task c)
   pub allowed : CutsAreAllowed task c (length (lines_of task c))
   pub within : limit_told most max_numbered_atoms task c.atoms ≡ None
-  pub fair : AreFair task (numbered_atoms task c.atoms) c.potentials
+  pub fair : AreFairFor task c
   pub initial : IsListedWithin (lines_of task c) (initial_state task) 0
   pub lines : (k : ℕ) (l : Line State) → k < place → slice_get (lines_of task c) k ≡ Some l → IsLineClosed task c l
 

@@ -1,10 +1,11 @@
 -- What lines of a certificate's text have listed.
-use Rattle.std.specs.Prelude.{◌≡◌, ℕ, ◌<◌, Bool, length, IsTrue, MatchBool, List, [], ◌∷◌, ◌++◌, map, All, Contains, None}
+use Rattle.std.specs.Prelude.{◌≡◌, ℕ, ◌<◌, Bool, length, IsTrue, MatchBool, List, [], ◌∷◌, ◌++◌, map, All, Contains}
 use Rattle.std.specs.List.{list_all}
 use Rattle.packed_state.specs.Sets.{set_of}
 use Rattle.model.specs.Claims.{Claim, none}
 use Rattle.certificate_definitions.specs.Certificates.{StateLine, rise}
 use Rattle.certificate_definitions.specs.CertificateText.{TextLine, version, claims, constant, atom, listed, last}
+use Rattle.certificate_definitions.specs.CertificateChecking.{IsCut}
 use Rattle.certificate.specs.ListedSets.{Marked, marked}
 use Rattle.cert_checker.specs.Told.{states_told}
 
@@ -13,7 +14,7 @@ use Rattle.cert_checker.specs.Told.{states_told}
 pub record HaveListed (lines : List TextLine) (claim : Claim) (width : ℕ) (marks : List Marked) (sets : List (List Bool)) : Type 0 where
   pub rising : IsTrue (list_all (λ (l : StateLine). rise width 0 l.atoms) (states_told lines))
   pub marks_are : marks ≡ map marked (states_told lines)
-  pub allowed : claim ≡ none → All (λ (l : StateLine). l.cut ≡ None) (states_told lines)
+  pub allowed : claim ≡ none → All (λ (l : StateLine). ¬ IsCut l.mark) (states_told lines)
   pub sets_are : sets ≡ map (λ (l : StateLine). set_of width l.atoms) (states_told lines)
 
 -- one more is put behind some, if it is not among them
@@ -22,7 +23,7 @@ IsAdded old new x is_new = MatchBool is_new ((¬ Contains old x) × (new ≡ old
 
 -- where the line lists a state, its numbers rise below the width, and there is room for one more
 abbrev pub IsFit : ℕ → List (List Bool) → TextLine → Type 0
-IsFit width sets version = Unit {0}
+IsFit width sets (version v) = Unit {0}
 IsFit width sets (claims claim) = Unit {0}
 IsFit width sets (constant k) = Unit {0}
 IsFit width sets (atom a) = Unit {0}

@@ -11,7 +11,7 @@ use Rattle.certificate_definitions.specs.CertificateNames.{IsTextOf}
 use Rattle.certificate_reader.specs.declared.line.CertLine.{CertLine}
 use Rattle.certificate_reader.specs.Lines.{claim_of, text_line_of}
 use Rattle.certificate_definitions.specs.CertificateText.{TextLine, AreWhole, text_of}
-use Rattle.certificate_definitions.specs.CertificateChecking.{AreRight, IsLineFault}
+use Rattle.certificate_definitions.specs.CertificateChecking.{AreRight, IsCut, IsLineFault}
 use Rattle.certificate_reader.specs.declared.reader.CertReader.{CertReader}
 use Rattle.certificate_reader.specs.Reader.{HasRead, has_failed, source_of, waits_in}
 use Rattle.certificate.specs.declared.listing_parts.Beginning.{Beginning}
@@ -56,6 +56,7 @@ IsToldAt remaining task first now code line =
 abbrev pub IsLineRefusal : {R : Type 0} → (remaining : R → Option (List ℕ)) → Task → (first now : CertReader R) → Refusal → Type 0
 IsLineRefusal remaining task first now (refusal.Line code line) = IsToldAt remaining task first now code line
 IsLineRefusal remaining task first now (refusal.Unfair i) = ⊥
+IsLineRefusal remaining task first now (refusal.DeadUnfair i) = ⊥
 IsLineRefusal remaining task first now (refusal.Plain code) = ⊥
 IsLineRefusal remaining task first now refusal.NoMemory = Unit {0}
 IsLineRefusal remaining task first now refusal.Device = Unit {0}
@@ -74,6 +75,7 @@ abbrev pub CountsRefusal : {T : Type 0} → (before after : ℕ) → Result T Re
 CountsRefusal before after (Ok read) = after ≡ before
 CountsRefusal before after (Err (refusal.Line code line)) = after ≡ before
 CountsRefusal before after (Err (refusal.Unfair i)) = after ≡ before
+CountsRefusal before after (Err (refusal.DeadUnfair i)) = after ≡ before
 CountsRefusal before after (Err (refusal.Plain code)) = after ≡ before
 CountsRefusal before after (Err refusal.NoMemory) = after ≡ before
 CountsRefusal before after (Err refusal.Device) = after ≡ one_more before
@@ -98,4 +100,4 @@ pub record IsRead {R : Type 0} (remaining : R → Option (List ℕ)) (task : Tas
   pub right : AreRight task lines
   pub fluent : All (λ (a : Atom). IsTrue (is_atom task a && is_fluent task a.predicate)) c.atoms
   pub distinct : AllPairs (λ (a b : Atom). a ≢ b) c.atoms
-  pub allowed : c.claim ≡ none → All (λ (l : StateLine). l.cut ≡ None) c.lines
+  pub allowed : c.claim ≡ none → All (λ (l : StateLine). ¬ IsCut l.mark) c.lines

@@ -3,7 +3,7 @@ use Rattle.std.specs.Prelude.{ℕ, List, codes}
 use Rattle.certificate_reader.specs.declared.next.TextFault.{TextFault}
 use Rattle.certificate_reader.specs.declared.next.TextFault.TheVariants as text
 use Rattle.cert_checker.specs.declared.refusal.RefusalCode.{RefusalCode}
-use Rattle.cert_checker.specs.declared.refusal.RefusalCode.TheVariants.{CertForm, CertVersion, Truncated, NotFluent, Repeated, NoInitial, Unfair, UnfairGoal, GoalOpen, SuccessorMissing, SuccessorDearer, CutWeak, CutNotAllowed, PlanInvalid, PlanDearer, Limit}
+use Rattle.cert_checker.specs.declared.refusal.RefusalCode.TheVariants.{CertForm, CertVersion, Truncated, NotFluent, Repeated, NoInitial, Unfair, UnfairGoal, GoalOpen, SuccessorMissing, SuccessorDearer, CutWeak, CutNotAllowed, PlanInvalid, PlanDearer, Limit, DeadUnfair, DeadUnfairGoal, NotDead}
 
 -- the number that the program prints
 abbrev pub number_of : RefusalCode → ℕ
@@ -23,6 +23,9 @@ number_of CutNotAllowed = 52
 number_of PlanInvalid = 53
 number_of PlanDearer = 54
 number_of Limit = 55
+number_of DeadUnfair = 56
+number_of DeadUnfairGoal = 57
+number_of NotDead = 58
 
 -- the name that the program prints beside the number
 abbrev pub name_of : RefusalCode → List ℕ
@@ -42,6 +45,9 @@ name_of CutNotAllowed = codes "CutNotAllowed"
 name_of PlanInvalid = codes "PlanInvalid"
 name_of PlanDearer = codes "PlanDearer"
 name_of Limit = codes "Limit"
+name_of DeadUnfair = codes "DeadUnfair"
+name_of DeadUnfairGoal = codes "DeadUnfairGoal"
+name_of NotDead = codes "NotDead"
 
 -- the refusal of a text
 abbrev pub code_of : TextFault → RefusalCode

@@ -5,15 +5,15 @@ use Rattle.model.specs.Task.{Atom, Task}
 use Rattle.model.specs.WellTyped.{is_atom}
 use Rattle.model.specs.Fluents.{is_fluent}
 use Rattle.model.specs.Claims.{Claim, none}
-use Rattle.certificate_definitions.specs.Certificates.{StateLine}
+use Rattle.certificate_definitions.specs.Certificates.{Version, StateLine}
 use Rattle.potential_functions.specs.PotentialFunctions.{PotentialFunction}
-use Rattle.certificate_definitions.specs.CertificateText.{NamedAtom, WeightedAtom, TextLine, version, claims, constant, atom, listed, last}
-use Rattle.certificate_definitions.specs.CertificateNames.{AllName}
+use Rattle.certificate_definitions.specs.CertificateText.{NamedAtom, Weights, WeightedAtom, TextLine, version, claims, constant, atom, listed, last}
+use Rattle.certificate_definitions.specs.CertificateNames.{AllName, of_dead_end_or_zero}
 use Rattle.certificate_definitions.specs.CertificateChecking.{AreRight}
 
--- the atom that the line gives, with its weight, and the state that it lists
+-- the atom that the line gives, with its weights, and the state that it lists
 abbrev pub atom_in : TextLine → Option WeightedAtom
-atom_in version = None
+atom_in (version v) = None
 atom_in (claims claim) = None
 atom_in (constant k) = None
 atom_in (atom a) = Some a
@@ -21,7 +21,7 @@ atom_in (listed l) = None
 atom_in (last count) = None
 
 abbrev pub state_in : TextLine → Option StateLine
-state_in version = None
+state_in (version v) = None
 state_in (claims claim) = None
 state_in (constant k) = None
 state_in (atom a) = None
@@ -32,32 +32,46 @@ state_in (last count) = None
 abbrev pub atoms_told : List TextLine → List WeightedAtom
 atoms_told lines = filter_map atom_in lines
 
--- the names of those atoms, and their weights
+-- the names of those atoms, and their weights: those of values, and those of dead ends
 abbrev pub names_told : List TextLine → List NamedAtom
 names_told lines = map (λ (a : WeightedAtom). a.atom) (atoms_told lines)
 
-abbrev pub weights_told : List TextLine → List ℤ
-weights_told lines = map (λ (a : WeightedAtom). a.weight) (atoms_told lines)
+abbrev pub values_told : List TextLine → List ℤ
+values_told lines = map (λ (a : WeightedAtom). a.weights.of_value) (atoms_told lines)
+
+abbrev pub dead_ends_told : List TextLine → List ℤ
+dead_ends_told lines = map (λ (a : WeightedAtom). of_dead_end_or_zero a.weights) (atoms_told lines)
 
 abbrev pub states_told : List TextLine → List StateLine
 states_told lines = filter_map state_in lines
 
 -- the line lists a state, or is the last
 abbrev pub is_body : TextLine → Bool
-is_body version = false
+is_body (version v) = false
 is_body (claims claim) = false
 is_body (constant k) = false
 is_body (atom a) = false
 is_body (listed l) = true
 is_body (last count) = true
 
--- These are what the lines tell of the claim, of the atoms and of the potential function, and nothing is wrong with the lines.
-pub record HaveTold (task : Task) (lines : List TextLine) (claim : Claim) (atoms : List Atom) (potentials : PotentialFunction) : Type 0 where
-  pub one_claim : (c : Claim) → Contains lines (claims c) → claim ≡ c
-  pub none_stands : claim ≡ none → Contains lines (claims none)
-  pub one_constant : (k : ℤ) → Contains lines (constant k) → potentials.constant ≡ k
-  pub named : AllName task (names_told lines) atoms
-  pub weighed : potentials.weights ≡ weights_told lines
-  pub fluent : All (λ (a : Atom). IsTrue (is_atom task a && is_fluent task a.predicate)) atoms
-  pub distinct : AllPairs (λ (a b : Atom). a ≢ b) atoms
+-- what a certificate says before its states
+pub record Heading : Type 0 where
+  pub version : Version
+  pub claim : Claim
+  pub atoms : List Atom
+  pub potentials : PotentialFunction
+  pub dead_ends : PotentialFunction
+
+-- The lines tell this heading, as far as they go, and nothing is wrong with them.
+pub record HaveTold (task : Task) (lines : List TextLine) (heading : Heading) : Type 0 where
+  pub one_version : (v : Version) → Contains lines (version v) → heading.version ≡ v
+  pub one_claim : (c : Claim) → Contains lines (claims c) → heading.claim ≡ c
+  pub none_stands : heading.claim ≡ none → Contains lines (claims none)
+  pub one_constant : (k : Weights) → Contains lines (constant k) → heading.potentials.constant ≡ k.of_value
+  pub one_dead_end_constant : (k : Weights) → Contains lines (constant k) → heading.dead_ends.constant ≡ of_dead_end_or_zero k
+  pub named : AllName task (names_told lines) heading.atoms
+  pub weighed : heading.potentials.weights ≡ values_told lines
+  pub dead_ends_weighed : heading.dead_ends.weights ≡ dead_ends_told lines
+  pub fluent : All (λ (a : Atom). IsTrue (is_atom task a && is_fluent task a.predicate)) heading.atoms
+  pub distinct : AllPairs (λ (a b : Atom). a ≢ b) heading.atoms
   pub right : AreRight task lines

@@ -55,9 +55,10 @@ pub enum Accepted {
 /// # Errors
 /// The first that applies: the first line at fault, as [`read_listing`] tells it (40 to 44, 52 and 55); 55 where the task
 /// keeps more than `max_instances` instances once it is grounded, or would number more than 1,048,576 atoms; the first
-/// instance that may lose more than it costs (46), or 47 where more than 0 may be left at a goal; 45 where the initial
-/// state is not listed at 0; what is wrong with the successors, the cost or the cut of a listed state, line by line (48 to
-/// 51); what is wrong with the plan (53, 54). [`Refusal::Device`] where the device failed; [`Refusal::NoMemory`] where
+/// instance that may lose more than it costs (46), or 47 where more than 0 may be left at a goal; the first that may lose
+/// anything of what tells dead ends (56), or 57 where more than 0 of it may be left at a goal; 45 where the initial state is
+/// not listed at 0; what is wrong with the successors, the cost or the cut of a listed state, or with a dead end, line by
+/// line (48 to 51, 58); what is wrong with the plan (53, 54). [`Refusal::Device`] where the device failed; [`Refusal::NoMemory`] where
 /// memory is refused.
 pub fn check<R: Source>(
     alloc: Global,

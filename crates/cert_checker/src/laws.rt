@@ -3,24 +3,26 @@ ghost use Rattle.std.specs.Prelude.{IsTrue, List, Option};
 ghost use Rattle.model.specs.Task.{Task, Instance};
 ghost use Rattle.model.specs.Runs.{Solves};
 ghost use Rattle.model.specs.Meaning.{system_of};
-ghost use Rattle.model.specs.Claims.{ClaimHolds, IsLowerBound};
+ghost use Rattle.model.specs.Claims.{AreDeadEnds, ClaimHolds, IsLowerBound};
 ghost use Rattle.model.specs.WellTyped.{is_task};
 ghost use Rattle.certificate_definitions.specs.CertificateExamples.{AreJudged};
-ghost use Rattle.certificate_definitions.specs.Certificates.{Certificate, lines_of, value_of, IsClosedFor, keeps_limits};
+ghost use Rattle.certificate_definitions.specs.Certificates.{Certificate, is_dead_end_of, lines_of, value_of, IsClosedFor, keeps_limits};
 ghost use Rattle.certificate_definitions.specs.CertificateRefusals.{IsPlanWithin};
 ghost use Rattle.certificate_definitions.specs.CertificateNames.{IsTextOf, are_atoms_of, certificate_text, has_atom_names};
 ghost use Rattle.certificate_definitions.specs.CertificateChecking.{IsAccepted};
 ghost use Rattle.cert_checker.specs.OnListing.{StaysListed};
 
-/// What a certificate that is closed for a task claims is true of all lists of instances, whatever their length; and the
-/// value that it gives to a reachable state is no more than what is still to pay from there.
+/// What a certificate that is closed for a task claims is true of all lists of instances, whatever their length; the value
+/// that it gives to a reachable state is no more than what is still to pay from there; and from a reachable state that it
+/// tells to be a dead end, no list leads to the goal.
 pub fn closed_claim_holds()
     ensures claim { (task : Task) (c : Certificate) → IsClosedFor task c → ClaimHolds (system_of task) c.claim }
     ensures values { (task : Task) (c : Certificate) → IsClosedFor task c → IsLowerBound (system_of task) (value_of c) }
+    ensures dead_ends { (task : Task) (c : Certificate) → IsClosedFor task c → AreDeadEnds (system_of task) (is_dead_end_of c) }
 {}
 
 /// Why it is: a list that solves stays on open states that are listed at no more than its cost so far, to its end or
-/// until it comes to a cut that is listed so. There its cost so far and what it still pays are together at least the cost
+/// until it comes to a cut that is listed so; it meets no dead end. At the cut its cost so far and what it still pays are together at least the cost
 /// of the line and what the cut stands for.
 pub fn solving_list_stays_listed()
     ensures { (task : Task) (c : Certificate) (plan : List Instance) → IsClosedFor task c

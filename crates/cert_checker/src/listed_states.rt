@@ -1,20 +1,20 @@
 //! The states that a certificate lists, as sets of the numbers of its atoms.
-ghost use Rattle.std.specs.Prelude.{◌≡◌, ℕ, ◌+◌, ◌<◌, ◌↔◌, ◌++◌, ◌∷◌, [], All, IfErr, IfOk, IsSome, IsTrue, List, OnOk, length, map};
+ghost use Rattle.std.specs.Prelude.{◌≡◌, ℕ, ◌+◌, ◌<◌, ◌↔◌, ◌++◌, ◌∷◌, [], All, IfErr, IfOk, IsTrue, List, OnOk, length, map};
 ghost use Rattle.packed_state.specs.PooledView.{pooled_width, pooled_states};
 ghost use Rattle.packed_state.specs.Sets.{set_of};
 ghost use Rattle.model.specs.Task as model;
 ghost use Rattle.model.specs.Claims as claims;
-ghost use Rattle.potential_functions.specs.PotentialFunctions.{PotentialFunction};
 ghost use Rattle.certificate_definitions.specs.Certificates.{rise};
-ghost use Rattle.certificate_reader.specs.Lines.{claim_of, line_of, text_line_of};
+ghost use Rattle.certificate_reader.specs.Lines.{claim_of, line_of, mark_of, text_line_of};
+ghost use Rattle.certificate_definitions.specs.CertificateChecking.{IsCut};
 ghost use Rattle.certificate_definitions.specs.CertificateText.{TextLine, listed};
-ghost use Rattle.cert_checker.specs.Told.{HaveTold, is_body};
+ghost use Rattle.cert_checker.specs.Told.{Heading, HaveTold, is_body};
 ghost use Rattle.cert_checker.specs.Taking.{IsWrongNow};
 ghost use Rattle.cert_checker.specs.Listed.{HaveListed, IsAdded, IsFit};
-ghost use Rattle.certificate.specs.ListingParts.{mark_of};
+ghost use Rattle.certificate.specs.ListingParts.{listed_of};
 
 use crate::refusal::{Refusal, RefusalCode};
-use certificate::{CertLine, Claim, Mark, StateLine, States};
+use certificate::{CertLine, Claim, Listed, Mark, StateLine, States};
 use faults::NoMemory;
 use packed_state::{Packed, PooledStore, StateStore};
 use std::alloc::Global;
@@ -31,15 +31,15 @@ fn take(
     requires rising { IsTrue (rise (pooled_width states.old.sets) 0 line.now.atoms.items) }
     requires room { length (pooled_states states.old.sets) < 16777216 }
     ensures width { pooled_width states.new.sets ≡ pooled_width states.old.sets }
-    ensures told { OnOk result ((task : model.Task) (before : List TextLine) (atoms : List model.Atom) (potentials : PotentialFunction) → HaveTold task before (claim_of claim) atoms potentials
-        → HaveListed before (claim_of claim) (pooled_width states.old.sets) (map mark_of states.old.marks.items) (pooled_states states.old.sets)
-        → HaveTold task (before ++ listed (line_of line.now) ∷ []) (claim_of claim) atoms potentials) }
+    ensures told { OnOk result ((task : model.Task) (before : List TextLine) (heading : Heading) → heading.claim ≡ claim_of claim → HaveTold task before heading
+        → HaveListed before (claim_of claim) (pooled_width states.old.sets) (map listed_of states.old.marks.items) (pooled_states states.old.sets)
+        → HaveTold task (before ++ listed (line_of line.now) ∷ []) heading) }
     ensures listed { OnOk result ((before : List TextLine)
-        → HaveListed before (claim_of claim) (pooled_width states.old.sets) (map mark_of states.old.marks.items) (pooled_states states.old.sets)
-        → HaveListed (before ++ listed (line_of line.now) ∷ []) (claim_of claim) (pooled_width states.old.sets) (map mark_of states.new.marks.items) (pooled_states states.new.sets)) }
-    ensures wrong { IfErr result (λ refusal. (task : model.Task) (before : List TextLine) (atoms : List model.Atom) (potentials : PotentialFunction) → number ≡ length before + 1
-        → HaveTold task before (claim_of claim) atoms potentials
-        → HaveListed before (claim_of claim) (pooled_width states.old.sets) (map mark_of states.old.marks.items) (pooled_states states.old.sets)
+        → HaveListed before (claim_of claim) (pooled_width states.old.sets) (map listed_of states.old.marks.items) (pooled_states states.old.sets)
+        → HaveListed (before ++ listed (line_of line.now) ∷ []) (claim_of claim) (pooled_width states.old.sets) (map listed_of states.new.marks.items) (pooled_states states.new.sets)) }
+    ensures wrong { IfErr result (λ refusal. (task : model.Task) (before : List TextLine) (heading : Heading) → heading.claim ≡ claim_of claim → number ≡ length before + 1
+        → HaveTold task before heading
+        → HaveListed before (claim_of claim) (pooled_width states.old.sets) (map listed_of states.old.marks.items) (pooled_states states.old.sets)
         → IsWrongNow task before (listed (line_of line.now)) refusal) }
 {
     if !add_set(alloc, &mut states.sets, &line.atoms)? {
@@ -54,9 +54,9 @@ fn take(
             line: number,
         });
     }
-    states.marks.push(Mark {
+    states.marks.push(Listed {
         cost: line.cost,
-        cut: line.cut,
+        mark: line.mark,
     })?;
     Ok(())
 }
@@ -71,14 +71,14 @@ pub(crate) fn take_line(
 ) -> Result<(), Refusal>
     requires fit { IsFit (pooled_width states.old.sets) (pooled_states states.old.sets) (text_line_of line) }
     ensures width { pooled_width states.new.sets ≡ pooled_width states.old.sets }
-    ensures taken { OnOk result ((task : model.Task) (before : List TextLine) (atoms : List model.Atom) (potentials : PotentialFunction) → IsTrue (is_body (text_line_of line))
-        → HaveTold task before (claim_of claim) atoms potentials
-        → HaveListed before (claim_of claim) (pooled_width states.old.sets) (map mark_of states.old.marks.items) (pooled_states states.old.sets)
-        → HaveTold task (before ++ text_line_of line ∷ []) (claim_of claim) atoms potentials
-        × HaveListed (before ++ text_line_of line ∷ []) (claim_of claim) (pooled_width states.old.sets) (map mark_of states.new.marks.items) (pooled_states states.new.sets)) }
-    ensures wrong { IfErr result (λ refusal. (task : model.Task) (before : List TextLine) (atoms : List model.Atom) (potentials : PotentialFunction) → number ≡ length before + 1
-        → HaveTold task before (claim_of claim) atoms potentials
-        → HaveListed before (claim_of claim) (pooled_width states.old.sets) (map mark_of states.old.marks.items) (pooled_states states.old.sets)
+    ensures taken { OnOk result ((task : model.Task) (before : List TextLine) (heading : Heading) → heading.claim ≡ claim_of claim → IsTrue (is_body (text_line_of line))
+        → HaveTold task before heading
+        → HaveListed before (claim_of claim) (pooled_width states.old.sets) (map listed_of states.old.marks.items) (pooled_states states.old.sets)
+        → HaveTold task (before ++ text_line_of line ∷ []) heading
+        × HaveListed (before ++ text_line_of line ∷ []) (claim_of claim) (pooled_width states.old.sets) (map listed_of states.new.marks.items) (pooled_states states.new.sets)) }
+    ensures wrong { IfErr result (λ refusal. (task : model.Task) (before : List TextLine) (heading : Heading) → heading.claim ≡ claim_of claim → number ≡ length before + 1
+        → HaveTold task before heading
+        → HaveListed before (claim_of claim) (pooled_width states.old.sets) (map listed_of states.old.marks.items) (pooled_states states.old.sets)
         → IsWrongNow task before (text_line_of line) refusal) }
 {
     match line {
@@ -101,10 +101,21 @@ fn add_set(alloc: Global, sets: &mut PooledStore, numbers: &[u32]) -> Result<boo
 
 /// Whether the line is a cut, and it is claimed that no plan solves the task.
 fn is_cut_not_allowed(claim: Claim, line: &StateLine) -> bool
-    ensures { IsTrue result ↔ ((claim_of claim ≡ claims.none) × IsSome line.now.cut) }
+    ensures { IsTrue result ↔ ((claim_of claim ≡ claims.none) × IsCut (mark_of line.now.mark)) }
 {
     match claim {
         Claim::Bound(_) => false,
-        Claim::Unsolvable => line.cut.is_some(),
+        Claim::Unsolvable => is_cut(line.mark),
+    }
+}
+
+/// Whether the state is listed as a cut.
+fn is_cut(mark: Mark) -> bool
+    ensures { IsTrue result ↔ IsCut (mark_of mark) }
+{
+    match mark {
+        Mark::Open => false,
+        Mark::Cut { .. } => true,
+        Mark::Dead => false,
     }
 }

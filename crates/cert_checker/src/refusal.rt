@@ -45,6 +45,12 @@ pub enum RefusalCode {
     /// One atom, or one state, more than there may be; or the task keeps more instances than the limit once it is
     /// grounded, or would number more than 1,048,576 atoms.
     Limit = 55,
+    /// An instance may make the potential function of dead ends fall.
+    DeadUnfair = 56,
+    /// The potential function of dead ends may be more than 0 at a goal.
+    DeadUnfairGoal = 57,
+    /// A state is listed as a dead end, and its second value is less than 1.
+    NotDead = 58,
 }
 
 impl RefusalCode {
@@ -79,6 +85,9 @@ impl RefusalCode {
             RefusalCode::PlanInvalid => "PlanInvalid",
             RefusalCode::PlanDearer => "PlanDearer",
             RefusalCode::Limit => "Limit",
+            RefusalCode::DeadUnfair => "DeadUnfair",
+            RefusalCode::DeadUnfairGoal => "DeadUnfairGoal",
+            RefusalCode::NotDead => "NotDead",
         }
     }
 }
@@ -101,6 +110,8 @@ pub enum Refusal {
     },
     /// This instance, the first such one, may lose more than it costs.
     Unfair(Instance),
+    /// This instance, the first such one, may make the potential function of dead ends fall.
+    DeadUnfair(Instance),
     /// This is wrong, and not with one line.
     Plain(RefusalCode),
     /// Memory that was asked for was refused.

@@ -13,24 +13,27 @@ use packed_state::{Packed, StateStore};
 use potentials::Potentials;
 
 /// A certificate of a ground task in which the certificate's atoms have the first numbers, with its states packed as the
-/// ground task's are, and its potentials with a weight for each numbered atom.
+/// ground task's are, and its potentials and those of dead ends with a weight for each numbered atom.
 #[derive(Drop)]
 pub(super) struct PackedListing<'a, 't> {
     pub(super) grounded: &'a Ground<'t>,
     pub(super) listing: &'a Listing,
     potentials: &'a Potentials,
+    dead_ends: &'a Potentials,
     ghost listed: { IsPackedListing (task_in grounded.now) (atoms_in grounded.now) (certificate_in listing.now) (store_in listing.now) } by { Prim.hlevel props },
-    ghost valued: { HasItsWeights (certificate_in listing.now) (length (atoms_in grounded.now)) (potentials_of potentials.now) } by { Prim.hlevel props },
+    ghost valued: { HasItsWeights (certificate_in listing.now).potentials (length (atoms_in grounded.now)) (potentials_of potentials.now) } by { Prim.hlevel props },
+    ghost dead_ends_valued: { HasItsWeights (certificate_in listing.now).dead_ends (length (atoms_in grounded.now)) (potentials_of dead_ends.now) } by { Prim.hlevel props },
 }
 
 impl<'a, 't> PackedListing<'a, 't> {
-    ghost use Rattle.std.specs.Prelude.{◌≡◌, ℕ, ◌<◌, MatchOption, Option};
+    ghost use Rattle.std.specs.Prelude.{◌≡◌, ℕ, ◌<◌, MatchOption};
+    ghost use Rattle.model.specs.Claims.{Mark};
     ghost use Rattle.packed_state.specs.PooledView.{pooled_width};
     ghost use Rattle.cert_checker.specs.FluentAtoms.{AreFluent};
     ghost use Rattle.cert_checker.specs.CheckedLines.{HasCost, IsListedAt, Stands};
     ghost use Rattle.cert_checker.specs.PackedListing.{task_at, certificate_at, state_at, IsPacked};
     ghost use Rattle.model.specs.NumberedAtoms.{numbered_atoms};
-    ghost use Rattle.certificate_definitions.specs.Certificates.{lines_of, value_of};
+    ghost use Rattle.certificate_definitions.specs.Certificates.{is_dead_end_of, lines_of, value_of};
     ghost use Rattle.certificate_definitions.specs.CertificateRefusals.{IsListed};
 
     /// That of the certificate.
@@ -38,17 +41,20 @@ impl<'a, 't> PackedListing<'a, 't> {
         grounded: &'a Ground<'t>,
         listing: &'a Listing,
         potentials: &'a Potentials,
+        dead_ends: &'a Potentials,
     ) -> PackedListing<'a, 't>
         requires fluent { AreFluent (task_in grounded.now) (certificate_in listing.now).atoms }
         requires numbered { atoms_in grounded.now ≡ numbered_atoms (task_in grounded.now) (certificate_in listing.now).atoms }
         requires width { pooled_width (store_in listing.now) ≡ length (atoms_in grounded.now) }
-        requires weights { HasItsWeights (certificate_in listing.now) (length (atoms_in grounded.now)) (potentials_of potentials.now) }
+        requires weights { HasItsWeights (certificate_in listing.now).potentials (length (atoms_in grounded.now)) (potentials_of potentials.now) }
+        requires dead_ends { HasItsWeights (certificate_in listing.now).dead_ends (length (atoms_in grounded.now)) (potentials_of dead_ends.now) }
         ensures same { (task_at result ≡ task_in grounded.now) × (certificate_at result ≡ certificate_in listing.now) }
     {
         PackedListing {
             grounded,
             listing,
             potentials,
+            dead_ends,
         }
     }
 
@@ -57,8 +63,8 @@ impl<'a, 't> PackedListing<'a, 't> {
         requires within { place < length (certificate_at self.now).lines }
         requires packed { IsPacked self.now into.old }
         ensures packed { IsPacked self.now into.new }
-        ensures state { (cost : ℕ) (cut : Option ℕ) → HasCost (certificate_at self.now) place cost cut
-            → Stands (task_at self.now) (certificate_at self.now) place (state_at self.now into.new) cost cut }
+        ensures state { (cost : ℕ) (mark : Mark) → HasCost (certificate_at self.now) place cost mark
+            → Stands (task_at self.now) (certificate_at self.now) place (state_at self.now into.new) cost mark }
     {
         self.listing.sets().get(place as u32, into);
     }
@@ -82,5 +88,13 @@ impl<'a, 't> PackedListing<'a, 't> {
         ensures { result ≡ value_of (certificate_at self.now) (state_at self.now state.now) }
     {
         self.potentials.value(state)
+    }
+
+    /// Whether the certificate's second potentials tell that the state is a dead end.
+    pub(super) fn is_dead_end(&self, state: &Packed) -> bool
+        requires { IsPacked self.now state.now }
+        ensures { result ≡ is_dead_end_of (certificate_at self.now) (state_at self.now state.now) }
+    {
+        1 <= self.dead_ends.value(state)
     }
 }

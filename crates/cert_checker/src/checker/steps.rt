@@ -7,31 +7,30 @@ ghost use Rattle.certificate_reader.specs.Lines.{claim_of};
 ghost use Rattle.certificate.specs.Listing.{certificate_in};
 ghost use Rattle.cert_checker.specs.CertChecker.{IsFirstRefusal, IsTrueRefusal};
 ghost use Rattle.cert_checker.specs.FluentAtoms.{AreFluent};
-ghost use Rattle.cert_checker.specs.CheckedLines.{CutsAreAllowed, IsCutClosed, IsFirstGrounded, IsLineClosed, IsOpenClosed, IsRightGrounded, IsRightUpTo, IsTrueAnyway, Stands};
+ghost use Rattle.cert_checker.specs.CheckedLines.{AreFairFor, CutsAreAllowed, IsCutClosed, IsFirstGrounded, IsLineClosed, IsOpenClosed, IsRightGrounded, IsRightUpTo, IsTrueAnyway, Stands};
 ghost use Rattle.cert_checker.specs.PackedListing.{task_at, atoms_at, certificate_at, state_at, IsPacked};
 ghost use Rattle.model.specs.Task as model_task;
 ghost use Rattle.model.specs.Meaning.{system_of};
 ghost use Rattle.model.specs.Meaning as meaning;
 ghost use Rattle.model.specs.Claims as claims;
-ghost use Rattle.model.specs.Claims.{Allows, IsListedWithin};
+ghost use Rattle.model.specs.Claims.{opened, cut, dead, Allows, IsListedWithin};
 ghost use Rattle.model.specs.NumberedAtoms.{numbered_atoms};
 ghost use Rattle.model.specs.Grounding.{applicable_numbers};
-ghost use Rattle.potential_functions.specs.Fair.{AreFair};
-ghost use Rattle.certificate_definitions.specs.Certificates.{lines_of};
+ghost use Rattle.certificate_definitions.specs.Certificates.{is_dead_end_of, lines_of};
 ghost use Rattle.certificate_definitions.specs.CertificateRefusals.{state_line};
 ghost use Rattle.cert_checker.specs.declared.refusal.Refusal.TheVariants as Refusal;
 
 use crate::checker::packed::PackedListing;
-use crate::checker::weights::fair_potentials;
+use crate::checker::weights::{dead_fair_potentials, fair_potentials};
 use crate::refusal::{Refusal, RefusalCode};
-use certificate::{Claim, Listing};
+use certificate::{Claim, Listing, Mark};
 use grounding::{Ground, GroundFault};
 use packed_state::Packed;
 use std::alloc::Global;
 use typing::Task;
 
-/// Grounds the task, and checks the certificate: whether its potentials are fair, whether the initial state is listed at
-/// cost 0, and the state lines in order.
+/// Grounds the task, and checks the certificate: whether its potentials are fair and those of dead ends dead-fair, whether
+/// the initial state is listed at cost 0, and the state lines in order.
 pub(super) fn check_listing(
     alloc: Global,
     task: &Task,
@@ -80,14 +79,15 @@ fn check_grounded(alloc: Global, grounded: &Ground<'_>, listing: Listing) -> Res
 {
     let listing = listing.at_width(alloc, grounded.width())?;
     let potentials = fair_potentials(alloc, &listing, grounded)?;
-    let packed = PackedListing::new(grounded, &listing, &potentials);
+    let dead_ends = dead_fair_potentials(alloc, &listing, grounded)?;
+    let packed = PackedListing::new(grounded, &listing, &potentials, &dead_ends);
     check_packed(alloc, &packed)
 }
 
-/// Checks the certificate's states, where its potentials are fair: whether the initial state is listed at cost 0, and the
-/// state lines in order.
+/// Checks the certificate's states, where its potentials are fair and those of dead ends dead-fair: whether the initial
+/// state is listed at cost 0, and the state lines in order.
 fn check_packed(alloc: Global, listing: &PackedListing) -> Result<(), Refusal>
-    requires { AreFair (task_at listing.now) (numbered_atoms (task_at listing.now) (certificate_at listing.now).atoms) (certificate_at listing.now).potentials }
+    requires { AreFairFor (task_at listing.now) (certificate_at listing.now) }
     ensures right { OnOk result (IsRightGrounded (task_at listing.now) (certificate_at listing.now)) }
     ensures wrong { IfErr result (IsTrueAnyway (task_at listing.now) (certificate_at listing.now)) }
     ensures first { IfErr result (IsFirstGrounded (task_at listing.now) (certificate_at listing.now)) }
@@ -100,7 +100,7 @@ fn check_packed(alloc: Global, listing: &PackedListing) -> Result<(), Refusal>
 fn check_initial(alloc: Global, listing: &PackedListing) -> Result<(), Refusal>
     ensures right { OnOk result (IsListedWithin (lines_of (task_at listing.now) (certificate_at listing.now)) (system_of (task_at listing.now)).initial 0) }
     ensures wrong { IfErr result (IsTrueAnyway (task_at listing.now) (certificate_at listing.now)) }
-    ensures first { AreFair (task_at listing.now) (numbered_atoms (task_at listing.now) (certificate_at listing.now).atoms) (certificate_at listing.now).potentials
+    ensures first { AreFairFor (task_at listing.now) (certificate_at listing.now)
         → IfErr result (IsFirstGrounded (task_at listing.now) (certificate_at listing.now)) }
 {
     let initial = listing.grounded.initial(alloc)?;
@@ -111,7 +111,8 @@ fn check_initial(alloc: Global, listing: &PackedListing) -> Result<(), Refusal>
     }
 }
 
-/// Checks the state lines in order: the successors and the costs of open states, and the bounds of cuts.
+/// Checks the state lines in order: the successors and the costs of open states, the bounds of cuts, and the values of dead
+/// ends.
 fn check_lines(alloc: Global, listing: &PackedListing) -> Result<(), Refusal>
     ensures right { OnOk result ((place : ℕ) (line : claims.Line meaning.State) → slice_get (lines_of (task_at listing.now) (certificate_at listing.now)) place ≡ Some line
         → IsLineClosed (task_at listing.now) (certificate_at listing.now) line) }
@@ -148,11 +149,12 @@ fn check_line(
     ensures first { IfErr result (λ e. (plan : Option (List model_task.Instance)) (most : ℕ) → IsRightUpTo (task_at listing.now) (certificate_at listing.now) most place
         → IsFirstRefusal (task_at listing.now) (certificate_at listing.now) plan most e) }
 {
-    let mark = listing.listing.marks()[place];
+    let listed = listing.listing.marks()[place];
     listing.get(place, state);
-    match mark.cut {
-        None => check_open(listing, place, mark.cost, state, next, numbers),
-        Some(rest) => check_cut(listing, place, mark.cost, rest, state),
+    match listed.mark {
+        Mark::Open => check_open(listing, place, listed.cost, state, next, numbers),
+        Mark::Cut { rest } => check_cut(listing, place, listed.cost, rest, state),
+        Mark::Dead => check_dead(listing, place, state),
     }
 }
 
@@ -168,7 +170,7 @@ fn check_open(
     requires within { place < length (certificate_at listing.now).lines }
     requires state { IsPacked listing.now state.now }
     requires next { IsPacked listing.now next.old }
-    requires listed { Stands (task_at listing.now) (certificate_at listing.now) place (state_at listing.now state.now) cost None }
+    requires listed { Stands (task_at listing.now) (certificate_at listing.now) place (state_at listing.now state.now) cost opened }
     requires small { cost < 1152921504606846976 }
     ensures next { IsPacked listing.now next.new }
     ensures right { OnOk result (IsOpenClosed (task_at listing.now) (certificate_at listing.now) (state_at listing.now state.now) cost) }
@@ -190,7 +192,7 @@ fn check_goal(
 ) -> Result<(), Refusal>
     requires within { place < length (certificate_at listing.now).lines }
     requires state { IsPacked listing.now state.now }
-    requires listed { Stands (task_at listing.now) (certificate_at listing.now) place (state_at listing.now state.now) cost None }
+    requires listed { Stands (task_at listing.now) (certificate_at listing.now) place (state_at listing.now state.now) cost opened }
     ensures right { OnOk result (IsTrue (meaning.meets_goal (task_at listing.now) (state_at listing.now state.now)) → Allows (certificate_at listing.now).claim cost) }
     ensures wrong { IfErr result (IsTrueAnyway (task_at listing.now) (certificate_at listing.now)) }
     ensures first { IfErr result (λ e. (plan : Option (List model_task.Instance)) (most : ℕ) → IsRightUpTo (task_at listing.now) (certificate_at listing.now) most place
@@ -216,7 +218,7 @@ fn check_successors(
     requires within { place < length (certificate_at listing.now).lines }
     requires state { IsPacked listing.now state.now }
     requires next { IsPacked listing.now next.old }
-    requires listed { Stands (task_at listing.now) (certificate_at listing.now) place (state_at listing.now state.now) cost None }
+    requires listed { Stands (task_at listing.now) (certificate_at listing.now) place (state_at listing.now state.now) cost opened }
     requires small { cost < 1152921504606846976 }
     requires numbers { numbers.now ≡ applicable_numbers (task_at listing.now) (atoms_at listing.now) (bits_of state.now) }
     requires goal { IsTrue (meaning.meets_goal (task_at listing.now) (state_at listing.now state.now)) → Allows (certificate_at listing.now).claim cost }
@@ -249,7 +251,7 @@ fn check_cut(
 ) -> Result<(), Refusal>
     requires within { place < length (certificate_at listing.now).lines }
     requires state { IsPacked listing.now state.now }
-    requires listed { Stands (task_at listing.now) (certificate_at listing.now) place (state_at listing.now state.now) cost (Some rest) }
+    requires listed { Stands (task_at listing.now) (certificate_at listing.now) place (state_at listing.now state.now) cost (cut rest) }
     requires small { (cost < 1152921504606846976) × (rest < 1152921504606846976) }
     ensures right { OnOk result (IsCutClosed (certificate_at listing.now) (state_at listing.now state.now) cost rest) }
     ensures wrong { IfErr result (IsTrueAnyway (task_at listing.now) (certificate_at listing.now)) }
@@ -260,6 +262,23 @@ fn check_cut(
         Ok(())
     } else {
         Err(state_line(RefusalCode::CutWeak, listing.listing, place))
+    }
+}
+
+/// Checks this state, which is listed at this place as a dead end.
+fn check_dead(listing: &PackedListing, place: usize, state: &Packed) -> Result<(), Refusal>
+    requires within { place < length (certificate_at listing.now).lines }
+    requires state { IsPacked listing.now state.now }
+    requires listed { (cost : ℕ) × Stands (task_at listing.now) (certificate_at listing.now) place (state_at listing.now state.now) cost dead }
+    ensures right { OnOk result (IsTrue (is_dead_end_of (certificate_at listing.now) (state_at listing.now state.now))) }
+    ensures wrong { IfErr result (IsTrueAnyway (task_at listing.now) (certificate_at listing.now)) }
+    ensures first { IfErr result (λ e. (plan : Option (List model_task.Instance)) (most : ℕ) → IsRightUpTo (task_at listing.now) (certificate_at listing.now) most place
+        → IsFirstRefusal (task_at listing.now) (certificate_at listing.now) plan most e) }
+{
+    if listing.is_dead_end(state) {
+        Ok(())
+    } else {
+        Err(state_line(RefusalCode::NotDead, listing.listing, place))
     }
 }
 

@@ -9,7 +9,8 @@ ghost use Rattle.cert_checker.specs.CheckedLines.{IsFirstGrounded, IsTrueAnyway}
 ghost use Rattle.cert_checker.specs.Weights.{HasItsWeights};
 ghost use Rattle.model.specs.ClosedOff.{kept_instances};
 ghost use Rattle.model.specs.NumberedAtoms.{numbered_atoms};
-ghost use Rattle.potential_functions.specs.Fair.{AreFair};
+ghost use Rattle.potential_functions.specs.PotentialFunctions.{AreInRange};
+ghost use Rattle.potential_functions.specs.Fair.{AreFair, AreDeadFair};
 
 use crate::refusal::{Refusal, RefusalCode};
 use certificate::Listing;
@@ -27,12 +28,12 @@ pub(super) fn fair_potentials(
 ) -> Result<Potentials, Refusal>
     requires fluent { AreFluent (task_in grounded.now) (certificate_in listing.now).atoms }
     requires numbered { atoms_in grounded.now ≡ numbered_atoms (task_in grounded.now) (certificate_in listing.now).atoms }
-    ensures weights { IfOk result (λ p. HasItsWeights (certificate_in listing.now) (length (atoms_in grounded.now)) (potentials_of p)) }
+    ensures weights { IfOk result (λ p. HasItsWeights (certificate_in listing.now).potentials (length (atoms_in grounded.now)) (potentials_of p)) }
     ensures fair { OnOk result (AreFair (task_in grounded.now) (numbered_atoms (task_in grounded.now) (certificate_in listing.now).atoms) (certificate_in listing.now).potentials) }
     ensures wrong { IfErr result (IsTrueAnyway (task_in grounded.now) (certificate_in listing.now)) }
     ensures first { IfErr result (IsFirstGrounded (task_in grounded.now) (certificate_in listing.now)) }
 {
-    let potentials = at_width(alloc, listing, grounded.width())?;
+    let potentials = at_width(alloc, listing.constant(), listing.weights(), grounded.width())?;
     match potentials.fair(alloc, grounded)? {
         Fairness::Fair => Ok(potentials),
         Fairness::Instance(number) => Err(Refusal::Unfair(kept_instance(grounded, number))),
@@ -40,14 +41,48 @@ pub(super) fn fair_potentials(
     }
 }
 
-/// The certificate's potentials, with the weight 0 for each further number below the width.
-fn at_width(alloc: Global, listing: &Listing, width: u32) -> Result<Potentials, NoMemory>
-    requires { length (certificate_in listing.now).atoms ≤ width }
-    ensures { IfOk result (λ p. HasItsWeights (certificate_in listing.now) width (potentials_of p)) }
+/// The certificate's potentials of dead ends, if they are dead-fair for the ground task, in which its atoms have the first
+/// numbers, and its potentials are fair.
+pub(super) fn dead_fair_potentials(
+    alloc: Global,
+    listing: &Listing,
+    grounded: &Ground<'_>,
+) -> Result<Potentials, Refusal>
+    requires fluent { AreFluent (task_in grounded.now) (certificate_in listing.now).atoms }
+    requires numbered { atoms_in grounded.now ≡ numbered_atoms (task_in grounded.now) (certificate_in listing.now).atoms }
+    requires fair { AreFair (task_in grounded.now) (numbered_atoms (task_in grounded.now) (certificate_in listing.now).atoms) (certificate_in listing.now).potentials }
+    ensures weights { IfOk result (λ p. HasItsWeights (certificate_in listing.now).dead_ends (length (atoms_in grounded.now)) (potentials_of p)) }
+    ensures dead_fair { OnOk result (AreDeadFair (task_in grounded.now) (numbered_atoms (task_in grounded.now) (certificate_in listing.now).atoms) (certificate_in listing.now).dead_ends) }
+    ensures wrong { IfErr result (IsTrueAnyway (task_in grounded.now) (certificate_in listing.now)) }
+    ensures first { IfErr result (IsFirstGrounded (task_in grounded.now) (certificate_in listing.now)) }
 {
-    let mut weights = Vec::from_slice(alloc, listing.weights())?;
+    let potentials = at_width(
+        alloc,
+        listing.dead_end_constant(),
+        listing.dead_end_weights(),
+        grounded.width(),
+    )?;
+    match potentials.dead_fair(alloc, grounded)? {
+        Fairness::Fair => Ok(potentials),
+        Fairness::Instance(number) => Err(Refusal::DeadUnfair(kept_instance(grounded, number))),
+        Fairness::Goal => Err(Refusal::Plain(RefusalCode::DeadUnfairGoal)),
+    }
+}
+
+/// The potentials of this constant and these weights, with the weight 0 for each further number below the width.
+fn at_width(
+    alloc: Global,
+    constant: i64,
+    weights: &[i64],
+    width: u32,
+) -> Result<Potentials, NoMemory>
+    requires range { AreInRange (record { constant = constant; weights = weights.now }) }
+    requires enough { length weights.now ≤ width }
+    ensures { IfOk result (λ p. HasItsWeights (record { constant = constant; weights = weights.now }) width (potentials_of p)) }
+{
+    let mut weights = Vec::from_slice(alloc, weights)?;
     weights.resize(width as usize, 0)?;
-    Ok(Potentials::new(listing.constant(), weights).unwrap())
+    Ok(Potentials::new(constant, weights).unwrap())
 }
 
 /// A copy of the kept instance of this number.

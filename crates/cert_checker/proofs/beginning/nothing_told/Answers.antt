@@ -1,13 +1,18 @@
 use Rattle.std.proofs.Common.{List, [], map, sym, subst}
-use Rattle.std.specs.Prelude.{ℤ, pos}
 use Rattle.task_parts.specs.declared.atoms.Atom as code
 use Rattle.typing.specs.TaskParts.{atom_of}
 use Rattle.model.specs.Claims.{bound}
-use Rattle.cert_checker.specs.Told.{HaveTold}
-use Rattle.cert_checker.proofs.ToldLemmas.{told_nothing}
+use Rattle.certificate_definitions.specs.Certificates.{one}
+use Rattle.potential_functions.specs.PotentialFunctions.{PotentialFunction}
+use Rattle.certificate.specs.ListingParts.{potential_of}
+use Rattle.cert_checker.specs.Told.{Heading, HaveTold}
+use Rattle.cert_checker.proofs.ToldLemmas.{nothing_said, told_nothing}
 use Rattle.cert_checker.proofs.beginning.nothing_told.Goals as goal
 
 pub returns : goal.returns
 returns c = λ task.
-    subst (λ (keys : List code.Atom). HaveTold task [] (bound 0) (map atom_of keys) (record { constant = pos 0; weights = c.new-2.result.items })) (sym c.new.ensures.empty)
-    (subst (λ (weights : List ℤ). HaveTold task [] (bound 0) [] (record { constant = pos 0; weights = weights })) (sym c.new-2.ensures.items) (told_nothing task))
+    let heading : PotentialFunction → PotentialFunction → List code.Atom → Heading =
+    λ potentials dead_ends keys. record { version = one; claim = bound 0; atoms = map atom_of keys; potentials = potentials; dead_ends = dead_ends } in
+    subst (λ keys. HaveTold task [] (heading (potential_of c.zero_potential.result) (potential_of c.zero_potential-2.result) keys)) (sym c.new.ensures.empty)
+    (subst (λ p. HaveTold task [] (heading p (potential_of c.zero_potential-2.result) [])) (sym c.zero_potential.ensures)
+    (subst (λ p. HaveTold task [] (heading nothing_said p [])) (sym c.zero_potential-2.ensures) (told_nothing task)))

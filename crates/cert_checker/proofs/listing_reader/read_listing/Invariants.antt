@@ -4,13 +4,13 @@ use Rattle.std.specs.Option.{option_map_or}
 use Rattle.typing.specs.Task.{task_of}
 use Rattle.packed_state.specs.PooledView.{pooled_states, pooled_width}
 use Rattle.certificate_reader.specs.Reader.{lines_read, source_of}
-use Rattle.certificate.specs.ListingParts.{mark_of}
+use Rattle.certificate.specs.ListingParts.{listed_of}
 use Rattle.cert_checker.specs.Reading.{IsListedSoFar}
 use Rattle.cert_checker.proofs.listing_reader.read_listing.Given as goal
 
 abbrev pub invariant-states : goal.invariant-states
 invariant-states g l = record {
-  so_far : IsListedSoFar g.R.Source.remaining (task_of l.task) l.fn.reader l.reader l.beginning (pooled_width l.states.sets) (map mark_of l.states.marks.items) (pooled_states l.states.sets) l.next;
+  so_far : IsListedSoFar g.R.Source.remaining (task_of l.task) l.fn.reader l.reader l.beginning (pooled_width l.states.sets) (map listed_of l.states.marks.items) (pooled_states l.states.sets) l.next;
   width : pooled_width l.states.sets ≡ length l.beginning.atoms.keys;
   failures : g.R.Source.failures (source_of l.reader) ≡ g.R.Source.failures (source_of l.fn.reader);
 }
