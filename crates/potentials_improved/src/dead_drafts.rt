@@ -69,12 +69,16 @@ impl DeadDrafts {
         })
     }
 
-    /// Weights that may tell more of the states dead than these, if some are found for one of those left.
+    /// Weights that may tell more of the states dead than these, if some are found for one of those left. Where the initial
+    /// state is told dead, no more is to be told.
     pub(crate) fn next(
         &mut self,
         alloc: Global,
         weights: &[i64],
     ) -> Result<Option<Vec<i64>>, NoMemory> {
+        if self.is_told(0, weights) {
+            return Ok(None);
+        }
         for place in self.done..self.states.len() {
             self.done = place.saturating_add(1);
             if !self.is_told(place, weights) {
