@@ -112,7 +112,11 @@ impl DeadDrafts {
         if together.is_more_than(before) && !alone.is_more_than(together) {
             return Ok(Some(both));
         }
-        Ok(if alone.is_more_than(before) { Some(found) } else { None })
+        Ok(if alone.is_more_than(before) {
+            Some(found)
+        } else {
+            None
+        })
     }
 
     /// Weights along an edge without an end on which the state at this place gains, if there are some.
