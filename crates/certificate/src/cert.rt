@@ -173,7 +173,9 @@ fn are_weights(weights: &[i64]) -> bool
 fn are_dead_end_weights(version: Version, weights: &[i64]) -> bool
     ensures { result ≡ list_all (is_dead_end_weight (version_of version)) weights.now }
 {
-    weights.iter().all(|weight| is_dead_end_weight(version, *weight))
+    weights
+        .iter()
+        .all(|weight| is_dead_end_weight(version, *weight))
 }
 
 /// Whether the number may be a weight.

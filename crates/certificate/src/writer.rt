@@ -102,7 +102,11 @@ fn write_atoms<C: WritableCert, W: Sink>(
 {
     let (version, atoms) = (cert.version(), cert.atoms());
     for place in 0..atoms.len() {
-        let weights = weights_in(version, cert.weights()[place], cert.dead_end_weights()[place]);
+        let weights = weights_in(
+            version,
+            cert.weights()[place],
+            cert.dead_end_weights()[place],
+        );
         add_atom(task, &atoms[place], weights, held)?;
         pass_on(held, out)?;
     }
