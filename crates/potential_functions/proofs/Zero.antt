@@ -1,13 +1,14 @@
--- The potential function whose constant and weights are 0 is fair.
+-- The potential function whose constant and weights are 0 is fair, and dead-fair.
 use Rattle.std.proofs.Common.{◌≡◌, ◌∙◌, ℕ, zero, suc, Bool, true, false, List, [], ◌∷◌, length, get_or, refl, ap, arith, ℤ, pos}
 use Rattle.std.specs.Prelude.{if◌then◌else◌, All, map, fold, replicate}
 use Rattle.std.specs.Int.{int_max}
 use Rattle.std.proofs.lemmas.Int.{ints, clamps}
-use Rattle.model.specs.Task.{Atom, Task}
+use Rattle.model.specs.Task.{Atom, Task, Instance}
+use Rattle.model.specs.Meaning.{cost_of}
 use Rattle.model.specs.ClosedOff.{kept_instances}
 use Rattle.model.specs.NumberedLiterals.{NumberedLiteral, NumberedChange, literals_of_instance, literals_of_goal, counting_of_instance}
 use Rattle.potential_functions.specs.PotentialFunctions.{PotentialFunction, weight, IsInRange}
-use Rattle.potential_functions.specs.Fair.{says, touches, Pair, pairs, loss, greatest, worst, loses, loses_at_most, goal_gives, goal_gives_at_most, AreFair}
+use Rattle.potential_functions.specs.Fair.{says, touches, Pair, pairs, loss, greatest, worst, loses, loses_at_most, goal_gives, goal_gives_at_most, AreFairAt, AreFair, nothing, AreDeadFair}
 use Rattle.potential_functions.proofs.Sums.{sum-alike, sum-zero}
 use Rattle.potential_functions.proofs.Ranges.{zero-range}
 
@@ -58,8 +59,9 @@ gives-zero literals count =
 abbrev pub zero_potentials : ℕ → PotentialFunction
 zero_potentials count = record { constant = pos 0; weights = zeros count }
 
-pub zero-fair : (task : Task) (atoms : List Atom) → AreFair task atoms (zero_potentials (length atoms))
-zero-fair task atoms = record {
+-- whatever an instance is allowed
+zero-fair_at : (allowance : Instance → ℕ) (task : Task) (atoms : List Atom) → AreFairAt allowance task atoms (zero_potentials (length atoms))
+zero-fair_at allowance task atoms = record {
   instances = λ k d below.
       let i = get_or (kept_instances task) k d in
       let e = loses-zero (literals_of_instance task atoms i) (counting_of_instance task atoms i) (length atoms) in
@@ -68,6 +70,12 @@ zero-fair task atoms = record {
       let e = gives-zero (literals_of_goal task atoms) (length atoms) in
       record { within = omega (arith, ints) };
 }
+
+pub zero-fair : (task : Task) (atoms : List Atom) → AreFair task atoms (zero_potentials (length atoms))
+zero-fair task atoms = zero-fair_at (cost_of task) task atoms
+
+pub zero-dead_fair : (task : Task) (atoms : List Atom) → AreDeadFair task atoms (zero_potentials (length atoms))
+zero-dead_fair task atoms = zero-fair_at nothing task atoms
 
 pub zeros-range : (count : ℕ) → All IsInRange (zeros count)
 zeros-range zero k d below = absurd (omega arith)
