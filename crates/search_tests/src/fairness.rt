@@ -2,7 +2,9 @@
 //! The numbered atoms are those of being at `a`, `b` and `c`; the kept instances are the two hops, and then the leap.
 use faults::NoMemory;
 use grounding::Ground;
-use potentials_improved::{Fair, Fairness, Improve, Potentials};
+use packed_state::Packed;
+use potentials_improved::{DeadFair, Fair, Fairness, Improve, Potentials};
+use search::DeadEnd;
 use std::alloc::Global;
 use std::process::Abort;
 use std::test::Fail;
@@ -29,6 +31,42 @@ fn told(
         return Ok(None);
     }
     Ok(Some(potentials.fair(alloc, ground)?))
+}
+
+/// What is told of the potentials where nothing is allowed to an instance.
+fn told_dead(
+    alloc: Global,
+    ground: &Ground<'_>,
+    constant: i64,
+    weights: &[i64],
+) -> Result<Option<Fairness>, NoMemory> {
+    let Some(potentials) = weighing(alloc, constant, weights)? else {
+        return Ok(None);
+    };
+    if potentials.weights().len() != ground.width() as usize {
+        return Ok(None);
+    }
+    Ok(Some(potentials.dead_fair(alloc, ground)?))
+}
+
+/// Whether these potentials, if they are dead-fair, tell the initial state dead, and the state in which nothing is true.
+fn are_dead(
+    alloc: Global,
+    ground: &Ground<'_>,
+    constant: i64,
+    weights: &[i64],
+) -> Result<Option<(bool, bool)>, NoMemory> {
+    let Some(potentials) = weighing(alloc, constant, weights)? else {
+        return Ok(None);
+    };
+    if potentials.weights().len() != ground.width() as usize {
+        return Ok(None);
+    }
+    let (initial, empty) = (ground.initial(alloc)?, Packed::empty(alloc, ground.width())?);
+    match DeadFair::new(alloc, potentials, ground)? {
+        Some(test) => Ok(Some((test.dead(&initial), test.dead(&empty)))),
+        None => Ok(None),
+    }
 }
 
 /// What fair potentials tell of the initial state.
@@ -84,6 +122,45 @@ fn estimated_and_improved(
         estimated(alloc, ground, 7, &[0, -3, -6])?,
         improved(alloc, ground, 1)?,
     ])
+}
+
+/// The same where nothing is allowed: a hop moves from one place to another, and at the goal one is at `c`.
+fn told_dead_of_three(
+    alloc: Global,
+    ground: &Ground<'_>,
+) -> Result<[Option<Fairness>; 3], NoMemory> {
+    Ok([
+        told_dead(alloc, ground, 1, &[-1, -1, -1])?,
+        told_dead(alloc, ground, 1, &[-1, -2, -1])?,
+        told_dead(alloc, ground, 2, &[-1, -1, -1])?,
+    ])
+}
+
+/// What the first of them tell, and what the last do, which are not dead-fair.
+fn dead_of_two(
+    alloc: Global,
+    ground: &Ground<'_>,
+) -> Result<[Option<(bool, bool)>; 2], NoMemory> {
+    Ok([
+        are_dead(alloc, ground, 1, &[-1, -1, -1])?,
+        are_dead(alloc, ground, 2, &[-1, -1, -1])?,
+    ])
+}
+
+#[test]
+fn who_is_nowhere_is_dead(rt: HostRuntime) -> Result<(), Fail> {
+    on_task(&rt, rt.alloc(), &HOP, |rt, alloc, task| {
+        let ground = Ground::new(alloc, task, &[], 10)?;
+        let wanted = [
+            Some(Fairness::Fair),
+            Some(Fairness::Instance(0)),
+            Some(Fairness::Goal),
+        ];
+        assert_eq!(rt; told_dead_of_three(alloc, &ground)?, wanted);
+        let wanted = [Some((false, true)), None];
+        assert_eq!(rt; dead_of_two(alloc, &ground)?, wanted);
+        Ok(())
+    })
 }
 
 #[test]
