@@ -34,7 +34,12 @@ pub(super) fn fair_potentials(
     ensures wrong { IfErr result (IsTrueAnyway (task_in grounded.now) (certificate_in listing.now)) }
     ensures first { IfErr result (IsFirstGrounded (task_in grounded.now) (certificate_in listing.now)) }
 {
-    let potentials = at_width(alloc, listing.constant(), listing.weights(), grounded.width())?;
+    let potentials = at_width(
+        alloc,
+        listing.constant(),
+        listing.weights(),
+        grounded.width(),
+    )?;
     match potentials.fair(alloc, grounded)? {
         Fairness::Fair => Ok(potentials),
         Fairness::Instance(number) => Err(Refusal::Unfair(kept_instance(grounded, number))),
