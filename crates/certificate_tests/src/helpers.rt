@@ -25,6 +25,8 @@ pub(crate) enum Told {
     },
     /// The first instance that is not fair is one of this schema.
     Unfair(SchemaId),
+    /// The first instance that is not dead-fair is one of this schema.
+    DeadUnfair(SchemaId),
     /// What is wrong, and not with one line.
     Plain(RefusalCode),
     /// Memory was refused.
@@ -40,6 +42,7 @@ fn as_told(refusal: Refusal) -> Told {
     match refusal {
         Refusal::Line { code, line } => Told::Line { code, line },
         Refusal::Unfair(instance) => Told::Unfair(instance.schema),
+        Refusal::DeadUnfair(instance) => Told::DeadUnfair(instance.schema),
         Refusal::Plain(code) => Told::Plain(code),
         Refusal::NoMemory => Told::NoMemory,
         Refusal::Device => Told::Device,
