@@ -1,6 +1,6 @@
 -- What is told of a certificate is the first thing that is wrong: nothing before it is.
 use Rattle.std.proofs.Common.{◌≡◌, ◌≢◌, ℕ, ◌+◌, ◌<◌, ◌≤◌, ◌⊎◌, ◌&&◌, true, List, length, Option, None, Some, inl, inr, refl, sym, ap, ◌∙◌, subst, arith}
-use Rattle.std.specs.Prelude.{IsSome, IsTrue, AllPairs, slice_get}
+use Rattle.std.specs.Prelude.{IsSome, IsTrue, AllPairs, Contains, slice_get}
 use Rattle.std.proofs.lemmas.Bool.{cases_eq, false≢true}
 use Rattle.std.proofs.lemmas.Option.{slice_get_within, get_or_from_slice_get}
 use Rattle.std.proofs.lemmas.List.Elements.{All-contains}
@@ -17,11 +17,10 @@ use Rattle.model.specs.Fluents.{is_fluent}
 use Rattle.certificate_definitions.specs.Certificates.{Certificate, lines_of, IsClosedFor}
 use Rattle.certificate_definitions.specs.CertificateRefusals.{Reason, not_fluent, repeated, no_initial, unfair, unfair_goal, goal_open, successor_missing, successor_dearer, cut_weak, cut_not_allowed, plan_invalid, plan_dearer, limit, dead_unfair, dead_unfair_goal, not_dead, IsWrongLine, IsWrong, IsFirst, stage_of, rank_of, state_line}
 use Rattle.potential_functions.specs.PotentialFunctions.{PotentialFunction}
-use Rattle.potential_functions.specs.Fair.{nothing, IsFairAt, IsFairAtGoals}
+use Rattle.potential_functions.specs.Fair.{nothing, IsFairAt, IsFairAtGoals, AreFair}
 use Rattle.potentials.specs.Fairness.{AreInstancesFair, AreInstancesFairAt, AreInstancesDeadFair}
 use Rattle.cert_checker.specs.FluentAtoms.{AreFluent}
 use Rattle.cert_checker.specs.CheckedLines.{AreFairFor, CutsAreAllowed, IsLineClosed, IsRightUpTo}
-use Rattle.cert_checker.specs.CertChecker.{IsUnfairAt}
 use Rattle.certificate_definitions.proofs.CertificateRefusalsLemmas.{apart, right_line}
 
 -- ---- what is known of a beginning of the certificate
@@ -56,6 +55,40 @@ pub record AreFairUpTo (task : Task) (c : Certificate) (count : ℕ) : Type 0 wh
   pub goals : 1 < count → IsFairAtGoals task (numbered_atoms task c.atoms) c.potentials
   pub dead_instances : 2 < count → AreInstancesDeadFair task (numbered_atoms task c.atoms) c.dead_ends
   pub dead_goals : 3 < count → IsFairAtGoals task (numbered_atoms task c.atoms) c.dead_ends
+
+-- nothing is asked before the first; each that is asked of the values, and of dead ends, comes behind those before it
+pub none_asked : (task : Task) (c : Certificate) → AreFairUpTo task c 0
+none_asked task c = record {
+  instances = λ below. absurd (omega arith);
+  goals = λ below. absurd (omega arith);
+  dead_instances = λ below. absurd (omega arith);
+  dead_goals = λ below. absurd (omega arith);
+}
+
+pub instances_asked : (task : Task) (c : Certificate) → AreInstancesFair task (numbered_atoms task c.atoms) c.potentials → AreFairUpTo task c 1
+instances_asked task c instances = record {
+  instances = λ below. instances;
+  goals = λ below. absurd (omega arith);
+  dead_instances = λ below. absurd (omega arith);
+  dead_goals = λ below. absurd (omega arith);
+}
+
+pub values_asked : (task : Task) (c : Certificate) → AreFair task (numbered_atoms task c.atoms) c.potentials → AreFairUpTo task c 2
+values_asked task c fair = record {
+  instances = λ below. fair.instances;
+  goals = λ below. fair.goals;
+  dead_instances = λ below. absurd (omega arith);
+  dead_goals = λ below. absurd (omega arith);
+}
+
+pub dead_instances_asked : (task : Task) (c : Certificate) → AreFair task (numbered_atoms task c.atoms) c.potentials → AreInstancesDeadFair task (numbered_atoms task c.atoms) c.dead_ends
+    → AreFairUpTo task c 3
+dead_instances_asked task c fair instances = record {
+  instances = λ below. fair.instances;
+  goals = λ below. fair.goals;
+  dead_instances = λ below. instances;
+  dead_goals = λ below. absurd (omega arith);
+}
 
 fair_so_far : (task : Task) (c : Certificate) (most count : ℕ) → AreFairUpTo task c most → count ≤ most → AreFairUpTo task c count
 fair_so_far task c most count fair few = record {
@@ -169,7 +202,8 @@ module _ (task : Task) (c : Certificate) where
         | inr later ↦ in_limit plan most r l within (omega arith) wrong
       ]
 
-  all_fair : (allowance : Instance → ℕ) (p : PotentialFunction) → AreInstancesFairAt allowance task (numbered_atoms task c.atoms) p → (i : Instance) × IsUnfairAt allowance task c p i → ⊥
+  all_fair : (allowance : Instance → ℕ) (p : PotentialFunction) → AreInstancesFairAt allowance task (numbered_atoms task c.atoms) p
+      → (i : Instance) × Contains (kept_instances task) i × ¬ IsFairAt (allowance i) task (numbered_atoms task c.atoms) p.weights i → ⊥
   all_fair allowance p fair (i, kept, wrong) =
       wrong (All-contains (λ (i : Instance). IsFairAt (allowance i) task (numbered_atoms task c.atoms) p.weights i) (kept_instances task) i fair kept)
 

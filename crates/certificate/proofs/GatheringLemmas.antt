@@ -1,16 +1,20 @@
 -- A text that goes to a sink in large pieces.
-use Rattle.std.proofs.Common.{◌≡◌, ℕ, ◌+◌, ◌<◌, List, [], ◌++◌, length, map, take, get_or, Option, sym, ap, ◌∙◌, subst, append_assoc, append-nil, arith}
+use Rattle.std.proofs.Common.{◌≡◌, ℕ, ◌+◌, ◌<◌, ◌≤◌, List, [], ◌++◌, length, map, take, get_or, Option, sym, ap, ◌∙◌, subst, append_assoc, append-nil, arith}
 use Rattle.std.specs.Io.KnownBytes.{Appends}
 use Rattle.std.specs.List.{flat_map}
 use Rattle.std.proofs.KnownBytes.{Appends-nil, Appends-trans}
-use Rattle.std.specs.Prelude.{min, zip, slice_get, Some}
-use Rattle.std.proofs.lemmas.Option.{slice_get_within, get_or_from_slice_get}
+use Rattle.std.specs.Prelude.{ℤ, pos, zip, slice_get, Some}
+use Rattle.std.proofs.lemmas.Option.{slice_get-get_or, slice_get_within, get_or_from_slice_get}
 use Rattle.std.proofs.Math.ListN.{get_or-map}
 use Rattle.std.proofs.lemmas.List.{length-map}
 use Rattle.std.proofs.lemmas.Slice.Zip.{get_or-zip, length-zip}
+use Rattle.model.specs.Task.{Atom, Task}
 use Rattle.model.proofs.Pieces.{parts_more, parts_all}
 use Rattle.devices.specs.Devices.{AppendsBeginning}
-use Rattle.certificate.specs.Gathering.{IsPassedOn}
+use Rattle.certificate_definitions.specs.Certificates.{Certificate}
+use Rattle.certificate_definitions.specs.CertificateText.{Weights}
+use Rattle.certificate_definitions.specs.CertificateNames.{weights_in}
+use Rattle.certificate.specs.Gathering.{IsPassedOn, atom_line, atoms_weighed, line_of_atom}
 
 module _ (before : Option (List ℕ)) where
   -- nothing yet
@@ -60,21 +64,30 @@ module _ (before : Option (List ℕ)) where
     pub passed_all : (after : Option (List ℕ)) → Appends now after held_now → Appends before after (held ++ text)
     passed_all after taken = subst (Appends before after) (sym passed.2) (Appends-trans before now after passed.0 held_now passed.1 taken)
 
--- the pieces of two lists side by side, the first by a view of its elements
-module _ {X Y W : Type 0} (f : Y × W → List ℕ) (v : X → Y) (xs : List X) (ws : List W) (n : ℕ) where
-  abbrev pairs : List (Y × W)
-  pairs = zip (map v xs) ws
-
-  pub pairs_more : (x : X) (w : W) → n < length xs → n < length ws → x ≡ get_or xs n x → w ≡ get_or ws n w
-      → flat_map f (take (n + 1) pairs) ≡ flat_map f (take n pairs) ++ f (v x, w)
-  pairs_more x w in_xs in_ws at_x at_w =
-      parts_more f pairs n (v x, w) (omega (arith, length-zip (map v xs) ws, length-map xs v, in_xs, in_ws))
-      (get_or-zip (map v xs) ws n (v x, w) (omega (arith, length-map xs v, in_xs)) in_ws
-      ∙ (λ i. ((get_or-map v xs n x ∙ ap v (sym at_x)) i, sym at_w i)))
-
-  pub pairs_all : n ≡ min (length xs) (length ws) → flat_map f (take n pairs) ≡ flat_map f pairs
-  pairs_all past = parts_all f pairs n (omega (arith, length-zip (map v xs) ws, length-map xs v, past))
-
 -- one piece more, where it is read at its place
 pub line_more : {Y : Type 0} (f : Y → List ℕ) (ys : List Y) (i : ℕ) (y : Y) → slice_get ys i ≡ Some y → flat_map f (take (i + 1) ys) ≡ flat_map f (take i ys) ++ f y
 line_more f ys i y at = parts_more f ys i y (slice_get_within ys i y at) (get_or_from_slice_get ys i y y at)
+
+-- the lines of a certificate's atoms, by what is read at their places
+module _ {X : Type 0} (task : Task) (c : Certificate) (v : X → Atom) (atoms : List X) (are : map v atoms ≡ c.atoms) (i : ℕ) where
+  abbrev lines : List (Atom × (ℤ × ℤ)) → List ℕ
+  lines = flat_map (atom_line task c.version)
+
+  count : length atoms ≡ length c.atoms
+  count = sym (length-map atoms v) ∙ ap length are
+
+  pub atom_more : (a : X) (weights : Weights) → i < length atoms → length c.potentials.weights ≡ length c.atoms → length c.dead_ends.weights ≡ length c.atoms → get_or atoms i a ≡ a
+      → weights ≡ weights_in c.version (get_or c.potentials.weights i (pos 0)) (get_or c.dead_ends.weights i (pos 0))
+      → lines (take (i + 1) (atoms_weighed c)) ≡ lines (take i (atoms_weighed c)) ++ line_of_atom task weights (v a)
+  atom_more a weights within ws ds at is =
+      let both = zip c.potentials.weights c.dead_ends.weights in
+      let many : length both ≡ length c.atoms = omega (arith, length-zip c.potentials.weights c.dead_ends.weights, ws, ds) in
+      let atom : get_or c.atoms i (v a) ≡ v a = ap (λ xs. get_or xs i (v a)) (sym are) ∙ get_or-map v atoms i a ∙ ap v at in
+      let two = get_or-zip c.potentials.weights c.dead_ends.weights i (pos 0, pos 0) (omega (arith, within, count, ws)) (omega (arith, within, count, ds)) in
+      let all = get_or-zip c.atoms both i (v a, (pos 0, pos 0)) (omega (arith, within, count)) (omega (arith, within, count, many)) ∙ (λ j. (atom j, two j)) in
+      line_more (atom_line task c.version) (atoms_weighed c) i (v a, (get_or c.potentials.weights i (pos 0), get_or c.dead_ends.weights i (pos 0)))
+      (slice_get-get_or (atoms_weighed c) i (v a, (pos 0, pos 0)) (omega (arith, length-zip c.atoms both, many, within, count)) ∙ ap (λ x. Some x) all)
+      ∙ ap (λ weights. lines (take i (atoms_weighed c)) ++ line_of_atom task weights (v a)) (sym is)
+
+  pub atoms_all : length atoms ≤ i → lines (take i (atoms_weighed c)) ≡ lines (atoms_weighed c)
+  atoms_all past = parts_all (atom_line task c.version) (atoms_weighed c) i (omega (arith, length-zip c.atoms (zip c.potentials.weights c.dead_ends.weights), count, past))

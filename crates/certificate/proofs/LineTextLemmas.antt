@@ -1,11 +1,12 @@
 -- The bytes of lines that are added piece by piece.
 use Rattle.std.proofs.Common.{◌≡◌, ℕ, List, [], ◌∷◌, ◌++◌, codes, map, refl, ap, ◌∙◌, append_assoc}
+use Rattle.std.specs.Fmt.{digits}
 use Rattle.std.specs.List.{flat_map}
 use Rattle.std.specs.Result.{OnOk}
 use Rattle.std.specs.Prelude.{Result, Ok, Err, is_ok, if◌then◌else◌}
 use Rattle.model.specs.Claims.{Claim}
 use Rattle.model.specs.Task.{Atom, Task}
-use Rattle.certificate_definitions.specs.Certificates.{Version, StateLine}
+use Rattle.certificate_definitions.specs.Certificates.{Version, one, two, StateLine}
 use Rattle.model.specs.PlanWriting.{object_name, object_text}
 use Rattle.certificate_definitions.specs.CertificateText.{Weights, after_blank, claims, constant, line_text, mark_text, version, weights_text, whole_line}
 use Rattle.certificate_definitions.specs.CertificateNames.{predicate_name}
@@ -23,6 +24,15 @@ pieces old a b = append_assoc old a b
 
 five : (old a b n c d : List ℕ) → (((old ++ a) ++ b) ++ ((n ++ c) ++ d)) ++ n ≡ old ++ ((a ++ (b ++ n)) ++ ((c ++ d) ++ n))
 five old a b n c d = simp append_assoc
+
+-- the line of each version
+pub line_of_one : codes "pddl-cert 1\n" ≡ whole_line (version one)
+unfolding digits
+line_of_one = refl
+
+pub line_of_two : codes "pddl-cert 2\n" ≡ whole_line (version two)
+unfolding digits
+line_of_two = refl
 
 pub head_text : (old : List ℕ) (v : Version) (claim : Claim) (k : Weights)
     → (((old ++ whole_line (version v)) ++ line_text (claims claim)) ++ (codes "\nconstant " ++ weights_text k)) ++ codes "\n"

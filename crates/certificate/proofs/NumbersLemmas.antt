@@ -212,7 +212,7 @@ module _ (listing : Listing) where
   constant_within = (potential_parts is_weight count (potential_of listing.beginning.potential) limits.potentials).0
 
   pub weights_within : (length listing.beginning.potential.weights.items ≡ count) × (list_all is_weight listing.beginning.potential.weights.items ≡ true)
-  weights_within = (potential_parts is_weight count (potential_of listing.beginning.potential) limits.potentials).1
+  weights_within = let (_, many, weights) = potential_parts is_weight count (potential_of listing.beginning.potential) limits.potentials in (many, weights)
 
   pub dead_end_constant_within : is_weight listing.beginning.dead_ends.constant ≡ true
   dead_end_constant_within =

@@ -150,7 +150,7 @@ fn are_potentials(potential: &Potential, atom_count: usize) -> bool
 {
     is_weight(potential.constant)
         && potential.weights.len() == atom_count
-        && potential.weights.iter().all(|weight| is_weight(*weight))
+        && are_weights(&potential.weights)
 }
 
 /// Whether they may tell dead ends in a certificate of this version and of this many atoms.
@@ -159,10 +159,23 @@ fn are_dead_ends(version: Version, potential: &Potential, atom_count: usize) -> 
 {
     is_dead_end_weight(version, potential.constant)
         && potential.weights.len() == atom_count
-        && potential
-            .weights
-            .iter()
-            .all(|weight| is_dead_end_weight(version, *weight))
+        && are_dead_end_weights(version, &potential.weights)
+}
+
+/// Whether each number may be a weight.
+fn are_weights(weights: &[i64]) -> bool
+    ensures { result ≡ list_all is_weight weights.now }
+{
+    weights.iter().all(|weight| is_weight(*weight))
+}
+
+/// Whether each number may be a weight that tells dead ends.
+fn are_dead_end_weights(version: Version, weights: &[i64]) -> bool
+    ensures { result ≡ list_all (is_dead_end_weight (version_of version)) weights.now }
+{
+    weights
+        .iter()
+        .all(|weight| is_dead_end_weight(version, *weight))
 }
 
 /// Whether the number may be a weight.

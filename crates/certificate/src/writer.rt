@@ -79,8 +79,9 @@ fn write_text<C: WritableCert, W: Sink>(
     ensures name { W.name out.new ≡ W.name out.old }
 {
     let mut held = Vec::new(alloc);
-    let constants = weights_in(cert.version(), cert.constant(), cert.dead_end_constant());
-    add_head(cert.version(), cert.claim(), constants, &mut held)?;
+    let version = cert.version();
+    let constants = weights_in(version, cert.constant(), cert.dead_end_constant());
+    add_head(version, cert.claim(), constants, &mut held)?;
     write_atoms(task, cert, &mut held, out)?;
     write_states(alloc, cert, &mut held, out)?;
     add_last(cert.line_count(), &mut held)?;
@@ -101,7 +102,11 @@ fn write_atoms<C: WritableCert, W: Sink>(
 {
     let (version, atoms) = (cert.version(), cert.atoms());
     for place in 0..atoms.len() {
-        let weights = weights_in(version, cert.weights()[place], cert.dead_end_weights()[place]);
+        let weights = weights_in(
+            version,
+            cert.weights()[place],
+            cert.dead_end_weights()[place],
+        );
         add_atom(task, &atoms[place], weights, held)?;
         pass_on(held, out)?;
     }

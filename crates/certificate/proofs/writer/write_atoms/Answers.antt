@@ -1,68 +1,73 @@
-use Rattle.std.proofs.Common.{rules, arith, ◌≡◌, [], ◌∷◌, ◌+◌, ◌∙◌, ◌++◌, ap, sym, subst, length, length-append, map, take, drop, append-nil}
+use Rattle.std.proofs.Common.{rules, arith, ◌≡◌, [], ◌+◌, ◌∙◌, ◌++◌, ap, sym, subst, append-nil, drop, get_or, length, pos, take, to_z, of_z}
 use Rattle.std.specs.Int.{w64}
-use Rattle.std.proofs.lemmas.Int.{to_z-of_z}
-use Rattle.std.specs.Prelude.{zip}
 use Rattle.std.specs.List.{flat_map}
-use Rattle.std.proofs.lemmas.Slice.Zip.{zip_turn, zip_end}
 use Rattle.typing.specs.Task.{task_of}
 use Rattle.typing.specs.TaskParts.{atom_of}
 use Rattle.devices.specs.Devices.{AppendsBeginning}
-use Rattle.certificate.specs.Gathering.{IsPassedOn, atom_line}
+use Rattle.certificate_reader.specs.Lines.{weights_of}
+use Rattle.certificate_definitions.specs.CertificateText.{Weights}
+use Rattle.certificate_definitions.specs.CertificateNames.{weights_in}
+use Rattle.certificate.specs.Gathering.{IsPassedOn, atom_line, atoms_weighed, line_of_atom}
 use Rattle.model.proofs.Pieces.{parts_split}
-use Rattle.certificate.proofs.GatheringLemmas.{passed_held, passed_then, passed_partly, passed_beginning, pairs_more, pairs_all}
+use Rattle.certificate.proofs.GatheringLemmas.{passed_held, passed_then, passed_partly, passed_beginning, atom_more, atoms_all}
 use Rattle.certificate.proofs.writer.write_atoms.Goals as goal
+use Rattle.certificate.proofs.writer.write_atoms.Goals.{In_ok-add_atom}
+use Rattle.certificate.proofs.writer.write_atoms.Given.{Over}
 
 -- what is written so far is a beginning
 pub returns-in_err-add_atom-clause-beginning : goal.returns-in_err-add_atom-clause-beginning
 returns-in_err-add_atom-clause-beginning g c =
-    let f = atom_line (task_of c.args.task.now) in
-    let n = length c.loop-atom.yielded in
-    let lines = zip (map atom_of c.args.atoms.now) c.args.weights.now in
-    subst (AppendsBeginning _ _) (ap (λ xs. c.args.held.now.items ++ xs) (sym (parts_split f lines n)))
-    (passed_partly _ _ _ _ _ c.loop-atom.invariant.passed (flat_map f (drop n lines)))
+    let cert = g.C.WritableCert.certificate c.args.cert.now in
+    let f = atom_line (task_of c.args.task.now) cert.version in
+    let i = c.loop-place.place in
+    subst (AppendsBeginning _ _) (ap (λ xs. c.args.held.now.items ++ xs) (sym (parts_split f (atoms_weighed cert) i)))
+    (passed_partly _ _ _ _ _ c.loop-place.invariant.passed (flat_map f (drop i (atoms_weighed cert))))
+
+-- one line more
+more : (g : Over) (c : In_ok-add_atom g)
+    → flat_map (atom_line (task_of c.args.task.now) (g.C.WritableCert.certificate c.args.cert.now).version) (take (c.loop-place.place + 1) (atoms_weighed (g.C.WritableCert.certificate c.args.cert.now)))
+    ≡ flat_map (atom_line (task_of c.args.task.now) (g.C.WritableCert.certificate c.args.cert.now).version) (take c.loop-place.place (atoms_weighed (g.C.WritableCert.certificate c.args.cert.now)))
+    ++ line_of_atom (task_of c.args.task.now) (weights_of c.weights_in-weights.result) (atom_of c.index-atoms-place.result)
+more g c =
+    let cert = g.C.WritableCert.certificate c.args.cert.now in
+    let i = c.loop-place.place in
+    let value : to_z w64 (of_z w64 (get_or c.weights.result.now i (pos 0))) ≡ get_or c.weights.result.now i (pos 0) = search rules in
+    let dead_end : to_z w64 (of_z w64 (get_or c.dead_end_weights.result.now i (pos 0))) ≡ get_or c.dead_end_weights.result.now i (pos 0) = search rules in
+    let of_value : to_z w64 (of_z w64 (get_or c.weights.result.now i (pos 0))) ≡ get_or cert.potentials.weights i (pos 0) = ◌∙◌ {b = get_or c.weights.result.now i (pos 0)} value (ap (λ ws. get_or ws i (pos 0)) c.weights.ensures.weights) in
+    let of_dead_end : to_z w64 (of_z w64 (get_or c.dead_end_weights.result.now i (pos 0))) ≡ get_or cert.dead_ends.weights i (pos 0) =
+    ◌∙◌ {b = get_or c.dead_end_weights.result.now i (pos 0)} dead_end (ap (λ ds. get_or ds i (pos 0)) c.dead_end_weights.ensures.weights) in
+    atom_more (task_of c.args.task.now) cert atom_of c.atoms-atoms.result.now c.atoms-atoms.ensures i c.index-atoms-place.result (weights_of c.weights_in-weights.result) c.loop-place-test.true
+    (ap length (sym c.weights.ensures.weights) ∙ c.weights.ensures.one_for_each)
+    (ap length (sym c.dead_end_weights.ensures.weights) ∙ c.dead_end_weights.ensures.one_for_each)
+    (sym c.index-atoms-place.is)
+    (◌∙◌ {A = Weights} c.weights_in-weights.ensures (λ j. weights_in (c.version-version.ensures j) (of_value j) (of_dead_end j)))
 
 pub returns-in_err-pass_on-clause-beginning : goal.returns-in_err-pass_on-clause-beginning
 returns-in_err-pass_on-clause-beginning g c =
-    let f = atom_line (task_of c.args.task.now) in
-    let n = length c.loop-atom.yielded in
-    let lines = zip (map atom_of c.args.atoms.now) c.args.weights.now in
-    let first : c.into_iter-atom-iterator.result.a.rest.now ≡ c.args.atoms.now = search rules in
-    let second : c.into_iter-atom-iterator.result.b.rest.now ≡ c.args.weights.now = search rules in
-    let turn = zip_turn c.args.atoms.now c.args.weights.now c.loop-atom.yielded _ _ c.next.new.self _ first second c.loop-atom.yielded_by _ c.in-Some.is c.next.ensures.steps in
-    let more = pairs_more f atom_of c.args.atoms.now c.args.weights.now n c.in-Some.atom.now c.in-Some.weight.now turn.0 turn.1 (turn.2 c.in-Some.atom.now) (turn.3 c.in-Some.weight.now) in
-    let later = flat_map f (drop (n + 1) lines) in
-    let held = passed_held _ _ _ _ _ c.loop-atom.invariant.passed _ _ (c.in_ok-add_atom.ensures ∙ ap (λ w. c.loop-atom.held.items ++ f (atom_of c.in-Some.atom.now, w)) (to_z-of_z w64 c.in-Some.weight.now (search rules))) in
+    let cert = g.C.WritableCert.certificate c.args.cert.now in
+    let f = atom_line (task_of c.args.task.now) cert.version in
+    let i = c.loop-place.place in
+    let later = flat_map f (drop (i + 1) (atoms_weighed cert)) in
+    let held = passed_held _ _ _ _ _ c.loop-place.invariant.passed _ _ c.in_ok-add_atom.ensures in
     subst (AppendsBeginning _ _)
-    (ap (λ xs. c.args.held.now.items ++ (xs ++ later)) (sym more) ∙ ap (λ xs. c.args.held.now.items ++ xs) (sym (parts_split f lines (n + 1))))
+    (ap (λ xs. c.args.held.now.items ++ (xs ++ later)) (sym (more g (goal.at.returns-in_err-pass_on-clause-beginning g c).In_ok-add_atom))
+    ∙ ap (λ xs. c.args.held.now.items ++ xs) (sym (parts_split f (atoms_weighed cert) (i + 1))))
     (passed_beginning _ _ _ _ _ held _ [] later (subst (AppendsBeginning _ _) (sym (append-nil _)) c.pass_on.ensures.beginning))
 
-pub loop-atom-preserved : goal.loop-atom-preserved
-loop-atom-preserved g c =
-    let f = atom_line (task_of c.args.task.now) in
-    let n = length c.loop-atom.yielded in
-    let first : c.into_iter-atom-iterator.result.a.rest.now ≡ c.args.atoms.now = search rules in
-    let second : c.into_iter-atom-iterator.result.b.rest.now ≡ c.args.weights.now = search rules in
-    let turn = zip_turn c.args.atoms.now c.args.weights.now c.loop-atom.yielded _ _ c.next.new.self _ first second c.loop-atom.yielded_by _ c.in-Some.is c.next.ensures.steps in
-    let more = pairs_more f atom_of c.args.atoms.now c.args.weights.now n c.in-Some.atom.now c.in-Some.weight.now turn.0 turn.1 (turn.2 c.in-Some.atom.now) (turn.3 c.in-Some.weight.now) in
-    let held = passed_held _ _ _ _ _ c.loop-atom.invariant.passed _ _ (c.in_ok-add_atom.ensures ∙ ap (λ w. c.loop-atom.held.items ++ f (atom_of c.in-Some.atom.now, w)) (to_z-of_z w64 c.in-Some.weight.now (search rules))) in
-    let passed = subst (IsPassedOn (g.W.Sink.taken c.args.out.now) (g.W.Sink.taken c.pass_on.new.out) c.args.held.now.items c.pass_on.new.held.items) (append-nil _ ∙ sym more) (passed_then _ _ _ _ _ held _ _ [] c.in_ok-pass_on.ensures.text) in
-    let count : length (c.loop-atom.yielded ++ (c.in-Some.atom, c.in-Some.weight) ∷ []) ≡ n + 1 = omega (arith, length-append c.loop-atom.yielded ((c.in-Some.atom, c.in-Some.weight) ∷ [])) in
+pub loop-place-preserved : goal.loop-place-preserved
+loop-place-preserved g c =
+    let held = passed_held _ _ _ _ _ c.loop-place.invariant.passed _ _ c.in_ok-add_atom.ensures in
     record {
-      passed = subst (λ n. IsPassedOn (g.W.Sink.taken c.args.out.now) (g.W.Sink.taken c.pass_on.new.out) c.args.held.now.items c.pass_on.new.held.items (flat_map f (take n (zip (map atom_of c.args.atoms.now) c.args.weights.now)))) (sym count) passed;
-      failures = c.in_ok-pass_on.ensures.failures ∙ c.loop-atom.invariant.failures;
-      name = c.in_ok-pass_on.ensures.name ∙ c.loop-atom.invariant.name;
+      passed = subst (IsPassedOn _ _ _ _) (append-nil _ ∙ sym (more g (goal.at.loop-place-preserved g c).In_ok-add_atom)) (passed_then _ _ _ _ _ held _ _ [] c.in_ok-pass_on.ensures.text);
+      failures = c.in_ok-pass_on.ensures.failures ∙ c.loop-place.invariant.failures;
+      name = c.in_ok-pass_on.ensures.name ∙ c.loop-place.invariant.name;
     }
 
-pub returns : goal.returns
-returns g c =
-    let first : c.into_iter-atom-iterator.result.a.rest.now ≡ c.args.atoms.now = search rules in
-    let second : c.into_iter-atom-iterator.result.b.rest.now ≡ c.args.weights.now = search rules in
-    let counts = zip_end c.args.atoms.now c.args.weights.now c.loop-atom.yielded _ _ c.next.new.self _ first second c.loop-atom.yielded_by c.in-None.is c.next.ensures.steps in
-    let all = pairs_all (atom_line (task_of c.args.task.now)) atom_of c.args.atoms.now c.args.weights.now (length c.loop-atom.yielded) counts in
-    let whole = subst (IsPassedOn (g.W.Sink.taken c.args.out.now) (g.W.Sink.taken c.loop-atom.out) c.args.held.now.items c.loop-atom.held.items) all c.loop-atom.invariant.passed in
-    record {
-      text = whole;
-      beginning = (whole.0, c.loop-atom.held.items, whole.2, whole.1);
-      failures = c.loop-atom.invariant.failures;
-      name = c.loop-atom.invariant.name;
-    }
+pub returns-clause-text : goal.returns-clause-text
+returns-clause-text g c =
+    subst (IsPassedOn _ _ _ _)
+    (atoms_all (task_of c.args.task.now) (g.C.WritableCert.certificate c.args.cert.now) atom_of c.atoms-atoms.result.now c.atoms-atoms.ensures c.loop-place.place (omega (arith, c.loop-place-test.false)))
+    c.loop-place.invariant.passed
+
+pub returns-clause-beginning : goal.returns-clause-beginning
+returns-clause-beginning g c = let passed = returns-clause-text g c in (passed.0, c.loop-place.held.items, passed.2, passed.1)

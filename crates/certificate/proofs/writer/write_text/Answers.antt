@@ -1,36 +1,37 @@
 use Rattle.std.specs.Int.{w64}
 use Rattle.std.proofs.lemmas.Int.{to_z-of_z}
-use Rattle.std.proofs.Common.{rules, ◌∙◌, ◌++◌, [], ap, subst}
+use Rattle.std.proofs.Common.{rules, ◌≡◌, ◌∙◌, ◌++◌, [], ap, subst, to_z, of_z}
 use Rattle.std.specs.Io.KnownBytes.{Appends}
-use Rattle.std.specs.List.{flat_map}
-use Rattle.std.specs.Prelude.{OnOk, zip}
+use Rattle.std.specs.Prelude.{OnOk}
 use Rattle.typing.specs.Task.{task_of}
 use Rattle.devices.specs.Devices.{AppendsBeginning}
-use Rattle.certificate_definitions.specs.CertificateText.{last, whole_line}
-use Rattle.certificate_definitions.specs.CertificateNames.{certificate_text}
-use Rattle.certificate.specs.Gathering.{IsPassedOn, atom_line}
-use Rattle.certificate.proofs.WholeText.{head, to_atoms, to_states, head_held, atoms_held, atoms_begun, states_held, states_begun, last_begun, all_held, all_begun, all_where_ok}
+use Rattle.certificate_definitions.specs.CertificateText.{Weights, last, whole_line}
+use Rattle.certificate_definitions.specs.CertificateNames.{certificate_text, weights_in}
+use Rattle.certificate_reader.specs.Lines.{weights_of}
+use Rattle.certificate.specs.Gathering.{IsPassedOn}
+use Rattle.certificate.proofs.WholeText.{head, head_of, to_atoms, to_states, head_held, atoms_held, atoms_begun, states_held, states_begun, last_begun, all_held, all_begun, all_where_ok}
 use Rattle.certificate.proofs.writer.write_text.Goals as goal
 use Rattle.certificate.proofs.writer.write_text.Goals.{In_ok-add_head, In_ok-write_atoms, In_ok-write_states, In_ok-add_last}
 use Rattle.certificate.proofs.writer.write_text.Given.{Over}
 
 -- what is passed on, or held, once the beginning, the atoms, the states and the last line were added
 first : (g : Over) (c : In_ok-add_head g) → IsPassedOn (g.W.Sink.taken c.args.out.now) (g.W.Sink.taken c.args.out.now) [] c.add_head.new.text.items
-    (head (g.C.WritableCert.certificate c.args.cert.now).claim (g.C.WritableCert.certificate c.args.cert.now).potentials.constant)
+    (head_of (g.C.WritableCert.certificate c.args.cert.now))
 first g c =
-    head_held _ (g.W.Sink.taken c.args.out.now) (task_of c.args.task.now) (g.C.WritableCert.certificate c.args.cert.now) c.new-held.result.items _ c.new-held.ensures.items
-    (c.in_ok-add_head.ensures ∙ (λ i. c.new-held.result.items ++ head (c.claim.ensures i) ((to_z-of_z w64 c.constant.result (search rules) ∙ c.constant.ensures) i)))
+    let cert = g.C.WritableCert.certificate c.args.cert.now in
+    let of_value : to_z w64 (of_z w64 c.constant.result) ≡ cert.potentials.constant = to_z-of_z w64 c.constant.result (search rules) ∙ c.constant.ensures in
+    let of_dead_end : to_z w64 (of_z w64 c.dead_end_constant.result) ≡ cert.dead_ends.constant = to_z-of_z w64 c.dead_end_constant.result (search rules) ∙ c.dead_end_constant.ensures in
+    let constants : weights_of c.weights_in-constants.result ≡ weights_in cert.version cert.potentials.constant cert.dead_ends.constant =
+    ◌∙◌ {A = Weights} c.weights_in-constants.ensures (λ i. weights_in (c.version-version.ensures i) (of_value i) (of_dead_end i)) in
+    head_held _ (g.W.Sink.taken c.args.out.now) (task_of c.args.task.now) cert c.new-held.result.items _ c.new-held.ensures.items
+    (c.in_ok-add_head.ensures ∙ (λ i. c.new-held.result.items ++ head (c.version-version.ensures i) (c.claim.ensures i) (constants i)))
 
 second : (g : Over) (c : In_ok-write_atoms g) → IsPassedOn (g.W.Sink.taken c.args.out.now) (g.W.Sink.taken c.args.out.now) [] c.add_head.new.text.items
-    (head (g.C.WritableCert.certificate c.args.cert.now).claim (g.C.WritableCert.certificate c.args.cert.now).potentials.constant)
+    (head_of (g.C.WritableCert.certificate c.args.cert.now))
     → IsPassedOn (g.W.Sink.taken c.args.out.now) (g.W.Sink.taken c.write_atoms.new.out) [] c.write_atoms.new.held.items
     (to_atoms (task_of c.args.task.now) (g.C.WritableCert.certificate c.args.cert.now))
 second g c first =
-    let taken = g.W.Sink.taken c.args.out.now in
-    let task = task_of c.args.task.now in
-    let atoms_now = g.W.Sink.taken c.write_atoms.new.out in
-    atoms_held taken atoms_now task (g.C.WritableCert.certificate c.args.cert.now) _ _ first
-    (subst (λ atoms. IsPassedOn taken atoms_now c.add_head.new.text.items c.write_atoms.new.held.items (flat_map (atom_line task) atoms)) (λ i. zip (c.atoms.ensures i) (c.weights.ensures i)) c.in_ok-write_atoms.ensures.text)
+    atoms_held _ (g.W.Sink.taken c.write_atoms.new.out) (task_of c.args.task.now) (g.C.WritableCert.certificate c.args.cert.now) _ _ first c.in_ok-write_atoms.ensures.text
 
 third : (g : Over) (c : In_ok-write_states g) → IsPassedOn (g.W.Sink.taken c.args.out.now) (g.W.Sink.taken c.write_atoms.new.out) [] c.write_atoms.new.held.items
     (to_atoms (task_of c.args.task.now) (g.C.WritableCert.certificate c.args.cert.now))
@@ -48,9 +49,8 @@ whole g c third =
 
 pub returns-in_err-write_atoms-clause-beginning : goal.returns-in_err-write_atoms-clause-beginning
 returns-in_err-write_atoms-clause-beginning g c =
-    let task = task_of c.args.task.now in
-    atoms_begun _ _ task (g.C.WritableCert.certificate c.args.cert.now) _ (first g (goal.at.returns-in_err-write_atoms-clause-beginning g c).In_ok-add_head)
-    (subst (λ atoms. AppendsBeginning (g.W.Sink.taken c.args.out.now) (g.W.Sink.taken c.write_atoms.new.out) (c.add_head.new.text.items ++ flat_map (atom_line task) atoms)) (λ i. zip (c.atoms.ensures i) (c.weights.ensures i)) c.write_atoms.ensures.beginning)
+    atoms_begun _ _ (task_of c.args.task.now) (g.C.WritableCert.certificate c.args.cert.now) _ (first g (goal.at.returns-in_err-write_atoms-clause-beginning g c).In_ok-add_head)
+    c.write_atoms.ensures.beginning
 
 pub returns-in_err-write_states-clause-beginning : goal.returns-in_err-write_states-clause-beginning
 returns-in_err-write_states-clause-beginning g c =

@@ -5,9 +5,8 @@ use Rattle.grounding.specs.Ground.{task_in, atoms_in}
 use Rattle.faults.proofs.Results.{passed_on}
 use Rattle.model.specs.Task.{Task}
 use Rattle.model.specs.NumberedAtoms.{numbered_atoms}
-use Rattle.potential_functions.specs.Fair.{AreFair}
 use Rattle.certificate_definitions.specs.Certificates.{Certificate}
-use Rattle.cert_checker.specs.CheckedLines.{IsFirstGrounded, IsRightGrounded, IsTrueAnyway}
+use Rattle.cert_checker.specs.CheckedLines.{AreFairFor, IsFirstGrounded, IsRightGrounded, IsTrueAnyway}
 use Rattle.cert_checker.specs.FluentAtoms.{AreFluent}
 use Rattle.cert_checker.specs.PackedListing.{task_at, certificate_at}
 use Rattle.cert_checker.proofs.PackedListingLemmas.{numbered_after}
@@ -48,11 +47,35 @@ returns-in_err-potentials-clause-first c =
     passed_on (IsFirstGrounded task cert) c.from_residual-in_err-potentials.result e c.from_residual-in_err-potentials.ensures.1
     (subst (λ k. IsFirstGrounded task k e) c.in_ok-listing.ensures.same c.in_err-potentials.ensures.first)
 
+pub dead_fair_potentials-requires-clause-fluent : goal.dead_fair_potentials-requires-clause-fluent
+dead_fair_potentials-requires-clause-fluent c = subst (λ k. AreFluent (task_in c.args.grounded.now) k.atoms) (sym c.in_ok-listing.ensures.same) c.requires.fluent
+
+pub dead_fair_potentials-requires-clause-numbered : goal.dead_fair_potentials-requires-clause-numbered
+dead_fair_potentials-requires-clause-numbered c =
+    let g = c.args.grounded.now in
+    subst (λ k. atoms_in g ≡ numbered_atoms (task_in g) k.atoms) (sym c.in_ok-listing.ensures.same) c.requires.numbered
+
+pub returns-in_err-dead_ends-clause-wrong : goal.returns-in_err-dead_ends-clause-wrong
+returns-in_err-dead_ends-clause-wrong c =
+    let task = task_in c.args.grounded.now in
+    let cert = certificate_in c.args.listing in
+    let e = c.in_err-dead_ends.field-0.0 in
+    passed_on (IsTrueAnyway task cert) c.from_residual-in_err-dead_ends.result e c.from_residual-in_err-dead_ends.ensures.1
+    (subst (λ k. IsTrueAnyway task k e) c.in_ok-listing.ensures.same c.in_err-dead_ends.ensures.wrong)
+
+pub returns-in_err-dead_ends-clause-first : goal.returns-in_err-dead_ends-clause-first
+returns-in_err-dead_ends-clause-first c =
+    let task = task_in c.args.grounded.now in
+    let cert = certificate_in c.args.listing in
+    let e = c.in_err-dead_ends.field-0.0 in
+    passed_on (IsFirstGrounded task cert) c.from_residual-in_err-dead_ends.result e c.from_residual-in_err-dead_ends.ensures.1
+    (subst (λ k. IsFirstGrounded task k e) c.in_ok-listing.ensures.same c.in_err-dead_ends.ensures.first)
+
 pub check_packed-requires : goal.check_packed-requires
 check_packed-requires c =
     let packed = c.new-packed.result in
-    along (λ t k. AreFair t (numbered_atoms t k.atoms) k.potentials) (task_in c.args.grounded.now) (task_at packed) (certificate_in c.in_ok-listing.listing) (certificate_at packed)
-    (sym c.new-packed.ensures.same.0) (sym c.new-packed.ensures.same.1) c.in_ok-potentials.ensures.fair
+    along AreFairFor (task_in c.args.grounded.now) (task_at packed) (certificate_in c.in_ok-listing.listing) (certificate_at packed)
+    (sym c.new-packed.ensures.same.0) (sym c.new-packed.ensures.same.1) (record { fair = c.in_ok-potentials.ensures.fair; dead_fair = c.in_ok-dead_ends.ensures.dead_fair })
 
 pub returns-clause-right : goal.returns-clause-right
 returns-clause-right c =

@@ -1,5 +1,5 @@
 use Rattle.certificate.specs.Listing.{store_in}
-use Rattle.std.proofs.Common.{◌≡◌, ◌+◌, ℕ, None, Some, map, get_or, refl, subst, sym, arith}
+use Rattle.std.proofs.Common.{◌≡◌, ◌+◌, ℕ, Some, map, get_or, refl, subst, sym, arith}
 use Rattle.std.proofs.lemmas.List.{get_or_default}
 use Rattle.packed_state.specs.Packed.{bits_of}
 use Rattle.cert_checker.specs.declared.refusal.RefusalCode.TheVariants.{SuccessorMissing, SuccessorDearer}
@@ -10,7 +10,7 @@ use Rattle.model.specs.Task.{Instance}
 use Rattle.model.specs.Meaning.{State, step, system_of}
 use Rattle.model.specs.Grounding.{ground_system}
 use Rattle.model.specs.Instances.{successors_of}
-use Rattle.model.specs.Claims.{Line}
+use Rattle.model.specs.Claims.{opened, Line}
 use Rattle.certificate_definitions.specs.Certificates.{lines_of}
 use Rattle.certificate_definitions.specs.CertificateRefusals.{successor_missing, successor_dearer, state_line, IsListed}
 use Rattle.cert_checker.proofs.CertCheckerLemmas.{AllListed-none, AllListed-more, listed_within, open_closed}
@@ -53,7 +53,7 @@ leads c =
 
 -- of the successors it is the first that may be at fault
 leaves : (c : After-successor) → IsFirstToLeave (task_at c.args.listing.now) (certificate_at c.args.listing.now) (state_line (certificate_at c.args.listing.now) c.args.place)
-    (record { state = state_at c.args.listing.now c.args.state.now; cost = c.args.cost; cut = None }) (there c).0 (there c).1
+    (record { state = state_at c.args.listing.now c.args.state.now; cost = c.args.cost; mark = opened }) (there c).0 (there c).1
 leaves c =
     let numbers = c.args.numbers.now in
     let k = c.loop-number.number-index in
@@ -138,7 +138,7 @@ returns-in_default-clause-first c =
     let listing = c.args.listing.now in
     let task = task_at listing in
     let cert = certificate_at listing in
-    let line : Line State = record { state = state_at listing c.args.state.now; cost = c.args.cost; cut = None } in
+    let line : Line State = record { state = state_at listing c.args.state.now; cost = c.args.cost; mark = opened } in
     let here = (goal.at.returns-in_default-clause-first c).After-successor in
     told_first task cert plan most c.state_line.result SuccessorMissing (state_line cert c.args.place) c.state_line.ensures
     (first_in_line task cert plan most c.args.place successor_missing right refl (open_here task cert c.args.place line c.requires.listed refl c.requires.goal))
@@ -150,7 +150,7 @@ returns-then-listed-cost-clause-first c =
     let listing = c.args.listing.now in
     let task = task_at listing in
     let cert = certificate_at listing in
-    let line : Line State = record { state = state_at listing c.args.state.now; cost = c.args.cost; cut = None } in
+    let line : Line State = record { state = state_at listing c.args.state.now; cost = c.args.cost; mark = opened } in
     let here = (goal.at.returns-then-listed-cost-clause-first c).After-successor in
     let step = cost_there here in
     let listed = subst (λ s. IsListedAt (lines_of task cert) s c.in-Some.listed) (sym (is_there here)) c.in-Some.ensures in

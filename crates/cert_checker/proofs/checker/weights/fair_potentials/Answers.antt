@@ -1,22 +1,43 @@
-use Rattle.std.proofs.Common.{subst, arith}
+use Rattle.std.proofs.Common.{rules, ◌≡◌, ◌∙◌, refl, sym, subst, arith, length}
+use Rattle.std.specs.Int.{w64}
+use Rattle.std.proofs.lemmas.Int.{to_z-of_z}
 use Rattle.std.proofs.lemmas.Option.{slice_get_within}
 use Rattle.formulas.specs.State.{instance_of}
 use Rattle.grounding.specs.Ground.{task_in, atoms_in}
+use Rattle.potential_functions.specs.PotentialFunctions.{PotentialFunction, AreInRange}
+use Rattle.model.specs.Meaning.{cost_of}
 use Rattle.potentials.specs.Potentials.{potentials_of}
 use Rattle.potentials.specs.Fairness.{Tells}
 use Rattle.certificate.specs.Listing.{certificate_in}
 use Rattle.model.specs.ClosedOff.{kept_instances}
+use Rattle.certificate_definitions.specs.CertificateRefusals.{unfair, unfair_goal}
 use Rattle.cert_checker.specs.Weights.{HasItsWeights}
-use Rattle.cert_checker.proofs.OrderLemmas.{atoms_right, states_right_all, first_unfair, first_unfair_goal}
+use Rattle.cert_checker.proofs.OrderLemmas.{atoms_right, instances_asked, none_asked, states_right_all, first_asked}
 use Rattle.cert_checker.proofs.PackedListingLemmas.{numbered_after}
-use Rattle.cert_checker.proofs.WeightsLemmas.{fair_told, first_told, goals_told, instances_told, unfair_one}
+use Rattle.cert_checker.proofs.WeightsLemmas.{fair_told, first_told, goals_told, instances_told, said_in_range, unfair_told}
 use Rattle.cert_checker.proofs.checker.weights.fair_potentials.Goals as goal
+use Rattle.cert_checker.proofs.checker.weights.fair_potentials.Goals.{In_ok-potentials}
 
-pub at_width-requires : goal.at_width-requires
-at_width-requires c =
+pub at_width-requires-clause-range : goal.at_width-requires-clause-range
+at_width-requires-clause-range c =
+    let said : PotentialFunction = record { constant = c.constant.result; weights = c.weights.result.now } in
+    subst (λ constant. AreInRange (record { constant = constant; weights = said.weights })) (sym (to_z-of_z w64 c.constant.result (search rules)))
+    (said_in_range said c.constant.ensures.within_limits c.weights.ensures.within_limits)
+
+pub at_width-requires-clause-enough : goal.at_width-requires-clause-enough
+at_width-requires-clause-enough c =
     let task = task_in c.args.grounded.now in
     let cert = certificate_in c.args.listing.now in
-    omega (arith, numbered_after task (atoms_in c.args.grounded.now) cert c.requires.fluent c.requires.numbered, c.width.ensures)
+    omega (arith, numbered_after task (atoms_in c.args.grounded.now) cert c.requires.fluent c.requires.numbered, c.width.ensures, c.weights.ensures.one_for_each)
+
+-- they have the certificate's weights
+has : (c : In_ok-potentials) → let cert = certificate_in c.args.listing.now in HasItsWeights cert.potentials (length (atoms_in c.args.grounded.now)) (potentials_of c.in_ok-potentials.potentials)
+has c =
+    let cert = certificate_in c.args.listing.now in
+    let p = potentials_of c.in_ok-potentials.potentials in
+    let constant_is = to_z-of_z w64 c.constant.result (search rules) ∙ c.constant.ensures.constant in
+    subst (λ width. HasItsWeights cert.potentials width p) c.width.ensures
+    (subst (λ (said : PotentialFunction). HasItsWeights said c.width.result p) (λ i. record { constant = constant_is i; weights = c.weights.ensures.weights i }) c.in_ok-potentials.ensures)
 
 pub kept_instance-requires : goal.kept_instance-requires
 kept_instance-requires c =
@@ -31,8 +52,11 @@ returns-in-Fair-clause-fair c =
     let atoms = atoms_in c.args.grounded.now in
     let cert = certificate_in c.args.listing.now in
     let p = potentials_of c.in_ok-potentials.potentials in
-    fair_told task cert atoms p c.requires.numbered (subst (λ width. HasItsWeights cert width p) c.width.ensures c.in_ok-potentials.ensures)
+    fair_told (cost_of task) task cert cert.potentials atoms p c.requires.numbered (has (goal.at.returns-in-Fair-clause-fair c).In_ok-potentials)
     (subst (Tells task atoms p) c.in-Fair.is c.in_ok-fair.ensures)
+
+pub returns-in-Fair-clause-weights : goal.returns-in-Fair-clause-weights
+returns-in-Fair-clause-weights c = has (goal.at.returns-in-Fair-clause-weights c).In_ok-potentials
 
 pub returns-in-Instance-clause-wrong : goal.returns-in-Instance-clause-wrong
 returns-in-Instance-clause-wrong c =
@@ -41,10 +65,8 @@ returns-in-Instance-clause-wrong c =
     let atoms = atoms_in c.args.grounded.now in
     let cert = certificate_in c.args.listing.now in
     let p = potentials_of c.in_ok-potentials.potentials in
-    let i = instance_of c.kept_instance.result in
-    unfair_one task cert i
-    (first_told task cert atoms p c.requires.numbered (subst (λ width. HasItsWeights cert width p) c.width.ensures c.in_ok-potentials.ensures) c.in-Instance.number i
-    (subst (Tells task atoms p) c.in-Instance.is c.in_ok-fair.ensures) c.kept_instance.ensures)
+    unfair_told (cost_of task) task cert cert.potentials atoms p c.requires.numbered (has (goal.at.returns-in-Instance-clause-wrong c).In_ok-potentials) c.in-Instance.number (instance_of c.kept_instance.result)
+    (subst (Tells task atoms p) c.in-Instance.is c.in_ok-fair.ensures) c.kept_instance.ensures
 
 pub returns-in-Instance-clause-first : goal.returns-in-Instance-clause-first
 returns-in-Instance-clause-first c =
@@ -53,8 +75,8 @@ returns-in-Instance-clause-first c =
     let atoms = atoms_in c.args.grounded.now in
     let cert = certificate_in c.args.listing.now in
     let p = potentials_of c.in_ok-potentials.potentials in (
-      first_unfair task cert plan most (atoms_right task cert c.requires.fluent) (states_right_all task cert distinct allowed) within,
-      first_told task cert atoms p c.requires.numbered (subst (λ width. HasItsWeights cert width p) c.width.ensures c.in_ok-potentials.ensures) c.in-Instance.number
+      first_asked task cert unfair plan most refl (atoms_right task cert c.requires.fluent) (states_right_all task cert distinct allowed) within (none_asked task cert),
+      first_told (cost_of task) task cert cert.potentials atoms p c.requires.numbered (has (goal.at.returns-in-Instance-clause-first c).In_ok-potentials) c.in-Instance.number
           (instance_of c.kept_instance.result) (subst (Tells task atoms p) c.in-Instance.is c.in_ok-fair.ensures) c.kept_instance.ensures,
     )
 
@@ -65,8 +87,7 @@ returns-in-Goal-clause-wrong c =
     let atoms = atoms_in c.args.grounded.now in
     let cert = certificate_in c.args.listing.now in
     let p = potentials_of c.in_ok-potentials.potentials in
-    goals_told task cert atoms p c.requires.numbered (subst (λ width. HasItsWeights cert width p) c.width.ensures c.in_ok-potentials.ensures)
-    (subst (Tells task atoms p) c.in-Goal.is c.in_ok-fair.ensures).1
+    goals_told (cost_of task) task cert cert.potentials atoms p c.requires.numbered (has (goal.at.returns-in-Goal-clause-wrong c).In_ok-potentials) (subst (Tells task atoms p) c.in-Goal.is c.in_ok-fair.ensures).1
 
 pub returns-in-Goal-clause-first : goal.returns-in-Goal-clause-first
 returns-in-Goal-clause-first c =
@@ -75,6 +96,6 @@ returns-in-Goal-clause-first c =
     let atoms = atoms_in c.args.grounded.now in
     let cert = certificate_in c.args.listing.now in
     let p = potentials_of c.in_ok-potentials.potentials in
-    first_unfair_goal task cert plan most (atoms_right task cert c.requires.fluent) (states_right_all task cert distinct allowed) within
-    (instances_told task cert atoms p c.requires.numbered (subst (λ width. HasItsWeights cert width p) c.width.ensures c.in_ok-potentials.ensures)
-    (subst (Tells task atoms p) c.in-Goal.is c.in_ok-fair.ensures).0)
+    first_asked task cert unfair_goal plan most refl (atoms_right task cert c.requires.fluent) (states_right_all task cert distinct allowed) within
+    (instances_asked task cert
+    (instances_told (cost_of task) task cert cert.potentials atoms p c.requires.numbered (has (goal.at.returns-in-Goal-clause-first c).In_ok-potentials) (subst (Tells task atoms p) c.in-Goal.is c.in_ok-fair.ensures).0))

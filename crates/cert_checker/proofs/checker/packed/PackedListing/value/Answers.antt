@@ -4,6 +4,7 @@ use Rattle.potentials.specs.Potentials.{potentials_of}
 use Rattle.certificate.specs.Listing.{store_in}
 use Rattle.cert_checker.specs.PackedListing.{task_at, atoms_at, certificate_at}
 use Rattle.cert_checker.proofs.PackedListingLemmas.{value_there}
+use Rattle.cert_checker.proofs.WeightsLemmas.{one_for_each}
 use Rattle.cert_checker.proofs.checker.packed.PackedListing.value.Goals as goal
 
 pub value-requires : goal.value-requires
@@ -12,6 +13,7 @@ value-requires c = c.requires ∙ sym c.args.self.now.valued.as_many
 pub returns : goal.returns
 returns c =
     let listing = c.args.self.now in
+    let cert = certificate_at listing in
     c.value.ensures
-    ∙ value_there (task_at listing) (atoms_at listing) (certificate_at listing) (store_in listing.listing.now) listing.listed (potentials_of listing.potentials.now) (bits_of c.args.state.now) listing.valued
-    listing.listing.now.within_limits c.requires
+    ∙ value_there (task_at listing) (atoms_at listing) cert (store_in listing.listing.now) listing.listed cert.potentials (potentials_of listing.potentials.now) (bits_of c.args.state.now) listing.valued
+    (one_for_each cert listing.listing.now.within_limits).0 c.requires

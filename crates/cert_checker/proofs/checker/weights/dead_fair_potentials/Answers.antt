@@ -1,0 +1,101 @@
+use Rattle.std.proofs.Common.{rules, ◌≡◌, ◌∙◌, refl, sym, subst, arith, length}
+use Rattle.std.specs.Int.{w64}
+use Rattle.std.proofs.lemmas.Int.{to_z-of_z}
+use Rattle.std.proofs.lemmas.Option.{slice_get_within}
+use Rattle.formulas.specs.State.{instance_of}
+use Rattle.grounding.specs.Ground.{task_in, atoms_in}
+use Rattle.potential_functions.specs.PotentialFunctions.{PotentialFunction, AreInRange}
+use Rattle.potential_functions.specs.Fair.{nothing}
+use Rattle.potentials.specs.Potentials.{potentials_of}
+use Rattle.potentials.specs.Fairness.{TellsDead}
+use Rattle.certificate.specs.Listing.{certificate_in}
+use Rattle.model.specs.ClosedOff.{kept_instances}
+use Rattle.certificate_definitions.specs.CertificateRefusals.{dead_unfair, dead_unfair_goal}
+use Rattle.cert_checker.specs.Weights.{HasItsWeights}
+use Rattle.cert_checker.proofs.OrderLemmas.{atoms_right, dead_instances_asked, values_asked, states_right_all, first_asked}
+use Rattle.cert_checker.proofs.PackedListingLemmas.{numbered_after}
+use Rattle.cert_checker.proofs.WeightsLemmas.{fair_told, first_told, goals_told, instances_told, said_in_range, unfair_told}
+use Rattle.cert_checker.proofs.checker.weights.dead_fair_potentials.Goals as goal
+use Rattle.cert_checker.proofs.checker.weights.dead_fair_potentials.Goals.{In_ok-potentials}
+
+pub at_width-requires-clause-range : goal.at_width-requires-clause-range
+at_width-requires-clause-range c =
+    let said : PotentialFunction = record { constant = c.dead_end_constant.result; weights = c.dead_end_weights.result.now } in
+    subst (λ constant. AreInRange (record { constant = constant; weights = said.weights })) (sym (to_z-of_z w64 c.dead_end_constant.result (search rules)))
+    (said_in_range said c.dead_end_constant.ensures.within_limits c.dead_end_weights.ensures.within_limits)
+
+pub at_width-requires-clause-enough : goal.at_width-requires-clause-enough
+at_width-requires-clause-enough c =
+    let task = task_in c.args.grounded.now in
+    let cert = certificate_in c.args.listing.now in
+    omega (arith, numbered_after task (atoms_in c.args.grounded.now) cert c.requires.fluent c.requires.numbered, c.width.ensures, c.dead_end_weights.ensures.one_for_each)
+
+-- they have the certificate's weights
+has : (c : In_ok-potentials) → let cert = certificate_in c.args.listing.now in HasItsWeights cert.dead_ends (length (atoms_in c.args.grounded.now)) (potentials_of c.in_ok-potentials.potentials)
+has c =
+    let cert = certificate_in c.args.listing.now in
+    let p = potentials_of c.in_ok-potentials.potentials in
+    let constant_is = to_z-of_z w64 c.dead_end_constant.result (search rules) ∙ c.dead_end_constant.ensures.constant in
+    subst (λ width. HasItsWeights cert.dead_ends width p) c.width.ensures
+    (subst (λ (said : PotentialFunction). HasItsWeights said c.width.result p) (λ i. record { constant = constant_is i; weights = c.dead_end_weights.ensures.weights i }) c.in_ok-potentials.ensures)
+
+pub kept_instance-requires : goal.kept_instance-requires
+kept_instance-requires c =
+    let task = task_in c.args.grounded.now in
+    let p = potentials_of c.in_ok-potentials.potentials in
+    let first = subst (TellsDead task (atoms_in c.args.grounded.now) p) c.in-Instance.is c.in_ok-dead_fair.ensures in
+    slice_get_within (kept_instances task) c.in-Instance.number first.instance first.named
+
+pub returns-in-Fair-clause-dead_fair : goal.returns-in-Fair-clause-dead_fair
+returns-in-Fair-clause-dead_fair c =
+    let task = task_in c.args.grounded.now in
+    let atoms = atoms_in c.args.grounded.now in
+    let cert = certificate_in c.args.listing.now in
+    let p = potentials_of c.in_ok-potentials.potentials in
+    fair_told nothing task cert cert.dead_ends atoms p c.requires.numbered (has (goal.at.returns-in-Fair-clause-dead_fair c).In_ok-potentials)
+    (subst (TellsDead task atoms p) c.in-Fair.is c.in_ok-dead_fair.ensures)
+
+pub returns-in-Fair-clause-weights : goal.returns-in-Fair-clause-weights
+returns-in-Fair-clause-weights c = has (goal.at.returns-in-Fair-clause-weights c).In_ok-potentials
+
+pub returns-in-Instance-clause-wrong : goal.returns-in-Instance-clause-wrong
+returns-in-Instance-clause-wrong c =
+    λ plan most.
+    let task = task_in c.args.grounded.now in
+    let atoms = atoms_in c.args.grounded.now in
+    let cert = certificate_in c.args.listing.now in
+    let p = potentials_of c.in_ok-potentials.potentials in
+    unfair_told nothing task cert cert.dead_ends atoms p c.requires.numbered (has (goal.at.returns-in-Instance-clause-wrong c).In_ok-potentials) c.in-Instance.number (instance_of c.kept_instance.result)
+    (subst (TellsDead task atoms p) c.in-Instance.is c.in_ok-dead_fair.ensures) c.kept_instance.ensures
+
+pub returns-in-Instance-clause-first : goal.returns-in-Instance-clause-first
+returns-in-Instance-clause-first c =
+    λ distinct allowed plan most within.
+    let task = task_in c.args.grounded.now in
+    let atoms = atoms_in c.args.grounded.now in
+    let cert = certificate_in c.args.listing.now in
+    let p = potentials_of c.in_ok-potentials.potentials in (
+      first_asked task cert dead_unfair plan most refl (atoms_right task cert c.requires.fluent) (states_right_all task cert distinct allowed) within (values_asked task cert c.requires.fair),
+      first_told nothing task cert cert.dead_ends atoms p c.requires.numbered (has (goal.at.returns-in-Instance-clause-first c).In_ok-potentials) c.in-Instance.number
+          (instance_of c.kept_instance.result) (subst (TellsDead task atoms p) c.in-Instance.is c.in_ok-dead_fair.ensures) c.kept_instance.ensures,
+    )
+
+pub returns-in-Goal-clause-wrong : goal.returns-in-Goal-clause-wrong
+returns-in-Goal-clause-wrong c =
+    λ plan most.
+    let task = task_in c.args.grounded.now in
+    let atoms = atoms_in c.args.grounded.now in
+    let cert = certificate_in c.args.listing.now in
+    let p = potentials_of c.in_ok-potentials.potentials in
+    goals_told nothing task cert cert.dead_ends atoms p c.requires.numbered (has (goal.at.returns-in-Goal-clause-wrong c).In_ok-potentials) (subst (TellsDead task atoms p) c.in-Goal.is c.in_ok-dead_fair.ensures).1
+
+pub returns-in-Goal-clause-first : goal.returns-in-Goal-clause-first
+returns-in-Goal-clause-first c =
+    λ distinct allowed plan most within.
+    let task = task_in c.args.grounded.now in
+    let atoms = atoms_in c.args.grounded.now in
+    let cert = certificate_in c.args.listing.now in
+    let p = potentials_of c.in_ok-potentials.potentials in
+    first_asked task cert dead_unfair_goal plan most refl (atoms_right task cert c.requires.fluent) (states_right_all task cert distinct allowed) within
+    (dead_instances_asked task cert c.requires.fair
+    (instances_told nothing task cert cert.dead_ends atoms p c.requires.numbered (has (goal.at.returns-in-Goal-clause-first c).In_ok-potentials) (subst (TellsDead task atoms p) c.in-Goal.is c.in_ok-dead_fair.ensures).0))
