@@ -1,6 +1,6 @@
 -- The value that fair potentials give is a consistent estimate, whatever bits a state has, and what dead-fair ones tell are
 -- dead ends.
-use Rattle.std.proofs.Common.{◌≡◌, ◌∙◌, ℕ, zero, suc, ◌<◌, inl, inr, Bool, true, false, List, [], length, get_or, sym, ap, subst, arith, ℤ, pos, negsuc, refl, ◌+ℤ◌, ◌≤ℤ◌, nat_le, All}
+use Rattle.std.proofs.Common.{◌≡◌, ◌∙◌, ℕ, zero, suc, ◌<◌, inl, inr, Bool, true, false, List, [], ◌∷◌, length, get_or, sym, ap, subst, arith, ℤ, pos, negsuc, refl, ◌+ℤ◌, ◌≤ℤ◌, nat_le, All}
 use Rattle.std.specs.Prelude.{IsTrue, if◌then◌else◌, slice_get}
 use Rattle.std.specs.Option.{option_map, option_and_then}
 use Rattle.std.specs.FinSet.{contains}

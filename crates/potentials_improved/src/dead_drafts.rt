@@ -69,12 +69,16 @@ impl DeadDrafts {
         })
     }
 
-    /// Weights that may tell more of the states dead than these, if some are found for one of those left.
+    /// Weights that may tell more of the states dead than these, if some are found for one of those left. Where the initial
+    /// state is told dead, no more is to be told.
     pub(crate) fn next(
         &mut self,
         alloc: Global,
         weights: &[i64],
     ) -> Result<Option<Vec<i64>>, NoMemory> {
+        if self.is_told(0, weights) {
+            return Ok(None);
+        }
         for place in self.done..self.states.len() {
             self.done = place.saturating_add(1);
             if !self.is_told(place, weights) {
@@ -108,7 +112,11 @@ impl DeadDrafts {
         if together.is_more_than(before) && !alone.is_more_than(together) {
             return Ok(Some(both));
         }
-        Ok(if alone.is_more_than(before) { Some(found) } else { None })
+        Ok(if alone.is_more_than(before) {
+            Some(found)
+        } else {
+            None
+        })
     }
 
     /// Weights along an edge without an end on which the state at this place gains, if there are some.

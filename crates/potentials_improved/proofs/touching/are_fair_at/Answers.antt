@@ -1,4 +1,4 @@
-use Rattle.std.proofs.Common.{◌≡◌, ◌<◌, ◌≤◌, true≢false, refl, get_or, length, map, subst, sym, arith}
+use Rattle.std.proofs.Common.{◌<◌, ◌≤◌, true≢false, refl, length, map, subst, sym, arith}
 use Rattle.std.proofs.lemmas.List.{get_or-map, length-map, take_all}
 use Rattle.grounding.specs.Ground.{task_in, atoms_in}
 use Rattle.model.specs.Meaning.{cost_of}

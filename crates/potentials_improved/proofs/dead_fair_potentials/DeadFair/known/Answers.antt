@@ -13,7 +13,7 @@ invariant_of-result c =
     record {
       width = c.requires.width;
       dead_ends = dead_fair_tells t a (numberable c.args.ground.now) (potentials_of c.args.potentials) c.requires.width c.requires.dead_fair;
-      none = c.tell_none.ensures;
+      none = c.tell_none-tell_none.ensures;
     }
 
 pub returns : goal.returns

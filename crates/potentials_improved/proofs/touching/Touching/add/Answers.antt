@@ -1,4 +1,4 @@
-use Rattle.std.proofs.Common.{◌≡◌, ◌<◌, map, length, refl, subst, sym, take, arith}
+use Rattle.std.proofs.Common.{◌<◌, map, refl, subst, sym, arith}
 use Rattle.std.specs.Prelude.{All}
 use Rattle.std.proofs.lemmas.List.{take_all}
 use Rattle.grounding.specs.Changes.{counting_of}
