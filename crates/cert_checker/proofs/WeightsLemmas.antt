@@ -17,9 +17,10 @@ use Rattle.model.specs.NumberedLiterals.{literals_of_instance, literals_of_goal,
 use Rattle.model.specs.Grounding.{bits_of_state}
 use Rattle.model.proofs.ListLemmas.{Contains-got}
 use Rattle.potential_functions.specs.PotentialFunctions.{PotentialFunction, weight, sum_below, given, or_zero, value, value_of_state, IsInRange, AreInRange}
-use Rattle.potential_functions.specs.Fair.{touches, worst, loses, instance_loses, IsFairAt, says, goal_gives, goal_gives_at_most, IsFairAtGoals, AreFairAt, IsFirstUnfairAt}
+use Rattle.potential_functions.specs.Fair.{touches, worst, loses, instance_loses, IsFairAt, says, goal_gives, goal_gives_at_most, IsFairAtGoals, AreFairAt, AreDeadFair, IsFirstUnfairAt}
 use Rattle.potential_functions.proofs.Sums.{sum-alike}
 use Rattle.potential_functions.proofs.Ranges.{zero-range}
+use Rattle.potential_functions.proofs.Zero.{zero-dead_fair}
 use Rattle.potentials.specs.Fairness.{AreInstancesFairAt}
 use Rattle.certificate_definitions.specs.Certificates.{Certificate, is_claim, is_weight, is_dead_end_weight, is_state_line, are_potentials, keeps_limits}
 use Rattle.cert_checker.specs.Weights.{HasItsWeights}
@@ -215,3 +216,18 @@ module _ (allowance : Instance → ℕ) (task : Task) (c : Certificate) (said : 
   unfair_told number i first at =
       let (place, there, is) = first_told number i first at in
       subst (IsUnfairAt allowance task c said) is (Contains-got (kept_instances task) place there.instance there.named, there.unfair)
+
+-- ---- potentials that are all 0
+
+zeros_are : (v : List ℤ) → All (λ (w : ℤ). w ≡ pos 0) v → v ≡ replicate (length v) (pos 0)
+zeros_are [] all = refl
+zeros_are (w ∷ v) all =
+    let here : w ≡ pos 0 = all 0 w (omega arith) in
+    let more = zeros_are v (λ k d below. all (suc k) d (omega (arith, below))) in
+    λ i. here i ∷ more i
+
+-- they are dead-fair
+pub zero_told : (task : Task) (atoms : List Atom) (p : PotentialFunction) → length p.weights ≡ length atoms → p.constant ≡ pos 0 → All (λ (w : ℤ). w ≡ pos 0) p.weights → AreDeadFair task atoms p
+zero_told task atoms p long constant weights =
+    let weights_are : p.weights ≡ replicate (length atoms) (pos 0) = zeros_are p.weights weights ∙ ap (λ n. replicate n (pos 0)) long in
+    subst (AreDeadFair task atoms) (λ i. record { constant = sym constant i; weights = sym weights_are i }) (zero-dead_fair task atoms)

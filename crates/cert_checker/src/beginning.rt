@@ -12,9 +12,7 @@ ghost use Rattle.cert_checker.specs.Reading.{CountsRefusal, IsBegun, IsFresh, Is
 
 use crate::named_atoms::fluent_atom_named;
 use crate::refusal::{Refusal, RefusalCode};
-use certificate::{
-    Beginning, CertLine, CertReader, Claim, NamedAtom, Potential, Version, Weights,
-};
+use certificate::{Beginning, CertLine, CertReader, Claim, NamedAtom, Potential, Version, Weights};
 use devices::Source;
 use indexmap::IndexSet;
 use std::alloc::Global;

@@ -1,7 +1,8 @@
 //! A certificate's potentials in its ground task.
-ghost use Rattle.std.specs.Prelude.{◌≡◌, ◌<◌, ◌≤◌, Some, IfErr, IfOk, OnOk, length, slice_get};
+ghost use Rattle.std.specs.Prelude.{◌≡◌, ◌<◌, ◌≤◌, ◌↔◌, pos, All, IsTrue, Some, IfErr, IfOk, OnOk, length, slice_get};
 ghost use Rattle.formulas.specs.State.{instance_of};
 ghost use Rattle.grounding.specs.Ground.{task_in, atoms_in};
+ghost use Rattle.potentials.specs.Fairness.{TellsDead};
 ghost use Rattle.potentials.specs.Potentials.{potentials_of};
 ghost use Rattle.certificate.specs.Listing.{certificate_in};
 ghost use Rattle.cert_checker.specs.FluentAtoms.{AreFluent};
@@ -33,7 +34,12 @@ pub(super) fn fair_potentials(
     ensures wrong { IfErr result (IsTrueAnyway (task_in grounded.now) (certificate_in listing.now)) }
     ensures first { IfErr result (IsFirstGrounded (task_in grounded.now) (certificate_in listing.now)) }
 {
-    let potentials = at_width(alloc, listing.constant(), listing.weights(), grounded.width())?;
+    let potentials = at_width(
+        alloc,
+        listing.constant(),
+        listing.weights(),
+        grounded.width(),
+    )?;
     match potentials.fair(alloc, grounded)? {
         Fairness::Fair => Ok(potentials),
         Fairness::Instance(number) => Err(Refusal::Unfair(kept_instance(grounded, number))),
@@ -62,11 +68,35 @@ pub(super) fn dead_fair_potentials(
         listing.dead_end_weights(),
         grounded.width(),
     )?;
-    match potentials.dead_fair(alloc, grounded)? {
+    match dead_fairness(alloc, &potentials, grounded)? {
         Fairness::Fair => Ok(potentials),
         Fairness::Instance(number) => Err(Refusal::DeadUnfair(kept_instance(grounded, number))),
         Fairness::Goal => Err(Refusal::Plain(RefusalCode::DeadUnfairGoal)),
     }
+}
+
+/// Whether these potentials are dead-fair for the ground task. Those that are all 0, as in version 1, are, so that no instance is
+/// looked at.
+fn dead_fairness(
+    alloc: Global,
+    potentials: &Potentials,
+    grounded: &Ground<'_>,
+) -> Result<Fairness, NoMemory>
+    requires { length (potentials_of potentials.now).weights ≡ length (atoms_in grounded.now) }
+    ensures { IfOk result (TellsDead (task_in grounded.now) (atoms_in grounded.now) (potentials_of potentials.now)) }
+{
+    if potentials.constant() == 0 && are_zero(potentials.weights()) {
+        Ok(Fairness::Fair)
+    } else {
+        potentials.dead_fair(alloc, grounded)
+    }
+}
+
+/// Whether each of these is 0.
+fn are_zero(weights: &[i64]) -> bool
+    ensures { IsTrue result ↔ All (λ w. w ≡ pos 0) weights.now }
+{
+    weights.iter().all(|weight| *weight == 0)
 }
 
 /// The potentials of this constant and these weights, with the weight 0 for each further number below the width.

@@ -1,4 +1,4 @@
-use Rattle.std.proofs.Common.{rules, ◌≡◌, ◌∙◌, refl, sym, subst, arith, length}
+use Rattle.std.proofs.Common.{rules, ◌∙◌, refl, sym, subst, arith, length}
 use Rattle.std.specs.Int.{w64}
 use Rattle.std.proofs.lemmas.Int.{to_z-of_z}
 use Rattle.std.proofs.lemmas.Option.{slice_get_within}
@@ -43,7 +43,7 @@ pub kept_instance-requires : goal.kept_instance-requires
 kept_instance-requires c =
     let task = task_in c.args.grounded.now in
     let p = potentials_of c.in_ok-potentials.potentials in
-    let first = subst (TellsDead task (atoms_in c.args.grounded.now) p) c.in-Instance.is c.in_ok-dead_fair.ensures in
+    let first = subst (TellsDead task (atoms_in c.args.grounded.now) p) c.in-Instance.is c.in_ok-dead_fairness.ensures in
     slice_get_within (kept_instances task) c.in-Instance.number first.instance first.named
 
 pub returns-in-Fair-clause-dead_fair : goal.returns-in-Fair-clause-dead_fair
@@ -53,7 +53,7 @@ returns-in-Fair-clause-dead_fair c =
     let cert = certificate_in c.args.listing.now in
     let p = potentials_of c.in_ok-potentials.potentials in
     fair_told nothing task cert cert.dead_ends atoms p c.requires.numbered (has (goal.at.returns-in-Fair-clause-dead_fair c).In_ok-potentials)
-    (subst (TellsDead task atoms p) c.in-Fair.is c.in_ok-dead_fair.ensures)
+    (subst (TellsDead task atoms p) c.in-Fair.is c.in_ok-dead_fairness.ensures)
 
 pub returns-in-Fair-clause-weights : goal.returns-in-Fair-clause-weights
 returns-in-Fair-clause-weights c = has (goal.at.returns-in-Fair-clause-weights c).In_ok-potentials
@@ -66,7 +66,7 @@ returns-in-Instance-clause-wrong c =
     let cert = certificate_in c.args.listing.now in
     let p = potentials_of c.in_ok-potentials.potentials in
     unfair_told nothing task cert cert.dead_ends atoms p c.requires.numbered (has (goal.at.returns-in-Instance-clause-wrong c).In_ok-potentials) c.in-Instance.number (instance_of c.kept_instance.result)
-    (subst (TellsDead task atoms p) c.in-Instance.is c.in_ok-dead_fair.ensures) c.kept_instance.ensures
+    (subst (TellsDead task atoms p) c.in-Instance.is c.in_ok-dead_fairness.ensures) c.kept_instance.ensures
 
 pub returns-in-Instance-clause-first : goal.returns-in-Instance-clause-first
 returns-in-Instance-clause-first c =
@@ -77,7 +77,7 @@ returns-in-Instance-clause-first c =
     let p = potentials_of c.in_ok-potentials.potentials in (
       first_asked task cert dead_unfair plan most refl (atoms_right task cert c.requires.fluent) (states_right_all task cert distinct allowed) within (values_asked task cert c.requires.fair),
       first_told nothing task cert cert.dead_ends atoms p c.requires.numbered (has (goal.at.returns-in-Instance-clause-first c).In_ok-potentials) c.in-Instance.number
-          (instance_of c.kept_instance.result) (subst (TellsDead task atoms p) c.in-Instance.is c.in_ok-dead_fair.ensures) c.kept_instance.ensures,
+          (instance_of c.kept_instance.result) (subst (TellsDead task atoms p) c.in-Instance.is c.in_ok-dead_fairness.ensures) c.kept_instance.ensures,
     )
 
 pub returns-in-Goal-clause-wrong : goal.returns-in-Goal-clause-wrong
@@ -87,7 +87,7 @@ returns-in-Goal-clause-wrong c =
     let atoms = atoms_in c.args.grounded.now in
     let cert = certificate_in c.args.listing.now in
     let p = potentials_of c.in_ok-potentials.potentials in
-    goals_told nothing task cert cert.dead_ends atoms p c.requires.numbered (has (goal.at.returns-in-Goal-clause-wrong c).In_ok-potentials) (subst (TellsDead task atoms p) c.in-Goal.is c.in_ok-dead_fair.ensures).1
+    goals_told nothing task cert cert.dead_ends atoms p c.requires.numbered (has (goal.at.returns-in-Goal-clause-wrong c).In_ok-potentials) (subst (TellsDead task atoms p) c.in-Goal.is c.in_ok-dead_fairness.ensures).1
 
 pub returns-in-Goal-clause-first : goal.returns-in-Goal-clause-first
 returns-in-Goal-clause-first c =
@@ -98,4 +98,4 @@ returns-in-Goal-clause-first c =
     let p = potentials_of c.in_ok-potentials.potentials in
     first_asked task cert dead_unfair_goal plan most refl (atoms_right task cert c.requires.fluent) (states_right_all task cert distinct allowed) within
     (dead_instances_asked task cert c.requires.fair
-    (instances_told nothing task cert cert.dead_ends atoms p c.requires.numbered (has (goal.at.returns-in-Goal-clause-first c).In_ok-potentials) (subst (TellsDead task atoms p) c.in-Goal.is c.in_ok-dead_fair.ensures).0))
+    (instances_told nothing task cert cert.dead_ends atoms p c.requires.numbered (has (goal.at.returns-in-Goal-clause-first c).In_ok-potentials) (subst (TellsDead task atoms p) c.in-Goal.is c.in_ok-dead_fairness.ensures).0))
