@@ -1,5 +1,5 @@
 -- The certificate of the states that were found before the limit.
-use Rattle.std.proofs.Common.{◌≡◌, ◌∙◌, ℕ, ◌+◌, ◌≤◌, Bool, true, List, [], length, Some, sym, ap, subst, arith}
+use Rattle.std.proofs.Common.{◌≡◌, ◌∙◌, ℕ, ◌≤◌, Bool, true, List, [], Some, sym, ap, subst, arith}
 use Rattle.std.specs.Prelude.{slice_get, Contains}
 use Rattle.std.proofs.lemmas.Bool.{lt-ltb}
 use Rattle.search.specs.declared.nodes.Node.{Node}
@@ -10,15 +10,15 @@ use Rattle.solver.specs.AtLimit.{IsCutOf, IsAtLimit}
 use Rattle.solver.proofs.GroundLemmas.{reached_at}
 use Rattle.solver.proofs.PotentialLemmas.{most_value}
 use Rattle.solver.proofs.FoundLines.{waits_of_cut, cut_of_waits, line_among}
-use Rattle.solver.proofs.ListingLemmas.{view, made, listing, length-made, line_found, same_value, open_within, same_found, is_made}
+use Rattle.solver.proofs.ListingLemmas.{view, made, listing, length-made, line_found, same_value, open_within, is_made}
 use Rattle.model.specs.Task.{Task, Atom}
 use Rattle.model.specs.Runs.{System}
-use Rattle.model.specs.Claims.{bound, cut, Line}
+use Rattle.model.specs.Claims.{bound, Line}
 use Rattle.model.specs.Meaning.{State, system_of}
 use Rattle.model.specs.NumberedAtoms.{numbered_atoms}
 use Rattle.model.specs.Grounding.{state_of_bits, ground_system}
 use Rattle.model.proofs.ListLemmas.{Contains-map}
-use Rattle.certificate_definitions.specs.Certificates.{Certificate, is_claim, lines_of, value_of}
+use Rattle.certificate_definitions.specs.Certificates.{Certificate, is_claim, value_of}
 use Rattle.potential_functions.specs.PotentialFunctions.{PotentialFunction, value, is_dead_by}
 
 -- the least sum of a cut is so little that a certificate may claim it
@@ -73,7 +73,7 @@ module _ (task : Task) (least most : ℕ) (p q : PotentialFunction) (states : Li
     of_some_cut =
         let (k, s, n, at_s, at_n, waits, sum) = same_limit.of_some_cut in
         let among = Contains-map (view task (bound least) most p q states nodes) (search.lines_of (value p) (is_dead_by q) states nodes) (search.line_of (value p) (is_dead_by q) s n)
-            (line_among (value p) (is_dead_by q) states nodes k s n at_s at_n) in
+        (line_among (value p) (is_dead_by q) states nodes k s n at_s at_n) in
         (line_for s n, value p s, (subst (λ (ls : List (Line State)). Contains ls (line_for s n)) (sym (listing task (bound least) most p q states nodes)) among, cut_of_waits (value p) (is_dead_by q) s n waits), sum);
     open_within = open_within task (bound least) most p q states nodes same_limit.found least same_limit.expanded_within;
   }

@@ -1,4 +1,4 @@
-use Rattle.std.proofs.Common.{◌≡◌, ◌∙◌, ◌<◌, ◌≤◌, sym, ap, subst, length, List, ℕ, arith}
+use Rattle.std.proofs.Common.{◌≡◌, ◌∙◌, ◌<◌, sym, ap, subst, length, List, ℕ, arith}
 use Rattle.std.specs.Prelude.{All}
 use Rattle.std.proofs.lemmas.List.{length-map}
 use Rattle.typing.specs.TaskParts.{atom_of}
@@ -106,7 +106,7 @@ returns-in_ok-cert-in-Found c =
       plan_cost task atoms numbered numbers plan cost named found.1,
       all_instances_of_plan task plan optimal.0,
       shown task (bound cost) most p q states nodes atoms numbered found.2 cert made c.args.limits.states (omega (arith, found.2.within_limit, c.states.ensures)) c.requires.typed many dead_many fair c.requires.dead_fair
-      c.in_ok-cert-in-Found.cert.within_limits,
+          c.in_ok-cert-in-Found.cert.within_limits,
       settled_or_high task (bound cost) most p q states nodes atoms numbered found.2 cert made c.requires.improved,
       opened_within task (bound cost) most p q states nodes atoms numbered found.2 cert made cost found.4,
       c.requires.ground.within,
@@ -149,7 +149,7 @@ returns-in_ok-cert-in-Exhausted c =
     c.in_ok-cert-in-Exhausted.ensures ∙ ap (λ (h : Ground). found_certificate none (atoms_in h) p q states nodes) c.requires.fair.ground in (
       task_unsolvable task atoms numbered found.0,
       shown task none most p q states nodes atoms numbered found.1 cert made c.args.limits.states (omega (arith, found.1.within_limit, c.states.ensures)) c.requires.typed many dead_many fair c.requires.dead_fair
-      c.in_ok-cert-in-Exhausted.cert.within_limits,
+          c.in_ok-cert-in-Exhausted.cert.within_limits,
       settled_or_high task none most p q states nodes atoms numbered found.1 cert made c.requires.improved,
       c.requires.ground.within,
     )
@@ -207,7 +207,7 @@ returns-in_ok-cert-in-States c =
       c.requires.ground.within,
       task_costs_at_least task atoms numbered least told.1.costs_at_least,
       shown task (bound least) most p q states nodes atoms numbered told.1.found cert made c.args.limits.states (omega (arith, told.1.found.within_limit, c.states.ensures)) c.requires.typed many dead_many fair c.requires.dead_fair
-      c.in_ok-cert-in-States.cert.within_limits,
+          c.in_ok-cert-in-States.cert.within_limits,
       settled_or_high task (bound least) most p q states nodes atoms numbered told.1.found cert made c.requires.improved,
       at_limit_of task least most p q states nodes atoms numbered told.1 cert made c.args.limits.states c.states.ensures,
     )

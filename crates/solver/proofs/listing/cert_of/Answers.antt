@@ -1,4 +1,4 @@
-use Rattle.std.proofs.Common.{◌≡◌, ◌∙◌, ◌≤◌, Bool, List, [], length, sym, ap, subst, map, arith}
+use Rattle.std.proofs.Common.{◌≡◌, ◌∙◌, Bool, List, [], length, sym, ap, subst, map, arith}
 use Rattle.std.specs.Prelude.{All}
 use Rattle.typing.specs.TaskParts.{atom_of}
 use Rattle.packed_state.specs.PooledView.{pooled_states}
