@@ -17,8 +17,10 @@ use std::num::{nearest_i64_to_f64, saturating_f64_to_i64};
 /// How many states are sampled.
 const SAMPLES: u32 = 16;
 
-/// How many numbers the simplex algorithm may look at, for all states.
+/// How many numbers the simplex algorithm may look at: in all, and of these behind the initial state, for the sampled ones.
 const MAX_WORK: u64 = 524_288;
+
+const MAX_WORK_SAMPLED: u64 = 131_072;
 
 /// By how much the least weight may be multiplied, so that all are whole numbers.
 const MAX_FACTOR: i64 = 60;
@@ -83,6 +85,9 @@ impl DeadDrafts {
             self.done = place.saturating_add(1);
             if !self.is_told(place, weights) {
                 let draft = self.draft(alloc, place, weights)?;
+                if place == 0 {
+                    self.vertex.limit_work(MAX_WORK_SAMPLED);
+                }
                 if draft.is_some() {
                     return Ok(draft);
                 }

@@ -176,6 +176,11 @@ impl Vertex {
         Ok(None)
     }
 
+    /// Lets no more than so many numbers be looked at from now on.
+    pub(crate) fn limit_work(&mut self, more: u64) {
+        self.max_work = self.max_work.min(self.work.saturating_add(more));
+    }
+
     /// Notes what is gained along each edge.
     fn aim_at(&mut self, tables: &Tables, program: &LinearProgram, aims: &Aims, share: f64) {
         let mut read = self.edges.len();
