@@ -20,7 +20,7 @@ returns-clause-accepted c = λ domain problem task claim k most_states most plan
 
 pub returns-clause-at_a_limit : goal.returns-clause-at_a_limit
 returns-clause-at_a_limit c = λ domain problem task states instances least cert read is_true.
-    let (_, told, at_least, shown, _) = is_true in
+    let (_, told, at_least, shown, _, _) = is_true in
     let k = certificate_in cert in
     let well = task_is_typed domain problem task read in
     let has_names = task_has_atom_names domain problem task read in
