@@ -52,14 +52,7 @@ fn cert_of(
         weights: vec![in alloc; 0; rows.len()]?,
     };
     let lines = state_lines(alloc, lines)?;
-    Ok(Cert::new(
-        Version::One,
-        claim,
-        potential,
-        dead_ends,
-        atoms,
-        lines,
-    ))
+    Ok(Cert::new(Version::One, claim, potential, dead_ends, atoms, lines))
 }
 
 /// The certificate of a row of the listings.
@@ -299,10 +292,12 @@ fn is_made_in(
     dead_ends: (i64, &[i64]),
 ) -> Result<bool, NoMemory> {
     match &cert_in(alloc, version, mark, dead_ends)? {
-        Some(cert) => Ok(cert.version() == version
-            && cert.dead_end_constant() == dead_ends.0
-            && cert.dead_end_weights() == dead_ends.1
-            && cert.lines().iter().all(|line| line.mark == mark)),
+        Some(cert) => Ok(
+            cert.version() == version
+                && cert.dead_end_constant() == dead_ends.0
+                && cert.dead_end_weights() == dead_ends.1
+                && cert.lines().iter().all(|line| line.mark == mark),
+        ),
         None => Ok(false),
     }
 }

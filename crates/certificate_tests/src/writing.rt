@@ -42,9 +42,8 @@ fn cert(alloc: Global, count: usize) -> Result<Option<Cert>, NoMemory> {
 
 /// Its text.
 fn text(alloc: Global, count: usize) -> Result<Vec<u8>, AllocError> {
-    let mut text = b"pddl-cert 2\nclaim bound 0\nconstant 0 1\natom 0 -1 (p)\natom 0 2 (q)\n".to_vec(
-        alloc,
-    )?;
+    let mut text =
+        b"pddl-cert 2\nclaim bound 0\nconstant 0 1\natom 0 -1 (p)\natom 0 2 (q)\n".to_vec(alloc)?;
     text.extend_from_slice(b"dead 0 0 1\n".repeat(alloc, count)?.as_slice())?;
     text.extend_from_slice(format!(in alloc; "end {count}\n")?.as_bytes())?;
     Ok(text)

@@ -17,11 +17,12 @@ static CODES: [Code; 30] = [
 
 /// The codes of refused certificates.
 #[rattlefmt::skip]
-static REFUSALS: [RefusalCode; 16] = [
+static REFUSALS: [RefusalCode; 19] = [
     RefusalCode::CertForm, RefusalCode::CertVersion, RefusalCode::Truncated,
     RefusalCode::NotFluent, RefusalCode::Repeated, RefusalCode::NoInitial, RefusalCode::Unfair, RefusalCode::UnfairGoal, RefusalCode::GoalOpen,
     RefusalCode::SuccessorMissing, RefusalCode::SuccessorDearer, RefusalCode::CutWeak, RefusalCode::CutNotAllowed,
-    RefusalCode::PlanInvalid, RefusalCode::PlanDearer, RefusalCode::Limit,
+    RefusalCode::PlanInvalid, RefusalCode::PlanDearer, RefusalCode::Limit, RefusalCode::DeadUnfair, RefusalCode::DeadUnfairGoal,
+    RefusalCode::NotDead,
 ];
 
 /// The numbers and names of all codes.
@@ -31,7 +32,7 @@ const NAMES: &str = "1 BadByte, 2 BadWord, 3 Unbalanced, 4 TooDeep, 5 TooLong, 6
 19 WrongType, 20 Shadowed, 21 DomainMismatch, 22 BadMetric, 23 BadCost, 24 NegativeInit, 25 TooMany, \
 30 PlanForm, 31 TimedStep, 32 UnknownAction, 33 StepArity, 34 StepType, \
 40 CertForm, 41 CertVersion, 42 Truncated, 43 NotFluent, 44 Repeated, 45 NoInitial, 46 Unfair, 47 UnfairGoal, 48 GoalOpen, 49 SuccessorMissing, 50 SuccessorDearer, \
-51 CutWeak, 52 CutNotAllowed, 53 PlanInvalid, 54 PlanDearer, 55 Limit, ";
+51 CutWeak, 52 CutNotAllowed, 53 PlanInvalid, 54 PlanDearer, 55 Limit, 56 DeadUnfair, 57 DeadUnfairGoal, 58 NotDead, ";
 
 /// Adds the numbers and names of refused texts.
 fn write_codes(told: &mut String) -> Result<(), AllocError> {

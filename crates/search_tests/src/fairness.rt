@@ -62,7 +62,10 @@ fn are_dead(
     if potentials.weights().len() != ground.width() as usize {
         return Ok(None);
     }
-    let (initial, empty) = (ground.initial(alloc)?, Packed::empty(alloc, ground.width())?);
+    let (initial, empty) = (
+        ground.initial(alloc)?,
+        Packed::empty(alloc, ground.width())?,
+    );
     match DeadFair::new(alloc, potentials, ground)? {
         Some(test) => Ok(Some((test.dead(&initial), test.dead(&empty)))),
         None => Ok(None),
@@ -137,10 +140,7 @@ fn told_dead_of_three(
 }
 
 /// What the first of them tell, and what the last do, which are not dead-fair.
-fn dead_of_two(
-    alloc: Global,
-    ground: &Ground<'_>,
-) -> Result<[Option<(bool, bool)>; 2], NoMemory> {
+fn dead_of_two(alloc: Global, ground: &Ground<'_>) -> Result<[Option<(bool, bool)>; 2], NoMemory> {
     Ok([
         are_dead(alloc, ground, 1, &[-1, -1, -1])?,
         are_dead(alloc, ground, 2, &[-1, -1, -1])?,

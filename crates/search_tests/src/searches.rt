@@ -7,9 +7,7 @@ use crate::rooms::Rooms;
 use crate::signs::Signs;
 use faults::NoMemory;
 use packed_state::{PlainStore, PooledStore, StateStore};
-use search::{
-    FoundStates, MAX_STATES, NoDeadEnd, NoEstimate, Node, Outcome, best_first, value_of,
-};
+use search::{FoundStates, MAX_STATES, NoDeadEnd, NoEstimate, Node, Outcome, best_first, value_of};
 use std::alloc::Global;
 use std::test::Fail;
 
@@ -123,7 +121,12 @@ fn are_reached(nodes: &[Node], costs: &[u64]) -> bool {
 }
 
 /// Whether each room that was expanded has a door, and is not the one to be reached.
-fn have_doors(alloc: Global, rooms: &Rooms, found: &[u32], nodes: &[Node]) -> Result<bool, NoMemory> {
+fn have_doors(
+    alloc: Global,
+    rooms: &Rooms,
+    found: &[u32],
+    nodes: &[Node],
+) -> Result<bool, NoMemory> {
     for (&room, node) in found.iter().zip(nodes) {
         let state = set_of(alloc, rooms.width, &[room])?;
         if node.is_expanded && (is_blind(rooms, &state) || room == rooms.goal) {
@@ -200,7 +203,14 @@ fn cost_with_no_estimate(alloc: Global, row: &Row) -> Result<Option<u64>, NoMemo
     let most = row.most.clamp(1, MAX_STATES);
     let store = PlainStore::new(alloc, row.rooms.width);
     let none = NoDeadEnd(&row.rooms);
-    let outcome = best_first(alloc, &row.rooms, &NoEstimate(&row.rooms), &none, store, most)?;
+    let outcome = best_first(
+        alloc,
+        &row.rooms,
+        &NoEstimate(&row.rooms),
+        &none,
+        store,
+        most,
+    )?;
     Ok(cost_of(&outcome))
 }
 
