@@ -58,7 +58,9 @@ impl Parent<'_> {
         if guide.dead_ends.dead(next) {
             return None;
         }
-        let score = guide.estimate.score_after(self.score, self.state, action, next);
+        let score = guide
+            .estimate
+            .score_after(self.score, self.state, action, next);
         Some(value_of(score))
     }
 }
