@@ -138,6 +138,7 @@ pairs_apart (a ∷ atoms) distinct (suc i) (suc j) d before within =
 
 -- ---- the certificate
 
+-- p gives the values, and q tells the dead ends
 module _ (task : Task) (claim : Claim) (most : ℕ) (p q : PotentialFunction) (states : List (List Bool)) (nodes : List Node) where
   abbrev atoms : List Atom
   atoms = numbered_atoms task []
