@@ -122,7 +122,9 @@ fn save_cert<F: Files>(
     ensures failures { CountsDevice (F.failures files.old) (F.failures files.new) result }
 {
     let Some(name) = name else { return Ok(()) };
-    let Some(cert) = cert_of(&solved.answer) else { return Ok(()) };
+    let Some(cert) = cert_of(&solved.answer) else {
+        return Ok(())
+    };
     let task = &solved.task;
     write_file(files, name, &CertText { alloc, task, cert })
 }
