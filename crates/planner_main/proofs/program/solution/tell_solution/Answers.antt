@@ -47,3 +47,6 @@ returns-clause-unfailed g c =
     (λ _. subst (λ files. HasNotFailed files (g.F.Files.failures c.tell_answer.new.files) (g.O.Sink.failures c.args.out.now) (g.O.Sink.failures c.tell_answer.new.out))
     c.in_ok-solved.ensures.unfailed)
     c.tell_answer.ensures.unfailed
+
+pub returns-clause-unread : goal.returns-clause-unread
+returns-clause-unread g c = λ name named missing. absurd (c.in_ok-solved.ensures.unread name named missing)
